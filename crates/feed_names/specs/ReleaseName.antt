@@ -1,0 +1,71 @@
+-- Release names: a package, and the day of the release.
+use Rattle.std.specs.Prelude.{◌≡◌, ◌==◌, ◌&&◌, ◌||◌, ℕ, ◌≤◌, Bool, true, List, [], ◌∷◌, ◌++◌, length, codes, All, ℤ, ◌<ℤ◌, Result, Ok, Err}
+use Rattle.std.specs.Cmp.Lexicographic.{pointwise}
+use Rattle.std.specs.Ordering.{int_eq, on, eq_of_both}
+use Rattle.std.specs.Char.{is_ascii_alphanumeric}
+use Rattle.feed_names.specs.Day.{IsDateOf, date_text}
+use Rattle.feed_names.specs.declared.name_fault.NameFault.{NameFault}
+use Rattle.feed_names.specs.declared.name_fault.NameFault.TheVariants.{BadStem, BadDate, BadEnding, Memory}
+
+-- what a release is called: its package, and its day counted from 1970-01-01
+pub record Name : Type 0 where
+  pub stem : List ℕ
+  pub day : ℤ
+
+-- a letter, a digit, a hyphen, an underscore or a dot
+abbrev pub is_stem_byte : ℕ → Bool
+is_stem_byte b = is_ascii_alphanumeric b || (b == 45) || (b == 95) || (b == 46)
+
+abbrev pub BeginsWithDot : List ℕ → Type 0
+BeginsWithDot [] = ⊥
+BeginsWithDot (b ∷ bytes) = b ≡ 46
+
+-- 1 to 100 such bytes, of which the first is no dot
+pub record IsStem (stem : List ℕ) : Type 0 where
+  pub least : 1 ≤ length stem
+  pub most : length stem ≤ 100
+  pub bytes : All (λ b. is_stem_byte b ≡ true) stem
+  pub front : ¬ (BeginsWithDot stem)
+
+-- the front of a text is this stem, `_`, and the date of the day
+pub record IsDated (front stem : List ℕ) (day : ℤ) : Type 0 where
+  pub date : List ℕ
+  pub is_date : IsDateOf day date
+  pub spelled : front ≡ stem ++ (95 ∷ date)
+
+-- the text is this front and `.txt`
+abbrev pub EndsInTxt : List ℕ → List ℕ → Type 0
+EndsInTxt text front = text ≡ front ++ codes ".txt"
+
+-- the text is the name of this release
+pub record IsName (text : List ℕ) (name : Name) : Type 0 where
+  pub front : List ℕ
+  pub ends : EndsInTxt text front
+  pub is_dated : IsDated front name.stem name.day
+  pub is_stem : IsStem name.stem
+
+-- why a text is no name: the ending is judged first, then the date, then the stem; want of memory is no such reason
+abbrev pub IsRefused : List ℕ → NameFault → Type 0
+IsRefused text BadEnding = (front : List ℕ) → ¬ (EndsInTxt text front)
+IsRefused text BadDate = (front : List ℕ) × EndsInTxt text front × ((stem : List ℕ) (day : ℤ) → ¬ (IsDated front stem day))
+IsRefused text BadStem = (front stem : List ℕ) × (day : ℤ) × EndsInTxt text front × IsDated front stem day × ¬ (IsStem stem)
+IsRefused text Memory = (name : Name) × IsName text name
+
+-- the text of a name
+abbrev pub text_of : Name → List ℕ
+text_of name = name.stem ++ (95 ∷ date_text name.day) ++ codes ".txt"
+
+-- of the same package, and of an earlier day
+abbrev pub IsEarlier : Name → Name → Type 0
+IsEarlier m n = (m.stem ≡ n.stem) × (m.day <ℤ n.day)
+
+-- the same release, as a test
+abbrev pub name_eq : Name → Name → Bool
+name_eq = eq_of_both (on (λ n. n.stem) (pointwise ◌==◌)) (on (λ n. n.day) int_eq)
+
+-- no text names two releases, and no release has two names
+abbrev pub OneReleaseForText : Type 0
+OneReleaseForText = (text : List ℕ) (m n : Name) → IsName text m → IsName text n → m ≡ n
+
+abbrev pub OneTextForRelease : Type 0
+OneTextForRelease = (name : Name) (text : List ℕ) → IsName text name → text ≡ text_of name

@@ -1,0 +1,11 @@
+//! Names of releases, as `Acme_Global_All_2024-01-01.txt`: a package and the day of a release.
+#![tactic(auto)]
+
+mod day;
+mod laws;
+mod name_fault;
+mod release_name;
+
+pub use laws::{one_release_for_text, one_text_for_release};
+pub use name_fault::NameFault;
+pub use release_name::ReleaseName;

@@ -1,0 +1,212 @@
+ghost use Rattle.std.specs.Prelude.{◌≡◌, ◌↔◌, ℕ, ℤ, List, MatchOption, IsTrue, IfOk, IfErr};
+ghost use Rattle.feed_names.specs.ReleaseName.{IsStem, IsDated, IsName, IsRefused, IsEarlier, is_stem_byte, text_of};
+
+use crate::day::read_date;
+use crate::name_fault::NameFault;
+use std::alloc::{AllocError, Global};
+use std::marker::Model;
+
+// `_` and the date, without and with `.txt`
+const DATE_LENGTH: usize = 11;
+
+const TAIL_LENGTH: usize = 15;
+
+const LONGEST_STEM: usize = 100;
+
+/// The name of a release, as `Acme_Global_All_2024-01-01.txt`: the package, `_`, the release's day and `.txt`.
+/// What stands before the last `_` is not taken apart, and is the key of the package.
+#[derive(Debug, Drop)]
+pub struct ReleaseName {
+    text: Vec<u8>,
+    day: i32,
+}
+
+impl Model for ReleaseName {
+    ghost use Rattle.std.specs.Prelude.{◌-◌, take, length};
+    ghost use Rattle.feed_names.specs.ReleaseName.{Name, IsName};
+
+    ghost Value = { Name };
+
+    ghost view = { λ r. record { stem = take (length r.text.items - 15) r.text.items; day = r.day } };
+
+    ghost invariant = { λ r. IsName r.text.items (record { stem = take (length r.text.items - 15) r.text.items; day = r.day }) };
+}
+
+impl ReleaseName {
+    /// Reads a name. It takes memory for the text alone, once the text is known to be a name.
+    pub fn parse(alloc: Global, text: &[u8]) -> Result<ReleaseName, NameFault>
+        ensures named { IfOk result (IsName text.now) }
+        ensures refused { IfErr result (IsRefused text.now) }
+    {
+        let Some(front) = text.strip_suffix(b".txt".as_slice()) else {
+            return Err(NameFault::BadEnding);
+        };
+        let Some((stem, day)) = split_date(front) else {
+            return Err(NameFault::BadDate);
+        };
+        if !is_stem(stem) {
+            return Err(NameFault::BadStem);
+        }
+        match Vec::from_slice(alloc, text) {
+            Ok(text) => Ok(ReleaseName { text, day }),
+            Err(_) => Err(NameFault::Memory),
+        }
+    }
+
+    /// The key of the package: the bytes before `_` and the date.
+    pub fn package(&self) -> &[u8]
+        ensures value { result.now ≡ self.now.stem }
+        ensures stem { IsStem self.now.stem }
+    {
+        &self.text[..self.text.len() - TAIL_LENGTH]
+    }
+
+    /// The release's day, counted from 1970-01-01 and negative before it.
+    pub fn day(&self) -> i32
+        ensures { result ≡ self.now.day }
+    {
+        self.day
+    }
+
+    /// The name as it is written.
+    pub fn text(&self) -> &[u8]
+        ensures name { IsName result.now self.now }
+        ensures value { result.now ≡ text_of self.now }
+    {
+        &self.text
+    }
+
+    /// Whether both are releases of one package, and this one is of an earlier day.
+    pub fn earlier_than(&self, other: &ReleaseName) -> bool
+        ensures { IsTrue result ↔ IsEarlier self.now other.now }
+    {
+        self.day < other.day && self.package() == other.package()
+    }
+
+    /// The same name once more.
+    pub fn try_clone(&self) -> Result<ReleaseName, AllocError>
+        ensures { IfOk result (λ name. name ≡ self.now) }
+    {
+        Ok(ReleaseName {
+            text: self.text.clone()?,
+            day: self.day,
+        })
+    }
+}
+
+// The text before `_` and a date at its end, and the day of that date.
+fn split_date(front: &[u8]) -> Option<(&[u8], i32)>
+    ensures { MatchOption result ((stem : List ℕ) (day : ℤ) → ¬ (IsDated front.now stem day)) (λ split. IsDated front.now split.0.now split.1) }
+{
+    let at = front.len().checked_sub(DATE_LENGTH)?;
+    let (stem, dated) = front.split_at(at);
+    let date = dated.strip_prefix(b"_".as_slice())?;
+    match read_date(date) {
+        Some(day) => Some((stem, day)),
+        None => None,
+    }
+}
+
+fn is_stem(stem: &[u8]) -> bool
+    ensures { IsTrue result ↔ IsStem stem.now }
+{
+    match stem {
+        [] | [b'.', ..] => false,
+        _ => stem.len() <= LONGEST_STEM && stem.iter().all(|byte| is_stem_byte(*byte)),
+    }
+}
+
+fn is_stem_byte(byte: u8) -> bool
+    ensures { result ≡ is_stem_byte byte }
+{
+    byte.is_ascii_alphanumeric() || byte == b'-' || byte == b'_' || byte == b'.'
+}
+
+/// Two names are equal where their packages and their days are.
+impl PartialEq for ReleaseName {
+    ghost use Rattle.std.proofs.Common.{rules};
+    ghost use Rattle.std.specs.Cmp.Rules.{comparing};
+    ghost use Rattle.feed_names.specs.ReleaseName.{name_eq};
+
+    ghost eq = { name_eq };
+
+    ghost laws = { Prim.search (comparing, rules) };
+
+    fn eq(&self, other: &ReleaseName) -> bool {
+        self.package() == other.package() && self.day == other.day
+    }
+}
+
+impl Eq for ReleaseName {
+    ghost use Rattle.std.proofs.Common.{rules};
+    ghost use Rattle.std.specs.Cmp.Rules.{comparing};
+
+    ghost laws = { Prim.search (comparing, rules) };
+}
+
+#[cfg(test)]
+mod tests {
+    use super::*;
+    use std::test::Fail;
+
+    #[test]
+    fn names_are_read(rt: HostRuntime) -> Result<(), Fail> {
+        let rows = [
+            (
+                "JSTOR_Global_AllTitles_2024-02-29.txt",
+                "JSTOR_Global_AllTitles",
+                19782,
+            ),
+            ("X_0001-01-01.txt", "X", -719162),
+            ("A_2024-01-01_2024-02-01.txt", "A_2024-01-01", 19754),
+        ];
+        for (text, package, day) in rows {
+            let name = ReleaseName::parse(rt.alloc(), text.as_bytes())?;
+            assert_eq!(rt; name.package(), package.as_bytes(), "{text}");
+            assert_eq!(rt; name.day(), day, "{text}");
+            assert_eq!(rt; name.text(), text.as_bytes(), "{text}");
+            assert_eq!(rt; name.try_clone()?.text(), text.as_bytes(), "{text}");
+        }
+        Ok(())
+    }
+
+    #[test]
+    fn other_texts_are_refused(rt: HostRuntime) {
+        let rows = [
+            ("JSTOR_Global_AllTitles_2023-02-29.txt", NameFault::BadDate),
+            ("X_0000-01-01.txt", NameFault::BadDate),
+            ("2024-02-29.txt", NameFault::BadDate),
+            ("_2024-02-29.txt", NameFault::BadStem),
+            (".X_2024-02-29.txt", NameFault::BadStem),
+            ("X_2024-02-29.TXT", NameFault::BadEnding),
+            ("", NameFault::BadEnding),
+        ];
+        for (text, fault) in rows {
+            let refused = ReleaseName::parse(rt.alloc(), text.as_bytes()).err();
+            assert_eq!(rt; refused, Some(fault), "{text}");
+        }
+    }
+
+    #[test]
+    fn a_stem_has_at_most_a_hundred_bytes(rt: HostRuntime) -> Result<(), Fail> {
+        for (length, refused) in [(100, None), (101, Some(NameFault::BadStem))] {
+            let mut text = vec![in rt.alloc(); b'a'; length]?;
+            text.extend_from_slice(b"_2024-02-29.txt")?;
+            let fault = ReleaseName::parse(rt.alloc(), &text).err();
+            assert_eq!(rt; fault, refused, "{length}");
+        }
+        Ok(())
+    }
+
+    #[test]
+    fn releases_of_a_package_stand_by_day(rt: HostRuntime) -> Result<(), Fail> {
+        let january = ReleaseName::parse(rt.alloc(), b"P_2024-01-01.txt")?;
+        let february = ReleaseName::parse(rt.alloc(), b"P_2024-02-01.txt")?;
+        let other = ReleaseName::parse(rt.alloc(), b"Q_2024-03-01.txt")?;
+        assert!(rt; january.earlier_than(&february));
+        assert!(rt; !february.earlier_than(&january));
+        assert!(rt; !january.earlier_than(&january));
+        assert!(rt; !january.earlier_than(&other));
+        Ok(())
+    }
+}
