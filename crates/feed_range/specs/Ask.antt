@@ -1,0 +1,51 @@
+-- The part of a file that a Range value asks for (RFC 9110, sections 14.1.2 and 14.2).
+use Rattle.std.specs.Prelude.{ℕ, ◌-◌, List, ◌++◌, length, nat_lt, nat_le, ◌==◌, min, codes, if◌then◌else◌, Option, Some, None, ⊤, ◌≤◌, ◌<◌}
+use Rattle.std.specs.Option.{option_and_then, option_map, option_map_or}
+use Rattle.std.specs.Fmt.{decimal}
+use Rattle.feed_range.specs.Text.{dash, strip_prefix, split_once, number_of, capped_number}
+use Rattle.feed_range.specs.declared.ask.RangeAsk.{RangeAsk}
+use Rattle.feed_range.specs.declared.ask.RangeAsk.TheVariants.{Whole, Part, Unsatisfied}
+
+-- first-last: these places, as far as the file has them
+abbrev pub places_between : ℕ → ℕ → ℕ → RangeAsk
+places_between first last size =
+    if nat_lt last first then Whole
+    else (if nat_le size first then Unsatisfied else Part first (min last (size - 1)))
+
+-- first-: all places from the first on
+abbrev pub places_from : ℕ → ℕ → RangeAsk
+places_from first size = if nat_le size first then Unsatisfied else Part first (size - 1)
+
+-- -suffix: as many places at the end, or all where the file has no more
+abbrev pub last_places : ℕ → ℕ → RangeAsk
+last_places suffix size =
+    if suffix == 0 then Unsatisfied
+    else (if size == 0 then Whole else Part (size - suffix) (size - 1))
+
+-- the form is known by which of the texts round the dash write a number; the other text is empty
+abbrev pub places_by_form : List ℕ → List ℕ → Option ℕ → Option ℕ → ℕ → RangeAsk
+places_by_form before after (Some first) (Some last) size = places_between first last size
+places_by_form before after (Some first) None size = if length after == 0 then places_from first size else Whole
+places_by_form before after None (Some suffix) size = if length before == 0 then last_places suffix size else Whole
+places_by_form before after None None size = Whole
+
+-- what the texts round the dash ask for, where a number past 64 bits counts as the greatest that fits
+abbrev pub places_of : List ℕ → List ℕ → ℕ → RangeAsk
+places_of before after size =
+    places_by_form before after (option_map capped_number (number_of before)) (option_map capped_number (number_of after)) size
+
+-- what the value asks for of a file of that size
+abbrev pub ask_of : List ℕ → ℕ → RangeAsk
+ask_of value size =
+    option_map_or (λ parts. places_of parts.0 parts.1 size)
+    (option_and_then (split_once dash) (strip_prefix (codes "bytes=") value)) Whole
+
+-- the value that asks for the places from first to last
+abbrev pub ask_text : ℕ → ℕ → List ℕ
+ask_text first last = codes "bytes=" ++ decimal first ++ codes "-" ++ decimal last
+
+-- the places that are asked for are in a file of that size
+abbrev pub IsInside : ℕ → RangeAsk → Type 0
+IsInside size Whole = ⊤
+IsInside size (Part first last) = (first ≤ last) × (last < size)
+IsInside size Unsatisfied = ⊤

@@ -1,0 +1,22 @@
+//! Byte ranges of HTTP (RFC 9110, section 14): what a request asks for, and what a reply says
+//! that it holds. Both ends of the feed speak through this crate. Nothing in it allocates.
+#![tactic(auto)]
+
+use thiserror::Error;
+
+mod ask;
+mod content;
+#[cfg(test)]
+mod tests;
+mod text;
+
+pub use ask::{RangeAsk, ask_reads_back, write_ask};
+pub use content::{ContentRange, RangeFault, content_range_reads_back, write_content_range};
+
+/// Why a value was not written.
+#[derive(Clone, Copy, Debug, PartialEq, Eq, Error)]
+pub enum WriteFault {
+    /// The writer refused some of the bytes.
+    #[error("Write")]
+    Write,
+}

@@ -1,0 +1,63 @@
+//! The parts of a field value: its prefix, what stands round a byte, and numbers.
+ghost use Rattle.std.specs.Prelude.{◌≡◌, ◌==◌, IsTrue, option_copied};
+ghost use Rattle.std.specs.Char.{is_ascii_digit};
+ghost use Rattle.std.specs.List.{list_all, position};
+ghost use Rattle.std.specs.Option.{option_map};
+ghost use Rattle.std.specs.Str.Parse.{digits_value};
+ghost use Rattle.feed_range.specs.Text.{strip_prefix, split_once, is_number, number_of, in_64_bits, capped_number};
+
+/// What follows the prefix, at the front of the text in any case.
+pub fn strip_prefix<'a>(text: &'a [u8], prefix: &[u8]) -> Option<&'a [u8]>
+    ensures { option_copied result ≡ strip_prefix prefix.now text.now }
+{
+    let (front, rest) = text.split_at_checked(prefix.len())?;
+    front.eq_ignore_ascii_case(prefix).then_some(rest)
+}
+
+fn place_of(text: &[u8], byte: u8) -> Option<usize>
+    ensures { result ≡ position (λ other. other == byte) text.now }
+{
+    text.iter().position(|other| *other == byte)
+}
+
+/// What stands before the first such byte, and what stands after it.
+pub fn split_once(text: &[u8], byte: u8) -> Option<(&[u8], &[u8])>
+    ensures { option_map (λ parts. (parts.0.now, parts.1.now)) result ≡ split_once byte text.now }
+{
+    let place = place_of(text, byte)?;
+    Some((&text[..place], &text[place + 1..]))
+}
+
+fn has_digits_alone(text: &[u8]) -> bool
+    ensures { result ≡ list_all is_ascii_digit text.now }
+{
+    text.iter().all(|byte| byte.is_ascii_digit())
+}
+
+/// Whether the text is a number: one digit or more.
+pub fn is_number(text: &[u8]) -> bool
+    ensures { result ≡ is_number text.now }
+{
+    !text.is_empty() && has_digits_alone(text)
+}
+
+/// The number that the digits write, or `None` past 64 bits.
+pub fn parse_number(digits: &[u8]) -> Option<u64>
+    requires { IsTrue (is_number digits.now) }
+    ensures { result ≡ in_64_bits (digits_value 10 digits.now) }
+{
+    let Ok(text) = str::from_utf8(digits) else {
+        return None;
+    };
+    text.parse().ok()
+}
+
+/// The number that the text writes, if it is one, where one past 64 bits counts as the greatest.
+pub fn read_capped(text: &[u8]) -> Option<u64>
+    ensures { result ≡ option_map capped_number (number_of text.now) }
+{
+    if !is_number(text) {
+        return None;
+    }
+    Some(parse_number(text).unwrap_or(u64::MAX))
+}
