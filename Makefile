@@ -1,0 +1,19 @@
+# kbfeed: the targets that a reader needs. The toolchain's command `rt` has to be on the path.
+PROGRAM = crates/kbfeed/out/kbfeed
+
+.PHONY: help build replay test
+
+help:
+	@echo "make build    proves and builds the program, and leaves it at $(PROGRAM)"
+	@echo "make replay   builds the program and runs samples/first.script through it"
+	@echo "make test     the gate: every proof from nothing, the edits that must fail, the tests, the program's run"
+
+build:
+	@mkdir -p crates/kbfeed/out
+	@cd crates/kbfeed && { rt run -- --help > /dev/null 2> out/build.log || { cat out/build.log >&2; exit 1; }; }
+
+replay: build
+	@$(PROGRAM) replay < samples/first.script
+
+test:
+	@rt ci

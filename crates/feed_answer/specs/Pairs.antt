@@ -1,0 +1,70 @@
+-- What the pairs of a query say (ANSI/NISO Z39.88-2004, key/value journal format).
+use Rattle.std.specs.Prelude.{ℕ, ◌&&◌, ◌||◌, not, Bool, true, false, List, [], ◌∷◌, Option, Some, None, if◌then◌else◌, take, drop, length, codes}
+use Rattle.std.specs.List.{filter_map, list_any}
+use Rattle.std.specs.Str.{bytes_eq, str_eq_ignore_ascii_case}
+use Rattle.feed_kbart.specs.Text.{trimmed, volume_of}
+use Rattle.feed_kbart.specs.Issn.{issn_of}
+use Rattle.feed_kbart.specs.Days.{query_days_of}
+use Rattle.feed_kbart.specs.declared.day.DayRange.{DayRange}
+use Rattle.feed_answer.specs.IssnSet.{issn_set}
+
+-- the key of a pair is this text
+abbrev pub has_key : List ℕ → List ℕ × List ℕ → Bool
+has_key key pair = bytes_eq pair.0 key
+
+abbrev pub is_empty : List ℕ → Bool
+is_empty [] = true
+is_empty (b ∷ bytes) = false
+
+-- the pair has this key, and a value that is neither empty nor the one that is wanted
+abbrev pub is_other : List ℕ → List ℕ → List ℕ × List ℕ → Bool
+is_other key wanted pair = has_key key pair && not (is_empty pair.1) && not (bytes_eq pair.1 wanted)
+
+-- the version of the standard is another
+abbrev pub is_other_version : List ℕ × List ℕ → Bool
+is_other_version pair =
+    is_other (codes "url_ver") (codes "Z39.88-2004") pair || is_other (codes "ctx_ver") (codes "Z39.88-2004") pair
+
+-- the format is another than the journal's
+abbrev pub is_other_format : List ℕ × List ℕ → Bool
+is_other_format pair = is_other (codes "rft_val_fmt") (codes "info:ofi/fmt:kev:mtx:journal") pair
+
+-- the text begins with this front, in any case of ASCII letters
+abbrev pub is_begun_by : List ℕ → List ℕ → Bool
+is_begun_by front text = str_eq_ignore_ascii_case (take (length front) text) front
+
+-- the ISSN of a `urn:ISSN:` name (RFC 3044)
+abbrev pub issn_of_urn : List ℕ → Option (List ℕ)
+issn_of_urn name = if is_begun_by (codes "urn:ISSN:") name then issn_of (drop 9 name) else None
+
+-- the ISSN that a pair names
+abbrev pub issn_of_pair : List ℕ × List ℕ → Option (List ℕ)
+issn_of_pair pair =
+    if has_key (codes "rft.issn") pair || has_key (codes "rft.eissn") pair then issn_of pair.1
+    else if has_key (codes "rft_id") pair then issn_of_urn pair.1
+    else None
+
+-- the ISSNs that the pairs name, as a set
+abbrev pub issns_among : List (List ℕ × List ℕ) → List (List ℕ)
+issns_among pairs = issn_set (filter_map issn_of_pair pairs)
+
+-- the days of a pair whose value, trimmed, reads as a date
+abbrev pub days_of_pair : List ℕ × List ℕ → Option DayRange
+days_of_pair pair = if has_key (codes "rft.date") pair then query_days_of (trimmed pair.1) else None
+
+-- the number of a pair whose value, trimmed, reads as a volume
+abbrev pub volume_of_pair : List ℕ × List ℕ → Option ℕ
+volume_of_pair pair = if has_key (codes "rft.volume") pair then volume_of (trimmed pair.1) else None
+
+-- the first of what is there
+abbrev pub first : {A : Type 0} → List A → Option A
+first [] = None
+first (x ∷ xs) = Some x
+
+-- the days of the first date that reads
+abbrev pub first_days : List (List ℕ × List ℕ) → Option DayRange
+first_days pairs = first (filter_map days_of_pair pairs)
+
+-- the number of the first volume that reads
+abbrev pub first_volume : List (List ℕ × List ℕ) → Option ℕ
+first_volume pairs = first (filter_map volume_of_pair pairs)

@@ -1,0 +1,9 @@
+-- What is seen of a query.
+use Rattle.std.specs.Prelude.{ℕ, List, Option}
+use Rattle.feed_kbart.specs.declared.day.DayRange.{DayRange}
+
+-- the printed bytes of the ISSNs that are asked for, ascending and each once, and the days and the volume
+pub record QueryValue : Type 0 where
+  pub issns : List (List ℕ)
+  pub days : Option DayRange
+  pub volume : Option ℕ

@@ -1,0 +1,51 @@
+ghost use Rattle.std.specs.Prelude.{◌≡◌};
+ghost use Rattle.feed_answer.specs.declared.fault.QueryFault.TheVariants as query_fault;
+ghost use Rattle.feed_answer.specs.declared.fault.WriteFault.TheVariants as write_fault;
+
+use std::alloc::AllocError;
+use std::io;
+use thiserror::Error;
+
+/// Why a query was not read: the first of these that holds, but for `Memory`.
+#[derive(Clone, Copy, Debug, PartialEq, Eq, Error)]
+pub enum QueryFault {
+    /// The query has more than `QUERY_LIMIT` bytes.
+    #[error("TooLong")]
+    TooLong,
+    /// A `url_ver` or `ctx_ver` is neither empty nor `Z39.88-2004`.
+    #[error("Version")]
+    Version,
+    /// A `rft_val_fmt` is neither empty nor `info:ofi/fmt:kev:mtx:journal`.
+    #[error("NotJournal")]
+    NotJournal,
+    /// No value names an ISSN.
+    #[error("NoIssn")]
+    NoIssn,
+    /// Want of memory, in place of any outcome but `TooLong`.
+    #[error("Memory")]
+    Memory,
+}
+
+impl From<AllocError> for QueryFault {
+    ghost from_gives = { λ _ e. e ≡ query_fault.Memory };
+
+    fn from(_error: AllocError) -> QueryFault {
+        QueryFault::Memory
+    }
+}
+
+/// Why an answer was not written whole. Nothing is said of how much went out.
+#[derive(Clone, Copy, Debug, PartialEq, Eq, Error)]
+pub enum WriteFault {
+    /// The writer failed.
+    #[error("Write")]
+    Write,
+}
+
+impl From<io::Error> for WriteFault {
+    ghost from_gives = { λ _ e. e ≡ write_fault.Write };
+
+    fn from(_error: io::Error) -> WriteFault {
+        WriteFault::Write
+    }
+}

@@ -1,0 +1,108 @@
+ghost use Rattle.std.specs.Prelude.{◌≡◌, Some};
+
+use crate::query::Query;
+use feed_kbart::{DayRange, Issn, Row};
+use std::fmt;
+
+/// How well a row that matches covers what the query asks for.
+#[derive(Clone, Copy, Debug, PartialEq, Eq)]
+pub enum Grade {
+    /// Neither date nor volume was tested: the query or the row does not tell it.
+    Untested,
+    /// The row covers some of the query's days, and not all.
+    Overlap,
+    /// The row covers all of the query's days, or its volume where no date was tested.
+    Inside,
+}
+
+impl fmt::Display for Grade {
+    ghost use Rattle.feed_answer.specs.Grades.{grade_text};
+
+    ghost output = { λ grade. Some (grade_text grade) };
+
+    fn fmt<W: fmt::Write>(&self, f: &mut fmt::Formatter<W>) -> fmt::Result {
+        f.write_str(match self {
+            Grade::Untested => "untested",
+            Grade::Overlap => "overlap",
+            Grade::Inside => "inside",
+        })
+    }
+}
+
+ghost use Rattle.feed_answer.specs.Grades.{begins_by, days_grade, grade_of, is_named, lasts_to, volume_grade};
+
+// Whether coverage has begun by a day. Without a first day it always has.
+fn begins_by(first: Option<i32>, day: i32) -> bool
+    ensures { result ≡ begins_by first day }
+{
+    first.is_none_or(|first| first <= day)
+}
+
+// Whether coverage lasts to a day. Without a last day it lasts to the present, and on.
+fn lasts_to(last: Option<i32>, day: i32) -> bool
+    ensures { result ≡ lasts_to last day }
+{
+    last.is_none_or(|last| day <= last)
+}
+
+// The grade by the dates alone, or none where the days do not meet.
+fn days_grade(row: &Row, days: Option<DayRange>) -> Option<Grade>
+    ensures { result ≡ days_grade row.now.first_day row.now.last_day days }
+{
+    let Some(days) = days else {
+        return Some(Grade::Untested);
+    };
+    let (first, last) = (row.first_day(), row.last_day());
+    if first.is_none() && last.is_none() {
+        Some(Grade::Untested)
+    } else if !(begins_by(first, days.last) && lasts_to(last, days.first)) {
+        None
+    } else if begins_by(first, days.first) && lasts_to(last, days.last) {
+        Some(Grade::Inside)
+    } else {
+        Some(Grade::Overlap)
+    }
+}
+
+// The grade by the volumes alone, or none where the volume lies outside. A side that is absent is
+// open.
+fn volume_grade(row: &Row, volume: Option<u32>) -> Option<Grade>
+    ensures { result ≡ volume_grade row.now.first_volume row.now.last_volume volume }
+{
+    let Some(volume) = volume else {
+        return Some(Grade::Untested);
+    };
+    let (first, last) = (row.first_volume(), row.last_volume());
+    if first.is_none() && last.is_none() {
+        Some(Grade::Untested)
+    } else if first.is_none_or(|first| first <= volume) && last.is_none_or(|last| volume <= last) {
+        Some(Grade::Inside)
+    } else {
+        None
+    }
+}
+
+// Whether a row's ISSN, if it has one, is among these.
+fn is_among(issn: Option<Issn>, issns: &[Issn]) -> bool
+    ensures { result ≡ is_named issn issns.now }
+{
+    match issn {
+        Some(issn) => issns.contains(&issn),
+        None => false,
+    }
+}
+
+/// The grade of a row under a query, if the row matches.
+pub(crate) fn grade_of(row: &Row, query: &Query) -> Option<Grade>
+    ensures { result ≡ grade_of query.now row.now }
+{
+    if !is_among(row.print(), query.issns()) && !is_among(row.online(), query.issns()) {
+        return None;
+    }
+    let by_days = days_grade(row, query.days())?;
+    let by_volume = volume_grade(row, query.volume())?;
+    match by_days {
+        Grade::Untested => Some(by_volume),
+        _ => Some(by_days),
+    }
+}

@@ -1,0 +1,23 @@
+ghost use Rattle.std.specs.Prelude.{◌≡◌, IfOk};
+ghost use Rattle.feed_answer.specs.Answers.{answer_of};
+
+use crate::grade::grade_of;
+use crate::query::Query;
+use crate::written::{Answer, Hit};
+use feed_kbart::Holdings;
+use std::alloc::{AllocError, Global};
+
+/// The rows of a holdings list that match a query, each with its grade, in file order.
+pub fn answer<'a>(
+    alloc: Global,
+    holdings: &'a Holdings,
+    query: &Query,
+) -> Result<Answer<'a>, AllocError> {
+    let mut hits = Vec::new(alloc);
+    for row in holdings.rows() {
+        if let Some(grade) = grade_of(row, query) {
+            hits.push(Hit { row, grade })?;
+        }
+    }
+    Ok(Answer { hits })
+}

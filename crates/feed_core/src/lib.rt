@@ -1,0 +1,24 @@
+//! The feed of a node: releases kept in pieces over any keeper, the latest whole and good one of each package
+//! reported and asked; and a world of published files and nodes, replayed from a list of events.
+#![tactic(auto)]
+
+mod event;
+mod feed;
+mod keep;
+mod list_keep;
+mod parts;
+mod record;
+mod release;
+mod transcript;
+mod world;
+mod world_event;
+
+pub use event::{Event, Refusal, Reply};
+pub use feed::{AnswerFault, Feed, OpenFault};
+pub use feed_answer::WriteFault;
+pub use keep::{Change, Keep, KeepFault, PIECE_LIMIT, RELEASE_LIMIT};
+pub use list_keep::ListKeep;
+pub use record::{Part, Record, State};
+pub use transcript::Transcript;
+pub use world::{NODE_LIMIT, ReplayFault, replay};
+pub use world_event::{Line, Why, WorldEvent};

@@ -1,0 +1,35 @@
+use crate::world_event::Line;
+use feed_answer::WriteFault;
+use std::io::Write;
+
+/// What a replay showed: a line for each event, and the keepers of the nodes as they are then.
+#[derive(Drop)]
+pub struct Transcript<K: Drop> {
+    lines: Vec<Line>,
+    keepers: Vec<K>,
+}
+
+impl<K: Drop> Transcript<K> {
+    pub(crate) fn of(lines: Vec<Line>, keepers: Vec<K>) -> Transcript<K> {
+        Transcript { lines, keepers }
+    }
+
+    /// A line for each event, in order.
+    pub fn lines(&self) -> &[Line] {
+        &self.lines
+    }
+
+    /// Writes the lines, each ended by LF. Where the writer fails, nothing is said of how much it took.
+    pub fn write<W: Write>(&self, writer: &mut W) -> Result<(), WriteFault> {
+        for line in &self.lines {
+            line.write(writer).map_err(|_| WriteFault::Write)?;
+        }
+        Ok(())
+    }
+
+    /// The keepers, in the order of the nodes.
+    pub fn into_keepers(self) -> Vec<K> {
+        let Transcript { lines: _, keepers } = self;
+        keepers
+    }
+}

@@ -1,0 +1,6 @@
+pub mod Places
+pub mod Bytes
+pub mod Cuts
+pub mod Steps
+pub mod Digits
+pub mod DateLaw

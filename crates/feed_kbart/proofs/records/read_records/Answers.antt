@@ -1,0 +1,101 @@
+use Rattle.std.proofs.Common.{List, ◌≡◌, ◌∙◌, refl, inl, inr, arith}
+use Rattle.std.proofs.lemmas.Result.{err_from_is_err_and}
+use Rattle.csv.specs.Records.{fields_of}
+use Rattle.feed_kbart.specs.Records.{records_of}
+use Rattle.feed_kbart.specs.Files.{holdings_in}
+use Rattle.feed_kbart.specs.Holdings.{HoldingsValue}
+use Rattle.feed_kbart.specs.RowValue.{RowValue}
+use Rattle.feed_kbart.specs.declared.holdings.Aside.{Aside}
+use Rattle.feed_kbart.proofs.Cuts.{drop_mark-strip}
+use Rattle.feed_kbart.proofs.Steps.{no_header, first_record, stands_first, stands_next, stands_end, stands_full, if_some}
+use Rattle.feed_kbart.proofs.records.read_records.Goals as goal
+use Rattle.feed_kbart.proofs.records.read_records.Goals.{else-loop-number-test, then-loop-number-test+in-Ok-false-read_byte_record}
+
+pub returns-in-Ok-false : goal.returns-in-Ok-false
+returns-in-Ok-false g c =
+    let fr = c.from_reader-reader.ensures in
+    let config = rw (c.flexible.ensures, c.quoting.ensures, c.delimiter.ensures, c.has_headers.ensures, c.new.ensures.config) at fr.config in
+    let trims = rw (c.flexible.ensures, c.quoting.ensures, c.delimiter.ensures, c.has_headers.ensures) at fr.trim ∙ c.new.ensures.trim in
+    let named = rw (c.flexible.ensures, c.quoting.ensures, c.delimiter.ensures, c.has_headers.ensures) at fr.has_headers in
+    let reads = rw (c.in-Ok-false.is, c.in-Ok-false.field-0-test) at c.read_byte_record.ensures.reads in
+    if_some (g.R.Read.remaining c.args.source) _ (λ text is small.
+    no_header g.R.Read.remaining c.from_reader-reader.result c.read_byte_record.new.self text (fields_of c.read_byte_record.new.row) (inl fr.state)
+    (rw (is, drop_mark-strip text) at fr.source) config (reads trims (inr (inr (named, fr.headers)))))
+
+pub loop-number-init : goal.loop-number-init
+loop-number-init g c =
+    let fr = c.from_reader-reader.ensures in
+    let config = rw (c.flexible.ensures, c.quoting.ensures, c.delimiter.ensures, c.has_headers.ensures, c.new.ensures.config) at fr.config in
+    let trims = rw (c.flexible.ensures, c.quoting.ensures, c.delimiter.ensures, c.has_headers.ensures) at fr.trim ∙ c.new.ensures.trim in
+    let named = rw (c.flexible.ensures, c.quoting.ensures, c.delimiter.ensures, c.has_headers.ensures) at fr.has_headers in
+    let reads = rw (c.in-Ok-true.is, c.in-Ok-true.field-0-test) at c.read_byte_record.ensures.reads in
+    let on = rw (c.in-Ok-true.is, c.in-Ok-true.field-0-test) at c.read_byte_record.ensures.reads_on in
+    let goes = on refl in
+    let header = rw c.in_ok-columns.was at c.read_header.ensures in
+    record {
+      trims = goes.1 ∙ trims;
+      ready = (goes.4 (inr (inr (named, fr.headers)))).0;
+      config = goes.0 ∙ config;
+      stands = λ text is. rw (c.new-rows.ensures.items, c.new-aside.ensures.items)
+          (stands_first g.R.Read.remaining c.from_reader-reader.result c.read_byte_record.new.self c.in_ok-columns.columns text (fields_of c.read_byte_record.new.row) (inl fr.state)
+          (rw (is, drop_mark-strip text) at fr.source) config (reads trims (inr (inr (named, fr.headers)))) header.0 header.1);
+    }
+
+pub loop-number-preserved : goal.loop-number-preserved
+loop-number-preserved g c =
+    let inv = c.loop-number.invariant in
+    let reads = rw (c.in-Ok-true-read_byte_record.is, c.in-Ok-true-read_byte_record.field-0-test) at c.read_byte_record-in-loop-number.ensures.reads in
+    let on = rw (c.in-Ok-true-read_byte_record.is, c.in-Ok-true-read_byte_record.field-0-test) at c.read_byte_record-in-loop-number.ensures.reads_on in
+    let goes = on refl in
+    let same = rw c.in_ok-verdict.was at c.judge.ensures in
+    let rows = rw c.in_ok-keep.was at c.keep.ensures.rows in
+    let aside = rw c.in_ok-keep.was at c.keep.ensures.aside in
+    record {
+      trims = goes.1 ∙ inv.trims;
+      ready = (goes.4 inv.ready).0;
+      config = goes.0 ∙ inv.config;
+      stands = λ text is. rw (rows, aside, same)
+          (stands_next g.R.Read.remaining c.loop-number.reader c.read_byte_record-in-loop-number.new.self c.in_ok-columns.columns c.loop-number.number c.loop-number.rows.items c.loop-number.aside.items text
+          (fields_of c.read_byte_record-in-loop-number.new.row) (inv.stands text is) inv.config (reads inv.trims inv.ready));
+    }
+
+-- holdings are their two lists
+both : (holdings : HoldingsValue) (rows : List RowValue) (aside : List Aside) → rows ≡ holdings.rows → aside ≡ holdings.aside
+    → record { rows = rows; aside = aside } ≡ holdings
+both holdings rows aside r a = rw (r, a) refl
+
+pub returns : goal.returns
+returns g c =
+    let inv = c.loop-number.invariant in
+    elim c.loop-number-test.branch [
+      | else-loop-number-test w ↦
+          if_some (g.R.Read.remaining c.args.source) _ (λ text is small.
+          let stands = inv.stands text is in
+          let all = stands_full g.R.Read.remaining c.loop-number.reader c.in_ok-columns.columns c.loop-number.number c.loop-number.rows.items c.loop-number.aside.items text stands (omega (arith, w.loop-number-test.false)) in
+          (stands.good, c.of.ensures ∙ both (holdings_in (records_of text)) c.loop-number.rows.items c.loop-number.aside.items all.0 all.1))
+      | then-loop-number-test+in-Ok-false-read_byte_record w ↦
+          let reads = rw (w.in-Ok-false-read_byte_record.is, w.in-Ok-false-read_byte_record.field-0-test) at w.read_byte_record-in-loop-number.ensures.reads in
+          if_some (g.R.Read.remaining c.args.source) _ (λ text is small.
+          let stands = inv.stands text is in
+          let all = stands_end g.R.Read.remaining c.loop-number.reader w.read_byte_record-in-loop-number.new.self c.in_ok-columns.columns c.loop-number.number c.loop-number.rows.items c.loop-number.aside.items text
+          (fields_of w.read_byte_record-in-loop-number.new.row) stands inv.config (reads inv.trims inv.ready) in
+          (stands.good, c.of.ensures ∙ both (holdings_in (records_of text)) c.loop-number.rows.items c.loop-number.aside.items all.0 all.1))
+    ]
+
+pub returns-in_err-columns : goal.returns-in_err-columns
+returns-in_err-columns g c =
+    let fr = c.from_reader-reader.ensures in
+    let config = rw (c.flexible.ensures, c.quoting.ensures, c.delimiter.ensures, c.has_headers.ensures, c.new.ensures.config) at fr.config in
+    let trims = rw (c.flexible.ensures, c.quoting.ensures, c.delimiter.ensures, c.has_headers.ensures) at fr.trim ∙ c.new.ensures.trim in
+    let named = rw (c.flexible.ensures, c.quoting.ensures, c.delimiter.ensures, c.has_headers.ensures) at fr.has_headers in
+    let reads = rw (c.in-Ok-true.is, c.in-Ok-true.field-0-test) at c.read_byte_record.ensures.reads in
+    let header = rw c.in_err-columns.was at c.read_header.ensures in
+    let p = err_from_is_err_and c.from_residual.result c.from_residual.ensures.1 in
+    if_some (g.R.Read.remaining c.args.source) _ (λ text is small. rw (p.1, p.2)
+    (first_record g.R.Read.remaining c.from_reader-reader.result c.read_byte_record.new.self text (fields_of c.read_byte_record.new.row) (inl fr.state)
+    (rw (is, drop_mark-strip text) at fr.source) config (reads trims (inr (inr (named, fr.headers)))) ∙ header))
+
+pub returns-in_err-keep : goal.returns-in_err-keep
+returns-in_err-keep g c =
+    let p = err_from_is_err_and c.from_residual-in_err-keep.result c.from_residual-in_err-keep.ensures.1 in
+    if_some (g.R.Read.remaining c.args.source) _ (λ text is small. rw (p.1, p.2) tt)

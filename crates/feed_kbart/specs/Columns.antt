@@ -1,0 +1,54 @@
+-- Where the labels stand in a header, and what is wrong with it.
+use Rattle.std.specs.Prelude.{ℕ, nat_lt, List, [], Option, Some, None, is_none, unwrap_or, count_by, find}
+use Rattle.std.specs.List.{position_from}
+use Rattle.csv.specs.Records.{field_at}
+use Rattle.feed_kbart.specs.Labels.{is_label, required_labels, used_labels}
+use Rattle.feed_kbart.specs.declared.header.Columns.{Columns}
+use Rattle.feed_kbart.specs.declared.fault.BadFile.{BadFile}
+use Rattle.feed_kbart.specs.declared.fault.BadFile.TheVariants.{MissingLabel, LabelTwice}
+use Rattle.feed_kbart.specs.declared.label.Label.{Label}
+use Rattle.feed_kbart.specs.declared.label.Label.TheVariants as label
+
+-- the place of the first field that is the label
+abbrev pub column : Label → List (List ℕ) → Option ℕ
+column label header = position_from (is_label label) 0 header
+
+-- the field in a column, which is empty where there is none
+abbrev pub cell : Option ℕ → List (List ℕ) → List ℕ
+cell None fields = []
+cell (Some place) fields = unwrap_or (field_at fields place) []
+
+-- the columns of all labels
+abbrev pub columns_of : List (List ℕ) → Columns
+columns_of header = record {
+  title = column label.PublicationTitle header;
+  print = column label.PrintIdentifier header;
+  online = column label.OnlineIdentifier header;
+  first_date = column label.DateFirstIssueOnline header;
+  first_volume = column label.NumFirstVolOnline header;
+  last_date = column label.DateLastIssueOnline header;
+  last_volume = column label.NumLastVolOnline header;
+  url = column label.TitleUrl header;
+  title_id = column label.TitleId header;
+  embargo = column label.EmbargoInfo header;
+  depth = column label.CoverageDepth header;
+  publication_type = column label.PublicationType header;
+  access = column label.AccessType header;
+}
+
+-- the first required label that no field is
+abbrev pub first_missing : List (List ℕ) → Option Label
+first_missing header = find (λ l. is_none (column l header)) required_labels
+
+-- the first label that two fields are
+abbrev pub first_twice : List (List ℕ) → Option Label
+first_twice header = find (λ l. nat_lt 1 (count_by (is_label l) header)) used_labels
+
+-- why a header is bad, or nothing where it is good
+abbrev pub bad_labels : Option Label → Option Label → Option BadFile
+bad_labels (Some missing) twice = Some (MissingLabel missing)
+bad_labels None (Some twice) = Some (LabelTwice twice)
+bad_labels None None = None
+
+abbrev pub bad_header : List (List ℕ) → Option BadFile
+bad_header header = bad_labels (first_missing header) (first_twice header)

@@ -1,0 +1,64 @@
+-- What a record covers: ISSNs, days and volumes, and why a record is set aside.
+use Rattle.std.specs.Prelude.{◌||◌, ◌&&◌, not, nat_lt, ℕ, Bool, true, false, List, [], ◌∷◌, Option, Some, None, if◌then◌else◌, is_none, is_some, option_map, codes, int_lt}
+use Rattle.std.specs.Str.{str_eq_ignore_ascii_case}
+use Rattle.feed_kbart.specs.Text.{trimmed, volume_of}
+use Rattle.feed_kbart.specs.Issn.{issn_of}
+use Rattle.feed_kbart.specs.Days.{days_of}
+use Rattle.feed_kbart.specs.Columns.{cell}
+use Rattle.feed_kbart.specs.declared.coverage.Coverage.{Coverage}
+use Rattle.feed_kbart.specs.declared.day.DayRange.{DayRange}
+use Rattle.feed_kbart.specs.declared.header.Columns.{Columns}
+use Rattle.feed_kbart.specs.declared.fault.Reason.{Reason}
+use Rattle.feed_kbart.specs.declared.fault.Reason.TheVariants.{NotSerial, NoIssn, BadDate, Reversed}
+
+abbrev pub is_empty : List ℕ → Bool
+is_empty [] = true
+is_empty (b ∷ bytes) = false
+
+-- the publication type is empty or `serial`, but for spaces at its ends and the case of ASCII letters
+abbrev pub is_serial : List ℕ → Bool
+is_serial text = is_empty (trimmed text) || str_eq_ignore_ascii_case (trimmed text) (codes "serial")
+
+-- the days of a coverage date, but for spaces at its ends; an empty date has none and is an open side
+abbrev pub coverage_days : List ℕ → Option DayRange
+coverage_days text = days_of (trimmed text)
+
+-- a coverage date is empty or reads
+abbrev pub is_coverage_date : List ℕ → Bool
+is_coverage_date text = is_empty (trimmed text) || is_some (coverage_days text)
+
+-- the first day of the one is after the last day of the other
+abbrev pub is_reversed : Option DayRange → Option DayRange → Bool
+is_reversed (Some begin) (Some end) = int_lt end.last begin.first
+is_reversed None end = false
+is_reversed (Some begin) None = false
+
+-- why a record is set aside, or nothing where it is a row
+abbrev pub reason_of : Columns → List (List ℕ) → Option Reason
+reason_of columns fields =
+    if not (is_serial (cell columns.publication_type fields)) then Some NotSerial
+    else if is_none (issn_of (cell columns.print fields)) && is_none (issn_of (cell columns.online fields)) then Some NoIssn
+    else if not (is_coverage_date (cell columns.first_date fields) && is_coverage_date (cell columns.last_date fields)) then Some BadDate
+    else if is_reversed (coverage_days (cell columns.first_date fields)) (coverage_days (cell columns.last_date fields)) then Some Reversed
+    else None
+
+-- the first and the last volume; neither counts where the first exceeds the last
+abbrev pub volumes : Option ℕ → Option ℕ → Option ℕ × Option ℕ
+volumes (Some first) (Some last) = if nat_lt last first then (None, None) else (Some first, Some last)
+volumes None last = (None, last)
+volumes (Some first) None = (Some first, None)
+
+abbrev pub coverage_volumes : Columns → List (List ℕ) → Option ℕ × Option ℕ
+coverage_volumes columns fields =
+    volumes (volume_of (trimmed (cell columns.first_volume fields))) (volume_of (trimmed (cell columns.last_volume fields)))
+
+-- the ISSNs, the days and the volumes of a record
+abbrev pub coverage_of : Columns → List (List ℕ) → Coverage
+coverage_of columns fields = record {
+  print = issn_of (cell columns.print fields);
+  online = issn_of (cell columns.online fields);
+  first_day = option_map (λ days. days.first) (coverage_days (cell columns.first_date fields));
+  last_day = option_map (λ days. days.last) (coverage_days (cell columns.last_date fields));
+  first_volume = (coverage_volumes columns fields).0;
+  last_volume = (coverage_volumes columns fields).1;
+}

@@ -1,0 +1,57 @@
+-- What a file says: whether it is good, and its holdings.
+use Rattle.std.specs.Prelude.{◌≡◌, ◌≤◌, ◌<◌, not, ℕ, List, [], ◌∷◌, length, Option, Some, None, Result, Ok, Err, if◌then◌else◌}
+use Rattle.std.specs.Str.{is_utf8}
+use Rattle.feed_kbart.specs.Records.{has_two_marks, records_of}
+use Rattle.feed_kbart.specs.Columns.{bad_header, columns_of}
+use Rattle.feed_kbart.specs.Rows.{Outcome, outcomes, rows_among, asides_among}
+use Rattle.feed_kbart.specs.Holdings.{HoldingsValue}
+use Rattle.feed_kbart.specs.declared.file.TheConstants.{FILE_LIMIT}
+use Rattle.feed_kbart.specs.declared.fault.BadFile.{BadFile}
+use Rattle.feed_kbart.specs.declared.fault.BadFile.TheVariants.{NotUtf8, TwoMarks, NoHeader}
+use Rattle.feed_kbart.specs.declared.fault.KbartFault.{KbartFault}
+use Rattle.feed_kbart.specs.declared.fault.KbartFault.TheVariants.{Bad, Memory, Read, TooLong}
+
+-- the first record is the header
+abbrev pub bad_records : List (List (List ℕ)) → Option BadFile
+bad_records [] = Some NoHeader
+bad_records (header ∷ records) = bad_header header
+
+-- the first reason why a text is bad, or nothing where it is good
+unfoldable pub bad_of : List ℕ → Option BadFile
+bad_of text =
+    if not (is_utf8 text) then Some NotUtf8
+    else if has_two_marks text then Some TwoMarks
+    else bad_records (records_of text)
+
+-- what becomes of the records after the header, which are numbered from 2
+abbrev pub outcomes_after : List (List (List ℕ)) → List Outcome
+outcomes_after [] = []
+outcomes_after (header ∷ records) = outcomes (columns_of header) 2 records
+
+-- the holdings of records: the rows, and those that are set aside
+abbrev pub holdings_in : List (List (List ℕ)) → HoldingsValue
+holdings_in records = record { rows = rows_among (outcomes_after records); aside = asides_among (outcomes_after records) }
+
+-- the holdings of a text
+unfoldable pub holdings_of : List ℕ → HoldingsValue
+holdings_of text = holdings_in (records_of text)
+
+-- what reading records may give: the holdings of good ones, why they are bad, or a failure
+abbrev pub IsJudged : List (List (List ℕ)) → Result HoldingsValue KbartFault → Type 0
+IsJudged records (Ok holdings) = (bad_records records ≡ None) × (holdings ≡ holdings_in records)
+IsJudged records (Err (Bad why)) = bad_records records ≡ Some why
+IsJudged records (Err TooLong) = ⊥
+IsJudged records (Err Memory) = Unit {0}
+IsJudged records (Err Read) = Unit {0}
+
+-- what a fault says of the bytes that a reader gave; want of memory and a failing reader say nothing
+abbrev pub IsFaultOf : List ℕ → KbartFault → Type 0
+IsFaultOf text (Bad why) = (length text ≤ FILE_LIMIT) × (bad_of text ≡ Some why)
+IsFaultOf text TooLong = FILE_LIMIT < length text
+IsFaultOf text Memory = Unit {0}
+IsFaultOf text Read = Unit {0}
+
+-- what reading bytes may give: the holdings of a good text within the limit, or a fault
+abbrev pub IsReadOf : List ℕ → Result HoldingsValue KbartFault → Type 0
+IsReadOf text (Ok holdings) = (length text ≤ FILE_LIMIT) × (bad_of text ≡ None) × (holdings ≡ holdings_of text)
+IsReadOf text (Err fault) = IsFaultOf text fault

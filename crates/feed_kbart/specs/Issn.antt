@@ -1,0 +1,43 @@
+-- ISSNs, after ISO 3297.
+use Rattle.std.specs.Prelude.{ℕ, ◌+◌, ◌-◌, ◌*◌, ◌%◌, ◌==◌, ◌&&◌, ◌||◌, Bool, List, [], ◌∷◌, Option, Some, None, if◌then◌else◌}
+use Rattle.std.specs.Char.{is_ascii_digit}
+use Rattle.feed_kbart.specs.Text.{trimmed}
+
+-- an x of either case
+abbrev pub is_x : ℕ → Bool
+is_x b = (b == 88) || (b == 120)
+
+-- a check character is a digit or an x
+abbrev pub is_check : ℕ → Bool
+is_check b = is_ascii_digit b || is_x b
+
+-- the worth of a check character: an x counts ten
+abbrev pub check_value : ℕ → ℕ
+check_value b = if is_x b then 10 else b - 48
+
+-- a check character as it is printed
+abbrev pub capital : ℕ → ℕ
+capital b = if is_x b then 88 else b
+
+-- the sum of the characters with the weights 8 to 1
+abbrev pub weighted : ℕ → ℕ → ℕ → ℕ → ℕ → ℕ → ℕ → ℕ → ℕ
+weighted a b c d e f g check =
+    8 * (a - 48) + 7 * (b - 48) + 6 * (c - 48) + 5 * (d - 48) + 4 * (e - 48) + 3 * (f - 48) + 2 * (g - 48) + check_value check
+
+-- seven digits and a check character, whose weighted sum is divisible by 11, in their printed form
+abbrev pub checked : ℕ → ℕ → ℕ → ℕ → ℕ → ℕ → ℕ → ℕ → Option (List ℕ)
+checked a b c d e f g check =
+    if is_ascii_digit a && is_ascii_digit b && is_ascii_digit c && is_ascii_digit d
+    && is_ascii_digit e && is_ascii_digit f && is_ascii_digit g && is_check check
+    && (weighted a b c d e f g check % 11 == 0)
+    then Some (a ∷ b ∷ c ∷ d ∷ 45 ∷ e ∷ f ∷ g ∷ capital check ∷ []) else None
+
+-- the eight characters, with or without a hyphen after the fourth
+abbrev pub unhyphened : List ℕ → Option (List ℕ)
+unhyphened (a ∷ b ∷ c ∷ d ∷ e ∷ f ∷ g ∷ check ∷ []) = checked a b c d e f g check
+unhyphened (a ∷ b ∷ c ∷ d ∷ hyphen ∷ e ∷ f ∷ g ∷ check ∷ []) = if hyphen == 45 then checked a b c d e f g check else None
+unhyphened _ = None
+
+-- the nine printed bytes of the ISSN that a text is, if it is one
+abbrev pub issn_of : List ℕ → Option (List ℕ)
+issn_of text = unhyphened (trimmed text)

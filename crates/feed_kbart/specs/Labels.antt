@@ -1,0 +1,43 @@
+-- The labels of a file's columns.
+use Rattle.std.specs.Prelude.{◌-◌, ◌==◌, if◌then◌else◌, ℕ, Bool, List, [], ◌∷◌, Option, None, codes, slice_get}
+use Rattle.std.specs.Str.{str_eq_ignore_ascii_case}
+use Rattle.feed_kbart.specs.Text.{trimmed}
+use Rattle.feed_kbart.specs.declared.label.Label.{Label}
+use Rattle.feed_kbart.specs.declared.label.Label.TheVariants.{PublicationTitle, PrintIdentifier, OnlineIdentifier, DateFirstIssueOnline, NumFirstVolOnline, DateLastIssueOnline, NumLastVolOnline, TitleUrl, TitleId, EmbargoInfo, CoverageDepth, PublicationType, AccessType}
+
+-- how a label is written
+abbrev pub label_text : Label → List ℕ
+label_text PublicationTitle = codes "publication_title"
+label_text PrintIdentifier = codes "print_identifier"
+label_text OnlineIdentifier = codes "online_identifier"
+label_text DateFirstIssueOnline = codes "date_first_issue_online"
+label_text NumFirstVolOnline = codes "num_first_vol_online"
+label_text DateLastIssueOnline = codes "date_last_issue_online"
+label_text NumLastVolOnline = codes "num_last_vol_online"
+label_text TitleUrl = codes "title_url"
+label_text TitleId = codes "title_id"
+label_text EmbargoInfo = codes "embargo_info"
+label_text CoverageDepth = codes "coverage_depth"
+label_text PublicationType = codes "publication_type"
+label_text AccessType = codes "access_type"
+
+-- the labels that a file must have, in their order
+abbrev pub required_labels : List Label
+required_labels =
+    PublicationTitle ∷ PrintIdentifier ∷ OnlineIdentifier ∷ DateFirstIssueOnline
+    ∷ NumFirstVolOnline ∷ DateLastIssueOnline ∷ NumLastVolOnline ∷ TitleUrl ∷ []
+
+-- the labels that are read, in their order: those that a file must have stand first
+abbrev pub used_labels : List Label
+used_labels =
+    PublicationTitle ∷ PrintIdentifier ∷ OnlineIdentifier ∷ DateFirstIssueOnline
+    ∷ NumFirstVolOnline ∷ DateLastIssueOnline ∷ NumLastVolOnline ∷ TitleUrl
+    ∷ TitleId ∷ EmbargoInfo ∷ CoverageDepth ∷ PublicationType ∷ AccessType ∷ []
+
+-- the label at a place in that order, counted from 1
+abbrev pub label_at : ℕ → Option Label
+label_at place = if place == 0 then None else slice_get used_labels (place - 1)
+
+-- a field is a label if it equals it, but for spaces at its ends and the case of ASCII letters
+abbrev pub is_label : Label → List ℕ → Bool
+is_label label field = str_eq_ignore_ascii_case (trimmed field) (label_text label)

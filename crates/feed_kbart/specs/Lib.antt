@@ -1,0 +1,12 @@
+pub mod Text
+pub mod Issn
+pub mod Days
+pub mod Labels
+pub mod Records
+pub mod Columns
+pub mod Coverage
+pub mod Texts
+pub mod RowValue
+pub mod Rows
+pub mod Holdings
+pub mod Files

@@ -1,0 +1,38 @@
+-- What is seen of a row.
+use Rattle.std.specs.Prelude.{ℕ, List, Option, ℤ}
+use Rattle.feed_kbart.specs.Texts.{TextsValue}
+use Rattle.feed_kbart.specs.declared.coverage.Coverage.{Coverage}
+
+-- what is seen of a row: its numbers, its texts and the printed bytes of its ISSNs
+pub record RowValue : Type 0 where
+  pub number : ℕ
+  pub title : List ℕ
+  pub print : Option (List ℕ)
+  pub online : Option (List ℕ)
+  pub first_day : Option ℤ
+  pub last_day : Option ℤ
+  pub first_volume : Option ℕ
+  pub last_volume : Option ℕ
+  pub url : List ℕ
+  pub title_id : List ℕ
+  pub depth : List ℕ
+  pub embargo : List ℕ
+  pub access : List ℕ
+
+-- the row with these parts
+abbrev pub row_with : ℕ → Coverage → TextsValue → RowValue
+row_with number coverage texts = record {
+  number = number;
+  title = texts.title;
+  print = coverage.print;
+  online = coverage.online;
+  first_day = coverage.first_day;
+  last_day = coverage.last_day;
+  first_volume = coverage.first_volume;
+  last_volume = coverage.last_volume;
+  url = texts.url;
+  title_id = texts.title_id;
+  depth = texts.depth;
+  embargo = texts.embargo;
+  access = texts.access;
+}

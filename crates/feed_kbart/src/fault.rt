@@ -1,0 +1,92 @@
+ghost use Rattle.std.specs.Prelude.{◌≡◌};
+ghost use Rattle.feed_kbart.specs.declared.fault.KbartFault.TheVariants as fault;
+
+use crate::label::Label;
+use std::alloc::{AllocError, AllocFailed};
+use std::fmt;
+use thiserror::Error;
+
+/// Why a file is bad: the first of these that holds.
+#[derive(Clone, Copy, Debug, PartialEq, Eq, Error)]
+pub enum BadFile {
+    /// The bytes are not UTF-8, anywhere in the file.
+    #[error("NotUtf8")]
+    NotUtf8,
+    /// The text begins with two byte-order marks.
+    #[error("TwoMarks")]
+    TwoMarks,
+    /// There is no record.
+    #[error("NoHeader")]
+    NoHeader,
+    /// The first required label, in their order, that no column has.
+    #[error("MissingLabel {0}")]
+    MissingLabel(Label),
+    /// The first label, in their order, that two columns have.
+    #[error("LabelTwice {0}")]
+    LabelTwice(Label),
+}
+
+/// Why a file was not read.
+#[derive(Clone, Copy, Debug, PartialEq, Eq, Error)]
+pub enum KbartFault {
+    /// The whole file was read, and it is bad.
+    #[error("{0}")]
+    Bad(BadFile),
+    /// Want of memory.
+    #[error("Memory")]
+    Memory,
+    /// The reader failed; `Interrupted` is a failure.
+    #[error("Read")]
+    Read,
+    /// The reader gave more bytes than a file may have.
+    #[error("TooLong")]
+    TooLong,
+}
+
+impl From<AllocError> for KbartFault {
+    ghost from_gives = { λ _ e. e ≡ fault.Memory };
+
+    fn from(_error: AllocError) -> KbartFault {
+        KbartFault::Memory
+    }
+}
+
+impl<T: Drop> From<AllocFailed<T>> for KbartFault {
+    ghost from_gives = { λ _ e. e ≡ fault.Memory };
+
+    fn from(_error: AllocFailed<T>) -> KbartFault {
+        KbartFault::Memory
+    }
+}
+
+impl From<BadFile> for KbartFault {
+    ghost from_gives = { λ why e. e ≡ fault.Bad why };
+
+    fn from(why: BadFile) -> KbartFault {
+        KbartFault::Bad(why)
+    }
+}
+
+/// Why a record is set aside: the first of these that holds.
+#[derive(Clone, Copy, Debug, PartialEq, Eq)]
+pub enum Reason {
+    /// `publication_type` is neither empty nor `serial`.
+    NotSerial,
+    /// Neither identifier reads as an ISSN.
+    NoIssn,
+    /// A coverage date is not empty and does not read.
+    BadDate,
+    /// The first day of the first date is after the last day of the last.
+    Reversed,
+}
+
+impl fmt::Display for Reason {
+    fn fmt<W: fmt::Write>(&self, f: &mut fmt::Formatter<W>) -> fmt::Result {
+        f.write_str(match self {
+            Reason::NotSerial => "NotSerial",
+            Reason::NoIssn => "NoIssn",
+            Reason::BadDate => "BadDate",
+            Reason::Reversed => "Reversed",
+        })
+    }
+}

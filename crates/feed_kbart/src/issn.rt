@@ -1,0 +1,80 @@
+ghost use Rattle.std.specs.Prelude.{◌≡◌, slice_index};
+
+use crate::text::trim_spaces;
+use std::marker::Model;
+
+/// An International Standard Serial Number (ISO 3297), ordered by its nine printed bytes.
+#[derive(Clone, Copy, Debug, PartialEq, Eq, PartialOrd, Ord)]
+pub struct Issn {
+    printed: [u8; 9],
+}
+
+impl Model for Issn {
+    ghost use Rattle.std.specs.Prelude.{ℕ, List};
+
+    ghost Value = { List ℕ };
+
+    ghost view = { λ issn. issn.printed };
+
+    ghost inverse = { λ text. record { printed = text } };
+}
+
+impl Issn {
+    ghost use Rattle.feed_kbart.specs.Issn.{checked, issn_of};
+
+    /// Reads seven digits and a check character, with or without a hyphen after the fourth digit.
+    /// Spaces at both ends are trimmed, and a check character `x` counts as `X`. Anything else is no
+    /// ISSN, a wrong check character among it (ISO 3297).
+    pub fn parse(text: &[u8]) -> Option<Issn>
+        ensures { result ≡ issn_of text.now }
+    {
+        match trim_spaces(text) {
+            [a, b, c, d, e, f, g, check] => Issn::checked([*a, *b, *c, *d, *e, *f, *g], *check),
+            [a, b, c, d, b'-', e, f, g, check] => Issn::checked(
+                [*a, *b, *c, *d, *e, *f, *g],
+                *check,
+            ),
+            _ => None,
+        }
+    }
+
+    /// The printed form, `dddd-dddc` with a capital `X`.
+    pub fn text(&self) -> [u8; 9]
+        ensures { result ≡ self.now }
+    {
+        self.printed
+    }
+
+    // The ISSN of seven digits and a check character, if they are that and agree.
+    fn checked(digits: [u8; 7], check: u8) -> Option<Issn>
+        ensures { result ≡ checked (slice_index digits 0) (slice_index digits 1) (slice_index digits 2) (slice_index digits 3) (slice_index digits 4) (slice_index digits 5) (slice_index digits 6) check }
+    {
+        let [a, b, c, d, e, f, g] = digits;
+        let are_digits = a.is_ascii_digit()
+            && b.is_ascii_digit()
+            && c.is_ascii_digit()
+            && d.is_ascii_digit()
+            && e.is_ascii_digit()
+            && f.is_ascii_digit()
+            && g.is_ascii_digit();
+        let is_x = check == b'X' || check == b'x';
+        if !are_digits || !(check.is_ascii_digit() || is_x) {
+            return None;
+        }
+        let value = |digit: u8| -> u32 { digit.saturating_sub(b'0') as u32 };
+        let sum = 8 * value(a)
+            + 7 * value(b)
+            + 6 * value(c)
+            + 5 * value(d)
+            + 4 * value(e)
+            + 3 * value(f)
+            + 2 * value(g)
+            + if is_x { 10 } else { value(check) };
+        if sum % 11 != 0 {
+            return None;
+        }
+        Some(Issn {
+            printed: [a, b, c, d, b'-', e, f, g, if is_x { b'X' } else { check }],
+        })
+    }
+}

@@ -1,0 +1,31 @@
+//! Holdings lists of journals: the tab-separated files of NISO RP-9-2014 (KBART).
+//!
+//! `read_file` gives the rows of a file and the records that are set aside, or the first reason why
+//! the file is bad. ISSNs, dates and volumes are read by the same functions elsewhere.
+#![tactic(auto)]
+
+mod coverage;
+mod day;
+mod fault;
+mod file;
+mod header;
+mod holdings;
+mod issn;
+mod label;
+mod law;
+mod records;
+mod row;
+#[cfg(test)]
+mod tests;
+mod text;
+mod texts;
+
+pub use crate::day::DayRange;
+pub use crate::fault::{BadFile, KbartFault, Reason};
+pub use crate::file::{FILE_LIMIT, read_file};
+pub use crate::holdings::{Aside, Holdings};
+pub use crate::issn::Issn;
+pub use crate::label::Label;
+pub use crate::law::{dates_are_ranges, empty_file_is_bad};
+pub use crate::row::Row;
+pub use crate::text::{read_volume, trim_spaces};

@@ -1,0 +1,129 @@
+ghost use Rattle.std.specs.Prelude.{◌≡◌};
+
+use crate::coverage::Coverage;
+use crate::issn::Issn;
+use crate::texts::Texts;
+use std::marker::Model;
+
+/// A row of a file: one journal's holdings. Its texts are as in the file, untrimmed; a text of an
+/// absent column is empty.
+#[derive(Debug, Drop)]
+pub struct Row {
+    number: u32,
+    coverage: Coverage,
+    texts: Texts,
+}
+
+impl Model for Row {
+    ghost use Rattle.feed_kbart.specs.RowValue.{RowValue, row_with};
+
+    ghost Value = { RowValue };
+
+    ghost view = { λ r. row_with r.number r.coverage r.texts };
+}
+
+impl Row {
+    ghost use Rattle.feed_kbart.specs.RowValue.{row_with};
+
+    pub(crate) fn of(number: u32, coverage: Coverage, texts: Texts) -> Row
+        ensures { result ≡ row_with number coverage texts }
+    {
+        Row {
+            number,
+            coverage,
+            texts,
+        }
+    }
+
+    /// The number of the record in its file. The header has number 1, and empty lines have none.
+    pub fn number(&self) -> u32
+        ensures { result ≡ self.now.number }
+    {
+        self.number
+    }
+
+    /// `publication_title`.
+    pub fn title(&self) -> &[u8]
+        ensures { result.now ≡ self.now.title }
+    {
+        self.texts.title()
+    }
+
+    /// The ISSN of `print_identifier`, where it reads as one.
+    pub fn print(&self) -> Option<Issn>
+        ensures { result ≡ self.now.print }
+    {
+        self.coverage.print
+    }
+
+    /// The ISSN of `online_identifier`, where it reads as one.
+    pub fn online(&self) -> Option<Issn>
+        ensures { result ≡ self.now.online }
+    {
+        self.coverage.online
+    }
+
+    /// The first day of `date_first_issue_online`, counted from 1970-01-01. None is an open side.
+    pub fn first_day(&self) -> Option<i32>
+        ensures { result ≡ self.now.first_day }
+    {
+        self.coverage.first_day
+    }
+
+    /// The last day of `date_last_issue_online`, counted from 1970-01-01. None is an open side:
+    /// coverage to the present (NISO RP-9-2014).
+    pub fn last_day(&self) -> Option<i32>
+        ensures { result ≡ self.now.last_day }
+    {
+        self.coverage.last_day
+    }
+
+    /// The number of `num_first_vol_online`, at most 999,999,999.
+    pub fn first_volume(&self) -> Option<u32>
+        ensures { result ≡ self.now.first_volume }
+    {
+        self.coverage.first_volume
+    }
+
+    /// The number of `num_last_vol_online`, at most 999,999,999.
+    pub fn last_volume(&self) -> Option<u32>
+        ensures { result ≡ self.now.last_volume }
+    {
+        self.coverage.last_volume
+    }
+
+    /// `title_url`.
+    pub fn url(&self) -> &[u8]
+        ensures { result.now ≡ self.now.url }
+    {
+        self.texts.url()
+    }
+
+    /// `title_id`.
+    pub fn title_id(&self) -> &[u8]
+        ensures { result.now ≡ self.now.title_id }
+    {
+        self.texts.title_id()
+    }
+
+    /// `coverage_depth`.
+    pub fn depth(&self) -> &[u8]
+        ensures { result.now ≡ self.now.depth }
+    {
+        self.texts.depth()
+    }
+
+    /// `embargo_info`.
+    pub fn embargo(&self) -> &[u8]
+        ensures { result.now ≡ self.now.embargo }
+    {
+        self.texts.embargo()
+    }
+
+    /// `access_type`.
+    pub fn access(&self) -> &[u8]
+        ensures { result.now ≡ self.now.access }
+    {
+        self.texts.access()
+    }
+}

@@ -1,0 +1,60 @@
+//! What the words of the command line ask for.
+use clap::{Arg, ArgMatches, Command, Error};
+use std::alloc::Global;
+
+/// A command of the program.
+#[derive(Drop)]
+pub enum Request<'a> {
+    Replay,
+    Check { file: &'a str },
+}
+
+const REPLAY_HELP: &str = "Reads a script from standard input and prints its transcript.
+
+A script is a line for each event. The first is `nodes N`, N from 1 to 16. Then, for nodes numbered from 1:
+
+  publish NAME TEXT             a file is published; \\t \\n \\r \\\\ and \\xHH in TEXT
+  offer NODE NAME               a node is offered a published release
+  deliver NODE NAME FIRST LEN   a node is given bytes of the published file, from place FIRST on
+  lose NODE NAME                a piece does not come
+  report NODE PACKAGE           the active release of a package
+  ask NODE PACKAGE QUERY        an OpenURL query, as rft.issn=2434561x&rft.date=1996
+
+Empty lines and lines that begin with # are skipped. NAME is as Acme_Global_All_2024-01-01.txt, and PACKAGE as
+Acme_Global_All. A fault of the script is printed with its line, and nothing is replayed.";
+
+const CHECK_HELP: &str = "Reads a holdings list (KBART, NISO RP-9-2014) and prints what it holds.
+
+The last part of FILE is a release name, as Acme_Global_All_2024-01-01.txt. A good file prints how many rows it has and
+how many records are set aside, and for each of these its number and the reason. A bad file prints `broken` and the
+reason, and the status is 1.";
+
+/// Reads the words of the command line, the program's name first.
+pub fn read<'a>(alloc: Global, words: &'a [String]) -> Result<Request<'a>, Error> {
+    let replay = Command::new(alloc, "replay")
+        .about("Replays a script of published files and nodes")
+        .long_about(REPLAY_HELP);
+    let file = Arg::new(alloc, "FILE")
+        .required(true)
+        .help("The path of the file");
+    let check = Command::new(alloc, "check")
+        .about("Checks a holdings list")
+        .long_about(CHECK_HELP)
+        .arg(file)?;
+    let command = Command::new(alloc, "kbfeed")
+        .about("A feed of journal holdings lists for OpenURL link resolvers")
+        .subcommand_required(true)
+        .subcommand(replay)?
+        .subcommand(check)?;
+    let matches = command.try_get_matches_from(words)?;
+    Ok(request_of(&matches))
+}
+
+fn request_of<'a>(matches: &ArgMatches<'a>) -> Request<'a> {
+    match matches.subcommand() {
+        Some(("check", check)) => Request::Check {
+            file: check.get_str("FILE").unwrap_or(""),
+        },
+        _ => Request::Replay,
+    }
+}
