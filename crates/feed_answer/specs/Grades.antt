@@ -1,9 +1,8 @@
 -- Which rows match a query, and how well.
-use Rattle.std.specs.Prelude.{ℕ, ◌&&◌, ◌||◌, not, nat_le, Bool, true, false, List, Option, Some, None, if◌then◌else◌, is_none, codes, ℤ, int_le}
-use Rattle.std.specs.List.{list_any}
-use Rattle.std.specs.Str.{bytes_eq}
+use Rattle.std.specs.Prelude.{ℕ, ◌&&◌, ◌||◌, nat_le, Bool, true, false, List, Option, Some, None, if◌then◌else◌, codes, ℤ, int_le}
 use Rattle.feed_kbart.specs.RowValue.{RowValue}
 use Rattle.feed_kbart.specs.declared.day.DayRange.{DayRange}
+use Rattle.feed_answer.specs.IssnSet.{is_among}
 use Rattle.feed_answer.specs.QueryValue.{QueryValue}
 use Rattle.feed_answer.specs.declared.grade.Grade.{Grade}
 use Rattle.feed_answer.specs.declared.grade.Grade.TheVariants.{Untested, Overlap, Inside}
@@ -14,7 +13,7 @@ grade_text Untested = codes "untested"
 grade_text Overlap = codes "overlap"
 grade_text Inside = codes "inside"
 
--- coverage has begun by a day, and lasts to a day; a side that is absent is open
+-- coverage has begun by a day, and it lasts to a day; a side that is absent is open
 abbrev pub begins_by : Option ℤ → ℤ → Bool
 begins_by None day = true
 begins_by (Some first) day = int_le first day
@@ -36,17 +35,18 @@ days_grade first last None = Some Untested
 days_grade None None (Some days) = Some Untested
 days_grade first last (Some days) = tested_days first last days
 
--- a volume lies between two others; a side that is absent is open
-abbrev pub reaches : Option ℕ → ℕ → Bool
-reaches None volume = true
-reaches (Some first) volume = nat_le first volume
+-- a volume is not below a first one, and not above a last one; a side that is absent is open
+abbrev pub not_below : Option ℕ → ℕ → Bool
+not_below None volume = true
+not_below (Some first) volume = nat_le first volume
 
-abbrev pub reaches_to : Option ℕ → ℕ → Bool
-reaches_to None volume = true
-reaches_to (Some last) volume = nat_le volume last
+abbrev pub not_above : Option ℕ → ℕ → Bool
+not_above None volume = true
+not_above (Some last) volume = nat_le volume last
 
+-- the grade of volumes that are tested: the query's lies between them
 abbrev pub tested_volume : Option ℕ → Option ℕ → ℕ → Option Grade
-tested_volume first last volume = if reaches first volume && reaches_to last volume then Some Inside else None
+tested_volume first last volume = if not_below first volume && not_above last volume then Some Inside else None
 
 -- the grade by the volumes alone: they are tested where the query has one and the row has one
 abbrev pub volume_grade : Option ℕ → Option ℕ → Option ℕ → Option Grade
@@ -54,7 +54,7 @@ volume_grade first last None = Some Untested
 volume_grade None None (Some volume) = Some Untested
 volume_grade first last (Some volume) = tested_volume first last volume
 
--- the grade by both, where both pass: that of the dates where they were tested
+-- the grade by both, where both pass: that of the dates where they were tested, else that of the volumes
 abbrev pub both_grades : Option Grade → Option Grade → Option Grade
 both_grades None by_volume = None
 both_grades (Some by_days) None = None
@@ -65,7 +65,7 @@ both_grades (Some Inside) (Some by_volume) = Some Inside
 -- an ISSN is one of those that are asked for
 abbrev pub is_named : Option (List ℕ) → List (List ℕ) → Bool
 is_named None issns = false
-is_named (Some issn) issns = list_any (λ other. bytes_eq other issn) issns
+is_named (Some issn) issns = is_among issn issns
 
 -- the grade of a row under a query, if it matches
 abbrev pub grade_of : QueryValue → RowValue → Option Grade

@@ -1,7 +1,7 @@
 -- What is seen of a row that matches.
 use Rattle.feed_kbart.specs.RowValue.{RowValue}
 use Rattle.feed_answer.specs.declared.grade.Grade.{Grade}
-use Rattle.feed_answer.specs.declared.written.Hit.{Hit}
+use Rattle.feed_answer.specs.declared.hits.Hit.{Hit}
 
 -- the row and its grade
 pub record HitValue : Type 0 where

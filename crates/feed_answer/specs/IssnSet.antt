@@ -1,26 +1,25 @@
 -- Sets of ISSNs, as ascending lists of their printed bytes.
-use Rattle.std.specs.Prelude.{ℕ, List, [], ◌∷◌, fold}
+use Rattle.std.specs.Prelude.{ℕ, Bool, List, [], fold}
 use Rattle.std.specs.declared.cmp.Ordering.{Ordering}
-use Rattle.std.specs.declared.cmp.Ordering.TheVariants.{Less, Equal, Greater}
 use Rattle.std.specs.Ordering.{nat_cmp}
 use Rattle.std.specs.Cmp.Lexicographic.{slice_cmp}
+use Rattle.std.specs.List.{list_any}
+use Rattle.std.specs.Str.{bytes_eq}
+use Rattle.std.specs.List.Sorted.{IsStrictlySortedBy}
+use Rattle.std.specs.BTreeSet.{insert_key}
 
 -- the order of bytes: the first two that differ decide
 abbrev pub bytes_cmp : List ℕ → List ℕ → Ordering
 bytes_cmp = slice_cmp nat_cmp
 
--- one of three lists, by how an ISSN stands to the first of the others
-abbrev pub placed : Ordering → List (List ℕ) → List (List ℕ) → List (List ℕ) → List (List ℕ)
-placed Less below same above = below
-placed Equal below same above = same
-placed Greater below same above = above
+-- each ISSN is below those after it, so each stands there once
+abbrev pub IsAscending : List (List ℕ) → Type 0
+IsAscending issns = IsStrictlySortedBy bytes_cmp issns
 
--- with one ISSN more, in its place, unless it is there
-abbrev pub with_issn : List ℕ → List (List ℕ) → List (List ℕ)
-with_issn issn [] = issn ∷ []
-with_issn issn (other ∷ others) =
-    placed (bytes_cmp issn other) (issn ∷ other ∷ others) (other ∷ others) (other ∷ with_issn issn others)
-
--- the set of a list's ISSNs
+-- the set of a list's ISSNs: each is put in its place, unless it is there
 abbrev pub issn_set : List (List ℕ) → List (List ℕ)
-issn_set issns = fold (λ set issn. with_issn issn set) [] issns
+issn_set issns = fold (insert_key bytes_cmp) [] issns
+
+-- an ISSN is one of these
+abbrev pub is_among : List ℕ → List (List ℕ) → Bool
+is_among issn issns = list_any (λ other. bytes_eq other issn) issns

@@ -5,3 +5,4 @@ pub mod Queries
 pub mod Grades
 pub mod HitValue
 pub mod Answers
+pub mod Laws

@@ -1,6 +1,6 @@
 -- What the pairs of a query say (ANSI/NISO Z39.88-2004, key/value journal format).
 use Rattle.std.specs.Prelude.{ℕ, ◌&&◌, ◌||◌, not, Bool, true, false, List, [], ◌∷◌, Option, Some, None, if◌then◌else◌, take, drop, length, codes}
-use Rattle.std.specs.List.{filter_map, list_any}
+use Rattle.std.specs.List.{filter_map}
 use Rattle.std.specs.Str.{bytes_eq, str_eq_ignore_ascii_case}
 use Rattle.feed_kbart.specs.Text.{trimmed, volume_of}
 use Rattle.feed_kbart.specs.Issn.{issn_of}
@@ -12,9 +12,10 @@ use Rattle.feed_answer.specs.IssnSet.{issn_set}
 abbrev pub has_key : List ℕ → List ℕ × List ℕ → Bool
 has_key key pair = bytes_eq pair.0 key
 
-abbrev pub is_empty : List ℕ → Bool
+-- there is nothing in a list
+abbrev pub is_empty : {A : Type 0} → List A → Bool
 is_empty [] = true
-is_empty (b ∷ bytes) = false
+is_empty (x ∷ xs) = false
 
 -- the pair has this key, and a value that is neither empty nor the one that is wanted
 abbrev pub is_other : List ℕ → List ℕ → List ℕ × List ℕ → Bool

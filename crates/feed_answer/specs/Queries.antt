@@ -1,8 +1,8 @@
 -- What a query asks for, or why it is refused.
-use Rattle.std.specs.Prelude.{◌≡◌, ◌≤◌, nat_lt, ℕ, List, [], ◌∷◌, length, Result, Ok, Err, if◌then◌else◌}
+use Rattle.std.specs.Prelude.{◌≡◌, ◌≤◌, nat_lt, ℕ, List, length, Result, Ok, Err, if◌then◌else◌}
 use Rattle.std.specs.List.{list_any}
 use Rattle.form_urlencoded.specs.Form as form
-use Rattle.feed_answer.specs.Pairs.{is_other_version, is_other_format, issns_among, first_days, first_volume}
+use Rattle.feed_answer.specs.Pairs.{is_empty, is_other_version, is_other_format, issns_among, first_days, first_volume}
 use Rattle.feed_answer.specs.QueryValue.{QueryValue}
 use Rattle.feed_answer.specs.declared.query.TheConstants.{QUERY_LIMIT}
 use Rattle.feed_answer.specs.declared.fault.QueryFault.{QueryFault}
@@ -10,9 +10,9 @@ use Rattle.feed_answer.specs.declared.fault.QueryFault.TheVariants.{TooLong, Ver
 
 -- a query asks for the rows of some ISSNs
 abbrev pub asked_for : List (List ℕ) → List (List ℕ × List ℕ) → Result QueryValue QueryFault
-asked_for [] pairs = Err NoIssn
-asked_for (issn ∷ issns) pairs =
-    Ok (record { issns = issn ∷ issns; days = first_days pairs; volume = first_volume pairs })
+asked_for issns pairs =
+    if is_empty issns then Err NoIssn
+    else Ok (record { issns = issns; days = first_days pairs; volume = first_volume pairs })
 
 -- what the decoded pairs ask for: the version is judged first, then the format, then the ISSNs
 abbrev pub asked_by : List (List ℕ × List ℕ) → Result QueryValue QueryFault
@@ -22,7 +22,7 @@ asked_by pairs =
     else asked_for (issns_among pairs) pairs
 
 -- what a query asks for, or the first reason to refuse it
-abbrev pub query_of : List ℕ → Result QueryValue QueryFault
+unfoldable pub query_of : List ℕ → Result QueryValue QueryFault
 query_of text = if nat_lt QUERY_LIMIT (length text) then Err TooLong else asked_by (form.parse text)
 
 -- what reading a query may give: want of memory may take the place of any outcome but `TooLong`

@@ -1,4 +1,5 @@
 ghost use Rattle.std.specs.Prelude.{◌≡◌, Some};
+ghost use Rattle.feed_answer.specs.Grades.{begins_by, days_grade, grade_of, is_named, lasts_to, volume_grade};
 
 use crate::query::Query;
 use feed_kbart::{DayRange, Issn, Row};
@@ -28,8 +29,6 @@ impl fmt::Display for Grade {
         })
     }
 }
-
-ghost use Rattle.feed_answer.specs.Grades.{begins_by, days_grade, grade_of, is_named, lasts_to, volume_grade};
 
 // Whether coverage has begun by a day. Without a first day it always has.
 fn begins_by(first: Option<i32>, day: i32) -> bool
@@ -82,21 +81,18 @@ fn volume_grade(row: &Row, volume: Option<u32>) -> Option<Grade>
     }
 }
 
-// Whether a row's ISSN, if it has one, is among these.
-fn is_among(issn: Option<Issn>, issns: &[Issn]) -> bool
+// Whether a row's ISSN, if it has one, is among those that are asked for.
+fn is_named(issn: Option<Issn>, issns: &[Issn]) -> bool
     ensures { result ≡ is_named issn issns.now }
 {
-    match issn {
-        Some(issn) => issns.contains(&issn),
-        None => false,
-    }
+    issn.is_some_and(|issn| issns.contains(&issn))
 }
 
 /// The grade of a row under a query, if the row matches.
 pub(crate) fn grade_of(row: &Row, query: &Query) -> Option<Grade>
     ensures { result ≡ grade_of query.now row.now }
 {
-    if !is_among(row.print(), query.issns()) && !is_among(row.online(), query.issns()) {
+    if !is_named(row.print(), query.issns()) && !is_named(row.online(), query.issns()) {
         return None;
     }
     let by_days = days_grade(row, query.days())?;

@@ -4,18 +4,20 @@
 //! each with its grade, and `Answer::write` writes them as text.
 #![tactic(auto)]
 
+mod decode;
 mod fault;
 mod grade;
-mod issns;
+mod hits;
+mod laws;
 mod matching;
 mod pair;
 mod query;
 #[cfg(test)]
 mod tests;
-mod written;
 
 pub use crate::fault::{QueryFault, WriteFault};
 pub use crate::grade::Grade;
+pub use crate::hits::{Answer, Hit};
+pub use crate::laws::{grades_speak_of_days, set_has_just_its_issns};
 pub use crate::matching::answer;
 pub use crate::query::{QUERY_LIMIT, Query};
-pub use crate::written::{Answer, Hit};

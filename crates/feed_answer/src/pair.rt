@@ -1,12 +1,14 @@
-ghost use Rattle.std.specs.Prelude.{◌≡◌, IfOk};
-ghost use Rattle.form_urlencoded.specs.Form as form;
+ghost use Rattle.std.specs.Prelude.{◌≡◌};
+ghost use Rattle.feed_answer.specs.Pairs.{days_of_pair, has_key, is_other, is_other_format, is_other_version, issn_of_pair, issn_of_urn, volume_of_pair};
 
-use form_urlencoded::raw_pairs;
-use percent_encoding::percent_decode;
-use std::alloc::{AllocError, Global};
+use feed_kbart::{DayRange, Issn, read_volume, trim_spaces};
 use std::marker::Model;
 
-/// A key and a value of a query, decoded. The bytes need not be UTF-8.
+const VERSION: &str = "Z39.88-2004";
+
+const JOURNAL: &str = "info:ofi/fmt:kev:mtx:journal";
+
+/// A decoded key and its value. Their bytes need not be UTF-8.
 #[derive(Drop)]
 pub(crate) struct Pair {
     key: Vec<u8>,
@@ -22,7 +24,11 @@ impl Model for Pair {
 }
 
 impl Pair {
-    ghost use Rattle.feed_answer.specs.Pairs.{has_key};
+    pub(crate) fn of(key: Vec<u8>, value: Vec<u8>) -> Pair
+        ensures { result ≡ (key.items, value.items) }
+    {
+        Pair { key, value }
+    }
 
     /// Whether the key is this text.
     pub(crate) fn has_key(&self, key: &str) -> bool
@@ -31,37 +37,71 @@ impl Pair {
         self.key.as_slice() == key.as_bytes()
     }
 
-    pub(crate) fn value(&self) -> &[u8]
-        ensures { result.now ≡ self.now.1 }
+    // Whether it has this key, and a value that is neither empty nor the one that is wanted.
+    fn is_other(&self, key: &str, wanted: &str) -> bool
+        ensures { result ≡ is_other key.now wanted.now self.now }
     {
-        &self.value
+        self.has_key(key) && !self.value.is_empty() && self.value.as_slice() != wanted.as_bytes()
+    }
+
+    /// Whether it tells another version of the standard.
+    pub(crate) fn is_other_version(&self) -> bool
+        ensures { result ≡ is_other_version self.now }
+    {
+        self.is_other("url_ver", VERSION) || self.is_other("ctx_ver", VERSION)
+    }
+
+    /// Whether it tells another format than that of a journal.
+    pub(crate) fn is_other_format(&self) -> bool
+        ensures { result ≡ is_other_format self.now }
+    {
+        self.is_other("rft_val_fmt", JOURNAL)
+    }
+
+    /// The ISSN that it names, if it names one.
+    pub(crate) fn issn(&self) -> Option<Issn>
+        ensures { result ≡ issn_of_pair self.now }
+    {
+        if self.has_key("rft.issn") || self.has_key("rft.eissn") {
+            Issn::parse(&self.value)
+        } else if self.has_key("rft_id") {
+            issn_of_urn(&self.value)
+        } else {
+            None
+        }
+    }
+
+    /// The days of its date, if it has one that reads.
+    pub(crate) fn days(&self) -> Option<DayRange>
+        ensures { result ≡ days_of_pair self.now }
+    {
+        if self.has_key("rft.date") {
+            DayRange::of_query(trim_spaces(&self.value))
+        } else {
+            None
+        }
+    }
+
+    /// The number of its volume, if it has one that reads.
+    pub(crate) fn volume(&self) -> Option<u32>
+        ensures { result ≡ volume_of_pair self.now }
+    {
+        if self.has_key("rft.volume") {
+            read_volume(trim_spaces(&self.value))
+        } else {
+            None
+        }
     }
 }
 
-// The bytes that an encoded key or value stands for: `+` is a space, and `%` with two hexadecimal
-// digits is a byte. A `%` without them is itself.
-fn decoded(alloc: Global, text: &[u8]) -> Result<Vec<u8>, AllocError>
-    ensures { IfOk result (λ v. v.items ≡ form.decode text.now) }
+// The ISSN of a `urn:ISSN:` name (RFC 3044).
+fn issn_of_urn(name: &[u8]) -> Option<Issn>
+    ensures { result ≡ issn_of_urn name.now }
 {
-    let mut spaced = Vec::with_capacity(alloc, text.len())?;
-    for byte in text {
-        spaced.push(if *byte == b'+' { b' ' } else { *byte })?;
+    let (scheme, number) = name.split_at_checked(9)?;
+    if scheme.eq_ignore_ascii_case(b"urn:ISSN:") {
+        Issn::parse(number)
+    } else {
+        None
     }
-    let mut bytes = Vec::new(alloc);
-    percent_decode(spaced.as_slice()).append_to(&mut bytes)?;
-    Ok(bytes)
-}
-
-/// The pairs of a query, in order. An empty piece between `&` is no pair, and a key without `=` has
-/// the empty value.
-pub(crate) fn decoded_pairs(alloc: Global, text: &[u8]) -> Result<Vec<Pair>, AllocError>
-    ensures { IfOk result (λ pairs. pairs.items ≡ form.parse text.now) }
-{
-    let mut pairs = Vec::new(alloc);
-    for (key, value) in raw_pairs(text) {
-        let key = decoded(alloc, key)?;
-        let value = decoded(alloc, value)?;
-        pairs.push(Pair { key, value })?;
-    }
-    Ok(pairs)
 }

@@ -1,10 +1,15 @@
-ghost use Rattle.std.specs.Prelude.{◌≡◌};
+ghost use Rattle.std.specs.Prelude.{◌≡◌, IfOk};
+ghost use Rattle.std.specs.List.{list_any};
+ghost use Rattle.std.specs.BTreeSet.{keys};
+ghost use Rattle.feed_answer.specs.IssnSet.{IsAscending};
+ghost use Rattle.feed_answer.specs.Pairs.{first_days, first_volume, is_other_format, is_other_version, issns_among};
 
+use crate::decode::decoded_pairs;
 use crate::fault::QueryFault;
-use crate::issns::issns_among;
-use crate::pair::{Pair, decoded_pairs};
-use feed_kbart::{DayRange, Issn, read_volume, trim_spaces};
-use std::alloc::Global;
+use crate::pair::Pair;
+use feed_kbart::{DayRange, Issn};
+use std::alloc::{AllocError, Global};
+use std::collections::BTreeSet;
 use std::marker::Model;
 
 /// The most bytes that a query may have.
@@ -20,26 +25,38 @@ pub struct Query {
 
 impl Model for Query {
     ghost use Rattle.feed_answer.specs.QueryValue.{QueryValue};
+    ghost use Rattle.feed_answer.specs.IssnSet.{IsAscending};
 
     ghost Value = { QueryValue };
 
     ghost view = { λ q. record { issns = q.issns.items; days = q.days; volume = q.volume } };
+
+    ghost invariant = { λ q. IsAscending q.issns.items };
 }
 
 impl Query {
+    ghost use Rattle.feed_answer.specs.IssnSet.{IsAscending};
     ghost use Rattle.feed_answer.specs.Queries.{IsReadOf};
 
-    /// Reads the bytes after the `?` of an OpenURL. They are pairs of
-    /// `application/x-www-form-urlencoded` text, whose keys are compared exactly.
-    pub fn read(alloc: Global, text: &[u8]) -> Result<Query, QueryFault> {
+    /// Reads the bytes after the `?` of an OpenURL: pairs of `application/x-www-form-urlencoded` text,
+    /// whose keys are compared exactly.
+    ///
+    /// Every `rft.issn`, `rft.eissn` and `rft_id` that names an ISSN counts, and of `rft.date` and
+    /// `rft.volume` the first that reads. A `url_ver` or `ctx_ver` other than `Z39.88-2004` is
+    /// `Version`, a `rft_val_fmt` other than `info:ofi/fmt:kev:mtx:journal` is `NotJournal`; an empty
+    /// value of these counts as absent. `NoIssn` is a query that names no ISSN.
+    #[tactic(auto, unfolding(crate::specs::Queries::query_of))]
+    pub fn read(alloc: Global, text: &[u8]) -> Result<Query, QueryFault>
+        ensures { IsReadOf text.now result }
+    {
         if text.len() > QUERY_LIMIT {
             return Err(QueryFault::TooLong);
         }
         let pairs = decoded_pairs(alloc, text)?;
-        if pairs.iter().any(|pair| is_other_version(pair)) {
+        if has_other_version(&pairs) {
             return Err(QueryFault::Version);
         }
-        if pairs.iter().any(|pair| is_other_format(pair)) {
+        if has_other_format(&pairs) {
             return Err(QueryFault::NotJournal);
         }
         let issns = issns_among(alloc, &pairs)?;
@@ -55,7 +72,8 @@ impl Query {
 
     /// The ISSNs that are asked for, ascending by their nine printed bytes, each once.
     pub fn issns(&self) -> &[Issn]
-        ensures { result.now ≡ self.now.issns }
+        ensures value { result.now ≡ self.now.issns }
+        ensures ascending { IsAscending self.now.issns }
     {
         &self.issns
     }
@@ -75,39 +93,45 @@ impl Query {
     }
 }
 
-// Whether the pair has this key and a value that is neither empty nor the one that is wanted.
-fn is_other(pair: &Pair, key: &str, wanted: &str) -> bool {
-    pair.has_key(key) && !pair.value().is_empty() && pair.value() != wanted.as_bytes()
+fn has_other_version(pairs: &[Pair]) -> bool
+    ensures { result ≡ list_any is_other_version pairs.now }
+{
+    pairs.iter().any(|pair| pair.is_other_version())
 }
 
-fn is_other_version(pair: &Pair) -> bool {
-    is_other(pair, "url_ver", "Z39.88-2004") || is_other(pair, "ctx_ver", "Z39.88-2004")
+fn has_other_format(pairs: &[Pair]) -> bool
+    ensures { result ≡ list_any is_other_format pairs.now }
+{
+    pairs.iter().any(|pair| pair.is_other_format())
 }
 
-fn is_other_format(pair: &Pair) -> bool {
-    is_other(pair, "rft_val_fmt", "info:ofi/fmt:kev:mtx:journal")
-}
-
-fn days_of_pair(pair: &Pair) -> Option<DayRange> {
-    if pair.has_key("rft.date") {
-        DayRange::of_query(trim_spaces(pair.value()))
-    } else {
-        None
+// The set of the ISSNs that pairs name.
+fn issn_set(alloc: Global, pairs: &[Pair]) -> Result<BTreeSet<Issn>, AllocError>
+    ensures { IfOk result (λ set. keys set ≡ issns_among pairs.now) }
+{
+    let mut set = BTreeSet::new(alloc);
+    for pair in pairs {
+        if let Some(issn) = pair.issn() {
+            set.insert(issn)?;
+        }
     }
+    Ok(set)
 }
 
-fn volume_of_pair(pair: &Pair) -> Option<u32> {
-    if pair.has_key("rft.volume") {
-        read_volume(trim_spaces(pair.value()))
-    } else {
-        None
-    }
+fn issns_among(alloc: Global, pairs: &[Pair]) -> Result<Vec<Issn>, AllocError>
+    ensures value { IfOk result (λ issns. issns.items ≡ issns_among pairs.now) }
+    ensures ascending { IfOk result (λ issns. IsAscending issns.items) }
+{
+    let set = issn_set(alloc, pairs)?;
+    set.iter().copied().collect(alloc)
 }
 
 // The days of the first date that reads.
-fn first_days(pairs: &[Pair]) -> Option<DayRange> {
+fn first_days(pairs: &[Pair]) -> Option<DayRange>
+    ensures { result ≡ first_days pairs.now }
+{
     for pair in pairs {
-        if let Some(days) = days_of_pair(pair) {
+        if let Some(days) = pair.days() {
             return Some(days);
         }
     }
@@ -115,9 +139,11 @@ fn first_days(pairs: &[Pair]) -> Option<DayRange> {
 }
 
 // The number of the first volume that reads.
-fn first_volume(pairs: &[Pair]) -> Option<u32> {
+fn first_volume(pairs: &[Pair]) -> Option<u32>
+    ensures { result ≡ first_volume pairs.now }
+{
     for pair in pairs {
-        if let Some(volume) = volume_of_pair(pair) {
+        if let Some(volume) = pair.volume() {
             return Some(volume);
         }
     }

@@ -257,6 +257,30 @@ fn answers_are_written(rt: HostRuntime) -> Result<(), Fail> {
     expect_text(&rt, alloc, &[H_LONG, record], "rft.issn=2434561x", &long)
 }
 
+#[test]
+fn faults_and_grades_print_their_names(rt: HostRuntime) -> Result<(), Fail> {
+    let faults = [
+        (QueryFault::TooLong, "TooLong"),
+        (QueryFault::Version, "Version"),
+        (QueryFault::NotJournal, "NotJournal"),
+        (QueryFault::NoIssn, "NoIssn"),
+        (QueryFault::Memory, "Memory"),
+    ];
+    for (fault, name) in faults {
+        assert_eq!(rt; fault.to_string(rt.alloc())?.as_str(), name);
+    }
+    let grades = [
+        (Grade::Untested, "untested"),
+        (Grade::Overlap, "overlap"),
+        (Grade::Inside, "inside"),
+    ];
+    for (grade, name) in grades {
+        assert_eq!(rt; grade.to_string(rt.alloc())?.as_str(), name);
+    }
+    assert_eq!(rt; WriteFault::Write.to_string(rt.alloc())?.as_str(), "Write");
+    Ok(())
+}
+
 // Takes so many bytes, and then fails.
 #[derive(Drop)]
 struct Full {

@@ -1,0 +1,5 @@
+pub mod Finding
+pub mod Records
+pub mod Judged
+pub mod Growth
+pub mod NextRange

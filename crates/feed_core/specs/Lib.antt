@@ -1,0 +1,5 @@
+pub mod Shown
+pub mod Told
+pub mod ReleaseValue
+pub mod Cause
+pub mod NextRange

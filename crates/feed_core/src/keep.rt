@@ -1,5 +1,12 @@
-use crate::record::{Part, Record};
+ghost use Rattle.std.specs.Prelude.{◌≡◌, ℕ, IfOk, OnOk, OnErr, IsErrOf};
+ghost use Rattle.feed_model.specs.Content.{Content};
+ghost use Rattle.feed_model.specs.Change.{after, IsAllowed};
+ghost use Rattle.feed_core.specs.Shown.{shown, shown_change};
+ghost use Rattle.feed_core.specs.Cause.{IsCounted};
+
+use crate::record::Record;
 use feed_names::ReleaseName;
+use feed_parts::Part;
 use std::alloc::Global;
 use thiserror::Error;
 
@@ -50,13 +57,36 @@ pub enum Change<'a> {
 }
 
 /// What keeps the records of a feed from one run of its node to the next.
+///
+/// Its content is what was committed. What a call says of the content holds where the keeper is `clean` as the call
+/// ends, and then it was clean as the call began: memory always is, a file while nobody else writes it and the disk
+/// gives back what was written.
 pub trait Keep {
+    /// The records, one for each name.
+    ghost content: { Self → Content };
+
+    ghost clean: { Self → Type 0 };
+
+    /// How often the device has failed.
+    ghost failed: { Self → ℕ };
+
     /// How often the device has failed; it stays at its greatest value.
-    fn failures(&self) -> u64;
+    fn failures(&self) -> u64
+        ensures { result ≡ failed self.now };
 
     /// All records, ordered by the texts of their names, each with its parts ordered by their first places.
-    fn load(&mut self, alloc: Global) -> Result<Vec<Record>, KeepFault>;
+    fn load(&mut self, alloc: Global) -> Result<Vec<Record>, KeepFault>
+        ensures records { IfOk result (λ records. clean self.new → shown records.items ≡ content self.old) }
+        ensures same { clean self.new → content self.new ≡ content self.old }
+        ensures clean { clean self.new → clean self.old }
+        ensures device { IsCounted result (failed self.old) (failed self.new) };
 
-    /// Makes the whole change, or refuses and changes nothing.
-    fn commit(&mut self, change: &Change<'_>) -> Result<(), KeepFault>;
+    /// Makes the whole change, or refuses and changes nothing. It never answers `Damaged`.
+    fn commit(&mut self, change: &Change<'_>) -> Result<(), KeepFault>
+        requires allowed { clean self.old → IsAllowed (shown_change change.now) (content self.old) }
+        ensures made { OnOk result (clean self.new → content self.new ≡ after (shown_change change.now) (content self.old)) }
+        ensures refused { OnErr result (clean self.new → content self.new ≡ content self.old) }
+        ensures clean { clean self.new → clean self.old }
+        ensures undamaged { ¬ (IsErrOf result KeepFault.Damaged) }
+        ensures device { IsCounted result (failed self.old) (failed self.new) };
 }

@@ -1,8 +1,15 @@
+ghost use Rattle.std.specs.Prelude.{◌≡◌, ◌==◌, ◌≤◌, [], if◌then◌else◌, Some, None, IfOk, IfSome, IfNone, OnOk, OnErr, length, insert, not};
+ghost use Rattle.feed_model.specs.Content.{Record as kept_record, AreParts, record_of};
+ghost use Rattle.feed_model.specs.Change.{changed, grown, insert_record, is_earlier, merged, new_record, without_earlier};
+ghost use Rattle.feed_parts.specs.Shown.{shown_parts};
+ghost use Rattle.feed_core.specs.Shown.{shown, shown_record, IsRecordAt};
+
 use crate::keep::{Change, Keep, KeepFault};
-use crate::parts::{copied, merge};
-use crate::record::{Part, Record, State};
-use crate::release::initial_state;
+use crate::name_order::{is_before, stands_before};
+use crate::record::Record;
+use feed_model::State;
 use feed_names::ReleaseName;
+use feed_parts::{Part, copied, merge};
 use std::alloc::{AllocError, Global};
 
 /// The plain keeper: the records in memory, ordered by the texts of their names. It has no device that fails.
@@ -14,69 +21,160 @@ pub struct ListKeep {
 
 impl ListKeep {
     /// A keeper of no records. It takes no memory.
-    pub fn new(alloc: Global) -> ListKeep {
+    pub fn new(alloc: Global) -> ListKeep
+        ensures { shown result.records.items ≡ [] }
+    {
         ListKeep {
             alloc,
             records: Vec::new(alloc),
         }
     }
-
-    fn add(&mut self, name: &ReleaseName, size: u64) -> Result<(), AllocError> {
-        let at = self
-            .records
-            .partition_point(|record| record.name.text() < name.text());
-        let record = Record {
-            name: name.try_clone()?,
-            size,
-            state: initial_state(size),
-            parts: Vec::new(self.alloc),
-        };
-        self.records.insert(at, record)?;
-        Ok(())
-    }
-
-    fn grow(&mut self, name: &ReleaseName, parts: &[Part], state: State) -> Result<(), AllocError> {
-        for record in self.records.iter_mut() {
-            if record.name == *name {
-                let new = copied(self.alloc, parts)?;
-                record.parts.reserve(new.len())?;
-                merge(&mut record.parts, new);
-                record.state = state;
-                return Ok(());
-            }
-        }
-        Ok(())
-    }
 }
 
 impl Keep for ListKeep {
+    ghost content = { λ keeper. shown keeper.records.items };
+
+    ghost clean = { λ _. Unit {0} };
+
+    ghost failed = { λ _. 0 };
+
     fn failures(&self) -> u64 {
         0
     }
 
     fn load(&mut self, alloc: Global) -> Result<Vec<Record>, KeepFault> {
-        copied_records(alloc, &self.records).map_err(|_| KeepFault::Memory)
+        match copied_records(alloc, &self.records) {
+            Ok(records) => Ok(records),
+            Err(_) => Err(KeepFault::Memory),
+        }
     }
 
     fn commit(&mut self, change: &Change<'_>) -> Result<(), KeepFault> {
         let done = match change {
-            Change::Add { name, size } => self.add(name, *size),
-            Change::Pieces { name, parts } => self.grow(name, parts, State::Staged),
-            Change::Break { name, parts } => self.grow(name, parts, State::Broken),
+            Change::Add { name, size } => add(self.alloc, &mut self.records, name, *size),
+            Change::Pieces { name, parts } => {
+                grow(self.alloc, &mut self.records, name, parts, State::Staged)
+            }
+            Change::Break { name, parts } => {
+                grow(self.alloc, &mut self.records, name, parts, State::Broken)
+            }
             Change::Activate { name, parts } => {
-                let grown = self.grow(name, parts, State::Active);
-                if grown.is_ok() {
-                    self.records
-                        .retain(|record| !record.name.earlier_than(name));
-                }
-                grown
+                activate(self.alloc, &mut self.records, name, parts)
             }
         };
-        done.map_err(|_| KeepFault::Memory)
+        match done {
+            Ok(()) => Ok(()),
+            Err(_) => Err(KeepFault::Memory),
+        }
     }
 }
 
-fn copied_records(alloc: Global, records: &[Record]) -> Result<Vec<Record>, AllocError> {
+fn add(
+    alloc: Global,
+    records: &mut Vec<Record>,
+    name: &ReleaseName,
+    size: u64,
+) -> Result<(), AllocError>
+    ensures ok { OnOk result (shown records.new.items ≡ insert_record (new_record name.now size) (shown records.old.items)) }
+    ensures err { OnErr result (shown records.new.items ≡ shown records.old.items) }
+{
+    let at = place_for(records, name);
+    let record = Record {
+        name: name.try_clone()?,
+        size,
+        state: initial_state(size),
+        parts: Vec::new(alloc),
+    };
+    records.insert(at, record)?;
+    Ok(())
+}
+
+fn initial_state(size: u64) -> State
+    ensures { result ≡ (if size == 0 then State.Broken else State.Staged) }
+{
+    if size == 0 {
+        State::Broken
+    } else {
+        State::Staged
+    }
+}
+
+fn grow(
+    alloc: Global,
+    records: &mut Vec<Record>,
+    name: &ReleaseName,
+    parts: &[Part],
+    state: State,
+) -> Result<(), AllocError>
+    requires order { (r : kept_record) → record_of (shown records.old.items) name.now ≡ Some r → AreParts (shown_parts parts.now) }
+    requires apart { (r : kept_record) → record_of (shown records.old.items) name.now ≡ Some r → AreParts (merged r.parts (shown_parts parts.now)) }
+    ensures ok { OnOk result (shown records.new.items ≡ changed name.now (grown (shown_parts parts.now) state) (shown records.old.items)) }
+    ensures err { OnErr result (shown records.new.items ≡ shown records.old.items) }
+{
+    let Some(at) = find_record(records, name) else {
+        return Ok(());
+    };
+    let new = copied(alloc, parts)?;
+    let record = &mut records[at];
+    record.parts.reserve(new.len())?;
+    merge(&mut record.parts, new);
+    record.state = state;
+    Ok(())
+}
+
+fn activate(
+    alloc: Global,
+    records: &mut Vec<Record>,
+    name: &ReleaseName,
+    parts: &[Part],
+) -> Result<(), AllocError>
+    requires order { (r : kept_record) → record_of (shown records.old.items) name.now ≡ Some r → AreParts (shown_parts parts.now) }
+    requires apart { (r : kept_record) → record_of (shown records.old.items) name.now ≡ Some r → AreParts (merged r.parts (shown_parts parts.now)) }
+    ensures ok { OnOk result (shown records.new.items ≡ without_earlier name.now (changed name.now (grown (shown_parts parts.now) State.Active) (shown records.old.items))) }
+    ensures err { OnErr result (shown records.new.items ≡ shown records.old.items) }
+{
+    grow(alloc, records, name, parts, State::Active)?;
+    drop_earlier(records, name);
+    Ok(())
+}
+
+fn drop_earlier(records: &mut Vec<Record>, name: &ReleaseName)
+    ensures { shown records.new.items ≡ without_earlier name.now (shown records.old.items) }
+{
+    records.retain(
+        |record: &Record| -> bool
+            ensures { result ≡ not (is_earlier record.now.name name.entry.now) }
+        { !is_before(&record.name, name) },
+    );
+}
+
+fn find_record(records: &[Record], name: &ReleaseName) -> Option<usize>
+    ensures found { IfSome result (λ i. IsRecordAt records.now name.now i) }
+    ensures none { IfNone result (record_of (shown records.now) name.now ≡ None) }
+{
+    for (at, record) in records.iter().enumerate() {
+        if record.name == *name {
+            return Some(at);
+        }
+    }
+    None
+}
+
+fn place_for(records: &[Record], name: &ReleaseName) -> usize
+    ensures within { result ≤ length records.now }
+    ensures place { (r : _) → (shown_record r).name ≡ name.now → shown (insert records.now result r) ≡ insert_record (shown_record r) (shown records.now) }
+{
+    for (at, record) in records.iter().enumerate() {
+        if !stands_before(&record.name, name) {
+            return at;
+        }
+    }
+    records.len()
+}
+
+fn copied_records(alloc: Global, records: &[Record]) -> Result<Vec<Record>, AllocError>
+    ensures { IfOk result (λ copy. shown copy.items ≡ shown records.now) }
+{
     let mut copy = Vec::with_capacity(alloc, records.len())?;
     for record in records {
         let record = Record {

@@ -1,44 +1,207 @@
-ghost use Rattle.std.specs.Prelude.{◌<◌, IfSome, length};
+ghost use Rattle.std.specs.Prelude.{◌≡◌, ◌≢◌, ◌<◌, ◌≤◌, ◌+◌, ◌⊎◌, ℕ, IsSome, OnOk, OnErr, IfOk, IfErr, length};
+ghost use Rattle.feed_model.specs.Reply.{missing_below};
+ghost use Rattle.feed_model.specs.Content.{byte_in};
+ghost use Rattle.feed_model.specs.Change.{grown, merged, new_record, after, IsAllowed};
+ghost use Rattle.feed_model.specs.declared.state.State.TheVariants.{Staged};
+ghost use Rattle.feed_parts.specs.Shown.{shown_parts};
+ghost use Rattle.feed_parts.specs.Piece.{Adds, AreWithin, HasNew};
+ghost use Rattle.feed_core.specs.Shown.{shown_change};
+ghost use Rattle.feed_core.specs.Cause.{HasFailed};
+ghost use Rattle.feed_core.specs.NextRange.{IsNextOf};
+ghost use Rattle.feed_core.specs.ReleaseValue.{LiesOver, IsJudged, change_as};
 
-use crate::record::{Record, State};
-use feed_kbart::Holdings;
+use crate::keep::{Change, Keep, KeepFault};
+use crate::overlap::Overlap;
+use feed_kbart::{Holdings, KbartFault, read_file};
+use feed_model::{Refusal, State};
 use feed_names::ReleaseName;
+use feed_parts::{Part, byte_count, conflicts, covers, merge, new_parts, next_gap, text_of};
+use std::alloc::{AllocError, Global};
+use std::marker::Model;
 
-/// A recorded release in memory: its record, how many places of its file are missing, and what its file holds if it is
-/// active.
+/// A recorded release in memory: what is kept of it, how many places of its file are missing, and what its file holds
+/// if it is active.
 #[derive(Drop)]
 pub struct Release {
-    pub record: Record,
-    pub missing: u64,
-    pub holdings: Option<Holdings>,
+    name: ReleaseName,
+    size: u64,
+    state: State,
+    parts: Vec<Part>,
+    missing: u64,
+    holdings: Option<Holdings>,
 }
 
-/// What a release is when it is recorded: an empty file is whole, and bad.
-pub fn initial_state(size: u64) -> State {
-    if size == 0 {
-        State::Broken
-    } else {
-        State::Staged
+impl Model for Release {
+    ghost use Rattle.feed_parts.specs.Shown.{shown_parts};
+    ghost use Rattle.feed_core.specs.ReleaseValue.{ReleaseValue, IsSound};
+
+    ghost Value = { ReleaseValue };
+
+    ghost view = { λ r. record { kept = record { name = r.name; size = r.size; state = r.state; parts = shown_parts r.parts.items }; holdings = r.holdings } };
+
+    ghost invariant = { λ r. IsSound (record { name = r.name; size = r.size; state = r.state; parts = shown_parts r.parts.items }) r.missing };
+}
+
+impl Release {
+    /// A release of which nothing is kept yet.
+    pub fn new(alloc: Global, name: ReleaseName, size: u64) -> Release
+        requires { size ≤ 67108864 }
+        ensures { result ≡ record { kept = new_record name size; holdings = None } }
+    {
+        Release {
+            name,
+            size,
+            state: if size == 0 {
+                State::Broken
+            } else {
+                State::Staged
+            },
+            parts: Vec::new(alloc),
+            missing: size,
+            holdings: None,
+        }
+    }
+
+    pub fn name(&self) -> &ReleaseName
+        ensures { result.now ≡ self.now.kept.name }
+    {
+        &self.name
+    }
+
+    pub fn size(&self) -> u64
+        ensures value { result ≡ self.now.kept.size }
+        ensures limit { result ≤ 67108864 }
+    {
+        self.size
+    }
+
+    pub fn state(&self) -> State
+        ensures { result ≡ self.now.kept.state }
+    {
+        self.state
+    }
+
+    pub fn holdings(&self) -> &Option<Holdings>
+        ensures { result.now ≡ self.now.holdings }
+    {
+        &self.holdings
+    }
+
+    /// The first missing places of the file, at most `max` of them: the first one and the last one.
+    pub fn next_range(&self, max: u64) -> Option<(u64, u64)>
+        ensures { IsNextOf (byte_in self.now.kept.parts) self.now.kept.size max result }
+    {
+        let gap = next_gap(&self.parts, self.size)?;
+        if max == 0 {
+            return None;
+        }
+        Some((gap.first, gap.first + (gap.end - gap.first).min(max) - 1))
+    }
+
+    /// How a piece that lies inside the file lies over what is kept. It takes no memory.
+    pub fn overlap(&self, first: u64, bytes: &[u8]) -> Overlap
+        requires inside { first + length bytes.now ≤ self.now.kept.size }
+        ensures { LiesOver self.now.kept first bytes.now result }
+    {
+        if conflicts(&self.parts, self.size, first, bytes) {
+            Overlap::Conflict
+        } else if self.missing == 0 {
+            Overlap::Kept
+        } else if covers(&self.parts, self.size, first, bytes) {
+            Overlap::Kept
+        } else {
+            Overlap::New
+        }
+    }
+
+    /// The new bytes of a piece, a part for each gap.
+    pub fn growth(&self, alloc: Global, first: u64, bytes: &[u8]) -> Result<Vec<Part>, AllocError>
+        requires inside { first + length bytes.now ≤ self.now.kept.size }
+        requires piece { length bytes.now ≤ 1048576 }
+        ensures adds { IfOk result (λ new. Adds self.now.kept.size self.now.kept.parts first bytes.now (shown_parts new.items)) }
+        ensures some { IfOk result (λ new. HasNew self.now.kept.parts first bytes.now → 0 < length new.items) }
+    {
+        new_parts(alloc, &self.parts, self.size, first, bytes)
+    }
+
+    /// How many places are missing with the new parts. It takes no memory.
+    pub fn missing_with(&self, new: &[Part]) -> u64
+        requires order { AreWithin self.now.kept.size (shown_parts new.now) }
+        requires whole { AreWithin self.now.kept.size (merged self.now.kept.parts (shown_parts new.now)) }
+        ensures { result ≡ missing_below (byte_in (merged self.now.kept.parts (shown_parts new.now))) self.now.kept.size }
+    {
+        self.missing.saturating_sub(byte_count(new, self.size))
+    }
+
+    /// What the file holds with its last parts, or why it is bad.
+    pub fn judge(&self, alloc: Global, new: &[Part]) -> Result<Holdings, KbartFault>
+        requires whole { AreWithin self.now.kept.size (merged self.now.kept.parts (shown_parts new.now)) }
+        requires covered { (place : ℕ) → place < self.now.kept.size → IsSome (byte_in (merged self.now.kept.parts (shown_parts new.now)) place) }
+        ensures { IsJudged self.now.kept (shown_parts new.now) result }
+    {
+        let text = text_of(alloc, &self.parts, new, self.size)?;
+        read_file(alloc, text.as_slice())
+    }
+
+    /// Commits new parts, and the state that the release has with them, and then takes them in. All memory is taken
+    /// before the commit.
+    pub fn grow<K: Keep>(
+        &mut self,
+        keeper: &mut K,
+        new: Vec<Part>,
+        state: State,
+        holdings: Option<Holdings>,
+    ) -> Result<(), Refusal>
+        requires staged { self.old.kept.state ≡ Staged }
+        requires order { AreWithin self.old.kept.size (shown_parts new.items) }
+        requires whole { AreWithin self.old.kept.size (merged self.old.kept.parts (shown_parts new.items)) }
+        requires missing { state ≡ Staged → 0 < missing_below (byte_in (merged self.old.kept.parts (shown_parts new.items))) self.old.kept.size }
+        requires complete { state ≢ Staged → missing_below (byte_in (merged self.old.kept.parts (shown_parts new.items))) self.old.kept.size ≡ 0 }
+        requires allowed { K.clean keeper.old → IsAllowed (change_as state self.old.kept.name (shown_parts new.items)) (K.content keeper.old) }
+        ensures taken { OnOk result (self.new ≡ record { kept = grown (shown_parts new.items) state self.old.kept; holdings = holdings }) }
+        ensures same { OnErr result (self.new ≡ self.old) }
+        ensures made { OnOk result (K.clean keeper.new → K.content keeper.new ≡ after (change_as state self.old.kept.name (shown_parts new.items)) (K.content keeper.old)) }
+        ensures refused { OnErr result (K.clean keeper.new → K.content keeper.new ≡ K.content keeper.old) }
+        ensures clean { K.clean keeper.new → K.clean keeper.old }
+        ensures fault { IfErr result (λ fault. (fault ≡ Refusal.Memory) ⊎ (fault ≡ Refusal.Device)) }
+        ensures device { (K.failed keeper.old ≤ K.failed keeper.new) × (result ≡ Err Refusal.Device → HasFailed (K.failed keeper.old) (K.failed keeper.new)) }
+    {
+        let missing = self.missing.saturating_sub(byte_count(&new, self.size));
+        let Ok(()) = self.parts.reserve(new.len()) else {
+            return Err(Refusal::Memory);
+        };
+        commit(keeper, &change_of(&self.name, &new, state))?;
+        merge(&mut self.parts, new);
+        self.state = state;
+        self.missing = missing;
+        self.holdings = holdings;
+        Ok(())
     }
 }
 
-/// The place of a name's release.
-pub fn find(releases: &[Release], name: &ReleaseName) -> Option<usize>
-    ensures { IfSome result (λ at. at < length releases.now) }
+// The change that adds parts to a release and gives it this state.
+fn change_of<'a>(name: &'a ReleaseName, parts: &'a [Part], state: State) -> Change<'a>
+    ensures { shown_change result ≡ change_as state name.now (shown_parts parts.now) }
 {
-    releases
-        .iter()
-        .position(|release| release.record.name == *name)
+    match state {
+        State::Staged => Change::Pieces { name, parts },
+        State::Broken => Change::Break { name, parts },
+        State::Active => Change::Activate { name, parts },
+    }
 }
 
-/// Whether the active release of the name's package is of a later day.
-pub fn is_passed(releases: &[Release], name: &ReleaseName) -> bool {
-    releases.iter().any(|release| release.record.state == State::Active
-        && name.earlier_than(&release.record.name))
-}
-
-/// The active release of a package.
-pub fn active_of<'a>(releases: &'a [Release], package: &[u8]) -> Option<&'a Release> {
-    releases.iter().find(|release| release.record.state == State::Active
-        && release.record.name.package() == package)
+/// Commits a change, and names the fault as a feed does.
+pub fn commit<K: Keep>(keeper: &mut K, change: &Change<'_>) -> Result<(), Refusal>
+    requires allowed { K.clean keeper.old → IsAllowed (shown_change change.now) (K.content keeper.old) }
+    ensures made { OnOk result (K.clean keeper.new → K.content keeper.new ≡ after (shown_change change.now) (K.content keeper.old)) }
+    ensures refused { OnErr result (K.clean keeper.new → K.content keeper.new ≡ K.content keeper.old) }
+    ensures clean { K.clean keeper.new → K.clean keeper.old }
+    ensures fault { IfErr result (λ fault. (fault ≡ Refusal.Memory) ⊎ (fault ≡ Refusal.Device)) }
+    ensures device { (K.failed keeper.old ≤ K.failed keeper.new) × (result ≡ Err Refusal.Device → HasFailed (K.failed keeper.old) (K.failed keeper.new)) }
+{
+    match keeper.commit(change) {
+        Ok(()) => Ok(()),
+        Err(KeepFault::Device) => Err(Refusal::Device),
+        Err(_) => Err(Refusal::Memory),
+    }
 }

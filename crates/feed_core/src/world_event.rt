@@ -1,5 +1,5 @@
-use crate::event::{Refusal, Reply};
 use feed_answer::QueryFault;
+use feed_model::{Refusal, Reply};
 use feed_names::ReleaseName;
 use std::io;
 use std::io::Write;

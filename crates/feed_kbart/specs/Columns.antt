@@ -44,11 +44,12 @@ first_missing header = find (λ l. is_none (column l header)) required_labels
 abbrev pub first_twice : List (List ℕ) → Option Label
 first_twice header = find (λ l. nat_lt 1 (count_by (is_label l) header)) used_labels
 
--- why a header is bad, or nothing where it is good
+-- a missing label counts before a double one
 abbrev pub bad_labels : Option Label → Option Label → Option BadFile
 bad_labels (Some missing) twice = Some (MissingLabel missing)
 bad_labels None (Some twice) = Some (LabelTwice twice)
 bad_labels None None = None
 
+-- the first reason why a header is bad, or nothing where it is good
 abbrev pub bad_header : List (List ℕ) → Option BadFile
 bad_header header = bad_labels (first_missing header) (first_twice header)

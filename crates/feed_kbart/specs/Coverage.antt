@@ -11,6 +11,7 @@ use Rattle.feed_kbart.specs.declared.header.Columns.{Columns}
 use Rattle.feed_kbart.specs.declared.fault.Reason.{Reason}
 use Rattle.feed_kbart.specs.declared.fault.Reason.TheVariants.{NotSerial, NoIssn, BadDate, Reversed}
 
+-- a text without bytes
 abbrev pub is_empty : List ℕ → Bool
 is_empty [] = true
 is_empty (b ∷ bytes) = false
@@ -48,6 +49,7 @@ volumes (Some first) (Some last) = if nat_lt last first then (None, None) else (
 volumes None last = (None, last)
 volumes (Some first) None = (Some first, None)
 
+-- the volumes of a record
 abbrev pub coverage_volumes : Columns → List (List ℕ) → Option ℕ × Option ℕ
 coverage_volumes columns fields =
     volumes (volume_of (trimmed (cell columns.first_volume fields))) (volume_of (trimmed (cell columns.last_volume fields)))

@@ -16,10 +16,11 @@ is_day year month day =
 abbrev pub day_number : ℕ → ℕ → ℕ → Option ℤ
 day_number year month day = if is_day year month day then Some (days_from_civil (pos year) month day) else None
 
--- the number of two digits, and of four
+-- the number of two digits
 abbrev pub two_digits : ℕ → ℕ → Option ℕ
 two_digits a b = if is_ascii_digit a && is_ascii_digit b then Some ((a - 48) * 10 + (b - 48)) else None
 
+-- the number of four digits
 abbrev pub four_digits : ℕ → ℕ → ℕ → ℕ → Option ℕ
 four_digits a b c d =
     if is_ascii_digit a && is_ascii_digit b && is_ascii_digit c && is_ascii_digit d
@@ -31,16 +32,18 @@ range (Some first) (Some last) = Some (record { first = first; last = last })
 range None last = None
 range (Some first) None = None
 
--- the days of a year, of a month and of a day
+-- the days of a year, from 1 January to 31 December
 abbrev pub days_of_year : Option ℕ → Option DayRange
 days_of_year (Some year) = range (day_number year 1 1) (day_number year 12 31)
 days_of_year None = None
 
+-- the days of a month
 abbrev pub days_of_month : Option ℕ → Option ℕ → Option DayRange
 days_of_month (Some year) (Some month) = range (day_number year month 1) (day_number year month (days_in_month (pos year) month))
 days_of_month None month = None
 days_of_month (Some year) None = None
 
+-- a day alone, if it is real
 abbrev pub days_of_day : Option ℕ → Option ℕ → Option ℕ → Option DayRange
 days_of_day (Some year) (Some month) (Some day) = range (day_number year month day) (day_number year month day)
 days_of_day None month day = None
@@ -61,6 +64,7 @@ hyphened (a ∷ b ∷ c ∷ d ∷ e ∷ f ∷ []) = a ∷ b ∷ c ∷ d ∷ 45 �
 hyphened (a ∷ b ∷ c ∷ d ∷ e ∷ f ∷ g ∷ h ∷ []) = a ∷ b ∷ c ∷ d ∷ 45 ∷ e ∷ f ∷ 45 ∷ g ∷ h ∷ []
 hyphened text = text
 
+-- the days of a date of a query
 abbrev pub query_days_of : List ℕ → Option DayRange
 query_days_of text = days_of (hyphened text)
 

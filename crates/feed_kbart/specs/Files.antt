@@ -3,8 +3,8 @@ use Rattle.std.specs.Prelude.{◌≡◌, ◌≤◌, ◌<◌, not, ℕ, List, [],
 use Rattle.std.specs.Str.{is_utf8}
 use Rattle.feed_kbart.specs.Records.{has_two_marks, records_of}
 use Rattle.feed_kbart.specs.Columns.{bad_header, columns_of}
-use Rattle.feed_kbart.specs.Rows.{Outcome, outcomes, rows_among, asides_among}
-use Rattle.feed_kbart.specs.Holdings.{HoldingsValue}
+use Rattle.feed_kbart.specs.Holdings.{holdings_from, nothing}
+use Rattle.feed_kbart.specs.HoldingsValue.{HoldingsValue}
 use Rattle.feed_kbart.specs.declared.file.TheConstants.{FILE_LIMIT}
 use Rattle.feed_kbart.specs.declared.fault.BadFile.{BadFile}
 use Rattle.feed_kbart.specs.declared.fault.BadFile.TheVariants.{NotUtf8, TwoMarks, NoHeader}
@@ -23,14 +23,10 @@ bad_of text =
     else if has_two_marks text then Some TwoMarks
     else bad_records (records_of text)
 
--- what becomes of the records after the header, which are numbered from 2
-abbrev pub outcomes_after : List (List (List ℕ)) → List Outcome
-outcomes_after [] = []
-outcomes_after (header ∷ records) = outcomes (columns_of header) 2 records
-
--- the holdings of records: the rows, and those that are set aside
+-- the records after the header are numbered from 2
 abbrev pub holdings_in : List (List (List ℕ)) → HoldingsValue
-holdings_in records = record { rows = rows_among (outcomes_after records); aside = asides_among (outcomes_after records) }
+holdings_in [] = nothing
+holdings_in (header ∷ records) = holdings_from (columns_of header) 2 records
 
 -- the holdings of a text
 unfoldable pub holdings_of : List ℕ → HoldingsValue

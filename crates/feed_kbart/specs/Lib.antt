@@ -5,8 +5,10 @@ pub mod Labels
 pub mod Records
 pub mod Columns
 pub mod Coverage
+pub mod Reasons
 pub mod Texts
 pub mod RowValue
 pub mod Rows
+pub mod HoldingsValue
 pub mod Holdings
 pub mod Files

@@ -6,10 +6,11 @@ use Rattle.std.specs.List.{slice_split, starts_with}
 abbrev pub mark : List ℕ
 mark = 0xEF ∷ 0xBB ∷ 0xBF ∷ []
 
--- the text begins with a byte-order mark, or with two
+-- the text begins with a byte-order mark
 abbrev pub has_mark : List ℕ → Bool
 has_mark text = starts_with nat_eq text mark
 
+-- the text begins with two byte-order marks
 abbrev pub has_two_marks : List ℕ → Bool
 has_two_marks text = starts_with nat_eq text (mark ++ mark)
 
@@ -21,9 +22,11 @@ drop_mark text = if has_mark text then drop 3 text else text
 abbrev pub ends_line : ℕ → Bool
 ends_line b = (b == 13) || (b == 10)
 
+-- a tab
 abbrev pub is_tab : ℕ → Bool
 is_tab b = b == 9
 
+-- a piece with bytes
 abbrev pub is_nonempty : List ℕ → Bool
 is_nonempty [] = false
 is_nonempty (b ∷ bytes) = true

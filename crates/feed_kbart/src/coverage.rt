@@ -31,7 +31,9 @@ fn is_serial_type(text: &[u8]) -> bool
 
 // The days of a coverage date; an empty date is an open side.
 fn read_date(text: &[u8]) -> Result<Option<DayRange>, Reason>
-    ensures { MatchResult result (λ days. (is_coverage_date text.now ≡ true) × (days ≡ coverage_days text.now)) (λ why. (is_coverage_date text.now ≡ false) × (why ≡ reason.BadDate)) }
+    ensures { MatchResult result
+        (λ days. (is_coverage_date text.now ≡ true) × (days ≡ coverage_days text.now))
+        (λ why. (is_coverage_date text.now ≡ false) × (why ≡ reason.BadDate)) }
 {
     let date = trim_spaces(text);
     if date.is_empty() {
@@ -68,7 +70,10 @@ fn volumes_of(columns: &Columns, fields: &ByteRecord) -> (Option<u32>, Option<u3
 impl Coverage {
     /// What a record covers, or the first reason to set it aside.
     pub(crate) fn of(columns: &Columns, fields: &ByteRecord) -> Result<Coverage, Reason>
-        ensures { MatchResult result (λ coverage. (reason_of columns.now (fields_of fields.now) ≡ None) × (coverage ≡ coverage_of columns.now (fields_of fields.now))) (λ why. reason_of columns.now (fields_of fields.now) ≡ Some why) }
+        ensures { MatchResult result
+            (λ coverage. (reason_of columns.now (fields_of fields.now) ≡ None)
+            × (coverage ≡ coverage_of columns.now (fields_of fields.now)))
+            (λ why. reason_of columns.now (fields_of fields.now) ≡ Some why) }
     {
         if !is_serial_type(cell_of(fields, columns.publication_type)) {
             return Err(Reason::NotSerial);

@@ -26,6 +26,7 @@ fn read_text<R: Read>(alloc: Global, reader: &mut R) -> Result<Vec<u8>, KbartFau
 {
     let mut text = Vec::new(alloc);
     let mut block = [0u8; BLOCK];
+    // Each turn but the last takes in a byte at least.
     for _ in 0..FILE_LIMIT + 2 {
         let Ok(count) = reader.read(&mut block) else {
             return Err(KbartFault::Read);

@@ -85,7 +85,10 @@ pub(crate) fn cell_of(fields: &ByteRecord, column: Option<usize>) -> &[u8]
 
 /// The columns of a good header, or the first reason why it is bad.
 pub(crate) fn read_header(header: &ByteRecord) -> Result<Columns, BadFile>
-    ensures { MatchResult result (λ columns. (bad_header (fields_of header.now) ≡ None) × (columns ≡ columns_of (fields_of header.now))) (λ why. bad_header (fields_of header.now) ≡ Some why) }
+    ensures { MatchResult result
+        (λ columns. (bad_header (fields_of header.now) ≡ None)
+        × (columns ≡ columns_of (fields_of header.now)))
+        (λ why. bad_header (fields_of header.now) ≡ Some why) }
 {
     if let Some(label) = missing_label(header) {
         return Err(BadFile::MissingLabel(label));

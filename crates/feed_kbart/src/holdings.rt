@@ -1,7 +1,12 @@
-ghost use Rattle.std.specs.Prelude.{◌≡◌};
+ghost use Rattle.std.specs.Prelude.{◌≡◌, [], ◌∷◌, OnOk};
+ghost use Rattle.csv.specs.Records.{fields_of};
 
+use crate::coverage::Coverage;
 use crate::fault::Reason;
+use crate::header::Columns;
 use crate::row::Row;
+use csv::ByteRecord;
+use std::alloc::{AllocError, Global};
 use std::marker::Model;
 
 /// A record that is set aside, and why.
@@ -20,7 +25,7 @@ pub struct Holdings {
 }
 
 impl Model for Holdings {
-    ghost use Rattle.feed_kbart.specs.Holdings.{HoldingsValue};
+    ghost use Rattle.feed_kbart.specs.HoldingsValue.{HoldingsValue};
 
     ghost Value = { HoldingsValue };
 
@@ -28,10 +33,36 @@ impl Model for Holdings {
 }
 
 impl Holdings {
-    pub(crate) fn of(rows: Vec<Row>, aside: Vec<Aside>) -> Holdings
-        ensures { result ≡ record { rows = rows.items; aside = aside.items } }
+    ghost use Rattle.feed_kbart.specs.Holdings.{holdings_from, joined, nothing};
+
+    pub(crate) fn new(alloc: Global) -> Holdings
+        ensures { result ≡ nothing }
     {
-        Holdings { rows, aside }
+        Holdings {
+            rows: Vec::new(alloc),
+            aside: Vec::new(alloc),
+        }
+    }
+
+    /// Takes in a record, as a row or set aside.
+    pub(crate) fn add(
+        &mut self,
+        alloc: Global,
+        columns: &Columns,
+        number: u32,
+        fields: &ByteRecord,
+    ) -> Result<(), AllocError>
+        ensures { OnOk result (self.new
+            ≡ joined self.old (holdings_from columns.now number (fields_of fields.now ∷ []))) }
+    {
+        match Coverage::of(columns, fields) {
+            Ok(coverage) => {
+                let row = Row::of(alloc, number, coverage, columns, fields)?;
+                self.rows.push(row)?;
+            }
+            Err(reason) => self.aside.push(Aside { number, reason })?,
+        }
+        Ok(())
     }
 
     /// The rows, in file order.

@@ -47,7 +47,9 @@ impl Issn {
 
     // The ISSN of seven digits and a check character, if they are that and agree.
     fn checked(digits: [u8; 7], check: u8) -> Option<Issn>
-        ensures { result ≡ checked (slice_index digits 0) (slice_index digits 1) (slice_index digits 2) (slice_index digits 3) (slice_index digits 4) (slice_index digits 5) (slice_index digits 6) check }
+        ensures { result ≡ checked (slice_index digits 0) (slice_index digits 1)
+            (slice_index digits 2) (slice_index digits 3) (slice_index digits 4)
+            (slice_index digits 5) (slice_index digits 6) check }
     {
         let [a, b, c, d, e, f, g] = digits;
         let are_digits = a.is_ascii_digit()

@@ -119,6 +119,10 @@ impl Label {
 }
 
 impl fmt::Display for Label {
+    ghost use Rattle.feed_kbart.specs.Labels.{label_text};
+
+    ghost output = { λ label. Some (label_text label) };
+
     fn fmt<W: fmt::Write>(&self, f: &mut fmt::Formatter<W>) -> fmt::Result {
         f.write_str(self.name())
     }

@@ -1,8 +1,12 @@
-ghost use Rattle.std.specs.Prelude.{◌≡◌};
+ghost use Rattle.std.specs.Prelude.{◌≡◌, IfOk};
+ghost use Rattle.csv.specs.Records.{fields_of};
 
 use crate::coverage::Coverage;
+use crate::header::{Columns, cell_of};
 use crate::issn::Issn;
 use crate::texts::Texts;
+use csv::ByteRecord;
+use std::alloc::{AllocError, Global};
 use std::marker::Model;
 
 /// A row of a file: one journal's holdings. Its texts are as in the file, untrimmed; a text of an
@@ -24,15 +28,33 @@ impl Model for Row {
 
 impl Row {
     ghost use Rattle.feed_kbart.specs.RowValue.{row_with};
+    ghost use Rattle.feed_kbart.specs.Rows.{texts_of};
 
-    pub(crate) fn of(number: u32, coverage: Coverage, texts: Texts) -> Row
-        ensures { result ≡ row_with number coverage texts }
+    /// The row of a record that covers this.
+    pub(crate) fn of(
+        alloc: Global,
+        number: u32,
+        coverage: Coverage,
+        columns: &Columns,
+        fields: &ByteRecord,
+    ) -> Result<Row, AllocError>
+        ensures { IfOk result
+            (λ row. row ≡ row_with number coverage (texts_of columns.now (fields_of fields.now))) }
     {
-        Row {
+        let texts = Texts::of(
+            alloc,
+            cell_of(fields, columns.title),
+            cell_of(fields, columns.url),
+            cell_of(fields, columns.title_id),
+            cell_of(fields, columns.depth),
+            cell_of(fields, columns.embargo),
+            cell_of(fields, columns.access),
+        )?;
+        Ok(Row {
             number,
             coverage,
             texts,
-        }
+        })
     }
 
     /// The number of the record in its file. The header has number 1, and empty lines have none.

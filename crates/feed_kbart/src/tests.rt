@@ -5,12 +5,12 @@ use std::io::Read;
 use std::process::Abort;
 use std::test::Fail;
 
-const H: &[u8] =
+const HEADER: &[u8] =
     b"publication_title\tprint_identifier\tonline_identifier\tdate_first_issue_online\tnum_first_vol_online\tdate_last_issue_online\tnum_last_vol_online\ttitle_url\n";
 
-const A: &[u8] = b"Acta\t2434-561X\t\t1995\t1\t2001-06-30\t7\thttp://a.example/\n";
+const ACTA: &[u8] = b"Acta\t2434-561X\t\t1995\t1\t2001-06-30\t7\thttp://a.example/\n";
 
-const B: &[u8] = b"Beta\t\t0317-8471\t\t\t\t\thttp://b.example/\n";
+const BETA: &[u8] = b"Beta\t\t0317-8471\t\t\t\t\thttp://b.example/\n";
 
 // Gives at most so many bytes at a call, and fails in place of the end where it is told to.
 #[derive(Drop)]
@@ -102,7 +102,7 @@ fn expect_fault(
 #[test]
 fn reads_every_text_of_a_row(rt: HostRuntime) -> Result<(), Fail> {
     for step in STEPS {
-        let holdings = read_by(rt.alloc(), &[H, A, B], step, false)?;
+        let holdings = read_by(rt.alloc(), &[HEADER, ACTA, BETA], step, false)?;
         assert_eq!(rt; holdings.rows().len(), 2);
         let acta = &holdings.rows()[0];
         assert_eq!(rt; acta.number(), 2);
@@ -151,7 +151,12 @@ fn reads_columns_in_any_order(rt: HostRuntime) -> Result<(), Fail> {
 #[test]
 fn drops_a_reversed_pair_of_volumes(rt: HostRuntime) -> Result<(), Fail> {
     for step in STEPS {
-        let holdings = read_by(rt.alloc(), &[H, b"Eta\t2434-561X\t\t\t7\t\t3"], step, false)?;
+        let holdings = read_by(
+            rt.alloc(),
+            &[HEADER, b"Eta\t2434-561X\t\t\t7\t\t3"],
+            step,
+            false,
+        )?;
         assert_eq!(rt; holdings.rows().len(), 1);
         let row = &holdings.rows()[0];
         assert_eq!(rt; (row.first_volume(), row.last_volume()), (None, None));
@@ -179,7 +184,7 @@ fn sets_records_aside(rt: HostRuntime) -> Result<(), Fail> {
     expect_judged(
         &rt,
         rt.alloc(),
-        &[H, A, lines],
+        &[HEADER, ACTA, lines],
         &[2],
         &[
             aside(3, Reason::NoIssn),
@@ -187,8 +192,8 @@ fn sets_records_aside(rt: HostRuntime) -> Result<(), Fail> {
             aside(5, Reason::Reversed),
         ],
     )?;
-    let header = &H[..150];
-    let acta = &A[..53];
+    let header = &HEADER[..150];
+    let acta = &ACTA[..53];
     let label = b"\tPublication_Type\n";
     expect_judged(
         &rt,
@@ -204,22 +209,29 @@ fn sets_records_aside(rt: HostRuntime) -> Result<(), Fail> {
         &[],
         &[aside(2, Reason::NotSerial)],
     )?;
-    expect_judged(&rt, rt.alloc(), &[b"\xEF\xBB\xBF", H], &[], &[])
+    expect_judged(&rt, rt.alloc(), &[b"\xEF\xBB\xBF", HEADER], &[], &[])
 }
 
 #[test]
 fn tells_why_a_file_is_bad(rt: HostRuntime) -> Result<(), Fail> {
     let mark = b"\xEF\xBB\xBF";
-    let header = &H[..150];
-    let cases: [(&[&[u8]], BadFile); 9] = [
-        (&[mark, mark, H], BadFile::TwoMarks),
-        (&[H, b"\xFF"], BadFile::NotUtf8),
-        (&[H, b"\xE2\x82"], BadFile::NotUtf8),
+    let header = &HEADER[..150];
+    let cases: [(&[&[u8]], BadFile); 10] = [
+        (&[mark, mark, HEADER], BadFile::TwoMarks),
+        (&[HEADER, b"\xFF"], BadFile::NotUtf8),
+        (&[HEADER, b"\xE2\x82"], BadFile::NotUtf8),
         (&[b"\xEF\xBB"], BadFile::NotUtf8),
         (&[mark], BadFile::NoHeader),
         (&[], BadFile::NoHeader),
         (&[b"\r\n\n"], BadFile::NoHeader),
-        (&[&H[..140], b"\n"], BadFile::MissingLabel(Label::TitleUrl)),
+        (
+            &[mark, b"\n", mark, HEADER],
+            BadFile::MissingLabel(Label::PublicationTitle),
+        ),
+        (
+            &[&HEADER[..140], b"\n"],
+            BadFile::MissingLabel(Label::TitleUrl),
+        ),
         (
             &[header, b"\ttitle_url\n"],
             BadFile::LabelTwice(Label::TitleUrl),
@@ -228,7 +240,7 @@ fn tells_why_a_file_is_bad(rt: HostRuntime) -> Result<(), Fail> {
     for (parts, why) in cases {
         expect_fault(&rt, rt.alloc(), parts, false, KbartFault::Bad(why))?;
     }
-    expect_fault(&rt, rt.alloc(), &[H], true, KbartFault::Read)
+    expect_fault(&rt, rt.alloc(), &[HEADER], true, KbartFault::Read)
 }
 
 #[test]

@@ -29,7 +29,9 @@ impl Model for Texts {
       access = drop t.embargo_end t.bytes.items;
     } };
 
-    ghost invariant = { λ t. (t.title_end ≤ t.url_end) × (t.url_end ≤ t.title_id_end) × (t.title_id_end ≤ t.depth_end) × (t.depth_end ≤ t.embargo_end) × (t.embargo_end ≤ length t.bytes.items) };
+    ghost invariant = { λ t. (t.title_end ≤ t.url_end) × (t.url_end ≤ t.title_id_end)
+        × (t.title_id_end ≤ t.depth_end) × (t.depth_end ≤ t.embargo_end)
+        × (t.embargo_end ≤ length t.bytes.items) };
 }
 
 impl Texts {
@@ -43,7 +45,14 @@ impl Texts {
         embargo: &[u8],
         access: &[u8],
     ) -> Result<Texts, AllocError>
-        ensures { IfOk result (λ t. t ≡ record { title = title.now; url = url.now; title_id = title_id.now; depth = depth.now; embargo = embargo.now; access = access.now }) }
+        ensures { IfOk result (λ texts. texts ≡ record {
+          title = title.now;
+          url = url.now;
+          title_id = title_id.now;
+          depth = depth.now;
+          embargo = embargo.now;
+          access = access.now;
+        }) }
     {
         let size = title
             .len()

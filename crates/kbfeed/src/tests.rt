@@ -51,6 +51,20 @@ fn a_script_is_shown_line_by_line(rt: HostRuntime) -> Result<(), Fail> {
             )?,
             "published\nnoted\nstored missing 100\nactivated\nactive Acme_Global_All_2024-01-01.txt\nrelease Acme_Global_All_2024-01-01.txt hits 1\n2\tuntested\tActa\thttp://a.example/\t\t\t\t\n",
         ),
+        // The deliveries from the last one, and one of them again.
+        (
+            format!(in rt.alloc();
+                "nodes 1\npublish {j} {HEADER}{ACTA}\noffer 1 {j}\ndeliver 1 {j} 200 5\ndeliver 1 {j} 100 100\ndeliver 1 {j} 100 100\ndeliver 1 {j} 0 100\ndeliver 1 {j} 100 100\nreport 1 Acme_Global_All\n"
+            )?,
+            "published\nnoted\nstored missing 200\nstored missing 100\nrepeated\nactivated\nrepeated\nactive Acme_Global_All_2024-01-01.txt\n",
+        ),
+        // The rest of a release that is passed.
+        (
+            format!(in rt.alloc();
+                "nodes 1\npublish {j} {HEADER}{ACTA}\npublish Acme_Global_All_2024-02-01.txt {HEADER}{ACTA}{BETA}\noffer 1 {j}\ndeliver 1 {j} 0 200\noffer 1 Acme_Global_All_2024-02-01.txt\ndeliver 1 Acme_Global_All_2024-02-01.txt 0 243\ndeliver 1 {j} 200 5\noffer 1 {j}\nreport 1 Acme_Global_All\n"
+            )?,
+            "published\npublished\nnoted\nstored missing 5\nnoted\nactivated\nolder\nolder\nactive Acme_Global_All_2024-02-01.txt\n",
+        ),
         // An empty file is whole at once, and bad.
         (
             format!(in rt.alloc();

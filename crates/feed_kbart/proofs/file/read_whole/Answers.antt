@@ -5,7 +5,7 @@ use Rattle.std.proofs.lemmas.Bool.{cases_Bool, true≢false}
 use Rattle.std.proofs.lemmas.Str.{IsUtf8-from_is_utf8, is_utf8-from_IsUtf8}
 use Rattle.feed_kbart.specs.Records.{has_two_marks, records_of}
 use Rattle.feed_kbart.specs.Files.{IsJudged, IsReadOf, bad_of, bad_records, holdings_of}
-use Rattle.feed_kbart.specs.Holdings.{HoldingsValue}
+use Rattle.feed_kbart.specs.HoldingsValue.{HoldingsValue}
 use Rattle.feed_kbart.specs.declared.file.TheConstants.{FILE_LIMIT}
 use Rattle.feed_kbart.specs.declared.fault.KbartFault.{KbartFault}
 use Rattle.feed_kbart.specs.declared.fault.KbartFault.TheVariants as fault

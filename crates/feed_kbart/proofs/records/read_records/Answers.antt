@@ -1,11 +1,6 @@
-use Rattle.std.proofs.Common.{List, ◌≡◌, ◌∙◌, refl, inl, inr, arith}
+use Rattle.std.proofs.Common.{◌∙◌, refl, inl, inr, arith}
 use Rattle.std.proofs.lemmas.Result.{err_from_is_err_and}
 use Rattle.csv.specs.Records.{fields_of}
-use Rattle.feed_kbart.specs.Records.{records_of}
-use Rattle.feed_kbart.specs.Files.{holdings_in}
-use Rattle.feed_kbart.specs.Holdings.{HoldingsValue}
-use Rattle.feed_kbart.specs.RowValue.{RowValue}
-use Rattle.feed_kbart.specs.declared.holdings.Aside.{Aside}
 use Rattle.feed_kbart.proofs.Cuts.{drop_mark-strip}
 use Rattle.feed_kbart.proofs.Steps.{no_header, first_record, stands_first, stands_next, stands_end, stands_full, if_some}
 use Rattle.feed_kbart.proofs.records.read_records.Goals as goal
@@ -36,7 +31,7 @@ loop-number-init g c =
       trims = goes.1 ∙ trims;
       ready = (goes.4 (inr (inr (named, fr.headers)))).0;
       config = goes.0 ∙ config;
-      stands = λ text is. rw (c.new-rows.ensures.items, c.new-aside.ensures.items)
+      stands = λ text is. rw c.new-holdings.ensures
           (stands_first g.R.Read.remaining c.from_reader-reader.result c.read_byte_record.new.self c.in_ok-columns.columns text (fields_of c.read_byte_record.new.row) (inl fr.state)
           (rw (is, drop_mark-strip text) at fr.source) config (reads trims (inr (inr (named, fr.headers)))) header.0 header.1);
     }
@@ -47,22 +42,15 @@ loop-number-preserved g c =
     let reads = rw (c.in-Ok-true-read_byte_record.is, c.in-Ok-true-read_byte_record.field-0-test) at c.read_byte_record-in-loop-number.ensures.reads in
     let on = rw (c.in-Ok-true-read_byte_record.is, c.in-Ok-true-read_byte_record.field-0-test) at c.read_byte_record-in-loop-number.ensures.reads_on in
     let goes = on refl in
-    let same = rw c.in_ok-verdict.was at c.judge.ensures in
-    let rows = rw c.in_ok-keep.was at c.keep.ensures.rows in
-    let aside = rw c.in_ok-keep.was at c.keep.ensures.aside in
+    let taken = rw c.in_ok-add.was at c.add.ensures in
     record {
       trims = goes.1 ∙ inv.trims;
       ready = (goes.4 inv.ready).0;
       config = goes.0 ∙ inv.config;
-      stands = λ text is. rw (rows, aside, same)
-          (stands_next g.R.Read.remaining c.loop-number.reader c.read_byte_record-in-loop-number.new.self c.in_ok-columns.columns c.loop-number.number c.loop-number.rows.items c.loop-number.aside.items text
+      stands = λ text is. rw taken
+          (stands_next g.R.Read.remaining c.loop-number.reader c.read_byte_record-in-loop-number.new.self c.in_ok-columns.columns c.loop-number.number c.loop-number.holdings text
           (fields_of c.read_byte_record-in-loop-number.new.row) (inv.stands text is) inv.config (reads inv.trims inv.ready));
     }
-
--- holdings are their two lists
-both : (holdings : HoldingsValue) (rows : List RowValue) (aside : List Aside) → rows ≡ holdings.rows → aside ≡ holdings.aside
-    → record { rows = rows; aside = aside } ≡ holdings
-both holdings rows aside r a = rw (r, a) refl
 
 pub returns : goal.returns
 returns g c =
@@ -71,15 +59,15 @@ returns g c =
       | else-loop-number-test w ↦
           if_some (g.R.Read.remaining c.args.source) _ (λ text is small.
           let stands = inv.stands text is in
-          let all = stands_full g.R.Read.remaining c.loop-number.reader c.in_ok-columns.columns c.loop-number.number c.loop-number.rows.items c.loop-number.aside.items text stands (omega (arith, w.loop-number-test.false)) in
-          (stands.good, c.of.ensures ∙ both (holdings_in (records_of text)) c.loop-number.rows.items c.loop-number.aside.items all.0 all.1))
+          let all = stands_full g.R.Read.remaining c.loop-number.reader c.in_ok-columns.columns c.loop-number.number c.loop-number.holdings text stands (omega (arith, w.loop-number-test.false)) in
+          (stands.good, all))
       | then-loop-number-test+in-Ok-false-read_byte_record w ↦
           let reads = rw (w.in-Ok-false-read_byte_record.is, w.in-Ok-false-read_byte_record.field-0-test) at w.read_byte_record-in-loop-number.ensures.reads in
           if_some (g.R.Read.remaining c.args.source) _ (λ text is small.
           let stands = inv.stands text is in
-          let all = stands_end g.R.Read.remaining c.loop-number.reader w.read_byte_record-in-loop-number.new.self c.in_ok-columns.columns c.loop-number.number c.loop-number.rows.items c.loop-number.aside.items text
+          let all = stands_end g.R.Read.remaining c.loop-number.reader w.read_byte_record-in-loop-number.new.self c.in_ok-columns.columns c.loop-number.number c.loop-number.holdings text
           (fields_of w.read_byte_record-in-loop-number.new.row) stands inv.config (reads inv.trims inv.ready) in
-          (stands.good, c.of.ensures ∙ both (holdings_in (records_of text)) c.loop-number.rows.items c.loop-number.aside.items all.0 all.1))
+          (stands.good, all))
     ]
 
 pub returns-in_err-columns : goal.returns-in_err-columns
@@ -95,7 +83,7 @@ returns-in_err-columns g c =
     (first_record g.R.Read.remaining c.from_reader-reader.result c.read_byte_record.new.self text (fields_of c.read_byte_record.new.row) (inl fr.state)
     (rw (is, drop_mark-strip text) at fr.source) config (reads trims (inr (inr (named, fr.headers)))) ∙ header))
 
-pub returns-in_err-keep : goal.returns-in_err-keep
-returns-in_err-keep g c =
-    let p = err_from_is_err_and c.from_residual-in_err-keep.result c.from_residual-in_err-keep.ensures.1 in
+pub returns-in_err-add : goal.returns-in_err-add
+returns-in_err-add g c =
+    let p = err_from_is_err_and c.from_residual-in_err-add.result c.from_residual-in_err-add.ensures.1 in
     if_some (g.R.Read.remaining c.args.source) _ (λ text is small. rw (p.1, p.2) tt)

@@ -10,5 +10,5 @@ invariant-loop-number g l = record {
   trims : l.reader.trim ≡ trim.None;
   ready : Ready l.reader;
   config : l.reader.config ≡ tabs;
-  stands : (text : List ℕ) → g.R.Read.remaining l.fn.source ≡ Some text → Stands g.R.Read.remaining l.reader l.columns l.number l.rows.items l.aside.items text;
+  stands : (text : List ℕ) → g.R.Read.remaining l.fn.source ≡ Some text → Stands g.R.Read.remaining l.reader l.columns l.number l.holdings text;
 }

@@ -1,0 +1,30 @@
+-- Laws of queries and grades.
+use Rattle.std.specs.Prelude.{◌≡◌, ◌↔◌, ℕ, List, Option, Some, None, true, ℤ, ◌≤ℤ◌}
+use Rattle.feed_kbart.specs.declared.day.DayRange.{DayRange}
+use Rattle.feed_answer.specs.IssnSet.{is_among, issn_set}
+use Rattle.feed_answer.specs.Grades.{begins_by, lasts_to, tested_days}
+use Rattle.feed_answer.specs.declared.grade.Grade.TheVariants.{Inside}
+
+-- the set of a list's ISSNs has each ISSN of the list, and no other
+abbrev pub SetHasJustItsIssns : Type 0
+SetHasJustItsIssns = (issns : List (List ℕ)) (issn : List ℕ) → is_among issn (issn_set issns) ≡ is_among issn issns
+
+-- a day is covered from a first day to a last; a side that is absent is open
+pub record IsCovered (first last : Option ℤ) (day : ℤ) : Type 0 where
+  pub begun : begins_by first day ≡ true
+  pub lasting : lasts_to last day ≡ true
+
+-- a day is one of those asked for
+pub record IsAsked (days : DayRange) (day : ℤ) : Type 0 where
+  pub not_before : days.first ≤ℤ day
+  pub not_after : day ≤ℤ days.last
+
+-- coverage that has a day is graded by the days: none where no day asked for is covered, inside where each is
+pub record AreGradedByDays (first last : Option ℤ) (days : DayRange) : Type 0 where
+  pub apart : (tested_days first last days ≡ None) ↔ ((day : ℤ) → IsAsked days day → ¬ (IsCovered first last day))
+  pub inside : (tested_days first last days ≡ Some Inside) ↔ ((day : ℤ) → IsAsked days day → IsCovered first last day)
+
+abbrev pub GradesSpeakOfDays : Type 0
+GradesSpeakOfDays =
+    (first last : Option ℤ) (days : DayRange) (some : ℤ) → IsCovered first last some → days.first ≤ℤ days.last
+    → AreGradedByDays first last days

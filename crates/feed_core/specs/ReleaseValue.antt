@@ -1,0 +1,70 @@
+-- What is seen of a recorded release.
+use Rattle.std.specs.Prelude.{◌≡◌, ◌≢◌, ◌<◌, ◌≤◌, ◌+◌, ℕ, true, false, List, Option, Some, None, Result, Ok, Err, map, length, slice_get, slice_index_or}
+use Rattle.feed_names.specs.ReleaseName.{Name, name_eq, IsEarlier}
+use Rattle.feed_kbart.specs.HoldingsValue.{HoldingsValue}
+use Rattle.feed_kbart.specs.Files.{holdings_of}
+use Rattle.feed_kbart.specs.declared.fault.KbartFault.{KbartFault}
+use Rattle.feed_kbart.specs.declared.fault.KbartFault.TheVariants.{Bad}
+use Rattle.feed_model.specs.File.{fault_of}
+use Rattle.feed_model.specs.Reply.{max_file}
+use Rattle.feed_model.specs.Content.{Part, Record, Content, byte_in}
+use Rattle.feed_model.specs.Change.{Change, Pieces, Break, Activate, merged}
+use Rattle.feed_model.specs.declared.state.State.{State}
+use Rattle.feed_model.specs.declared.state.State.TheVariants.{Staged, Broken, Active}
+use Rattle.feed_parts.specs.Piece.{AreWithin, total_length, DiffersIn, AgreesIn, HasNew, Covers}
+use Rattle.feed_core.specs.declared.overlap.Overlap.{Overlap}
+use Rattle.feed_core.specs.declared.overlap.Overlap.TheVariants.{Conflict, Kept, New}
+
+-- its record, and what its file holds if it is active
+pub record ReleaseValue : Type 0 where
+  pub kept : Record
+  pub holdings : Option HoldingsValue
+
+-- the parts lie inside the file, which is within the limit; so many places are missing; and it is staged just while some are
+pub record IsSound (kept : Record) (missing : ℕ) : Type 0 where
+  pub within : AreWithin kept.size kept.parts
+  pub limit : kept.size ≤ max_file
+  pub counted : missing + total_length kept.parts ≡ kept.size
+  pub staged : kept.state ≡ Staged → 0 < missing
+  pub whole : kept.state ≢ Staged → missing ≡ 0
+
+-- the records of releases
+abbrev pub content_of : List ReleaseValue → Content
+content_of releases = map (λ r. r.kept) releases
+
+-- the first release of the name stands at this place
+pub record IsPlaceOf (releases : List ReleaseValue) (n : Name) (i : ℕ) : Type 0 where
+  pub within : i < length releases
+  pub here : (d : ReleaseValue) → name_eq (slice_index_or releases i d).kept.name n ≡ true
+  pub before : (k : ℕ) (d : ReleaseValue) → k < i → name_eq (slice_index_or releases k d).kept.name n ≡ false
+
+-- an active release that is later than the name, in its package
+abbrev pub IsActiveAfter : Name → ReleaseValue → Type 0
+IsActiveAfter n r = (r.kept.state ≡ Active) × IsEarlier n r.kept.name
+
+-- an active release of the package
+abbrev pub IsActiveOf : List ℕ → ReleaseValue → Type 0
+IsActiveOf stem r = (r.kept.state ≡ Active) × (r.kept.name.stem ≡ stem)
+
+-- how a piece lies over what is kept of a release
+abbrev pub LiesOver : Record → ℕ → List ℕ → Overlap → Type 0
+LiesOver r first bytes Conflict = DiffersIn r.parts first bytes
+LiesOver r first bytes Kept = AgreesIn r.parts first bytes × Covers r.parts first bytes
+LiesOver r first bytes New = AgreesIn r.parts first bytes × HasNew r.parts first bytes × (r.state ≡ Staged)
+
+-- the text is the file of a release with these new parts
+pub record IsTextWith (r : Record) (new : List Part) (text : List ℕ) : Type 0 where
+  pub size : length text ≡ r.size
+  pub bytes : (place : ℕ) → place < r.size → byte_in (merged r.parts new) place ≡ slice_get text place
+
+-- what the file is judged as, unless memory is short
+abbrev pub IsJudged : Record → List Part → Result HoldingsValue KbartFault → Type 0
+IsJudged r new (Ok holdings) = (text : List ℕ) × IsTextWith r new text × (fault_of text ≡ None) × (holdings ≡ holdings_of text)
+IsJudged r new (Err (Bad why)) = (text : List ℕ) × IsTextWith r new text × (fault_of text ≡ Some why)
+IsJudged r new (Err fault) = Unit {0}
+
+-- the change that gives a release new parts and a state
+abbrev pub change_as : State → Name → List Part → Change
+change_as Staged n ps = Pieces n ps
+change_as Broken n ps = Break n ps
+change_as Active n ps = Activate n ps

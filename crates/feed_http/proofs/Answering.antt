@@ -1,0 +1,58 @@
+-- The reply that is written is the one that the request is owed.
+use Rattle.std.proofs.Common.{◌≡◌, ℕ, List, length, Option, Some, None, IfSome, IfOk, OnOk, Result, Ok, Err, true, false, sym, ◌∙◌, subst}
+use Rattle.std.specs.Prelude.{IsOkUnless, IsSomeAnd}
+use Rattle.std.specs.Option.{option_map}
+use Rattle.std.specs.Io.KnownBytes.{Appends}
+use Rattle.std.proofs.lemmas.List.{append-nil}
+use Rattle.httparse.specs.Grammar.{RequestHead}
+use Rattle.feed_names.specs.ReleaseName.{Name}
+use Rattle.feed_http.specs.declared.http_fault.HttpFault.{HttpFault}
+use Rattle.feed_http.specs.declared.http_fault.HttpFault.TheVariants.{Write}
+use Rattle.feed_http.specs.declared.serving.reply_head.ReplyHead.{ReplyHead}
+use Rattle.feed_http.specs.declared.serving.reply_head.ReplyHead.TheVariants.{Whole, NotFound}
+use Rattle.feed_http.specs.declared.serving.request.Request.{Request}
+use Rattle.feed_http.specs.Shelves.{Files}
+use Rattle.feed_http.specs.Requests.{lacks_host, is_unsupported, is_head, IsNamedBy, HasHead}
+use Rattle.feed_http.specs.Replies.{status_of, head_text}
+use Rattle.feed_http.specs.Served.{served, file_reply, head_alone, IsOutcomeOf}
+use Rattle.feed_http.proofs.Targets.{named_is}
+
+-- a head that was written alone
+pub written_alone : (head : ReplyHead) (result : Result ℕ HttpFault) (old new : Option (List ℕ)) → IfOk result (λ status. status ≡ status_of head)
+    → OnOk result (Appends old new (head_text head)) → IsOkUnless result Write → IsOutcomeOf (head_alone head) result old new
+written_alone head (Ok status) old new is written other = (is, subst (Appends old new) (sym (append-nil (head_text head))) written)
+written_alone head (Err fault) old new is written other = rw other tt
+
+-- a HEAD is answered with the length of the file
+pub answered_head : (told : Option Files) (request : Request) (name : Name) (size : ℕ) (result : Result ℕ HttpFault) (old new : Option (List ℕ))
+    → IfSome told (λ files. IsSomeAnd (files name) (λ file. length file ≡ size)) → ((head : RequestHead) → HasHead request head → true ≡ is_head head)
+    → IsOutcomeOf (head_alone (Whole size)) result old new
+    → IfSome told (λ files. (head : RequestHead) → HasHead request head → IsOutcomeOf (file_reply head (files name)) result old new)
+answered_head None request name size result old new there is_head_asked outcome = tt
+answered_head (Some files) request name size result old new there is_head_asked outcome = λ head has. at_file head (is_head_asked head has) (files name) there
+  where
+    at_file : (head : RequestHead) → true ≡ is_head head → (found : Option (List ℕ)) → IsSomeAnd found (λ file. length file ≡ size) → IsOutcomeOf (file_reply head found) result old new
+    at_file head asked None gone = absurd gone
+    at_file head asked (Some file) len = rw (← asked, len) outcome
+
+-- a file that is not there is not found
+pub answered_missing : (told : Option Files) (request : Request) (name : Name) (size : Option ℕ) (result : Result ℕ HttpFault) (old new : Option (List ℕ))
+    → IfSome told (λ files. size ≡ option_map length (files name)) → size ≡ None → IsOutcomeOf (head_alone NotFound) result old new
+    → IfSome told (λ files. (head : RequestHead) → HasHead request head → IsOutcomeOf (file_reply head (files name)) result old new)
+answered_missing None request name size result old new there none outcome = tt
+answered_missing (Some files) request name size result old new there none outcome = λ head has. at_file head (files name) (sym none ∙ there)
+  where
+    at_file : (head : RequestHead) (found : Option (List ℕ)) → None ≡ option_map length found → IsOutcomeOf (file_reply head found) result old new
+    at_file head None e = outcome
+    at_file head (Some file) e = cc
+
+-- what is replied for the release that was found is replied for the one that the target names
+pub answered_named : (told : Option Files) (request : Request) (found : Option Name) (name : Name) (result : Result ℕ HttpFault) (old new : Option (List ℕ))
+    → ((head : RequestHead) → HasHead request head → false ≡ lacks_host head) → ((head : RequestHead) → HasHead request head → false ≡ is_unsupported head)
+    → ((head : RequestHead) → HasHead request head → IsNamedBy head.target found) → found ≡ Some name
+    → IfSome told (λ files. (head : RequestHead) → HasHead request head → IsOutcomeOf (file_reply head (files name)) result old new)
+    → IfSome told (λ files. (head : RequestHead) → HasHead request head → (named : Option Name) → IsNamedBy head.target named → IsOutcomeOf (served files head named) result old new)
+answered_named None request found name result old new hosted supported is some outcome = tt
+answered_named (Some files) request found name result old new hosted supported is some outcome = λ head has named is_named.
+    let names = rw some at (is head has) in
+    rw (← hosted head has, ← supported head has, named_is head.target named name is_named names) (outcome head has)

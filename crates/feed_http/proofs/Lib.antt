@@ -1,0 +1,16 @@
+pub mod KnownBytes
+pub mod BufferFilling
+pub mod RequestReading
+pub mod NamedFields
+pub mod Targets
+pub mod Sending
+pub mod Exchanges
+pub mod Answering
+pub mod ReplyReading
+pub mod RequestWriting
+pub mod AgreedLengths
+pub mod LineReading
+pub mod ChunkReading
+pub mod ReplyJudging
+pub mod ExchangeLaw
+pub mod RequestLaw

@@ -1,0 +1,22 @@
+-- Bodies by their length, and bodies that end with the stream (RFC 9112, section 6.3).
+use Rattle.std.specs.Prelude.{◌<◌, ℕ, List, length, Option, IfSome, ⊤}
+use Rattle.feed_http.specs.declared.http_fault.HttpFault.{HttpFault}
+use Rattle.feed_http.specs.declared.http_fault.HttpFault.TheVariants.{Read, Short, BodyTooLong, Memory}
+
+-- so many bytes were not there, or the reader failed
+abbrev pub IsFillFault : ℕ → Option (List ℕ) → HttpFault → Type 0
+IsFillFault size remaining Read = ⊤
+IsFillFault size remaining Short = IfSome remaining (λ text. length text < size)
+IsFillFault size remaining _ = ⊥
+
+-- the same, or there was no memory
+abbrev pub IsSizedFault : ℕ → Option (List ℕ) → HttpFault → Type 0
+IsSizedFault size remaining Memory = ⊤
+IsSizedFault size remaining fault = IsFillFault size remaining fault
+
+-- there were more bytes, or no memory, or the reader failed
+abbrev pub IsEndlessFault : ℕ → Option (List ℕ) → HttpFault → Type 0
+IsEndlessFault most remaining Read = ⊤
+IsEndlessFault most remaining Memory = ⊤
+IsEndlessFault most remaining BodyTooLong = IfSome remaining (λ text. most < length text)
+IsEndlessFault most remaining _ = ⊥

@@ -1,0 +1,170 @@
+-- Chunked bodies (RFC 9112, section 7.1): a tree, its text and its bytes, and why a text has none.
+use Rattle.std.specs.Prelude.{◌≡◌, ◌≤◌, ◌<◌, ◌+◌, ◌-◌, ◌⊎◌, ℕ, zero, suc, List, ◌++◌, length, All, Option, IfSome, ⊤}
+use Rattle.std.specs.List.{flat_map}
+use Rattle.std.specs.Io.KnownBytes.{Consumes}
+use Rattle.httparse.specs.Ascii.{crlf_bytes}
+use Rattle.httparse.specs.Grammar.{ChunkLine, IsChunkLine, HasNoChunkLine, MayBecomeChunkLine, print_chunk_line, chunk_size, Field, IsField, LineEnd, print_section, HasNoSection, MayBecomeSection}
+use Rattle.feed_http.specs.declared.http_fault.HttpFault.{HttpFault}
+use Rattle.feed_http.specs.declared.http_fault.HttpFault.TheVariants.{Read, Short, Coding, BodyTooLong, Memory}
+
+-- a line of at most 1,024 bytes
+pub record IsLine (line : ChunkLine) : Type 0 where
+  pub valid : IsChunkLine line
+  pub short : length (print_chunk_line line) ≤ 1024
+
+-- a chunk: its line and its bytes
+pub record Chunk : Type 0 where
+  pub line : ChunkLine
+  pub bytes : List ℕ
+
+abbrev pub print_chunk : Chunk → List ℕ
+print_chunk chunk = print_chunk_line chunk.line ++ (chunk.bytes ++ crlf_bytes)
+
+-- the line says how many bytes follow, which is not 0
+pub record IsChunk (chunk : Chunk) : Type 0 where
+  pub line : IsLine chunk.line
+  pub size : length chunk.bytes ≡ chunk_size chunk.line
+  pub some : 0 < length chunk.bytes
+
+-- the text of chunks in a row, and their bytes
+abbrev pub print_chunks : List Chunk → List ℕ
+print_chunks chunks = flat_map print_chunk chunks
+
+abbrev pub bytes_of : List Chunk → List ℕ
+bytes_of chunks = flat_map (λ chunk. chunk.bytes) chunks
+
+-- a trailer section: at most 64 fields and 8,192 bytes
+pub record IsTrailers (fields : List Field) (last : LineEnd) : Type 0 where
+  pub valid : All IsField fields
+  pub few : length fields ≤ 64
+  pub short : length (print_section fields last) ≤ 8192
+
+-- the text begins with this chunked body: the chunks, a line of size 0, and a trailer section
+pub record IsChunked (text : List ℕ) (chunks : List Chunk) : Type 0 where
+  pub valid : All IsChunk chunks
+  pub last : ChunkLine
+  pub last_valid : IsLine last
+  pub size : chunk_size last ≡ 0
+  pub fields : List Field
+  pub end : LineEnd
+  pub trailers : IsTrailers fields end
+  pub rest : List ℕ
+  pub text_is : text ≡ print_chunks chunks ++ (print_chunk_line last ++ (print_section fields end ++ rest))
+
+-- whatever bytes follow, the text begins with no line of at most 1,024 bytes
+abbrev pub NeverBeginsWithLine : List ℕ → Type 0
+NeverBeginsWithLine text = (more : List ℕ) (line : ChunkLine) (rest : List ℕ) → IsLine line → text ++ more ≡ print_chunk_line line ++ rest → ⊥
+
+-- the text begins with no whole line, but may come to be one
+pub record IsUnfinishedLine (text : List ℕ) : Type 0 where
+  pub short : length text < 1024
+  pub not_whole : HasNoChunkLine text
+  pub may_become : MayBecomeChunkLine text
+
+-- whatever bytes follow, the text begins with no trailer section
+abbrev pub NeverBeginsWithTrailers : List ℕ → Type 0
+NeverBeginsWithTrailers text = (more : List ℕ) (fields : List Field) (end : LineEnd) (rest : List ℕ) → IsTrailers fields end → text ++ more ≡ print_section fields end ++ rest → ⊥
+
+-- the text begins with no whole section, but may come to be one
+pub record IsUnfinishedTrailers (text : List ℕ) : Type 0 where
+  pub short : length text < 8192
+  pub not_whole : HasNoSection text
+  pub may_become : MayBecomeSection text
+
+-- whatever bytes follow, the text does not begin with CR LF
+abbrev pub NeverBeginsWithEnd : List ℕ → Type 0
+NeverBeginsWithEnd text = (more rest : List ℕ) → text ++ more ≡ crlf_bytes ++ rest → ⊥
+
+-- behind a chunk's line so many bytes and CR LF are wanted: what breaks off, and what is wrong
+abbrev pub IsBadChunk : ℕ → List ℕ → Type 0
+IsBadChunk size text = (bytes : List ℕ) × (rest : List ℕ) × (length bytes ≡ size) × (text ≡ bytes ++ rest) × NeverBeginsWithEnd rest
+
+-- behind the line of a chunk, and behind the last line
+abbrev pub IsUnfinishedBehind : ℕ → List ℕ → Type 0
+IsUnfinishedBehind zero text = IsUnfinishedTrailers text
+IsUnfinishedBehind (suc size) text = length text < suc size + 2
+
+abbrev pub IsBadBehind : ℕ → List ℕ → Type 0
+IsBadBehind zero text = NeverBeginsWithTrailers text
+IsBadBehind (suc size) text = IsBadChunk (suc size) text
+
+-- the text is this line and the rest
+pub record IsLineBefore (text : List ℕ) (line : ChunkLine) (rest : List ℕ) : Type 0 where
+  pub valid : IsLine line
+  pub text_is : text ≡ print_chunk_line line ++ rest
+
+-- why no chunk and no end follows, where there is room for so many bytes
+abbrev pub IsWhyNoChunk : ℕ → HttpFault → List ℕ → Type 0
+IsWhyNoChunk room Short text =
+    IsUnfinishedLine text ⊎ ((line : ChunkLine) × (rest : List ℕ) × IsLineBefore text line rest × IsUnfinishedBehind (chunk_size line) rest)
+IsWhyNoChunk room Coding text =
+    NeverBeginsWithLine text ⊎ ((line : ChunkLine) × (rest : List ℕ) × IsLineBefore text line rest × IsBadBehind (chunk_size line) rest)
+IsWhyNoChunk room BodyTooLong text =
+    (line : ChunkLine) × (rest : List ℕ) × IsLineBefore text line rest × (room < chunk_size line)
+IsWhyNoChunk room _ text = ⊥
+
+-- the text begins with chunks of at most so many bytes together, behind which there is neither a chunk nor the end
+pub record IsNotChunked (most : ℕ) (fault : HttpFault) (text : List ℕ) : Type 0 where
+  pub chunks : List Chunk
+  pub rest : List ℕ
+  pub valid : All IsChunk chunks
+  pub fits : length (bytes_of chunks) ≤ most
+  pub text_is : text ≡ print_chunks chunks ++ rest
+  pub why : IsWhyNoChunk (most - length (bytes_of chunks)) fault rest
+
+-- the same of a reader's bytes; a reader that fails and want of memory say nothing
+abbrev pub IsChunkedFault : ℕ → Option (List ℕ) → HttpFault → Type 0
+IsChunkedFault most remaining Read = ⊤
+IsChunkedFault most remaining Memory = ⊤
+IsChunkedFault most remaining fault = IfSome remaining (IsNotChunked most fault)
+
+-- the faults of the parts
+
+abbrev pub IsLineFault : Option (List ℕ) → HttpFault → Type 0
+IsLineFault remaining Read = ⊤
+IsLineFault remaining Short = IfSome remaining IsUnfinishedLine
+IsLineFault remaining Coding = IfSome remaining NeverBeginsWithLine
+IsLineFault remaining _ = ⊥
+
+abbrev pub IsTrailersFault : Option (List ℕ) → HttpFault → Type 0
+IsTrailersFault remaining Read = ⊤
+IsTrailersFault remaining Short = IfSome remaining IsUnfinishedTrailers
+IsTrailersFault remaining Coding = IfSome remaining NeverBeginsWithTrailers
+IsTrailersFault remaining _ = ⊥
+
+abbrev pub IsEndFault : Option (List ℕ) → HttpFault → Type 0
+IsEndFault remaining Read = ⊤
+IsEndFault remaining Short = IfSome remaining (λ text. length text < 2)
+IsEndFault remaining Coding = IfSome remaining NeverBeginsWithEnd
+IsEndFault remaining _ = ⊥
+
+abbrev pub IsChunkFault : ℕ → Option (List ℕ) → HttpFault → Type 0
+IsChunkFault size remaining Read = ⊤
+IsChunkFault size remaining Memory = ⊤
+IsChunkFault size remaining Short = IfSome remaining (λ text. length text < size + 2)
+IsChunkFault size remaining Coding = IfSome remaining (IsBadChunk size)
+IsChunkFault size remaining _ = ⊥
+
+-- the reader gave a line of that size, and a trailer section
+pub record IsLineTaken (old new : Option (List ℕ)) (size : ℕ) : Type 0 where
+  pub line : ChunkLine
+  pub valid : IsLine line
+  pub size_is : size ≡ chunk_size line
+  pub taken : Consumes old new (print_chunk_line line)
+
+pub record AreTrailersTaken (old new : Option (List ℕ)) : Type 0 where
+  pub fields : List Field
+  pub end : LineEnd
+  pub valid : IsTrailers fields end
+  pub taken : Consumes old new (print_section fields end)
+
+-- the reader gave that many bytes and CR LF, which the body has more
+pub record IsChunkTaken (old new : Option (List ℕ)) (size : ℕ) (before after : List ℕ) : Type 0 where
+  pub bytes : List ℕ
+  pub size_is : length bytes ≡ size
+  pub added : after ≡ before ++ bytes
+  pub taken : Consumes old new (bytes ++ crlf_bytes)
+
+-- the bytes of the body that the text begins with
+abbrev pub IsBodyChunked : List ℕ → List ℕ → Type 0
+IsBodyChunked body text = (chunks : List Chunk) × IsChunked text chunks × (body ≡ bytes_of chunks)

@@ -1,0 +1,161 @@
+-- What the head of a reply says (RFC 9110, sections 8.4, 8.6, 14.4 and 15; RFC 9112, sections 6 and 7).
+use Rattle.std.specs.Prelude.{◌≡◌, ◌==◌, ◌+◌, ◌-◌, ◌&&◌, ◌||◌, not, ℕ, List, [], ◌∷◌, Bool, true, false, nat_lt, codes, if◌then◌else◌, Option, None, Some, Result, Ok, Err, ⊤}
+use Rattle.std.specs.Result.{result_ok}
+use Rattle.std.specs.Option.{option_and_then, option_map_or}
+use Rattle.std.specs.List.{list_all}
+use Rattle.std.specs.Str.{str_eq_ignore_ascii_case}
+use Rattle.httparse.specs.Grammar.{ResponseHead, status_code}
+use Rattle.httparse.specs.Spans.{IsResponseWithin, IsResponseAt}
+use Rattle.feed_range.specs.Text.{number_of, in_64_bits}
+use Rattle.feed_range.specs.Content.{content_range}
+use Rattle.feed_range.specs.declared.content.ContentRange.{ContentRange}
+use Rattle.feed_range.specs.declared.content.ContentRange.TheVariants as range
+use Rattle.feed_http.specs.Fields.{values_named, only, has_any, first_of}
+use Rattle.feed_http.specs.declared.http_fault.HttpFault.{HttpFault}
+use Rattle.feed_http.specs.declared.http_fault.HttpFault.TheVariants as fault
+use Rattle.feed_http.specs.declared.fetching.got.Method.{Method}
+use Rattle.feed_http.specs.declared.fetching.got.Method.TheVariants.{Get, Head}
+use Rattle.feed_http.specs.declared.fetching.judge.Reply.{Reply}
+use Rattle.feed_http.specs.declared.fetching.judge.Framing.{Framing}
+use Rattle.feed_http.specs.declared.fetching.judge.Framing.TheVariants.{Chunked, Sized, ToEnd}
+use Rattle.feed_http.specs.declared.fetching.judge.Judgement.{Judgement}
+use Rattle.feed_http.specs.declared.fetching.judge.Judgement.TheVariants.{Missing, Unsatisfied, Size, Part, Whole}
+
+abbrev pub is_get : Method → Bool
+is_get Get = true
+is_get Head = false
+
+-- the values of the fields of that name
+abbrev pub values : List ℕ → ResponseHead → List (List ℕ)
+values name head = values_named name head.fields
+
+-- a status by which the reply gives the file or a part of it
+abbrev pub gives_file : Method → ResponseHead → Bool
+gives_file method head = (status_code head == 200) || ((status_code head == 206) && is_get method)
+
+-- each content coding is `identity`, in any case
+abbrev pub is_identity : ResponseHead → Bool
+is_identity head = list_all (λ value. str_eq_ignore_ascii_case value (codes "identity")) (values (codes "content-encoding") head)
+
+-- the body is chunked, in a reply of HTTP/1.1
+abbrev pub is_chunked : ResponseHead → Bool
+is_chunked head =
+    (head.minor == 1)
+    && option_map_or (λ value. str_eq_ignore_ascii_case value (codes "chunked")) (only (values (codes "transfer-encoding") head)) false
+
+-- the body is coded for the transfer
+abbrev pub is_transfer_coded : ResponseHead → Bool
+is_transfer_coded head = has_any (values (codes "transfer-encoding") head)
+
+-- a coding that is not read
+abbrev pub is_coded_otherwise : Method → ResponseHead → Bool
+is_coded_otherwise method head = not (is_identity head) || (is_get method && is_transfer_coded head && not (is_chunked head))
+
+-- a length of 64 bits that a Content-Length value writes
+abbrev pub length_of : List ℕ → Option ℕ
+length_of value = option_and_then in_64_bits (number_of value)
+
+-- the value writes this length
+abbrev pub writes : ℕ → List ℕ → Bool
+writes length value = option_map_or (λ other. other == length) (length_of value) false
+
+-- the length that the first value writes, if they all write it
+abbrev pub agreed : List (List ℕ) → Option ℕ
+agreed all =
+    option_and_then (λ length. if list_all (writes length) all then Some length else None)
+    (option_and_then length_of (first_of all))
+
+-- the length that Content-Length fields state, where there is one
+abbrev pub stated_of : List (List ℕ) → Result (Option ℕ) HttpFault
+stated_of [] = Ok None
+stated_of (value ∷ more) = option_map_or (λ length. Ok (Some length)) (agreed (value ∷ more)) (Err fault.Length)
+
+abbrev pub content_length : List ℕ
+content_length = codes "content-length"
+
+abbrev pub stated_length : ResponseHead → Result (Option ℕ) HttpFault
+stated_length head = stated_of (values content_length head)
+
+-- a body ends by its length, or with the stream
+abbrev pub framed_by_length : Result (Option ℕ) HttpFault → Result Framing HttpFault
+framed_by_length (Ok (Some length)) = Ok (Sized length)
+framed_by_length (Ok None) = Ok ToEnd
+framed_by_length (Err e) = Err e
+
+-- how the body of a GET ends: by its chunks, or else as its length says
+abbrev pub framing_of : ResponseHead → Result Framing HttpFault
+framing_of head = if is_transfer_coded head then Ok Chunked else framed_by_length (stated_length head)
+
+-- what the Content-Range field says, if there is just one and it reads
+abbrev pub range_of : ResponseHead → Option ContentRange
+range_of head = option_and_then (λ value. result_ok (content_range value)) (only (values (codes "content-range") head))
+
+-- a part has just the length of its places
+abbrev pub part_framed : ℕ → Option ℕ → ℕ → Result Framing HttpFault → Result Judgement HttpFault
+part_framed first total count (Ok Chunked) = Ok (Part first total count Chunked)
+part_framed first total count (Ok ToEnd) = Ok (Part first total count ToEnd)
+part_framed first total count (Ok (Sized length)) = if length == count then Ok (Part first total count (Sized length)) else Err fault.Length
+part_framed first total count (Err e) = Err e
+
+-- a part names its places, of which a piece may have 1,048,576
+abbrev pub part_judged : Option ContentRange → Result Framing HttpFault → Result Judgement HttpFault
+part_judged (Some (range.Part first last total)) framing =
+    if nat_lt 1048576 (last - first + 1) then Err fault.BodyTooLong else part_framed first total (last - first + 1) framing
+part_judged (Some (range.Unsatisfied total)) framing = Err fault.Range
+part_judged None framing = Err fault.Range
+
+-- a whole file, which may have 67,108,864 bytes
+abbrev pub whole_judged : Result Framing HttpFault → Result Judgement HttpFault
+whole_judged (Ok Chunked) = Ok (Whole Chunked)
+whole_judged (Ok ToEnd) = Ok (Whole ToEnd)
+whole_judged (Ok (Sized length)) = if nat_lt 67108864 length then Err fault.BodyTooLong else Ok (Whole (Sized length))
+whole_judged (Err e) = Err e
+
+-- the length of the file, which the reply to a HEAD has to state
+abbrev pub size_judged : Result (Option ℕ) HttpFault → Result Judgement HttpFault
+size_judged (Ok (Some length)) = Ok (Size length)
+size_judged (Ok None) = Err fault.Length
+size_judged (Err e) = Err e
+
+-- the length of a file that has none of the places, if it is told
+abbrev pub unsatisfied_judged : Option ContentRange → Result Judgement HttpFault
+unsatisfied_judged (Some (range.Unsatisfied total)) = Ok (Unsatisfied (Some total))
+unsatisfied_judged (Some (range.Part first last total)) = Err fault.Range
+unsatisfied_judged None = Err fault.Range
+
+abbrev pub unsatisfied_part : ResponseHead → Result Judgement HttpFault
+unsatisfied_part head =
+    if has_any (values (codes "content-range") head) then unsatisfied_judged (range_of head) else Ok (Unsatisfied None)
+
+-- a reply with the file or a part of it
+abbrev pub file_judged : Method → ResponseHead → Result Judgement HttpFault
+file_judged method head =
+    if is_coded_otherwise method head then Err fault.Coding
+    else (if not (is_get method) then size_judged (stated_length head)
+    else (if status_code head == 206 then part_judged (range_of head) (framing_of head)
+    else whole_judged (framing_of head)))
+
+-- what the head says: an answer, how a body is to be read, or the first fault
+abbrev pub judged : Method → ResponseHead → Result Judgement HttpFault
+judged method head =
+    if status_code head == 404 then Ok Missing
+    else (if (status_code head == 416) && is_get method then unsatisfied_part head
+    else (if not (gives_file method head) then Err (fault.Status (status_code head))
+    else file_judged method head))
+
+-- the parts of a reply that was read lie in its buffer
+abbrev pub IsInBuffer : Reply → Type 0
+IsInBuffer reply = IsResponseWithin reply.buffer.now reply.headers.now reply.spans
+
+-- the reply that was read has this head
+abbrev pub HasHead : Reply → ResponseHead → Type 0
+HasHead reply head = IsResponseAt reply.buffer.now reply.headers.now reply.spans head
+
+-- a part with a length has that of its places
+abbrev pub IsSizedAs : ℕ → Framing → Type 0
+IsSizedAs count (Sized size) = size ≡ count
+IsSizedAs count framing = ⊤
+
+abbrev pub IsSizedRight : Judgement → Type 0
+IsSizedRight (Part first total count framing) = IsSizedAs count framing
+IsSizedRight judgement = ⊤

@@ -1,0 +1,14 @@
+pub mod RequestHeads
+pub mod Fields
+pub mod Shelves
+pub mod Replies
+pub mod Requests
+pub mod Served
+pub mod RequestTexts
+pub mod ReplyHeads
+pub mod ReplyReads
+pub mod Judgements
+pub mod Bodies
+pub mod Chunks
+pub mod Got
+pub mod Laws

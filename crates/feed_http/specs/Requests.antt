@@ -1,0 +1,66 @@
+-- What a request asks of the server (RFC 9112, section 3; RFC 9110, sections 9, 13.1.5 and 14.2).
+use Rattle.std.specs.Prelude.{◌≡◌, ◌==◌, ◌&&◌, ◌||◌, not, ℕ, List, [], ◌∷◌, Bool, drop, codes, if◌then◌else◌, Option, None, is_none, position, MatchOption}
+use Rattle.std.specs.Option.{option_map_or}
+use Rattle.std.specs.Str.{bytes_eq}
+use Rattle.httparse.specs.Grammar.{RequestHead}
+use Rattle.httparse.specs.Spans.{IsRequestWithin, IsRequestAt}
+use Rattle.feed_names.specs.ReleaseName.{Name, IsName}
+use Rattle.feed_range.specs.Text.{slash, strip_prefix}
+use Rattle.feed_range.specs.Ask.{ask_of}
+use Rattle.feed_range.specs.declared.ask.RangeAsk.{RangeAsk}
+use Rattle.feed_range.specs.declared.ask.RangeAsk.TheVariants.{Whole}
+use Rattle.feed_http.specs.Fields.{values_named, only, has_any}
+use Rattle.feed_http.specs.declared.serving.request.Request.{Request}
+
+-- what stands from the first slash on
+abbrev pub from_slash : List ℕ → List ℕ
+from_slash text = option_map_or (λ place. drop place text) (position (λ byte. byte == slash) text) []
+
+-- the path of a target, before which `http://` and a host may stand
+abbrev pub path_of : List ℕ → List ℕ
+path_of target = option_map_or from_slash (strip_prefix (codes "http://") target) target
+
+-- the path is a slash and the name of this release
+pub record NamesRelease (target : List ℕ) (name : Name) : Type 0 where
+  pub text : List ℕ
+  pub path : path_of target ≡ slash ∷ text
+  pub is_name : IsName text name
+
+-- the release that the target names, if it names one
+abbrev pub IsNamedBy : List ℕ → Option Name → Type 0
+IsNamedBy target named = MatchOption named ((name : Name) → ¬ (NamesRelease target name)) (NamesRelease target)
+
+-- a request of HTTP/1.1 has not just one Host field
+abbrev pub lacks_host : RequestHead → Bool
+lacks_host head = (head.minor == 1) && is_none (only (values_named (codes "host") head.fields))
+
+-- only the head of the reply is asked for
+abbrev pub is_head : RequestHead → Bool
+is_head head = bytes_eq head.method (codes "HEAD")
+
+-- the file is asked for
+abbrev pub is_get : RequestHead → Bool
+is_get head = bytes_eq head.method (codes "GET")
+
+-- the method is neither GET nor HEAD, or a coded body follows
+abbrev pub is_unsupported : RequestHead → Bool
+is_unsupported head =
+    not (is_get head || is_head head) || has_any (values_named (codes "transfer-encoding") head.fields)
+
+-- the Range value that counts: the only one, and under no condition
+abbrev pub range_value : RequestHead → Option (List ℕ)
+range_value head =
+    if has_any (values_named (codes "if-range") head.fields) then None
+    else only (values_named (codes "range") head.fields)
+
+-- the part of a file of that length that is asked for
+abbrev pub ask_for : RequestHead → ℕ → RangeAsk
+ask_for head length = option_map_or (λ value. ask_of value length) (range_value head) Whole
+
+-- the parts of a request that was read lie in its buffer
+abbrev pub IsInBuffer : Request → Type 0
+IsInBuffer request = IsRequestWithin request.buffer.now request.headers.now request.spans
+
+-- the request that was read has this head
+abbrev pub HasHead : Request → RequestHead → Type 0
+HasHead request head = IsRequestAt request.buffer.now request.headers.now request.spans head

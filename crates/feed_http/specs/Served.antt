@@ -1,0 +1,103 @@
+-- What the server replies to a request, and what is written of it.
+use Rattle.std.specs.Prelude.{◌≡◌, ℕ, ◌+◌, ◌⊎◌, List, [], ◌++◌, length, take, slice_range, if◌then◌else◌, Option, None, Some, Result, Ok, Err, ⊤}
+use Rattle.std.specs.Option.{option_and_then}
+use Rattle.std.specs.Io.KnownBytes.{Keeps, Appends}
+use Rattle.httparse.specs.Grammar.{RequestHead}
+use Rattle.feed_names.specs.ReleaseName.{Name}
+use Rattle.feed_range.specs.declared.ask.RangeAsk.{RangeAsk}
+use Rattle.feed_range.specs.declared.ask.RangeAsk.TheVariants as ask
+use Rattle.feed_http.specs.declared.http_fault.HttpFault.{HttpFault}
+use Rattle.feed_http.specs.declared.http_fault.HttpFault.TheVariants.{Read, Write, Short, Memory, Shelf}
+use Rattle.feed_http.specs.declared.serving.reply_head.ReplyHead.{ReplyHead}
+use Rattle.feed_http.specs.declared.serving.reply_head.ReplyHead.TheVariants.{Whole, Part, BadRequest, NotFound, Unsatisfied, NotImplemented}
+use Rattle.feed_http.specs.Shelves.{Files}
+use Rattle.feed_http.specs.Requests.{lacks_host, is_unsupported, is_head, ask_for}
+use Rattle.feed_http.specs.RequestHeads.{NeverBeginsWithHead, IsUnfinished}
+use Rattle.feed_http.specs.Replies.{status_of, head_text}
+
+-- a reply: its head and its body
+pub record Reply : Type 0 where
+  pub head : ReplyHead
+  pub body : List ℕ
+
+-- a reply with this body, and one without
+abbrev pub reply_of : ReplyHead → List ℕ → Reply
+reply_of head body = record { head = head; body = body }
+
+abbrev pub head_alone : ReplyHead → Reply
+head_alone head = reply_of head []
+
+-- the bytes of a reply
+abbrev pub reply_text : Reply → List ℕ
+reply_text reply = head_text reply.head ++ reply.body
+
+-- the reply to a GET, by the part of the file that it asks for
+abbrev pub part_reply : RangeAsk → List ℕ → Reply
+part_reply ask.Whole file = reply_of (Whole (length file)) file
+part_reply (ask.Part first last) file = reply_of (Part first last (length file)) (slice_range file first (last + 1))
+part_reply ask.Unsatisfied file = head_alone (Unsatisfied (length file))
+
+-- the reply to a request for this file, if it is on the shelf
+abbrev pub file_reply : RequestHead → Option (List ℕ) → Reply
+file_reply head None = head_alone NotFound
+file_reply head (Some file) =
+    if is_head head then head_alone (Whole (length file))
+    else part_reply (ask_for head (length file)) file
+
+-- the reply to a request with this head, whose target names this release, if any
+abbrev pub served : Files → RequestHead → Option Name → Reply
+served files head named =
+    if lacks_host head then head_alone BadRequest
+    else (if is_unsupported head then head_alone NotImplemented
+    else file_reply head (option_and_then files named))
+
+-- the shelf failed: nothing was written, or the head and so many bytes of the body
+abbrev pub IsCutShort : Reply → Option (List ℕ) → Option (List ℕ) → Type 0
+IsCutShort reply old new =
+    Keeps old new ⊎ ((sent : ℕ) × Appends old new (head_text reply.head ++ take sent reply.body))
+
+-- what was written where a request was answered with this fault
+abbrev pub IsFaultOf : Reply → HttpFault → Option (List ℕ) → Option (List ℕ) → Type 0
+IsFaultOf reply Read old new = Keeps old new
+IsFaultOf reply Write old new = ⊤
+IsFaultOf reply Memory old new = IsCutShort reply old new
+IsFaultOf reply Shelf old new = IsCutShort reply old new
+IsFaultOf reply _ old new = ⊥
+
+-- the reply was written and its status given, or the exchange failed
+abbrev pub IsOutcomeOf : Reply → Result ℕ HttpFault → Option (List ℕ) → Option (List ℕ) → Type 0
+IsOutcomeOf reply (Ok status) old new = (status ≡ status_of reply.head) × Appends old new (reply_text reply)
+IsOutcomeOf reply (Err fault) old new = IsFaultOf reply fault old new
+
+-- the same where the text begins with no head within the limits: it is refused, and never can, or breaks off
+abbrev pub IsRefusalOf : ℕ → ℕ → List ℕ → Result ℕ HttpFault → Option (List ℕ) → Option (List ℕ) → Type 0
+IsRefusalOf bytes fields text (Ok status) old new =
+    NeverBeginsWithHead bytes fields text × (status ≡ 400) × Appends old new (reply_text (head_alone BadRequest))
+IsRefusalOf bytes fields text (Err Short) old new = IsUnfinished bytes text × Keeps old new
+IsRefusalOf bytes fields text (Err Read) old new = Keeps old new
+IsRefusalOf bytes fields text (Err Write) old new = ⊤
+IsRefusalOf bytes fields text (Err _) old new = ⊥
+
+-- places of a file were sent, or as many of them as the shelf gave
+abbrev pub IsSending : List ℕ → Result (Unit {0}) HttpFault → Option (List ℕ) → Option (List ℕ) → Type 0
+IsSending body (Ok done) old new = Appends old new body
+IsSending body (Err Write) old new = ⊤
+IsSending body (Err Memory) old new = (sent : ℕ) × Appends old new (take sent body)
+IsSending body (Err Shelf) old new = (sent : ℕ) × Appends old new (take sent body)
+IsSending body (Err _) old new = ⊥
+
+-- the faults of a reply
+abbrev pub IsReplyFault : HttpFault → Type 0
+IsReplyFault Write = ⊤
+IsReplyFault Memory = ⊤
+IsReplyFault Shelf = ⊤
+IsReplyFault _ = ⊥
+
+-- the faults of an exchange on the server's end
+abbrev pub IsServingFault : HttpFault → Type 0
+IsServingFault Read = ⊤
+IsServingFault Write = ⊤
+IsServingFault Short = ⊤
+IsServingFault Memory = ⊤
+IsServingFault Shelf = ⊤
+IsServingFault _ = ⊥

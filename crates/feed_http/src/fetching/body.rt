@@ -1,0 +1,73 @@
+//! Bodies by their length, and bodies that end with the stream (RFC 9112, section 6.3).
+ghost use Rattle.std.specs.Prelude.{◌≡◌, ◌≤◌, ◌<◌, length, OnOk, IfOk, IfErr};
+ghost use Rattle.std.specs.Io.KnownBytes.{Consumes, IsAtEnd};
+ghost use Rattle.feed_http.specs.Bodies.{IsFillFault, IsSizedFault, IsEndlessFault};
+
+use crate::http_fault::HttpFault;
+use std::alloc::Global;
+use std::io::Read;
+
+const BLOCK: usize = 8_192;
+
+/// Fills the buffer, however the reader cuts its bytes.
+pub fn fill<R: Read>(reader: &mut R, buffer: &mut [u8]) -> Result<(), HttpFault>
+    ensures taken { OnOk result
+        (Consumes (R.remaining reader.old) (R.remaining reader.new) buffer.new) }
+    ensures faults { IfErr result (IsFillFault (length buffer.old) (R.remaining reader.old)) }
+{
+    let mut filled = 0usize;
+    while filled < buffer.len() {
+        let Ok(count) = reader.read(&mut buffer[filled..]) else {
+            return Err(HttpFault::Read);
+        };
+        if count == 0 {
+            return Err(HttpFault::Short);
+        }
+        filled += count;
+    }
+    Ok(())
+}
+
+/// Reads a body of so many bytes.
+pub fn read_sized<R: Read>(alloc: Global, reader: &mut R, size: usize) -> Result<Vec<u8>, HttpFault>
+    ensures size { IfOk result (λ body. length body.items ≡ size) }
+    ensures taken { IfOk result (λ body.
+        Consumes (R.remaining reader.old) (R.remaining reader.new) body.items) }
+    ensures faults { IfErr result (IsSizedFault size (R.remaining reader.old)) }
+{
+    let Ok(mut body) = vec![in alloc; 0u8; size] else {
+        return Err(HttpFault::Memory);
+    };
+    fill(reader, &mut body)?;
+    Ok(body)
+}
+
+/// Reads all bytes up to the end of the stream, of which there may be so many.
+pub fn read_to_end<R: Read>(
+    alloc: Global,
+    reader: &mut R,
+    most: usize,
+) -> Result<Vec<u8>, HttpFault>
+    ensures size { IfOk result (λ body. length body.items ≤ most) }
+    ensures taken { IfOk result (λ body.
+        Consumes (R.remaining reader.old) (R.remaining reader.new) body.items) }
+    ensures end { OnOk result (IsAtEnd (R.remaining reader.new)) }
+    ensures faults { IfErr result (IsEndlessFault most (R.remaining reader.old)) }
+{
+    let mut block = [0u8; BLOCK];
+    let mut body = Vec::new(alloc);
+    loop {
+        let Ok(count) = reader.read(&mut block) else {
+            return Err(HttpFault::Read);
+        };
+        if count == 0 {
+            return Ok(body);
+        }
+        if count > most - body.len() {
+            return Err(HttpFault::BodyTooLong);
+        }
+        let Ok(()) = body.extend_from_slice(&block[..count]) else {
+            return Err(HttpFault::Memory);
+        };
+    }
+}

@@ -1,0 +1,166 @@
+//! Chunked bodies (RFC 9112, section 7.1).
+ghost use Rattle.std.specs.Prelude.{◌≡◌, ◌≤◌, ◌<◌, [], ◌∷◌, length, Some, OnOk, IfOk, IfErr, IfSome, MatchOption};
+ghost use Rattle.std.specs.Io.KnownBytes.{Consumes};
+ghost use Rattle.httparse.specs.Ascii.{crlf_bytes};
+ghost use Rattle.httparse.specs.Grammar.{HasNoChunkLine, HasNoSection};
+ghost use Rattle.feed_http.specs.Chunks.{IsLineTaken, IsLineFault, AreTrailersTaken, IsTrailersFault, IsEndFault, IsChunkTaken, IsChunkFault, IsBodyChunked, IsChunkedFault};
+
+use crate::fetching::body::read_sized;
+use crate::http_fault::HttpFault;
+use arrayvec::ArrayVec;
+use httparse::spans::{EMPTY_HEADER_SPAN, parse_headers};
+use httparse::{Status, parse_chunk_size};
+use std::alloc::Global;
+use std::io::Read;
+
+// The most bytes of a chunk's line and of a trailer section, and the most trailer fields.
+const LINE_BYTES: usize = 1_024;
+
+const TRAILER_BYTES: usize = 8_192;
+
+const TRAILER_FIELDS: usize = 64;
+
+fn read_byte<R: Read>(reader: &mut R) -> Result<Option<u8>, HttpFault>
+    ensures byte { IfOk result (λ read. MatchOption read
+        (IfSome (R.remaining reader.old) (λ text. text ≡ []))
+        (λ byte. Consumes (R.remaining reader.old) (R.remaining reader.new) (byte ∷ []))) }
+    ensures faults { IfErr result (λ fault. fault ≡ HttpFault.Read) }
+{
+    let mut byte = [0u8; 1];
+    match reader.read(&mut byte) {
+        Ok(0) => Ok(None),
+        Ok(_) => Ok(Some(byte[0])),
+        Err(_) => Err(HttpFault::Read),
+    }
+}
+
+/// Reads the line of a chunk, and no byte more, and gives its size.
+fn read_line<R: Read>(reader: &mut R) -> Result<u64, HttpFault>
+    ensures line { IfOk result (IsLineTaken (R.remaining reader.old) (R.remaining reader.new)) }
+    ensures faults { IfErr result (IsLineFault (R.remaining reader.old)) }
+{
+    let mut line = ArrayVec::<u8, LINE_BYTES>::new();
+    while line.len() < LINE_BYTES {
+        let Some(byte) = read_byte(reader)? else {
+            return Err(fault_of_line(line.as_slice()));
+        };
+        line.push(byte);
+        if byte == b'\n' {
+            match parse_chunk_size(line.as_slice()) {
+                Ok(Status::Complete((_, size))) => return Ok(size),
+                Ok(Status::Partial) => {}
+                Err(_) => return Err(HttpFault::Coding),
+            }
+        }
+    }
+    Err(HttpFault::Coding)
+}
+
+// A line that can't be ended is wrong, even where it breaks off.
+fn fault_of_line(line: &[u8]) -> HttpFault
+    requires short { length line.now < 1024 }
+    requires not_whole { HasNoChunkLine line.now }
+    ensures { IsLineFault (Some line.now) result }
+{
+    match parse_chunk_size(line) {
+        Ok(Status::Partial) => HttpFault::Short,
+        Ok(Status::Complete(_)) => unreachable!(),
+        Err(_) => HttpFault::Coding,
+    }
+}
+
+fn read_trailers<R: Read>(reader: &mut R) -> Result<(), HttpFault>
+    ensures taken { OnOk result (AreTrailersTaken (R.remaining reader.old) (R.remaining reader.new)) }
+    ensures faults { IfErr result (IsTrailersFault (R.remaining reader.old)) }
+{
+    let mut headers = [EMPTY_HEADER_SPAN; TRAILER_FIELDS];
+    let mut section = ArrayVec::<u8, TRAILER_BYTES>::new();
+    while section.len() < TRAILER_BYTES {
+        let Some(byte) = read_byte(reader)? else {
+            return Err(fault_of_section(section.as_slice()));
+        };
+        section.push(byte);
+        if byte == b'\n' {
+            match parse_headers(section.as_slice(), &mut headers) {
+                Ok(Status::Complete(_)) => return Ok(()),
+                Ok(Status::Partial) => {}
+                Err(_) => return Err(HttpFault::Coding),
+            }
+        }
+    }
+    Err(HttpFault::Coding)
+}
+
+fn fault_of_section(section: &[u8]) -> HttpFault
+    requires short { length section.now < 8192 }
+    requires not_whole { HasNoSection section.now }
+    ensures { IsTrailersFault (Some section.now) result }
+{
+    let mut headers = [EMPTY_HEADER_SPAN; TRAILER_FIELDS];
+    match parse_headers(section, &mut headers) {
+        Ok(Status::Partial) => HttpFault::Short,
+        Ok(Status::Complete(_)) => unreachable!(),
+        Err(_) => HttpFault::Coding,
+    }
+}
+
+fn read_end<R: Read>(reader: &mut R) -> Result<(), HttpFault>
+    ensures taken { OnOk result
+        (Consumes (R.remaining reader.old) (R.remaining reader.new) crlf_bytes) }
+    ensures faults { IfErr result (IsEndFault (R.remaining reader.old)) }
+{
+    match read_byte(reader)? {
+        Some(b'\r') => {}
+        Some(_) => return Err(HttpFault::Coding),
+        None => return Err(HttpFault::Short),
+    }
+    match read_byte(reader)? {
+        Some(b'\n') => Ok(()),
+        Some(_) => Err(HttpFault::Coding),
+        None => Err(HttpFault::Short),
+    }
+}
+
+fn read_chunk<R: Read>(
+    alloc: Global,
+    reader: &mut R,
+    body: &mut Vec<u8>,
+    size: usize,
+) -> Result<(), HttpFault>
+    ensures taken { OnOk result (IsChunkTaken (R.remaining reader.old) (R.remaining reader.new)
+        size body.old.items body.new.items) }
+    ensures faults { IfErr result (IsChunkFault size (R.remaining reader.old)) }
+{
+    let bytes = read_sized(alloc, reader, size)?;
+    read_end(reader)?;
+    let Ok(()) = body.extend_from_slice(&bytes) else {
+        return Err(HttpFault::Memory);
+    };
+    Ok(())
+}
+
+/// Reads a chunked body and its trailer fields, which are dropped. The body may have so many
+/// bytes.
+pub fn read_chunked<R: Read>(
+    alloc: Global,
+    reader: &mut R,
+    most: usize,
+) -> Result<Vec<u8>, HttpFault>
+    ensures size { IfOk result (λ body. length body.items ≤ most) }
+    ensures body { IfOk result (λ body.
+        IfSome (R.remaining reader.old) (IsBodyChunked body.items)) }
+    ensures faults { IfErr result (IsChunkedFault most (R.remaining reader.old)) }
+{
+    let mut body = Vec::new(alloc);
+    loop {
+        let size = read_line(reader)?;
+        if size == 0 {
+            read_trailers(reader)?;
+            return Ok(body);
+        }
+        if size > (most - body.len()) as u64 {
+            return Err(HttpFault::BodyTooLong);
+        }
+        read_chunk(alloc, reader, &mut body, size as usize)?;
+    }
+}

@@ -1,0 +1,270 @@
+//! What the head of a reply says (RFC 9110, sections 8.4, 8.6, 14.4 and 15; RFC 9112, section 6).
+ghost use Rattle.std.specs.Prelude.{◌≡◌, IfSome, IfOk, option_copied};
+ghost use Rattle.feed_range.specs.Content.{IsInOrder};
+ghost use Rattle.httparse.specs.Grammar.{ResponseHead};
+ghost use Rattle.feed_http.specs.Fields.{only, has_any, values_named};
+ghost use Rattle.feed_http.specs.Judgements.{is_identity, is_chunked, is_transfer_coded, is_coded_otherwise, stated_length, framing_of, framed_by_length, range_of, part_judged, part_framed, whole_judged, size_judged, unsatisfied_part, file_judged, judged, gives_file, IsInBuffer, HasHead, IsSizedRight};
+
+use crate::fetching::got::Method;
+use crate::fetching::length::agreed_length;
+use crate::heads::fields::{all_values_are, has_field, sole_value};
+use crate::http_fault::HttpFault;
+use feed_range::ContentRange;
+use httparse::spans::{HeaderSpan, ResponseSpans};
+
+// The most places of a piece, and the most bytes of a file.
+const MOST_PLACES: u64 = 1_048_576;
+
+pub const MOST_BYTES: u64 = 67_108_864;
+
+/// How a body ends.
+#[derive(Clone, Copy, Debug, PartialEq, Eq)]
+pub enum Framing {
+    Chunked,
+    /// After so many bytes.
+    Sized(u64),
+    /// With the stream.
+    ToEnd,
+}
+
+/// What a reply's head says: an answer, or which body follows.
+#[derive(Clone, Copy, Debug, PartialEq, Eq)]
+pub enum Judgement {
+    Missing,
+    Unsatisfied {
+        total: Option<u64>,
+    },
+    Size(u64),
+    Part {
+        first: u64,
+        total: Option<u64>,
+        count: u64,
+        framing: Framing,
+    },
+    Whole(Framing),
+}
+
+/// A reply's head, in the buffer into which it was read.
+#[derive(Clone, Copy)]
+pub struct Reply<'b> {
+    pub buffer: &'b [u8],
+    pub headers: &'b [HeaderSpan],
+    pub spans: ResponseSpans,
+}
+
+impl Reply<'_> {
+    fn sole_value(&self, name: &[u8]) -> Option<&[u8]>
+        requires { IsInBuffer self.now }
+        ensures { (head : ResponseHead) → HasHead self.now head
+            → option_copied result ≡ only (values_named name.now head.fields) }
+    {
+        sole_value(self.buffer, &self.headers[..self.spans.headers], name)
+    }
+
+    fn has_field(&self, name: &[u8]) -> bool
+        requires { IsInBuffer self.now }
+        ensures { (head : ResponseHead) → HasHead self.now head
+            → result ≡ has_any (values_named name.now head.fields) }
+    {
+        has_field(self.buffer, &self.headers[..self.spans.headers], name)
+    }
+
+    fn is_identity(&self) -> bool
+        requires { IsInBuffer self.now }
+        ensures { (head : ResponseHead) → HasHead self.now head → result ≡ is_identity head }
+    {
+        let headers = &self.headers[..self.spans.headers];
+        all_values_are(self.buffer, headers, b"content-encoding", b"identity")
+    }
+
+    fn is_transfer_coded(&self) -> bool
+        requires { IsInBuffer self.now }
+        ensures { (head : ResponseHead) → HasHead self.now head → result ≡ is_transfer_coded head }
+    {
+        self.has_field(b"transfer-encoding")
+    }
+
+    fn is_chunked(&self) -> bool
+        requires { IsInBuffer self.now }
+        ensures { (head : ResponseHead) → HasHead self.now head → result ≡ is_chunked head }
+    {
+        match self.sole_value(b"transfer-encoding") {
+            Some(value) => self.spans.version == 1 && value.eq_ignore_ascii_case(b"chunked"),
+            None => false,
+        }
+    }
+
+    fn is_coded_otherwise(&self, method: Method) -> bool
+        requires { IsInBuffer self.now }
+        ensures { (head : ResponseHead) → HasHead self.now head
+            → result ≡ is_coded_otherwise method head }
+    {
+        !self.is_identity()
+            || (method == Method::Get && self.is_transfer_coded() && !self.is_chunked())
+    }
+
+    fn stated_length(&self) -> Result<Option<u64>, HttpFault>
+        requires { IsInBuffer self.now }
+        ensures { (head : ResponseHead) → HasHead self.now head → result ≡ stated_length head }
+    {
+        if !self.has_field(b"content-length") {
+            return Ok(None);
+        }
+        match agreed_length(self.buffer, &self.headers[..self.spans.headers]) {
+            Some(length) => Ok(Some(length)),
+            None => Err(HttpFault::Length),
+        }
+    }
+
+    fn framing(&self) -> Result<Framing, HttpFault>
+        requires { IsInBuffer self.now }
+        ensures { (head : ResponseHead) → HasHead self.now head → result ≡ framing_of head }
+    {
+        if self.is_transfer_coded() {
+            return Ok(Framing::Chunked);
+        }
+        framed_by_length(self.stated_length())
+    }
+
+    fn range(&self) -> Option<ContentRange>
+        requires { IsInBuffer self.now }
+        ensures in_order { IfSome result IsInOrder }
+        ensures value { (head : ResponseHead) → HasHead self.now head → result ≡ range_of head }
+    {
+        match self.sole_value(b"content-range") {
+            Some(value) => ContentRange::read(value).ok(),
+            None => None,
+        }
+    }
+
+    fn gives_file(&self, method: Method) -> bool
+        requires { IsInBuffer self.now }
+        ensures { (head : ResponseHead) → HasHead self.now head → result ≡ gives_file method head }
+    {
+        self.spans.code == 200 || (self.spans.code == 206 && method == Method::Get)
+    }
+
+    fn judge_unsatisfied(&self) -> Result<Judgement, HttpFault>
+        requires { IsInBuffer self.now }
+        ensures value { (head : ResponseHead) → HasHead self.now head
+            → result ≡ unsatisfied_part head }
+        ensures sized { IfOk result IsSizedRight }
+    {
+        if !self.has_field(b"content-range") {
+            return Ok(Judgement::Unsatisfied { total: None });
+        }
+        match self.range() {
+            Some(ContentRange::Unsatisfied { total }) => {
+                Ok(Judgement::Unsatisfied { total: Some(total) })
+            }
+            _ => Err(HttpFault::Range),
+        }
+    }
+
+    fn judge_file(&self, method: Method) -> Result<Judgement, HttpFault>
+        requires { IsInBuffer self.now }
+        ensures value { (head : ResponseHead) → HasHead self.now head
+            → result ≡ file_judged method head }
+        ensures sized { IfOk result IsSizedRight }
+    {
+        if self.is_coded_otherwise(method) {
+            return Err(HttpFault::Coding);
+        }
+        if method == Method::Head {
+            return judge_size(self.stated_length());
+        }
+        if self.spans.code == 206 {
+            return judge_part(self.range(), self.framing());
+        }
+        judge_whole(self.framing())
+    }
+
+    /// What the head says of the reply to a request by that method, or the first fault.
+    pub fn judge(&self, method: Method) -> Result<Judgement, HttpFault>
+        requires { IsInBuffer self.now }
+        ensures value { (head : ResponseHead) → HasHead self.now head
+            → result ≡ judged method head }
+        ensures sized { IfOk result IsSizedRight }
+    {
+        if self.spans.code == 404 {
+            return Ok(Judgement::Missing);
+        }
+        if self.spans.code == 416 && method == Method::Get {
+            return self.judge_unsatisfied();
+        }
+        if !self.gives_file(method) {
+            return Err(HttpFault::Status(self.spans.code));
+        }
+        self.judge_file(method)
+    }
+}
+
+fn framed_by_length(length: Result<Option<u64>, HttpFault>) -> Result<Framing, HttpFault>
+    ensures { result ≡ framed_by_length length }
+{
+    match length {
+        Ok(Some(length)) => Ok(Framing::Sized(length)),
+        Ok(None) => Ok(Framing::ToEnd),
+        Err(fault) => Err(fault),
+    }
+}
+
+fn judge_size(length: Result<Option<u64>, HttpFault>) -> Result<Judgement, HttpFault>
+    ensures value { result ≡ size_judged length }
+    ensures sized { IfOk result IsSizedRight }
+{
+    match length {
+        Ok(Some(length)) => Ok(Judgement::Size(length)),
+        Ok(None) => Err(HttpFault::Length),
+        Err(fault) => Err(fault),
+    }
+}
+
+fn judge_part(
+    range: Option<ContentRange>,
+    framing: Result<Framing, HttpFault>,
+) -> Result<Judgement, HttpFault>
+    requires { IfSome range IsInOrder }
+    ensures value { result ≡ part_judged range framing }
+    ensures sized { IfOk result IsSizedRight }
+{
+    let Some(ContentRange::Part { first, last, total }) = range else {
+        return Err(HttpFault::Range);
+    };
+    if last - first >= MOST_PLACES {
+        return Err(HttpFault::BodyTooLong);
+    }
+    frame_part(first, total, last - first + 1, framing)
+}
+
+fn frame_part(
+    first: u64,
+    total: Option<u64>,
+    count: u64,
+    framing: Result<Framing, HttpFault>,
+) -> Result<Judgement, HttpFault>
+    ensures value { result ≡ part_framed first total count framing }
+    ensures sized { IfOk result IsSizedRight }
+{
+    let framing = framing?;
+    match framing {
+        Framing::Sized(length) if length != count => Err(HttpFault::Length),
+        _ => Ok(Judgement::Part {
+            first,
+            total,
+            count,
+            framing,
+        }),
+    }
+}
+
+fn judge_whole(framing: Result<Framing, HttpFault>) -> Result<Judgement, HttpFault>
+    ensures value { result ≡ whole_judged framing }
+    ensures sized { IfOk result IsSizedRight }
+{
+    let framing = framing?;
+    match framing {
+        Framing::Sized(length) if length > MOST_BYTES => Err(HttpFault::BodyTooLong),
+        _ => Ok(Judgement::Whole(framing)),
+    }
+}

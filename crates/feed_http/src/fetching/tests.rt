@@ -1,0 +1,361 @@
+use crate::HttpFault;
+use crate::fetching::got::{Got, Method};
+use crate::fetching::reply::read_reply;
+use crate::fetching::request_text::{is_host, write_head_request, write_request};
+use crate::test_ends::{Cuts, Sink};
+use feed_names::ReleaseName;
+use std::alloc::Global;
+use std::test::Fail;
+
+const NAME: &str = "T_2024-01-01.txt";
+
+const PART: &str = "HTTP/1.1 206 Partial Content\r\n\
+    Content-Type: application/octet-stream\r\n\
+    Accept-Ranges: bytes\r\n\
+    Content-Range: bytes 2-4/10\r\n\
+    Content-Length: 3\r\n\
+    Connection: close\r\n\r\n\
+    234";
+
+/// What a reply gives, as a text.
+fn told(alloc: Global, reply: &[u8], method: Method, step: usize) -> Result<String, Fail> {
+    let mut reader = Cuts::new(reply, step);
+    tell(alloc, read_reply(alloc, &mut reader, method))
+}
+
+fn tell(alloc: Global, got: Result<Got, HttpFault>) -> Result<String, Fail> {
+    Ok(match got {
+        Ok(
+            Got::Piece {
+                first,
+                total,
+                bytes,
+            },
+        ) => {
+            let text = String::from_utf8_lossy(alloc, bytes.as_slice())?;
+            format!(in alloc; "piece {first} {total:?} {text}")?
+        }
+        Ok(Got::Whole { bytes }) => {
+            let text = String::from_utf8_lossy(alloc, bytes.as_slice())?;
+            format!(in alloc; "whole {text}")?
+        }
+        Ok(Got::Size(size)) => format!(in alloc; "size {size}")?,
+        Ok(Got::Missing) => format!(in alloc; "missing")?,
+        Ok(Got::Unsatisfied { total }) => format!(in alloc; "unsatisfied {total:?}")?,
+        Err(fault) => format!(in alloc; "{fault}")?,
+    })
+}
+
+#[test]
+fn requests_are_written(rt: HostRuntime) -> Result<(), Fail> {
+    let host = b"127.0.0.1:8080".as_slice();
+    let name = ReleaseName::parse(rt.alloc(), NAME.as_bytes())?;
+    assert!(rt; is_host(host));
+    let mut sink = Sink::new(rt.alloc());
+    assert_eq!(rt; write_request(&mut sink, host, &name, 2, 4), Ok(()));
+    let wanted = "GET /T_2024-01-01.txt HTTP/1.1\r\n\
+        Host: 127.0.0.1:8080\r\n\
+        Range: bytes=2-4\r\n\
+        Accept-Encoding: identity\r\n\
+        Connection: close\r\n\r\n";
+    assert_eq!(rt; sink.bytes.as_slice(), wanted.as_bytes());
+    let mut sink = Sink::new(rt.alloc());
+    assert_eq!(rt; write_head_request(&mut sink, host, &name), Ok(()));
+    let wanted = "HEAD /T_2024-01-01.txt HTTP/1.1\r\n\
+        Host: 127.0.0.1:8080\r\n\
+        Accept-Encoding: identity\r\n\
+        Connection: close\r\n\r\n";
+    assert_eq!(rt; sink.bytes.as_slice(), wanted.as_bytes());
+    let mut failing = Sink::failing(rt.alloc(), 1);
+    let fault = Err(HttpFault::Write);
+    assert_eq!(rt; write_request(&mut failing, host, &name, 2, 4), fault);
+    let mut failing = Sink::failing(rt.alloc(), 1);
+    assert_eq!(rt; write_head_request(&mut failing, host, &name), fault);
+    Ok(())
+}
+
+// The longest request: a name of 115 bytes, a host of 255, and the greatest places.
+#[test]
+fn the_longest_request_is_written(rt: HostRuntime) -> Result<(), Fail> {
+    let mut text = vec![in rt.alloc(); b'a'; 100]?;
+    text.extend_from_slice(b"_2024-01-01.txt")?;
+    let name = ReleaseName::parse(rt.alloc(), &text)?;
+    let host = vec![in rt.alloc(); b'h'; 255]?;
+    assert!(rt; is_host(&host));
+    let mut sink = Sink::new(rt.alloc());
+    assert_eq!(rt;
+        write_request(&mut sink, &host, &name, u64::MAX, u64::MAX),
+        Ok(())
+    );
+    assert_eq!(rt; sink.bytes.len(), 498);
+    Ok(())
+}
+
+#[test]
+fn hosts_are_told(rt: HostRuntime) -> Result<(), Fail> {
+    let table = [
+        ("h", true),
+        ("127.0.0.1:8080", true),
+        ("[::1]:80", true),
+        ("a-b.example", true),
+        ("", false),
+        ("a b", false),
+        ("a_b", false),
+        ("a/b", false),
+        ("h\r\n", false),
+    ];
+    for (host, wanted) in table {
+        assert_eq!(rt; is_host(host.as_bytes()), wanted, "{host}");
+    }
+    let long = vec![in rt.alloc(); b'h'; 256]?;
+    assert!(rt; !is_host(&long));
+    Ok(())
+}
+
+// Replies to a GET. The first is that of the exchange.
+#[test]
+fn replies_are_read(rt: HostRuntime) -> Result<(), Fail> {
+    let table = [
+        (PART, "piece 2 Some(10) 234"),
+        (
+            "HTTP/1.1 100 Continue\r\n\r\nHTTP/1.1 206 Partial Content\r\n\
+             Content-Range: bytes 2-4/10\r\nContent-Length: 3\r\n\r\n234",
+            "piece 2 Some(10) 234",
+        ),
+        (
+            "HTTP/1.1 206 x\r\nContent-Range: bytes 0-9/10\r\nContent-Length: 9\r\n\r\n0123456789",
+            "Length",
+        ),
+        (
+            "HTTP/1.1 206 x\r\nContent-Range: bytes 0-9/10\r\nContent-Length: 10\r\n\r\n012345678",
+            "Short",
+        ),
+        (
+            "HTTP/1.1 206 x\r\nContent-Range: bytes 0-9/10\r\nTransfer-Encoding: Chunked\r\n\r\n\
+             4\r\n0123\r\n6\r\n456789\r\n0\r\n\r\n",
+            "piece 0 Some(10) 0123456789",
+        ),
+        (
+            "HTTP/1.1 206 x\r\nContent-Range: bytes 0-9/*\r\nTransfer-Encoding: chunked\r\n\r\n\
+             0A;a=b\r\n0123456789\r\n0;c\r\nA: b\r\nC: d\r\n\r\nrest",
+            "piece 0 None 0123456789",
+        ),
+        (
+            "HTTP/1.1 206 x\r\nContent-Range: bytes 0-9/10\r\nTransfer-Encoding: chunked\r\n\r\n\
+             5\r\n01234\r\n",
+            "Short",
+        ),
+        (
+            "HTTP/1.1 206 x\r\nContent-Range: bytes 0-9/10\r\nTransfer-Encoding: chunked\r\n\r\n\
+             5\r\n01234\r",
+            "Short",
+        ),
+        (
+            "HTTP/1.1 206 x\r\nContent-Range: bytes 0-9/10\r\nTransfer-Encoding: chunked\r\n\r\n\
+             5\r\n01234\r\nzz\r\n",
+            "Coding",
+        ),
+        (
+            "HTTP/1.1 206 x\r\nContent-Range: bytes 0-9/10\r\nTransfer-Encoding: chunked\r\n\r\n\
+             5\r\n01234\r\nz",
+            "Coding",
+        ),
+        (
+            "HTTP/1.1 206 x\r\nContent-Range: bytes 0-9/10\r\nTransfer-Encoding: chunked\r\n\r\n\
+             5\r\n012345\r\n",
+            "Coding",
+        ),
+        (
+            "HTTP/1.1 206 x\r\nContent-Range: bytes 0-9/10\r\nTransfer-Encoding: chunked\r\n\r\n\
+             5\r\n01234\r\n6\r\n567890\r\n0\r\n\r\n",
+            "Length",
+        ),
+        (
+            "HTTP/1.1 206 x\r\nContent-Range: bytes 0-9/10\r\nTransfer-Encoding: chunked\r\n\r\n\
+             5\r\n01234\r\n0\r\n\r\n",
+            "Length",
+        ),
+        (
+            "HTTP/1.1 206 x\r\nContent-Range: bytes 0-9/10\r\nTransfer-Encoding: chunked\r\n\r\n\
+             a\r\n0123456789\r\n0\r\nno field\r\n\r\n",
+            "Coding",
+        ),
+        (
+            "HTTP/1.1 206 x\r\nContent-Range: bytes 0-3/4\r\n\r\n0123",
+            "piece 0 Some(4) 0123",
+        ),
+        (
+            "HTTP/1.1 206 x\r\nContent-Range: bytes 0-3/4\r\n\r\n012",
+            "Short",
+        ),
+        (
+            "HTTP/1.1 206 x\r\nContent-Range: bytes 0-3/4\r\n\r\n01234",
+            "Length",
+        ),
+        (
+            "HTTP/1.1 206 x\r\nContent-Range: bytes 0-1048576/2000000\r\n\r\n",
+            "BodyTooLong",
+        ),
+        (
+            "HTTP/1.1 206 x\r\nContent-Range: bytes 0-9/10\r\n\
+             Content-Length: 10\r\nContent-Length: 11\r\n\r\n0123456789",
+            "Length",
+        ),
+        (
+            "HTTP/1.1 206 x\r\nContent-Range: bytes 0-9/10\r\n\
+             Content-Length: 10\r\nContent-Length: 010\r\n\r\n0123456789",
+            "piece 0 Some(10) 0123456789",
+        ),
+        (
+            "HTTP/1.1 206 x\r\nContent-Range: bytes 0-9/10\r\n\
+             Content-Length: 10, 10\r\n\r\n0123456789",
+            "Length",
+        ),
+        ("HTTP/1.1 206 x\r\nContent-Length: 3\r\n\r\n234", "Range"),
+        (
+            "HTTP/1.1 206 x\r\nContent-Range: bytes */10\r\n\r\n",
+            "Range",
+        ),
+        ("HTTP/1.1 302 Found\r\n\r\n", "Status 302"),
+        ("HTTP/1.1 099 x\r\n\r\n", "Status 99"),
+        (
+            "HTTP/1.1 200 OK\r\nContent-Encoding: gzip\r\n\r\n",
+            "Coding",
+        ),
+        (
+            "HTTP/1.1 200 OK\r\nContent-Encoding: Identity\r\n\r\nab",
+            "whole ab",
+        ),
+        (
+            "HTTP/1.0 200 OK\r\nTransfer-Encoding: chunked\r\n\r\n0\r\n\r\n",
+            "Coding",
+        ),
+        (
+            "HTTP/1.1 200 OK\r\nTransfer-Encoding: gzip\r\n\r\n0\r\n\r\n",
+            "Coding",
+        ),
+        (
+            "HTTP/1.1 200 OK\r\nTransfer-Encoding: chunked\r\n\r\n2\r\nab\r\n0\r\n\r\n",
+            "whole ab",
+        ),
+        (
+            "HTTP/1.1 200 OK\r\nContent-Length: 2\r\n\r\nabc",
+            "whole ab",
+        ),
+        (
+            "HTTP/1.1 200 OK\r\nContent-Length: 67108865\r\n\r\n",
+            "BodyTooLong",
+        ),
+        ("HTTP/1.1 200 OK\r\nContent-Length: -2\r\n\r\nab", "Length"),
+        (
+            "HTTP/1.1 404 Not Found\r\nContent-Length: 0\r\n\r\n",
+            "missing",
+        ),
+        (
+            "HTTP/1.1 416 x\r\nContent-Range: bytes */10\r\nContent-Length: 0\r\n\r\n",
+            "unsatisfied Some(10)",
+        ),
+        ("HTTP/1.1 416 x\r\n\r\n", "unsatisfied None"),
+        (
+            "HTTP/1.1 416 x\r\nContent-Range: bytes 0-1/2\r\n\r\n",
+            "Range",
+        ),
+        ("\0HTTP/1.1 200 OK\r\n", "BadHead"),
+        ("", "Short"),
+    ];
+    for (reply, wanted) in table {
+        for step in [1, 2, 7, usize::MAX] {
+            let given = told(rt.alloc(), reply.as_bytes(), Method::Get, step)?;
+            assert_eq!(rt; given.as_str(), wanted, "{reply} by {step}");
+        }
+    }
+    Ok(())
+}
+
+#[test]
+fn replies_to_head_are_read(rt: HostRuntime) -> Result<(), Fail> {
+    let table = [
+        ("HTTP/1.1 200 OK\r\nContent-Length: 10\r\n\r\n", "size 10"),
+        (
+            "HTTP/1.1 200 OK\r\nContent-Length: 10\r\nTransfer-Encoding: gzip\r\n\r\n",
+            "size 10",
+        ),
+        (
+            "HTTP/1.1 200 OK\r\nContent-Length: 67108865\r\n\r\n",
+            "size 67108865",
+        ),
+        ("HTTP/1.1 200 OK\r\n\r\n", "Length"),
+        (
+            "HTTP/1.1 200 OK\r\nContent-Length: 18446744073709551616\r\n\r\n",
+            "Length",
+        ),
+        (
+            "HTTP/1.1 200 OK\r\nContent-Encoding: gzip\r\nContent-Length: 10\r\n\r\n",
+            "Coding",
+        ),
+        ("HTTP/1.1 206 x\r\nContent-Length: 10\r\n\r\n", "Status 206"),
+        ("HTTP/1.1 416 x\r\n\r\n", "Status 416"),
+        ("HTTP/1.1 404 x\r\n\r\n", "missing"),
+    ];
+    for (reply, wanted) in table {
+        for step in [1, 2, 7, usize::MAX] {
+            let given = told(rt.alloc(), reply.as_bytes(), Method::Head, step)?;
+            assert_eq!(rt; given.as_str(), wanted, "{reply} by {step}");
+        }
+    }
+    Ok(())
+}
+
+#[test]
+fn broken_replies_are_short(rt: HostRuntime) -> Result<(), Fail> {
+    let reply = PART.as_bytes();
+    for length in 0..reply.len() {
+        for step in [1, 2, 7, usize::MAX] {
+            let given = told(rt.alloc(), &reply[..length], Method::Get, step)?;
+            assert_eq!(rt; given.as_str(), "Short", "{length} bytes by {step}");
+        }
+    }
+    Ok(())
+}
+
+#[test]
+fn failing_readers_are_faults(rt: HostRuntime) -> Result<(), Fail> {
+    for step in [1, 2, 7, usize::MAX] {
+        let mut whole = Cuts::new(PART.as_bytes(), step);
+        let given = tell(rt.alloc(), read_reply(rt.alloc(), &mut whole, Method::Get))?;
+        assert_eq!(rt; given.as_str(), "piece 2 Some(10) 234");
+        for call in 1..whole.calls.saturating_add(1) {
+            let mut reader = Cuts::failing(PART.as_bytes(), step, call);
+            let given = tell(rt.alloc(), read_reply(rt.alloc(), &mut reader, Method::Get))?;
+            assert_eq!(rt; given.as_str(), "Read", "call {call} by {step}");
+        }
+    }
+    Ok(())
+}
+
+// A chunk's line may have 1,024 bytes, and all heads together 8,192.
+#[test]
+fn replies_have_limits(rt: HostRuntime) -> Result<(), Fail> {
+    let chunked =
+        b"HTTP/1.1 206 x\r\nContent-Range: bytes 0-0/1\r\nTransfer-Encoding: chunked\r\n\r\n1;";
+    for (padding, wanted) in [(1_020, "piece 0 Some(1) x"), (1_021, "Coding")] {
+        let mut reply = Vec::from_slice(rt.alloc(), chunked)?;
+        for _ in 0..padding {
+            reply.push(b'a')?;
+        }
+        reply.extend_from_slice(b"\r\nx\r\n0\r\n\r\n")?;
+        let given = told(rt.alloc(), &reply, Method::Get, 7)?;
+        assert_eq!(rt; given.as_str(), wanted, "{padding}");
+    }
+    let interim = b"HTTP/1.1 103 x\r\n\r\n";
+    for (count, wanted) in [(454, "missing"), (456, "HeadTooLong")] {
+        let mut reply = Vec::new(rt.alloc());
+        for _ in 0..count {
+            reply.extend_from_slice(interim)?;
+        }
+        reply.extend_from_slice(b"HTTP/1.1 404 x\r\n\r\n")?;
+        let given = told(rt.alloc(), &reply, Method::Get, 7)?;
+        assert_eq!(rt; given.as_str(), wanted, "{count}");
+    }
+    Ok(())
+}

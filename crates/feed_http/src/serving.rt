@@ -1,0 +1,9 @@
+//! The server end of an exchange.
+
+pub mod reply_head;
+pub mod request;
+pub mod send;
+pub mod serve;
+pub mod shelf;
+#[cfg(test)]
+mod tests;

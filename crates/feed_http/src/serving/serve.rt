@@ -1,0 +1,205 @@
+//! The server end: one request in, one reply out.
+ghost use Rattle.std.specs.Prelude.{◌≡◌, ◌≤◌, ◌+◌, ◌⊎◌, IfSome, IsSomeAnd, IfErr, IsErrOf, Option, length, slice_range};
+ghost use Rattle.std.specs.Io.KnownBytes.{Keeps};
+ghost use Rattle.httparse.specs.Grammar.{RequestHead};
+ghost use Rattle.feed_range.specs.Ask.{IsInside};
+ghost use Rattle.feed_names.specs.ReleaseName.{Name};
+ghost use Rattle.feed_http.specs.RequestHeads.{BeginsWithHead};
+ghost use Rattle.feed_http.specs.Requests.{IsNamedBy, IsInBuffer, HasHead};
+ghost use Rattle.feed_http.specs.Replies.{IsPartInside};
+ghost use Rattle.feed_http.specs.Shelves.{CountsFailure};
+ghost use Rattle.feed_http.specs.Served.{served, part_reply, file_reply, IsOutcomeOf, IsRefusalOf, IsReplyFault, IsServingFault, reply_of};
+
+use crate::heads::request_head::read_request;
+use crate::http_fault::HttpFault;
+use crate::serving::reply_head::ReplyHead;
+use crate::serving::request::Request;
+use crate::serving::send::send;
+use crate::serving::shelf::Shelf;
+use feed_names::ReleaseName;
+use feed_range::RangeAsk;
+use httparse::spans::EMPTY_HEADER_SPAN;
+use std::alloc::Global;
+use std::io::{Read, Write};
+
+const HEAD_BYTES: usize = 8_192;
+
+const HEAD_FIELDS: usize = 64;
+
+fn reply_with<W: Write, S: Shelf>(
+    alloc: Global,
+    writer: &mut W,
+    shelf: &mut S,
+    name: &ReleaseName,
+    head: ReplyHead,
+    first: u64,
+    end: u64,
+) -> Result<u16, HttpFault>
+    requires part { IsPartInside head }
+    requires ordered { first ≤ end }
+    requires inside { IfSome (S.files shelf.old) (λ files.
+        IsSomeAnd (files name.now) (λ file. end ≤ length file)) }
+    ensures served { IfSome (S.files shelf.old) (λ files. IfSome (files name.now) (λ file.
+        IsOutcomeOf (reply_of head (slice_range file first end)) result
+        (W.contents writer.old) (W.contents writer.new))) }
+    ensures faults { IfErr result IsReplyFault }
+    ensures kept { S.files shelf.new ≡ S.files shelf.old }
+    ensures rises { S.failed shelf.old ≤ S.failed shelf.new }
+    ensures device { IsErrOf result HttpFault.Shelf
+        → CountsFailure (S.failed shelf.old) (S.failed shelf.new) }
+{
+    let status = head.write(writer)?;
+    send(alloc, writer, shelf, name, first, end)?;
+    Ok(status)
+}
+
+fn serve_part<W: Write, S: Shelf>(
+    alloc: Global,
+    writer: &mut W,
+    shelf: &mut S,
+    name: &ReleaseName,
+    size: u64,
+    ask: RangeAsk,
+) -> Result<u16, HttpFault>
+    requires asked { IsInside size ask }
+    requires there { IfSome (S.files shelf.old) (λ files.
+        IsSomeAnd (files name.now) (λ file. length file ≡ size)) }
+    ensures served { IfSome (S.files shelf.old) (λ files. IfSome (files name.now) (λ file.
+        IsOutcomeOf (part_reply ask file) result (W.contents writer.old) (W.contents writer.new))) }
+    ensures faults { IfErr result IsReplyFault }
+    ensures kept { S.files shelf.new ≡ S.files shelf.old }
+    ensures rises { S.failed shelf.old ≤ S.failed shelf.new }
+    ensures device { IsErrOf result HttpFault.Shelf
+        → CountsFailure (S.failed shelf.old) (S.failed shelf.new) }
+{
+    match ask {
+        RangeAsk::Whole => {
+            let head = ReplyHead::Whole { length: size };
+            reply_with(alloc, writer, shelf, name, head, 0, size)
+        }
+        RangeAsk::Part(first, last) => {
+            let head = ReplyHead::Part {
+                first,
+                last,
+                length: size,
+            };
+            reply_with(alloc, writer, shelf, name, head, first, last + 1)
+        }
+        RangeAsk::Unsatisfied => ReplyHead::Unsatisfied { length: size }.write(writer),
+    }
+}
+
+fn serve_file<W: Write, S: Shelf>(
+    alloc: Global,
+    writer: &mut W,
+    shelf: &mut S,
+    request: &Request<'_>,
+    name: &ReleaseName,
+    size: u64,
+) -> Result<u16, HttpFault>
+    requires request { IsInBuffer request.now }
+    requires there { IfSome (S.files shelf.old) (λ files.
+        IsSomeAnd (files name.now) (λ file. length file ≡ size)) }
+    ensures served { IfSome (S.files shelf.old) (λ files. (head : RequestHead) → HasHead request.now head
+        → IsOutcomeOf (file_reply head (files name.now)) result (W.contents writer.old) (W.contents writer.new)) }
+    ensures faults { IfErr result IsReplyFault }
+    ensures kept { S.files shelf.new ≡ S.files shelf.old }
+    ensures rises { S.failed shelf.old ≤ S.failed shelf.new }
+    ensures device { IsErrOf result HttpFault.Shelf
+        → CountsFailure (S.failed shelf.old) (S.failed shelf.new) }
+{
+    if request.is_head() {
+        return ReplyHead::Whole { length: size }.write(writer);
+    }
+    serve_part(alloc, writer, shelf, name, size, request.ask(size))
+}
+
+fn respond<W: Write, S: Shelf>(
+    alloc: Global,
+    writer: &mut W,
+    shelf: &mut S,
+    request: &Request<'_>,
+) -> Result<u16, HttpFault>
+    requires { IsInBuffer request.now }
+    ensures served { IfSome (S.files shelf.old) (λ files.
+        (head : RequestHead) → HasHead request.now head
+        → (named : Option Name) → IsNamedBy head.target named
+        → IsOutcomeOf (served files head named) result (W.contents writer.old) (W.contents writer.new)) }
+    ensures faults { IfErr result IsReplyFault }
+    ensures kept { S.files shelf.new ≡ S.files shelf.old }
+    ensures rises { S.failed shelf.old ≤ S.failed shelf.new }
+    ensures device { IsErrOf result HttpFault.Shelf
+        → CountsFailure (S.failed shelf.old) (S.failed shelf.new) }
+{
+    if request.lacks_host() {
+        return ReplyHead::BadRequest.write(writer);
+    }
+    if request.is_unsupported() {
+        return ReplyHead::NotImplemented.write(writer);
+    }
+    let Some(name) = request.name(alloc)? else {
+        return ReplyHead::NotFound.write(writer);
+    };
+    match shelf.size(&name)? {
+        Some(size) => serve_file(alloc, writer, shelf, request, &name, size),
+        None => ReplyHead::NotFound.write(writer),
+    }
+}
+
+/// Reads the head of one request, writes one reply, and gives its status. It may read past the
+/// head, and reads no body.
+///
+/// A request is refused with status 400 where its head does not read, is longer than 8,192 bytes
+/// or has more than 64 fields, or where it is of HTTP/1.1 and has not just one Host field; with
+/// 501 where its method is neither GET nor HEAD, or it has a Transfer-Encoding field; with 404
+/// where its target names no file of the shelf.
+///
+/// # Errors
+///
+/// `Read` where the reader fails and `Short` where it ends inside the head; nothing is then
+/// written. `Shelf` or `Memory` where the shelf fails, or there is no memory for a name: then
+/// nothing was written, or the head of the reply and some of its body. `Write` where the writer
+/// refuses bytes.
+pub fn serve_one<R: Read, W: Write, S: Shelf>(
+    alloc: Global,
+    reader: &mut R,
+    writer: &mut W,
+    shelf: &mut S,
+) -> Result<u16, HttpFault>
+    // Where the bytes begin with a head within the limits, and the shelf tells its files.
+    ensures served { IfSome (R.remaining reader.old) (λ text. IfSome (S.files shelf.old) (λ files.
+        (head : RequestHead) → BeginsWithHead 8192 64 text head
+        → (named : Option Name) → IsNamedBy head.target named
+        → IsOutcomeOf (served files head named) result (W.contents writer.old) (W.contents writer.new))) }
+
+    // Where they do not.
+    ensures refused { IfSome (R.remaining reader.old) (λ text.
+        ((head : RequestHead) → ¬ (BeginsWithHead 8192 64 text head))
+        → IsRefusalOf 8192 64 text result (W.contents writer.old) (W.contents writer.new)) }
+
+    ensures faults { IfErr result IsServingFault }
+    ensures unread { IsErrOf result HttpFault.Read → Keeps (W.contents writer.old) (W.contents writer.new) }
+    ensures short { IsErrOf result HttpFault.Short → Keeps (W.contents writer.old) (W.contents writer.new) }
+
+    // The shelf keeps its files, and is to blame for its own faults alone.
+    ensures kept { S.files shelf.new ≡ S.files shelf.old }
+    ensures rises { S.failed shelf.old ≤ S.failed shelf.new }
+    ensures device { IsErrOf result HttpFault.Shelf
+        → CountsFailure (S.failed shelf.old) (S.failed shelf.new) }
+{
+    let mut buffer = [0u8; HEAD_BYTES];
+    let mut headers = [EMPTY_HEADER_SPAN; HEAD_FIELDS];
+    match read_request(reader, &mut buffer, &mut headers) {
+        Ok(read) => {
+            let request = Request {
+                buffer: &buffer[..read.filled],
+                headers: &headers,
+                spans: read.spans,
+            };
+            respond(alloc, writer, shelf, &request)
+        }
+        Err(HttpFault::BadHead) => ReplyHead::BadRequest.write(writer),
+        Err(HttpFault::HeadTooLong) => ReplyHead::BadRequest.write(writer),
+        Err(fault) => Err(fault),
+    }
+}

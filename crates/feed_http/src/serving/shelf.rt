@@ -1,0 +1,74 @@
+ghost use Rattle.std.specs.Prelude.{◌≡◌, ◌≤◌, ◌+◌, ℕ, Option, None, IfSome, IsSomeAnd, IfOk, IsErrOf, length, take, drop};
+ghost use Rattle.std.specs.Option.{option_map};
+ghost use Rattle.feed_http.specs.Shelves.{Files, CountsFailure};
+ghost use Rattle.feed_http.specs.declared.serving.shelf.ShelfFault.TheVariants.{Device};
+
+use crate::http_fault::HttpFault;
+use feed_names::ReleaseName;
+use std::alloc::Global;
+use thiserror::Error;
+
+/// Why a shelf gave no answer.
+#[derive(Clone, Copy, Debug, PartialEq, Eq, Error)]
+pub enum ShelfFault {
+    /// The device failed, which the shelf counts.
+    #[error("Device")]
+    Device,
+    /// There was no memory.
+    #[error("Memory")]
+    Memory,
+}
+
+impl From<ShelfFault> for HttpFault {
+    ghost use Rattle.feed_http.specs.Shelves.{http_fault_of};
+
+    ghost from_gives = { λ fault given. given ≡ http_fault_of fault };
+
+    fn from(fault: ShelfFault) -> HttpFault {
+        match fault {
+            ShelfFault::Device => HttpFault::Shelf,
+            ShelfFault::Memory => HttpFault::Memory,
+        }
+    }
+}
+
+/// Where the files of releases stand.
+///
+/// A shelf over memory tells its files, so that contracts name what is served. A shelf over a
+/// directory tells none.
+pub trait Shelf {
+    // The files by name, where the shelf tells them.
+    ghost files: { Self → Option Files } = { λ _. None };
+
+    // How often the device has failed.
+    ghost failed: { Self → ℕ };
+
+    /// How often the device has failed. The count stays at its greatest value.
+    fn failures(&self) -> u64
+        ensures { result ≡ failed self.now };
+
+    /// The length in bytes of the file of that name, if it stands here.
+    fn size(&mut self, name: &ReleaseName) -> Result<Option<u64>, ShelfFault>
+        ensures kept { files self.new ≡ files self.old }
+        ensures size { IfSome (files self.old) (λ files.
+            IfOk result (λ size. size ≡ option_map length (files name.now))) }
+        ensures rises { failed self.old ≤ failed self.new }
+        ensures device { IsErrOf result Device → CountsFailure (failed self.old) (failed self.new) };
+
+    /// The bytes of the file of that name from place `first` on, just so many.
+    fn read(
+        &mut self,
+        alloc: Global,
+        name: &ReleaseName,
+        first: u64,
+        len: usize,
+    ) -> Result<Vec<u8>, ShelfFault>
+        requires inside { IfSome (files self.old) (λ files.
+            IsSomeAnd (files name.now) (λ file. first + len ≤ length file)) }
+        ensures kept { files self.new ≡ files self.old }
+        ensures len { IfOk result (λ bytes. length bytes.items ≡ len) }
+        ensures bytes { IfSome (files self.old) (λ files. IfSome (files name.now) (λ file.
+            IfOk result (λ bytes. bytes.items ≡ take len (drop first file)))) }
+        ensures rises { failed self.old ≤ failed self.new }
+        ensures device { IsErrOf result Device → CountsFailure (failed self.old) (failed self.new) };
+}

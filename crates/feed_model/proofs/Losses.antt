@@ -1,0 +1,17 @@
+-- The answer to a loss, and where nothing happened yet.
+use Rattle.std.proofs.Common.{◌≡◌, true, false, [], Ok, refl}
+use Rattle.std.specs.List.{IsDistinct}
+use Rattle.feed_names.specs.ReleaseName.{Name}
+use Rattle.feed_model.specs.declared.reply.Reply.TheVariants as replies
+use Rattle.feed_model.specs.History.{Lost}
+use Rattle.feed_model.specs.Content.{Content, IsContent}
+use Rattle.feed_model.specs.Handles.{Handles}
+use Rattle.feed_model.proofs.Idle.{unchanged}
+
+pub loss : (c : Content) (n : Name) → Handles c (Lost n) (Ok replies.Nothing) c
+loss c n = unchanged c (Lost n) (Ok replies.Nothing) refl refl (λ h is. refl)
+
+-- nothing happened, and nothing is kept
+pub empty_content : IsContent [] []
+unfolding IsDistinct
+empty_content = record { legal = tt; distinct = tt; each = λ n held. (let u : false ≡ true = held.0 in absurd (cc)) }

@@ -1,0 +1,156 @@
+-- Each answer to a piece that keeps nothing.
+use Rattle.std.proofs.Common.{◌≡◌, ◌≢◌, ◌<◌, ◌≤◌, ◌+◌, ℕ, false, List, length, Option, Some, None, Ok, Err, IsSome, ◌⊎◌, inl, inr, refl, sym, ◌∙◌, ap, subst, arith}
+use Rattle.std.specs.Prelude.{IfSome, IsSomeAnd}
+use Rattle.feed_names.specs.ReleaseName.{Name}
+use Rattle.feed_model.specs.declared.state.State.{State}
+use Rattle.feed_model.specs.declared.state.State.TheVariants.{Staged, Broken, Active}
+use Rattle.feed_model.specs.declared.reply.Reply.TheVariants as replies
+use Rattle.feed_model.specs.declared.reply.Refusal.TheVariants as refusals
+use Rattle.feed_model.specs.History.{Piece, History, Answer, is_noted, is_taken, size_of, kept, IsWhole}
+use Rattle.feed_model.specs.Reply.{Case, IsRight, IsKept, Differs, Stores, max_piece}
+use Rattle.feed_model.specs.Content.{Record, Content, record_of, byte_in, IsState, IsRecord, IsContent}
+use Rattle.feed_model.specs.Change.{NoneIsLater}
+use Rattle.feed_model.specs.Parts.{DiffersIn, AgreesIn, HasNew, Covers, IsSmall, Reaches}
+use Rattle.feed_model.specs.Handles.{Handles, HasLaterActive}
+use Rattle.feed_model.proofs.Idle.{unchanged}
+use Rattle.feed_model.proofs.Merging.{slice_some, byte_at-within, some_none}
+use Rattle.feed_model.proofs.Tests.{of_record, not_held, passed_by, not_passed_by}
+
+no_bad_piece : (bytes : List ℕ) → IsSmall bytes → ¬ ((length bytes ≡ 0) ⊎ (max_piece < length bytes))
+no_bad_piece bytes small (inl none) = absurd (omega (arith, small.some))
+no_bad_piece bytes small (inr past) = absurd (omega (arith, small.most))
+
+same_total : (h : History) (n : Name) (size : ℕ) (total : Option ℕ) → size_of h n ≡ Some size → IfSome total (λ t. t ≡ size) → ¬ (IsSomeAnd total (λ t. size_of h n ≢ Some t))
+same_total h n size None e same other = other
+same_total h n size (Some t) e same other = other (e ∙ ap Some (sym same))
+
+other_total : (h : History) (n : Name) (size : ℕ) (total : Option ℕ) → size_of h n ≡ Some size → IsSomeAnd total (λ t. t ≢ size) → IsSomeAnd total (λ t. size_of h n ≢ Some t)
+other_total h n size None e other = other
+other_total h n size (Some t) e other = λ u. other (let v : Some t ≡ Some size = sym u ∙ e in cc)
+
+pub piece_bad : (c : Content) (n : Name) (first : ℕ) (total : Option ℕ) (bytes : List ℕ) → (length bytes ≡ 0) ⊎ (max_piece < length bytes) → Handles c (Piece n first total bytes) (Err refusals.BadPiece) c
+piece_bad c n first total bytes bad = unchanged c (Piece n first total bytes) (Err refusals.BadPiece) refl refl (λ h is. inl (bad, refl))
+
+pub piece_older : (c : Content) (n : Name) (first : ℕ) (total : Option ℕ) (bytes : List ℕ) → IsSmall bytes → HasLaterActive c n → Handles c (Piece n first total bytes) (Ok replies.Older) c
+piece_older c n first total bytes small later = unchanged c (Piece n first total bytes) (Ok replies.Older) refl refl (λ h is. inr (no_bad_piece bytes small, inl (passed_by c h n is later, refl)))
+
+pub piece_unknown : (c : Content) (n : Name) (first : ℕ) (total : Option ℕ) (bytes : List ℕ) → IsSmall bytes → NoneIsLater c n → record_of c n ≡ None → Handles c (Piece n first total bytes) (Err refusals.Unknown) c
+piece_unknown c n first total bytes small free none = unchanged c (Piece n first total bytes) (Err refusals.Unknown) refl refl (λ h is. inr (no_bad_piece bytes small, inr (not_passed_by c h n is free, inl (not_held c h n is none, refl))))
+
+pub piece_wrong_size : (c : Content) (n : Name) (first : ℕ) (total : Option ℕ) (bytes : List ℕ) (r : Record) → IsSmall bytes → NoneIsLater c n → record_of c n ≡ Some r → IsSomeAnd total (λ t. t ≢ r.size) → Handles c (Piece n first total bytes) (Err refusals.WrongSize) c
+piece_wrong_size c n first total bytes r small free found other = unchanged c (Piece n first total bytes) (Err refusals.WrongSize) refl refl right
+  where
+    right : (h : History) → IsContent c h → IsRight h (Piece n first total bytes) (Err refusals.WrongSize)
+    right h is =
+        let x = of_record c h n r is found in
+        inr (no_bad_piece bytes small, inr (not_passed_by c h n is free, inr ((λ out. out x.held), inl (other_total h n r.size total x.size other, refl))))
+
+pub piece_outside : (c : Content) (n : Name) (first : ℕ) (total : Option ℕ) (bytes : List ℕ) (r : Record) → IsSmall bytes → NoneIsLater c n → record_of c n ≡ Some r → IfSome total (λ t. t ≡ r.size) → r.size < first + length bytes → Handles c (Piece n first total bytes) (Err refusals.Outside) c
+piece_outside c n first total bytes r small free found sized past = unchanged c (Piece n first total bytes) (Err refusals.Outside) refl refl right
+  where
+    right : (h : History) → IsContent c h → IsRight h (Piece n first total bytes) (Err refusals.Outside)
+    right h is =
+        let x = of_record c h n r is found in
+        inr (
+          no_bad_piece bytes small,
+          inr (
+            not_passed_by c h n is free,
+            inr (
+              (λ out. out x.held),
+              inr (
+                same_total h n r.size total x.size sized,
+                inl (subst (λ (o : Option ℕ). IsSomeAnd o (λ size. size < first + length bytes)) (sym x.size) past, refl),
+              ),
+            ),
+          ),
+        )
+
+-- the piece got past the cases that name no byte
+reached : (c : Content) (h : History) (n : Name) (first : ℕ) (total : Option ℕ) (bytes : List ℕ) (r : Record) (a : Answer) → Reaches c n first total bytes r → IsContent c h
+    → Case (Differs h n first bytes) (a ≡ Err refusals.Conflict) (Case (IsKept h n first bytes) (a ≡ Ok replies.Repeated) (Stores h n first bytes a))
+    → IsRight h (Piece n first total bytes) a
+reached c h n first total bytes r a reach is rest =
+    let x = of_record c h n r is reach.found in
+    inr (
+      no_bad_piece bytes reach.small,
+      inr (
+        not_passed_by c h n is reach.free,
+        inr (
+          (λ out. out x.held),
+          inr (
+            same_total h n r.size total x.size reach.sized,
+            inr (inside (size_of h n) x.size, rest),
+          ),
+        ),
+      ),
+    )
+  where
+    inside : (o : Option ℕ) → o ≡ Some r.size → ¬ (IsSomeAnd o (λ size. size < first + length bytes))
+    inside None e past = past
+    inside (Some size) e past = let same : size ≡ r.size = cc in absurd (omega (arith, same, past, reach.within))
+
+-- what the record says of the piece's bytes
+differs_by : (c : Content) (h : History) (n : Name) (r : Record) (first : ℕ) (bytes : List ℕ) → IsContent c h → record_of c n ≡ Some r → DiffersIn r.parts first bytes → Differs h n first bytes
+differs_by c h n r first bytes is found d = (d.0, d.1, d.2, sym ((of_record c h n r is found).bytes d.0) ∙ d.3, d.4, d.5)
+
+agrees_by : (c : Content) (h : History) (n : Name) (r : Record) (first : ℕ) (bytes : List ℕ) → IsContent c h → record_of c n ≡ Some r → AgreesIn r.parts first bytes → ¬ (Differs h n first bytes)
+agrees_by c h n r first bytes is found agrees d = d.5 (agrees d.0 d.1 d.2 ((of_record c h n r is found).bytes d.0 ∙ d.3) d.4)
+
+pub piece_conflict : (c : Content) (n : Name) (first : ℕ) (total : Option ℕ) (bytes : List ℕ) (r : Record) → Reaches c n first total bytes r → DiffersIn r.parts first bytes → Handles c (Piece n first total bytes) (Err refusals.Conflict) c
+piece_conflict c n first total bytes r reach d = unchanged c (Piece n first total bytes) (Err refusals.Conflict) refl refl (λ h is.
+    reached c h n first total bytes r (Err refusals.Conflict) reach is (inl (differs_by c h n r first bytes is reach.found d, refl)))
+
+repeated_right : (c : Content) (h : History) (n : Name) (first : ℕ) (total : Option ℕ) (bytes : List ℕ) (r : Record) → Reaches c n first total bytes r → AgreesIn r.parts first bytes → Covers r.parts first bytes → IsContent c h → IsRight h (Piece n first total bytes) (Ok replies.Repeated)
+repeated_right c h n first total bytes r reach agrees covers is =
+    reached c h n first total bytes r (Ok replies.Repeated) reach is
+    (inr (agrees_by c h n r first bytes is reach.found agrees, inl ((λ place s. subst IsSome ((of_record c h n r is reach.found).bytes place) (covers place s)), refl)))
+
+pub piece_repeated : (c : Content) (n : Name) (first : ℕ) (total : Option ℕ) (bytes : List ℕ) (r : Record) → Reaches c n first total bytes r → AgreesIn r.parts first bytes → Covers r.parts first bytes → Handles c (Piece n first total bytes) (Ok replies.Repeated) c
+piece_repeated c n first total bytes r reach agrees covers = unchanged c (Piece n first total bytes) (Ok replies.Repeated) refl refl (λ h is. repeated_right c h n first total bytes r reach agrees covers is)
+
+-- a record that is not staged has every byte of its file, so a piece brings nothing new
+pub whole_covers : (c : Content) (h : History) (n : Name) (first : ℕ) (bytes : List ℕ) (r : Record) → IsContent c h → record_of c n ≡ Some r → r.state ≢ Staged → first + length bytes ≤ r.size → Covers r.parts first bytes
+whole_covers c h n first bytes r is found other within = λ place s. by (whole r.state refl x.state) place s
+  where
+    x : IsRecord h n r
+    x = of_record c h n r is found
+
+    whole : (s : State) → r.state ≡ s → IsState h n s → IsWhole h n
+    whole Staged e w = absurd (other e)
+    whole Active e a = (a.0.0, a.0.1)
+    whole Broken e b = (b.0, b.1)
+
+    by : IsWhole h n → Covers r.parts first bytes
+    by w place s =
+        let len : length w.0 ≡ r.size = (let u : Some (length w.0) ≡ Some r.size = sym w.1.0 ∙ x.size in cc) in
+        let lt : place < length w.0 = omega (arith, (byte_at-within first bytes place s).1) in
+        subst IsSome (sym (x.bytes place ∙ w.1.1 place lt)) (slice_some w.0 place lt)
+
+pub piece_repeated_whole : (c : Content) (n : Name) (first : ℕ) (total : Option ℕ) (bytes : List ℕ) (r : Record) → Reaches c n first total bytes r → r.state ≢ Staged → AgreesIn r.parts first bytes → Handles c (Piece n first total bytes) (Ok replies.Repeated) c
+piece_repeated_whole c n first total bytes r reach other agrees = unchanged c (Piece n first total bytes) (Ok replies.Repeated) refl refl (λ h is.
+    repeated_right c h n first total bytes r reach agrees (whole_covers c h n first bytes r is reach.found other reach.within) is)
+
+-- so where it is not staged and a byte is new, the content is that of no history
+pub piece_impossible : (c c' : Content) (n : Name) (first : ℕ) (total : Option ℕ) (bytes : List ℕ) (r : Record) (a : Answer) → record_of c n ≡ Some r → r.state ≢ Staged → first + length bytes ≤ r.size → HasNew r.parts first bytes → Handles c (Piece n first total bytes) a c'
+piece_impossible c c' n first total bytes r a found other within new = λ h is.
+    some_none (byte_in r.parts new.0) (whole_covers c h n first bytes r is found other within new.0 new.1) new.2
+
+-- a piece that brings a new byte
+not_kept : (c : Content) (h : History) (n : Name) (r : Record) (first : ℕ) (bytes : List ℕ) → IsContent c h → record_of c n ≡ Some r → HasNew r.parts first bytes → ¬ (IsKept h n first bytes)
+not_kept c h n r first bytes is found new all = some_none (kept h n new.0) (all new.0 new.1) (sym ((of_record c h n r is found).bytes new.0) ∙ new.2)
+
+pub stores_right : (c : Content) (h : History) (n : Name) (first : ℕ) (total : Option ℕ) (bytes : List ℕ) (r : Record) (a : Answer) → Reaches c n first total bytes r → AgreesIn r.parts first bytes → HasNew r.parts first bytes → IsContent c h → Stores h n first bytes a → IsRight h (Piece n first total bytes) a
+stores_right c h n first total bytes r a reach agrees new is s =
+    reached c h n first total bytes r a reach is (inr (agrees_by c h n r first bytes is reach.found agrees, inr (not_kept c h n r first bytes is reach.found new, s)))
+
+pub piece_refused : (c : Content) (n : Name) (first : ℕ) (total : Option ℕ) (bytes : List ℕ) (r : Record) (a : Answer) → Reaches c n first total bytes r → AgreesIn r.parts first bytes → HasNew r.parts first bytes → (a ≡ Err refusals.Memory) ⊎ (a ≡ Err refusals.Device) → Handles c (Piece n first total bytes) a c
+piece_refused c n first total bytes r a reach agrees new why =
+    unchanged c (Piece n first total bytes) a (noted why) (taken why) (λ h is. stores_right c h n first total bytes r a reach agrees new is (inr why))
+  where
+    noted : (a ≡ Err refusals.Memory) ⊎ (a ≡ Err refusals.Device) → is_noted a ≡ false
+    noted (inl e) = ap is_noted e
+    noted (inr e) = ap is_noted e
+
+    taken : (a ≡ Err refusals.Memory) ⊎ (a ≡ Err refusals.Device) → is_taken a ≡ false
+    taken (inl e) = ap is_taken e
+    taken (inr e) = ap is_taken e

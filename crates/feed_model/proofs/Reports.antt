@@ -1,0 +1,37 @@
+-- What the records say of the active releases.
+use Rattle.std.proofs.Common.{◌≡◌, ◌≢◌, ◌<◌, ℕ, List, length, Some, None, slice_get, sym, ◌∙◌, ap, subst, arith}
+use Rattle.feed_names.specs.ReleaseName.{Name}
+use Rattle.feed_model.specs.declared.state.State.TheVariants.{Active}
+use Rattle.feed_model.specs.File.{fault_of}
+use Rattle.feed_model.specs.History.{History, IsFile, IsGood, IsActive, IsPassed, Reports}
+use Rattle.feed_model.specs.Content.{Record, Content, record_of, byte_in, IsState, IsContent}
+use Rattle.feed_model.proofs.Lookups.{name-record_of, record_of-own}
+use Rattle.feed_model.proofs.Tests.{of_record, record_good, not_passed_active, file_one}
+
+active_by : (c : Content) (h : History) (r : Record) → IsContent c h → record_of c r.name ≡ Some r → r.state ≡ Active → IsActive h r.name
+active_by c h r is found active = subst (IsState h r.name) active (of_record c h r.name r is found).state
+
+-- an active record of the package
+pub report_some : (c : Content) (h : History) (stem : List ℕ) (r : Record) → IsContent c h → record_of c r.name ≡ Some r → r.state ≡ Active → r.name.stem ≡ stem → Reports h stem (Some r.name)
+report_some c h stem r is found active same = (same, active_by c h r is found active)
+
+-- no active record of the package
+pub report_none : (c : Content) (h : History) (stem : List ℕ) → IsContent c h → ((a : Record) → record_of c a.name ≡ Some a → a.state ≡ Active → a.name.stem ≢ stem) → Reports h stem None
+report_none c h stem is none = λ m same good. latest m same good (λ p. latest p.0 (sym p.2.0 ∙ same) p.1.0 (not_passed_active h p.0 p.1))
+  where
+    latest : (m : Name) → m.stem ≡ stem → IsGood h m → ¬ (¬ (IsPassed h m))
+    latest m same good free =
+        let r = record_good c h is m good free in
+        none r.0 (record_of-own c m r.0 r.1) r.2 (ap (λ (x : Name). x.stem) (name-record_of c m r.0 r.1) ∙ same)
+
+-- the bytes of a record that has all of them are its file
+pub file_of_record : (c : Content) (h : History) (r : Record) (text : List ℕ) → IsContent c h → record_of c r.name ≡ Some r → length text ≡ r.size → ((place : ℕ) → place < r.size → byte_in r.parts place ≡ slice_get text place) → IsFile h r.name text
+file_of_record c h r text is found len at =
+    let x = of_record c h r.name r is found in
+    (x.size ∙ ap Some (sym len), λ place lt. sym (x.bytes place) ∙ at place (omega arith))
+
+-- and the file of an active record is good
+pub active_is_good : (c : Content) (h : History) (r : Record) (text : List ℕ) → IsContent c h → record_of c r.name ≡ Some r → r.state ≡ Active → length text ≡ r.size → ((place : ℕ) → place < r.size → byte_in r.parts place ≡ slice_get text place) → fault_of text ≡ None
+active_is_good c h r text is found active len at =
+    let good = (active_by c h r is found active).0 in
+    subst (λ (t : List ℕ). fault_of t ≡ None) (file_one h r.name good.0 text good.1 (file_of_record c h r text is found len at)) good.2

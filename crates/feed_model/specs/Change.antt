@@ -1,0 +1,85 @@
+-- The changes of a keeper's content.
+use Rattle.std.specs.Prelude.{◌≡◌, ◌<◌, ◌≤◌, ◌==◌, ◌&&◌, ℕ, Bool, not, nat_lt, if◌then◌else◌, List, [], ◌∷◌, length, Some, None, IsSome, int_lt, filter, All}
+use Rattle.std.specs.Ordering.{is_lt, nat_cmp}
+use Rattle.std.specs.Cmp.Lexicographic.{slice_cmp, pointwise}
+use Rattle.feed_names.specs.ReleaseName.{Name, name_eq, text_of, IsEarlier}
+use Rattle.feed_model.specs.declared.state.State.{State}
+use Rattle.feed_model.specs.declared.state.State.TheVariants.{Staged, Broken, Active}
+use Rattle.feed_model.specs.Reply.{max_file, max_held}
+use Rattle.feed_model.specs.Content.{Part, Record, Content, record_of, byte_in, end_of, AreParts}
+
+pub data Change : Type 0 where
+  Add : (name : Name) (size : ℕ) → Change
+  Pieces : (name : Name) (parts : List Part) → Change
+  Break : (name : Name) (parts : List Part) → Change
+  Activate : (name : Name) (parts : List Part) → Change
+
+-- the part among others, in front of the first that begins later
+abbrev pub insert_part : Part → List Part → List Part
+insert_part p [] = p ∷ []
+insert_part p (q ∷ qs) = if nat_lt p.first q.first then p ∷ q ∷ qs else q ∷ insert_part p qs
+
+-- parts put among others, one after another
+abbrev pub merged : List Part → List Part → List Part
+merged parts [] = parts
+merged parts (p ∷ ps) = merged (insert_part p parts) ps
+
+-- the record with these parts too, and this state
+abbrev pub grown : List Part → State → Record → Record
+grown ps state r = record { name = r.name; size = r.size; state = state; parts = merged r.parts ps }
+
+-- the text of the one name comes before that of the other
+abbrev pub comes_before : Name → Name → Bool
+comes_before m n = is_lt (slice_cmp nat_cmp (text_of m) (text_of n))
+
+-- the record among others, behind those whose names come before its own
+abbrev pub insert_record : Record → Content → Content
+insert_record r [] = r ∷ []
+insert_record r (x ∷ xs) = if comes_before x.name r.name then x ∷ insert_record r xs else r ∷ x ∷ xs
+
+-- the content with another record under the name
+abbrev pub changed : Name → (Record → Record) → Content → Content
+changed n f [] = []
+changed n f (r ∷ rs) = if name_eq r.name n then f r ∷ rs else r ∷ changed n f rs
+
+abbrev pub is_earlier : Name → Name → Bool
+is_earlier m n = pointwise ◌==◌ m.stem n.stem && int_lt m.day n.day
+
+-- without the package's records of earlier days
+abbrev pub without_earlier : Name → Content → Content
+without_earlier n c = filter (λ r. not (is_earlier r.name n)) c
+
+-- what is recorded of a release that is offered: an empty file is whole, and bad
+abbrev pub new_record : Name → ℕ → Record
+new_record n size = record { name = n; size = size; state = if size == 0 then Broken else Staged; parts = [] }
+
+-- the content after a change
+abbrev pub after : Change → Content → Content
+after (Add n size) c = insert_record (new_record n size) c
+after (Pieces n ps) c = changed n (grown ps Staged) c
+after (Break n ps) c = changed n (grown ps Broken) c
+after (Activate n ps) c = without_earlier n (changed n (grown ps Active) c)
+
+-- the record is staged, and can take these parts
+pub record TakesParts (c : Content) (n : Name) (ps : List Part) (r : Record) : Type 0 where
+  pub found : record_of c n ≡ Some r
+  pub staged : r.state ≡ Staged
+  pub some : 0 < length ps
+  pub parts : AreParts ps
+  pub apart : AreParts (merged r.parts ps)
+  pub inside : All (λ p. end_of p ≤ r.size) ps
+
+-- no place of it is missing with these parts
+abbrev pub Completes : List Part → Record → Type 0
+Completes ps r = (place : ℕ) → place < r.size → IsSome (byte_in (merged r.parts ps) place)
+
+-- no active record of the package is later
+abbrev pub NoneIsLater : Content → Name → Type 0
+NoneIsLater c n = (a : Record) → record_of c a.name ≡ Some a → a.state ≡ Active → ¬ (IsEarlier n a.name)
+
+-- what the caller of a change owes
+abbrev pub IsAllowed : Change → Content → Type 0
+IsAllowed (Add n size) c = (record_of c n ≡ None) × (length c < max_held) × (size ≤ max_file)
+IsAllowed (Pieces n ps) c = (r : Record) × TakesParts c n ps r
+IsAllowed (Break n ps) c = (r : Record) × TakesParts c n ps r × Completes ps r
+IsAllowed (Activate n ps) c = (r : Record) × TakesParts c n ps r × Completes ps r × NoneIsLater c n

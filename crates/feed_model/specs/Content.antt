@@ -1,0 +1,69 @@
+-- What a keeper contains, and when this is a content of a history.
+use Rattle.std.specs.Prelude.{◌≡◌, ◌<◌, ◌≤◌, ◌+◌, ℕ, if◌then◌else◌, List, [], ◌∷◌, length, map, Option, Some, None, MatchOption}
+use Rattle.std.specs.List.{IsDistinct}
+use Rattle.feed_names.specs.ReleaseName.{Name, name_eq}
+use Rattle.feed_model.specs.declared.state.State.{State}
+use Rattle.feed_model.specs.declared.state.State.TheVariants.{Staged, Broken, Active}
+use Rattle.feed_model.specs.History.{History, or_else, byte_at, size_of, kept, IsHeld, IsWhole, IsActive, IsBad}
+use Rattle.feed_model.specs.Reply.{IsLegal, max_piece}
+
+-- bytes, and the place of the first of them
+pub record Part : Type 0 where
+  pub first : ℕ
+  pub bytes : List ℕ
+
+-- the place after the last of them
+abbrev pub end_of : Part → ℕ
+end_of part = part.first + length part.bytes
+
+-- what is kept of a release
+pub record Record : Type 0 where
+  pub name : Name
+  pub size : ℕ
+  pub state : State
+  pub parts : List Part
+
+-- one record for each name
+abbrev pub Content : Type 0
+Content = List Record
+
+-- the record of a name
+abbrev pub record_of : Content → Name → Option Record
+record_of [] n = None
+record_of (r ∷ rs) n = if name_eq r.name n then Some r else record_of rs n
+
+abbrev pub names : Content → List Name
+names rs = map (λ r. r.name) rs
+
+-- the byte that the parts have at a place
+abbrev pub byte_in : List Part → ℕ → Option ℕ
+byte_in [] place = None
+byte_in (p ∷ ps) place = or_else (byte_at p.first p.bytes place) (byte_in ps place)
+
+-- each part has 1 to 1,048,576 bytes, and none begins before the one in front of it ends
+abbrev pub ArePartsFrom : ℕ → List Part → Type 0
+ArePartsFrom place [] = Unit {0}
+ArePartsFrom place (p ∷ ps) = (place ≤ p.first) × (0 < length p.bytes) × (length p.bytes ≤ max_piece) × ArePartsFrom (end_of p) ps
+
+abbrev pub AreParts : List Part → Type 0
+AreParts parts = ArePartsFrom 0 parts
+
+-- what the state says
+abbrev pub IsState : History → Name → State → Type 0
+IsState h n Staged = ¬ (IsWhole h n)
+IsState h n Active = IsActive h n
+IsState h n Broken = IsBad h n
+
+-- the record has what the history has of the release; how its bytes are cut into parts is free
+pub record IsRecord (h : History) (n : Name) (r : Record) : Type 0 where
+  pub held : IsHeld h n
+  pub size : size_of h n ≡ Some r.size
+  pub bytes : (place : ℕ) → byte_in r.parts place ≡ kept h n place
+  pub parts : AreParts r.parts
+  pub state : IsState h n r.state
+
+-- just the releases that are held have a record
+pub record IsContent (c : Content) (h : History) : Type 0 where
+  pub legal : IsLegal h
+  pub distinct : IsDistinct name_eq (names c)
+  pub each : (n : Name) → MatchOption (record_of c n) (¬ (IsHeld h n)) (IsRecord h n)

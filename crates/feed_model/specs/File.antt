@@ -1,0 +1,8 @@
+-- The judgement of a whole file. Nothing above unfolds it.
+use Rattle.std.specs.Prelude.{ℕ, List, Option}
+use Rattle.feed_kbart.specs.Files.{bad_of}
+use Rattle.feed_kbart.specs.declared.fault.BadFile.{BadFile}
+
+-- why a file is bad, or nothing where it is good
+unfoldable pub fault_of : List ℕ → Option BadFile
+fault_of text = bad_of text

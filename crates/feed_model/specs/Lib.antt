@@ -1,0 +1,9 @@
+pub use Rattle.feed_names.specs.ReleaseName as ReleaseName
+pub mod File
+pub mod History
+pub mod Reply
+pub mod Content
+pub mod Change
+pub mod Parts
+pub mod Handles
+pub mod Sound

@@ -1,0 +1,59 @@
+-- Bytes beside the parts that are kept.
+use Rattle.std.specs.Prelude.{◌≡◌, ◌≢◌, ◌<◌, ◌≤◌, ◌+◌, ℕ, List, [], ◌∷◌, length, Option, Some, None, IsSome, is_none, if◌then◌else◌, IfSome}
+use Rattle.feed_names.specs.ReleaseName.{Name}
+use Rattle.feed_model.specs.History.{or_else, byte_at}
+use Rattle.feed_model.specs.Reply.{max_piece}
+use Rattle.feed_model.specs.Content.{Part, Record, Content, record_of, byte_in, AreParts}
+use Rattle.feed_model.specs.Change.{merged, NoneIsLater}
+
+-- how many bytes the parts have
+abbrev pub bytes_of : List Part → ℕ
+bytes_of [] = 0
+bytes_of (p ∷ ps) = length p.bytes + bytes_of ps
+
+-- a byte is another one than the parts have at its place
+abbrev pub DiffersIn : List Part → ℕ → List ℕ → Type 0
+DiffersIn ps first bytes = (place x y : ℕ) × (byte_in ps place ≡ Some x) × (byte_at first bytes place ≡ Some y) × (x ≢ y)
+
+-- where the parts have a place of the bytes, they have the same byte
+abbrev pub AgreesIn : List Part → ℕ → List ℕ → Type 0
+AgreesIn ps first bytes = (place x y : ℕ) → byte_in ps place ≡ Some x → byte_at first bytes place ≡ Some y → x ≡ y
+
+-- a byte stands at a place that the parts lack
+abbrev pub HasNew : List Part → ℕ → List ℕ → Type 0
+HasNew ps first bytes = (place : ℕ) × IsSome (byte_at first bytes place) × (byte_in ps place ≡ None)
+
+-- the parts have each place of the bytes
+abbrev pub Covers : List Part → ℕ → List ℕ → Type 0
+Covers ps first bytes = (place : ℕ) → IsSome (byte_at first bytes place) → IsSome (byte_in ps place)
+
+-- the part has no place of the parts
+abbrev pub IsApart : Part → List Part → Type 0
+IsApart p ps = (place : ℕ) → IsSome (byte_at p.first p.bytes place) → byte_in ps place ≡ None
+
+-- the parts qs have no place of the parts ps
+abbrev pub AreApart : List Part → List Part → Type 0
+AreApart qs ps = (place : ℕ) → IsSome (byte_in qs place) → byte_in ps place ≡ None
+
+-- with the parts qs the parts ps have these bytes too
+pub record Adds (ps : List Part) (first : ℕ) (bytes : List ℕ) (qs : List Part) : Type 0 where
+  pub union : (place : ℕ) → byte_in (merged ps qs) place ≡ or_else (byte_in ps place) (byte_at first bytes place)
+  pub parts : AreParts (merged ps qs)
+
+-- the parts qs have just those of the bytes whose places ps lack
+pub record Fills (ps : List Part) (first : ℕ) (bytes : List ℕ) (qs : List Part) : Type 0 where
+  pub parts : AreParts qs
+  pub just : (place : ℕ) → byte_in qs place ≡ (if is_none (byte_in ps place) then byte_at first bytes place else None)
+
+-- the piece is of a permitted length
+pub record IsSmall (bytes : List ℕ) : Type 0 where
+  pub some : 0 < length bytes
+  pub most : length bytes ≤ max_piece
+
+-- the piece is one of a recorded release that is not passed, of the recorded size, and inside of it
+pub record Reaches (c : Content) (n : Name) (first : ℕ) (total : Option ℕ) (bytes : List ℕ) (r : Record) : Type 0 where
+  pub small : IsSmall bytes
+  pub free : NoneIsLater c n
+  pub found : record_of c n ≡ Some r
+  pub sized : IfSome total (λ t. t ≡ r.size)
+  pub within : first + length bytes ≤ r.size

@@ -1,0 +1,93 @@
+-- Which answers are right.
+use Rattle.std.specs.Prelude.{◌≡◌, ◌≢◌, ◌<◌, ◌+◌, ◌⊎◌, ◌↔◌, ℕ, zero, suc, is_none, if◌then◌else◌, List, [], ◌∷◌, length, Option, Some, None, Ok, Err, slice_get, IsSome, IsSomeAnd}
+use Rattle.std.specs.List.{IsDistinct, Contains}
+use Rattle.feed_names.specs.ReleaseName.{Name, name_eq}
+use Rattle.feed_kbart.specs.declared.fault.BadFile.{BadFile}
+use Rattle.feed_kbart.specs.declared.fault.BadFile.TheVariants.{NoHeader}
+use Rattle.feed_model.specs.declared.reply.Reply.{Reply}
+use Rattle.feed_model.specs.declared.reply.Reply.TheVariants as replies
+use Rattle.feed_model.specs.declared.reply.Refusal.TheVariants as refusals
+use Rattle.feed_model.specs.File.{fault_of}
+use Rattle.feed_model.specs.History.{Event, Offered, Piece, Lost, Answer, History, or_else, byte_at, size_of, kept, IsPassed, IsHeld}
+
+-- Where the case holds, it decides; else what comes after it.
+abbrev pub Case : Type 0 → Type 0 → Type 0 → Type 0
+Case holds here after = (holds × here) ⊎ ((¬ holds) × after)
+
+-- this answer, or want of memory or a fault of the device in its place
+abbrev pub OrRefused : Answer → Type 0 → Type 0
+OrRefused answer right = right ⊎ ((answer ≡ Err refusals.Memory) ⊎ (answer ≡ Err refusals.Device))
+
+abbrev pub Commits : Answer → Reply → Type 0
+Commits answer reply = OrRefused answer (answer ≡ Ok reply)
+
+abbrev pub max_file : ℕ
+max_file = 67108864
+
+abbrev pub max_piece : ℕ
+max_piece = 1048576
+
+abbrev pub max_held : ℕ
+max_held = 256
+
+-- so many releases are held
+abbrev pub HoldsNumber : History → ℕ → Type 0
+HoldsNumber h k = (ns : List Name) × IsDistinct name_eq ns × ((n : Name) → IsHeld h n ↔ Contains ns n) × (length ns ≡ k)
+
+-- how many places below a size have no byte
+abbrev pub missing_below : (ℕ → Option ℕ) → ℕ → ℕ
+missing_below at zero = 0
+missing_below at (suc n) = missing_below at n + (if is_none (at n) then 1 else 0)
+
+-- what is kept, and the bytes of a piece beside it
+abbrev pub kept_with : History → Name → ℕ → List ℕ → ℕ → Option ℕ
+kept_with h n first bytes place = or_else (kept h n place) (byte_at first bytes place)
+
+-- the piece has another byte than the one that is kept
+abbrev pub Differs : History → Name → ℕ → List ℕ → Type 0
+Differs h n first bytes = (place x y : ℕ) × (kept h n place ≡ Some x) × (byte_at first bytes place ≡ Some y) × (x ≢ y)
+
+-- each byte of the piece is kept
+abbrev pub IsKept : History → Name → ℕ → List ℕ → Type 0
+IsKept h n first bytes = (place : ℕ) → IsSome (byte_at first bytes place) → IsSome (kept h n place)
+
+-- what a whole file is answered
+abbrev pub verdict : Option BadFile → Reply
+verdict None = replies.Activated
+verdict (Some why) = replies.Broken why
+
+-- a piece that brings a new byte: how many places are missing now; or, with the file whole, whether it is good
+abbrev pub Stores : History → Name → ℕ → List ℕ → Answer → Type 0
+Stores h n first bytes answer = OrRefused answer ((size : ℕ) × (size_of h n ≡ Some size) ×
+    Case (0 < missing_below (kept_with h n first bytes) size)
+    (answer ≡ Ok (replies.Stored (missing_below (kept_with h n first bytes) size)))
+    ((text : List ℕ) × (length text ≡ size) × ((place : ℕ) → place < size → kept_with h n first bytes place ≡ slice_get text place) × (answer ≡ Ok (verdict (fault_of text)))))
+
+-- the answer is right after this history: the first case that holds decides
+abbrev pub IsRight : History → Event → Answer → Type 0
+IsRight h (Offered n size) answer =
+    Case (max_file < size) (answer ≡ Err refusals.TooLarge)
+    (Case (IsPassed h n) (answer ≡ Ok replies.Older)
+    (Case (IsHeld h n) (Case (size_of h n ≡ Some size) (answer ≡ Ok replies.Known) (answer ≡ Err refusals.WrongSize))
+    (Case (HoldsNumber h max_held) (answer ≡ Err refusals.Full)
+    (Case (size ≡ 0) (Commits answer (replies.Broken NoHeader)) (Commits answer replies.Noted)))))
+IsRight h (Piece n first total bytes) answer =
+    Case ((length bytes ≡ 0) ⊎ (max_piece < length bytes)) (answer ≡ Err refusals.BadPiece)
+    (Case (IsPassed h n) (answer ≡ Ok replies.Older)
+    (Case (¬ (IsHeld h n)) (answer ≡ Err refusals.Unknown)
+    (Case (IsSomeAnd total (λ t. size_of h n ≢ Some t)) (answer ≡ Err refusals.WrongSize)
+    (Case (IsSomeAnd (size_of h n) (λ size. size < first + length bytes)) (answer ≡ Err refusals.Outside)
+    (Case (Differs h n first bytes) (answer ≡ Err refusals.Conflict)
+    (Case (IsKept h n first bytes) (answer ≡ Ok replies.Repeated)
+    (Stores h n first bytes answer)))))))
+IsRight h (Lost n) answer = answer ≡ Ok replies.Nothing
+
+-- each answer is right after what came before it
+abbrev pub IsLegal : History → Type 0
+IsLegal [] = Unit {0}
+IsLegal ((event, answer) ∷ h) = IsRight h event answer × IsLegal h
+
+-- the history goes on by these events and answers, in order
+abbrev pub gone_on : History → List Event → List Answer → History
+gone_on h (event ∷ events) (answer ∷ answers) = gone_on ((event, answer) ∷ h) events answers
+gone_on h _ _ = h

@@ -1,0 +1,12 @@
+pub mod Rest
+pub mod Order
+pub mod Places
+pub mod Filled
+pub mod Left
+pub mod Agreed
+pub mod Merged
+pub mod Fresh
+pub mod Written
+pub mod Runs
+pub mod Unique
+pub mod Counting

@@ -1,0 +1,148 @@
+//! A piece beside the parts that are kept.
+ghost use Rattle.std.specs.Prelude.{◌≡◌, ◌+◌, ◌-◌, ◌<◌, ◌≤◌, ◌^◌, ◌++◌, ℕ, [], ◌∷◌, false, length, vec_len, All, ◌↔◌, IsSome, IsTrue, IfOk, OnOk};
+ghost use Rattle.feed_model.specs.Reply.{missing_below};
+ghost use Rattle.feed_model.specs.Content.{byte_in};
+ghost use Rattle.feed_model.specs.Change.{merged};
+ghost use Rattle.feed_parts.specs.Shown.{shown_part, shown_parts};
+ghost use Rattle.feed_parts.specs.Piece.{Adds, AgreesIn, AreWithin, Covers, DiffersIn, HasNew, total_length};
+ghost use Rattle.feed_parts.specs.Cut.{cut, cuts};
+
+use crate::part::{Part, end_of};
+use std::alloc::{AllocError, Global};
+
+// The parts that have a place from `first` up to `end`, `end` not included.
+fn meeting(parts: &[Part], size: u64, first: u64, end: u64) -> &[Part]
+    requires within { AreWithin size (shown_parts parts.now) }
+    requires small { size < 2 ^ 63 }
+    ensures order { AreWithin size (shown_parts result.now) }
+    ensures begins { All (λ p. p.first < end) (shown_parts result.now) }
+    ensures same { (place : ℕ) → first ≤ place → place < end → byte_in (shown_parts result.now) place ≡ byte_in (shown_parts parts.now) place }
+{
+    let from = parts.partition_point(|part| end_of(part) <= first);
+    let rest = &parts[from..];
+    let to = rest.partition_point(|part| part.first < end);
+    &rest[..to]
+}
+
+/// Whether a kept byte is another one than the piece has at its place. It takes no memory.
+pub fn conflicts(parts: &[Part], size: u64, first: u64, bytes: &[u8]) -> bool
+    requires within { AreWithin size (shown_parts parts.now) }
+    requires small { size < 2 ^ 63 }
+    requires inside { first + length bytes.now ≤ size }
+    ensures differs { IsTrue result → DiffersIn (shown_parts parts.now) first bytes.now }
+    ensures agrees { result ≡ false → AgreesIn (shown_parts parts.now) first bytes.now }
+{
+    let end = first + bytes.len() as u64;
+    for part in meeting(parts, size, first, end) {
+        if differs(part, first, bytes) {
+            return true;
+        }
+    }
+    false
+}
+
+// Whether a byte of the part is another one than the piece has at its place.
+fn differs(part: &Part, first: u64, bytes: &[u8]) -> bool
+    requires part { part.now.first + vec_len part.now.bytes < 2 ^ 64 }
+    requires piece { first + length bytes.now < 2 ^ 64 }
+    ensures differs { IsTrue result → DiffersIn (shown_part part.now ∷ []) first bytes.now }
+    ensures agrees { result ≡ false → AgreesIn (shown_part part.now ∷ []) first bytes.now }
+{
+    let low = part.first.max(first);
+    let high = end_of(part).min(first + bytes.len() as u64);
+    low < high && slice_at(&part.bytes, part.first, low, high) != slice_at(bytes, first, low, high)
+}
+
+// The bytes at the places from `low` up to `high`, of bytes that begin at `first`.
+fn slice_at(bytes: &[u8], first: u64, low: u64, high: u64) -> &[u8]
+    requires low { first ≤ low }
+    requires order { low ≤ high }
+    requires high { high ≤ first + length bytes.now }
+    ensures { result.now ≡ (cut first bytes.now low high).bytes }
+{
+    &bytes[(low - first) as usize..(high - first) as usize]
+}
+
+/// Whether each place of the piece is kept. It takes no memory.
+pub fn covers(parts: &[Part], size: u64, first: u64, bytes: &[u8]) -> bool
+    requires within { AreWithin size (shown_parts parts.now) }
+    requires small { size < 2 ^ 63 }
+    requires inside { first + length bytes.now ≤ size }
+    ensures covers { IsTrue result → Covers (shown_parts parts.now) first bytes.now }
+    ensures new { result ≡ false → HasNew (shown_parts parts.now) first bytes.now }
+{
+    let end = first + bytes.len() as u64;
+    let mut place = first;
+    for part in meeting(parts, size, first, end) {
+        if place < part.first {
+            return false;
+        }
+        place = place.max(end_of(part));
+    }
+    end <= place
+}
+
+/// The bytes of the piece at whose places none is kept, a part for each gap, in order.
+pub fn new_parts(
+    alloc: Global,
+    parts: &[Part],
+    size: u64,
+    first: u64,
+    bytes: &[u8],
+) -> Result<Vec<Part>, AllocError>
+    requires within { AreWithin size (shown_parts parts.now) }
+    requires small { size < 2 ^ 63 }
+    requires inside { first + length bytes.now ≤ size }
+    requires piece { length bytes.now ≤ 1048576 }
+    ensures adds { IfOk result (λ new. Adds size (shown_parts parts.now) first bytes.now (shown_parts new.items)) }
+    ensures some { IfOk result (λ new. HasNew (shown_parts parts.now) first bytes.now → 0 < length new.items) }
+    ensures missing { IfOk result (λ new. missing_below (byte_in (merged (shown_parts parts.now) (shown_parts new.items))) size + total_length (shown_parts new.items) ≡ missing_below (byte_in (shown_parts parts.now)) size) }
+    ensures whole { IfOk result (λ new. (missing_below (byte_in (merged (shown_parts parts.now) (shown_parts new.items))) size ≡ 0) ↔ ((place : ℕ) → place < size → IsSome (byte_in (merged (shown_parts parts.now) (shown_parts new.items)) place))) }
+{
+    let end = first + bytes.len() as u64;
+    let mut new = Vec::new(alloc);
+    let mut place = first;
+    for part in meeting(parts, size, first, end) {
+        push_cut(alloc, &mut new, first, bytes, place, part.first)?;
+        place = place.max(end_of(part));
+    }
+    push_cut(alloc, &mut new, first, bytes, place, end)?;
+    Ok(new)
+}
+
+// Adds the piece's bytes at the places from `low` up to `high` as a part, if there are any.
+fn push_cut(
+    alloc: Global,
+    new: &mut Vec<Part>,
+    first: u64,
+    bytes: &[u8],
+    low: u64,
+    high: u64,
+) -> Result<(), AllocError>
+    requires low { first ≤ low }
+    requires high { high ≤ first + length bytes.now }
+    ensures { OnOk result (shown_parts new.new.items ≡ shown_parts new.old.items ++ cuts first bytes.now low high) }
+{
+    if low < high {
+        new.push(Part {
+            first: low,
+            bytes: Vec::from_slice(alloc, slice_at(bytes, first, low, high))?,
+        })?;
+    }
+    Ok(())
+}
+
+/// How many bytes parts inside a file have. It takes no memory.
+pub fn byte_count(parts: &[Part], size: u64) -> u64
+    requires within { AreWithin size (shown_parts parts.now) }
+    requires small { size < 2 ^ 63 }
+    ensures value { result ≡ total_length (shown_parts parts.now) }
+    ensures bound { result ≤ size }
+    ensures missing { missing_below (byte_in (shown_parts parts.now)) size + result ≡ size }
+{
+    let mut count = 0u64;
+    for part in parts {
+        count = count.saturating_add(part.bytes.len() as u64);
+    }
+    count
+}
