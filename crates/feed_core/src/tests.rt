@@ -1,5 +1,4 @@
-ghost use Rattle.std.specs.Prelude.{Unit};
-ghost use Rattle.feed_core.specs.Cause.{IsCounted};
+ghost use Rattle.feed_core.specs.Shown.{shown};
 
 use crate::{
     AnswerFault, Change, Event, Feed, Keep, KeepFault, Line, ListKeep, PIECE_LIMIT, Record,
@@ -217,7 +216,7 @@ struct Failing {
 }
 
 impl Keep for Failing {
-    ghost content = { λ keeper. ListKeep.content keeper.list };
+    ghost content = { λ keeper. shown keeper.list.records.items };
 
     ghost clean = { λ _. Unit {0} };
 
@@ -294,6 +293,10 @@ fn a_failing_device_is_told_and_keeps_nothing(rt: HostRuntime) -> Result<(), Fai
         printed.as_slice(),
         b"published\nnoted\nrefused Device\nrefused Device\nnone\nrefused NoRelease\n".as_slice()
     );
-    assert_eq!(rt; shown.into_keepers()[0].failures(), 2);
+    let kept = shown.into_keepers();
+    let Some(keeper) = kept.first() else {
+        return Err(Fail::new("no keeper came back"));
+    };
+    assert_eq!(rt; keeper.failures(), 2);
     Ok(())
 }
