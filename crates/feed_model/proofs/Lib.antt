@@ -24,3 +24,4 @@ pub mod Gaps
 pub mod Limits
 pub mod Held
 pub mod Soundness
+pub mod Examples
