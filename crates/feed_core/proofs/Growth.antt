@@ -1,22 +1,26 @@
 -- New parts of a release: how many places are missing with them, and what the commit owes and makes.
-use Rattle.std.proofs.Common.{◌≡◌, ◌≢◌, ◌≤◌, ◌<◌, ◌+◌, ◌-◌, ℕ, zero, suc, List, [], ◌∷◌, length, get_or, set, Option, Some, IsSome, refl, sym, ◌∙◌, ap, subst, arith, true}
+use Rattle.std.proofs.Common.{◌≡◌, ◌≢◌, ◌≤◌, ◌<◌, ◌+◌, ◌-◌, ℕ, zero, suc, List, [], ◌∷◌, length, get_or, set, Option, Some, None, IsSome, refl, sym, ◌∙◌, ap, subst, arith, true}
+use Rattle.std.specs.Prelude.{if◌then◌else◌, Bool}
+use Rattle.std.proofs.Math.Dec.{eqb-suc-zero}
 use Rattle.std.proofs.lemmas.List.Sums.{sum_by-cons}
 use Rattle.feed_names.specs.ReleaseName.{Name, name_eq}
+use Rattle.feed_kbart.specs.HoldingsValue.{HoldingsValue}
 use Rattle.feed_model.specs.declared.state.State.{State}
 use Rattle.feed_model.specs.declared.state.State.TheVariants.{Staged, Broken, Active}
 use Rattle.feed_model.specs.History.{byte_at}
 use Rattle.feed_model.specs.Reply.{max_file, missing_below}
 use Rattle.feed_model.specs.Content.{Part, Record, Content, record_of, byte_in, end_of, AreParts}
-use Rattle.feed_model.specs.Change.{merged, grown, changed, TakesParts, Completes, NoneIsLater, IsAllowed}
+use Rattle.feed_model.specs.Change.{merged, grown, changed, new_record, TakesParts, Completes, NoneIsLater, IsAllowed}
 use Rattle.feed_model.specs.Parts.{bytes_of, Reaches}
 use Rattle.feed_model.proofs.Names.{name_is}
+use Rattle.feed_model.proofs.Faults.{empty_bad}
 use Rattle.feed_model.proofs.Gaps.{missing_of_parts, bytes_of-merged}
 use Rattle.feed_model.proofs.Keeps.{none_missing, completes_by}
 use Rattle.feed_model.proofs.Merging.{byte_at-within}
 use Rattle.feed_parts.specs.declared.part.Part as code_part
 use Rattle.feed_parts.specs.Shown.{shown_parts}
 use Rattle.feed_parts.specs.Piece.{AreWithin, Covers, total_length}
-use Rattle.feed_core.specs.ReleaseValue.{ReleaseValue, IsSound, content_of, IsPlaceOf, change_as}
+use Rattle.feed_core.specs.ReleaseValue.{ReleaseValue, IsRelease, IsKnown, content_of, IsPlaceOf, change_as}
 use Rattle.feed_core.proofs.Finding.{found_at, set_at}
 
 -- as many parts are seen as there are
@@ -45,11 +49,20 @@ pub full_covers : (size : ℕ) (ps : List Part) (first : ℕ) (bytes : List ℕ)
 full_covers size ps first bytes within full inside place some =
     none_missing (byte_in ps) size (omega (arith, missing_of size ps within)) place (omega (arith, byte_at-within first bytes place some))
 
--- a sound release is sound with its new parts
-pub sound_grown : (r : Record) (missing : ℕ) (new parts : List Part) (state : State) → IsSound r missing → AreWithin r.size (merged r.parts new)
+-- a release of which nothing is kept yet
+pub sound_new : (n : Name) (size : ℕ) → size ≤ max_file → IsRelease (new_record n size) size None
+sound_new n size limit = by size limit
+  where
+    by : (k : ℕ) → k ≤ max_file → IsRelease (new_record n k) k None
+    by zero le = record { within = record { parts = tt; inside = λ k d lt. absurd (omega (arith, lt)) }; limit = le; counted = refl; staged = λ e. absurd (cc); whole = λ e. refl; known = ([], record { count = refl; bytes = λ place lt. absurd (omega (arith, lt)) }, empty_bad, refl) }
+    by (suc k) le = subst (λ (s : State). IsRelease (record { name = n; size = suc k; state = s; parts = [] }) (suc k) None) (sym (ap (λ (b : Bool). if b then Broken else Staged) (eqb-suc-zero k)))
+        (record { within = record { parts = tt; inside = λ k d lt. absurd (omega (arith, lt)) }; limit = le; counted = omega arith; staged = λ e. omega arith; whole = λ e. absurd (e refl); known = refl })
+
+-- a release with its new parts
+pub sound_grown : (r : Record) (missing : ℕ) (holdings : Option HoldingsValue) (new parts : List Part) (state : State) (known : Option HoldingsValue) → IsRelease r missing holdings → AreWithin r.size (merged r.parts new)
     → (state ≡ Staged → 0 < missing_below (byte_in (merged r.parts new)) r.size) → (state ≢ Staged → missing_below (byte_in (merged r.parts new)) r.size ≡ 0)
-    → parts ≡ merged r.parts new → IsSound (record { name = r.name; size = r.size; state = state; parts = parts }) (missing - total_length new)
-sound_grown r missing new parts state sound whole lacks full is =
+    → IsKnown state r.size (merged r.parts new) known → parts ≡ merged r.parts new → IsRelease (record { name = r.name; size = r.size; state = state; parts = parts }) (missing - total_length new) known
+sound_grown r missing holdings new parts state known sound whole lacks full knows is =
     let left = missing_after r.size missing r.parts new sound.counted whole in
     let total = ap total_length is ∙ total_after r.parts new in
     record {
@@ -58,6 +71,7 @@ sound_grown r missing new parts state sound whole lacks full is =
       counted = omega (arith, left, total, missing_of r.size (merged r.parts new) whole, total_after r.parts new);
       staged = λ e. rw left (lacks e);
       whole = λ e. left ∙ full e;
+      known = rw is knows;
     }
 
 pub takes : (c : Content) (n : Name) (r : Record) (new : List Part) → record_of c n ≡ Some r → r.state ≡ Staged → 0 < length new → AreWithin r.size new → AreWithin r.size (merged r.parts new) → TakesParts c n new r

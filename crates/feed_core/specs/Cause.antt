@@ -2,8 +2,8 @@
 use Rattle.std.specs.Prelude.{◌≡◌, ◌<◌, ◌≤◌, ◌⊎◌, ℕ, Result, Err}
 use Rattle.feed_model.specs.declared.reply.Refusal.TheVariants as refusals
 use Rattle.feed_model.specs.History.{Answer}
-use Rattle.feed_core.specs.declared.keep.KeepFault.{KeepFault}
-use Rattle.feed_core.specs.declared.keep.KeepFault.TheVariants.{Device}
+use Rattle.feed_model.specs.declared.keep_fault.KeepFault.{KeepFault}
+use Rattle.feed_model.specs.declared.keep_fault.KeepFault.TheVariants.{Device}
 
 -- the count rose, or stands at its greatest value
 abbrev pub HasFailed : ℕ → ℕ → Type 0

@@ -3,3 +3,5 @@ pub mod Told
 pub mod ReleaseValue
 pub mod Cause
 pub mod NextRange
+pub mod Answered
+pub mod Nodes

@@ -7,8 +7,9 @@ use Rattle.feed_kbart.specs.declared.fault.KbartFault.{KbartFault}
 use Rattle.feed_kbart.specs.declared.fault.KbartFault.TheVariants.{Bad}
 use Rattle.feed_model.specs.File.{fault_of}
 use Rattle.feed_model.specs.Reply.{max_file}
-use Rattle.feed_model.specs.Content.{Part, Record, Content, byte_in}
-use Rattle.feed_model.specs.Change.{Change, Pieces, Break, Activate, merged}
+use Rattle.feed_model.specs.Content.{Part, Record, Content}
+use Rattle.feed_model.specs.Sound.{IsText}
+use Rattle.feed_model.specs.Change.{Change, Pieces, Break, Activate}
 use Rattle.feed_model.specs.declared.state.State.{State}
 use Rattle.feed_model.specs.declared.state.State.TheVariants.{Staged, Broken, Active}
 use Rattle.feed_parts.specs.Piece.{AreWithin, total_length, DiffersIn, AgreesIn, HasNew, Covers}
@@ -20,13 +21,20 @@ pub record ReleaseValue : Type 0 where
   pub kept : Record
   pub holdings : Option HoldingsValue
 
+-- what is known of the file: of an active release that it is good, and its holdings; of a broken one that it is bad
+abbrev pub IsKnown : State → ℕ → List Part → Option HoldingsValue → Type 0
+IsKnown Staged size parts holdings = holdings ≡ None
+IsKnown Broken size parts holdings = (text : List ℕ) × IsText size parts text × (fault_of text ≢ None) × (holdings ≡ None)
+IsKnown Active size parts holdings = (text : List ℕ) × IsText size parts text × (fault_of text ≡ None) × (holdings ≡ Some (holdings_of text))
+
 -- the parts lie inside the file, which is within the limit; so many places are missing; and it is staged just while some are
-pub record IsSound (kept : Record) (missing : ℕ) : Type 0 where
+pub record IsRelease (kept : Record) (missing : ℕ) (holdings : Option HoldingsValue) : Type 0 where
   pub within : AreWithin kept.size kept.parts
   pub limit : kept.size ≤ max_file
   pub counted : missing + total_length kept.parts ≡ kept.size
   pub staged : kept.state ≡ Staged → 0 < missing
   pub whole : kept.state ≢ Staged → missing ≡ 0
+  pub known : IsKnown kept.state kept.size kept.parts holdings
 
 -- the records of releases
 abbrev pub content_of : List ReleaseValue → Content
@@ -52,16 +60,11 @@ LiesOver r first bytes Conflict = DiffersIn r.parts first bytes
 LiesOver r first bytes Kept = AgreesIn r.parts first bytes × Covers r.parts first bytes
 LiesOver r first bytes New = AgreesIn r.parts first bytes × HasNew r.parts first bytes × (r.state ≡ Staged)
 
--- the text is the file of a release with these new parts
-pub record IsTextWith (r : Record) (new : List Part) (text : List ℕ) : Type 0 where
-  pub size : length text ≡ r.size
-  pub bytes : (place : ℕ) → place < r.size → byte_in (merged r.parts new) place ≡ slice_get text place
-
--- what the file is judged as, unless memory is short
-abbrev pub IsJudged : Record → List Part → Result HoldingsValue KbartFault → Type 0
-IsJudged r new (Ok holdings) = (text : List ℕ) × IsTextWith r new text × (fault_of text ≡ None) × (holdings ≡ holdings_of text)
-IsJudged r new (Err (Bad why)) = (text : List ℕ) × IsTextWith r new text × (fault_of text ≡ Some why)
-IsJudged r new (Err fault) = Unit {0}
+-- what whole parts are judged as, unless memory is short
+abbrev pub IsJudged : ℕ → List Part → Result HoldingsValue KbartFault → Type 0
+IsJudged size parts (Ok holdings) = (text : List ℕ) × IsText size parts text × (fault_of text ≡ None) × (holdings ≡ holdings_of text)
+IsJudged size parts (Err (Bad why)) = (text : List ℕ) × IsText size parts text × (fault_of text ≡ Some why)
+IsJudged size parts (Err fault) = Unit {0}
 
 -- the change that gives a release new parts and a state
 abbrev pub change_as : State → Name → List Part → Change

@@ -2,13 +2,14 @@ ghost use Rattle.std.specs.Prelude.{◌≡◌, ◌≤◌, length};
 ghost use Rattle.feed_core.specs.ReleaseValue.{content_of};
 
 use crate::event::Event;
-use crate::keep::{Keep, KeepFault};
+use crate::keep::Keep;
 use crate::offer::offer;
 use crate::piece::piece;
 use crate::release::Release;
 use crate::releases::{active_of, find};
+use crate::reopen::reopened;
 use feed_answer::{Answer, Query, answer};
-use feed_model::{Refusal, Reply};
+use feed_model::{KeepFault, Refusal, Reply};
 use feed_names::ReleaseName;
 use std::alloc::{AllocError, Global};
 use thiserror::Error;
@@ -31,6 +32,15 @@ pub enum AnswerFault {
     Memory,
 }
 
+/// Where in an event a feed stops.
+#[derive(Clone, Copy, Debug, PartialEq, Eq)]
+pub enum Point {
+    /// Before its commit.
+    Before,
+    /// After its commit, and before its answer.
+    After,
+}
+
 /// The feed of a node over its keeper.
 #[derive(Drop)]
 pub struct Feed<K: Keep + Drop> {
@@ -42,39 +52,42 @@ pub struct Feed<K: Keep + Drop> {
 }
 
 impl<K: Keep + Drop> Feed<K> {
-    ghost use Rattle.std.specs.Prelude.{[], map, IfOk, IfErr, OnErr, option_map};
-    ghost use Rattle.feed_model.specs.History.{History, Reports};
-    ghost use Rattle.feed_model.specs.Reply.{gone_on};
+    ghost use Rattle.std.specs.Prelude.{◌≢◌, ◌↔◌, ◌∷◌, [], map, IfOk, IfErr, OnErr, IsTrue, option_map};
+    ghost use Rattle.feed_model.specs.History.{Answer as answer_of_event, History, Reports};
+    ghost use Rattle.feed_model.specs.Reply.{IsRight, gone_on};
+    ghost use Rattle.feed_model.specs.Sound.{IsSound};
     ghost use Rattle.feed_model.specs.Content.{IsContent};
     ghost use Rattle.feed_model.specs.Handles.{Handles};
+    ghost use Rattle.feed_core.specs.Answered.{IsAnswered};
     ghost use Rattle.feed_core.specs.NextRange.{IsNextRange};
     ghost use Rattle.feed_core.specs.Told.{told};
     ghost use Rattle.feed_core.specs.Cause.{HasFailed, IsAnswerCounted};
 
-    /// Opens a feed on a keeper that holds nothing yet; a keeper that holds something is refused as damaged.
+    /// Opens a feed on what a keeper holds. `Damaged` where this is nothing that a feed ever keeps: more than 256
+    /// releases, a size above the limit of a file, parts that are empty, above the limit of a piece, out of order or
+    /// outside of the file, a release beside a later active one of its package, or a state that its file does not bear
+    /// out. The file of each whole release is read once.
     pub fn open(alloc: Global, mut keeper: K) -> Result<Feed<K>, OpenFault<K>>
-        ensures empty { IfOk result (λ feed. content_of feed.releases.items ≡ []) }
-        ensures same { IfOk result (λ feed. K.clean feed.keeper → K.content keeper ≡ []) }
+        ensures content { IfOk result (λ feed. K.clean feed.keeper → content_of feed.releases.items ≡ K.content keeper) }
+        ensures sound { IfOk result (λ feed. IsSound (content_of feed.releases.items)) }
         ensures clean { IfOk result (λ feed. K.clean feed.keeper → K.clean keeper) }
         ensures counted { IfOk result (λ feed. K.failed keeper ≤ K.failed feed.keeper) }
+        ensures damaged { IfErr result (λ fault. fault.cause ≡ KeepFault.Damaged → K.clean fault.keeper → ¬ (IsSound (K.content keeper))) }
+        ensures legal { IfErr result (λ fault. K.clean fault.keeper → (h : History) → IsContent (K.content keeper) h → fault.cause ≢ KeepFault.Damaged) }
         ensures kept { IfErr result (λ fault. K.clean fault.keeper → K.content fault.keeper ≡ K.content keeper) }
         ensures kept_clean { IfErr result (λ fault. K.clean fault.keeper → K.clean keeper) }
         ensures device { IfErr result (λ fault. (K.failed keeper ≤ K.failed fault.keeper) × (fault.cause ≡ KeepFault.Device → HasFailed (K.failed keeper) (K.failed fault.keeper))) }
     {
-        match keeper.load(alloc) {
-            Ok(records) => {
-                if !records.is_empty() {
-                    return Err(OpenFault {
-                        cause: KeepFault::Damaged,
-                        keeper,
-                    });
-                }
-                Ok(Feed {
-                    alloc,
-                    keeper,
-                    releases: Vec::new(alloc),
-                })
-            }
+        let records = match keeper.load(alloc) {
+            Ok(records) => records,
+            Err(cause) => return Err(OpenFault { cause, keeper }),
+        };
+        match reopened(alloc, records) {
+            Ok(releases) => Ok(Feed {
+                alloc,
+                keeper,
+                releases,
+            }),
             Err(cause) => Err(OpenFault { cause, keeper }),
         }
     }
@@ -150,20 +163,33 @@ impl<K: Keep + Drop> Feed<K> {
         }
     }
 
-    /// The rows of a package's active release that match a query.
-    pub fn answer(&self, package: &[u8], query: &Query) -> Result<Answer<'_>, AnswerFault> {
+    /// The rows of a package's active release that match a query: those of its published file as a whole.
+    pub fn answer(&self, package: &[u8], query: &Query) -> Result<Answer<'_>, AnswerFault>
+        ensures { (h : History) → IsContent (content_of self.now.releases.items) h → IsAnswered h «package».now query.now result }
+    {
         let Some(at) = active_of(&self.releases, package) else {
             return Err(AnswerFault::NoRelease);
         };
-        match self.releases[at].holdings() {
-            Some(holdings) => answer(self.alloc, holdings, query).map_err(|_| AnswerFault::Memory),
-            None => Err(AnswerFault::NoRelease),
+        let Some(holdings) = self.releases[at].holdings() else {
+            return Err(AnswerFault::NoRelease);
+        };
+        match answer(self.alloc, holdings, query) {
+            Ok(answer) => Ok(answer),
+            Err(_) => Err(AnswerFault::Memory),
         }
     }
 
-    /// The keeper.
+    /// Whether no release is recorded.
+    pub fn is_empty(&self) -> bool
+        ensures { IsTrue result ↔ (content_of self.now.releases.items ≡ []) }
+    {
+        self.releases.is_empty()
+    }
+
+    /// Stops between two events: the keeper, with its content.
     pub fn restart(self) -> K
-        ensures { K.clean result → K.content result ≡ content_of self.releases.items }
+        ensures same { result ≡ self.keeper }
+        ensures content { K.clean result → K.content result ≡ content_of self.releases.items }
     {
         let Feed {
             alloc: _,
@@ -171,5 +197,23 @@ impl<K: Keep + Drop> Feed<K> {
             releases: _,
         } = self;
         keeper
+    }
+
+    /// Stops in the middle of an event: the keeper as it was before the commit, or as it is after it. An event that
+    /// commits nothing, or whose commit is refused, leaves it as it was.
+    pub fn stop_at(self, event: &Event<'_>, point: Point) -> K
+        ensures before { point ≡ Point.Before → (result ≡ self.keeper) × (K.clean result → K.content result ≡ content_of self.releases.items) }
+        ensures after { point ≡ Point.After → K.clean result → (h : History) → IsContent (content_of self.releases.items) h → (answer : answer_of_event) × IsRight h (told event.now) answer × IsContent (K.content result) ((told event.now, answer) ∷ h) }
+        ensures clean { K.clean result → K.clean self.keeper }
+        ensures counted { K.failed self.keeper ≤ K.failed result }
+    {
+        match point {
+            Point::Before => self.restart(),
+            Point::After => {
+                let mut feed = self;
+                let _answer = feed.handle(event);
+                feed.restart()
+            }
+        }
     }
 }

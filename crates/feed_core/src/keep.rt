@@ -1,34 +1,22 @@
 ghost use Rattle.std.specs.Prelude.{◌≡◌, ℕ, IfOk, OnOk, OnErr, IsErrOf};
-ghost use Rattle.feed_model.specs.Content.{Content};
+ghost use Rattle.std.specs.List.{IsDistinct};
+ghost use Rattle.feed_names.specs.ReleaseName.{name_eq};
+ghost use Rattle.feed_model.specs.Content.{Content, names};
 ghost use Rattle.feed_model.specs.Change.{after, IsAllowed};
 ghost use Rattle.feed_core.specs.Shown.{shown, shown_change};
 ghost use Rattle.feed_core.specs.Cause.{IsCounted};
 
 use crate::record::Record;
+use feed_model::KeepFault;
 use feed_names::ReleaseName;
 use feed_parts::Part;
 use std::alloc::Global;
-use thiserror::Error;
 
 /// A feed records at most this many releases, of all packages together.
 pub const RELEASE_LIMIT: usize = 256;
 
 /// A piece has 1 to this many bytes.
 pub const PIECE_LIMIT: usize = 1_048_576;
-
-/// Why a keeper refused.
-#[derive(Clone, Copy, Debug, PartialEq, Eq, Error)]
-pub enum KeepFault {
-    /// Want of memory.
-    #[error("Memory")]
-    Memory,
-    /// The device failed; the keeper has counted it.
-    #[error("Device")]
-    Device,
-    /// The store holds what is no list of records. Only `load` answers it.
-    #[error("Damaged")]
-    Damaged,
-}
 
 /// A change of what is kept, made whole or not at all. Parts are in order, disjoint from one another and from the kept
 /// ones, and each has 1 to `PIECE_LIMIT` bytes.
@@ -74,9 +62,12 @@ pub trait Keep {
     fn failures(&self) -> u64
         ensures { result ≡ failed self.now };
 
-    /// All records, ordered by the texts of their names, each with its parts ordered by their first places.
+    /// All records, ordered by the texts of their names, each with its parts ordered by their first places. `Damaged`
+    /// where the store holds no list of records, one for each name.
     fn load(&mut self, alloc: Global) -> Result<Vec<Record>, KeepFault>
         ensures records { IfOk result (λ records. clean self.new → shown records.items ≡ content self.old) }
+        ensures distinct { IfOk result (λ records. IsDistinct name_eq (names (shown records.items))) }
+        ensures damaged { IsErrOf result KeepFault.Damaged → clean self.new → ¬ (IsDistinct name_eq (names (content self.old))) }
         ensures same { clean self.new → content self.new ≡ content self.old }
         ensures clean { clean self.new → clean self.old }
         ensures device { IsCounted result (failed self.old) (failed self.new) };

@@ -1,13 +1,15 @@
-ghost use Rattle.std.specs.Prelude.{◌≡◌, ◌==◌, ◌≤◌, [], if◌then◌else◌, Some, None, IfOk, IfSome, IfNone, OnOk, OnErr, length, insert, not};
-ghost use Rattle.feed_model.specs.Content.{Record as kept_record, AreParts, record_of};
+ghost use Rattle.std.specs.Prelude.{◌≡◌, ◌↔◌, false, ◌≤◌, [], Some, None, IfOk, IfSome, IfNone, OnOk, OnErr, length, insert, not};
+ghost use Rattle.std.specs.List.{IsDistinct};
+ghost use Rattle.feed_names.specs.ReleaseName.{name_eq};
+ghost use Rattle.feed_model.specs.Content.{Record as kept_record, AreParts, names, record_of};
 ghost use Rattle.feed_model.specs.Change.{changed, grown, insert_record, is_earlier, merged, new_record, without_earlier};
 ghost use Rattle.feed_parts.specs.Shown.{shown_parts};
 ghost use Rattle.feed_core.specs.Shown.{shown, shown_record, IsRecordAt};
 
-use crate::keep::{Change, Keep, KeepFault};
+use crate::keep::{Change, Keep};
 use crate::name_order::{is_before, stands_before};
-use crate::record::Record;
-use feed_model::State;
+use crate::record::{Record, initial_state};
+use feed_model::{KeepFault, State};
 use feed_names::ReleaseName;
 use feed_parts::{Part, copied, merge};
 use std::alloc::{AllocError, Global};
@@ -29,6 +31,17 @@ impl ListKeep {
             records: Vec::new(alloc),
         }
     }
+
+    /// A keeper of these records, which it puts in order. It takes no memory. Where a name stands twice, `load` answers
+    /// `Damaged`.
+    pub fn of(alloc: Global, records: Vec<Record>) -> ListKeep {
+        let mut records = records;
+        records.sort_unstable_by(|one, other| one.name.text().cmp(other.name.text()));
+        for record in &mut records {
+            record.parts.sort_unstable_by_key(|part| part.first);
+        }
+        ListKeep { alloc, records }
+    }
 }
 
 impl Keep for ListKeep {
@@ -43,6 +56,9 @@ impl Keep for ListKeep {
     }
 
     fn load(&mut self, alloc: Global) -> Result<Vec<Record>, KeepFault> {
+        if has_twice(&self.records) {
+            return Err(KeepFault::Damaged);
+        }
         match copied_records(alloc, &self.records) {
             Ok(records) => Ok(records),
             Err(_) => Err(KeepFault::Memory),
@@ -87,16 +103,6 @@ fn add(
     };
     records.insert(at, record)?;
     Ok(())
-}
-
-fn initial_state(size: u64) -> State
-    ensures { result ≡ (if size == 0 then State.Broken else State.Staged) }
-{
-    if size == 0 {
-        State::Broken
-    } else {
-        State::Staged
-    }
 }
 
 fn grow(
@@ -170,6 +176,18 @@ fn place_for(records: &[Record], name: &ReleaseName) -> usize
         }
     }
     records.len()
+}
+
+// Whether a name stands twice.
+fn has_twice(records: &[Record]) -> bool
+    ensures { result ≡ false ↔ IsDistinct name_eq (names (shown records.now)) }
+{
+    for (at, record) in records.iter().enumerate() {
+        if let Some(_) = find_record(&records[..at], &record.name) {
+            return true;
+        }
+    }
+    false
 }
 
 fn copied_records(alloc: Global, records: &[Record]) -> Result<Vec<Record>, AllocError>

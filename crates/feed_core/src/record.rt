@@ -1,3 +1,5 @@
+ghost use Rattle.std.specs.Prelude.{◌≡◌, ◌==◌, if◌then◌else◌};
+
 use feed_model::State;
 use feed_names::ReleaseName;
 use feed_parts::Part;
@@ -9,4 +11,15 @@ pub struct Record {
     pub size: u64,
     pub state: State,
     pub parts: Vec<Part>,
+}
+
+/// The state of a release of which nothing is kept yet: a file of size 0 is whole, and bad.
+pub fn initial_state(size: u64) -> State
+    ensures { result ≡ (if size == 0 then State.Broken else State.Staged) }
+{
+    if size == 0 {
+        State::Broken
+    } else {
+        State::Staged
+    }
 }

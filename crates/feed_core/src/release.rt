@@ -2,20 +2,22 @@ ghost use Rattle.std.specs.Prelude.{◌≡◌, ◌≢◌, ◌<◌, ◌≤◌, �
 ghost use Rattle.feed_model.specs.Reply.{missing_below};
 ghost use Rattle.feed_model.specs.Content.{byte_in};
 ghost use Rattle.feed_model.specs.Change.{grown, merged, new_record, after, IsAllowed};
+ghost use Rattle.feed_model.specs.Sound.{BearsOut, IsSoundRecord};
 ghost use Rattle.feed_model.specs.declared.state.State.TheVariants.{Staged};
 ghost use Rattle.feed_parts.specs.Shown.{shown_parts};
 ghost use Rattle.feed_parts.specs.Piece.{Adds, AreWithin, HasNew};
-ghost use Rattle.feed_core.specs.Shown.{shown_change};
+ghost use Rattle.feed_core.specs.Shown.{shown_change, shown_record};
 ghost use Rattle.feed_core.specs.Cause.{HasFailed};
 ghost use Rattle.feed_core.specs.NextRange.{IsNextOf};
-ghost use Rattle.feed_core.specs.ReleaseValue.{LiesOver, IsJudged, change_as};
+ghost use Rattle.feed_core.specs.ReleaseValue.{LiesOver, IsJudged, IsKnown, change_as};
 
-use crate::keep::{Change, Keep, KeepFault};
+use crate::keep::{Change, Keep};
 use crate::overlap::Overlap;
-use feed_kbart::{Holdings, KbartFault, read_file};
-use feed_model::{Refusal, State};
+use crate::record::{Record, initial_state};
+use feed_kbart::{FILE_LIMIT, Holdings, KbartFault, read_file};
+use feed_model::{KeepFault, Refusal, State};
 use feed_names::ReleaseName;
-use feed_parts::{Part, byte_count, conflicts, covers, merge, new_parts, next_gap, text_of};
+use feed_parts::{Part, are_within, byte_count, conflicts, covers, merge, new_parts, next_gap, text_of};
 use std::alloc::{AllocError, Global};
 use std::marker::Model;
 
@@ -33,13 +35,13 @@ pub struct Release {
 
 impl Model for Release {
     ghost use Rattle.feed_parts.specs.Shown.{shown_parts};
-    ghost use Rattle.feed_core.specs.ReleaseValue.{ReleaseValue, IsSound};
+    ghost use Rattle.feed_core.specs.ReleaseValue.{ReleaseValue, IsRelease};
 
     ghost Value = { ReleaseValue };
 
     ghost view = { λ r. record { kept = record { name = r.name; size = r.size; state = r.state; parts = shown_parts r.parts.items }; holdings = r.holdings } };
 
-    ghost invariant = { λ r. IsSound (record { name = r.name; size = r.size; state = r.state; parts = shown_parts r.parts.items }) r.missing };
+    ghost invariant = { λ r. IsRelease (record { name = r.name; size = r.size; state = r.state; parts = shown_parts r.parts.items }) r.missing r.holdings };
 }
 
 impl Release {
@@ -51,15 +53,38 @@ impl Release {
         Release {
             name,
             size,
-            state: if size == 0 {
-                State::Broken
-            } else {
-                State::Staged
-            },
+            state: initial_state(size),
             parts: Vec::new(alloc),
             missing: size,
             holdings: None,
         }
+    }
+
+    /// The release that a record is of. `Damaged` where no feed ever keeps such a record; the file of one that is not
+    /// staged is read for that.
+    pub fn reopened(alloc: Global, record: Record) -> Result<Release, KeepFault>
+        ensures ok { IfOk result (λ release. (release.kept ≡ shown_record «record») × IsSoundRecord (shown_record «record»)) }
+        ensures err { IfErr result (λ cause. (cause ≡ KeepFault.Memory) ⊎ ((cause ≡ KeepFault.Damaged) × ¬ (IsSoundRecord (shown_record «record»)))) }
+    {
+        let Record {
+            name,
+            size,
+            state,
+            parts,
+        } = record;
+        if size > FILE_LIMIT as u64 || !are_within(&parts, size) {
+            return Err(KeepFault::Damaged);
+        }
+        let missing = size.saturating_sub(byte_count(&parts, size));
+        let holdings = found_in(alloc, &parts, size, missing, state)?;
+        Ok(Release {
+            name,
+            size,
+            state,
+            parts,
+            missing,
+            holdings,
+        })
     }
 
     pub fn name(&self) -> &ReleaseName
@@ -81,8 +106,10 @@ impl Release {
         self.state
     }
 
+    /// What the file holds, of an active release.
     pub fn holdings(&self) -> &Option<Holdings>
-        ensures { result.now ≡ self.now.holdings }
+        ensures value { result.now ≡ self.now.holdings }
+        ensures known { IsKnown self.now.kept.state self.now.kept.size self.now.kept.parts self.now.holdings }
     {
         &self.holdings
     }
@@ -137,10 +164,9 @@ impl Release {
     pub fn judge(&self, alloc: Global, new: &[Part]) -> Result<Holdings, KbartFault>
         requires whole { AreWithin self.now.kept.size (merged self.now.kept.parts (shown_parts new.now)) }
         requires covered { (place : ℕ) → place < self.now.kept.size → IsSome (byte_in (merged self.now.kept.parts (shown_parts new.now)) place) }
-        ensures { IsJudged self.now.kept (shown_parts new.now) result }
+        ensures { IsJudged self.now.kept.size (merged self.now.kept.parts (shown_parts new.now)) result }
     {
-        let text = text_of(alloc, &self.parts, new, self.size)?;
-        read_file(alloc, text.as_slice())
+        judged(alloc, &self.parts, new, self.size)
     }
 
     /// Commits new parts, and the state that the release has with them, and then takes them in. All memory is taken
@@ -157,6 +183,7 @@ impl Release {
         requires whole { AreWithin self.old.kept.size (merged self.old.kept.parts (shown_parts new.items)) }
         requires missing { state ≡ Staged → 0 < missing_below (byte_in (merged self.old.kept.parts (shown_parts new.items))) self.old.kept.size }
         requires complete { state ≢ Staged → missing_below (byte_in (merged self.old.kept.parts (shown_parts new.items))) self.old.kept.size ≡ 0 }
+        requires known { IsKnown state self.old.kept.size (merged self.old.kept.parts (shown_parts new.items)) holdings }
         requires allowed { K.clean keeper.old → IsAllowed (change_as state self.old.kept.name (shown_parts new.items)) (K.content keeper.old) }
         ensures taken { OnOk result (self.new ≡ record { kept = grown (shown_parts new.items) state self.old.kept; holdings = holdings }) }
         ensures same { OnErr result (self.new ≡ self.old) }
@@ -177,6 +204,52 @@ impl Release {
         self.holdings = holdings;
         Ok(())
     }
+}
+
+// The holdings of a release with this state, of which so many places are missing: those of its file if it is active. The
+// parts have to bear out the state.
+fn found_in(
+    alloc: Global,
+    parts: &[Part],
+    size: u64,
+    missing: u64,
+    state: State,
+) -> Result<Option<Holdings>, KeepFault>
+    requires limit { size ≤ 67108864 }
+    requires within { AreWithin size (shown_parts parts.now) }
+    requires counted { missing ≡ missing_below (byte_in (shown_parts parts.now)) size }
+    ensures known { IfOk result (λ holdings. IsKnown state size (shown_parts parts.now) holdings × BearsOut state size (shown_parts parts.now)) }
+    ensures staged { OnOk result ((state ≡ State.Staged → 0 < missing) × (state ≢ State.Staged → missing ≡ 0)) }
+    ensures err { IfErr result (λ cause. (cause ≡ KeepFault.Memory) ⊎ ((cause ≡ KeepFault.Damaged) × ¬ (BearsOut state size (shown_parts parts.now)))) }
+{
+    if missing > 0 {
+        return match state {
+            State::Staged => Ok(None),
+            State::Broken | State::Active => Err(KeepFault::Damaged),
+        };
+    }
+    match judged(alloc, parts, &[], size) {
+        Ok(holdings) => match state {
+            State::Active => Ok(Some(holdings)),
+            State::Staged | State::Broken => Err(KeepFault::Damaged),
+        },
+        Err(KbartFault::Bad(_)) => match state {
+            State::Broken => Ok(None),
+            State::Staged | State::Active => Err(KeepFault::Damaged),
+        },
+        Err(_) => Err(KeepFault::Memory),
+    }
+}
+
+// What a whole file holds, or why it is bad.
+fn judged(alloc: Global, kept: &[Part], new: &[Part], size: u64) -> Result<Holdings, KbartFault>
+    requires whole { AreWithin size (merged (shown_parts kept.now) (shown_parts new.now)) }
+    requires small { size ≤ 67108864 }
+    requires covered { (place : ℕ) → place < size → IsSome (byte_in (merged (shown_parts kept.now) (shown_parts new.now)) place) }
+    ensures { IsJudged size (merged (shown_parts kept.now) (shown_parts new.now)) result }
+{
+    let text = text_of(alloc, kept, new, size)?;
+    read_file(alloc, text.as_slice())
 }
 
 // The change that adds parts to a release and gives it this state.

@@ -1,5 +1,5 @@
-use crate::world_event::Line;
 use feed_answer::WriteFault;
+use feed_world::Line;
 use std::io::Write;
 
 /// What a replay showed: a line for each event, and the keepers of the nodes as they are then.

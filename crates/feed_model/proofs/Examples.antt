@@ -1,12 +1,12 @@
 -- Worked examples: a release of 10 bytes in pieces, and small histories around it.
-use Rattle.std.proofs.Common.{◌≡◌, ◌<◌, ◌⊎◌, ℕ, zero, suc, List, [], ◌∷◌, length, Option, Some, None, Ok, Err, inl, inr, refl, arith, pos, slice_get, true, false}
+use Rattle.std.proofs.Common.{◌≡◌, ◌<◌, ◌⊎◌, ℕ, zero, suc, List, [], ◌∷◌, length, Some, None, Ok, Err, inl, inr, refl, arith, pos, slice_get, true, false}
 use Rattle.feed_names.specs.ReleaseName.{Name, IsEarlier}
 use Rattle.feed_model.specs.declared.reply.Reply.TheVariants as replies
 use Rattle.feed_model.specs.declared.reply.Refusal.TheVariants as refusals
 use Rattle.feed_model.specs.declared.state.State.TheVariants.{Staged, Broken, Active}
 use Rattle.feed_model.specs.History.{Offered, Piece, Lost, History, size_of, kept, IsFile, IsWhole, IsPassed, IsHeld}
 use Rattle.feed_model.specs.Reply.{missing_below, IsRight, gone_on}
-use Rattle.feed_model.specs.Content.{Part, Record, Content, record_of, byte_in, AreParts}
+use Rattle.feed_model.specs.Content.{Part, Record, record_of, byte_in, AreParts}
 use Rattle.feed_model.specs.Change.{Pieces, merged, new_record, without_earlier, after}
 
 abbrev january : Name

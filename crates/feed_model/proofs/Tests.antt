@@ -11,7 +11,7 @@ use Rattle.feed_model.specs.Change.{NoneIsLater}
 use Rattle.feed_model.specs.Handles.{HasLaterActive}
 use Rattle.feed_model.proofs.Lookups.{name-record_of, record_of-own}
 
-same_at : (xs ys : List ℕ) → length xs ≡ length ys → ((place : ℕ) → place < length xs → slice_get xs place ≡ slice_get ys place) → xs ≡ ys
+pub same_at : (xs ys : List ℕ) → length xs ≡ length ys → ((place : ℕ) → place < length xs → slice_get xs place ≡ slice_get ys place) → xs ≡ ys
 same_at [] [] e at = refl
 same_at [] (y ∷ ys) e at = absurd (omega arith)
 same_at (x ∷ xs) [] e at = absurd (omega arith)

@@ -1,8 +1,10 @@
 //! What a feed may answer: its replies and refusals, and the model that says which of them is right after which events.
 #![tactic(auto)]
 
+mod keep_fault;
 mod reply;
 mod state;
 
+pub use keep_fault::KeepFault;
 pub use reply::{Refusal, Reply};
 pub use state::State;

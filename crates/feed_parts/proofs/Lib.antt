@@ -10,3 +10,4 @@ pub mod Written
 pub mod Runs
 pub mod Unique
 pub mod Counting
+pub mod Checked

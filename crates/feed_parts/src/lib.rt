@@ -12,5 +12,5 @@ mod text;
 pub use gaps::{Gap, next_gap};
 pub use merging::merge;
 pub use overlap::{byte_count, conflicts, covers, new_parts};
-pub use part::{Part, copied};
+pub use part::{Part, are_within, copied};
 pub use text::text_of;

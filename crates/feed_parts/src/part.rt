@@ -1,7 +1,11 @@
-ghost use Rattle.std.specs.Prelude.{◌≡◌, ◌+◌, ◌-◌, ◌^◌, min, IfOk, vec_len};
+ghost use Rattle.std.specs.Prelude.{◌≡◌, ◌↔◌, ◌+◌, ◌-◌, ◌^◌, min, IfOk, IsTrue, vec_len};
 ghost use Rattle.feed_parts.specs.Shown.{shown_parts};
+ghost use Rattle.feed_parts.specs.Piece.{AreWithin};
 
 use std::alloc::{AllocError, Global};
+
+// A piece, and so a part, has at most this many bytes.
+const PIECE_LIMIT: u64 = 1_048_576;
 
 /// Bytes of a file, and the place of the first of them, from 0.
 #[derive(Debug, Drop)]
@@ -29,4 +33,22 @@ pub fn copied(alloc: Global, parts: &[Part]) -> Result<Vec<Part>, AllocError>
         })?;
     }
     Ok(copy)
+}
+
+/// Whether the parts are in order, each of 1 to 1,048,576 bytes, and none reaches past the size of the file.
+pub fn are_within(parts: &[Part], size: u64) -> bool
+    ensures { IsTrue result ↔ AreWithin size (shown_parts parts.now) }
+{
+    let mut place = 0;
+    for part in parts {
+        let length = part.bytes.len() as u64;
+        if length == 0 || length > PIECE_LIMIT || part.first < place {
+            return false;
+        }
+        if length > size.saturating_sub(part.first) {
+            return false;
+        }
+        place = part.first + length;
+    }
+    true
 }

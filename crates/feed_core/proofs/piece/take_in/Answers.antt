@@ -13,6 +13,7 @@ use Rattle.feed_model.proofs.Arrivals.{piece_stored, piece_broken, piece_activat
 use Rattle.feed_parts.specs.Shown.{shown_parts}
 use Rattle.feed_parts.specs.Piece as parts
 use Rattle.feed_core.specs.ReleaseValue.{ReleaseValue, content_of, IsPlaceOf, change_as}
+use Rattle.feed_core.proofs.Judged.{known_good, known_bad}
 use Rattle.feed_core.proofs.Growth.{length-shown, takes, found_here, name_at, set_back, grown_at}
 use Rattle.feed_core.proofs.piece.take_in.Goals as goal
 
@@ -168,6 +169,18 @@ grow-requires-in-Err-Bad-clause-staged g c =
     let lies = c.requires.new r.kept found in
     lies.2
 
+pub grow-requires-in-Ok-judge-clause-known : goal.grow-requires-in-Ok-judge-clause-known
+grow-requires-in-Ok-judge-clause-known g c =
+    let r = c.index_mut-release.result.now in
+    let judged = rw c.deref-2.ensures.value at c.in-Ok-judge.ensures in
+    known_good r.kept.size (merged r.kept.parts (shown_parts c.in-Ok.new.items)) _ judged
+
+pub grow-requires-in-Err-Bad-clause-known : goal.grow-requires-in-Err-Bad-clause-known
+grow-requires-in-Err-Bad-clause-known g c =
+    let r = c.index_mut-release.result.now in
+    let judged = rw c.deref-2.ensures.value at (rw c.in-Err-Bad.field-0-is at c.in-Err-Bad.ensures) in
+    known_bad r.kept.size (merged r.kept.parts (shown_parts c.in-Ok.new.items)) c.in-Err-Bad.why judged
+
 pub grow-requires-in-Err-Bad-clause-allowed : goal.grow-requires-in-Err-Bad-clause-allowed
 grow-requires-in-Err-Bad-clause-allowed g c =
     let rs = c.args.releases.now.items in
@@ -198,7 +211,7 @@ returns-in-Ok-grow-2-clause-right g c =
     let none = rw c.deref.ensures.value at c.missing_with-missing.ensures in
     let judged = rw c.deref-2.ensures.value at c.in-Ok-judge.ensures in
     rw (c.drop_earlier.ensures.dropped, grown_at rs n c.args.at r c.grow-in-Ok-judge.new.self new Active c.requires.place c.index_mut-release.ensures.value (ap (λ (y : ReleaseValue). y.kept) c.in-Ok-grow-2.ensures.taken))
-    (piece_activated (content_of rs) n c.args.first c.args.total c.args.bytes.now r.kept new judged.0 reach lies.2 lies.0 lies.1 (brings r.kept.size r.kept.parts c.args.first c.args.bytes.now new adds) (omega (arith, none, c.if-missing-gt0.false)) judged.1.size judged.1.bytes judged.2)
+    (piece_activated (content_of rs) n c.args.first c.args.total c.args.bytes.now r.kept new judged.0 reach lies.2 lies.0 lies.1 (brings r.kept.size r.kept.parts c.args.first c.args.bytes.now new adds) (omega (arith, none, c.if-missing-gt0.false)) judged.1.count judged.1.bytes judged.2)
 
 pub returns-in-Ok-grow-2-clause-mirrors : goal.returns-in-Ok-grow-2-clause-mirrors
 returns-in-Ok-grow-2-clause-mirrors g c =
@@ -240,7 +253,7 @@ returns-in-Ok-grow-3-clause-right g c =
     let none = rw c.deref.ensures.value at c.missing_with-missing.ensures in
     let judged = rw c.deref-2.ensures.value at (rw c.in-Err-Bad.field-0-is at c.in-Err-Bad.ensures) in
     rw (grown_at rs n c.args.at r c.grow-in-Err-Bad.new.self new Broken c.requires.place c.index_mut-release.ensures.value (ap (λ (y : ReleaseValue). y.kept) c.in-Ok-grow-3.ensures.taken))
-    (piece_broken (content_of rs) n c.args.first c.args.total c.args.bytes.now r.kept new judged.0 c.in-Err-Bad.why reach lies.2 lies.0 lies.1 (brings r.kept.size r.kept.parts c.args.first c.args.bytes.now new adds) (omega (arith, none, c.if-missing-gt0.false)) judged.1.size judged.1.bytes judged.2)
+    (piece_broken (content_of rs) n c.args.first c.args.total c.args.bytes.now r.kept new judged.0 c.in-Err-Bad.why reach lies.2 lies.0 lies.1 (brings r.kept.size r.kept.parts c.args.first c.args.bytes.now new adds) (omega (arith, none, c.if-missing-gt0.false)) judged.1.count judged.1.bytes judged.2)
 
 pub returns-in-Ok-grow-3-clause-mirrors : goal.returns-in-Ok-grow-3-clause-mirrors
 returns-in-Ok-grow-3-clause-mirrors g c =

@@ -3,7 +3,7 @@ use Rattle.feed_model.specs.Content.{Part, Record}
 use Rattle.feed_model.specs.Change.{merged}
 use Rattle.feed_parts.specs.Shown.{shown_parts}
 use Rattle.feed_parts.specs.Piece.{total_length}
-use Rattle.feed_core.specs.ReleaseValue.{IsSound}
+use Rattle.feed_core.specs.ReleaseValue.{IsRelease}
 use Rattle.feed_core.proofs.Growth.{sound_grown}
 use Rattle.feed_core.proofs.release.Release.grow.Goals as goal
 
@@ -17,4 +17,4 @@ invariant_of-self-2 g c =
     let asks = rw (← c.self.view_is) at c.requires in
     let left : c.saturating_sub-missing.result ≡ inside.missing - total_length new =
     c.saturating_sub-missing.ensures ∙ ap (λ n. inside.missing - n) (rw c.deref.ensures.value at c.byte_count.ensures.value) in
-    rw left (sound_grown before inside.missing new (shown_parts c.merge.new.parts.items) c.args.state c.self.invariant asks.whole asks.missing asks.complete parts)
+    rw left (sound_grown before inside.missing inside.holdings new (shown_parts c.merge.new.parts.items) c.args.state c.args.holdings c.self.invariant asks.whole asks.missing asks.complete asks.known parts)

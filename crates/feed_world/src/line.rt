@@ -1,47 +1,9 @@
 use feed_answer::QueryFault;
-use feed_model::{Refusal, Reply};
+use feed_model::{KeepFault, Refusal, Reply};
 use feed_names::ReleaseName;
 use std::io;
 use std::io::Write;
 use thiserror::Error;
-
-/// What happens in a world of published files and nodes. Nodes are numbered from 1.
-#[derive(Drop)]
-pub enum WorldEvent {
-    /// A file is published under a name. A name stands for one file for ever.
-    Publish {
-        name: ReleaseName,
-        bytes: Vec<u8>,
-    },
-    /// A node is offered a published release, with the size of its file.
-    Offer {
-        node: u64,
-        name: ReleaseName,
-    },
-    /// A node is given the `len` bytes of the published file from the place `first` on.
-    Deliver {
-        node: u64,
-        name: ReleaseName,
-        first: u64,
-        len: u64,
-    },
-    /// A piece that a node asked for does not come.
-    Lose {
-        node: u64,
-        name: ReleaseName,
-    },
-    /// A node says which release of a package is active.
-    Report {
-        node: u64,
-        package: Vec<u8>,
-    },
-    /// A node is asked a query about a package.
-    Ask {
-        node: u64,
-        package: Vec<u8>,
-        query: Vec<u8>,
-    },
-}
 
 /// Why an event of a world was refused. Nothing changed.
 #[derive(Clone, Copy, Debug, PartialEq, Eq, Error)]
@@ -58,6 +20,9 @@ pub enum Why {
     /// The bytes do not lie inside the published file.
     #[error("NoSlice")]
     NoSlice,
+    /// The node is down: it could not be opened when it stopped last.
+    #[error("Down")]
+    Down,
     /// The feed of the node refused.
     #[error("{0}")]
     Feed(Refusal),
@@ -79,6 +44,12 @@ pub enum Line {
     Published,
     /// The feed of a node took the event.
     Replied(Reply),
+    /// The node was opened again after a restart.
+    Restarted,
+    /// The node was opened again after it stopped in the middle of an event.
+    Stopped,
+    /// The node could not be opened again. It is down until a restart succeeds.
+    Down(KeepFault),
     /// A report: the active release.
     Active(ReleaseName),
     /// A report: there is no active release.
@@ -95,6 +66,9 @@ impl Line {
         match self {
             Line::Published => writer.write_all(b"published\n"),
             Line::Replied(reply) => writeln!(writer, "{reply}"),
+            Line::Restarted => writer.write_all(b"restarted\n"),
+            Line::Stopped => writer.write_all(b"stopped\n"),
+            Line::Down(cause) => writeln!(writer, "down {cause}"),
             Line::Active(name) => {
                 writer.write_all(b"active ")?;
                 writer.write_all(name.text())?;

@@ -1,0 +1,45 @@
+ghost use Rattle.std.specs.Prelude.{◌≡◌, ◌∷◌, Bool, true, option_map};
+ghost use Rattle.feed_model.specs.History.{History, Answer, Reports};
+ghost use Rattle.feed_model.specs.Reply.{IsRight};
+ghost use Rattle.feed_core.specs.Told.{told};
+ghost use Rattle.feed_core.specs.Nodes.{Comes, IsAsked, shown_outcome};
+
+use crate::event::Event;
+use feed_model::{KeepFault, Refusal, Reply};
+use feed_names::ReleaseName;
+use feed_world::Why;
+
+/// A node of a world, up or down. What a call says of its history is said where it is `clean` as the call ends.
+pub trait Node {
+    /// Whether its keeper's content is promised.
+    ghost clean: { Self → Type 0 };
+
+    /// Whether it is up, and the history at which it stands.
+    ghost stands: { Self → Bool → History → Type 0 };
+
+    fn is_up(&self) -> bool
+        ensures { (up : Bool) (h : History) → stands self.now up h → result ≡ up };
+
+    /// The active release of a package.
+    fn report(&self, package: &[u8]) -> Option<&ReleaseName>
+        ensures { (h : History) → stands self.now true h → Reports h «package».now (option_map (λ name. name.now) result) };
+
+    /// The text that answers a query about a package, or why there is none.
+    fn ask(&self, package: &[u8], query: &[u8]) -> Result<Vec<u8>, Why>
+        ensures { (h : History) → stands self.now true h → IsAsked h «package».now query.now (shown_outcome result) };
+
+    /// Takes an event.
+    fn handle(&mut self, event: &Event<'_>) -> Result<Reply, Refusal>
+        ensures clean { clean self.new → clean self.old }
+        ensures right { (h : History) → stands self.old true h → IsRight h (told event.now) result × stands self.new true ((told event.now, result) ∷ h) };
+
+    /// Opens the node again, as after a stop between two events or before the commit of one.
+    fn restart(&mut self) -> Result<(), KeepFault>
+        ensures clean { clean self.new → clean self.old }
+        ensures same { (up : Bool) (h : History) → clean self.new → stands self.old up h → Comes (stands self.new) h result };
+
+    /// Stops the node after the commit of an event and before its answer, and opens it again.
+    fn stop_after(&mut self, event: &Event<'_>) -> Result<(), KeepFault>
+        ensures clean { clean self.new → clean self.old }
+        ensures right { (h : History) → clean self.new → stands self.old true h → (answer : Answer) × IsRight h (told event.now) answer × Comes (stands self.new) ((told event.now, answer) ∷ h) result };
+}

@@ -1,0 +1,79 @@
+-- What is promised of every transcript, over its events and lines alone.
+use Rattle.std.specs.Prelude.{◌≡◌, ◌≢◌, ◌<◌, ◌≤◌, ◌⊎◌, ℕ, ◌≤ℤ◌, min, max, if◌then◌else◌, List, [], ◌∷◌, take, Option, Some, None, true, slice_get}
+use Rattle.feed_names.specs.ReleaseName.{Name}
+use Rattle.feed_world.specs.declared.line.Why.TheVariants as whys
+use Rattle.feed_names.specs.ReleaseName.{name_eq}
+use Rattle.feed_model.specs.File.{fault_of}
+use Rattle.feed_model.specs.History.{History, size_of, kept}
+use Rattle.feed_answer.specs.Queries.{query_of}
+use Rattle.feed_world.specs.World.{WorldEvent, Publish, Tell, Restart, StopBefore, StopAfter, Report, Ask, Line, Active, Text, Refused, World, Node, node_at, file_says}
+
+-- the published file of a release: the bytes of the first publication of its name
+abbrev pub file_of : List WorldEvent → Name → Option (List ℕ)
+file_of [] n = None
+file_of (Publish m bytes ∷ events) n = if name_eq m n then Some bytes else file_of events n
+file_of (event ∷ events) n = file_of events n
+
+-- the event changes nothing at this node
+abbrev pub IsQuiet : ℕ → WorldEvent → Type 0
+IsQuiet node (Tell i sent) = i ≢ node
+IsQuiet node (Restart i) = i ≢ node
+IsQuiet node (StopBefore i sent) = i ≢ node
+IsQuiet node (StopAfter i sent) = i ≢ node
+IsQuiet node event = Unit {0}
+
+-- from one place of the list to the other, whichever comes first, nothing changes at this node
+abbrev pub IsOneMoment : List WorldEvent → ℕ → ℕ → ℕ → Type 0
+IsOneMoment events node j k = (m : ℕ) (event : WorldEvent) → min j k ≤ m → m ≤ max j k → slice_get events m ≡ Some event → IsQuiet node event
+
+-- at this place stands this event, shown by this line
+pub record Stands (events : List WorldEvent) (lines : List Line) (place : ℕ) (event : WorldEvent) (line : Line) : Type 0 where
+  pub happened : slice_get events place ≡ Some event
+  pub shown : slice_get lines place ≡ Some line
+
+-- at this place the node is asked, and gives this line; and a report of the same moment shows this release
+pub record Answers (events : List WorldEvent) (lines : List Line) (place node : ℕ) (stem : List ℕ) (name : Name) (query : List ℕ) (line : Line) : Type 0 where
+  pub asked : Stands events lines place (Ask node stem query) line
+  pub report : ℕ
+  pub reported : Stands events lines report (Report node stem) (Active name)
+  pub together : IsOneMoment events node report place
+  pub given : line ≢ Refused whys.Memory
+
+-- the same package, and no earlier day
+abbrev pub IsNoOlder : Name → Name → Type 0
+IsNoOlder n m = (m.stem ≡ n.stem) × (n.day ≤ℤ m.day)
+
+-- a line of text is the answer of a published release, and stands in order with every report of its node
+pub record IsFrom (events : List WorldEvent) (lines : List Line) (place node : ℕ) (stem : List ℕ) (query : List ℕ) (text : List ℕ) (name : Name) : Type 0 where
+  pub its_package : name.stem ≡ stem
+  pub its_file : List ℕ
+  pub published : file_of (take place events) name ≡ Some its_file
+  pub whole : Text text ≡ file_says name its_file (query_of query)
+  pub before : (j : ℕ) (n : Name) → j < place → Stands events lines j (Report node stem) (Active n) → IsNoOlder n name
+  pub after : (j : ℕ) (n : Name) → place < j → Stands events lines j (Report node stem) (Active n) → IsNoOlder name n
+
+-- Any two nodes that report the same release of a package give every query the same answer, the one which that release's published file as a whole defines; and no later report of a node names an older release.
+-- Besides, a report holds until the next event of its node, and each text is the answer of a published release that no report of its node contradicts.
+pub record IsHeadline (events : List WorldEvent) (lines : List Line) : Type 0 where
+  pub same : (j k a b : ℕ) (stem : List ℕ) (n : Name) (query : List ℕ) (x y : Line) → Answers events lines j a stem n query x → Answers events lines k b stem n query y → x ≡ y
+  pub whole : (j a : ℕ) (stem : List ℕ) (n : Name) (query : List ℕ) (x : Line) → Answers events lines j a stem n query x → (file : List ℕ) × (file_of (take j events) n ≡ Some file) × (x ≡ file_says n file (query_of query))
+  pub later : (j k a : ℕ) (stem : List ℕ) (n : Name) (line : Line) → j < k → Stands events lines j (Report a stem) (Active n) → Stands events lines k (Report a stem) line → (line ≡ Refused whys.Down) ⊎ ((m : Name) × (line ≡ Active m) × IsNoOlder n m)
+  pub still : (j k a : ℕ) (stem : List ℕ) (x y : Line) → Stands events lines j (Report a stem) x → Stands events lines k (Report a stem) y → IsOneMoment events a j k → x ≡ y
+  pub from : (k a : ℕ) (stem : List ℕ) (query : List ℕ) (text : List ℕ) → Stands events lines k (Ask a stem query) (Text text) → (n : Name) × IsFrom events lines k a stem query text n
+
+-- two histories have the same size and the same bytes of each release of a package
+pub record HasAlike (h k : History) (stem : List ℕ) : Type 0 where
+  pub size : (n : Name) → n.stem ≡ stem → size_of h n ≡ size_of k n
+  pub bytes : (n : Name) → n.stem ≡ stem → (place : ℕ) → kept h n place ≡ kept k n place
+
+-- of the published good files of its package, this release's is the latest
+pub record IsLatest (events : List WorldEvent) (n : Name) : Type 0 where
+  pub file : List ℕ
+  pub published : file_of events n ≡ Some file
+  pub good : fault_of file ≡ None
+  pub latest : (m : Name) (other : List ℕ) → m.stem ≡ n.stem → file_of events m ≡ Some other → fault_of other ≡ None → m.day ≤ℤ n.day
+
+-- a node of the world that is up
+pub record IsUpAt (w : World) (i : ℕ) (x : Node) : Type 0 where
+  pub there : node_at w.nodes i ≡ Some x
+  pub running : x.up ≡ true

@@ -1,0 +1,173 @@
+-- A world of published files and of nodes that may be up or down: what may happen in it, and how it is shown.
+use Rattle.std.specs.Prelude.{◌≡◌, ◌≢◌, ◌≤◌, ◌+◌, ◌⊎◌, ◌++◌, ℕ, zero, suc, Bool, true, false, nat_le, if◌then◌else◌, List, [], ◌∷◌, length, take, drop, replicate, Option, Some, None, Result, Ok, Err, slice_get, slice_set, MatchOption, MatchResult, MatchBool}
+use Rattle.feed_names.specs.ReleaseName.{Name, name_eq, text_of as name_text}
+use Rattle.feed_model.specs.declared.reply.Reply as reply
+use Rattle.feed_answer.specs.declared.fault.QueryFault.{QueryFault}
+use Rattle.feed_model.specs.declared.keep_fault.KeepFault as cause
+use Rattle.feed_model.specs.declared.keep_fault.KeepFault.TheVariants as causes
+use Rattle.feed_world.specs.declared.line.Why as why
+use Rattle.feed_world.specs.declared.line.Why.TheVariants as whys
+use Rattle.feed_model.specs.History.{Event, Offered, Piece, Lost, Answer, History, IsFile, Reports}
+use Rattle.feed_model.specs.Reply.{Case, IsRight}
+use Rattle.feed_answer.specs.QueryValue.{QueryValue}
+use Rattle.feed_answer.specs.Queries.{query_of}
+use Rattle.feed_answer.specs.Answers.{answer_of, answer_text}
+use Rattle.feed_kbart.specs.Files.{holdings_of}
+
+-- what is on its way to a node
+pub data Sent : Type 0 where
+  Offer : (name : Name) → Sent
+  Deliver : (name : Name) (first len : ℕ) → Sent
+  Lose : (name : Name) → Sent
+
+-- what may happen; a node is named by its number, from 1 on, and a package by its stem
+pub data WorldEvent : Type 0 where
+  Publish : (name : Name) (bytes : List ℕ) → WorldEvent
+  Tell : (node : ℕ) (sent : Sent) → WorldEvent
+  Restart : (node : ℕ) → WorldEvent
+  StopBefore : (node : ℕ) (sent : Sent) → WorldEvent
+  StopAfter : (node : ℕ) (sent : Sent) → WorldEvent
+  Report : (node : ℕ) (stem : List ℕ) → WorldEvent
+  Ask : (node : ℕ) (stem : List ℕ) (query : List ℕ) → WorldEvent
+
+-- how it is shown
+pub data Line : Type 0 where
+  Published : Line
+  Replied : (reply : reply.Reply) → Line
+  Restarted : Line
+  Stopped : Line
+  IsDown : (cause : cause.KeepFault) → Line
+  Active : (name : Name) → Line
+  Inactive : Line
+  Text : (text : List ℕ) → Line
+  Refused : (why : why.Why) → Line
+
+-- the published files, by their names
+abbrev pub Shelf : Type 0
+Shelf = List (Name × List ℕ)
+
+abbrev pub text_of : Shelf → Name → Option (List ℕ)
+text_of [] n = None
+text_of (f ∷ fs) n = if name_eq f.0 n then Some f.1 else text_of fs n
+
+-- what a node was told and answered, and whether it is up
+pub record Node : Type 0 where
+  pub up : Bool
+  pub history : History
+
+pub record World : Type 0 where
+  pub shelf : Shelf
+  pub nodes : List Node
+
+abbrev pub node_at : List Node → ℕ → Option Node
+node_at nodes zero = None
+node_at nodes (suc i) = slice_get nodes i
+
+abbrev pub set_node : List Node → ℕ → Node → List Node
+set_node nodes zero x = nodes
+set_node nodes (suc i) x = slice_set nodes i x
+
+-- the world with this node under the number
+abbrev pub with_node : World → ℕ → Bool → History → World
+with_node w i up history = record { shelf = w.shelf; nodes = set_node w.nodes i (record { up = up; history = history }) }
+
+-- so many nodes are up, and nothing has happened
+abbrev pub start : ℕ → World
+start count = record { shelf = []; nodes = replicate count (record { up = true; history = [] }) }
+
+-- what a feed makes of it: an offer has the published size, a delivery is a slice of the published file
+abbrev pub offered : Name → Option (List ℕ) → Result Event why.Why
+offered n None = Err whys.Unpublished
+offered n (Some file) = Ok (Offered n (length file))
+
+abbrev pub delivered : Name → ℕ → ℕ → Option (List ℕ) → Result Event why.Why
+delivered n first len None = Err whys.Unpublished
+delivered n first len (Some file) = if nat_le (first + len) (length file) then Ok (Piece n first (Some (length file)) (take len (drop first file))) else Err whys.NoSlice
+
+abbrev pub lost : Name → Option (List ℕ) → Result Event why.Why
+lost n None = Err whys.Unpublished
+lost n (Some file) = Ok (Lost n)
+
+abbrev pub arriving : Shelf → Sent → Result Event why.Why
+arriving shelf (Offer n) = offered n (text_of shelf n)
+arriving shelf (Deliver n first len) = delivered n first len (text_of shelf n)
+arriving shelf (Lose n) = lost n (text_of shelf n)
+
+-- the event is refused, and nothing changes
+abbrev pub IsRefused : why.Why → World → Line → World → Type 0
+IsRefused why w line v = (line ≡ Refused why) × (v ≡ w)
+
+-- there is a node of this number, and this holds of it; else the event is refused
+abbrev pub AtNode : ℕ → World → Line → World → (Node → Type 0) → Type 0
+AtNode i w line v Here = MatchOption (node_at w.nodes i) (IsRefused whys.NoNode w line v) Here
+
+-- it can be sent, and this holds of the feed's event; else the event is refused
+abbrev pub Arrives : Sent → World → Line → World → (Event → Type 0) → Type 0
+Arrives sent w line v Here = MatchResult (arriving w.shelf sent) Here (λ why. IsRefused why w line v)
+
+-- the node is up, and this holds; else the event is refused
+abbrev pub IfUp : Node → World → Line → World → Type 0 → Type 0
+IfUp x w line v Here = MatchBool x.up Here (IsRefused whys.Down w line v)
+
+-- the node was opened again, or is down for want of memory or for its device
+abbrev pub Reopens : ℕ → History → Line → World → Line → World → Type 0
+Reopens i history done w line v =
+    ((line ≡ done) × (v ≡ with_node w i true history))
+    ⊎ ((cause : cause.KeepFault) × ((cause ≡ causes.Memory) ⊎ (cause ≡ causes.Device)) × (line ≡ IsDown cause) × (v ≡ with_node w i false history))
+
+abbrev pub answer_line : Answer → Line
+answer_line (Ok reply) = Replied reply
+answer_line (Err refusal) = Refused (whys.Feed refusal)
+
+abbrev pub report_line : Option Name → Line
+report_line None = Inactive
+report_line (Some n) = Active n
+
+-- the text that answers a query from the whole file of a release
+unfoldable pub text_for : Name → List ℕ → QueryValue → List ℕ
+text_for n file query = answer_text (name_text n) (answer_of (holdings_of file) query)
+
+-- what a query is answered, from no release, and from the file of a release as a whole
+abbrev pub none_says : Result QueryValue QueryFault → Line
+none_says (Err fault) = Refused (whys.Query fault)
+none_says (Ok query) = Refused whys.NoRelease
+
+abbrev pub file_says : Name → List ℕ → Result QueryValue QueryFault → Line
+file_says n file (Err fault) = Refused (whys.Query fault)
+file_says n file (Ok query) = Text (text_for n file query)
+
+-- this line, or want of memory in its place
+abbrev pub OrMemory : Line → Type 0 → Type 0
+OrMemory line right = right ⊎ (line ≡ Refused whys.Memory)
+
+-- the event may be shown by this line, and leave this world
+abbrev pub Happens : World → WorldEvent → Line → World → Type 0
+Happens w (Publish n bytes) line v =
+    MatchOption (text_of w.shelf n)
+    ((line ≡ Published) × (v ≡ record { shelf = w.shelf ++ (n, bytes) ∷ []; nodes = w.nodes }))
+    (λ file. Case (file ≡ bytes) ((line ≡ Published) × (v ≡ w)) (IsRefused whys.Republished w line v))
+Happens w (Tell i sent) line v =
+    AtNode i w line v (λ x. Arrives sent w line v (λ event. IfUp x w line v
+    ((answer : Answer) × IsRight x.history event answer × (line ≡ answer_line answer) × (v ≡ with_node w i true ((event, answer) ∷ x.history)))))
+Happens w (Restart i) line v =
+    AtNode i w line v (λ x. Reopens i x.history Restarted w line v)
+Happens w (StopBefore i sent) line v =
+    AtNode i w line v (λ x. Arrives sent w line v (λ event. IfUp x w line v
+    (Reopens i x.history Stopped w line v)))
+Happens w (StopAfter i sent) line v =
+    AtNode i w line v (λ x. Arrives sent w line v (λ event. IfUp x w line v
+    ((answer : Answer) × IsRight x.history event answer × Reopens i ((event, answer) ∷ x.history) Stopped w line v)))
+Happens w (Report i stem) line v =
+    AtNode i w line v (λ x. IfUp x w line v
+    ((v ≡ w) × (o : Option Name) × Reports x.history stem o × (line ≡ report_line o)))
+Happens w (Ask i stem query) line v =
+    AtNode i w line v (λ x. IfUp x w line v
+    ((v ≡ w) × (o : Option Name) × Reports x.history stem o × OrMemory line
+    (MatchOption o (line ≡ none_says (query_of query)) (λ n. (file : List ℕ) × IsFile x.history n file × (line ≡ file_says n file (query_of query))))))
+
+-- the events may be shown by these lines, one after another
+abbrev pub Shows : World → List WorldEvent → List Line → World → Type 0
+Shows w [] [] v = w ≡ v
+Shows w (event ∷ events) (line ∷ lines) v = (m : World) × Happens w event line m × Shows m events lines v
+Shows w [] (line ∷ lines) v = ⊥
+Shows w (event ∷ events) [] v = ⊥

@@ -1,0 +1,11 @@
+//! A world of published files and of nodes that may stop and restart: its events, the lines that show them, and the model
+//! that says which lines are right. The laws of the model are public functions with empty bodies.
+#![tactic(auto)]
+
+mod event;
+mod laws;
+mod line;
+
+pub use event::{Sent, WorldEvent};
+pub use laws::{headline, histories, latest_is_reported, order_is_free};
+pub use line::{Line, Why};
