@@ -18,7 +18,7 @@ const PART: &str = "HTTP/1.1 206 Partial Content\r\n\
     234";
 
 /// What a reply gives, as a text.
-fn told(alloc: Global, reply: &[u8], method: Method, step: usize) -> Result<String, Fail> {
+pub fn told(alloc: Global, reply: &[u8], method: Method, step: usize) -> Result<String, Fail> {
     let mut reader = Cuts::new(reply, step);
     tell(alloc, read_reply(alloc, &mut reader, method))
 }
