@@ -8,4 +8,6 @@ pub mod length;
 pub mod reply;
 pub mod request_text;
 #[cfg(test)]
+mod server_replies;
+#[cfg(test)]
 mod tests;

@@ -18,7 +18,7 @@ const PART: &str = "HTTP/1.1 206 Partial Content\r\n\
     234";
 
 /// What a reply gives, as a text.
-fn told(alloc: Global, reply: &[u8], method: Method, step: usize) -> Result<String, Fail> {
+pub fn told(alloc: Global, reply: &[u8], method: Method, step: usize) -> Result<String, Fail> {
     let mut reader = Cuts::new(reply, step);
     tell(alloc, read_reply(alloc, &mut reader, method))
 }
@@ -260,6 +260,10 @@ fn replies_are_read(rt: HostRuntime) -> Result<(), Fail> {
             "HTTP/1.1 416 x\r\nContent-Range: bytes 0-1/2\r\n\r\n",
             "Range",
         ),
+        ("HTTP/1.1 204 No Content\r\n\r\n", "Status 204"),
+        ("HTTP/1.1 410 Gone\r\n\r\n", "Status 410"),
+        ("HTTP/1.1 404 x\r\nX: x\r\n x\r\n\r\n", "BadHead"),
+        ("HTTP/1.2 404 x\r\n\r\n", "BadHead"),
         ("\0HTTP/1.1 200 OK\r\n", "BadHead"),
         ("", "Short"),
     ];

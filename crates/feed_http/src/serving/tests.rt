@@ -126,6 +126,12 @@ fn requests_are_answered(rt: HostRuntime) -> Result<(), Fail> {
             BAD_REQUEST,
         ),
         ("\0GET /T_2024-01-01.txt HTTP/1.1\r\n", 400, BAD_REQUEST),
+        ("GET /T_2024-01-01.txt HTTP/1.2\r\n\r\n", 400, BAD_REQUEST),
+        (
+            "GET /T_2024-01-01.txt HTTP/1.1\r\nHost: h\r\nX: x\r\n x\r\n\r\n",
+            400,
+            BAD_REQUEST,
+        ),
         (
             "POST /T_2024-01-01.txt HTTP/1.1\r\nHost: h\r\n\r\n",
             501,
