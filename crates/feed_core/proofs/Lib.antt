@@ -6,3 +6,8 @@ pub mod Growth
 pub mod NextRange
 pub mod Reopened
 pub mod Twice
+pub mod Steps
+pub mod Shows
+pub mod Empty
+pub mod Shelves
+pub mod Asked

@@ -43,15 +43,16 @@ length-take (suc n) (r ∷ rs) lt = ap suc (length-take n rs (omega arith))
 
 none-at : (rs : List code.Record) (n : Name) (i : ℕ) (d : code.Record) → record_of (shown rs) n ≡ None → i < length rs → name_eq (get_or rs i d).name n ≡ false
 none-at [] n i d none lt = absurd (omega arith)
-none-at (r ∷ rs) n i d none lt = by (name_eq r.name n) refl
+none-at (r ∷ rs) n zero d none lt = by (name_eq r.name n) refl
   where
-    by : (b : Bool) → name_eq r.name n ≡ b → name_eq (get_or (r ∷ rs) i d).name n ≡ false
+    by : (b : Bool) → name_eq r.name n ≡ b → name_eq r.name n ≡ false
     by true e = absurd (let u : Some _ ≡ None = rw e at none in cc)
-    by false e = rest i lt
-      where
-        rest : (k : ℕ) → k < length (r ∷ rs) → name_eq (get_or (r ∷ rs) k d).name n ≡ false
-        rest zero l = e
-        rest (suc k) l = none-at rs n k d (rw e at none) (omega arith)
+    by false e = e
+none-at (r ∷ rs) n (suc i) d none lt = none-at rs n i d (by (name_eq r.name n) refl) (omega arith)
+  where
+    by : (b : Bool) → name_eq r.name n ≡ b → record_of (shown rs) n ≡ None
+    by true e = absurd (let u : Some _ ≡ None = rw e at none in cc)
+    by false e = rw e at none
 
 same-at : (rs : List code.Record) (i : ℕ) (a b : code.Record) → i < length rs → get_or rs i a ≡ get_or rs i b
 same-at [] i a b lt = absurd (omega arith)

@@ -5,3 +5,5 @@ pub mod Cause
 pub mod NextRange
 pub mod Answered
 pub mod Nodes
+pub mod Step
+pub mod Slots

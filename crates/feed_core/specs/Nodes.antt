@@ -1,5 +1,5 @@
 -- A node as a world sees it.
-use Rattle.std.specs.Prelude.{◌≡◌, ◌⊎◌, ℕ, Bool, true, false, List, Option, Some, None, Result, Ok, Err, MatchOption}
+use Rattle.std.specs.Prelude.{◌≡◌, ◌≢◌, ◌⊎◌, ℕ, Bool, true, false, List, [], Option, Some, None, Result, Ok, Err, MatchOption}
 use Rattle.feed_names.specs.ReleaseName.{Name}
 use Rattle.feed_answer.specs.Queries.{query_of}
 use Rattle.feed_model.specs.declared.keep_fault.KeepFault as cause
@@ -17,9 +17,9 @@ Comes stands h (Ok u) = stands true h
 Comes stands h (Err fault) = ((fault ≡ causes.Memory) ⊎ (fault ≡ causes.Device)) × stands false h
 
 -- the line that shows what a query is answered
-abbrev pub shown_outcome : Result (List ℕ) why.Why → Line
-shown_outcome (Ok text) = Text text
-shown_outcome (Err why) = Refused why
+abbrev pub shown_outcome : {T : Type 0} → (T → List ℕ) → Result T why.Why → Line
+shown_outcome bytes (Ok text) = Text (bytes text)
+shown_outcome bytes (Err why) = Refused why
 
 -- a line that a query may be answered at this history
 abbrev pub IsAsked : History → List ℕ → List ℕ → Line → Type 0
@@ -31,19 +31,6 @@ abbrev pub shown_arrived : Result code_event.Event why.Why → Result Event why.
 shown_arrived (Ok event) = Ok (told event)
 shown_arrived (Err why) = Err why
 
--- there is a feed, or a keeper of one that could not be opened
-abbrev pub IsPresent : {F K : Type 0} → Option F → Option K → Type 0
-IsPresent (Some feed) keeper = Unit {0}
-IsPresent None (Some keeper) = Unit {0}
-IsPresent None None = ⊥
-
-abbrev pub IsSlotClean : {F K : Type 0} → (F → Type 0) → (K → Type 0) → Option F → Option K → Type 0
-IsSlotClean feed_clean clean (Some feed) keeper = feed_clean feed
-IsSlotClean feed_clean clean None (Some keeper) = clean keeper
-IsSlotClean feed_clean clean None None = ⊥
-
--- a feed is up, and its releases are a content of the history; a keeper is down, and its content is one
-abbrev pub SlotStands : {F K : Type 0} → (F → Content) → (K → Content) → Option F → Option K → Bool → History → Type 0
-SlotStands records content (Some feed) keeper up h = (up ≡ true) × IsContent (records feed) h
-SlotStands records content None (Some keeper) up h = (up ≡ false) × IsContent (content keeper) h
-SlotStands records content None None up h = ⊥
+-- why a node does not start, but for want of memory: its device failed, or its keeper is not empty
+abbrev pub IsStartRefused : Type 0 → Type 0 → Content → Type 0
+IsStartRefused failed clean content = failed ⊎ (clean → content ≢ [])

@@ -8,6 +8,7 @@ use crate::event::Event;
 use feed_model::{KeepFault, Refusal, Reply};
 use feed_names::ReleaseName;
 use feed_world::Why;
+use std::alloc::Global;
 
 /// A node of a world, up or down. What a call says of its history is said where it is `clean` as the call ends.
 pub trait Node {
@@ -25,8 +26,8 @@ pub trait Node {
         ensures { (h : History) → stands self.now true h → Reports h «package».now (option_map (λ name. name.now) result) };
 
     /// The text that answers a query about a package, or why there is none.
-    fn ask(&self, package: &[u8], query: &[u8]) -> Result<Vec<u8>, Why>
-        ensures { (h : History) → stands self.now true h → IsAsked h «package».now query.now (shown_outcome result) };
+    fn ask(&self, alloc: Global, package: &[u8], query: &[u8]) -> Result<Vec<u8>, Why>
+        ensures { (h : History) → stands self.now true h → IsAsked h «package».now query.now (shown_outcome (λ text. text.items) result) };
 
     /// Takes an event.
     fn handle(&mut self, event: &Event<'_>) -> Result<Reply, Refusal>
@@ -34,12 +35,12 @@ pub trait Node {
         ensures right { (h : History) → stands self.old true h → IsRight h (told event.now) result × stands self.new true ((told event.now, result) ∷ h) };
 
     /// Opens the node again, as after a stop between two events or before the commit of one.
-    fn restart(&mut self) -> Result<(), KeepFault>
-        ensures clean { clean self.new → clean self.old }
-        ensures same { (up : Bool) (h : History) → clean self.new → stands self.old up h → Comes (stands self.new) h result };
+    fn restart(self, alloc: Global) -> (Self, Result<(), KeepFault>)
+        ensures clean { clean result.0 → clean self }
+        ensures same { (up : Bool) (h : History) → clean result.0 → stands self up h → Comes (stands result.0) h result.1 };
 
     /// Stops the node after the commit of an event and before its answer, and opens it again.
-    fn stop_after(&mut self, event: &Event<'_>) -> Result<(), KeepFault>
-        ensures clean { clean self.new → clean self.old }
-        ensures right { (h : History) → clean self.new → stands self.old true h → (answer : Answer) × IsRight h (told event.now) answer × Comes (stands self.new) ((told event.now, answer) ∷ h) result };
+    fn stop_after(self, alloc: Global, event: &Event<'_>) -> (Self, Result<(), KeepFault>)
+        ensures clean { clean result.0 → clean self }
+        ensures right { (h : History) → clean result.0 → stands self true h → (answer : Answer) × IsRight h (told event.now) answer × Comes (stands result.0) ((told event.now, answer) ∷ h) result.1 };
 }

@@ -17,7 +17,9 @@ use crate::record::{Record, initial_state};
 use feed_kbart::{FILE_LIMIT, Holdings, KbartFault, read_file};
 use feed_model::{KeepFault, Refusal, State};
 use feed_names::ReleaseName;
-use feed_parts::{Part, are_within, byte_count, conflicts, covers, merge, new_parts, next_gap, text_of};
+use feed_parts::{
+    Part, are_within, byte_count, conflicts, covers, merge, new_parts, next_gap, text_of,
+};
 use std::alloc::{AllocError, Global};
 use std::marker::Model;
 

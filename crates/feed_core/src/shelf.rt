@@ -1,6 +1,12 @@
 //! The published files of a world.
+ghost use Rattle.std.specs.Prelude.{◌≡◌, ◌↔◌, [], IfOk, IsTrue, option_map};
+ghost use Rattle.feed_world.specs.World.{World, Shelf as files, Publish, Offer, Deliver, Lose, Happens, arriving, text_of};
+ghost use Rattle.feed_world.specs.Shown.{shown_line, shown_sent};
+ghost use Rattle.feed_core.specs.Nodes.{shown_arrived};
+ghost use Rattle.feed_core.specs.Step.{IsShelf};
+
 use crate::event::Event;
-use feed_names::ReleaseName;
+use feed_names::{ReleaseName, one_release_for_text, one_text_for_release};
 use feed_world::{Line, Sent, Why};
 use std::alloc::{AllocError, Global};
 use std::collections::BTreeMap;
@@ -13,34 +19,45 @@ pub struct Shelf<'a> {
 
 impl<'a> Shelf<'a> {
     /// A shelf without files.
-    pub fn new(alloc: Global) -> Shelf<'a> {
+    pub fn new(alloc: Global) -> Shelf<'a>
+        ensures { IsShelf result.files.entries [] }
+    {
         Shelf {
             files: BTreeMap::new(alloc),
         }
     }
 
     /// Publishes a file. A name stands for one file for ever.
-    pub fn publish(
-        &mut self,
-        name: &'a ReleaseName,
-        bytes: &'a [u8],
-    ) -> Result<Line, AllocError> {
-        match self.files.get(&name.text()) {
-            Some(file) => Ok(if *file == bytes {
-                Line::Published
-            } else {
-                Line::Refused(Why::Republished)
-            }),
-            None => {
-                self.files.insert(name.text(), bytes)?;
-                Ok(Line::Published)
+    pub fn publish(&mut self, name: &'a ReleaseName, bytes: &'a [u8]) -> Result<Line, AllocError>
+        ensures { IfOk result (λ line. (w : World) → IsShelf self.old.files.entries w.shelf → (v : World) × Happens w (Publish name.now bytes.now) (shown_line line) v × IsShelf self.new.files.entries v.shelf × (v.nodes ≡ w.nodes)) }
+    {
+        one_release_for_text();
+        one_text_for_release();
+        if let Some(file) = self.file_of(name) {
+            if !is_same(file, bytes) {
+                return Ok(Line::Refused(Why::Republished));
             }
+            return Ok(Line::Published);
+        }
+        self.files.insert(name.text(), bytes)?;
+        Ok(Line::Published)
+    }
+
+    // The file that is published under a name.
+    fn file_of(&self, name: &'a ReleaseName) -> Option<&'a [u8]>
+        ensures { (shelf : files) → IsShelf self.now.files.entries shelf → text_of shelf name.now ≡ option_map (λ file. file.now) result }
+    {
+        match self.files.get(&name.text()) {
+            Some(file) => Some(*file),
+            None => None,
         }
     }
 
     /// An offer of a published release, as it arrives at a node: with the size of its file.
-    pub fn offer(&self, name: &'a ReleaseName) -> Result<Event<'a>, Why> {
-        match self.files.get(&name.text()) {
+    pub fn offer(&self, name: &'a ReleaseName) -> Result<Event<'a>, Why>
+        ensures { (shelf : files) → IsShelf self.now.files.entries shelf → arriving shelf (Offer name.now) ≡ shown_arrived result }
+    {
+        match self.file_of(name) {
             Some(file) => Ok(Event::Offered {
                 name,
                 size: file.len() as u64,
@@ -50,40 +67,50 @@ impl<'a> Shelf<'a> {
     }
 
     /// A delivery as it arrives at a node: the slice of the published file, and the size of the file.
-    pub fn deliver(
-        &self,
-        name: &'a ReleaseName,
-        first: u64,
-        len: u64,
-    ) -> Result<Event<'a>, Why> {
-        let Some(file) = self.files.get(&name.text()) else {
+    pub fn deliver(&self, name: &'a ReleaseName, first: u64, len: u64) -> Result<Event<'a>, Why>
+        ensures { (shelf : files) → IsShelf self.now.files.entries shelf → arriving shelf (Deliver name.now first len) ≡ shown_arrived result }
+    {
+        let Some(file) = self.file_of(name) else {
             return Err(Why::Unpublished);
         };
         let total = file.len() as u64;
-        if first > total || len > total - first {
+        let Some(end) = first.checked_add(len) else {
+            return Err(Why::NoSlice);
+        };
+        if end > total {
             return Err(Why::NoSlice);
         }
         Ok(Event::Piece {
             name,
             first,
             total: Some(total),
-            bytes: &file[first as usize..(first + len) as usize],
+            bytes: &file[first as usize..end as usize],
         })
     }
 
     /// A loss as it arrives at a node.
-    pub fn lose(&self, name: &'a ReleaseName) -> Result<Event<'a>, Why> {
-        match self.files.get(&name.text()) {
+    pub fn lose(&self, name: &'a ReleaseName) -> Result<Event<'a>, Why>
+        ensures { (shelf : files) → IsShelf self.now.files.entries shelf → arriving shelf (Lose name.now) ≡ shown_arrived result }
+    {
+        match self.file_of(name) {
             Some(_) => Ok(Event::Lost { name }),
             None => Err(Why::Unpublished),
         }
     }
 
     /// What is on its way to a node as it stops.
-    pub fn sent(&self, what: &'a Sent) -> Result<Event<'a>, Why> {
+    pub fn sent(&self, what: &'a Sent) -> Result<Event<'a>, Why>
+        ensures { (shelf : files) → IsShelf self.now.files.entries shelf → arriving shelf (shown_sent what.now) ≡ shown_arrived result }
+    {
         match what {
             Sent::Offer { name } => self.offer(name),
             Sent::Deliver { name, first, len } => self.deliver(name, *first, *len),
         }
     }
+}
+
+fn is_same(file: &[u8], bytes: &[u8]) -> bool
+    ensures { IsTrue result ↔ (file.now ≡ bytes.now) }
+{
+    file == bytes
 }

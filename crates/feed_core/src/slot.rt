@@ -3,7 +3,8 @@ ghost use Rattle.feed_model.specs.History.{History};
 ghost use Rattle.feed_model.specs.Content.{IsContent};
 ghost use Rattle.feed_core.specs.ReleaseValue.{content_of};
 ghost use Rattle.feed_core.specs.Cause.{HasFailed};
-ghost use Rattle.feed_core.specs.Nodes.{Comes, IsSlotClean, SlotStands, IsPresent};
+ghost use Rattle.feed_core.specs.Slots.{IsSlotClean, SlotStands};
+ghost use Rattle.feed_core.specs.Nodes.{Comes, IsAsked, IsStartRefused, shown_outcome};
 
 use crate::event::Event;
 use crate::feed::{AnswerFault, Feed, OpenFault, Point};
@@ -15,26 +16,25 @@ use feed_names::ReleaseName;
 use feed_world::Why;
 use std::alloc::Global;
 
-/// A node over a keeper: a feed, or the keeper of one that could not be opened again.
+/// A node over a keeper.
 #[derive(Drop)]
-pub struct Slot<K: Keep + Drop> {
-    alloc: Global,
-    feed: Option<Feed<K>>,
-    keeper: Option<K>,
-    ghost present: { IsPresent feed keeper },
+pub enum Slot<K: Keep + Drop> {
+    /// It is up: a feed.
+    Up(Feed<K>),
+    /// It is down: the keeper of a feed that could not be opened again.
+    Down(K),
 }
 
 impl<K: Keep + Drop> Slot<K> {
     /// A node on a keeper that holds nothing. A keeper that holds something is handed back.
-    pub fn start(alloc: Global, keeper: K) -> Result<Slot<K>, OpenFault<K>> {
+    pub fn start(alloc: Global, keeper: K) -> Result<Slot<K>, OpenFault<K>>
+        ensures ok { IfOk result (λ s. SlotStands (λ f. content_of f.releases.items) K.content s true []) }
+        ensures err { IfErr result (λ fault. fault.cause ≢ KeepFault.Memory → IsStartRefused (HasFailed (K.failed keeper) (K.failed fault.keeper)) (K.clean fault.keeper) (K.content keeper)) }
+    {
         match Feed::open(alloc, keeper) {
             Ok(feed) => {
                 if feed.is_empty() {
-                    Ok(Slot {
-                        alloc,
-                        feed: Some(feed),
-                        keeper: None,
-                    })
+                    Ok(Slot::Up(feed))
                 } else {
                     Err(OpenFault {
                         cause: KeepFault::Damaged,
@@ -47,94 +47,70 @@ impl<K: Keep + Drop> Slot<K> {
     }
 
     /// The keeper of the node, up or down.
-    pub fn into_keeper(self) -> K {
-        let Slot {
-            alloc: _,
-            feed,
-            keeper,
-        } = self;
-        match feed {
-            Some(feed) => feed.restart(),
-            None => match keeper {
-                Some(keeper) => keeper,
-                None => unreachable!(),
-            },
+    pub fn into_keeper(self) -> K
+        ensures clean { K.clean result → IsSlotClean (λ f. K.clean f.keeper) K.clean self }
+        ensures content { K.clean result → (up : Bool) (h : History) → SlotStands (λ f. content_of f.releases.items) K.content self up h → IsContent (K.content result) h }
+    {
+        match self {
+            Slot::Up(feed) => feed.restart(),
+            Slot::Down(keeper) => keeper,
         }
     }
 }
 
 // Opens a keeper, and says why the node is down if it can't.
-fn opened<K: Keep + Drop>(alloc: Global, keeper: K) -> (Slot<K>, Result<(), KeepFault>) {
+fn opened<K: Keep + Drop>(alloc: Global, keeper: K) -> (Slot<K>, Result<(), KeepFault>)
+    ensures clean { IsSlotClean (λ f. K.clean f.keeper) K.clean result.0 → K.clean keeper }
+    ensures same { (h : History) → IsSlotClean (λ f. K.clean f.keeper) K.clean result.0 → IsContent (K.content keeper) h → Comes (SlotStands (λ f. content_of f.releases.items) K.content result.0) h result.1 }
+{
     match Feed::open(alloc, keeper) {
-        Ok(feed) => (
-            Slot {
-                alloc,
-                feed: Some(feed),
-                keeper: None,
-            },
-            Ok(()),
-        ),
-        Err(fault) => (
-            Slot {
-                alloc,
-                feed: None,
-                keeper: Some(fault.keeper),
-            },
-            Err(fault.cause),
-        ),
+        Ok(feed) => (Slot::Up(feed), Ok(())),
+        Err(fault) => (Slot::Down(fault.keeper), Err(fault.cause)),
     }
 }
 
 impl<K: Keep + Drop> Node for Slot<K> {
-    ghost clean = { λ s. IsSlotClean (λ f. K.clean f.keeper) K.clean s.feed s.keeper };
+    ghost clean = { λ s. IsSlotClean (λ f. K.clean f.keeper) K.clean s };
 
-    ghost stands = { λ s. SlotStands (λ f. content_of f.releases.items) K.content s.feed s.keeper };
+    ghost stands = { λ s. SlotStands (λ f. content_of f.releases.items) K.content s };
 
     fn is_up(&self) -> bool {
-        self.feed.is_some()
-    }
-
-    fn report(&self, package: &[u8]) -> Option<&ReleaseName> {
-        match &self.feed {
-            Some(feed) => feed.report(package),
-            None => None,
+        match self {
+            Slot::Up(_) => true,
+            Slot::Down(_) => false,
         }
     }
 
-    fn ask(&self, package: &[u8], query: &[u8]) -> Result<Vec<u8>, Why> {
-        match &self.feed {
-            Some(feed) => asked(self.alloc, feed, package, query),
-            None => Err(Why::Down),
+    fn report(&self, package: &[u8]) -> Option<&ReleaseName> {
+        match self {
+            Slot::Up(feed) => feed.report(package),
+            Slot::Down(_) => None,
+        }
+    }
+
+    fn ask(&self, alloc: Global, package: &[u8], query: &[u8]) -> Result<Vec<u8>, Why> {
+        match self {
+            Slot::Up(feed) => asked(alloc, feed, package, query),
+            Slot::Down(_) => Err(Why::Down),
         }
     }
 
     fn handle(&mut self, event: &Event<'_>) -> Result<Reply, Refusal> {
-        match &mut self.feed {
-            Some(feed) => feed.handle(event),
-            None => Err(Refusal::Memory),
+        match self {
+            Slot::Up(feed) => feed.handle(event),
+            Slot::Down(_) => Err(Refusal::Memory),
         }
     }
 
-    fn restart(&mut self) -> Result<(), KeepFault> {
-        let keeper = match self.feed.take() {
-            Some(feed) => feed.restart(),
-            None => match self.keeper.take() {
-                Some(keeper) => keeper,
-                None => unreachable!(),
-            },
-        };
-        let (slot, outcome) = opened(self.alloc, keeper);
-        *self = slot;
-        outcome
+    fn restart(self, alloc: Global) -> (Slot<K>, Result<(), KeepFault>) {
+        opened(alloc, self.into_keeper())
     }
 
-    fn stop_after(&mut self, event: &Event<'_>) -> Result<(), KeepFault> {
-        let Some(feed) = self.feed.take() else {
-            return self.restart();
-        };
-        let (slot, outcome) = opened(self.alloc, feed.stop_at(event, Point::After));
-        *self = slot;
-        outcome
+    fn stop_after(self, alloc: Global, event: &Event<'_>) -> (Slot<K>, Result<(), KeepFault>) {
+        match self {
+            Slot::Up(feed) => opened(alloc, feed.stop_at(event, Point::After)),
+            Slot::Down(keeper) => opened(alloc, keeper),
+        }
     }
 }
 
@@ -144,13 +120,16 @@ fn asked<K: Keep + Drop>(
     feed: &Feed<K>,
     package: &[u8],
     query: &[u8],
-) -> Result<Vec<u8>, Why> {
+) -> Result<Vec<u8>, Why>
+    ensures { (h : History) → IsContent (content_of feed.now.releases.items) h → IsAsked h «package».now query.now (shown_outcome (λ text. text.items) result) }
+{
+    let active = feed.report(package);
     let query = match Query::read(alloc, query) {
         Ok(query) => query,
         Err(QueryFault::Memory) => return Err(Why::Memory),
         Err(fault) => return Err(Why::Query(fault)),
     };
-    let Some(name) = feed.report(package) else {
+    let Some(name) = active else {
         return Err(Why::NoRelease);
     };
     let answer = match feed.answer(package, &query) {

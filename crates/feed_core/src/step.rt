@@ -1,11 +1,24 @@
 //! What a world makes of one event at one node.
+ghost use Rattle.std.specs.Prelude.{◌≡◌, ◌+◌, ◌<◌, ◌≤◌, ◌⊎◌, ◌∷◌, Bool, true, IfOk, IfSome, IfNone, insert, vec_len, vec_capacity};
+ghost use Rattle.feed_model.specs.History.{History, Answer};
+ghost use Rattle.feed_model.specs.Reply.{IsRight};
+ghost use Rattle.feed_world.specs.World.{Shelf as files, Sent as sent, Tell, Restart, StopBefore, StopAfter, Report, Ask, arriving};
+ghost use Rattle.feed_world.specs.Shown.{shown_line};
+ghost use Rattle.feed_core.specs.Told.{told};
+ghost use Rattle.feed_core.specs.Nodes.{Comes, shown_arrived};
+ghost use Rattle.feed_core.specs.Step.{Changes, Goes};
+
 use crate::event::Event;
 use crate::node::Node;
+use feed_model::KeepFault;
 use feed_world::{Line, Why};
-use std::alloc::AllocError;
+use std::alloc::{AllocError, Global};
 
 /// The place of the node of a number.
-fn place(count: usize, node: u64) -> Option<usize> {
+fn place(count: usize, node: u64) -> Option<usize>
+    ensures found { IfSome result (λ at. (node ≡ at + 1) × (at < count)) }
+    ensures none { IfNone result ((node ≡ 0) ⊎ (count < node)) }
+{
     let at = node.checked_sub(1)?;
     if at < count as u64 {
         Some(at as usize)
@@ -14,19 +27,60 @@ fn place(count: usize, node: u64) -> Option<usize> {
     }
 }
 
+// Puts a node back to the place from which it was taken.
+fn put_back<N: Node + Drop>(nodes: &mut Vec<N>, at: usize, node: N)
+    requires within { at ≤ vec_len nodes.old }
+    requires room { vec_len nodes.old < vec_capacity nodes.old }
+    ensures { nodes.new.items ≡ insert nodes.old.items at node }
+{
+    match nodes.insert(at, node) {
+        Ok(()) => {}
+        Err(_) => unreachable!(),
+    }
+}
+
+// Opens the node at a place again.
+fn reopened<N: Node + Drop>(alloc: Global, nodes: &mut Vec<N>, at: usize) -> Result<(), KeepFault>
+    requires within { at < vec_len nodes.old }
+    ensures { Changes N.clean (λ x z. (up : Bool) (h : History) → N.clean z → N.stands x up h → Comes (N.stands z) h result) nodes.old.items nodes.new.items at }
+{
+    let (node, outcome) = nodes.remove(at).restart(alloc);
+    put_back(nodes, at, node);
+    outcome
+}
+
+// Stops the node at a place after the commit of an event, and opens it again.
+fn stopped_after<N: Node + Drop>(
+    alloc: Global,
+    nodes: &mut Vec<N>,
+    at: usize,
+    event: &Event<'_>,
+) -> Result<(), KeepFault>
+    requires within { at < vec_len nodes.old }
+    ensures { Changes N.clean (λ x z. (h : History) → N.clean z → N.stands x true h → (answer : Answer) × IsRight h (told event.now) answer × Comes (N.stands z) ((told event.now, answer) ∷ h) result) nodes.old.items nodes.new.items at }
+{
+    let (node, outcome) = nodes.remove(at).stop_after(alloc, event);
+    put_back(nodes, at, node);
+    outcome
+}
+
 /// Opens a node again.
-pub fn restart_at<N: Node>(nodes: &mut Vec<N>, node: u64) -> Line {
+pub fn restart_at<N: Node + Drop>(alloc: Global, nodes: &mut Vec<N>, node: u64) -> Line
+    ensures { (shelf : files) → Goes N.clean N.stands shelf nodes.old.items nodes.new.items (Restart node) (shown_line result) }
+{
     let Some(at) = place(nodes.len(), node) else {
         return Line::Refused(Why::NoNode);
     };
-    match nodes[at].restart() {
+    match reopened(alloc, nodes, at) {
         Ok(()) => Line::Restarted,
         Err(cause) => Line::Down(cause),
     }
 }
 
 /// Tells a node what arrives at it.
-pub fn tell_at<N: Node>(nodes: &mut Vec<N>, node: u64, arrived: &Result<Event<'_>, Why>) -> Line {
+pub fn tell_at<N: Node>(nodes: &mut Vec<N>, node: u64, arrived: &Result<Event<'_>, Why>) -> Line
+    ensures { (shelf : files) (what : sent) → arriving shelf what ≡ shown_arrived arrived.now → Goes N.clean N.stands shelf nodes.old.items nodes.new.items (Tell node what) (shown_line result) }
+{
     let Some(at) = place(nodes.len(), node) else {
         return Line::Refused(Why::NoNode);
     };
@@ -44,32 +98,39 @@ pub fn tell_at<N: Node>(nodes: &mut Vec<N>, node: u64, arrived: &Result<Event<'_
 }
 
 /// Stops a node before the commit of what arrives at it, and opens it again.
-pub fn stop_before_at<N: Node>(
+pub fn stop_before_at<N: Node + Drop>(
+    alloc: Global,
     nodes: &mut Vec<N>,
     node: u64,
     arrived: &Result<Event<'_>, Why>,
-) -> Line {
+) -> Line
+    ensures { (shelf : files) (what : sent) → arriving shelf what ≡ shown_arrived arrived.now → Goes N.clean N.stands shelf nodes.old.items nodes.new.items (StopBefore node what) (shown_line result) }
+{
     let Some(at) = place(nodes.len(), node) else {
         return Line::Refused(Why::NoNode);
     };
-    if let Err(why) = arrived {
-        return Line::Refused(*why);
-    }
+    let _event = match arrived {
+        Ok(event) => event,
+        Err(why) => return Line::Refused(*why),
+    };
     if !nodes[at].is_up() {
         return Line::Refused(Why::Down);
     }
-    match nodes[at].restart() {
+    match reopened(alloc, nodes, at) {
         Ok(()) => Line::Stopped,
         Err(cause) => Line::Down(cause),
     }
 }
 
 /// Stops a node after the commit of what arrives at it, and opens it again.
-pub fn stop_after_at<N: Node>(
+pub fn stop_after_at<N: Node + Drop>(
+    alloc: Global,
     nodes: &mut Vec<N>,
     node: u64,
     arrived: &Result<Event<'_>, Why>,
-) -> Line {
+) -> Line
+    ensures { (shelf : files) (what : sent) → arriving shelf what ≡ shown_arrived arrived.now → Goes N.clean N.stands shelf nodes.old.items nodes.new.items (StopAfter node what) (shown_line result) }
+{
     let Some(at) = place(nodes.len(), node) else {
         return Line::Refused(Why::NoNode);
     };
@@ -80,14 +141,16 @@ pub fn stop_after_at<N: Node>(
     if !nodes[at].is_up() {
         return Line::Refused(Why::Down);
     }
-    match nodes[at].stop_after(event) {
+    match stopped_after(alloc, nodes, at, event) {
         Ok(()) => Line::Stopped,
         Err(cause) => Line::Down(cause),
     }
 }
 
 /// The active release of a package at a node.
-pub fn report_at<N: Node>(nodes: &[N], node: u64, package: &[u8]) -> Result<Line, AllocError> {
+pub fn report_at<N: Node>(nodes: &[N], node: u64, package: &[u8]) -> Result<Line, AllocError>
+    ensures { IfOk result (λ line. (shelf : files) → Goes N.clean N.stands shelf nodes.now nodes.now (Report node «package».now) (shown_line line)) }
+{
     let Some(at) = place(nodes.len(), node) else {
         return Ok(Line::Refused(Why::NoNode));
     };
@@ -101,14 +164,16 @@ pub fn report_at<N: Node>(nodes: &[N], node: u64, package: &[u8]) -> Result<Line
 }
 
 /// What a node answers a query about a package.
-pub fn ask_at<N: Node>(nodes: &[N], node: u64, package: &[u8], query: &[u8]) -> Line {
+pub fn ask_at<N: Node>(alloc: Global, nodes: &[N], node: u64, package: &[u8], query: &[u8]) -> Line
+    ensures { (shelf : files) → Goes N.clean N.stands shelf nodes.now nodes.now (Ask node «package».now query.now) (shown_line result) }
+{
     let Some(at) = place(nodes.len(), node) else {
         return Line::Refused(Why::NoNode);
     };
     if !nodes[at].is_up() {
         return Line::Refused(Why::Down);
     }
-    match nodes[at].ask(package, query) {
+    match nodes[at].ask(alloc, package, query) {
         Ok(text) => Line::Text(text),
         Err(why) => Line::Refused(why),
     }

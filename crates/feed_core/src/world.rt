@@ -91,14 +91,15 @@ fn show_all<N: Node + Drop>(
     let mut shelf = Shelf::new(alloc);
     let mut lines = Vec::with_capacity(alloc, events.len())?;
     for event in events {
-        let line = show(&mut shelf, &mut nodes, event)?;
+        let line = show(alloc, &mut shelf, &mut nodes, event)?;
         lines.push(line)?;
     }
     Ok((lines, nodes))
 }
 
 // Shows one event.
-fn show<'a, N: Node>(
+fn show<'a, N: Node + Drop>(
+    alloc: Global,
     shelf: &mut Shelf<'a>,
     nodes: &mut Vec<N>,
     event: &'a WorldEvent,
@@ -113,16 +114,18 @@ fn show<'a, N: Node>(
             len,
         } => Ok(tell_at(nodes, *node, &shelf.deliver(name, *first, *len))),
         WorldEvent::Lose { node, name } => Ok(tell_at(nodes, *node, &shelf.lose(name))),
-        WorldEvent::Restart { node } => Ok(restart_at(nodes, *node)),
+        WorldEvent::Restart { node } => Ok(restart_at(alloc, nodes, *node)),
         WorldEvent::StopBefore { node, what } => {
-            Ok(stop_before_at(nodes, *node, &shelf.sent(what)))
+            Ok(stop_before_at(alloc, nodes, *node, &shelf.sent(what)))
         }
-        WorldEvent::StopAfter { node, what } => Ok(stop_after_at(nodes, *node, &shelf.sent(what))),
+        WorldEvent::StopAfter { node, what } => {
+            Ok(stop_after_at(alloc, nodes, *node, &shelf.sent(what)))
+        }
         WorldEvent::Report { node, package } => report_at(nodes, *node, package),
         WorldEvent::Ask {
             node,
             package,
             query,
-        } => Ok(ask_at(nodes, *node, package, query)),
+        } => Ok(ask_at(alloc, nodes, *node, package, query)),
     }
 }

@@ -127,7 +127,7 @@ grows_on u w v g h = record {
   nodes = λ i x e. (let y = g.nodes i x e in let z = h.nodes i y.0 y.1 in (z.0, z.1, keeps_on x.history y.0.history z.0.history y.2 z.2));
 }
 
-text_of-push : (shelf : Shelf) (m n : Name) (bytes : List ℕ) → text_of (shelf ++ (m, bytes) ∷ []) n ≡ or_else (text_of shelf n) (cond (name_eq m n) (Some bytes) None)
+pub text_of-push : (shelf : Shelf) (m n : Name) (bytes : List ℕ) → text_of (shelf ++ (m, bytes) ∷ []) n ≡ or_else (text_of shelf n) (cond (name_eq m n) (Some bytes) None)
 text_of-push [] m n bytes = refl
 text_of-push (f ∷ fs) m n bytes = by (name_eq f.0 n) refl (text_of-push fs m n bytes)
   where
@@ -135,7 +135,7 @@ text_of-push (f ∷ fs) m n bytes = by (name_eq f.0 n) refl (text_of-push fs m n
     by true t again = rw t refl
     by false t again = rw t again
 
-or_none : {X : Type 0} (o : Option X) → or_else o None ≡ o
+pub or_none : {X : Type 0} (o : Option X) → or_else o None ≡ o
 or_none None = refl
 or_none (Some x) = refl
 

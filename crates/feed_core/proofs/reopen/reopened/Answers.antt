@@ -17,9 +17,9 @@ loop-record-init c = record {
 
 pub returns-in-Err-clause-err : goal.returns-in-Err-clause-err
 returns-in-Err-clause-err c = elim c.in-Err.ensures.err [
-    inl memory ↦ inl memory
-    | inr damaged ↦ inr (damaged.0, reopened_not c.args.records.items c.loop-record.record-iterator.rest.items c.next.new.self.rest.items c.loop-record.releases.items c.in-Some.record c.loop-record.invariant.so c.in-Some.ensures.steps.0 damaged.1)
-    ]
+  | inl memory ↦ inl memory
+  | inr damaged ↦ inr (damaged.0, reopened_not c.args.records.items c.loop-record.record-iterator.rest.items c.next.new.self.rest.items c.loop-record.releases.items c.in-Some.record c.loop-record.invariant.so c.in-Some.ensures.steps.0 damaged.1)
+]
 
 pub push_reserved-requires : goal.push_reserved-requires
 push_reserved-requires c =

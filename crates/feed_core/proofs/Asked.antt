@@ -1,0 +1,24 @@
+-- What a feed answers, as a world shows it.
+use Rattle.std.proofs.Common.{◌≡◌, ℕ, List, [], ◌++◌, Option, Some, Result, Ok, Err, inl, refl, sym, ◌∙◌, ap, subst}
+use Rattle.feed_names.specs.ReleaseName.{Name, text_of}
+use Rattle.feed_kbart.specs.Files.{holdings_of}
+use Rattle.feed_answer.specs.QueryValue.{QueryValue}
+use Rattle.feed_answer.specs.HitValue.{HitValue}
+use Rattle.feed_answer.specs.Queries.{query_of}
+use Rattle.feed_answer.specs.Answers.{answer_of, answer_text}
+use Rattle.feed_model.specs.History.{History, IsFile, Reports}
+use Rattle.feed_world.specs.World.{Text, text_for, file_says}
+use Rattle.feed_world.proofs.Over.{reports_one}
+use Rattle.feed_core.specs.Answered.{IsAnswered}
+use Rattle.feed_core.specs.Nodes.{IsAsked}
+
+-- the text of the hits of a whole file
+said : (name : Name) (file items : List ℕ) (query : QueryValue) (hits : List HitValue) → hits ≡ answer_of (holdings_of file) query → items ≡ answer_text (text_of name) hits → Text items ≡ file_says name file (Ok query)
+unfolding text_for
+said name file items query hits found written = ap Text (written ∙ ap (answer_text (text_of name)) found)
+
+pub asked_text : (h : History) (stem text items : List ℕ) (name : Name) (query : QueryValue) (hits : List HitValue) → Reports h stem (Some name) → Ok query ≡ query_of text → IsAnswered h stem query (Ok hits) → items ≡ answer_text (text_of name) hits → IsAsked h stem text (Text items)
+asked_text h stem text items name query hits reports read answered written =
+    let same : answered.0 ≡ name = (let e = reports_one h stem (Some answered.0) (Some name) answered.2 reports in cc) in
+    let file = answered.1 in
+    (Some name, reports, inl (file, subst (λ (n : Name). IsFile h n file) same answered.3, rw (← read) (said name file items query hits answered.4 written)))

@@ -1,0 +1,25 @@
+use Rattle.std.proofs.Common.{List, subst, sym, ◌≡◌, ◌<◌, ℕ, ◌⊎◌, length, refl, inl, inr, true, false, arith, rules}
+use Rattle.feed_world.specs.World.{World, Node, Restart, Restarted, IsDown, Refused}
+use Rattle.feed_world.specs.declared.line.Why.TheVariants.{NoNode}
+use Rattle.feed_core.specs.Step.{Goes}
+use Rattle.feed_core.proofs.Steps.{none_at, goes_set, goes_not}
+use Rattle.feed_core.proofs.step.restart_at.Goals as goal
+
+pub returns-in_default : goal.returns-in_default
+returns-in_default g c =
+    let out : (c.args.node ≡ 0) ⊎ (length c.args.nodes.now.items < c.args.node) = search rules in
+    λ shelf. goes_not g.N.Node.clean g.N.Node.stands shelf c.args.nodes.now.items (Restart c.args.node) (Refused NoNode) (λ w s a n. rw (none_at g.N.Node.stands c.args.nodes.now.items w.nodes c.args.node n out) (refl, refl))
+
+pub returns-in-Ok : goal.returns-in-Ok
+returns-in-Ok g c =
+    let lt : c.in-Some.at < length c.args.nodes.now.items = omega (arith, c.in-Some.ensures.found.1, c.len.ensures) in
+    let r = c.in-Ok.ensures in
+    λ shelf. subst (λ (ys : List _). Goes g.N.Node.clean g.N.Node.stands shelf c.args.nodes.now.items ys (Restart c.args.node) Restarted) (sym r.now)
+    (goes_set g.N.Node.clean g.N.Node.stands shelf c.args.nodes.now.items c.in-Some.at r.before r.after c.args.node (Restart c.args.node) Restarted lt r.was c.in-Some.ensures.found.0 r.still (λ w y s at clean stood. record { up = true; history = y.history; happens = rw at (inl (refl, refl)); stood = r.goes y.up y.history clean stood }))
+
+pub returns-in-Err : goal.returns-in-Err
+returns-in-Err g c =
+    let lt : c.in-Some.at < length c.args.nodes.now.items = omega (arith, c.in-Some.ensures.found.1, c.len.ensures) in
+    let r = c.in-Err.ensures in
+    λ shelf. subst (λ (ys : List _). Goes g.N.Node.clean g.N.Node.stands shelf c.args.nodes.now.items ys (Restart c.args.node) (IsDown c.in-Err.cause)) (sym r.now)
+    (goes_set g.N.Node.clean g.N.Node.stands shelf c.args.nodes.now.items c.in-Some.at r.before r.after c.args.node (Restart c.args.node) (IsDown c.in-Err.cause) lt r.was c.in-Some.ensures.found.0 r.still (λ w y s at clean stood. (let t = r.goes y.up y.history clean stood in record { up = false; history = y.history; happens = rw at (inr (c.in-Err.cause, t.0, refl, refl)); stood = t.1 })))

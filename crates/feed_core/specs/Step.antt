@@ -1,0 +1,53 @@
+-- What a step makes of the nodes and files of the code, and what it shows of those of a world.
+use Rattle.std.specs.Prelude.{◌≡◌, ◌≢◌, ◌⊎◌, ℕ, Bool, true, false, List, [], ◌∷◌, map, option_map, slice_set, slice_index_or, Option, Some, None, Result, Ok, Err}
+use Rattle.std.specs.Borrow.{Bor}
+use Rattle.std.specs.Map.{lookup}
+use Rattle.std.specs.BTreeMap.{is_at}
+use Rattle.std.specs.Ordering.{nat_cmp}
+use Rattle.std.specs.Cmp.Lexicographic.{slice_cmp}
+use Rattle.feed_names.specs.ReleaseName.{Name, IsName}
+use Rattle.feed_model.specs.History.{History}
+use Rattle.feed_world.specs.World.{World, Node, WorldEvent, Line, Shelf, Happens, Shows, start, text_of}
+
+abbrev pub AllClean : {M : Type 0} → (M → Type 0) → List M → Type 0
+AllClean clean [] = Unit {0}
+AllClean clean (x ∷ xs) = clean x × AllClean clean xs
+
+-- each stands at the history of the world's node
+abbrev pub AreNodes : {M : Type 0} → (M → Bool → History → Type 0) → List M → List Node → Type 0
+AreNodes stands [] [] = Unit {0}
+AreNodes stands (x ∷ xs) (y ∷ ys) = stands x y.up y.history × AreNodes stands xs ys
+AreNodes stands [] (y ∷ ys) = ⊥
+AreNodes stands (x ∷ xs) [] = ⊥
+
+-- one node is another one now, of which this holds, and it was clean if it is
+pub record Changes {M : Type 0} (clean : M → Type 0) (law : M → M → Type 0) (old new : List M) (at : ℕ) : Type 0 where
+  pub before : M
+  pub after : M
+  pub was : before ≡ slice_index_or old at before
+  pub now : new ≡ slice_set old at after
+  pub still : clean after → clean before
+  pub goes : law before after
+
+-- Where all nodes are clean now, they were clean, and from each world at which they stood the event may be shown by this line, and leave a world at which they stand.
+abbrev pub Goes : {M : Type 0} → (M → Type 0) → (M → Bool → History → Type 0) → Shelf → List M → List M → WorldEvent → Line → Type 0
+Goes clean stands shelf old new event line =
+    AllClean clean new → AllClean clean old × ((w : World) → w.shelf ≡ shelf → AreNodes stands old w.nodes → (v : World) × Happens w event line v × (v.shelf ≡ shelf) × AreNodes stands new v.nodes)
+
+-- the file that is found by the text of a name
+abbrev pub file_at : List (Bor (List ℕ) × Bor (List ℕ)) → Bor (List ℕ) → Option (List ℕ)
+file_at files key = option_map (λ f. f.now) (lookup (is_at (λ k. slice_cmp nat_cmp key.now k.now)) files)
+
+-- the files of the code are those of the shelf, found by the texts of their names
+abbrev pub IsShelf : List (Bor (List ℕ) × Bor (List ℕ)) → Shelf → Type 0
+IsShelf files shelf = (n : Name) (key : Bor (List ℕ)) → IsName key.now n → text_of shelf n ≡ file_at files key
+
+-- the same, where more may be published
+abbrev pub GoesTo : {M : Type 0} → (M → Type 0) → (M → Bool → History → Type 0) → List (Bor (List ℕ) × Bor (List ℕ)) → List (Bor (List ℕ) × Bor (List ℕ)) → List M → List M → WorldEvent → Line → Type 0
+GoesTo clean stands before files old new event line =
+    AllClean clean new → AllClean clean old × ((w : World) → IsShelf before w.shelf → AreNodes stands old w.nodes → (v : World) × Happens w event line v × IsShelf files v.shelf × AreNodes stands new v.nodes)
+
+-- Where all nodes are clean, the lines so far show the events so far, and the nodes stand where they lead.
+abbrev pub HasShown : {M : Type 0} → (M → Type 0) → (M → Bool → History → Type 0) → ℕ → List WorldEvent → List Line → List (Bor (List ℕ) × Bor (List ℕ)) → List M → Type 0
+HasShown clean stands count events lines files nodes =
+    AllClean clean nodes → (w : World) × Shows (start count) events lines w × IsShelf files w.shelf × AreNodes stands nodes w.nodes
