@@ -30,9 +30,10 @@ utf8_cut front back long ends utf8 =
     let ascii : get_or all last 0 < 128 = rw (get_or-append front back 0 last within) ends in
     let end : last + 1 ≡ length front = omega arith in
     let P : ℕ → Type 0 = λ n. IsCharBoundary all n in
-    let boundary = subst P end (IsCharBoundary-after_ascii all last utf8 inside ascii) in
-    (rw (take-append_seam front back) at (IsUtf8-take all (length front) utf8 boundary),
-     rw (drop-append_seam front back) at (IsUtf8-drop all (length front) utf8 boundary))
+    let boundary = subst P end (IsCharBoundary-after_ascii all last utf8 inside ascii) in (
+      rw (take-append_seam front back) at (IsUtf8-take all (length front) utf8 boundary),
+      rw (drop-append_seam front back) at (IsUtf8-drop all (length front) utf8 boundary),
+    )
 
 -- a text of blocks is UTF-8 just where each block is
 pub utf8_blocks : (blocks : List (List ℕ)) (last : List ℕ) → ((k : ℕ) → k < length blocks → IsUtf8 (get_or blocks k [])) → IsUtf8 last → IsUtf8 (concat blocks ++ last)
@@ -93,7 +94,7 @@ block_ends held bytes cut long within ends =
     let place : length (held ++ front) - 1 ≡ length held + (cut - 1) = omega (arith, size, sizes) in
     let before : cut - 1 < cut = omega arith in
     let byte : get_or (held ++ front) (length held + (cut - 1)) 0 ≡ get_or bytes (cut - 1) 0 =
-        get_or-append-add held front (cut - 1) 0 ∙ get_or-take cut bytes (cut - 1) 0 before in
+    get_or-append-add held front (cut - 1) 0 ∙ get_or-take cut bytes (cut - 1) 0 before in
     (omega (arith, size, sizes), rw (place, byte) ends)
 
 pub pushed : (full held front back : List ℕ) → (full ++ (held ++ front)) ++ back ≡ (full ++ held) ++ (front ++ back)

@@ -2,14 +2,13 @@ ghost use Rattle.std.specs.Prelude.{◌≡◌, ◌≤◌, ◌<◌, ◌-◌, ◌+
 ghost use Rattle.feed_kbart.specs.Records.{has_two_marks};
 
 use std::alloc::{AllocError, Global};
-use std::io;
 use std::io::Read;
 use std::marker::Model;
-use std::mem;
 use std::vec::IntoIter;
+use std::{io, mem};
 
-// A text is cut as soon as this many bytes have come since the last cut.
-const BLOCK: usize = 65_536;
+/// How many bytes are read at once. A text is cut where this many have come since the last cut.
+pub(crate) const BLOCK: usize = 65_536;
 
 // Two byte-order marks of UTF-8.
 const TWO_MARKS: [u8; 6] = [0xEF, 0xBB, 0xBF, 0xEF, 0xBB, 0xBF];

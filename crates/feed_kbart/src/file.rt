@@ -1,7 +1,7 @@
 ghost use Rattle.std.specs.Prelude.{◌≡◌, ◌≤◌, IfErr, IfOk, IfSome, length};
 ghost use Rattle.feed_kbart.specs.Files.{IsFaultOf, IsReadOf};
 
-use crate::blocks::Blocks;
+use crate::blocks::{BLOCK, Blocks};
 use crate::fault::{BadFile, KbartFault};
 use crate::holdings::Holdings;
 use crate::records::read_records;
@@ -10,9 +10,6 @@ use std::io::Read;
 
 /// The most bytes that a file may have.
 pub const FILE_LIMIT: usize = 67_108_864;
-
-// How many bytes are read at once.
-const BLOCK: usize = 65_536;
 
 // All bytes of a reader, if they are not more than a file may have. Std's `read_to_end` would go on
 // after an `Interrupted`.

@@ -12,9 +12,9 @@ invariant_of-self-in-Continue-branch-4 c =
     let bytes = c.args.bytes.now in
     let cut = c.in-Some.cut in
     let block : c.replace.result.items ≡ held ++ take cut bytes =
-        ap (λ v. v.items) c.replace.ensures.value ∙ c.in_ok-extend_from_slice-in-Some.ensures.items ∙ ap (λ l. held ++ l) c.split_at.ensures.front in
+    ap (λ v. v.items) c.replace.ensures.value ∙ c.in_ok-extend_from_slice-in-Some.ensures.items ∙ ap (λ l. held ++ l) c.split_at.ensures.front in
     let blocks : map (λ v. v.items) c.push.new.self.items ≡ map (λ v. v.items) full ++ c.replace.result.items ∷ [] =
-        ap (map (λ v. v.items)) c.in_ok-push-in-Some.ensures.items ∙ map-append (λ v. v.items) full (c.replace.result ∷ []) in
+    ap (map (λ v. v.items)) c.in_ok-push-in-Some.ensures.items ∙ map-append (λ v. v.items) full (c.replace.result ∷ []) in
     let place = c.in-Some.ensures in
     let ends = rw (← block) at (block_ends held bytes cut place.0 place.1 place.2) in
     subst AreBlocks (sym blocks) (AreBlocks_more (map (λ v. v.items) full) c.replace.result.items c.self.invariant ends.0 ends.1)
@@ -26,12 +26,12 @@ returns-in_ok-push-in-Some c =
     let bytes = c.args.bytes.now in
     let cut = c.in-Some.cut in
     let block : c.replace.result.items ≡ held ++ take cut bytes =
-        ap (λ v. v.items) c.replace.ensures.value ∙ c.in_ok-extend_from_slice-in-Some.ensures.items ∙ ap (λ l. held ++ l) c.split_at.ensures.front in
+    ap (λ v. v.items) c.replace.ensures.value ∙ c.in_ok-extend_from_slice-in-Some.ensures.items ∙ ap (λ l. held ++ l) c.split_at.ensures.front in
     let back : c.replace.new.dest.items ≡ drop cut bytes =
-        ap (λ v. v.items) c.replace.ensures.after ∙ c.in_ok-next-in-Some.ensures.items ∙ c.split_at.ensures.back in
+    ap (λ v. v.items) c.replace.ensures.after ∙ c.in_ok-next-in-Some.ensures.items ∙ c.split_at.ensures.back in
     let blocks : concat (map (λ v. v.items) c.push.new.self.items) ≡ full ++ (held ++ take cut bytes) =
-        ap (λ vs. concat (map (λ v. v.items) vs)) c.in_ok-push-in-Some.ensures.items
-        ∙ ap concat (map-append (λ v. v.items) c.self.inside.full.items (c.replace.result ∷ []))
-        ∙ concat_more (map (λ v. v.items) c.self.inside.full.items) c.replace.result.items ∙ ap (λ l. full ++ l) block in
+    ap (λ vs. concat (map (λ v. v.items) vs)) c.in_ok-push-in-Some.ensures.items
+    ∙ ap concat (map-append (λ v. v.items) c.self.inside.full.items (c.replace.result ∷ []))
+    ∙ concat_more (map (λ v. v.items) c.self.inside.full.items) c.replace.result.items ∙ ap (λ l. full ++ l) block in
     rw (← c.self.view_is, ← take-append-drop cut bytes)
     (ap (λ l. l ++ c.replace.new.dest.items) blocks ∙ ap (λ l. (full ++ (held ++ take cut bytes)) ++ l) back ∙ pushed full held (take cut bytes) (drop cut bytes))
