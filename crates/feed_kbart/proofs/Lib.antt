@@ -1,4 +1,5 @@
 pub mod Places
+pub mod BlockTexts
 pub mod Bytes
 pub mod Cuts
 pub mod Steps

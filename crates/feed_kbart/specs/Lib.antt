@@ -12,3 +12,4 @@ pub mod Rows
 pub mod HoldingsValue
 pub mod Holdings
 pub mod Files
+pub mod Blocks

@@ -1,7 +1,7 @@
-ghost use Rattle.std.specs.Prelude.{◌≡◌, ◌≤◌, ◌↔◌, IfErr, IfOk, IfSome, IsTrue, IsUtf8, length};
+ghost use Rattle.std.specs.Prelude.{◌≡◌, ◌≤◌, IfErr, IfOk, IfSome, length};
 ghost use Rattle.feed_kbart.specs.Files.{IsFaultOf, IsReadOf};
-ghost use Rattle.feed_kbart.specs.Records.{has_two_marks};
 
+use crate::blocks::{BLOCK, Blocks};
 use crate::fault::{BadFile, KbartFault};
 use crate::holdings::Holdings;
 use crate::records::read_records;
@@ -11,20 +11,15 @@ use std::io::Read;
 /// The most bytes that a file may have.
 pub const FILE_LIMIT: usize = 67_108_864;
 
-// How many bytes are read at once.
-const BLOCK: usize = 65_536;
-
-// Two byte-order marks of UTF-8.
-const TWO_MARKS: [u8; 6] = [0xEF, 0xBB, 0xBF, 0xEF, 0xBB, 0xBF];
-
 // All bytes of a reader, if they are not more than a file may have. Std's `read_to_end` would go on
 // after an `Interrupted`.
-fn read_text<R: Read>(alloc: Global, reader: &mut R) -> Result<Vec<u8>, KbartFault>
-    ensures whole { IfOk result (λ v. IfSome (R.remaining reader.old) (λ text. v.items ≡ text)) }
-    ensures within { IfOk result (λ v. length v.items ≤ FILE_LIMIT) }
+fn read_text<R: Read>(alloc: Global, reader: &mut R) -> Result<Blocks, KbartFault>
+    ensures whole { IfOk result (λ blocks. IfSome (R.remaining reader.old) (λ text. blocks ≡ text)) }
+    ensures within { IfOk result (λ blocks. length blocks ≤ FILE_LIMIT) }
     ensures fault { IfErr result (λ fault. IfSome (R.remaining reader.old) (λ text. IsFaultOf text fault)) }
 {
-    let mut text = Vec::new(alloc);
+    let mut text = Blocks::new(alloc);
+    let mut total = 0usize;
     let mut block = [0u8; BLOCK];
     // Each turn but the last takes in a byte at least.
     for _ in 0..FILE_LIMIT + 2 {
@@ -34,38 +29,27 @@ fn read_text<R: Read>(alloc: Global, reader: &mut R) -> Result<Vec<u8>, KbartFau
         if count == 0 {
             return Ok(text);
         }
-        if count > FILE_LIMIT - text.len() {
+        if count > FILE_LIMIT - total {
             return Err(KbartFault::TooLong);
         }
-        text.extend_from_slice(&block[..count])?;
+        text.push(alloc, &block[..count])?;
+        total += count;
     }
     Err(KbartFault::TooLong)
 }
 
-fn is_text(bytes: &[u8]) -> bool
-    ensures { IsTrue result ↔ IsUtf8 bytes.now }
-{
-    std::str::from_utf8(bytes).is_ok()
-}
-
-fn begins_with_two_marks(text: &[u8]) -> bool
-    ensures { result ≡ has_two_marks text.now }
-{
-    text.starts_with(&TWO_MARKS)
-}
-
 // The holdings of a whole text, or the first reason why it is bad.
-fn read_whole(alloc: Global, text: &[u8]) -> Result<Holdings, KbartFault>
-    requires { length text.now ≤ FILE_LIMIT }
-    ensures { IsReadOf text.now result }
+fn read_whole(alloc: Global, text: Blocks) -> Result<Holdings, KbartFault>
+    requires { length text ≤ FILE_LIMIT }
+    ensures { IsReadOf text result }
 {
-    if !is_text(text) {
+    if !text.is_utf8() {
         return Err(KbartFault::Bad(BadFile::NotUtf8));
     }
-    if begins_with_two_marks(text) {
+    if text.begins_with_two_marks() {
         return Err(KbartFault::Bad(BadFile::TwoMarks));
     }
-    read_records(alloc, text)
+    read_records(alloc, text.into_reader(alloc)?)
 }
 
 /// Reads a file to its end and judges it (NISO RP-9-2014).
@@ -80,5 +64,5 @@ pub fn read_file<R: Read + Drop>(alloc: Global, reader: R) -> Result<Holdings, K
 {
     let mut reader = reader;
     let text = read_text(alloc, &mut reader)?;
-    read_whole(alloc, &text)
+    read_whole(alloc, text)
 }

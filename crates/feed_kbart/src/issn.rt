@@ -28,7 +28,12 @@ impl Issn {
     pub fn parse(text: &[u8]) -> Option<Issn>
         ensures { result ≡ issn_of text.now }
     {
-        match trim_spaces(text) {
+        let text = trim_spaces(text);
+        // Most fields that are none are empty.
+        if text.is_empty() {
+            return None;
+        }
+        match text {
             [a, b, c, d, e, f, g, check] => Issn::checked([*a, *b, *c, *d, *e, *f, *g], *check),
             [a, b, c, d, b'-', e, f, g, check] => Issn::checked(
                 [*a, *b, *c, *d, *e, *f, *g],

@@ -4,6 +4,7 @@
 //! the file is bad. ISSNs, dates and volumes are read by the same functions elsewhere.
 #![tactic(auto)]
 
+mod blocks;
 mod coverage;
 mod day;
 mod fault;

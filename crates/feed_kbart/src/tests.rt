@@ -258,6 +258,25 @@ fn reads_long_files(rt: HostRuntime) -> Result<(), Fail> {
 }
 
 #[test]
+fn reads_characters_across_blocks(rt: HostRuntime) -> Result<(), Fail> {
+    let mut title = Vec::new(rt.alloc());
+    for _ in 0..33_000 {
+        title.extend_from_slice("é".as_bytes())?;
+    }
+    for step in [4096, usize::MAX] {
+        let parts = [HEADER, ACTA, title.as_slice(), b"\t2434-561X\n", BETA];
+        let holdings = read_by(rt.alloc(), &parts, step, false)?;
+        assert_eq!(rt; holdings.rows().len(), 3, "by {step}");
+        assert!(rt; holdings.rows()[1].title() == title.as_slice(), "by {step}");
+        assert_eq!(rt; holdings.rows()[2].title(), b"Beta".as_slice(), "by {step}");
+    }
+    let half = [HEADER, ACTA, title.as_slice(), b"\xC3\t2434-561X\n", BETA];
+    let result = read_by(rt.alloc(), &half, usize::MAX, false);
+    assert_eq!(rt; result.err(), Some(KbartFault::Bad(BadFile::NotUtf8)));
+    Ok(())
+}
+
+#[test]
 fn reads_dates(rt: HostRuntime) -> Result<(), Fail> {
     let february = Some(DayRange {
         first: 19754,

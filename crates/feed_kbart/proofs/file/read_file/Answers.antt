@@ -1,6 +1,4 @@
-use Rattle.std.proofs.Common.{◌≡◌, ◌∙◌, List, ℕ, subst}
 use Rattle.std.proofs.lemmas.Result.{err_from_is_err_and}
-use Rattle.feed_kbart.specs.Files.{IsReadOf}
 use Rattle.feed_kbart.proofs.Steps.{if_some}
 use Rattle.feed_kbart.proofs.file.read_file.Goals as goal
 
@@ -13,7 +11,4 @@ returns-in_err-text g c =
 pub returns : goal.returns
 returns g c =
     let whole = rw c.in_ok-text.was at c.read_text.ensures.whole in
-    if_some (g.R.Read.remaining c.args.reader) _ (λ text is.
-    let same : c.deref.result.now ≡ text = c.deref.ensures.value ∙ rw is at whole in
-    let P : List ℕ → Type 0 = λ bytes. IsReadOf bytes c.read_whole.result in
-    subst P same c.read_whole.ensures)
+    if_some (g.R.Read.remaining c.args.reader) _ (λ text is. rw (← (rw is at whole)) c.read_whole.ensures)

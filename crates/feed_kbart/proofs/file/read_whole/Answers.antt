@@ -34,15 +34,16 @@ read-judged text (Err fault.Memory) small utf8 marks j = tt
 read-judged text (Err fault.Read) small utf8 marks j = tt
 read-judged text (Err fault.TooLong) small utf8 marks j = absurd j
 
-pub returns-then-not-is_text : goal.returns-then-not-is_text
-returns-then-not-is_text c = (c.requires, bad-not_utf8 c.args.text.now (λ utf8. absurd (true≢false (sym (c.is_text.ensures.1 utf8) ∙ c.if-not-is_text.true))))
+pub returns-then-not-is_utf8 : goal.returns-then-not-is_utf8
+returns-then-not-is_utf8 c = (c.requires, bad-not_utf8 c.args.text (λ utf8. absurd (true≢false (sym (c.is_utf8.ensures.1 utf8) ∙ c.if-not-is_utf8.true))))
 
 pub returns-then-begins_with_two_marks : goal.returns-then-begins_with_two_marks
 returns-then-begins_with_two_marks c =
-    let utf8 = is_utf8-from_IsUtf8 c.args.text.now (c.is_text.ensures.0 c.if-not-is_text.false) in
-    (c.requires, bad-two_marks c.args.text.now utf8 (sym c.begins_with_two_marks.ensures ∙ c.if-begins_with_two_marks.true))
+    let utf8 = is_utf8-from_IsUtf8 c.args.text (c.is_utf8.ensures.0 c.if-not-is_utf8.false) in
+    (c.requires, bad-two_marks c.args.text utf8 (sym c.begins_with_two_marks.ensures ∙ c.if-begins_with_two_marks.true))
 
 pub returns : goal.returns
 returns c =
-    let utf8 = is_utf8-from_IsUtf8 c.args.text.now (c.is_text.ensures.0 c.if-not-is_text.false) in
-    read-judged c.args.text.now c.read_records.result c.requires utf8 (sym c.begins_with_two_marks.ensures ∙ c.if-begins_with_two_marks.false) (c.read_records.ensures c.requires)
+    let utf8 = is_utf8-from_IsUtf8 c.args.text (c.is_utf8.ensures.0 c.if-not-is_utf8.false) in
+    let judged = rw c.in_ok-into_reader.ensures at c.read_records.ensures in
+    read-judged c.args.text c.read_records.result c.requires utf8 (sym c.begins_with_two_marks.ensures ∙ c.if-begins_with_two_marks.false) (judged c.requires)
