@@ -11,3 +11,4 @@ pub mod Shows
 pub mod Empty
 pub mod Shelves
 pub mod Asked
+pub mod Going

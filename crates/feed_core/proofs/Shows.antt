@@ -1,5 +1,5 @@
 -- A run goes on by one step.
-use Rattle.std.proofs.Common.{◌≡◌, ◌<◌, ◌+◌, ◌++◌, ℕ, Bool, List, [], ◌∷◌, length, map, take, get_or, refl, sym, ◌∙◌, ap, subst, arith}
+use Rattle.std.proofs.Common.{Bor, ◌≡◌, ◌<◌, ◌+◌, ◌++◌, ℕ, Bool, List, [], ◌∷◌, length, map, take, get_or, refl, sym, ◌∙◌, ap, subst, arith}
 use Rattle.std.proofs.lemmas.List.{take_more}
 use Rattle.feed_model.specs.History.{History}
 use Rattle.feed_world.specs.World.{World, WorldEvent, Line, Shelf, Happens, Shows, start}
@@ -24,5 +24,5 @@ has_more clean stands told shown count es ls ks i e l before shelf old new at lt
     let t = r.1 q.0 q.2 q.3 in
     (t.0, rw (is, take_more es i e lt, map-push told (take i es) (get_or es i e), map-push shown ls l) (shows-push (start count) q.0 t.0 (map told (take i es)) (map shown ls) (told (get_or es i e)) (shown l) q.1 (subst (λ (x : _). Happens q.0 (told x) (shown l) t.0) at t.1)), t.2, t.3)
 
-pub goes_same : {M : Type 0} (clean : M → Type 0) (stands : M → Bool → History → Type 0) (shelf : Shelf) (xs ys : List M) (e : WorldEvent) (l : Line) → xs ≡ ys → Goes clean stands shelf xs xs e l → Goes clean stands shelf ys ys e l
-goes_same {M} clean stands shelf xs ys e l same = subst (λ (zs : List M). Goes clean stands shelf zs zs e l) same
+pub goes_same : {M : Type 0} (clean : M → Type 0) (stands : M → Bool → History → Type 0) (fits : Shelf → Type 0) (xs ys : List M) (e : WorldEvent) (l : Line) → xs ≡ ys → Goes clean stands fits xs xs e l → Goes clean stands fits ys ys e l
+goes_same {M} clean stands fits xs ys e l same = subst (λ (zs : List M). Goes clean stands fits zs zs e l) same

@@ -54,19 +54,19 @@ clean_at clean (w ∷ xs) zero x lt e a = subst clean (sym e) a.0
 clean_at clean (w ∷ xs) (suc i) x lt e a = clean_at clean xs i x (omega arith) e a.1
 
 -- what a node makes of an event: it stands further on, and the event may be shown so
-pub record Acts {M : Type 0} (stands : M → Bool → History → Type 0) (shelf : Shelf) (node : ℕ) (x z : M) (event : WorldEvent) (line : Line) (w : World) (y : Node) : Type 0 where
+pub record Acts {M : Type 0} (stands : M → Bool → History → Type 0) (fits : Shelf → Type 0) (node : ℕ) (x z : M) (event : WorldEvent) (line : Line) (w : World) (y : Node) : Type 0 where
   pub up : Bool
   pub history : History
   pub happens : Happens w event line (with_node w node up history)
   pub stood : stands z up history
 
 -- one node goes on
-pub goes_set : {M : Type 0} (clean : M → Type 0) (stands : M → Bool → History → Type 0) (shelf : Shelf) (xs : List M) (at : ℕ) (x z : M) (node : ℕ) (event : WorldEvent) (line : Line) → at < length xs → x ≡ get_or xs at x → node ≡ at + 1 → (clean z → clean x) → ((w : World) (y : Node) → w.shelf ≡ shelf → node_at w.nodes node ≡ Some y → clean z → stands x y.up y.history → Acts stands shelf node x z event line w y) → Goes clean stands shelf xs (slice_set xs at z) event line
-goes_set clean stands shelf xs at x z node event line lt e is f act = λ a. (let c = clean_set clean xs at x z lt e f a in (c.0, λ w s n. (let y = some_at stands xs w.nodes node at x n is lt e in let r = act w y.0 s y.1 c.1 y.2 in (with_node w node r.up r.history, r.happens, s, are_nodes-set stands xs w.nodes node at z (record { up = r.up; history = r.history }) n is r.stood))))
+pub goes_set : {M : Type 0} (clean : M → Type 0) (stands : M → Bool → History → Type 0) (fits : Shelf → Type 0) (xs : List M) (at : ℕ) (x z : M) (node : ℕ) (event : WorldEvent) (line : Line) → at < length xs → x ≡ get_or xs at x → node ≡ at + 1 → (clean z → clean x) → ((w : World) (y : Node) → fits w.shelf → node_at w.nodes node ≡ Some y → clean z → stands x y.up y.history → Acts stands fits node x z event line w y) → Goes clean stands fits xs (slice_set xs at z) event line
+goes_set clean stands fits xs at x z node event line lt e is f act = λ a. (let c = clean_set clean xs at x z lt e f a in (c.0, λ w s n. (let y = some_at stands xs w.nodes node at x n is lt e in let r = act w y.0 s y.1 c.1 y.2 in (with_node w node r.up r.history, r.happens, refl, are_nodes-set stands xs w.nodes node at z (record { up = r.up; history = r.history }) n is r.stood))))
 
 -- nothing goes on
-pub goes_not : {M : Type 0} (clean : M → Type 0) (stands : M → Bool → History → Type 0) (shelf : Shelf) (xs : List M) (event : WorldEvent) (line : Line) → ((w : World) → w.shelf ≡ shelf → AllClean clean xs → AreNodes stands xs w.nodes → Happens w event line w) → Goes clean stands shelf xs xs event line
-goes_not clean stands shelf xs event line stay = λ a. (a, λ w s n. (w, stay w s a n, s, n))
+pub goes_not : {M : Type 0} (clean : M → Type 0) (stands : M → Bool → History → Type 0) (fits : Shelf → Type 0) (xs : List M) (event : WorldEvent) (line : Line) → ((w : World) → fits w.shelf → AllClean clean xs → AreNodes stands xs w.nodes → Happens w event line w) → Goes clean stands fits xs xs event line
+goes_not clean stands fits xs event line stay = λ a. (a, λ w s n. (w, stay w s a n, refl, n))
 
 -- an element is one
 pub same_element : {M : Type 0} (xs : List M) (i : ℕ) (v x : M) → i < length xs → v ≡ get_or xs i v → x ≡ get_or xs i x → v ≡ x
@@ -75,12 +75,12 @@ same_element (z ∷ zs) zero v x lt a b = a ∙ sym b
 same_element (z ∷ zs) (suc i) v x lt a b = same_element zs i v x (omega arith) a b
 
 -- there is no node of this number
-pub goes_none : {M : Type 0} (clean : M → Type 0) (stands : M → Bool → History → Type 0) (shelf : Shelf) (xs : List M) (node : ℕ) (event : WorldEvent) (line : Line) → (node ≡ 0) ⊎ (length xs < node) → ((w : World) → node_at w.nodes node ≡ None → Happens w event line w) → Goes clean stands shelf xs xs event line
-goes_none clean stands shelf xs node event line out stay = goes_not clean stands shelf xs event line (λ w s a n. stay w (none_at stands xs w.nodes node n out))
+pub goes_none : {M : Type 0} (clean : M → Type 0) (stands : M → Bool → History → Type 0) (fits : Shelf → Type 0) (xs : List M) (node : ℕ) (event : WorldEvent) (line : Line) → (node ≡ 0) ⊎ (length xs < node) → ((w : World) → node_at w.nodes node ≡ None → Happens w event line w) → Goes clean stands fits xs xs event line
+goes_none clean stands fits xs node event line out stay = goes_not clean stands fits xs event line (λ w s a n. stay w (none_at stands xs w.nodes node n out))
 
 -- there is one, whatever it is
-pub goes_known : {M : Type 0} (clean : M → Type 0) (stands : M → Bool → History → Type 0) (shelf : Shelf) (xs : List M) (at node : ℕ) (event : WorldEvent) (line : Line) → at < length xs → node ≡ at + 1 → ((w : World) (y : Node) → w.shelf ≡ shelf → node_at w.nodes node ≡ Some y → Happens w event line w) → Goes clean stands shelf xs xs event line
-goes_known clean stands shelf xs at node event line lt is stay = goes_not clean stands shelf xs event line (λ w s a n. (let x = element xs at lt in let y = some_at stands xs w.nodes node at x.0 n is lt x.1 in stay w y.0 s y.1))
+pub goes_known : {M : Type 0} (clean : M → Type 0) (stands : M → Bool → History → Type 0) (fits : Shelf → Type 0) (xs : List M) (at node : ℕ) (event : WorldEvent) (line : Line) → at < length xs → node ≡ at + 1 → ((w : World) (y : Node) → fits w.shelf → node_at w.nodes node ≡ Some y → Happens w event line w) → Goes clean stands fits xs xs event line
+goes_known clean stands fits xs at node event line lt is stay = goes_not clean stands fits xs event line (λ w s a n. (let x = element xs at lt in let y = some_at stands xs w.nodes node at x.0 n is lt x.1 in stay w y.0 s y.1))
   where
     element : {X : Type 0} (xs : List X) (i : ℕ) → i < length xs → (x : X) × (x ≡ get_or xs i x)
     element [] i lt = absurd (omega arith)
@@ -88,12 +88,12 @@ goes_known clean stands shelf xs at node event line lt is stay = goes_not clean 
     element (z ∷ zs) (suc i) lt = element zs i (omega arith)
 
 -- it is up or down, and nothing changes
-pub goes_stay : {M : Type 0} (clean : M → Type 0) (stands : M → Bool → History → Type 0) (shelf : Shelf) (xs : List M) (at : ℕ) (v : M) (node : ℕ) (event : WorldEvent) (line : Line) (b : Bool) → at < length xs → v ≡ get_or xs at v → node ≡ at + 1 → ((up : Bool) (h : History) → clean v → stands v up h → b ≡ up) → ((w : World) (y : Node) → w.shelf ≡ shelf → node_at w.nodes node ≡ Some y → y.up ≡ b → clean v → stands v b y.history → Happens w event line w) → Goes clean stands shelf xs xs event line
-goes_stay clean stands shelf xs at v node event line b lt e is law stay = goes_not clean stands shelf xs event line (λ w s a n. (let y = some_at stands xs w.nodes node at v n is lt e in let c = clean_at clean xs at v lt e a in let up = law y.0.up y.0.history c y.2 in stay w y.0 s y.1 (sym up) c (subst (λ (u : Bool). stands v u y.0.history) (sym up) y.2)))
+pub goes_stay : {M : Type 0} (clean : M → Type 0) (stands : M → Bool → History → Type 0) (fits : Shelf → Type 0) (xs : List M) (at : ℕ) (v : M) (node : ℕ) (event : WorldEvent) (line : Line) (b : Bool) → at < length xs → v ≡ get_or xs at v → node ≡ at + 1 → ((up : Bool) (h : History) → clean v → stands v up h → b ≡ up) → ((w : World) (y : Node) → fits w.shelf → node_at w.nodes node ≡ Some y → y.up ≡ b → clean v → stands v b y.history → Happens w event line w) → Goes clean stands fits xs xs event line
+goes_stay clean stands fits xs at v node event line b lt e is law stay = goes_not clean stands fits xs event line (λ w s a n. (let y = some_at stands xs w.nodes node at v n is lt e in let c = clean_at clean xs at v lt e a in let up = law y.0.up y.0.history c y.2 in stay w y.0 s y.1 (sym up) c (subst (λ (u : Bool). stands v u y.0.history) (sym up) y.2)))
 
 -- it is up, and goes on
-pub goes_up : {M : Type 0} (clean : M → Type 0) (stands : M → Bool → History → Type 0) (shelf : Shelf) (xs : List M) (at : ℕ) (v x z : M) (node : ℕ) (event : WorldEvent) (line : Line) (b : Bool) → b ≡ true → at < length xs → v ≡ get_or xs at v → x ≡ get_or xs at x → node ≡ at + 1 → (clean z → clean x) → ((up : Bool) (h : History) → clean v → stands v up h → b ≡ up) → ((w : World) (y : Node) → w.shelf ≡ shelf → node_at w.nodes node ≡ Some y → y.up ≡ true → clean z → stands x true y.history → Acts stands shelf node x z event line w y) → Goes clean stands shelf xs (slice_set xs at z) event line
-goes_up {M} clean stands shelf xs at v x z node event line b running lt e f is back law act = goes_set clean stands shelf xs at x z node event line lt f is back (λ w y s there c stood. (let same : v ≡ x = same_element xs at v x lt e f in let up : y.up ≡ true = sym (law y.up y.history (subst clean (sym same) (back c)) (subst (λ (m : M). stands m y.up y.history) (sym same) stood)) ∙ running in act w y s there up c (subst (λ (u : Bool). stands x u y.history) up stood)))
+pub goes_up : {M : Type 0} (clean : M → Type 0) (stands : M → Bool → History → Type 0) (fits : Shelf → Type 0) (xs : List M) (at : ℕ) (v x z : M) (node : ℕ) (event : WorldEvent) (line : Line) (b : Bool) → b ≡ true → at < length xs → v ≡ get_or xs at v → x ≡ get_or xs at x → node ≡ at + 1 → (clean z → clean x) → ((up : Bool) (h : History) → clean v → stands v up h → b ≡ up) → ((w : World) (y : Node) → fits w.shelf → node_at w.nodes node ≡ Some y → y.up ≡ true → clean z → stands x true y.history → Acts stands fits node x z event line w y) → Goes clean stands fits xs (slice_set xs at z) event line
+goes_up {M} clean stands fits xs at v x z node event line b running lt e f is back law act = goes_set clean stands fits xs at x z node event line lt f is back (λ w y s there c stood. (let same : v ≡ x = same_element xs at v x lt e f in let up : y.up ≡ true = sym (law y.up y.history (subst clean (sym same) (back c)) (subst (λ (m : M). stands m y.up y.history) (sym same) stood)) ∙ running in act w y s there up c (subst (λ (u : Bool). stands x u y.history) up stood)))
 
 -- what is put back at its place
 pub insert-remove : {X : Type 0} (xs : List X) (i : ℕ) (z : X) → i < length xs → insert (remove xs i) i z ≡ slice_set xs i z

@@ -1,5 +1,5 @@
 -- What a step makes of the nodes and files of the code, and what it shows of those of a world.
-use Rattle.std.specs.Prelude.{◌≡◌, ◌≢◌, ◌⊎◌, ℕ, Bool, true, false, List, [], ◌∷◌, map, option_map, slice_set, slice_index_or, Option, Some, None, Result, Ok, Err}
+use Rattle.std.specs.Prelude.{◌≡◌, ◌≢◌, ◌⊎◌, ℕ, Bool, true, false, List, [], ◌∷◌, map, option_map, slice_get, suc, slice_set, slice_index_or, Option, Some, None, Result, Ok, Err}
 use Rattle.std.specs.Borrow.{Bor}
 use Rattle.std.specs.Map.{lookup}
 use Rattle.std.specs.BTreeMap.{is_at}
@@ -7,6 +7,11 @@ use Rattle.std.specs.Ordering.{nat_cmp}
 use Rattle.std.specs.Cmp.Lexicographic.{slice_cmp}
 use Rattle.feed_names.specs.ReleaseName.{Name, IsName}
 use Rattle.feed_model.specs.History.{History}
+use Rattle.feed_model.specs.Content.{Content, IsContent}
+use Rattle.feed_core.specs.Cause.{HasFailed}
+use Rattle.feed_core.specs.Nodes.{IsStartRefused}
+use Rattle.feed_core.specs.declared.world.ReplayFault.{ReplayFault}
+use Rattle.feed_core.specs.declared.world.ReplayFault.TheVariants as faults
 use Rattle.feed_world.specs.World.{World, Node, WorldEvent, Line, Shelf, Happens, Shows, start, text_of}
 
 abbrev pub AllClean : {M : Type 0} → (M → Type 0) → List M → Type 0
@@ -29,10 +34,10 @@ pub record Changes {M : Type 0} (clean : M → Type 0) (law : M → M → Type 0
   pub still : clean after → clean before
   pub goes : law before after
 
--- Where all nodes are clean now, they were clean, and from each world at which they stood the event may be shown by this line, and leave a world at which they stand.
-abbrev pub Goes : {M : Type 0} → (M → Type 0) → (M → Bool → History → Type 0) → Shelf → List M → List M → WorldEvent → Line → Type 0
-Goes clean stands shelf old new event line =
-    AllClean clean new → AllClean clean old × ((w : World) → w.shelf ≡ shelf → AreNodes stands old w.nodes → (v : World) × Happens w event line v × (v.shelf ≡ shelf) × AreNodes stands new v.nodes)
+-- Where all nodes are clean now, they were clean, and from each world at which they stood, and whose published files fit, the event may be shown by this line, and leave a world at which they stand.
+abbrev pub Goes : {M : Type 0} → (M → Type 0) → (M → Bool → History → Type 0) → (Shelf → Type 0) → List M → List M → WorldEvent → Line → Type 0
+Goes clean stands fits old new event line =
+    AllClean clean new → AllClean clean old × ((w : World) → fits w.shelf → AreNodes stands old w.nodes → (v : World) × Happens w event line v × (v.shelf ≡ w.shelf) × AreNodes stands new v.nodes)
 
 -- the file that is found by the text of a name
 abbrev pub file_at : List (Bor (List ℕ) × Bor (List ℕ)) → Bor (List ℕ) → Option (List ℕ)
@@ -51,3 +56,24 @@ GoesTo clean stands before files old new event line =
 abbrev pub HasShown : {M : Type 0} → (M → Type 0) → (M → Bool → History → Type 0) → ℕ → List WorldEvent → List Line → List (Bor (List ℕ) × Bor (List ℕ)) → List M → Type 0
 HasShown clean stands count events lines files nodes =
     AllClean clean nodes → (w : World) × Shows (start count) events lines w × IsShelf files w.shelf × AreNodes stands nodes w.nodes
+
+-- each keeper holds a content of the history of the world's node
+abbrev pub AreKept : {K : Type 0} → (K → Content) → List K → List Node → Type 0
+AreKept content [] [] = Unit {0}
+AreKept content (k ∷ ks) (y ∷ ys) = IsContent (content k) y.history × AreKept content ks ys
+AreKept content [] (y ∷ ys) = ⊥
+AreKept content (k ∷ ks) [] = ⊥
+
+-- the node that did not start, counted from 1: its device failed, or its keeper was not empty
+pub record IsNoStart {K : Type 0} (clean : K → Type 0) (content : K → Content) (failed : K → ℕ) (keepers : List K) (node : ℕ) (keeper : K) : Type 0 where
+  pub before : K
+  pub at : ℕ
+  pub number : node ≡ suc at
+  pub given : slice_get keepers at ≡ Some before
+  pub refused : IsStartRefused (HasFailed (failed before) (failed keeper)) (clean keeper) (content before)
+
+-- what a fault of a replay says of the keepers
+abbrev pub IsStart : {K : Type 0} → (K → Type 0) → (K → Content) → (K → ℕ) → List K → ReplayFault K → Type 0
+IsStart clean content failed keepers (faults.Start node keeper) = IsNoStart clean content failed keepers node keeper
+IsStart clean content failed keepers faults.Memory = Unit {0}
+IsStart clean content failed keepers faults.Nodes = Unit {0}

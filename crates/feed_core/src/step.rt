@@ -1,8 +1,8 @@
 //! What a world makes of one event at one node.
-ghost use Rattle.std.specs.Prelude.{◌≡◌, ◌+◌, ◌<◌, ◌≤◌, ◌⊎◌, ◌∷◌, Bool, true, IfOk, IfSome, IfNone, insert, vec_len, vec_capacity};
+ghost use Rattle.std.specs.Prelude.{◌≡◌, ◌+◌, ◌<◌, ◌≤◌, ◌⊎◌, ◌∷◌, Bool, true, IfOk, IfSome, IfNone, insert, length, vec_len, vec_capacity};
 ghost use Rattle.feed_model.specs.History.{History, Answer};
 ghost use Rattle.feed_model.specs.Reply.{IsRight};
-ghost use Rattle.feed_world.specs.World.{Shelf as files, Sent as sent, Tell, Restart, StopBefore, StopAfter, Report, Ask, arriving};
+ghost use Rattle.feed_world.specs.World.{Sent as sent, Tell, Restart, StopBefore, StopAfter, Report, Ask, arriving};
 ghost use Rattle.feed_world.specs.Shown.{shown_line};
 ghost use Rattle.feed_core.specs.Told.{told};
 ghost use Rattle.feed_core.specs.Nodes.{Comes, shown_arrived};
@@ -66,7 +66,8 @@ fn stopped_after<N: Node + Drop>(
 
 /// Opens a node again.
 pub fn restart_at<N: Node + Drop>(alloc: Global, nodes: &mut Vec<N>, node: u64) -> Line
-    ensures { (shelf : files) → Goes N.clean N.stands shelf nodes.old.items nodes.new.items (Restart node) (shown_line result) }
+    ensures step { Goes N.clean N.stands (λ _. Unit {0}) nodes.old.items nodes.new.items (Restart node) (shown_line result) }
+    ensures count { length nodes.new.items ≡ length nodes.old.items }
 {
     let Some(at) = place(nodes.len(), node) else {
         return Line::Refused(Why::NoNode);
@@ -79,7 +80,8 @@ pub fn restart_at<N: Node + Drop>(alloc: Global, nodes: &mut Vec<N>, node: u64) 
 
 /// Tells a node what arrives at it.
 pub fn tell_at<N: Node>(nodes: &mut Vec<N>, node: u64, arrived: &Result<Event<'_>, Why>) -> Line
-    ensures { (shelf : files) (what : sent) → arriving shelf what ≡ shown_arrived arrived.now → Goes N.clean N.stands shelf nodes.old.items nodes.new.items (Tell node what) (shown_line result) }
+    ensures step { (what : sent) → Goes N.clean N.stands (λ shelf. arriving shelf what ≡ shown_arrived arrived.now) nodes.old.items nodes.new.items (Tell node what) (shown_line result) }
+    ensures count { length nodes.new.items ≡ length nodes.old.items }
 {
     let Some(at) = place(nodes.len(), node) else {
         return Line::Refused(Why::NoNode);
@@ -104,7 +106,8 @@ pub fn stop_before_at<N: Node + Drop>(
     node: u64,
     arrived: &Result<Event<'_>, Why>,
 ) -> Line
-    ensures { (shelf : files) (what : sent) → arriving shelf what ≡ shown_arrived arrived.now → Goes N.clean N.stands shelf nodes.old.items nodes.new.items (StopBefore node what) (shown_line result) }
+    ensures step { (what : sent) → Goes N.clean N.stands (λ shelf. arriving shelf what ≡ shown_arrived arrived.now) nodes.old.items nodes.new.items (StopBefore node what) (shown_line result) }
+    ensures count { length nodes.new.items ≡ length nodes.old.items }
 {
     let Some(at) = place(nodes.len(), node) else {
         return Line::Refused(Why::NoNode);
@@ -129,7 +132,8 @@ pub fn stop_after_at<N: Node + Drop>(
     node: u64,
     arrived: &Result<Event<'_>, Why>,
 ) -> Line
-    ensures { (shelf : files) (what : sent) → arriving shelf what ≡ shown_arrived arrived.now → Goes N.clean N.stands shelf nodes.old.items nodes.new.items (StopAfter node what) (shown_line result) }
+    ensures step { (what : sent) → Goes N.clean N.stands (λ shelf. arriving shelf what ≡ shown_arrived arrived.now) nodes.old.items nodes.new.items (StopAfter node what) (shown_line result) }
+    ensures count { length nodes.new.items ≡ length nodes.old.items }
 {
     let Some(at) = place(nodes.len(), node) else {
         return Line::Refused(Why::NoNode);
@@ -149,7 +153,7 @@ pub fn stop_after_at<N: Node + Drop>(
 
 /// The active release of a package at a node.
 pub fn report_at<N: Node>(nodes: &[N], node: u64, package: &[u8]) -> Result<Line, AllocError>
-    ensures { IfOk result (λ line. (shelf : files) → Goes N.clean N.stands shelf nodes.now nodes.now (Report node «package».now) (shown_line line)) }
+    ensures { IfOk result (λ line. Goes N.clean N.stands (λ _. Unit {0}) nodes.now nodes.now (Report node «package».now) (shown_line line)) }
 {
     let Some(at) = place(nodes.len(), node) else {
         return Ok(Line::Refused(Why::NoNode));
@@ -165,7 +169,7 @@ pub fn report_at<N: Node>(nodes: &[N], node: u64, package: &[u8]) -> Result<Line
 
 /// What a node answers a query about a package.
 pub fn ask_at<N: Node>(alloc: Global, nodes: &[N], node: u64, package: &[u8], query: &[u8]) -> Line
-    ensures { (shelf : files) → Goes N.clean N.stands shelf nodes.now nodes.now (Ask node «package».now query.now) (shown_line result) }
+    ensures { Goes N.clean N.stands (λ _. Unit {0}) nodes.now nodes.now (Ask node «package».now query.now) (shown_line result) }
 {
     let Some(at) = place(nodes.len(), node) else {
         return Line::Refused(Why::NoNode);

@@ -1,3 +1,5 @@
+ghost use Rattle.std.specs.Prelude.{◌≡◌};
+
 use feed_answer::WriteFault;
 use feed_world::Line;
 use std::io::Write;
@@ -10,12 +12,17 @@ pub struct Transcript<K: Drop> {
 }
 
 impl<K: Drop> Transcript<K> {
-    pub(crate) fn of(lines: Vec<Line>, keepers: Vec<K>) -> Transcript<K> {
+    pub(crate) fn of(lines: Vec<Line>, keepers: Vec<K>) -> Transcript<K>
+        ensures lines { result.lines ≡ lines }
+        ensures keepers { result.keepers ≡ keepers }
+    {
         Transcript { lines, keepers }
     }
 
     /// A line for each event, in order.
-    pub fn lines(&self) -> &[Line] {
+    pub fn lines(&self) -> &[Line]
+        ensures { result.now ≡ self.now.lines.items }
+    {
         &self.lines
     }
 
@@ -28,7 +35,9 @@ impl<K: Drop> Transcript<K> {
     }
 
     /// The keepers, in the order of the nodes.
-    pub fn into_keepers(self) -> Vec<K> {
+    pub fn into_keepers(self) -> Vec<K>
+        ensures { result ≡ self.keepers }
+    {
         let Transcript { lines: _, keepers } = self;
         keepers
     }

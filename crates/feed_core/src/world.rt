@@ -1,3 +1,15 @@
+ghost use Rattle.std.specs.Prelude.{◌≡◌, ◌≢◌, ◌<◌, ◌≤◌, ◌+◌, ◌⊎◌, ◌↔◌, List, [], Bool, length, map, IfOk, IfErr, IsErrOf, vec_len, vec_capacity, slice_get, Some};
+ghost use Rattle.feed_model.specs.History.{History};
+ghost use Rattle.feed_model.specs.Content.{Content};
+ghost use Rattle.feed_world.specs.World.{World, start, Shows};
+ghost use Rattle.feed_world.specs.Shown.{shown_event, shown_line};
+ghost use Rattle.feed_world.specs.Headline.{IsHeadline};
+ghost use Rattle.feed_core.specs.ReleaseValue.{content_of};
+ghost use Rattle.feed_core.specs.Cause.{HasFailed};
+ghost use Rattle.feed_core.specs.Slots.{IsSlotClean, SlotStands};
+ghost use Rattle.feed_core.specs.Step.{AllClean, AreNodes, AreKept, GoesTo, IsStart};
+
+use crate::feed::OpenFault;
 use crate::keep::Keep;
 use crate::node::Node;
 use crate::shelf::Shelf;
@@ -5,7 +17,7 @@ use crate::slot::Slot;
 use crate::step::{ask_at, report_at, restart_at, stop_after_at, stop_before_at, tell_at};
 use crate::transcript::Transcript;
 use feed_model::KeepFault;
-use feed_world::{Line, WorldEvent};
+use feed_world::{Line, WorldEvent, headline};
 use std::alloc::{AllocError, Global};
 
 /// A world has 1 to this many nodes.
@@ -28,7 +40,13 @@ pub fn replay<K: Keep + Drop>(
     alloc: Global,
     keepers: Vec<K>,
     events: &[WorldEvent],
-) -> Result<Transcript<K>, ReplayFault<K>> {
+) -> Result<Transcript<K>, ReplayFault<K>>
+    ensures shown { IfOk result (λ t. AllClean K.clean t.keepers.items → (w : World) × Shows (start (vec_len keepers)) (map shown_event events.now) (map shown_line t.lines.items) w × AreKept K.content t.keepers.items w.nodes) }
+    ensures headline { IfOk result (λ t. AllClean K.clean t.keepers.items → IsHeadline (map shown_event events.now) (map shown_line t.lines.items)) }
+    ensures count { IfOk result (λ t. vec_len t.lines ≡ length events.now) }
+    ensures nodes { ((vec_len keepers ≡ 0) ⊎ (16 < vec_len keepers)) ↔ IsErrOf result ReplayFault.Nodes }
+    ensures start { IfErr result (λ fault. IsStart K.clean K.content K.failed keepers.items fault) }
+{
     if keepers.is_empty() || keepers.len() > NODE_LIMIT {
         return Err(ReplayFault::Nodes);
     }
@@ -43,10 +61,12 @@ pub fn replay<K: Keep + Drop>(
 }
 
 // Nodes on keepers that hold nothing.
-fn start_all<K: Keep + Drop>(
-    alloc: Global,
-    keepers: Vec<K>,
-) -> Result<Vec<Slot<K>>, ReplayFault<K>> {
+fn start_all<K: Keep + Drop>(alloc: Global, keepers: Vec<K>) -> Result<Vec<Slot<K>>, ReplayFault<K>>
+    ensures count { IfOk result (λ nodes. length nodes.items ≡ vec_len keepers) }
+    ensures started { IfOk result (λ nodes. AreNodes (SlotStands (λ f. content_of f.releases.items) K.content) nodes.items (start (length nodes.items)).nodes) }
+    ensures nodes { ¬ (IsErrOf result ReplayFault.Nodes) }
+    ensures start { IfErr result (λ fault. IsStart K.clean K.content K.failed keepers.items fault) }
+{
     let Ok(mut nodes) = Vec::with_capacity(alloc, keepers.len()) else {
         return Err(ReplayFault::Memory);
     };
@@ -57,23 +77,32 @@ fn start_all<K: Keep + Drop>(
                     return Err(ReplayFault::Memory);
                 };
             }
-            Err(fault) => {
-                return Err(if fault.cause == KeepFault::Memory {
-                    ReplayFault::Memory
-                } else {
-                    ReplayFault::Start {
-                        node: nodes.len() + 1,
-                        keeper: fault.keeper,
-                    }
-                });
-            }
+            Err(fault) => return Err(not_started(fault, nodes.len() + 1)),
         }
     }
     Ok(nodes)
 }
 
+// Why the node of this number did not start.
+fn not_started<K: Keep + Drop>(fault: OpenFault<K>, node: usize) -> ReplayFault<K>
+    ensures { ((fault.cause ≡ KeepFault.Memory) × (result ≡ ReplayFault.Memory)) ⊎ ((fault.cause ≢ KeepFault.Memory) × (result ≡ ReplayFault.Start node fault.keeper)) }
+{
+    match fault.cause {
+        KeepFault::Memory => ReplayFault::Memory,
+        KeepFault::Device | KeepFault::Damaged => ReplayFault::Start {
+            node,
+            keeper: fault.keeper,
+        },
+    }
+}
+
 // The keepers of the nodes, in their order, in the room that was made for them.
-fn keepers_of<K: Keep + Drop>(room: Vec<K>, nodes: Vec<Slot<K>>) -> Vec<K> {
+fn keepers_of<K: Keep + Drop>(room: Vec<K>, nodes: Vec<Slot<K>>) -> Vec<K>
+    requires empty { room.items ≡ [] }
+    requires room { vec_len nodes ≤ vec_capacity room }
+    ensures clean { AllClean K.clean result.items → AllClean (IsSlotClean (λ f. K.clean f.keeper) K.clean) nodes.items }
+    ensures kept { AllClean K.clean result.items → (w : World) → AreNodes (SlotStands (λ f. content_of f.releases.items) K.content) nodes.items w.nodes → AreKept K.content result.items w.nodes }
+{
     let mut keepers = room;
     for node in nodes {
         keepers.push_reserved(node.into_keeper());
@@ -86,7 +115,14 @@ fn show_all<N: Node + Drop>(
     alloc: Global,
     nodes: Vec<N>,
     events: &[WorldEvent],
-) -> Result<(Vec<Line>, Vec<N>), AllocError> {
+) -> Result<(Vec<Line>, Vec<N>), AllocError>
+    requires { AreNodes N.stands nodes.items (start (vec_len nodes)).nodes }
+    ensures shown { IfOk result (λ t. AllClean N.clean t.1.items → (w : World) × Shows (start (vec_len nodes)) (map shown_event events.now) (map shown_line t.0.items) w × AreNodes N.stands t.1.items w.nodes) }
+    ensures headline { IfOk result (λ t. AllClean N.clean t.1.items → IsHeadline (map shown_event events.now) (map shown_line t.0.items)) }
+    ensures lines { IfOk result (λ t. vec_len t.0 ≡ length events.now) }
+    ensures count { IfOk result (λ t. length t.1.items ≡ vec_len nodes) }
+{
+    headline();
     let mut nodes = nodes;
     let mut shelf = Shelf::new(alloc);
     let mut lines = Vec::with_capacity(alloc, events.len())?;
@@ -103,9 +139,12 @@ fn show<'a, N: Node + Drop>(
     shelf: &mut Shelf<'a>,
     nodes: &mut Vec<N>,
     event: &'a WorldEvent,
-) -> Result<Line, AllocError> {
+) -> Result<Line, AllocError>
+    ensures step { IfOk result (λ line. GoesTo N.clean N.stands shelf.old.files.entries shelf.new.files.entries nodes.old.items nodes.new.items (shown_event event.now) (shown_line line)) }
+    ensures count { IfOk result (λ _. length nodes.new.items ≡ length nodes.old.items) }
+{
     match event {
-        WorldEvent::Publish { name, bytes } => shelf.publish(name, bytes),
+        WorldEvent::Publish { name, bytes } => Ok(shelf.publish(name, bytes)?),
         WorldEvent::Offer { node, name } => Ok(tell_at(nodes, *node, &shelf.offer(name))),
         WorldEvent::Deliver {
             node,
@@ -121,7 +160,7 @@ fn show<'a, N: Node + Drop>(
         WorldEvent::StopAfter { node, what } => {
             Ok(stop_after_at(alloc, nodes, *node, &shelf.sent(what)))
         }
-        WorldEvent::Report { node, package } => report_at(nodes, *node, package),
+        WorldEvent::Report { node, package } => Ok(report_at(nodes, *node, package)?),
         WorldEvent::Ask {
             node,
             package,

@@ -1,12 +1,14 @@
 -- A content of a history is sound.
 use Rattle.std.proofs.Common.{◌≡◌, ◌<◌, ℕ, zero, suc, List, [], ◌∷◌, ◌++◌, length, get_or, slice_get, Option, Some, None, IsSome, ◌⊎◌, inl, inr, refl, sym, ◌∙◌, ap, subst, arith}
-use Rattle.std.specs.List.{AllByRecursion, All}
+use Rattle.std.specs.List.{AllByRecursion, All, IsDistinct}
+use Rattle.std.proofs.lemmas.List.Elements.{All-nil}
 use Rattle.feed_names.specs.ReleaseName.{Name}
 use Rattle.feed_model.specs.declared.state.State.{State}
 use Rattle.feed_model.specs.declared.state.State.TheVariants.{Staged, Broken, Active}
 use Rattle.feed_model.specs.History.{History, IsFile, IsHeld}
 use Rattle.feed_model.specs.Reply.{missing_below}
 use Rattle.feed_model.specs.Content.{Record, Content, names, byte_in, IsState, IsRecord, IsContent}
+use Rattle.feed_model.specs.Handles.{HasLaterActive}
 use Rattle.feed_model.specs.Sound.{IsText, BearsOut, IsSoundRecord, IsSound}
 use Rattle.feed_model.proofs.Counting.{length_names}
 use Rattle.feed_model.proofs.Held.{held_limit}
@@ -87,3 +89,8 @@ sound_content c h is = record {
   each = each_sound c h is;
   current = λ k d lt later. (of_record c h (get_or c k d).name (get_or c k d) is (record_of-at c k d is.distinct lt)).held.1 (passed_by c h (get_or c k d).name is later);
 }
+
+-- nothing is kept
+pub sound_empty : IsSound []
+unfolding IsDistinct
+sound_empty = record { distinct = tt; few = omega arith; each = All-nil IsSoundRecord; current = All-nil (λ r. ¬ (HasLaterActive [] r.name)) }

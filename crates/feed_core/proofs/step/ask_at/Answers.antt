@@ -9,21 +9,21 @@ use Rattle.feed_core.proofs.step.ask_at.Goals as goal
 pub returns-in_default : goal.returns-in_default
 returns-in_default g c =
     let out : (c.args.node ≡ 0) ⊎ (length c.args.nodes.now < c.args.node) = search rules in
-    λ shelf. goes_none g.N.Node.clean g.N.Node.stands shelf c.args.nodes.now c.args.node (Ask c.args.node c.args.«package».now c.args.query.now) (Refused NoNode) out (λ w at. rw at (refl, refl))
+    goes_none g.N.Node.clean g.N.Node.stands (λ _. Unit {0}) c.args.nodes.now c.args.node (Ask c.args.node c.args.«package».now c.args.query.now) (Refused NoNode) out (λ w at. rw at (refl, refl))
 
 pub returns-then-not-is_up : goal.returns-then-not-is_up
 returns-then-not-is_up g c =
     let down : c.is_up.result ≡ false = search rules in
-    λ shelf. goes_stay g.N.Node.clean g.N.Node.stands shelf c.args.nodes.now c.in-Some.at c.index-nodes-at.result c.args.node (Ask c.args.node c.args.«package».now c.args.query.now) (Refused Down) c.is_up.result c.in-Some.ensures.found.1 c.index-nodes-at.is c.in-Some.ensures.found.0 (λ up h k s. c.is_up.ensures up h s) (λ w y s at up k stood. rw (at, up, down) (refl, refl))
+    goes_stay g.N.Node.clean g.N.Node.stands (λ _. Unit {0}) c.args.nodes.now c.in-Some.at c.index-nodes-at.result c.args.node (Ask c.args.node c.args.«package».now c.args.query.now) (Refused Down) c.is_up.result c.in-Some.ensures.found.1 c.index-nodes-at.is c.in-Some.ensures.found.0 (λ up h k s. c.is_up.ensures up h s) (λ w y s at up k stood. rw (at, up, down) (refl, refl))
 
 pub returns-in-Ok : goal.returns-in-Ok
 returns-in-Ok g c =
     let running : c.is_up.result ≡ true = search rules in
     let same = same_element c.args.nodes.now c.in-Some.at c.index-nodes-at.result c.index-nodes-at-2.result c.in-Some.ensures.found.1 c.index-nodes-at.is c.index-nodes-at-2.is in
-    λ shelf. goes_stay g.N.Node.clean g.N.Node.stands shelf c.args.nodes.now c.in-Some.at c.index-nodes-at.result c.args.node (Ask c.args.node c.args.«package».now c.args.query.now) (Text c.in-Ok.text.items) c.is_up.result c.in-Some.ensures.found.1 c.index-nodes-at.is c.in-Some.ensures.found.0 (λ up h k s. c.is_up.ensures up h s) (λ w y s at up k stood. (let asked = rw c.in-Ok.is at (c.ask.ensures y.history (subst (λ (m : _). g.N.Node.stands m true y.history) same (subst (λ (u : Bool). g.N.Node.stands c.index-nodes-at.result u y.history) running stood))) in rw (at, up, running) (refl, asked.0, asked.1, asked.2)))
+    goes_stay g.N.Node.clean g.N.Node.stands (λ _. Unit {0}) c.args.nodes.now c.in-Some.at c.index-nodes-at.result c.args.node (Ask c.args.node c.args.«package».now c.args.query.now) (Text c.in-Ok.text.items) c.is_up.result c.in-Some.ensures.found.1 c.index-nodes-at.is c.in-Some.ensures.found.0 (λ up h k s. c.is_up.ensures up h s) (λ w y s at up k stood. (let asked = rw c.in-Ok.is at (c.ask.ensures y.history (subst (λ (m : _). g.N.Node.stands m true y.history) same (subst (λ (u : Bool). g.N.Node.stands c.index-nodes-at.result u y.history) running stood))) in rw (at, up, running) (refl, asked.0, asked.1, asked.2)))
 
 pub returns-in-Err : goal.returns-in-Err
 returns-in-Err g c =
     let running : c.is_up.result ≡ true = search rules in
     let same = same_element c.args.nodes.now c.in-Some.at c.index-nodes-at.result c.index-nodes-at-2.result c.in-Some.ensures.found.1 c.index-nodes-at.is c.index-nodes-at-2.is in
-    λ shelf. goes_stay g.N.Node.clean g.N.Node.stands shelf c.args.nodes.now c.in-Some.at c.index-nodes-at.result c.args.node (Ask c.args.node c.args.«package».now c.args.query.now) (Refused c.in-Err.why) c.is_up.result c.in-Some.ensures.found.1 c.index-nodes-at.is c.in-Some.ensures.found.0 (λ up h k s. c.is_up.ensures up h s) (λ w y s at up k stood. (let asked = rw c.in-Err.is at (c.ask.ensures y.history (subst (λ (m : _). g.N.Node.stands m true y.history) same (subst (λ (u : Bool). g.N.Node.stands c.index-nodes-at.result u y.history) running stood))) in rw (at, up, running) (refl, asked.0, asked.1, asked.2)))
+    goes_stay g.N.Node.clean g.N.Node.stands (λ _. Unit {0}) c.args.nodes.now c.in-Some.at c.index-nodes-at.result c.args.node (Ask c.args.node c.args.«package».now c.args.query.now) (Refused c.in-Err.why) c.is_up.result c.in-Some.ensures.found.1 c.index-nodes-at.is c.in-Some.ensures.found.0 (λ up h k s. c.is_up.ensures up h s) (λ w y s at up k stood. (let asked = rw c.in-Err.is at (c.ask.ensures y.history (subst (λ (m : _). g.N.Node.stands m true y.history) same (subst (λ (u : Bool). g.N.Node.stands c.index-nodes-at.result u y.history) running stood))) in rw (at, up, running) (refl, asked.0, asked.1, asked.2)))

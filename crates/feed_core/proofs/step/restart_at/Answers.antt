@@ -5,21 +5,21 @@ use Rattle.feed_core.specs.Step.{Goes}
 use Rattle.feed_core.proofs.Steps.{none_at, goes_set, goes_not}
 use Rattle.feed_core.proofs.step.restart_at.Goals as goal
 
-pub returns-in_default : goal.returns-in_default
-returns-in_default g c =
+pub returns-in_default-clause-step : goal.returns-in_default-clause-step
+returns-in_default-clause-step g c =
     let out : (c.args.node ≡ 0) ⊎ (length c.args.nodes.now.items < c.args.node) = search rules in
-    λ shelf. goes_not g.N.Node.clean g.N.Node.stands shelf c.args.nodes.now.items (Restart c.args.node) (Refused NoNode) (λ w s a n. rw (none_at g.N.Node.stands c.args.nodes.now.items w.nodes c.args.node n out) (refl, refl))
+    goes_not g.N.Node.clean g.N.Node.stands (λ _. Unit {0}) c.args.nodes.now.items (Restart c.args.node) (Refused NoNode) (λ w s a n. rw (none_at g.N.Node.stands c.args.nodes.now.items w.nodes c.args.node n out) (refl, refl))
 
-pub returns-in-Ok : goal.returns-in-Ok
-returns-in-Ok g c =
+pub returns-in-Ok-clause-step : goal.returns-in-Ok-clause-step
+returns-in-Ok-clause-step g c =
     let lt : c.in-Some.at < length c.args.nodes.now.items = omega (arith, c.in-Some.ensures.found.1, c.len.ensures) in
     let r = c.in-Ok.ensures in
-    λ shelf. subst (λ (ys : List _). Goes g.N.Node.clean g.N.Node.stands shelf c.args.nodes.now.items ys (Restart c.args.node) Restarted) (sym r.now)
-    (goes_set g.N.Node.clean g.N.Node.stands shelf c.args.nodes.now.items c.in-Some.at r.before r.after c.args.node (Restart c.args.node) Restarted lt r.was c.in-Some.ensures.found.0 r.still (λ w y s at clean stood. record { up = true; history = y.history; happens = rw at (inl (refl, refl)); stood = r.goes y.up y.history clean stood }))
+    subst (λ (ys : List _). Goes g.N.Node.clean g.N.Node.stands (λ _. Unit {0}) c.args.nodes.now.items ys (Restart c.args.node) Restarted) (sym r.now)
+    (goes_set g.N.Node.clean g.N.Node.stands (λ _. Unit {0}) c.args.nodes.now.items c.in-Some.at r.before r.after c.args.node (Restart c.args.node) Restarted lt r.was c.in-Some.ensures.found.0 r.still (λ w y s at clean stood. record { up = true; history = y.history; happens = rw at (inl (refl, refl)); stood = r.goes y.up y.history clean stood }))
 
-pub returns-in-Err : goal.returns-in-Err
-returns-in-Err g c =
+pub returns-in-Err-clause-step : goal.returns-in-Err-clause-step
+returns-in-Err-clause-step g c =
     let lt : c.in-Some.at < length c.args.nodes.now.items = omega (arith, c.in-Some.ensures.found.1, c.len.ensures) in
     let r = c.in-Err.ensures in
-    λ shelf. subst (λ (ys : List _). Goes g.N.Node.clean g.N.Node.stands shelf c.args.nodes.now.items ys (Restart c.args.node) (IsDown c.in-Err.cause)) (sym r.now)
-    (goes_set g.N.Node.clean g.N.Node.stands shelf c.args.nodes.now.items c.in-Some.at r.before r.after c.args.node (Restart c.args.node) (IsDown c.in-Err.cause) lt r.was c.in-Some.ensures.found.0 r.still (λ w y s at clean stood. (let t = r.goes y.up y.history clean stood in record { up = false; history = y.history; happens = rw at (inr (c.in-Err.cause, t.0, refl, refl)); stood = t.1 })))
+    subst (λ (ys : List _). Goes g.N.Node.clean g.N.Node.stands (λ _. Unit {0}) c.args.nodes.now.items ys (Restart c.args.node) (IsDown c.in-Err.cause)) (sym r.now)
+    (goes_set g.N.Node.clean g.N.Node.stands (λ _. Unit {0}) c.args.nodes.now.items c.in-Some.at r.before r.after c.args.node (Restart c.args.node) (IsDown c.in-Err.cause) lt r.was c.in-Some.ensures.found.0 r.still (λ w y s at clean stood. (let t = r.goes y.up y.history clean stood in record { up = false; history = y.history; happens = rw at (inr (c.in-Err.cause, t.0, refl, refl)); stood = t.1 })))

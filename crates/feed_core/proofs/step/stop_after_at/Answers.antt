@@ -7,35 +7,34 @@ use Rattle.feed_core.specs.Step.{Goes}
 use Rattle.feed_core.proofs.Steps.{goes_none, goes_known, goes_stay, goes_up}
 use Rattle.feed_core.proofs.step.stop_after_at.Goals as goal
 
-pub returns-in_default : goal.returns-in_default
-returns-in_default g c =
+pub returns-in_default-clause-step : goal.returns-in_default-clause-step
+returns-in_default-clause-step g c =
     let out : (c.args.node ≡ 0) ⊎ (length c.args.nodes.now.items < c.args.node) = search rules in
-    λ shelf sent arr. goes_none g.N.Node.clean g.N.Node.stands shelf c.args.nodes.now.items c.args.node (StopAfter c.args.node sent) (Refused NoNode) out (λ w at. rw at (refl, refl))
+    λ sent. goes_none g.N.Node.clean g.N.Node.stands (λ (z : Shelf). arriving z sent ≡ shown_arrived c.args.arrived.now) c.args.nodes.now.items c.args.node (StopAfter c.args.node sent) (Refused NoNode) out (λ w at. rw at (refl, refl))
 
-pub returns-in-Err : goal.returns-in-Err
-returns-in-Err g c =
+pub returns-in-Err-clause-step : goal.returns-in-Err-clause-step
+returns-in-Err-clause-step g c =
     let lt : c.in-Some.at < length c.args.nodes.now.items = omega (arith, c.in-Some.ensures.found.1, c.len.ensures) in
-    λ shelf sent arr. goes_known g.N.Node.clean g.N.Node.stands shelf c.args.nodes.now.items c.in-Some.at c.args.node (StopAfter c.args.node sent) (Refused c.in-Err.why) lt c.in-Some.ensures.found.0 (λ w y s at. rw (at, (ap (λ (z : Shelf). arriving z sent) s ∙ arr ∙ ap shown_arrived c.in-Err.is)) (refl, refl))
+    λ sent. goes_known g.N.Node.clean g.N.Node.stands (λ (z : Shelf). arriving z sent ≡ shown_arrived c.args.arrived.now) c.args.nodes.now.items c.in-Some.at c.args.node (StopAfter c.args.node sent) (Refused c.in-Err.why) lt c.in-Some.ensures.found.0 (λ w y s at. rw (at, (s ∙ ap shown_arrived c.in-Err.is)) (refl, refl))
 
-pub returns-then-not-is_up : goal.returns-then-not-is_up
-returns-then-not-is_up g c =
+pub returns-then-not-is_up-clause-step : goal.returns-then-not-is_up-clause-step
+returns-then-not-is_up-clause-step g c =
     let lt : c.in-Some.at < length c.args.nodes.now.items = omega (arith, c.in-Some.ensures.found.1, c.len.ensures) in
     let down : c.is_up.result ≡ false = search rules in
-    λ shelf sent arr. goes_stay g.N.Node.clean g.N.Node.stands shelf c.args.nodes.now.items c.in-Some.at c.index.result.now c.args.node (StopAfter c.args.node sent) (Refused Down) c.is_up.result lt c.index.ensures c.in-Some.ensures.found.0 (λ up h k s. c.is_up.ensures up h s) (λ w y s at up k stood. rw (at, (ap (λ (z : Shelf). arriving z sent) s ∙ arr ∙ ap shown_arrived c.in-Ok.is), up, down) (refl, refl))
+    λ sent. goes_stay g.N.Node.clean g.N.Node.stands (λ (z : Shelf). arriving z sent ≡ shown_arrived c.args.arrived.now) c.args.nodes.now.items c.in-Some.at c.index.result.now c.args.node (StopAfter c.args.node sent) (Refused Down) c.is_up.result lt c.index.ensures c.in-Some.ensures.found.0 (λ up h k s. c.is_up.ensures up h s) (λ w y s at up k stood. rw (at, (s ∙ ap shown_arrived c.in-Ok.is), up, down) (refl, refl))
 
-pub returns-in-Ok-stopped_after : goal.returns-in-Ok-stopped_after
-returns-in-Ok-stopped_after g c =
+pub returns-in-Ok-stopped_after-clause-step : goal.returns-in-Ok-stopped_after-clause-step
+returns-in-Ok-stopped_after-clause-step g c =
     let lt : c.in-Some.at < length c.args.nodes.now.items = omega (arith, c.in-Some.ensures.found.1, c.len.ensures) in
     let running : c.is_up.result ≡ true = search rules in
     let r = c.in-Ok-stopped_after.ensures in
-    λ shelf sent arr. subst (λ (ys : List _). Goes g.N.Node.clean g.N.Node.stands shelf c.args.nodes.now.items ys (StopAfter c.args.node sent) (Stopped)) (sym r.now)
-    (goes_up g.N.Node.clean g.N.Node.stands shelf c.args.nodes.now.items c.in-Some.at c.index.result.now r.before r.after c.args.node (StopAfter c.args.node sent) (Stopped) c.is_up.result running lt c.index.ensures r.was c.in-Some.ensures.found.0 r.still (λ up h k s. c.is_up.ensures up h s) (λ w y s at up k stood. (let t = r.goes y.history k stood in record { up = true; history = (told c.in-Ok.event.now, t.0) ∷ y.history; happens = rw (at, (ap (λ (z : Shelf). arriving z sent) s ∙ arr ∙ ap shown_arrived c.in-Ok.is), up) (t.0, t.1, inl (refl, refl)); stood = t.2 })))
+    λ sent. subst (λ (ys : List _). Goes g.N.Node.clean g.N.Node.stands (λ (z : Shelf). arriving z sent ≡ shown_arrived c.args.arrived.now) c.args.nodes.now.items ys (StopAfter c.args.node sent) (Stopped)) (sym r.now)
+    (goes_up g.N.Node.clean g.N.Node.stands (λ (z : Shelf). arriving z sent ≡ shown_arrived c.args.arrived.now) c.args.nodes.now.items c.in-Some.at c.index.result.now r.before r.after c.args.node (StopAfter c.args.node sent) (Stopped) c.is_up.result running lt c.index.ensures r.was c.in-Some.ensures.found.0 r.still (λ up h k s. c.is_up.ensures up h s) (λ w y s at up k stood. (let t = r.goes y.history k stood in record { up = true; history = (told c.in-Ok.event, t.0) ∷ y.history; happens = rw (at, (s ∙ ap shown_arrived c.in-Ok.is), up) (t.0, t.1, inl (refl, refl)); stood = t.2 })))
 
-pub returns-in-Err-stopped_after : goal.returns-in-Err-stopped_after
-returns-in-Err-stopped_after g c =
+pub returns-in-Err-stopped_after-clause-step : goal.returns-in-Err-stopped_after-clause-step
+returns-in-Err-stopped_after-clause-step g c =
     let lt : c.in-Some.at < length c.args.nodes.now.items = omega (arith, c.in-Some.ensures.found.1, c.len.ensures) in
     let running : c.is_up.result ≡ true = search rules in
     let r = c.in-Err-stopped_after.ensures in
-    λ shelf sent arr. subst (λ (ys : List _). Goes g.N.Node.clean g.N.Node.stands shelf c.args.nodes.now.items ys (StopAfter c.args.node sent) (IsDown c.in-Err-stopped_after.cause)) (sym r.now)
-    (goes_up g.N.Node.clean g.N.Node.stands shelf c.args.nodes.now.items c.in-Some.at c.index.result.now r.before r.after c.args.node (StopAfter c.args.node sent) (IsDown c.in-Err-stopped_after.cause) c.is_up.result running lt c.index.ensures r.was c.in-Some.ensures.found.0 r.still (λ up h k s. c.is_up.ensures up h s) (λ w y s at up k stood. (let t = r.goes y.history k stood in record { up = false; history = (told c.in-Ok.event.now, t.0) ∷ y.history; happens = rw (at, (ap (λ (z : Shelf). arriving z sent) s ∙ arr ∙ ap shown_arrived c.in-Ok.is), up) (t.0, t.1, inr (c.in-Err-stopped_after.cause, t.2.0, refl, refl)); stood = t.2.1 })))
-
+    λ sent. subst (λ (ys : List _). Goes g.N.Node.clean g.N.Node.stands (λ (z : Shelf). arriving z sent ≡ shown_arrived c.args.arrived.now) c.args.nodes.now.items ys (StopAfter c.args.node sent) (IsDown c.in-Err-stopped_after.cause)) (sym r.now)
+    (goes_up g.N.Node.clean g.N.Node.stands (λ (z : Shelf). arriving z sent ≡ shown_arrived c.args.arrived.now) c.args.nodes.now.items c.in-Some.at c.index.result.now r.before r.after c.args.node (StopAfter c.args.node sent) (IsDown c.in-Err-stopped_after.cause) c.is_up.result running lt c.index.ensures r.was c.in-Some.ensures.found.0 r.still (λ up h k s. c.is_up.ensures up h s) (λ w y s at up k stood. (let t = r.goes y.history k stood in record { up = false; history = (told c.in-Ok.event, t.0) ∷ y.history; happens = rw (at, (s ∙ ap shown_arrived c.in-Ok.is), up) (t.0, t.1, inr (c.in-Err-stopped_after.cause, t.2.0, refl, refl)); stood = t.2.1 })))

@@ -7,35 +7,34 @@ use Rattle.feed_core.specs.Step.{Goes}
 use Rattle.feed_core.proofs.Steps.{goes_none, goes_known, goes_stay, goes_up}
 use Rattle.feed_core.proofs.step.stop_before_at.Goals as goal
 
-pub returns-in_default : goal.returns-in_default
-returns-in_default g c =
+pub returns-in_default-clause-step : goal.returns-in_default-clause-step
+returns-in_default-clause-step g c =
     let out : (c.args.node ≡ 0) ⊎ (length c.args.nodes.now.items < c.args.node) = search rules in
-    λ shelf sent arr. goes_none g.N.Node.clean g.N.Node.stands shelf c.args.nodes.now.items c.args.node (StopBefore c.args.node sent) (Refused NoNode) out (λ w at. rw at (refl, refl))
+    λ sent. goes_none g.N.Node.clean g.N.Node.stands (λ (z : Shelf). arriving z sent ≡ shown_arrived c.args.arrived.now) c.args.nodes.now.items c.args.node (StopBefore c.args.node sent) (Refused NoNode) out (λ w at. rw at (refl, refl))
 
-pub returns-in-Err : goal.returns-in-Err
-returns-in-Err g c =
+pub returns-in-Err-clause-step : goal.returns-in-Err-clause-step
+returns-in-Err-clause-step g c =
     let lt : c.in-Some.at < length c.args.nodes.now.items = omega (arith, c.in-Some.ensures.found.1, c.len.ensures) in
-    λ shelf sent arr. goes_known g.N.Node.clean g.N.Node.stands shelf c.args.nodes.now.items c.in-Some.at c.args.node (StopBefore c.args.node sent) (Refused c.in-Err.why) lt c.in-Some.ensures.found.0 (λ w y s at. rw (at, (ap (λ (z : Shelf). arriving z sent) s ∙ arr ∙ ap shown_arrived c.in-Err.is)) (refl, refl))
+    λ sent. goes_known g.N.Node.clean g.N.Node.stands (λ (z : Shelf). arriving z sent ≡ shown_arrived c.args.arrived.now) c.args.nodes.now.items c.in-Some.at c.args.node (StopBefore c.args.node sent) (Refused c.in-Err.why) lt c.in-Some.ensures.found.0 (λ w y s at. rw (at, (s ∙ ap shown_arrived c.in-Err.is)) (refl, refl))
 
-pub returns-then-not-is_up : goal.returns-then-not-is_up
-returns-then-not-is_up g c =
+pub returns-then-not-is_up-clause-step : goal.returns-then-not-is_up-clause-step
+returns-then-not-is_up-clause-step g c =
     let lt : c.in-Some.at < length c.args.nodes.now.items = omega (arith, c.in-Some.ensures.found.1, c.len.ensures) in
     let down : c.is_up.result ≡ false = search rules in
-    λ shelf sent arr. goes_stay g.N.Node.clean g.N.Node.stands shelf c.args.nodes.now.items c.in-Some.at c.index.result.now c.args.node (StopBefore c.args.node sent) (Refused Down) c.is_up.result lt c.index.ensures c.in-Some.ensures.found.0 (λ up h k s. c.is_up.ensures up h s) (λ w y s at up k stood. rw (at, (ap (λ (z : Shelf). arriving z sent) s ∙ arr ∙ ap shown_arrived c.in-Ok.is), up, down) (refl, refl))
+    λ sent. goes_stay g.N.Node.clean g.N.Node.stands (λ (z : Shelf). arriving z sent ≡ shown_arrived c.args.arrived.now) c.args.nodes.now.items c.in-Some.at c.index.result.now c.args.node (StopBefore c.args.node sent) (Refused Down) c.is_up.result lt c.index.ensures c.in-Some.ensures.found.0 (λ up h k s. c.is_up.ensures up h s) (λ w y s at up k stood. rw (at, (s ∙ ap shown_arrived c.in-Ok.is), up, down) (refl, refl))
 
-pub returns-in-Ok-reopened : goal.returns-in-Ok-reopened
-returns-in-Ok-reopened g c =
+pub returns-in-Ok-reopened-clause-step : goal.returns-in-Ok-reopened-clause-step
+returns-in-Ok-reopened-clause-step g c =
     let lt : c.in-Some.at < length c.args.nodes.now.items = omega (arith, c.in-Some.ensures.found.1, c.len.ensures) in
     let running : c.is_up.result ≡ true = search rules in
     let r = c.in-Ok-reopened.ensures in
-    λ shelf sent arr. subst (λ (ys : List _). Goes g.N.Node.clean g.N.Node.stands shelf c.args.nodes.now.items ys (StopBefore c.args.node sent) (Stopped)) (sym r.now)
-    (goes_up g.N.Node.clean g.N.Node.stands shelf c.args.nodes.now.items c.in-Some.at c.index.result.now r.before r.after c.args.node (StopBefore c.args.node sent) (Stopped) c.is_up.result running lt c.index.ensures r.was c.in-Some.ensures.found.0 r.still (λ up h k s. c.is_up.ensures up h s) (λ w y s at up k stood. record { up = true; history = y.history; happens = rw (at, (ap (λ (z : Shelf). arriving z sent) s ∙ arr ∙ ap shown_arrived c.in-Ok.is), up) (inl (refl, refl)); stood = r.goes true y.history k stood }))
+    λ sent. subst (λ (ys : List _). Goes g.N.Node.clean g.N.Node.stands (λ (z : Shelf). arriving z sent ≡ shown_arrived c.args.arrived.now) c.args.nodes.now.items ys (StopBefore c.args.node sent) (Stopped)) (sym r.now)
+    (goes_up g.N.Node.clean g.N.Node.stands (λ (z : Shelf). arriving z sent ≡ shown_arrived c.args.arrived.now) c.args.nodes.now.items c.in-Some.at c.index.result.now r.before r.after c.args.node (StopBefore c.args.node sent) (Stopped) c.is_up.result running lt c.index.ensures r.was c.in-Some.ensures.found.0 r.still (λ up h k s. c.is_up.ensures up h s) (λ w y s at up k stood. record { up = true; history = y.history; happens = rw (at, (s ∙ ap shown_arrived c.in-Ok.is), up) (inl (refl, refl)); stood = r.goes true y.history k stood }))
 
-pub returns-in-Err-reopened : goal.returns-in-Err-reopened
-returns-in-Err-reopened g c =
+pub returns-in-Err-reopened-clause-step : goal.returns-in-Err-reopened-clause-step
+returns-in-Err-reopened-clause-step g c =
     let lt : c.in-Some.at < length c.args.nodes.now.items = omega (arith, c.in-Some.ensures.found.1, c.len.ensures) in
     let running : c.is_up.result ≡ true = search rules in
     let r = c.in-Err-reopened.ensures in
-    λ shelf sent arr. subst (λ (ys : List _). Goes g.N.Node.clean g.N.Node.stands shelf c.args.nodes.now.items ys (StopBefore c.args.node sent) (IsDown c.in-Err-reopened.cause)) (sym r.now)
-    (goes_up g.N.Node.clean g.N.Node.stands shelf c.args.nodes.now.items c.in-Some.at c.index.result.now r.before r.after c.args.node (StopBefore c.args.node sent) (IsDown c.in-Err-reopened.cause) c.is_up.result running lt c.index.ensures r.was c.in-Some.ensures.found.0 r.still (λ up h k s. c.is_up.ensures up h s) (λ w y s at up k stood. (let t = r.goes true y.history k stood in record { up = false; history = y.history; happens = rw (at, (ap (λ (z : Shelf). arriving z sent) s ∙ arr ∙ ap shown_arrived c.in-Ok.is), up) (inr (c.in-Err-reopened.cause, t.0, refl, refl)); stood = t.1 })))
-
+    λ sent. subst (λ (ys : List _). Goes g.N.Node.clean g.N.Node.stands (λ (z : Shelf). arriving z sent ≡ shown_arrived c.args.arrived.now) c.args.nodes.now.items ys (StopBefore c.args.node sent) (IsDown c.in-Err-reopened.cause)) (sym r.now)
+    (goes_up g.N.Node.clean g.N.Node.stands (λ (z : Shelf). arriving z sent ≡ shown_arrived c.args.arrived.now) c.args.nodes.now.items c.in-Some.at c.index.result.now r.before r.after c.args.node (StopBefore c.args.node sent) (IsDown c.in-Err-reopened.cause) c.is_up.result running lt c.index.ensures r.was c.in-Some.ensures.found.0 r.still (λ up h k s. c.is_up.ensures up h s) (λ w y s at up k stood. (let t = r.goes true y.history k stood in record { up = false; history = y.history; happens = rw (at, (s ∙ ap shown_arrived c.in-Ok.is), up) (inr (c.in-Err-reopened.cause, t.0, refl, refl)); stood = t.1 })))

@@ -3,4 +3,11 @@ use Rattle.feed_core.proofs.Steps.{insert-remove}
 use Rattle.feed_core.proofs.step.stopped_after.Goals as goal
 
 pub returns : goal.returns
-returns g c = ?
+returns g c = record {
+  before = c.remove.result;
+  after = c.stop_after-node.result.0;
+  was = c.remove.ensures.value;
+  now = c.put_back.ensures ∙ ap (λ xs. insert xs c.args.at c.stop_after-node.result.0) c.remove.ensures.items ∙ insert-remove c.args.nodes.now.items c.args.at c.stop_after-node.result.0 (omega (arith, c.requires.within, c.args.nodes.now.ok.0));
+  still = c.stop_after-node.ensures.clean;
+  goes = λ h clean stood. c.stop_after-node.ensures.right h clean stood;
+}

@@ -1,5 +1,16 @@
-use Rattle.std.proofs.Common.{◌≡◌, inl, inr}
+use Rattle.std.proofs.Common.{◌≡◌, ◌≢◌, ◌⊎◌, [], inl, inr, sym, subst, refl}
+use Rattle.feed_model.specs.declared.keep_fault.KeepFault.{KeepFault}
+use Rattle.feed_model.specs.declared.keep_fault.KeepFault.TheVariants.{Memory, Device, Damaged}
+use Rattle.feed_model.specs.Content.{Content}
+use Rattle.feed_model.specs.Sound.{IsSound}
+use Rattle.feed_model.proofs.Soundness.{sound_empty}
 use Rattle.feed_core.proofs.slot.Slot.start.Goals as goal
 
+-- an empty content is no damaged one
+refused : (cause : KeepFault) (failed clean : Type 0) (content : Content) → (cause ≡ Device → failed) → (cause ≡ Damaged → clean → ¬ (IsSound content)) → cause ≢ Memory → failed ⊎ (clean → content ≢ [])
+refused Memory failed clean content device damaged other = absurd (other refl)
+refused Device failed clean content device damaged other = inl (device refl)
+refused Damaged failed clean content device damaged other = inr (λ c empty. damaged refl c (subst IsSound (sym empty) sound_empty))
+
 pub returns-in-Err-clause-err : goal.returns-in-Err-clause-err
-returns-in-Err-clause-err g c = ?
+returns-in-Err-clause-err g c = refused c.in-Err.fault.cause _ (g.K.Keep.clean c.in-Err.fault.keeper) (g.K.Keep.content c.args.keeper) c.in-Err.ensures.device.1 c.in-Err.ensures.damaged

@@ -1,0 +1,97 @@
+-- A step of one node, as a step of the world; and lists that go on together.
+use Rattle.std.proofs.Common.{◌≡◌, ◌<◌, ◌≤◌, ◌+◌, ◌++◌, ℕ, zero, suc, Bool, List, [], ◌∷◌, length, get_or, slice_get, Option, Some, None, refl, sym, ◌∙◌, ap, subst, arith}
+use Rattle.std.specs.Borrow.{Bor}
+use Rattle.feed_model.specs.History.{History}
+use Rattle.feed_model.specs.Content.{Content, IsContent}
+use Rattle.feed_world.specs.World.{World, Node, WorldEvent, Publish, Line, Shelf, Happens, start}
+use Rattle.feed_core.specs.Step.{AllClean, AreNodes, AreKept, Goes, GoesTo, IsShelf}
+
+-- a node goes on, and the published files stay
+pub goes_to : {M : Type 0} (clean : M → Type 0) (stands : M → Bool → History → Type 0) (fits : Shelf → Type 0) (files : List (Bor (List ℕ) × Bor (List ℕ))) (old new : List M) (event : WorldEvent) (line : Line) → ((shelf : Shelf) → IsShelf files shelf → fits shelf) → Goes clean stands fits old new event line → GoesTo clean stands files files old new event line
+goes_to clean stands fits files old new event line fit goes all =
+    let r = goes all in
+    (r.0, λ w is n. (let t = r.1 w (fit w.shelf is) n in (t.0, t.1, subst (IsShelf files) (sym t.2) is, t.3)))
+
+-- a file is published, and the nodes stay
+pub publishes : {M : Type 0} (clean : M → Type 0) (stands : M → Bool → History → Type 0) (before files : List (Bor (List ℕ) × Bor (List ℕ))) (nodes : List M) (event : WorldEvent) (line : Line) → ((w : World) → IsShelf before w.shelf → (v : World) × Happens w event line v × IsShelf files v.shelf × (v.nodes ≡ w.nodes)) → GoesTo clean stands before files nodes nodes event line
+publishes clean stands before files nodes event line publish all =
+    (all, λ w is n. (let t = publish w is in (t.0, t.1, t.2, subst (AreNodes stands nodes) (sym t.3) n)))
+
+-- lists of which each two elements at one place are so
+abbrev pub AreOf : {S K : Type 0} → (S → K → Type 0) → List S → List K → Type 0
+AreOf law [] [] = Unit {0}
+AreOf law (s ∷ ss) (k ∷ ks) = law s k × AreOf law ss ks
+AreOf law [] (k ∷ ks) = ⊥
+AreOf law (s ∷ ss) [] = ⊥
+
+of-push : {S K : Type 0} (law : S → K → Type 0) (ss : List S) (ks : List K) (s : S) (k : K) → AreOf law ss ks → law s k → AreOf law (ss ++ s ∷ []) (ks ++ k ∷ [])
+of-push law [] [] s k so is = (is, tt)
+of-push law [] (x ∷ xs) s k so is = absurd so
+of-push law (x ∷ xs) [] s k so is = absurd so
+of-push law (x ∷ xs) (y ∷ ys) s k so is = (so.0, of-push law xs ys s k so.1 is)
+
+of-length : {S K : Type 0} (law : S → K → Type 0) (ss : List S) (ks : List K) → AreOf law ss ks → length ss ≡ length ks
+of-length law [] [] so = refl
+of-length law [] (y ∷ ys) so = absurd so
+of-length law (x ∷ xs) [] so = absurd so
+of-length law (x ∷ xs) (y ∷ ys) so = ap suc (of-length law xs ys so.1)
+
+append-assoc : {X : Type 0} (xs : List X) (y : X) (zs : List X) → (xs ++ y ∷ []) ++ zs ≡ xs ++ y ∷ zs
+append-assoc [] y zs = refl
+append-assoc (x ∷ xs) y zs = ap (λ ys. x ∷ ys) (append-assoc xs y zs)
+
+append-nil : {X : Type 0} (xs : List X) → xs ++ [] ≡ xs
+append-nil [] = refl
+append-nil (x ∷ xs) = ap (λ ys. x ∷ ys) (append-nil xs)
+
+pub length-append : {X : Type 0} (xs ys : List X) → length (xs ++ ys) ≡ length xs + length ys
+length-append [] ys = omega arith
+length-append (x ∷ xs) ys = omega (arith, length-append xs ys)
+
+get-middle : {X : Type 0} (xs : List X) (y : X) (zs : List X) → slice_get (xs ++ y ∷ zs) (length xs) ≡ Some y
+get-middle [] y zs = refl
+get-middle (x ∷ xs) y zs = get-middle xs y zs
+
+-- the first elements have what they are made into, and the rest are to come
+pub record Went {S K : Type 0} (law : S → K → Type 0) (all rest : List S) (made : List K) : Type 0 where
+  pub done : List S
+  pub order : done ++ rest ≡ all
+  pub each : AreOf law done made
+
+pub went_start : {S K : Type 0} (law : S → K → Type 0) (all rest : List S) (made : List K) → made ≡ [] → rest ≡ all → Went law all rest made
+went_start law all rest made none is = rw (none, is) (record { done = []; order = refl; each = tt })
+
+pub went_next : {S K : Type 0} (law : S → K → Type 0) (all rest more : List S) (made now : List K) (s : S) (k : K) → Went law all rest made → rest ≡ s ∷ more → law s k → now ≡ made ++ k ∷ [] → Went law all more now
+went_next {S} {K} law all rest more made now s k so is holds pushed = record {
+  done = so.done ++ s ∷ [];
+  order = append-assoc so.done s more ∙ ap (λ (xs : List S). so.done ++ xs) (sym is) ∙ so.order;
+  each = subst (λ (ks : List K). AreOf law (so.done ++ s ∷ []) ks) (sym pushed) (of-push law so.done made s k so.each holds);
+}
+
+pub went_all : {S K : Type 0} (law : S → K → Type 0) (all rest : List S) (made : List K) → Went law all rest made → rest ≡ [] → AreOf law all made
+went_all {S} law all rest made so none = subst (λ (xs : List S). AreOf law xs made) (sym (append-nil so.done) ∙ ap (λ (xs : List S). so.done ++ xs) (sym none) ∙ so.order) so.each
+
+pub went_count : {S K : Type 0} (law : S → K → Type 0) (all rest : List S) (made : List K) → Went law all rest made → length made + length rest ≡ length all
+went_count law all rest made so = omega (arith, of-length law so.done made so.each, length-append so.done rest, ap length so.order)
+
+pub went_at : {S K : Type 0} (law : S → K → Type 0) (all rest more : List S) (made : List K) (s : S) → Went law all rest made → rest ≡ s ∷ more → slice_get all (length made) ≡ Some s
+went_at {S} law all rest more made s so is =
+    ap (slice_get all) (sym (of-length law so.done made so.each)) ∙ ap (λ (xs : List S). slice_get xs (length so.done)) (sym so.order ∙ ap (λ (xs : List S). so.done ++ xs) is) ∙ get-middle so.done s more
+
+-- a keeper was clean in its node if it is, and holds a content of the node's history
+abbrev pub IsKeptOf : {M K : Type 0} → (M → Type 0) → (M → Bool → History → Type 0) → (K → Type 0) → (K → Content) → M → K → Type 0
+IsKeptOf node_clean stands clean content s k = (clean k → node_clean s) × (clean k → (up : Bool) (h : History) → stands s up h → IsContent (content k) h)
+
+pub kept_clean : {M K : Type 0} (node_clean : M → Type 0) (stands : M → Bool → History → Type 0) (clean : K → Type 0) (content : K → Content) (ss : List M) (ks : List K) → AreOf (IsKeptOf node_clean stands clean content) ss ks → AllClean clean ks → AllClean node_clean ss
+kept_clean node_clean stands clean content [] [] so all = tt
+kept_clean node_clean stands clean content [] (k ∷ ks) so all = absurd so
+kept_clean node_clean stands clean content (s ∷ ss) [] so all = absurd so
+kept_clean node_clean stands clean content (s ∷ ss) (k ∷ ks) so all = (so.0.0 all.0, kept_clean node_clean stands clean content ss ks so.1 all.1)
+
+pub kept_all : {M K : Type 0} (node_clean : M → Type 0) (stands : M → Bool → History → Type 0) (clean : K → Type 0) (content : K → Content) (ss : List M) (ks : List K) (ys : List Node) → AreOf (IsKeptOf node_clean stands clean content) ss ks → AllClean clean ks → AreNodes stands ss ys → AreKept content ks ys
+kept_all node_clean stands clean content [] [] [] so all n = tt
+kept_all node_clean stands clean content [] [] (y ∷ ys) so all n = absurd n
+kept_all node_clean stands clean content [] (k ∷ ks) ys so all n = absurd so
+kept_all node_clean stands clean content (s ∷ ss) [] ys so all n = absurd so
+kept_all node_clean stands clean content (s ∷ ss) (k ∷ ks) [] so all n = absurd n
+kept_all node_clean stands clean content (s ∷ ss) (k ∷ ks) (y ∷ ys) so all n = (so.0.1 all.0 y.up y.history n.0, kept_all node_clean stands clean content ss ks ys so.1 all.1 n.1)

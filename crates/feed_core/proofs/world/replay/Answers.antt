@@ -1,0 +1,20 @@
+use Rattle.std.proofs.Common.{◌≡◌, ℕ, List, length, map, sym, ◌∙◌, ap, subst, arith}
+use Rattle.feed_world.specs.World.{World, Shows, start}
+use Rattle.feed_world.specs.Shown.{shown_event, shown_line}
+use Rattle.feed_core.specs.Step.{AllClean, AreKept}
+use Rattle.feed_core.proofs.world.replay.Goals as goal
+
+pub returns-in-Ok-show_all-clause-shown : goal.returns-in-Ok-show_all-clause-shown
+returns-in-Ok-show_all-clause-shown g c = λ all.
+    (let clean = rw c.of.ensures.keepers at all in
+    let r = c.in-Ok-show_all.ensures.shown (c.keepers_of.ensures.clean clean) in
+    let same = c.in_ok-nodes.nodes.ok.0 ∙ c.in_ok-nodes.ensures.count in
+    rw (c.of.ensures.lines, c.of.ensures.keepers) (r.0, subst (λ (n : ℕ). Shows (start n) (map shown_event c.args.events.now) (map shown_line c.in-Ok-show_all.lines.items) r.0) same r.1, c.keepers_of.ensures.kept clean r.0 r.2))
+
+pub returns-in-Ok-show_all-clause-headline : goal.returns-in-Ok-show_all-clause-headline
+returns-in-Ok-show_all-clause-headline g c = λ all.
+    (let clean = rw c.of.ensures.keepers at all in
+    rw c.of.ensures.lines (c.in-Ok-show_all.ensures.headline (c.keepers_of.ensures.clean clean)))
+
+pub returns-in-Ok-show_all-clause-count : goal.returns-in-Ok-show_all-clause-count
+returns-in-Ok-show_all-clause-count g c = rw c.of.ensures.lines c.in-Ok-show_all.ensures.lines

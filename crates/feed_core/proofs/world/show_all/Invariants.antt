@@ -1,0 +1,13 @@
+use Rattle.std.proofs.Common.{◌≡◌, take, map, length}
+use Rattle.std.specs.Prelude.{vec_len}
+use Rattle.feed_world.specs.Shown.{shown_event, shown_line}
+use Rattle.feed_core.specs.Step.{HasShown}
+use Rattle.feed_core.proofs.world.show_all.Given as goal
+
+-- the lines so far are right, and the nodes stand where they lead
+abbrev pub invariant-loop-event : goal.invariant-loop-event
+invariant-loop-event g l = record {
+  shown : HasShown g.N.Node.clean g.N.Node.stands (vec_len l.initial.nodes) (map shown_event (take l.event-index l.events)) (map shown_line l.lines.items) l.shelf.files.entries l.nodes.items;
+  lines : length l.lines.items ≡ l.event-index;
+  count : length l.nodes.items ≡ vec_len l.initial.nodes;
+}

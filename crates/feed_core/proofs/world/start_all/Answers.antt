@@ -1,0 +1,28 @@
+use Rattle.std.proofs.Common.{◌≡◌, inl, inr, List, [], length, sym, ◌∙◌, ap, subst, refl, arith}
+use Rattle.feed_core.specs.ReleaseValue.{content_of}
+use Rattle.feed_core.specs.Slots.{SlotStands}
+use Rattle.feed_core.proofs.Empty.{start_more}
+use Rattle.feed_core.proofs.Reopened.{none_left}
+use Rattle.feed_core.proofs.Going.{went_next, went_count, went_at}
+use Rattle.feed_core.proofs.world.start_all.Goals as goal
+
+pub loop-keeper-preserved : goal.loop-keeper-preserved
+loop-keeper-preserved g c = record {
+  so = went_next (λ k s. Unit {0}) c.args.keepers.items c.loop-keeper.keeper-iterator.rest.items c.next.new.self.rest.items c.loop-keeper.nodes.items c.push.new.self.items c.in-Some.keeper c.in-Ok-start.slot c.loop-keeper.invariant.so c.in-Some.ensures.steps.0 tt c.in-Ok-push.ensures.items;
+  stood = start_more (SlotStands (λ f. content_of f.releases.items) g.K.Keep.content) c.loop-keeper.nodes.items c.push.new.self.items c.in-Ok-start.slot c.in-Ok-push.ensures.items c.loop-keeper.invariant.stood c.in-Ok-start.ensures.ok;
+}
+
+pub returns-in-Err-clause-start : goal.returns-in-Err-clause-start
+returns-in-Err-clause-start g c = elim c.not_started.ensures [
+  | inl memory ↦ rw memory.1 tt
+  | inr other ↦ rw other.1 (record {
+    before = c.in-Some.keeper;
+    at = length c.loop-keeper.nodes.items;
+    number = omega (arith, c.len-in-Err.ensures, c.loop-keeper.nodes.ok.0);
+    given = went_at (λ k s. Unit {0}) c.args.keepers.items c.loop-keeper.keeper-iterator.rest.items c.next.new.self.rest.items c.loop-keeper.nodes.items c.in-Some.keeper c.loop-keeper.invariant.so c.in-Some.ensures.steps.0;
+    refused = c.in-Err.ensures.err other.0;
+  })
+]
+
+pub returns-clause-count : goal.returns-clause-count
+returns-clause-count g c = omega (arith, went_count (λ k s. Unit {0}) c.args.keepers.items c.loop-keeper.keeper-iterator.rest.items c.loop-keeper.nodes.items c.loop-keeper.invariant.so, c.loop-keeper.keeper-iterator.rest.ok.0, c.in-None.ensures.steps.0, c.args.keepers.ok.0)

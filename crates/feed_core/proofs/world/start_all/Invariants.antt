@@ -1,0 +1,14 @@
+use Rattle.std.proofs.Common.{length}
+use Rattle.feed_world.specs.World.{start}
+use Rattle.feed_core.specs.ReleaseValue.{content_of}
+use Rattle.feed_core.specs.Slots.{SlotStands}
+use Rattle.feed_core.specs.Step.{AreNodes}
+use Rattle.feed_core.proofs.Going.{Went}
+use Rattle.feed_core.proofs.world.start_all.Given as goal
+
+-- each keeper so far has a node at which nothing has happened
+abbrev pub invariant-loop-keeper : goal.invariant-loop-keeper
+invariant-loop-keeper g l = record {
+  so : Went (λ k s. Unit {0}) l.fn.keepers.items l.keeper-iterator.rest.items l.nodes.items;
+  stood : AreNodes (SlotStands (λ f. content_of f.releases.items) g.K.Keep.content) l.nodes.items (start (length l.nodes.items)).nodes;
+}
