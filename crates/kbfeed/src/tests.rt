@@ -1,3 +1,4 @@
+mod openurl;
 mod worlds;
 
 use crate::check_command::{check_on, file_name};
