@@ -5,7 +5,7 @@ PROGRAM = crates/kbfeed/out/kbfeed
 
 help:
 	@echo "make build    proves and builds the program, and leaves it at $(PROGRAM)"
-	@echo "make replay   builds the program and runs samples/first.script through it"
+	@echo "make replay   builds the program, runs the scripts of samples/ through it, and compares what it prints"
 	@echo "make test     the gate: every proof from nothing, the edits that must fail, the tests, the program's run"
 
 build:
@@ -13,7 +13,12 @@ build:
 	@cd crates/kbfeed && { rt run -- --help > /dev/null 2> out/build.log || { cat out/build.log >&2; exit 1; }; }
 
 replay: build
-	@$(PROGRAM) replay < samples/first.script
+	@for sample in samples/first samples/two_nodes; do \
+		echo "$$sample.script" >&2; \
+		$(PROGRAM) replay < $$sample.script > crates/kbfeed/out/transcript || exit; \
+		cat crates/kbfeed/out/transcript; \
+		cmp crates/kbfeed/out/transcript $$sample.transcript || exit; \
+	done
 
 test:
 	@rt ci

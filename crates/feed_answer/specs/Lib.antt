@@ -2,6 +2,7 @@ pub mod IssnSet
 pub mod Pairs
 pub mod QueryValue
 pub mod Queries
+pub mod Faults
 pub mod Grades
 pub mod HitValue
 pub mod Answers

@@ -3,28 +3,42 @@ ghost use Rattle.feed_answer.specs.declared.fault.QueryFault.TheVariants as quer
 ghost use Rattle.feed_answer.specs.declared.fault.WriteFault.TheVariants as write_fault;
 
 use std::alloc::AllocError;
-use std::io;
+use std::{fmt, io};
 use thiserror::Error;
 
 /// Why a query was not read: the first of these that holds, but for `Memory`.
-#[derive(Clone, Copy, Debug, PartialEq, Eq, Error)]
+#[derive(Clone, Copy, Debug, PartialEq, Eq)]
 pub enum QueryFault {
     /// The query has more than `QUERY_LIMIT` bytes.
-    #[error("TooLong")]
     TooLong,
     /// A `url_ver` or `ctx_ver` is neither empty nor `Z39.88-2004`.
-    #[error("Version")]
     Version,
     /// A `rft_val_fmt` is neither empty nor `info:ofi/fmt:kev:mtx:journal`.
-    #[error("NotJournal")]
     NotJournal,
     /// No value names an ISSN.
-    #[error("NoIssn")]
     NoIssn,
     /// Want of memory, in place of any outcome but `TooLong`.
-    #[error("Memory")]
     Memory,
 }
+
+impl fmt::Display for QueryFault {
+    ghost use Rattle.std.specs.Prelude.{Some};
+    ghost use Rattle.feed_answer.specs.Faults.{query_fault_text};
+
+    ghost output = { λ fault. Some (query_fault_text fault) };
+
+    fn fmt<W: fmt::Write>(&self, f: &mut fmt::Formatter<W>) -> fmt::Result {
+        f.write_str(match self {
+            QueryFault::TooLong => "TooLong",
+            QueryFault::Version => "Version",
+            QueryFault::NotJournal => "NotJournal",
+            QueryFault::NoIssn => "NoIssn",
+            QueryFault::Memory => "Memory",
+        })
+    }
+}
+
+impl std::error::Error for QueryFault {}
 
 impl From<AllocError> for QueryFault {
     ghost from_gives = { λ _ e. e ≡ query_fault.Memory };

@@ -1,7 +1,18 @@
--- The names of the reasons to set a record aside.
-use Rattle.std.specs.Prelude.{ℕ, List, codes}
+-- The names of the reasons why a file is bad, and of those to set a record aside.
+use Rattle.std.specs.Prelude.{◌++◌, ℕ, List, codes}
+use Rattle.feed_kbart.specs.Labels.{label_text}
+use Rattle.feed_kbart.specs.declared.fault.BadFile.{BadFile}
+use Rattle.feed_kbart.specs.declared.fault.BadFile.TheVariants.{NotUtf8, TwoMarks, NoHeader, MissingLabel, LabelTwice}
 use Rattle.feed_kbart.specs.declared.fault.Reason.{Reason}
 use Rattle.feed_kbart.specs.declared.fault.Reason.TheVariants.{NotSerial, NoIssn, BadDate, Reversed}
+
+-- how it is printed why a file is bad
+abbrev pub bad_file_text : BadFile → List ℕ
+bad_file_text NotUtf8 = codes "NotUtf8"
+bad_file_text TwoMarks = codes "TwoMarks"
+bad_file_text NoHeader = codes "NoHeader"
+bad_file_text (MissingLabel label) = codes "MissingLabel " ++ label_text label
+bad_file_text (LabelTwice label) = codes "LabelTwice " ++ label_text label
 
 -- how a reason is printed
 abbrev pub reason_text : Reason → List ℕ

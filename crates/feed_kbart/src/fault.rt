@@ -7,24 +7,38 @@ use std::fmt;
 use thiserror::Error;
 
 /// Why a file is bad: the first of these that holds.
-#[derive(Clone, Copy, Debug, PartialEq, Eq, Error)]
+#[derive(Clone, Copy, Debug, PartialEq, Eq)]
 pub enum BadFile {
     /// The bytes are not UTF-8, anywhere in the file.
-    #[error("NotUtf8")]
     NotUtf8,
     /// The text begins with two byte-order marks.
-    #[error("TwoMarks")]
     TwoMarks,
     /// There is no record.
-    #[error("NoHeader")]
     NoHeader,
     /// The first required label, in their order, that no column has.
-    #[error("MissingLabel {0}")]
     MissingLabel(Label),
     /// The first label, in their order, that two columns have.
-    #[error("LabelTwice {0}")]
     LabelTwice(Label),
 }
+
+impl fmt::Display for BadFile {
+    ghost use Rattle.std.specs.Prelude.{Some};
+    ghost use Rattle.feed_kbart.specs.Reasons.{bad_file_text};
+
+    ghost output = { λ why. Some (bad_file_text why) };
+
+    fn fmt<W: fmt::Write>(&self, f: &mut fmt::Formatter<W>) -> fmt::Result {
+        match self {
+            BadFile::NotUtf8 => f.write_str("NotUtf8"),
+            BadFile::TwoMarks => f.write_str("TwoMarks"),
+            BadFile::NoHeader => f.write_str("NoHeader"),
+            BadFile::MissingLabel(label) => write!(f, "MissingLabel {label}"),
+            BadFile::LabelTwice(label) => write!(f, "LabelTwice {label}"),
+        }
+    }
+}
+
+impl std::error::Error for BadFile {}
 
 /// Why a file was not read.
 #[derive(Clone, Copy, Debug, PartialEq, Eq, Error)]

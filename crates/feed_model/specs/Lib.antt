@@ -7,3 +7,4 @@ pub mod Change
 pub mod Parts
 pub mod Handles
 pub mod Sound
+pub mod Texts

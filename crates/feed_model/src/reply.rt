@@ -1,6 +1,6 @@
 use feed_kbart::BadFile;
+use std::error::Error;
 use std::fmt;
-use thiserror::Error;
 
 /// What a feed made of an event.
 #[derive(Clone, Copy, Debug, PartialEq, Eq)]
@@ -24,6 +24,11 @@ pub enum Reply {
 }
 
 impl fmt::Display for Reply {
+    ghost use Rattle.std.specs.Prelude.{Some};
+    ghost use Rattle.feed_model.specs.Texts.{reply_text};
+
+    ghost output = { λ reply. Some (reply_text reply) };
+
     fn fmt<W: fmt::Write>(&self, f: &mut fmt::Formatter<W>) -> fmt::Result {
         match self {
             Reply::Noted => f.write_str("noted"),
@@ -39,33 +44,47 @@ impl fmt::Display for Reply {
 }
 
 /// Why a feed refused an event, which then changed nothing.
-#[derive(Clone, Copy, Debug, PartialEq, Eq, Error)]
+#[derive(Clone, Copy, Debug, PartialEq, Eq)]
 pub enum Refusal {
     /// The offered size is above the limit of a file.
-    #[error("TooLarge")]
     TooLarge,
     /// The release was recorded with another size.
-    #[error("WrongSize")]
     WrongSize,
     /// As many releases are recorded as a feed may have.
-    #[error("Full")]
     Full,
     /// The piece is empty or above the limit of a piece.
-    #[error("BadPiece")]
     BadPiece,
     /// The release is not recorded.
-    #[error("Unknown")]
     Unknown,
     /// The piece reaches past the end of the file.
-    #[error("Outside")]
     Outside,
     /// Another byte is kept at a place of the piece.
-    #[error("Conflict")]
     Conflict,
     /// There was no memory, in place of an answer that keeps something.
-    #[error("Memory")]
     Memory,
     /// The keeper's device failed, in place of an answer that keeps something.
-    #[error("Device")]
     Device,
 }
+
+impl fmt::Display for Refusal {
+    ghost use Rattle.std.specs.Prelude.{Some};
+    ghost use Rattle.feed_model.specs.Texts.{refusal_text};
+
+    ghost output = { λ refusal. Some (refusal_text refusal) };
+
+    fn fmt<W: fmt::Write>(&self, f: &mut fmt::Formatter<W>) -> fmt::Result {
+        f.write_str(match self {
+            Refusal::TooLarge => "TooLarge",
+            Refusal::WrongSize => "WrongSize",
+            Refusal::Full => "Full",
+            Refusal::BadPiece => "BadPiece",
+            Refusal::Unknown => "Unknown",
+            Refusal::Outside => "Outside",
+            Refusal::Conflict => "Conflict",
+            Refusal::Memory => "Memory",
+            Refusal::Device => "Device",
+        })
+    }
+}
+
+impl Error for Refusal {}

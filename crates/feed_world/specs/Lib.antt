@@ -1,3 +1,4 @@
 pub mod World
 pub mod Shown
 pub mod Headline
+pub mod LineText

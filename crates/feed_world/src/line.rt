@@ -1,41 +1,60 @@
+ghost use Rattle.std.specs.Prelude.{OnOk};
+ghost use Rattle.std.specs.Io.KnownBytes.{Appends};
+ghost use Rattle.feed_world.specs.Shown.{shown_line};
+ghost use Rattle.feed_world.specs.LineText.{line_text};
+
 use feed_answer::QueryFault;
 use feed_model::{KeepFault, Refusal, Reply};
 use feed_names::ReleaseName;
-use std::io;
+use std::error::Error;
 use std::io::Write;
-use thiserror::Error;
+use std::{fmt, io};
 
 /// Why an event of a world was refused. Nothing changed.
-#[derive(Clone, Copy, Debug, PartialEq, Eq, Error)]
+#[derive(Clone, Copy, Debug, PartialEq, Eq)]
 pub enum Why {
     /// Another file is published under the name.
-    #[error("Republished")]
     Republished,
     /// No node has the number.
-    #[error("NoNode")]
     NoNode,
     /// No file is published under the name.
-    #[error("Unpublished")]
     Unpublished,
     /// The bytes do not lie inside the published file.
-    #[error("NoSlice")]
     NoSlice,
     /// The node is down: it could not be opened when it stopped last.
-    #[error("Down")]
     Down,
     /// The feed of the node refused.
-    #[error("{0}")]
     Feed(Refusal),
     /// The query is none.
-    #[error("{0}")]
     Query(QueryFault),
     /// The package has no whole and good release at the node.
-    #[error("NoRelease")]
     NoRelease,
     /// There was no memory for an answer.
-    #[error("Memory")]
     Memory,
 }
+
+impl fmt::Display for Why {
+    ghost use Rattle.std.specs.Prelude.{Some};
+    ghost use Rattle.feed_world.specs.LineText.{why_text};
+
+    ghost output = { λ why. Some (why_text why) };
+
+    fn fmt<W: fmt::Write>(&self, f: &mut fmt::Formatter<W>) -> fmt::Result {
+        match self {
+            Why::Republished => f.write_str("Republished"),
+            Why::NoNode => f.write_str("NoNode"),
+            Why::Unpublished => f.write_str("Unpublished"),
+            Why::NoSlice => f.write_str("NoSlice"),
+            Why::Down => f.write_str("Down"),
+            Why::Feed(refusal) => write!(f, "{refusal}"),
+            Why::Query(fault) => write!(f, "{fault}"),
+            Why::NoRelease => f.write_str("NoRelease"),
+            Why::Memory => f.write_str("Memory"),
+        }
+    }
+}
+
+impl Error for Why {}
 
 /// How an event of a world is shown.
 #[derive(Debug, Drop)]
@@ -62,7 +81,9 @@ pub enum Line {
 
 impl Line {
     /// Writes the line with the LF that ends it.
-    pub fn write<W: Write>(&self, writer: &mut W) -> io::Result<()> {
+    pub fn write<W: Write>(&self, writer: &mut W) -> io::Result<()>
+        ensures { OnOk result (Appends (W.contents writer.old) (W.contents writer.new) (line_text (shown_line self.now))) }
+    {
         match self {
             Line::Published => writer.write_all(b"published\n"),
             Line::Replied(reply) => writeln!(writer, "{reply}"),

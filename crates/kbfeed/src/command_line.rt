@@ -17,8 +17,13 @@ A script is a line for each event. The first is `nodes N`, N from 1 to 16. Then,
   offer NODE NAME               a node is offered a published release
   deliver NODE NAME FIRST LEN   a node is given bytes of the published file, from place FIRST on
   lose NODE NAME                a piece does not come
+  restart NODE                  a node stops, and is opened again
+  stop-before NODE WHAT         the same before a node keeps WHAT, an offer or a delivery
+  stop-after NODE WHAT          the same after it, before the node answers
   report NODE PACKAGE           the active release of a package
   ask NODE PACKAGE QUERY        an OpenURL query, as rft.issn=2434561x&rft.date=1996
+
+WHAT is `offer NAME` or `deliver NAME FIRST LEN`.
 
 Empty lines and lines that begin with # are skipped. NAME is as Acme_Global_All_2024-01-01.txt, and PACKAGE as
 Acme_Global_All. A fault of the script is printed with its line, and nothing is replayed.";

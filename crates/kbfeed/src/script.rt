@@ -1,7 +1,7 @@
 //! Scripts of worlds: what happens, a line for each event.
 ghost use Rattle.std.specs.Prelude.{◌<◌, length, IfOk, IfSome};
 
-use feed_core::{NODE_LIMIT, WorldEvent};
+use feed_core::{NODE_LIMIT, Sent, WorldEvent};
 use feed_names::{NameFault, ReleaseName};
 use std::alloc::{AllocError, AllocFailed, Global};
 use thiserror::Error;
@@ -27,7 +27,7 @@ pub enum LineFault {
     NodesExpected,
     #[error("unknown command")]
     UnknownCommand,
-    /// Too few or too many words, or an empty one.
+    /// Too few or too many words, an empty one, or a stop of neither an offer nor a delivery.
     #[error("wrong words")]
     WrongWords,
     /// A number is not 1 to 20 digits that fit 64 bits, or there are not 1 to 16 nodes.
@@ -137,6 +137,9 @@ fn read_event(alloc: Global, line: &[u8]) -> Result<WorldEvent, LineFault> {
         b"offer" => read_offer(alloc, words),
         b"deliver" => read_deliver(alloc, words),
         b"lose" => read_lose(alloc, words),
+        b"restart" => read_restart(words),
+        b"stop-before" => read_stop_before(alloc, words),
+        b"stop-after" => read_stop_after(alloc, words),
         b"report" => read_report(alloc, words),
         b"ask" => read_ask(alloc, words),
         _ => Err(LineFault::UnknownCommand),
@@ -153,29 +156,92 @@ fn read_publish(alloc: Global, mut words: Words<'_>) -> Result<WorldEvent, LineF
 }
 
 // `NODE NAME`
-fn read_offer(alloc: Global, words: Words<'_>) -> Result<WorldEvent, LineFault> {
-    let (node, name) = read_node_and_name(alloc, words)?;
-    Ok(WorldEvent::Offer { node, name })
-}
-
-fn read_lose(alloc: Global, words: Words<'_>) -> Result<WorldEvent, LineFault> {
-    let (node, name) = read_node_and_name(alloc, words)?;
-    Ok(WorldEvent::Lose { node, name })
-}
-
-fn read_node_and_name(
-    alloc: Global,
-    mut words: Words<'_>,
-) -> Result<(u64, ReleaseName), LineFault> {
+fn read_offer(alloc: Global, mut words: Words<'_>) -> Result<WorldEvent, LineFault> {
     let node = words.word()?;
-    let name = words.word()?;
-    words.end()?;
-    Ok((read_number(node)?, read_name(alloc, name)?))
+    let (node, name) = read_name_at(alloc, node, words)?;
+    Ok(WorldEvent::Offer { node, name })
 }
 
 // `NODE NAME FIRST LEN`
 fn read_deliver(alloc: Global, mut words: Words<'_>) -> Result<WorldEvent, LineFault> {
     let node = words.word()?;
+    let (node, Slice { name, first, len }) = read_slice_at(alloc, node, words)?;
+    Ok(WorldEvent::Deliver {
+        node,
+        name,
+        first,
+        len,
+    })
+}
+
+// `NODE NAME`
+fn read_lose(alloc: Global, mut words: Words<'_>) -> Result<WorldEvent, LineFault> {
+    let node = words.word()?;
+    let (node, name) = read_name_at(alloc, node, words)?;
+    Ok(WorldEvent::Lose { node, name })
+}
+
+// `NODE`
+fn read_restart(mut words: Words<'_>) -> Result<WorldEvent, LineFault> {
+    let node = words.word()?;
+    words.end()?;
+    let node = read_number(node)?;
+    Ok(WorldEvent::Restart { node })
+}
+
+fn read_stop_before(alloc: Global, words: Words<'_>) -> Result<WorldEvent, LineFault> {
+    let (node, what) = read_stopped(alloc, words)?;
+    Ok(WorldEvent::StopBefore { node, what })
+}
+
+fn read_stop_after(alloc: Global, words: Words<'_>) -> Result<WorldEvent, LineFault> {
+    let (node, what) = read_stopped(alloc, words)?;
+    Ok(WorldEvent::StopAfter { node, what })
+}
+
+// `NODE offer NAME` or `NODE deliver NAME FIRST LEN`
+fn read_stopped(alloc: Global, mut words: Words<'_>) -> Result<(u64, Sent), LineFault> {
+    let node = words.word()?;
+    match words.word()? {
+        b"offer" => {
+            let (node, name) = read_name_at(alloc, node, words)?;
+            Ok((node, Sent::Offer { name }))
+        }
+        b"deliver" => {
+            let (node, Slice { name, first, len }) = read_slice_at(alloc, node, words)?;
+            Ok((node, Sent::Deliver { name, first, len }))
+        }
+        _ => Err(LineFault::WrongWords),
+    }
+}
+
+// A slice of the file that is published under a name.
+#[derive(Drop)]
+struct Slice {
+    name: ReleaseName,
+    first: u64,
+    len: u64,
+}
+
+// `NAME` as the last word, after the word of a node.
+fn read_name_at(
+    alloc: Global,
+    node: &[u8],
+    mut words: Words<'_>,
+) -> Result<(u64, ReleaseName), LineFault> {
+    let name = words.word()?;
+    words.end()?;
+    let node = read_number(node)?;
+    let name = read_name(alloc, name)?;
+    Ok((node, name))
+}
+
+// `NAME FIRST LEN` as the last words, after the word of a node.
+fn read_slice_at(
+    alloc: Global,
+    node: &[u8],
+    mut words: Words<'_>,
+) -> Result<(u64, Slice), LineFault> {
     let name = words.word()?;
     let first = words.word()?;
     let len = words.word()?;
@@ -184,12 +250,7 @@ fn read_deliver(alloc: Global, mut words: Words<'_>) -> Result<WorldEvent, LineF
     let first = read_number(first)?;
     let len = read_number(len)?;
     let name = read_name(alloc, name)?;
-    Ok(WorldEvent::Deliver {
-        node,
-        name,
-        first,
-        len,
-    })
+    Ok((node, Slice { name, first, len }))
 }
 
 // `NODE PACKAGE`

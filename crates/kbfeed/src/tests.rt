@@ -1,3 +1,6 @@
+mod openurl;
+mod worlds;
+
 use crate::check_command::{check_on, file_name};
 use crate::replay_command::replay_on;
 use std::alloc::Global;
@@ -18,9 +21,13 @@ struct Run {
 }
 
 fn replay(alloc: Global, script: &str) -> Run {
+    replay_bytes(alloc, script.as_bytes())
+}
+
+fn replay_bytes(alloc: Global, script: &[u8]) -> Run {
     let mut out = Vec::new(alloc);
     let mut faults = Vec::new(alloc);
-    let mut input = script.as_bytes();
+    let mut input = script;
     let status = replay_on(alloc, &mut input, &mut out, &mut faults);
     Run {
         status,
