@@ -12,3 +12,4 @@ pub mod Empty
 pub mod Shelves
 pub mod Asked
 pub mod Going
+pub mod Arranged

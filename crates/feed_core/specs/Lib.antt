@@ -7,3 +7,4 @@ pub mod Answered
 pub mod Nodes
 pub mod Step
 pub mod Slots
+pub mod Arranged

@@ -1,9 +1,10 @@
-ghost use Rattle.std.specs.Prelude.{◌≡◌, ◌↔◌, false, ◌≤◌, [], Some, None, IfOk, IfSome, IfNone, OnOk, OnErr, length, insert, not};
+ghost use Rattle.std.specs.Prelude.{◌≡◌, ◌↔◌, false, ◌≤◌, [], Some, None, IfOk, IfSome, IfNone, OnOk, OnErr, length, insert, not, IsPermutation};
 ghost use Rattle.std.specs.List.{IsDistinct};
 ghost use Rattle.feed_names.specs.ReleaseName.{name_eq};
 ghost use Rattle.feed_model.specs.Content.{Record as kept_record, AreParts, names, record_of};
 ghost use Rattle.feed_model.specs.Change.{changed, grown, insert_record, is_earlier, merged, new_record, without_earlier};
 ghost use Rattle.feed_parts.specs.Shown.{shown_parts};
+ghost use Rattle.feed_core.specs.Arranged.{AreSame, IsArranged};
 ghost use Rattle.feed_core.specs.Shown.{shown, shown_record, IsRecordAt};
 
 use crate::keep::{Change, Keep};
@@ -34,12 +35,12 @@ impl ListKeep {
 
     /// A keeper of these records, which it puts in order. It takes no memory. Where a name stands twice, `load` answers
     /// `Damaged`.
-    pub fn of(alloc: Global, records: Vec<Record>) -> ListKeep {
+    pub fn of(alloc: Global, records: Vec<Record>) -> ListKeep
+        ensures { IsArranged (shown records.items) (shown result.records.items) }
+    {
         let mut records = records;
-        records.sort_unstable_by(|one, other| one.name.text().cmp(other.name.text()));
-        for record in &mut records {
-            record.parts.sort_unstable_by_key(|part| part.first);
-        }
+        sort_by_name(&mut records);
+        sort_parts(&mut records);
         ListKeep { alloc, records }
     }
 }
@@ -176,6 +177,20 @@ fn place_for(records: &[Record], name: &ReleaseName) -> usize
         }
     }
     records.len()
+}
+
+fn sort_by_name(records: &mut Vec<Record>)
+    ensures { IsPermutation records.old.items records.new.items }
+{
+    records.sort_unstable_by(|one, other| one.name.text().cmp(other.name.text()));
+}
+
+fn sort_parts(records: &mut Vec<Record>)
+    ensures { AreSame (shown records.old.items) (shown records.new.items) }
+{
+    for at in 0..records.len() {
+        records[at].parts.sort_unstable_by_key(|part| part.first);
+    }
 }
 
 // Whether a name stands twice.
