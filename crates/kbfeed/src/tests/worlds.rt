@@ -1,6 +1,7 @@
 // Worlds of several nodes, their restarts and their stops.
 use super::{ACTA, BETA, HEADER, replay};
-use feed_core::{Change, Keep, KeepFault, ListKeep, Part, Record, ReplayFault, State, WorldEvent};
+use crate::script;
+use feed_core::{Change, Keep, KeepFault, ListKeep, Part, Record, ReplayFault, State};
 use feed_names::ReleaseName;
 use std::alloc::Global;
 use std::io::Write;
@@ -450,49 +451,28 @@ impl<K: Keep + Drop> Keep for FailingOnce<K> {
     }
 }
 
-fn name_of(alloc: Global, text: &str) -> Result<ReleaseName, Fail> {
-    Ok(ReleaseName::parse(alloc, text.as_bytes())?)
-}
-
 #[test]
 fn a_node_is_down_until_a_restart_succeeds(rt: HostRuntime) -> Result<(), Fail> {
-    let name = || name_of(rt.alloc(), J);
-    let package = || Vec::from_slice(rt.alloc(), b"Acme_Global_All");
-    let events = [
-        WorldEvent::Publish {
-            name: name()?,
-            bytes: Vec::from_slice(rt.alloc(), b"x")?,
-        },
-        WorldEvent::Offer {
-            node: 1,
-            name: name()?,
-        },
-        WorldEvent::Restart { node: 1 },
-        WorldEvent::Report {
-            node: 1,
-            package: package()?,
-        },
-        WorldEvent::Lose {
-            node: 1,
-            name: name()?,
-        },
-        WorldEvent::Restart { node: 1 },
-        WorldEvent::Report {
-            node: 1,
-            package: package()?,
-        },
-        WorldEvent::Offer {
-            node: 1,
-            name: name()?,
-        },
-    ];
+    let script = format!(in rt.alloc();
+        "nodes 1
+publish {J} {HEADER}{ACTA}
+offer 1 {J}
+restart 1
+report 1 Acme_Global_All
+lose 1 {J}
+restart 1
+report 1 Acme_Global_All
+offer 1 {J}
+"
+    )?;
+    let script = script::read(rt.alloc(), script.as_bytes())?;
     let keeper = FailingOnce {
         keeper: ListKeep::new(rt.alloc()),
         loads: 0,
         failed: 0,
     };
     let keepers = Vec::from_array(rt.alloc(), [keeper])?;
-    let Ok(shown) = feed_core::replay(rt.alloc(), keepers, &events) else {
+    let Ok(shown) = feed_core::replay(rt.alloc(), keepers, &script.events) else {
         return Err(Fail::new("the replay ended"));
     };
     let mut printed = Vec::new(rt.alloc());
@@ -516,7 +496,7 @@ known
 #[test]
 fn a_world_starts_on_empty_keepers(rt: HostRuntime) -> Result<(), Fail> {
     let record = Record {
-        name: name_of(rt.alloc(), J)?,
+        name: ReleaseName::parse(rt.alloc(), J.as_bytes())?,
         size: 10,
         state: State::Staged,
         parts: Vec::from_array(
