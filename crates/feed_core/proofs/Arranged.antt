@@ -19,13 +19,15 @@ same_all (r ∷ rs) = (same-refl r, same_all rs)
 pub same_set : (c : Content) (rs : List code.Record) (at : ℕ) (x y : code.Record) → AreSame c (shown rs) → at < length rs → x ≡ get_or rs at x → y.name ≡ x.name → y.size ≡ x.size → y.state ≡ x.state → IsPermutation x.parts.items y.parts.items → AreSame c (shown (set rs at y))
 same_set c [] at x y so lt here name size state parts = absurd (omega arith)
 same_set [] (r ∷ rs) at x y so lt here name size state parts = absurd so
-same_set (b ∷ bs) (r ∷ rs) zero x y so lt here name size state parts =
-    (record {
-      name = name ∙ ap (λ (z : code.Record). z.name) here ∙ so.0.name;
-      size = size ∙ ap (λ (z : code.Record). z.size) here ∙ so.0.size;
-      state = state ∙ ap (λ (z : code.Record). z.state) here ∙ so.0.state;
-      parts = IsPermutation-trans b.parts (shown_parts r.parts.items) (shown_parts y.parts.items) so.0.parts (subst (λ (z : code.Record). IsPermutation (shown_parts z.parts.items) (shown_parts y.parts.items)) here (IsPermutation-map shown_part x.parts.items y.parts.items parts));
-    }, so.1)
+same_set (b ∷ bs) (r ∷ rs) zero x y so lt here name size state parts = (
+  record {
+    name = name ∙ ap (λ (z : code.Record). z.name) here ∙ so.0.name;
+    size = size ∙ ap (λ (z : code.Record). z.size) here ∙ so.0.size;
+    state = state ∙ ap (λ (z : code.Record). z.state) here ∙ so.0.state;
+    parts = IsPermutation-trans b.parts (shown_parts r.parts.items) (shown_parts y.parts.items) so.0.parts (subst (λ (z : code.Record). IsPermutation (shown_parts z.parts.items) (shown_parts y.parts.items)) here (IsPermutation-map shown_part x.parts.items y.parts.items parts));
+  },
+  so.1,
+)
 same_set (b ∷ bs) (r ∷ rs) (suc at) x y so lt here name size state parts = (so.0, same_set bs rs at x y so.1 (omega arith) here name size state parts)
 
 pub arranged : (given moved kept : List code.Record) → IsPermutation given moved → AreSame (shown moved) (shown kept) → IsArranged (shown given) (shown kept)

@@ -8,3 +8,4 @@ pub mod Nodes
 pub mod Step
 pub mod Slots
 pub mod Arranged
+pub mod Printed

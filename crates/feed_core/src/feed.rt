@@ -63,10 +63,10 @@ impl<K: Keep + Drop> Feed<K> {
     ghost use Rattle.feed_core.specs.Told.{told};
     ghost use Rattle.feed_core.specs.Cause.{HasFailed, IsAnswerCounted};
 
-    /// Opens a feed on what a keeper holds. `Damaged` where this is nothing that a feed ever keeps: more than 256
-    /// releases, a size above the limit of a file, parts that are empty, above the limit of a piece, out of order or
-    /// outside of the file, a release beside a later active one of its package, or a state that its file does not bear
-    /// out. The file of each whole release is read once.
+    /// Opens a feed on what a keeper holds. `Damaged` where this is nothing that a feed ever keeps: a name that stands
+    /// twice, more than 256 releases, a size above the limit of a file, parts that are empty, above the limit of a
+    /// piece, out of order or outside of the file, a release beside a later active one of its package, or a state that
+    /// its file does not bear out. The file of each whole release is read once.
     pub fn open(alloc: Global, mut keeper: K) -> Result<Feed<K>, OpenFault<K>>
         ensures content { IfOk result (λ feed. K.clean feed.keeper → content_of feed.releases.items ≡ K.content keeper) }
         ensures sound { IfOk result (λ feed. IsSound (content_of feed.releases.items)) }

@@ -50,7 +50,7 @@ pub enum Change<'a> {
 /// ends, and then it was clean as the call began: memory always is, a file while nobody else writes it and the disk
 /// gives back what was written.
 pub trait Keep {
-    /// The records, one for each name.
+    /// The records: one for each name, in the store of a feed.
     ghost content: { Self → Content };
 
     ghost clean: { Self → Type 0 };

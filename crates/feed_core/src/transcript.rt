@@ -1,4 +1,7 @@
-ghost use Rattle.std.specs.Prelude.{◌≡◌};
+ghost use Rattle.std.specs.Prelude.{◌≡◌, OnOk};
+ghost use Rattle.std.specs.List.{flat_map};
+ghost use Rattle.std.specs.Io.KnownBytes.{Appends};
+ghost use Rattle.feed_core.specs.Printed.{printed};
 
 use feed_answer::WriteFault;
 use feed_world::Line;
@@ -27,9 +30,14 @@ impl<K: Drop> Transcript<K> {
     }
 
     /// Writes the lines, each ended by LF. Where the writer fails, nothing is said of how much it took.
-    pub fn write<W: Write>(&self, writer: &mut W) -> Result<(), WriteFault> {
+    pub fn write<W: Write>(&self, writer: &mut W) -> Result<(), WriteFault>
+        ensures { OnOk result (Appends (W.contents writer.old) (W.contents writer.new) (flat_map printed self.now.lines.items)) }
+    {
         for line in &self.lines {
-            line.write(writer).map_err(|_| WriteFault::Write)?;
+            match line.write(writer) {
+                Ok(()) => {}
+                Err(_) => return Err(WriteFault::Write),
+            }
         }
         Ok(())
     }

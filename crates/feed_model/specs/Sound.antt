@@ -27,7 +27,7 @@ pub record IsSoundRecord (r : Record) : Type 0 where
   pub inside : All (λ p. end_of p ≤ r.size) r.parts
   pub state : BearsOut r.state r.size r.parts
 
--- one record for each name, and as many as a feed may have; and none of an earlier day than an active one of its package, so of each package one at most is active
+-- one record for each name, and at most as many as a feed may have; and none of an earlier day than an active one of its package, so of each package one at most is active
 pub record IsSound (c : Content) : Type 0 where
   pub distinct : IsDistinct name_eq (names c)
   pub few : length c ≤ max_held

@@ -14,7 +14,7 @@ file_of [] n = None
 file_of (Publish m bytes ∷ events) n = if name_eq m n then Some bytes else file_of events n
 file_of (event ∷ events) n = file_of events n
 
--- the event changes nothing at this node
+-- the event is none that may change this node
 abbrev pub IsQuiet : ℕ → WorldEvent → Type 0
 IsQuiet node (Tell i sent) = i ≢ node
 IsQuiet node (Restart i) = i ≢ node
@@ -22,7 +22,7 @@ IsQuiet node (StopBefore i sent) = i ≢ node
 IsQuiet node (StopAfter i sent) = i ≢ node
 IsQuiet node event = Unit {0}
 
--- from one place of the list to the other, whichever comes first, nothing changes at this node
+-- from one place of the list to the other, whichever comes first, no event may change this node
 abbrev pub IsOneMoment : List WorldEvent → ℕ → ℕ → ℕ → Type 0
 IsOneMoment events node j k = (m : ℕ) (event : WorldEvent) → min j k ≤ m → m ≤ max j k → slice_get events m ≡ Some event → IsQuiet node event
 

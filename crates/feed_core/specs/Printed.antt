@@ -1,0 +1,8 @@
+-- How a line of a transcript is printed.
+use Rattle.std.specs.Prelude.{ℕ, List}
+use Rattle.feed_world.specs.declared.line.Line as code_line
+use Rattle.feed_world.specs.Shown.{shown_line}
+use Rattle.feed_world.specs.LineText.{line_text}
+
+abbrev pub printed : code_line.Line → List ℕ
+printed line = line_text (shown_line line)
