@@ -1,6 +1,5 @@
 -- What the active release's holdings answer is what its whole file answers.
-use Rattle.std.proofs.Common.{◌≡◌, ◌<◌, ℕ, List, length, get_or, Option, Some, None, Ok, Err, refl, sym, ◌∙◌, ap, subst, arith}
-use Rattle.feed_names.specs.ReleaseName.{Name}
+use Rattle.std.proofs.Common.{◌≡◌, ◌<◌, ℕ, List, length, get_or, Some, None, Ok, sym, ◌∙◌, ap, subst}
 use Rattle.feed_kbart.specs.HoldingsValue.{HoldingsValue}
 use Rattle.feed_kbart.specs.Files.{holdings_of}
 use Rattle.feed_answer.specs.QueryValue.{QueryValue}
@@ -9,10 +8,9 @@ use Rattle.feed_answer.specs.Answers.{answer_of}
 use Rattle.feed_model.specs.declared.state.State.{State}
 use Rattle.feed_model.specs.declared.state.State.TheVariants.{Active}
 use Rattle.feed_model.specs.History.{History, Reports}
-use Rattle.feed_model.specs.Content.{Record, record_of, IsContent}
+use Rattle.feed_model.specs.Content.{record_of, IsContent}
 use Rattle.feed_model.proofs.Reports.{file_of_record}
 use Rattle.feed_core.specs.ReleaseValue.{ReleaseValue, content_of, IsActiveOf, IsKnown}
-use Rattle.feed_core.specs.declared.feed.AnswerFault.TheVariants.{Memory}
 use Rattle.feed_core.specs.Answered.{IsAnswered}
 use Rattle.feed_core.proofs.Finding.{own_at, reports_at}
 

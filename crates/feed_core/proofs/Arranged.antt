@@ -1,7 +1,6 @@
 -- Records that are put in order.
-use Rattle.std.proofs.Common.{◌≡◌, ◌<◌, ℕ, zero, suc, List, [], ◌∷◌, length, map, get_or, set, IsPermutation, refl, sym, ◌∙◌, ap, subst, arith}
+use Rattle.std.proofs.Common.{◌≡◌, ◌<◌, ℕ, zero, suc, List, [], ◌∷◌, length, get_or, set, IsPermutation, refl, ◌∙◌, ap, subst, arith}
 use Rattle.std.proofs.lemmas.List.Sorted.{IsPermutation-refl, IsPermutation-map, IsPermutation-trans}
-use Rattle.feed_parts.specs.declared.part.Part as part
 use Rattle.feed_parts.specs.Shown.{shown_part, shown_parts}
 use Rattle.feed_model.specs.Content.{Record, Content}
 use Rattle.feed_core.specs.declared.record.Record as code

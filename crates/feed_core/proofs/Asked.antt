@@ -1,5 +1,5 @@
 -- What a feed answers, as a world shows it.
-use Rattle.std.proofs.Common.{◌≡◌, ℕ, List, [], ◌++◌, Option, Some, Result, Ok, Err, inl, refl, sym, ◌∙◌, ap, subst}
+use Rattle.std.proofs.Common.{◌≡◌, ℕ, List, [], ◌++◌, Some, Ok, inl, ◌∙◌, ap, subst}
 use Rattle.feed_names.specs.ReleaseName.{Name, text_of}
 use Rattle.feed_kbart.specs.Files.{holdings_of}
 use Rattle.feed_answer.specs.QueryValue.{QueryValue}

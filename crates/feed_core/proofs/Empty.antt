@@ -1,8 +1,8 @@
 -- Nothing happened, and nothing is kept.
-use Rattle.std.proofs.Common.{◌≡◌, ◌+◌, ◌++◌, ℕ, zero, suc, Bool, true, false, List, [], ◌∷◌, length, replicate, refl, sym, ◌∙◌, ap, subst, arith}
+use Rattle.std.proofs.Common.{◌≡◌, ◌++◌, Bool, true, false, List, [], ◌∷◌, length, sym, subst}
 use Rattle.std.specs.List.{IsDistinct}
 use Rattle.feed_model.specs.History.{History}
-use Rattle.feed_world.specs.World.{Node, start}
+use Rattle.feed_world.specs.World.{start}
 use Rattle.feed_model.specs.Content.{IsContent}
 use Rattle.feed_core.specs.Step.{AreNodes}
 

@@ -1,15 +1,14 @@
 -- Releases, found by name.
-use Rattle.std.proofs.Common.{◌≡◌, ◌≢◌, ◌<◌, ◌≤◌, ◌+◌, ℕ, zero, suc, Bool, true, false, cond, List, [], ◌∷◌, ◌++◌, length, map, get_or, set, insert, filter, Option, Some, None, MatchOption, refl, sym, ◌∙◌, ap, subst, arith}
+use Rattle.std.proofs.Common.{◌≡◌, ◌<◌, ◌≤◌, ℕ, zero, suc, Bool, true, false, List, [], ◌∷◌, length, get_or, set, insert, filter, Some, None, refl, sym, ◌∙◌, ap, subst, arith}
 use Rattle.std.specs.List.{IsDistinct, AllByRecursion}
 use Rattle.std.proofs.lemmas.Map.Keys.{IsDistinct-head, IsDistinct-tail}
 use Rattle.feed_names.specs.ReleaseName.{Name, name_eq, IsEarlier}
 use Rattle.feed_model.specs.declared.state.State.TheVariants.{Active}
 use Rattle.feed_model.specs.History.{History, Reports}
-use Rattle.feed_model.specs.Content.{Record, Content, names, record_of, IsContent}
+use Rattle.feed_model.specs.Content.{Record, names, record_of, IsContent}
 use Rattle.feed_model.specs.Change.{changed, comes_before, insert_record, NoneIsLater}
 use Rattle.feed_model.specs.Handles.{HasLaterActive}
 use Rattle.feed_model.proofs.Names.{name_self}
-use Rattle.feed_model.proofs.Lookups.{name-record_of}
 use Rattle.feed_model.proofs.Reports.{report_some, report_none}
 use Rattle.feed_core.specs.ReleaseValue.{ReleaseValue, content_of, IsPlaceOf, IsActiveAfter, IsActiveOf}
 

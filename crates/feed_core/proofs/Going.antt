@@ -1,9 +1,9 @@
 -- A step of one node, as a step of the world; and lists that go on together.
-use Rattle.std.proofs.Common.{◌≡◌, ◌<◌, ◌≤◌, ◌+◌, ◌++◌, ℕ, zero, suc, Bool, List, [], ◌∷◌, length, get_or, slice_get, Option, Some, None, refl, sym, ◌∙◌, ap, subst, arith}
+use Rattle.std.proofs.Common.{◌≡◌, ◌+◌, ◌++◌, ℕ, suc, Bool, List, [], ◌∷◌, length, slice_get, Some, refl, sym, ◌∙◌, ap, subst, arith}
 use Rattle.std.specs.Borrow.{Bor}
 use Rattle.feed_model.specs.History.{History}
 use Rattle.feed_model.specs.Content.{Content, IsContent}
-use Rattle.feed_world.specs.World.{World, Node, WorldEvent, Publish, Line, Shelf, Happens, start}
+use Rattle.feed_world.specs.World.{World, Node, WorldEvent, Line, Shelf, Happens}
 use Rattle.feed_core.specs.Step.{AllClean, AreNodes, AreKept, Goes, GoesTo, IsShelf}
 
 -- a node goes on, and the published files stay

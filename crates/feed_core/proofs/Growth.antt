@@ -1,26 +1,25 @@
 -- New parts of a release: how many places are missing with them, and what the commit owes and makes.
-use Rattle.std.proofs.Common.{◌≡◌, ◌≢◌, ◌≤◌, ◌<◌, ◌+◌, ◌-◌, ℕ, zero, suc, List, [], ◌∷◌, length, get_or, set, Option, Some, None, IsSome, refl, sym, ◌∙◌, ap, subst, arith, true}
+use Rattle.std.proofs.Common.{◌≡◌, ◌≢◌, ◌≤◌, ◌<◌, ◌+◌, ◌-◌, ℕ, zero, suc, List, [], ◌∷◌, length, get_or, set, Option, Some, None, refl, sym, ◌∙◌, ap, subst, arith, true}
 use Rattle.std.specs.Prelude.{if◌then◌else◌, Bool}
 use Rattle.std.proofs.Math.Dec.{eqb-suc-zero}
 use Rattle.std.proofs.lemmas.List.Sums.{sum_by-cons}
 use Rattle.feed_names.specs.ReleaseName.{Name, name_eq}
 use Rattle.feed_kbart.specs.HoldingsValue.{HoldingsValue}
 use Rattle.feed_model.specs.declared.state.State.{State}
-use Rattle.feed_model.specs.declared.state.State.TheVariants.{Staged, Broken, Active}
-use Rattle.feed_model.specs.History.{byte_at}
+use Rattle.feed_model.specs.declared.state.State.TheVariants.{Staged, Broken}
 use Rattle.feed_model.specs.Reply.{max_file, missing_below}
-use Rattle.feed_model.specs.Content.{Part, Record, Content, record_of, byte_in, end_of, AreParts}
-use Rattle.feed_model.specs.Change.{merged, grown, changed, new_record, TakesParts, Completes, NoneIsLater, IsAllowed}
-use Rattle.feed_model.specs.Parts.{bytes_of, Reaches}
+use Rattle.feed_model.specs.Content.{Part, Record, Content, record_of, byte_in}
+use Rattle.feed_model.specs.Change.{merged, grown, changed, new_record, TakesParts}
+use Rattle.feed_model.specs.Parts.{bytes_of}
 use Rattle.feed_model.proofs.Names.{name_is}
 use Rattle.feed_model.proofs.Faults.{empty_bad}
 use Rattle.feed_model.proofs.Gaps.{missing_of_parts, bytes_of-merged}
-use Rattle.feed_model.proofs.Keeps.{none_missing, completes_by}
+use Rattle.feed_model.proofs.Keeps.{none_missing}
 use Rattle.feed_model.proofs.Merging.{byte_at-within}
 use Rattle.feed_parts.specs.declared.part.Part as code_part
 use Rattle.feed_parts.specs.Shown.{shown_parts}
 use Rattle.feed_parts.specs.Piece.{AreWithin, Covers, total_length}
-use Rattle.feed_core.specs.ReleaseValue.{ReleaseValue, IsRelease, IsKnown, content_of, IsPlaceOf, change_as}
+use Rattle.feed_core.specs.ReleaseValue.{ReleaseValue, IsRelease, IsKnown, content_of, IsPlaceOf}
 use Rattle.feed_core.proofs.Finding.{found_at, set_at}
 
 -- as many parts are seen as there are

@@ -1,7 +1,7 @@
 -- What the reader says of a file, as the feed reads it.
-use Rattle.std.proofs.Common.{◌≡◌, ◌≢◌, ◌≤◌, ◌<◌, List, [], ◌∷◌, ℕ, zero, suc, Option, Some, None, IsSome, Result, Ok, Err, length, get_or, slice_get, refl, sym, ◌∙◌, ap, subst, arith}
+use Rattle.std.proofs.Common.{◌≡◌, ◌≢◌, ◌<◌, List, [], ◌∷◌, ℕ, zero, suc, Option, Some, None, IsSome, Result, Ok, Err, length, slice_get, refl, sym, ◌∙◌, ap, subst, arith}
 use Rattle.feed_kbart.specs.HoldingsValue.{HoldingsValue}
-use Rattle.feed_kbart.specs.Files.{IsReadOf, bad_of, holdings_of}
+use Rattle.feed_kbart.specs.Files.{IsReadOf, bad_of}
 use Rattle.feed_kbart.specs.declared.fault.BadFile.{BadFile}
 use Rattle.feed_kbart.specs.declared.fault.KbartFault.{KbartFault}
 use Rattle.feed_kbart.specs.declared.fault.KbartFault.TheVariants.{Bad, Memory, Read, TooLong}

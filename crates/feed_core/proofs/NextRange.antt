@@ -1,10 +1,10 @@
 -- The next places of a file, seen from what is kept of it and from the history.
-use Rattle.std.proofs.Common.{◌≡◌, ◌<◌, ◌≤◌, ◌+◌, ℕ, List, suc, Option, Some, None, IsSome, inl, inr, sym, ◌∙◌, subst, ap}
+use Rattle.std.proofs.Common.{◌≡◌, ℕ, suc, Option, Some, None, IsSome, inl, inr, sym, ◌∙◌, subst}
 use Rattle.feed_names.specs.ReleaseName.{Name}
 use Rattle.feed_model.specs.History.{History, kept}
 use Rattle.feed_model.specs.Content.{Record, Content, IsContent, record_of, byte_in}
 use Rattle.feed_model.proofs.Tests.{of_record}
-use Rattle.feed_core.specs.NextRange.{IsNext, IsNextOf, IsNextRange}
+use Rattle.feed_core.specs.NextRange.{IsNextOf, IsNextRange}
 
 -- the same bytes are missing
 next_same : (f g : ℕ → Option ℕ) → ((place : ℕ) → f place ≡ g place) → (size max : ℕ) (range : Option (ℕ × ℕ)) → IsNextOf f size max range → IsNextOf g size max range

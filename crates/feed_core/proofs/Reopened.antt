@@ -1,10 +1,10 @@
 -- Records of a keeper, one after another, and what they say together.
-use Rattle.std.proofs.Common.{◌≡◌, ◌<◌, ◌≤◌, ◌+◌, ◌++◌, ℕ, zero, suc, List, [], ◌∷◌, length, map, get_or, ◌⊎◌, inl, inr, refl, sym, ◌∙◌, ap, subst, arith}
+use Rattle.std.proofs.Common.{◌≡◌, ◌<◌, ◌≤◌, ◌+◌, ◌++◌, ℕ, zero, suc, List, [], ◌∷◌, length, get_or, ◌⊎◌, inl, inr, refl, sym, ◌∙◌, ap, subst, arith}
 use Rattle.std.specs.List.{IsDistinct, All}
 use Rattle.std.proofs.lemmas.List.Elements.{All-nil, All-cons, All-head, All-tail, All-map, All-append}
 use Rattle.feed_names.specs.ReleaseName.{Name, name_eq}
 use Rattle.feed_model.specs.Reply.{max_held}
-use Rattle.feed_model.specs.Content.{Record, Content, names, record_of}
+use Rattle.feed_model.specs.Content.{Record, Content, names}
 use Rattle.feed_model.specs.Handles.{HasLaterActive}
 use Rattle.feed_model.specs.Sound.{IsSoundRecord, IsSound}
 use Rattle.feed_core.specs.declared.record.Record as code

@@ -1,5 +1,5 @@
 -- The published files of the code and of a world.
-use Rattle.std.proofs.Common.{◌≡◌, ◌≢◌, ◌++◌, ℕ, Bool, true, false, cond, List, [], ◌∷◌, Option, Some, None, option_map, ◌⊎◌, inl, inr, refl, sym, ◌∙◌, ap, subst}
+use Rattle.std.proofs.Common.{◌≡◌, ◌≢◌, ◌++◌, ℕ, Bool, true, false, cond, List, [], ◌∷◌, Option, Some, None, inl, inr, refl, sym, ◌∙◌, ap, subst}
 use Rattle.std.specs.Borrow.{Bor}
 use Rattle.std.specs.Map.{lookup}
 use Rattle.std.specs.BTreeMap.{is_at}
@@ -8,9 +8,8 @@ use Rattle.std.specs.Cmp.Lexicographic.{slice_cmp, bytes_decides}
 use Rattle.std.proofs.lemmas.Map.Text.{is_eq-slice_cmp}
 use Rattle.feed_names.specs.ReleaseName.{Name, name_eq, IsName, OneReleaseForText, OneTextForRelease, text_of as name_text}
 use Rattle.feed_model.specs.History.{or_else}
-use Rattle.feed_model.specs.Reply.{Case}
 use Rattle.feed_model.proofs.Names.{name_is, name_self}
-use Rattle.feed_world.specs.World.{Shelf, World, Publish, Line, Published, Refused, IsRefused, Happens, text_of}
+use Rattle.feed_world.specs.World.{Shelf, World, Publish, Published, Refused, Happens, text_of}
 use Rattle.feed_world.specs.declared.line.Why.TheVariants.{Republished}
 use Rattle.feed_world.proofs.Moves.{text_of-push, or_none}
 use Rattle.feed_core.specs.Step.{IsShelf, file_at}

@@ -1,10 +1,9 @@
 -- A run goes on by one step.
-use Rattle.std.proofs.Common.{Bor, ◌≡◌, ◌<◌, ◌+◌, ◌++◌, ℕ, Bool, List, [], ◌∷◌, length, map, take, get_or, refl, sym, ◌∙◌, ap, subst, arith}
+use Rattle.std.proofs.Common.{Bor, ◌≡◌, ◌<◌, ◌+◌, ◌++◌, ℕ, Bool, List, [], ◌∷◌, length, map, take, get_or, refl, sym, ap, subst}
 use Rattle.std.proofs.lemmas.List.{take_more}
 use Rattle.feed_model.specs.History.{History}
 use Rattle.feed_world.specs.World.{World, WorldEvent, Line, Shelf, Happens, Shows, start}
-use Rattle.feed_world.specs.Shown.{shown_event, shown_line}
-use Rattle.feed_core.specs.Step.{AllClean, AreNodes, Goes, GoesTo, HasShown}
+use Rattle.feed_core.specs.Step.{Goes, GoesTo, HasShown}
 
 pub shows-push : (w m v : World) (es : List WorldEvent) (ls : List Line) (e : WorldEvent) (l : Line) → Shows w es ls m → Happens m e l v → Shows w (es ++ e ∷ []) (ls ++ l ∷ []) v
 shows-push w m v [] [] e l s h = (v, subst (λ (x : World). Happens x e l v) (sym s) h, refl)

@@ -1,5 +1,5 @@
 -- Steps of nodes.
-use Rattle.std.proofs.Common.{◌≡◌, ◌≢◌, ◌<◌, ◌≤◌, ◌+◌, ℕ, zero, suc, Bool, true, false, List, [], ◌∷◌, length, get_or, Option, Some, None, Result, Ok, Err, slice_get, slice_set, insert, remove, ◌⊎◌, inl, inr, refl, sym, ◌∙◌, ap, subst, arith}
+use Rattle.std.proofs.Common.{◌≡◌, ◌<◌, ◌≤◌, ◌+◌, ℕ, zero, suc, Bool, true, List, [], ◌∷◌, length, get_or, Some, None, slice_get, slice_set, insert, remove, ◌⊎◌, inl, inr, refl, sym, ◌∙◌, ap, subst, arith}
 use Rattle.feed_model.specs.History.{History}
 use Rattle.feed_world.specs.World.{World, Node, WorldEvent, Line, Shelf, node_at, set_node, with_node, Happens}
 use Rattle.feed_core.specs.Step.{AllClean, AreNodes, Goes}

@@ -1,5 +1,5 @@
 -- Records in another order.
-use Rattle.std.specs.Prelude.{◌≡◌, List, [], ◌∷◌, IsPermutation}
+use Rattle.std.specs.Prelude.{◌≡◌, [], ◌∷◌, IsPermutation}
 use Rattle.feed_model.specs.Content.{Record, Content}
 
 -- the same record, with its parts in another order

@@ -1,11 +1,11 @@
 -- A node as a world sees it.
-use Rattle.std.specs.Prelude.{◌≡◌, ◌≢◌, ◌⊎◌, ℕ, Bool, true, false, List, [], Option, Some, None, Result, Ok, Err, MatchOption}
+use Rattle.std.specs.Prelude.{◌≡◌, ◌≢◌, ◌⊎◌, ℕ, Bool, true, false, List, [], Option, Result, Ok, Err, MatchOption}
 use Rattle.feed_names.specs.ReleaseName.{Name}
 use Rattle.feed_answer.specs.Queries.{query_of}
 use Rattle.feed_model.specs.declared.keep_fault.KeepFault as cause
 use Rattle.feed_model.specs.declared.keep_fault.KeepFault.TheVariants as causes
 use Rattle.feed_model.specs.History.{Event, History, IsFile, Reports}
-use Rattle.feed_model.specs.Content.{Content, IsContent}
+use Rattle.feed_model.specs.Content.{Content}
 use Rattle.feed_world.specs.declared.line.Why as why
 use Rattle.feed_world.specs.World.{Line, Text, Refused, OrMemory, none_says, file_says}
 use Rattle.feed_core.specs.declared.event.Event as code_event

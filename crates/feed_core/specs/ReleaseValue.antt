@@ -1,5 +1,5 @@
 -- What is seen of a recorded release.
-use Rattle.std.specs.Prelude.{◌≡◌, ◌≢◌, ◌<◌, ◌≤◌, ◌+◌, ℕ, true, false, List, Option, Some, None, Result, Ok, Err, map, length, slice_get, slice_index_or}
+use Rattle.std.specs.Prelude.{◌≡◌, ◌≢◌, ◌<◌, ◌≤◌, ◌+◌, ℕ, true, false, List, Option, Some, None, Result, Ok, Err, map, length, slice_index_or}
 use Rattle.feed_names.specs.ReleaseName.{Name, name_eq, IsEarlier}
 use Rattle.feed_kbart.specs.HoldingsValue.{HoldingsValue}
 use Rattle.feed_kbart.specs.Files.{holdings_of}

@@ -1,4 +1,4 @@
-use Rattle.std.proofs.Common.{◌≡◌, ap, ◌∙◌, not, rules}
+use Rattle.std.proofs.Common.{ap, ◌∙◌, not, rules}
 use Rattle.std.proofs.lemmas.Fn.{filter_same}
 use Rattle.feed_names.specs.ReleaseName.{Name}
 use Rattle.feed_model.specs.Change.{is_earlier}

@@ -1,4 +1,4 @@
-use Rattle.std.proofs.Common.{◌≡◌, List, get_or, sym, ◌∙◌, ap, subst}
+use Rattle.std.proofs.Common.{◌≡◌, List, sym, ◌∙◌, ap, subst}
 use Rattle.feed_model.specs.Content.{Part, Record, AreParts}
 use Rattle.feed_model.specs.Change.{grown, merged}
 use Rattle.feed_parts.specs.Shown.{shown_parts}

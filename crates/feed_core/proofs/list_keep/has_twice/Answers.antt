@@ -1,4 +1,4 @@
-use Rattle.std.proofs.Common.{◌≡◌, refl, arith}
+use Rattle.std.proofs.Common.{refl, arith}
 use Rattle.feed_core.proofs.Twice.{apart_next, apart_distinct, twice_not}
 use Rattle.feed_core.proofs.list_keep.has_twice.Goals as goal
 

@@ -1,5 +1,4 @@
-use Rattle.std.proofs.Common.{◌≡◌, false, arith, sym, ◌∙◌, subst, ap}
-use Rattle.feed_names.specs.ReleaseName.{Name}
+use Rattle.std.proofs.Common.{◌≡◌, false, arith, sym, ◌∙◌}
 use Rattle.feed_model.specs.Change.{comes_before}
 use Rattle.feed_core.proofs.Records.{insert_at}
 use Rattle.feed_core.proofs.list_keep.place_for.Goals as goal

@@ -1,4 +1,4 @@
-use Rattle.std.proofs.Common.{◌≡◌, ◌<◌, length, refl, arith}
+use Rattle.std.proofs.Common.{◌<◌, length, refl, arith}
 use Rattle.feed_core.specs.Shown.{shown}
 use Rattle.feed_core.proofs.Arranged.{same_all, same_set, same_length}
 use Rattle.feed_core.proofs.list_keep.sort_parts.Goals as goal

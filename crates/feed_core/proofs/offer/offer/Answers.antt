@@ -1,10 +1,7 @@
-use Rattle.std.proofs.Common.{◌≡◌, ◌≢◌, ◌<◌, ◌≤◌, ◌⊎◌, List, length, get_or, None, Err, inl, inr, refl, sym, ◌∙◌, ap, arith}
-use Rattle.feed_names.specs.ReleaseName.{Name}
+use Rattle.std.proofs.Common.{◌≡◌, ◌⊎◌, get_or, Err, inl, inr, refl, sym, ◌∙◌, ap, arith}
 use Rattle.feed_model.specs.declared.reply.Refusal.{Refusal}
 use Rattle.feed_model.specs.declared.reply.Refusal.TheVariants.{Memory, Device}
 use Rattle.feed_model.specs.History.{Answer}
-use Rattle.feed_model.specs.Content.{record_of}
-use Rattle.feed_model.specs.Change.{NoneIsLater}
 use Rattle.feed_model.proofs.Offers.{offer_older, offer_known, offer_wrong_size, offer_full, offer_refused, offer_noted, offer_noted_empty}
 use Rattle.feed_core.specs.ReleaseValue.{ReleaseValue, content_of}
 use Rattle.feed_core.proofs.Finding.{length-content_of, found_at, later_at, none_later}

@@ -1,13 +1,12 @@
-use Rattle.std.proofs.Common.{◌≡◌, ◌≢◌, ◌<◌, ◌≤◌, ◌+◌, ℕ, List, length, get_or, Option, None, Some, IfSome, IsSomeAnd, inl, inr, refl, sym, ◌∙◌, ap, subst, arith, true, false}
+use Rattle.std.proofs.Common.{◌≡◌, ◌≢◌, ◌<◌, ◌+◌, ℕ, length, Option, None, Some, IfSome, IsSomeAnd, inl, inr, refl, subst, arith}
 use Rattle.std.proofs.lemmas.Bool.Decides.{eqb_tells}
 use Rattle.feed_model.specs.Content.{Record, record_of}
-use Rattle.feed_model.specs.Parts.{IsSmall, Reaches}
+use Rattle.feed_model.specs.Parts.{Reaches}
 use Rattle.feed_model.proofs.Pieces.{piece_bad, piece_older, piece_unknown, piece_wrong_size, piece_outside, piece_conflict, piece_repeated}
-use Rattle.feed_parts.specs.Piece.{DiffersIn, AgreesIn, Covers}
 use Rattle.feed_core.specs.declared.overlap.Overlap.TheVariants.{New}
 use Rattle.feed_core.specs.ReleaseValue.{content_of, LiesOver}
 use Rattle.feed_core.proofs.Finding.{later_at, none_later}
-use Rattle.feed_core.proofs.Growth.{found_here, kept_at}
+use Rattle.feed_core.proofs.Growth.{found_here}
 use Rattle.feed_core.proofs.piece.piece.Goals as goal
 
 -- a total that is no other size is this size

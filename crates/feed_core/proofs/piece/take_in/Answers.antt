@@ -1,18 +1,17 @@
-use Rattle.std.proofs.Common.{◌≡◌, ◌≢◌, ◌⊎◌, ◌<◌, ◌≤◌, ◌+◌, ℕ, List, length, get_or, set, Option, None, Some, Ok, Err, IsSome, inl, inr, refl, sym, ◌∙◌, ap, subst, arith, true, false}
-use Rattle.feed_names.specs.ReleaseName.{Name}
+use Rattle.std.proofs.Common.{◌≡◌, ◌⊎◌, ◌<◌, ℕ, List, length, Err, inl, inr, refl, sym, ◌∙◌, ap, arith}
 use Rattle.feed_model.specs.declared.reply.Refusal.{Refusal}
 use Rattle.feed_model.specs.declared.reply.Refusal.TheVariants.{Memory, Device}
 use Rattle.feed_model.specs.declared.state.State.TheVariants.{Staged, Broken, Active}
 use Rattle.feed_model.specs.History.{Answer}
-use Rattle.feed_model.specs.Content.{Part, Record, Content, record_of, byte_in}
-use Rattle.feed_model.specs.Change.{grown, changed, merged, without_earlier, IsAllowed}
-use Rattle.feed_model.specs.Parts.{Adds, Reaches}
+use Rattle.feed_model.specs.Content.{Part, byte_in}
+use Rattle.feed_model.specs.Change.{merged, without_earlier}
+use Rattle.feed_model.specs.Parts.{Adds}
 use Rattle.feed_model.proofs.Keeps.{none_missing, completes_by}
 use Rattle.feed_model.proofs.Pieces.{piece_refused}
 use Rattle.feed_model.proofs.Arrivals.{piece_stored, piece_broken, piece_activated}
 use Rattle.feed_parts.specs.Shown.{shown_parts}
 use Rattle.feed_parts.specs.Piece as parts
-use Rattle.feed_core.specs.ReleaseValue.{ReleaseValue, content_of, IsPlaceOf, change_as}
+use Rattle.feed_core.specs.ReleaseValue.{ReleaseValue, content_of}
 use Rattle.feed_core.proofs.Judged.{known_good, known_bad}
 use Rattle.feed_core.proofs.Growth.{length-shown, takes, found_here, name_at, set_back, grown_at}
 use Rattle.feed_core.proofs.piece.take_in.Goals as goal

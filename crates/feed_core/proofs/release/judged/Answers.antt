@@ -1,4 +1,3 @@
-use Rattle.std.proofs.Common.{◌≡◌}
 use Rattle.feed_model.specs.Change.{merged}
 use Rattle.feed_parts.specs.Shown.{shown_parts}
 use Rattle.feed_core.proofs.Judged.{judged}

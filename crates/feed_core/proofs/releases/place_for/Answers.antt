@@ -1,4 +1,4 @@
-use Rattle.std.proofs.Common.{◌≡◌, false, arith, sym, ◌∙◌, subst, ap}
+use Rattle.std.proofs.Common.{◌≡◌, false, arith, sym, ◌∙◌, ap}
 use Rattle.feed_names.specs.ReleaseName.{Name}
 use Rattle.feed_model.specs.Change.{comes_before}
 use Rattle.feed_core.proofs.Finding.{insert_at}

@@ -1,7 +1,4 @@
-use Rattle.std.proofs.Common.{◌≡◌, subst, arith, refl}
-use Rattle.feed_names.specs.ReleaseName.{Name}
-use Rattle.feed_core.specs.ReleaseValue.{ReleaseValue, content_of}
-use Rattle.feed_model.specs.Handles.{HasLaterActive}
+use Rattle.std.proofs.Common.{arith, refl}
 use Rattle.feed_core.proofs.Finding.{later_at}
 use Rattle.feed_core.proofs.Reopened.{passed_at, none_later_next, none_later_all, one_later}
 use Rattle.feed_core.proofs.reopen.are_current.Goals as goal

@@ -1,7 +1,6 @@
-use Rattle.std.proofs.Common.{rules, ◌≡◌, List, [], length, inl, inr, refl, sym, ◌∙◌, ap, subst, arith}
+use Rattle.std.proofs.Common.{rules, List, [], length, inl, inr, refl, ap, subst, arith}
 use Rattle.feed_core.specs.declared.record.Record as code
-use Rattle.feed_core.specs.ReleaseValue.{content_of}
-use Rattle.feed_core.proofs.Reopened.{AreReopened, reopened_start, reopened_next, reopened_all, reopened_count, reopened_not, reopened_many, reopened_sound, reopened_late, none_left}
+use Rattle.feed_core.proofs.Reopened.{AreReopened, reopened_start, reopened_next, reopened_all, reopened_count, reopened_not, reopened_sound, reopened_late, none_left}
 use Rattle.feed_core.proofs.reopen.reopened.Goals as goal
 use Rattle.feed_core.proofs.reopen.reopened.Goals.{In-None}
 

@@ -1,4 +1,3 @@
-use Rattle.std.proofs.Common.{◌≡◌}
 use Rattle.feed_core.proofs.Asked.{asked_text}
 use Rattle.feed_core.proofs.slot.asked.Goals as goal
 

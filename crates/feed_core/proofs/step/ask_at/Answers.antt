@@ -1,9 +1,7 @@
-use Rattle.std.proofs.Common.{◌≡◌, ◌<◌, ℕ, ◌⊎◌, ◌∷◌, length, refl, sym, ◌∙◌, ap, Ok, Err, Some, None, inl, inr, true, false, arith, rules, subst, Bool}
-use Rattle.feed_world.specs.World.{Text, World, Node, Sent, Shelf, Tell, StopAfter, Ask, Stopped, Replied, IsDown, Refused, arriving}
-use Rattle.feed_world.specs.declared.line.Why.TheVariants.{NoNode, Down, Feed}
-use Rattle.feed_core.specs.Nodes.{shown_arrived}
-use Rattle.feed_core.specs.Told.{told}
-use Rattle.feed_core.proofs.Steps.{goes_none, goes_known, goes_stay, goes_up, same_element}
+use Rattle.std.proofs.Common.{◌≡◌, ◌<◌, ◌⊎◌, length, refl, true, false, rules, subst, Bool}
+use Rattle.feed_world.specs.World.{Text, Ask, Refused}
+use Rattle.feed_world.specs.declared.line.Why.TheVariants.{NoNode, Down}
+use Rattle.feed_core.proofs.Steps.{goes_none, goes_stay, same_element}
 use Rattle.feed_core.proofs.step.ask_at.Goals as goal
 
 pub returns-in_default : goal.returns-in_default

@@ -1,5 +1,5 @@
-use Rattle.std.proofs.Common.{List, subst, sym, ◌≡◌, ◌<◌, ℕ, ◌⊎◌, length, refl, inl, inr, true, false, arith, rules}
-use Rattle.feed_world.specs.World.{World, Node, Restart, Restarted, IsDown, Refused}
+use Rattle.std.proofs.Common.{List, subst, sym, ◌≡◌, ◌<◌, ◌⊎◌, length, refl, inl, inr, true, false, arith, rules}
+use Rattle.feed_world.specs.World.{Restart, Restarted, IsDown, Refused}
 use Rattle.feed_world.specs.declared.line.Why.TheVariants.{NoNode}
 use Rattle.feed_core.specs.Step.{Goes}
 use Rattle.feed_core.proofs.Steps.{none_at, goes_set, goes_not}

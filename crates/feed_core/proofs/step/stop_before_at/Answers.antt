@@ -1,8 +1,7 @@
-use Rattle.std.proofs.Common.{List, subst, ◌≡◌, ◌<◌, ℕ, ◌⊎◌, ◌∷◌, length, refl, sym, ◌∙◌, ap, Ok, Err, Some, None, inl, inr, true, false, arith, rules}
-use Rattle.feed_world.specs.World.{World, Node, Sent, Shelf, Tell, StopBefore, Report, Stopped, Replied, IsDown, Active, Inactive, Refused, arriving}
-use Rattle.feed_world.specs.declared.line.Why.TheVariants.{NoNode, Down, Feed}
+use Rattle.std.proofs.Common.{List, subst, ◌≡◌, ◌<◌, ◌⊎◌, length, refl, sym, ◌∙◌, ap, inl, inr, true, false, arith, rules}
+use Rattle.feed_world.specs.World.{Shelf, StopBefore, Stopped, IsDown, Refused, arriving}
+use Rattle.feed_world.specs.declared.line.Why.TheVariants.{NoNode, Down}
 use Rattle.feed_core.specs.Nodes.{shown_arrived}
-use Rattle.feed_core.specs.Told.{told}
 use Rattle.feed_core.specs.Step.{Goes}
 use Rattle.feed_core.proofs.Steps.{goes_none, goes_known, goes_stay, goes_up}
 use Rattle.feed_core.proofs.step.stop_before_at.Goals as goal

@@ -1,4 +1,4 @@
-use Rattle.std.proofs.Common.{◌≡◌, sym, ◌∙◌, ap, arith, insert}
+use Rattle.std.proofs.Common.{◌∙◌, ap, arith, insert}
 use Rattle.feed_core.proofs.Steps.{insert-remove}
 use Rattle.feed_core.proofs.step.stopped_after.Goals as goal
 

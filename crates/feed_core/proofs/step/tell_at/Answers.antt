@@ -1,5 +1,5 @@
-use Rattle.std.proofs.Common.{◌≡◌, ◌<◌, ℕ, ◌⊎◌, ◌∷◌, length, refl, sym, ◌∙◌, ap, Ok, Err, Some, None, inl, inr, true, false, arith, rules}
-use Rattle.feed_world.specs.World.{World, Node, Sent, Shelf, Tell, StopAfter, Report, Stopped, Replied, IsDown, Active, Inactive, Refused, arriving}
+use Rattle.std.proofs.Common.{◌≡◌, ◌<◌, ◌⊎◌, ◌∷◌, length, refl, ◌∙◌, ap, Ok, Err, true, false, arith, rules}
+use Rattle.feed_world.specs.World.{Shelf, Tell, Replied, Refused, arriving}
 use Rattle.feed_world.specs.declared.line.Why.TheVariants.{NoNode, Down, Feed}
 use Rattle.feed_core.specs.Nodes.{shown_arrived}
 use Rattle.feed_core.specs.Told.{told}

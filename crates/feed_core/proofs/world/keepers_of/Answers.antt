@@ -1,8 +1,8 @@
-use Rattle.std.proofs.Common.{◌≡◌, List, [], length, sym, ◌∙◌, ap, subst, arith}
+use Rattle.std.proofs.Common.{length, ap, arith}
 use Rattle.feed_core.specs.ReleaseValue.{content_of}
 use Rattle.feed_core.specs.Slots.{IsSlotClean, SlotStands}
 use Rattle.feed_core.proofs.Reopened.{none_left}
-use Rattle.feed_core.proofs.Going.{Went, IsKeptOf, AreOf, went_start, went_next, went_all, went_count, kept_clean, kept_all}
+use Rattle.feed_core.proofs.Going.{IsKeptOf, went_next, went_all, went_count, kept_clean, kept_all}
 use Rattle.feed_core.proofs.world.keepers_of.Goals as goal
 
 pub push_reserved-requires : goal.push_reserved-requires

@@ -1,7 +1,6 @@
-use Rattle.std.proofs.Common.{◌≡◌, ℕ, List, length, map, sym, ◌∙◌, ap, subst, arith}
-use Rattle.feed_world.specs.World.{World, Shows, start}
+use Rattle.std.proofs.Common.{ℕ, map, ◌∙◌, subst}
+use Rattle.feed_world.specs.World.{Shows, start}
 use Rattle.feed_world.specs.Shown.{shown_event, shown_line}
-use Rattle.feed_core.specs.Step.{AllClean, AreKept}
 use Rattle.feed_core.proofs.world.replay.Goals as goal
 
 pub returns-in-Ok-show_all-clause-shown : goal.returns-in-Ok-show_all-clause-shown

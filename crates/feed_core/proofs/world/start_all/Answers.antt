@@ -1,8 +1,7 @@
-use Rattle.std.proofs.Common.{◌≡◌, inl, inr, List, [], length, sym, ◌∙◌, ap, subst, refl, arith}
+use Rattle.std.proofs.Common.{inl, inr, length, arith}
 use Rattle.feed_core.specs.ReleaseValue.{content_of}
 use Rattle.feed_core.specs.Slots.{SlotStands}
 use Rattle.feed_core.proofs.Empty.{start_more}
-use Rattle.feed_core.proofs.Reopened.{none_left}
 use Rattle.feed_core.proofs.Going.{went_next, went_count, went_at}
 use Rattle.feed_core.proofs.world.start_all.Goals as goal
 

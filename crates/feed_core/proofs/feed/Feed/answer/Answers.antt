@@ -1,4 +1,4 @@
-use Rattle.std.proofs.Common.{◌≡◌, sym, ◌∙◌}
+use Rattle.std.proofs.Common.{sym, ◌∙◌}
 use Rattle.feed_core.proofs.Finding.{reports_none}
 use Rattle.feed_core.proofs.Answered.{answered, reports_here, has_holdings}
 use Rattle.feed_core.proofs.feed.Feed.answer.Goals as goal

@@ -1,4 +1,3 @@
-use Rattle.std.proofs.Common.{◌≡◌}
 use Rattle.feed_model.proofs.Losses.{loss}
 use Rattle.feed_core.specs.ReleaseValue.{content_of}
 use Rattle.feed_core.proofs.feed.Feed.handle.Goals as goal

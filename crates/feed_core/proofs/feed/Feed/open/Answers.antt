@@ -1,4 +1,4 @@
-use Rattle.std.proofs.Common.{◌≡◌, inl, inr, sym, subst}
+use Rattle.std.proofs.Common.{inl, inr, sym, subst}
 use Rattle.feed_model.specs.Sound.{IsSound}
 use Rattle.feed_model.proofs.Soundness.{sound_content}
 use Rattle.feed_core.proofs.feed.Feed.open.Goals as goal

@@ -1,5 +1,4 @@
-use Rattle.std.proofs.Common.{◌≡◌, Some, sym, subst}
-use Rattle.feed_names.specs.ReleaseName.{Name}
+use Rattle.std.proofs.Common.{Some, sym, subst}
 use Rattle.feed_model.specs.History.{Reports}
 use Rattle.feed_core.specs.ReleaseValue.{ReleaseValue}
 use Rattle.feed_core.proofs.Finding.{reports_at, reports_none}

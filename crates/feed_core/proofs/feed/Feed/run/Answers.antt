@@ -1,5 +1,5 @@
-use Rattle.std.proofs.Common.{arith, sym, ◌∙◌}
-use Rattle.feed_model.proofs.Runs.{run_none, run_more}
+use Rattle.std.proofs.Common.{arith}
+use Rattle.feed_model.proofs.Runs.{run_more}
 use Rattle.feed_core.specs.Told.{told}
 use Rattle.feed_core.specs.ReleaseValue.{content_of}
 use Rattle.feed_core.proofs.feed.Feed.run.Goals as goal

@@ -1,4 +1,3 @@
-use Rattle.std.proofs.Common.{◌≡◌}
 use Rattle.feed_core.proofs.Arranged.{arranged}
 use Rattle.feed_core.proofs.list_keep.ListKeep.of.Goals as goal
 

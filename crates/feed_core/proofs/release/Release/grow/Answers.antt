@@ -1,9 +1,8 @@
-use Rattle.std.proofs.Common.{◌≡◌, ◌-◌, ℕ, List, ap, ◌∙◌, sym, subst}
+use Rattle.std.proofs.Common.{◌≡◌, ◌-◌, List, ap, ◌∙◌}
 use Rattle.feed_model.specs.Content.{Part, Record}
 use Rattle.feed_model.specs.Change.{merged}
 use Rattle.feed_parts.specs.Shown.{shown_parts}
 use Rattle.feed_parts.specs.Piece.{total_length}
-use Rattle.feed_core.specs.ReleaseValue.{IsRelease}
 use Rattle.feed_core.proofs.Growth.{sound_grown}
 use Rattle.feed_core.proofs.release.Release.grow.Goals as goal
 

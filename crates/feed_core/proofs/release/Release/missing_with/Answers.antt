@@ -1,4 +1,4 @@
-use Rattle.std.proofs.Common.{◌≡◌, ◌-◌, ap, ◌∙◌}
+use Rattle.std.proofs.Common.{◌-◌, ap, ◌∙◌}
 use Rattle.feed_parts.specs.Shown.{shown_parts}
 use Rattle.feed_core.proofs.Growth.{missing_after}
 use Rattle.feed_core.proofs.release.Release.missing_with.Goals as goal

@@ -1,4 +1,3 @@
-use Rattle.std.proofs.Common.{◌≡◌, None, subst}
 use Rattle.feed_core.proofs.Growth.{sound_new}
 use Rattle.feed_core.proofs.release.Release.new.Goals as goal
 

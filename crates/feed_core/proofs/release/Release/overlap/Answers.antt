@@ -1,4 +1,4 @@
-use Rattle.std.proofs.Common.{◌≡◌, refl, arith}
+use Rattle.std.proofs.Common.{refl, arith}
 use Rattle.feed_parts.specs.Shown.{shown_parts}
 use Rattle.feed_core.proofs.Growth.{full_covers}
 use Rattle.feed_core.proofs.release.Release.overlap.Goals as goal

@@ -1,4 +1,4 @@
-use Rattle.std.proofs.Common.{◌≡◌, sym, ◌∙◌, ap, option_map}
+use Rattle.std.proofs.Common.{sym, ◌∙◌, ap, option_map}
 use Rattle.feed_core.proofs.shelf.Shelf.file_of.Goals as goal
 
 pub returns-in-Some : goal.returns-in-Some

@@ -1,4 +1,4 @@
-use Rattle.std.proofs.Common.{◌≡◌, ◌≢◌, sym, ◌∙◌, ap, refl, rules}
+use Rattle.std.proofs.Common.{rules}
 use Rattle.feed_core.proofs.Shelves.{shelf_more, published_again, republished, published_first}
 use Rattle.feed_core.proofs.shelf.Shelf.publish.Goals as goal
 
