@@ -36,11 +36,11 @@ of-length law [] (y ∷ ys) so = absurd so
 of-length law (x ∷ xs) [] so = absurd so
 of-length law (x ∷ xs) (y ∷ ys) so = ap suc (of-length law xs ys so.1)
 
-append-assoc : {X : Type 0} (xs : List X) (y : X) (zs : List X) → (xs ++ y ∷ []) ++ zs ≡ xs ++ y ∷ zs
+pub append-assoc : {X : Type 0} (xs : List X) (y : X) (zs : List X) → (xs ++ y ∷ []) ++ zs ≡ xs ++ y ∷ zs
 append-assoc [] y zs = refl
 append-assoc (x ∷ xs) y zs = ap (λ ys. x ∷ ys) (append-assoc xs y zs)
 
-append-nil : {X : Type 0} (xs : List X) → xs ++ [] ≡ xs
+pub append-nil : {X : Type 0} (xs : List X) → xs ++ [] ≡ xs
 append-nil [] = refl
 append-nil (x ∷ xs) = ap (λ ys. x ∷ ys) (append-nil xs)
 

@@ -10,7 +10,8 @@ use Rattle.feed_model.specs.Sound.{IsSoundRecord, IsSound}
 use Rattle.feed_core.specs.declared.record.Record as code
 use Rattle.feed_core.specs.Shown.{shown, shown_record}
 use Rattle.feed_core.specs.ReleaseValue.{ReleaseValue, content_of, IsActiveAfter}
-use Rattle.feed_core.proofs.Finding.{none_later}
+use Rattle.feed_core.proofs.Finding.{length-content_of, none_later}
+use Rattle.feed_core.proofs.Going.{append-assoc, append-nil, length-append}
 
 pub length-shown_records : (rs : List code.Record) → length (shown rs) ≡ length rs
 length-shown_records [] = refl
@@ -19,14 +20,6 @@ length-shown_records (r ∷ rs) = ap suc (length-shown_records rs)
 content_of-push : (rs : List ReleaseValue) (r : ReleaseValue) → content_of (rs ++ r ∷ []) ≡ content_of rs ++ r.kept ∷ []
 content_of-push [] r = refl
 content_of-push (x ∷ xs) r = ap (λ ys. x.kept ∷ ys) (content_of-push xs r)
-
-append-assoc : {X : Type 0} (xs : List X) (y : X) (zs : List X) → (xs ++ y ∷ []) ++ zs ≡ xs ++ y ∷ zs
-append-assoc [] y zs = refl
-append-assoc (x ∷ xs) y zs = ap (λ ys. x ∷ ys) (append-assoc xs y zs)
-
-append-nil : {X : Type 0} (xs : List X) → xs ++ [] ≡ xs
-append-nil [] = refl
-append-nil (x ∷ xs) = ap (λ ys. x ∷ ys) (append-nil xs)
 
 all-at : {X : Type 0} (P : X → Type 0) (xs : List X) (y : X) (zs : List X) → All P (xs ++ y ∷ zs) → P y
 all-at P [] y zs all = All-head P y zs all
@@ -53,15 +46,7 @@ reopened_all all rest releases so none = sym (append-nil (content_of releases)) 
 
 -- so many are left
 pub reopened_count : (all rest : List code.Record) (releases : List ReleaseValue) → AreReopened all releases rest → length releases + length rest ≡ length all
-reopened_count all rest releases so = omega (arith, counted releases, length-shown_records rest, length-shown_records all, length-append (content_of releases) (shown rest), ap length so.order)
-  where
-    counted : (rs : List ReleaseValue) → length (content_of rs) ≡ length rs
-    counted [] = refl
-    counted (r ∷ rs) = ap suc (counted rs)
-
-    length-append : (xs ys : Content) → length (xs ++ ys) ≡ length xs + length ys
-    length-append [] ys = omega arith
-    length-append (x ∷ xs) ys = omega (arith, length-append xs ys)
+reopened_count all rest releases so = omega (arith, length-content_of releases, length-shown_records rest, length-shown_records all, length-append (content_of releases) (shown rest), ap length so.order)
 
 -- an unsound record leaves no sound content
 pub reopened_not : (all rest more : List code.Record) (releases : List ReleaseValue) (r : code.Record) → AreReopened all releases rest → rest ≡ r ∷ more → (IsSoundRecord (shown_record r) → ⊥) → IsSound (shown all) → ⊥
@@ -116,11 +101,7 @@ pub none_later_all : (rs : List ReleaseValue) (n : ℕ) → NoneLater rs n → l
 none_later_all rs n none le = All-map (λ r. ¬ (HasLaterActive (content_of rs) r.name)) (λ (r : ReleaseValue). r.kept) rs (λ k d lt. none k d (omega (arith, lt, le)))
 
 pub one_later : (rs : List ReleaseValue) (n : ℕ) (r : ReleaseValue) → n < length rs → r ≡ get_or rs n r → HasLaterActive (content_of rs) r.kept.name → All (λ r. ¬ (HasLaterActive (content_of rs) r.name)) (content_of rs) → ⊥
-one_later rs n r lt here later all = all n r.kept (omega (arith, lt, counted rs)) (subst (λ (x : Record). HasLaterActive (content_of rs) x.name) (ap (λ (x : ReleaseValue). x.kept) here ∙ sym (content_of-at rs n r.kept r lt)) later)
-  where
-    counted : (xs : List ReleaseValue) → length (content_of xs) ≡ length xs
-    counted [] = refl
-    counted (x ∷ xs) = ap suc (counted xs)
+one_later rs n r lt here later all = all n r.kept (omega (arith, lt, length-content_of rs)) (subst (λ (x : Record). HasLaterActive (content_of rs) x.name) (ap (λ (x : ReleaseValue). x.kept) here ∙ sym (content_of-at rs n r.kept r lt)) later)
 
 pub none_left : {X : Type 0} (xs : List X) (n : ℕ) → n ≡ length xs → n ≡ 0 → xs ≡ []
 none_left [] n e zero_is = refl
