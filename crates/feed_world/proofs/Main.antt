@@ -1,17 +1,17 @@
 -- The headline.
-use Rattle.std.proofs.Common.{◌≡◌, ◌≢◌, ◌<◌, ◌≤◌, ◌+◌, ◌-◌, ◌++◌, ℕ, zero, suc, min, max, Bool, true, false, List, [], ◌∷◌, take, drop, Option, Some, None, Result, Ok, Err, MatchOption, slice_get, ◌⊎◌, inl, inr, refl, sym, ◌∙◌, ap, subst, arith}
+use Rattle.std.proofs.Common.{◌≡◌, ◌<◌, ◌+◌, ◌-◌, ℕ, suc, Bool, true, false, List, take, drop, Option, Some, None, MatchOption, slice_get, ◌⊎◌, inl, inr, refl, sym, ◌∙◌, ap, subst, arith}
 use Rattle.std.specs.Prelude.{MatchBool}
 use Rattle.std.proofs.lemmas.Option.{MatchOption-at_some}
 use Rattle.feed_model.specs.Reply.{IsLegal}
 use Rattle.feed_names.specs.ReleaseName.{Name}
 use Rattle.feed_world.specs.declared.line.Why.TheVariants as whys
-use Rattle.feed_model.specs.History.{History, IsFile, IsWhole, Reports}
+use Rattle.feed_model.specs.History.{IsFile, IsWhole, Reports}
 use Rattle.feed_answer.specs.Queries.{query_of}
-use Rattle.feed_world.specs.World.{World, Node, WorldEvent, Report, Ask, Line, Active, Inactive, Text, Refused, node_at, text_of, start, report_line, file_says, IsRefused, IfUp, OrMemory, Happens, Shows}
-use Rattle.feed_world.specs.Headline.{file_of, IsQuiet, IsOneMoment, Stands, Answers, IsNoOlder, IsFrom, IsHeadline, HasAlike, IsLatest, IsUpAt}
-use Rattle.feed_world.proofs.Over.{IsOver, Keeps, file_published, later_report, reports_one, reports_alike, latest_active}
+use Rattle.feed_world.specs.World.{World, Node, WorldEvent, Report, Ask, Line, Active, Text, Refused, node_at, start, report_line, file_says, IsRefused, IfUp, OrMemory, Happens, Shows}
+use Rattle.feed_world.specs.Headline.{file_of, IsOneMoment, Stands, Answers, IsNoOlder, IsFrom, IsHeadline, HasAlike, IsLatest, IsUpAt}
+use Rattle.feed_world.proofs.Over.{file_published, later_report, reports_one, reports_alike, latest_active}
 use Rattle.feed_world.proofs.Slices.{same_some, get-take_below, get-drop}
-use Rattle.feed_world.proofs.Moves.{Reported, IsSound, Grows, sound_start, sound_step, quiet_step, moves}
+use Rattle.feed_world.proofs.Moves.{Reported, IsSound, sound_start, sound_step, quiet_step, moves}
 use Rattle.feed_world.proofs.Places.{shows_sound, shows_grows, shows_files, shows_quiet, file_of-take, IsAt, place_of, AreAt, places_of, gap_event}
 use Rattle.feed_world.proofs.Shown.{IsUp, active_shown, report_shown, ask_shown, text_shown}
 

@@ -1,17 +1,15 @@
 -- What a step may change.
-use Rattle.std.proofs.Common.{◌≡◌, ◌≢◌, ◌<◌, ◌≤◌, ◌+◌, ◌++◌, ℕ, zero, suc, Bool, true, false, cond, List, [], ◌∷◌, length, replicate, Option, Some, None, Result, Ok, Err, MatchOption, MatchResult, slice_get, slice_set, ◌⊎◌, inl, inr, refl, sym, ◌∙◌, ap, subst, arith}
+use Rattle.std.proofs.Common.{◌≡◌, ◌≢◌, ◌++◌, ℕ, Bool, true, false, cond, List, [], ◌∷◌, Option, Some, None, Ok, MatchOption, ◌⊎◌, inl, inr, refl, sym, ◌∙◌, ap, subst}
 use Rattle.feed_names.specs.ReleaseName.{Name}
-use Rattle.feed_model.specs.declared.keep_fault.KeepFault as cause
-use Rattle.feed_model.specs.declared.keep_fault.KeepFault.TheVariants as causes
 use Rattle.feed_world.specs.declared.line.Why.TheVariants as whys
 use Rattle.feed_names.specs.ReleaseName.{name_eq}
 use Rattle.feed_model.specs.History.{Event, Answer, History, or_else, IsFile, Reports}
 use Rattle.feed_model.specs.Reply.{Case, IsRight, IsLegal}
 use Rattle.feed_answer.specs.Queries.{query_of}
-use Rattle.feed_world.specs.World.{World, Node, WorldEvent, Publish, Tell, Restart, StopBefore, StopAfter, Report, Ask, Line, Published, Stopped, Restarted, Refused, IsDown, Shelf, Sent, text_of, node_at, set_node, with_node, start, arriving, IsRefused, AtNode, Arrives, IfUp, Reopens, OrMemory, answer_line, report_line, none_says, file_says, Happens, Shows}
+use Rattle.feed_world.specs.World.{World, Node, WorldEvent, Publish, Tell, Restart, StopBefore, StopAfter, Report, Ask, Line, Published, Stopped, Restarted, Shelf, text_of, node_at, set_node, with_node, start, arriving, IsRefused, Reopens, OrMemory, answer_line, report_line, none_says, file_says, Happens}
 use Rattle.feed_world.specs.Headline.{file_of, IsQuiet}
 use Rattle.feed_world.proofs.Slices.{none_some}
-use Rattle.feed_model.proofs.Names.{name_is, name_self, name_not}
+use Rattle.feed_model.proofs.Names.{name_is}
 use Rattle.feed_world.proofs.Nodes.{node_at-here, node_at-other, start_empty, equal_or_not, at_node, asked_at, sent_to}
 use Rattle.feed_world.proofs.Over.{IsOver, Keeps, IsTrueOf, arriving_true, empty_over, over_more, over_grown, keeps_all, keeps_on, keeps_more}
 

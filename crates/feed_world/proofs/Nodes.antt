@@ -1,10 +1,10 @@
 -- The nodes of a world, and the cases of a step.
-use Rattle.std.proofs.Common.{◌≡◌, ◌≢◌, ◌<◌, ◌≤◌, ◌+◌, ◌++◌, ℕ, zero, suc, Bool, true, false, cond, List, [], ◌∷◌, length, replicate, Option, Some, None, Result, Ok, Err, MatchOption, MatchResult, slice_get, slice_set, ◌⊎◌, inl, inr, refl, sym, ◌∙◌, ap, subst, arith}
+use Rattle.std.proofs.Common.{◌≡◌, ◌≢◌, ℕ, zero, suc, Bool, true, false, List, [], ◌∷◌, replicate, Option, Some, None, Result, Ok, Err, MatchOption, MatchResult, slice_get, slice_set, ◌⊎◌, inl, inr, refl, ap, arith}
 use Rattle.std.specs.Prelude.{MatchBool}
 use Rattle.feed_world.specs.declared.line.Why as why
 use Rattle.feed_world.specs.declared.line.Why.TheVariants as whys
-use Rattle.feed_model.specs.History.{Event, History}
-use Rattle.feed_world.specs.World.{World, Node, Line, Refused, Sent, node_at, set_node, with_node, start, arriving, IsRefused, AtNode, Arrives, IfUp}
+use Rattle.feed_model.specs.History.{Event}
+use Rattle.feed_world.specs.World.{World, Node, Line, Sent, node_at, set_node, start, arriving, IsRefused, AtNode, Arrives, IfUp}
 
 get-set_here : {X : Type 0} (xs : List X) (i : ℕ) (x y : X) → slice_get xs i ≡ Some x → slice_get (slice_set xs i y) i ≡ Some y
 get-set_here [] i x y e = absurd (cc)

@@ -1,16 +1,15 @@
 -- A history over published files: what it has of a release is what is published.
-use Rattle.std.proofs.Common.{◌≡◌, ◌≢◌, ◌<◌, ◌≤◌, ◌+◌, ◌-◌, ℕ, ℤ, ◌≤ℤ◌, zero, suc, Bool, true, false, cond, List, [], ◌∷◌, ◌++◌, length, take, drop, Option, Some, None, Result, Ok, Err, MatchOption, slice_get, nat_le, ◌⊎◌, inl, inr, refl, sym, ◌∙◌, ap, subst, arith}
+use Rattle.std.proofs.Common.{◌≡◌, ◌<◌, ◌+◌, ℕ, ℤ, ◌≤ℤ◌, Bool, true, false, List, [], ◌∷◌, length, take, drop, Option, Some, None, Result, Ok, Err, slice_get, nat_le, refl, sym, ◌∙◌, ap, subst, arith}
 use Rattle.std.proofs.lemmas.Int.{ints}
-use Rattle.std.proofs.lemmas.Option.{slice_get_within}
 use Rattle.feed_names.specs.ReleaseName.{Name}
 use Rattle.feed_world.specs.declared.line.Why as why
 use Rattle.feed_world.specs.declared.line.Why.TheVariants as whys
-use Rattle.feed_names.specs.ReleaseName.{name_eq, IsEarlier}
+use Rattle.feed_names.specs.ReleaseName.{name_eq}
 use Rattle.feed_model.specs.File.{fault_of}
 use Rattle.feed_model.specs.History.{Event, Offered, Piece, Lost, History, Answer, is_noted, is_taken, or_else, byte_at, size_of, kept, IsFile, IsWhole, IsGood, IsActive, Reports}
-use Rattle.feed_world.specs.World.{Shelf, text_of, Sent, Offer, Deliver, Lose, arriving, offered, delivered, lost}
+use Rattle.feed_world.specs.World.{Shelf, text_of, Sent, Offer, Deliver, Lose, arriving, delivered}
 use Rattle.feed_world.specs.Headline.{HasAlike}
-use Rattle.feed_model.proofs.Names.{name_is, name_self, name_not, name_by}
+use Rattle.feed_model.proofs.Names.{name_is, name_by}
 use Rattle.feed_world.proofs.Slices.{byte-slice, same_list, get_some, same_some}
 
 pub record IsOver (shelf : Shelf) (h : History) : Type 0 where

@@ -1,10 +1,10 @@
 -- Worlds at places of a run.
-use Rattle.std.proofs.Common.{◌≡◌, ◌≢◌, ◌<◌, ◌≤◌, ◌+◌, ◌++◌, ℕ, zero, suc, Bool, true, false, cond, List, [], ◌∷◌, length, take, drop, Option, Some, None, slice_get, ◌⊎◌, inl, inr, refl, sym, ◌∙◌, ap, subst, arith}
+use Rattle.std.proofs.Common.{◌≡◌, ◌<◌, ◌≤◌, ◌+◌, ℕ, zero, suc, Bool, true, false, List, [], ◌∷◌, take, drop, Option, Some, None, slice_get, refl, sym, ◌∙◌, ap, subst, arith}
 use Rattle.std.proofs.lemmas.List.{take-take}
 use Rattle.feed_names.specs.ReleaseName.{Name}
 use Rattle.feed_names.specs.ReleaseName.{name_eq}
 use Rattle.feed_model.specs.History.{or_else}
-use Rattle.feed_world.specs.World.{World, Node, WorldEvent, Publish, Tell, Restart, StopBefore, StopAfter, Report, Ask, Line, text_of, node_at, Happens, Shows}
+use Rattle.feed_world.specs.World.{World, WorldEvent, Publish, Tell, Restart, StopBefore, StopAfter, Report, Ask, Line, text_of, node_at, Happens, Shows}
 use Rattle.feed_world.specs.Headline.{file_of, IsQuiet}
 use Rattle.feed_world.proofs.Slices.{get-take, get-take_below, get-drop}
 use Rattle.feed_world.proofs.Moves.{IsSound, Grows, moves, grows_all, grows_on, grows_step, sound_step, shelf_step, quiet_step}

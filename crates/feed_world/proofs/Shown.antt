@@ -1,12 +1,12 @@
 -- What a report and an ask show.
-use Rattle.std.proofs.Common.{◌≡◌, ◌≢◌, ◌<◌, ◌≤◌, ◌+◌, ◌++◌, ℕ, zero, suc, Bool, true, false, List, [], ◌∷◌, Option, Some, None, Result, Ok, Err, MatchOption, ◌⊎◌, inl, inr, refl, sym, ◌∙◌, ap, subst, arith}
+use Rattle.std.proofs.Common.{◌≡◌, ℕ, Bool, true, List, Option, Some, None, Result, Ok, Err, MatchOption, ◌⊎◌, inl, inr, subst}
 use Rattle.feed_names.specs.ReleaseName.{Name}
 use Rattle.feed_answer.specs.declared.fault.QueryFault.{QueryFault}
 use Rattle.feed_world.specs.declared.line.Why.TheVariants as whys
 use Rattle.feed_model.specs.History.{IsFile, Reports}
 use Rattle.feed_answer.specs.QueryValue.{QueryValue}
 use Rattle.feed_answer.specs.Queries.{query_of}
-use Rattle.feed_world.specs.World.{World, Node, Report, Ask, Line, Active, Inactive, Text, Refused, node_at, IsRefused, IfUp, OrMemory, report_line, none_says, file_says, Happens}
+use Rattle.feed_world.specs.World.{World, Node, Report, Ask, Line, Active, Text, Refused, node_at, IsRefused, IfUp, OrMemory, report_line, none_says, file_says, Happens}
 use Rattle.std.specs.Prelude.{MatchBool}
 use Rattle.std.proofs.lemmas.Option.{MatchOption-at_some}
 use Rattle.feed_world.proofs.Nodes.{asked_at, if_up}

@@ -1,13 +1,12 @@
 -- Transcripts that the headline refuses.
-use Rattle.std.proofs.Common.{◌≡◌, ◌≢◌, ◌<◌, ◌≤◌, ◌+◌, ℕ, ℤ, ◌<ℤ◌, ◌≤ℤ◌, zero, suc, min, max, List, [], ◌∷◌, Option, Some, None, slice_get, ◌⊎◌, inl, inr, refl, sym, ◌∙◌, ap, subst, arith}
+use Rattle.std.proofs.Common.{◌≡◌, ◌≢◌, ◌≤◌, ℕ, ℤ, ◌<ℤ◌, ◌≤ℤ◌, zero, suc, min, max, List, [], ◌∷◌, Some, slice_get, ◌⊎◌, inl, inr, refl, sym, ◌∙◌, ap, subst, arith}
 use Rattle.std.proofs.lemmas.Int.{ints}
 use Rattle.feed_names.specs.ReleaseName.{Name}
 use Rattle.feed_world.specs.declared.line.Why.TheVariants as whys
-use Rattle.feed_answer.specs.QueryValue.{QueryValue}
 use Rattle.feed_answer.specs.Queries.{query_of}
-use Rattle.feed_world.specs.World.{WorldEvent, Publish, Tell, Restart, StopBefore, StopAfter, Report, Ask, Line, Published, Restarted, Active, Inactive, Text, Refused, file_says}
+use Rattle.feed_world.specs.World.{WorldEvent, Publish, Restart, Report, Ask, Published, Restarted, Active, Inactive, Text, Refused, file_says}
 use Rattle.feed_model.proofs.Names.{name_self}
-use Rattle.feed_world.specs.Headline.{file_of, IsQuiet, IsOneMoment, Stands, Answers, IsNoOlder, IsFrom, IsHeadline}
+use Rattle.feed_world.specs.Headline.{file_of, IsQuiet, IsOneMoment, IsNoOlder, IsHeadline}
 
 -- a node that forgets after a restart
 forgets : (n : Name) → IsHeadline (Report 1 n.stem ∷ Restart 1 ∷ Report 1 n.stem ∷ []) (Active n ∷ Restarted ∷ Inactive ∷ []) → ⊥

@@ -1,5 +1,4 @@
 -- The code's events and lines, without where they lie in memory.
-use Rattle.std.specs.Prelude.{ℕ}
 use Rattle.feed_world.specs.declared.event.Sent as code_sent
 use Rattle.feed_world.specs.declared.event.Sent.TheVariants as sents
 use Rattle.feed_world.specs.declared.event.WorldEvent as code_event

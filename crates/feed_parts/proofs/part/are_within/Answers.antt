@@ -1,4 +1,4 @@
-use Rattle.std.proofs.Common.{◌≡◌, ◌<◌, ◌+◌, ℕ, zero, suc, ◌∷◌, length, drop, refl, sym, ap, subst, arith}
+use Rattle.std.proofs.Common.{◌≡◌, ◌<◌, ◌+◌, ℕ, zero, suc, ◌∷◌, length, drop, refl, sym, subst, arith}
 use Rattle.feed_model.specs.Content.{end_of}
 use Rattle.feed_parts.specs.Shown.{shown_part, shown_parts}
 use Rattle.feed_parts.proofs.Rest.{next}
@@ -17,9 +17,11 @@ at_part c = subst (IsChecked c.args.size (shown_parts c.args.parts.now) c.loop-p
 pub returns-then-length-saturating_sub : goal.returns-then-length-saturating_sub
 returns-then-length-saturating_sub c =
     let part = shown_part c.part-item.result in
-    let at = at_part (goal.at.returns-then-length-saturating_sub c).After-part-item in
-    (λ t. absurd (cc), λ within. absurd (checked_not c.args.size (shown_parts c.args.parts.now) c.loop-part.place part (shown_parts (drop (c.loop-part.part-index + 1) c.args.parts.now)) at
-        (λ le some small inside. omega (arith, inside, c.len-length.ensures, c.part-item.result.bytes.ok.0, c.saturating_sub.ensures, c.if-length-saturating_sub.true, some)) within))
+    let at = at_part (goal.at.returns-then-length-saturating_sub c).After-part-item in (
+      λ t. absurd (cc),
+      λ within. absurd (checked_not c.args.size (shown_parts c.args.parts.now) c.loop-part.place part (shown_parts (drop (c.loop-part.part-index + 1) c.args.parts.now)) at
+          (λ le some small inside. omega (arith, inside, c.len-length.ensures, c.part-item.result.bytes.ok.0, c.saturating_sub.ensures, c.if-length-saturating_sub.true, some)) within),
+    )
 
 pub loop-part-preserved : goal.loop-part-preserved
 loop-part-preserved c =
@@ -30,5 +32,5 @@ loop-part-preserved c =
     let some : 0 < length part.bytes = positive c.len-length.result (length part.bytes) (omega (arith, c.len-length.ensures, c.part-item.result.bytes.ok.0)) c.if-length-eq0.false in
     subst (λ place. IsChecked c.args.size (shown_parts c.args.parts.now) place rest) (sym end)
     (checked_next c.args.size (shown_parts c.args.parts.now) c.loop-part.place part rest c.if-part-place.false some
-        (omega (arith, c.len-length.ensures, c.part-item.result.bytes.ok.0, c.if-length-gt-PIECE_LIMIT.false))
-        (omega (arith, some, c.len-length.ensures, c.part-item.result.bytes.ok.0, c.saturating_sub.ensures, c.if-length-saturating_sub.false)) at)
+    (omega (arith, c.len-length.ensures, c.part-item.result.bytes.ok.0, c.if-length-gt-PIECE_LIMIT.false))
+    (omega (arith, some, c.len-length.ensures, c.part-item.result.bytes.ok.0, c.saturating_sub.ensures, c.if-length-saturating_sub.false)) at)
