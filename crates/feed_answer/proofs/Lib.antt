@@ -1,4 +1,8 @@
 pub mod Writing
 pub mod Lines
 pub mod Members
+pub mod Ascending
 pub mod Covered
+pub mod Ranges
+pub mod Places
+pub mod Plain

@@ -6,4 +6,5 @@ pub mod Faults
 pub mod Grades
 pub mod HitValue
 pub mod Answers
+pub mod Index
 pub mod Laws

@@ -1,28 +1,49 @@
-ghost use Rattle.std.specs.Prelude.{◌≡◌, IfOk};
+ghost use Rattle.std.specs.Prelude.{◌≡◌, IfOk, map};
+ghost use Rattle.std.specs.Cow.{cow_slice_items};
 ghost use Rattle.form_urlencoded.specs.Form as form;
+ghost use Rattle.percent_encoding.specs.Percent as percent;
 
 use crate::pair::Pair;
 use form_urlencoded::raw_pairs;
 use percent_encoding::percent_decode;
 use std::alloc::{AllocError, Global};
+use std::borrow::CowSlice;
 
-// The bytes that an encoded key or value stands for: `+` is a space, and `%` with two hexadecimal
-// digits is a byte. A `%` without them is itself.
-fn decoded(alloc: Global, text: &[u8]) -> Result<Vec<u8>, AllocError>
-    ensures { IfOk result (λ v. v.items ≡ form.decode text.now) }
+// The text with a space for each `+`.
+fn spaced(alloc: Global, text: &[u8]) -> Result<Vec<u8>, AllocError>
+    ensures { IfOk result (λ v. v.items ≡ map form.plus_to_space text.now) }
 {
     let mut spaced = Vec::with_capacity(alloc, text.len())?;
     for byte in text {
         spaced.push(if *byte == b'+' { b' ' } else { *byte })?;
     }
-    let mut bytes = Vec::new(alloc);
-    percent_decode(spaced.as_slice()).append_to(&mut bytes)?;
+    Ok(spaced)
+}
+
+// The text with the byte for each `%` that two hexadecimal digits follow.
+fn unescaped(alloc: Global, text: &[u8]) -> Result<Vec<u8>, AllocError>
+    ensures { IfOk result (λ v. v.items ≡ percent.percent_decode text.now) }
+{
+    let mut bytes = Vec::with_capacity(alloc, text.len())?;
+    percent_decode(text).append_to(&mut bytes)?;
     Ok(bytes)
+}
+
+// The bytes that an encoded key or value stands for: `+` is a space, and `%` with two hexadecimal
+// digits is a byte. A `%` without them is itself. A text without either is borrowed.
+fn decoded(alloc: Global, text: &[u8]) -> Result<CowSlice<'_, u8, Global>, AllocError>
+    ensures { IfOk result (λ v. cow_slice_items v ≡ form.decode text.now) }
+{
+    if !text.contains(&b'+') {
+        return percent_decode(text).into_cow(alloc);
+    }
+    let spaced = spaced(alloc, text)?;
+    Ok(CowSlice::Owned(unescaped(alloc, &spaced)?))
 }
 
 /// The pairs of a query, in order. An empty piece between `&` is no pair, and a key without `=` has
 /// the empty value.
-pub(crate) fn decoded_pairs(alloc: Global, text: &[u8]) -> Result<Vec<Pair>, AllocError>
+pub(crate) fn decoded_pairs(alloc: Global, text: &[u8]) -> Result<Vec<Pair<'_>>, AllocError>
     ensures { IfOk result (λ pairs. pairs.items ≡ form.parse text.now) }
 {
     let mut pairs = Vec::new(alloc);

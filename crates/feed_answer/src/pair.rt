@@ -2,6 +2,8 @@ ghost use Rattle.std.specs.Prelude.{◌≡◌};
 ghost use Rattle.feed_answer.specs.Pairs.{days_of_pair, has_key, is_other, is_other_format, is_other_version, issn_of_pair, issn_of_urn, volume_of_pair};
 
 use feed_kbart::{DayRange, Issn, read_volume, trim_spaces};
+use std::alloc::Global;
+use std::borrow::CowSlice;
 use std::marker::Model;
 
 const VERSION: &str = "Z39.88-2004";
@@ -10,22 +12,25 @@ const JOURNAL: &str = "info:ofi/fmt:kev:mtx:journal";
 
 /// A decoded key and its value. Their bytes need not be UTF-8.
 #[derive(Drop)]
-pub(crate) struct Pair {
-    key: Vec<u8>,
-    value: Vec<u8>,
+pub(crate) struct Pair<'a> {
+    key: CowSlice<'a, u8, Global>,
+    value: CowSlice<'a, u8, Global>,
 }
 
-impl Model for Pair {
+impl<'a> Model for Pair<'a> {
     ghost use Rattle.std.specs.Prelude.{ℕ, List};
+    ghost use Rattle.std.specs.Cow.{cow_slice_items};
 
     ghost Value = { List ℕ × List ℕ };
 
-    ghost view = { λ pair. (pair.key.items, pair.value.items) };
+    ghost view = { λ pair. (cow_slice_items pair.key, cow_slice_items pair.value) };
 }
 
-impl Pair {
-    pub(crate) fn of(key: Vec<u8>, value: Vec<u8>) -> Pair
-        ensures { result ≡ (key.items, value.items) }
+impl<'a> Pair<'a> {
+    ghost use Rattle.std.specs.Cow.{cow_slice_items};
+
+    pub(crate) fn of(key: CowSlice<'a, u8, Global>, value: CowSlice<'a, u8, Global>) -> Pair<'a>
+        ensures { result ≡ (cow_slice_items key.entry, cow_slice_items value.entry) }
     {
         Pair { key, value }
     }
@@ -41,7 +46,8 @@ impl Pair {
     fn is_other(&self, key: &str, wanted: &str) -> bool
         ensures { result ≡ is_other key.now wanted.now self.now }
     {
-        self.has_key(key) && !self.value.is_empty() && self.value.as_slice() != wanted.as_bytes()
+        let value = self.value.as_slice();
+        self.has_key(key) && !value.is_empty() && value != wanted.as_bytes()
     }
 
     /// Whether it tells another version of the standard.
@@ -63,9 +69,9 @@ impl Pair {
         ensures { result ≡ issn_of_pair self.now }
     {
         if self.has_key("rft.issn") || self.has_key("rft.eissn") {
-            Issn::parse(&self.value)
+            Issn::parse(self.value.as_slice())
         } else if self.has_key("rft_id") {
-            issn_of_urn(&self.value)
+            issn_of_urn(self.value.as_slice())
         } else {
             None
         }
@@ -76,7 +82,7 @@ impl Pair {
         ensures { result ≡ days_of_pair self.now }
     {
         if self.has_key("rft.date") {
-            DayRange::of_query(trim_spaces(&self.value))
+            DayRange::of_query(trim_spaces(self.value.as_slice()))
         } else {
             None
         }
@@ -87,7 +93,7 @@ impl Pair {
         ensures { result ≡ volume_of_pair self.now }
     {
         if self.has_key("rft.volume") {
-            read_volume(trim_spaces(&self.value))
+            read_volume(trim_spaces(self.value.as_slice()))
         } else {
             None
         }

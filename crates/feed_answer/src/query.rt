@@ -1,7 +1,7 @@
-ghost use Rattle.std.specs.Prelude.{◌≡◌, IfOk};
+ghost use Rattle.std.specs.Prelude.{◌≡◌, IfOk, OnOk};
 ghost use Rattle.std.specs.List.{list_any};
-ghost use Rattle.std.specs.BTreeSet.{keys};
-ghost use Rattle.feed_answer.specs.IssnSet.{IsAscending};
+ghost use Rattle.std.specs.BTreeSet.{insert_key};
+ghost use Rattle.feed_answer.specs.IssnSet.{IsAscending, bytes_cmp};
 ghost use Rattle.feed_answer.specs.Pairs.{first_days, first_volume, is_other_format, is_other_version, issns_among};
 
 use crate::decode::decoded_pairs;
@@ -9,7 +9,7 @@ use crate::fault::QueryFault;
 use crate::pair::Pair;
 use feed_kbart::{DayRange, Issn};
 use std::alloc::{AllocError, Global};
-use std::collections::BTreeSet;
+use std::cmp::Ordering;
 use std::marker::Model;
 
 /// The most bytes that a query may have.
@@ -93,41 +93,49 @@ impl Query {
     }
 }
 
-fn has_other_version(pairs: &[Pair]) -> bool
+fn has_other_version(pairs: &[Pair<'_>]) -> bool
     ensures { result ≡ list_any is_other_version pairs.now }
 {
     pairs.iter().any(|pair| pair.is_other_version())
 }
 
-fn has_other_format(pairs: &[Pair]) -> bool
+fn has_other_format(pairs: &[Pair<'_>]) -> bool
     ensures { result ≡ list_any is_other_format pairs.now }
 {
     pairs.iter().any(|pair| pair.is_other_format())
 }
 
-// The set of the ISSNs that pairs name.
-fn issn_set(alloc: Global, pairs: &[Pair]) -> Result<BTreeSet<Issn>, AllocError>
-    ensures { IfOk result (λ set. keys set ≡ issns_among pairs.now) }
+// Puts an ISSN in its place among those that ascend, unless it is there.
+fn add_issn(issns: &mut Vec<Issn>, issn: Issn) -> Result<(), AllocError>
+    ensures { OnOk result (issns.new.items ≡ insert_key bytes_cmp issns.old.items issn) }
 {
-    let mut set = BTreeSet::new(alloc);
-    for pair in pairs {
-        if let Some(issn) = pair.issn() {
-            set.insert(issn)?;
+    for (place, other) in issns.iter().enumerate() {
+        match issn.cmp(other) {
+            Ordering::Less => return Ok(issns.insert(place, issn)?),
+            Ordering::Equal => return Ok(()),
+            Ordering::Greater => {}
         }
     }
-    Ok(set)
+    Ok(issns.push(issn)?)
 }
 
-fn issns_among(alloc: Global, pairs: &[Pair]) -> Result<Vec<Issn>, AllocError>
+// The set of the ISSNs that pairs name. A query has room for some three hundred of them, and mostly
+// one.
+fn issns_among(alloc: Global, pairs: &[Pair<'_>]) -> Result<Vec<Issn>, AllocError>
     ensures value { IfOk result (λ issns. issns.items ≡ issns_among pairs.now) }
     ensures ascending { IfOk result (λ issns. IsAscending issns.items) }
 {
-    let set = issn_set(alloc, pairs)?;
-    set.iter().copied().collect(alloc)
+    let mut issns = Vec::new(alloc);
+    for pair in pairs {
+        if let Some(issn) = pair.issn() {
+            add_issn(&mut issns, issn)?;
+        }
+    }
+    Ok(issns)
 }
 
 // The days of the first date that reads.
-fn first_days(pairs: &[Pair]) -> Option<DayRange>
+fn first_days(pairs: &[Pair<'_>]) -> Option<DayRange>
     ensures { result ≡ first_days pairs.now }
 {
     for pair in pairs {
@@ -139,7 +147,7 @@ fn first_days(pairs: &[Pair]) -> Option<DayRange>
 }
 
 // The number of the first volume that reads.
-fn first_volume(pairs: &[Pair]) -> Option<u32>
+fn first_volume(pairs: &[Pair<'_>]) -> Option<u32>
     ensures { result ≡ first_volume pairs.now }
 {
     for pair in pairs {

@@ -51,6 +51,32 @@ fn expect_text(
     Ok(())
 }
 
+// Expects the hits of a query to be the records of these numbers, by all rows and by an index.
+fn expect_records(
+    rt: &impl Abort,
+    alloc: Global,
+    file: &[&str],
+    query: &str,
+    numbers: &[u32],
+) -> Result<(), Fail> {
+    let holdings = holdings_of(alloc, file)?;
+    let read = Query::read(alloc, query.as_bytes())?;
+    let by_rows = numbers_of(alloc, &answer(alloc, &holdings, &read)?)?;
+    assert_eq!(rt; by_rows.as_slice(), numbers, "{query}");
+    let index = HoldingsIndex::of(alloc, holdings)?;
+    let by_index = numbers_of(alloc, &index.answer(alloc, &read)?)?;
+    assert_eq!(rt; by_index.as_slice(), numbers, "{query}");
+    Ok(())
+}
+
+fn numbers_of(alloc: Global, found: &Answer<'_>) -> Result<Vec<u32>, AllocError> {
+    let mut numbers = Vec::new(alloc);
+    for hit in found.hits() {
+        numbers.push(hit.row.number())?;
+    }
+    Ok(numbers)
+}
+
 // Expects this grade of a query on one record, or that the record does not match.
 fn expect_grade(
     rt: &impl Abort,
@@ -255,6 +281,37 @@ fn answers_are_written(rt: HostRuntime) -> Result<(), Fail> {
         &both,
     )?;
     expect_text(&rt, alloc, &[H_LONG, record], "rft.issn=2434561x", &long)
+}
+
+#[test]
+fn an_index_gives_the_rows_in_file_order(rt: HostRuntime) -> Result<(), Fail> {
+    let both = "Delta\t1050-124X\t0317-8471\t1990\n";
+    let equal = "Epsilon\t2434-561X\t2434-561X\t1996\n";
+    let file = [H, A, C, B, both, equal];
+    let rows = [
+        ("rft.issn=2434561x", [2, 6].as_slice()),
+        ("rft.issn=03178471", &[4, 5]),
+        ("rft.issn=1050-124X&rft.eissn=0317-8471", &[3, 4, 5]),
+        (
+            "rft.issn=03178471&rft.issn=1050124X&rft.issn=2434561X",
+            &[2, 3, 4, 5, 6],
+        ),
+        ("rft.issn=2434561x&rft.date=1995", &[2]),
+        ("rft.issn=1234-5679", &[]),
+        ("rft.issn=0000-0000&rft.issn=9999-9994", &[]),
+    ];
+    for (query, numbers) in rows {
+        expect_records(&rt, rt.alloc(), &file, query, numbers)?;
+    }
+    expect_records(&rt, rt.alloc(), &[H], "rft.issn=2434561x", &[])
+}
+
+#[test]
+fn an_index_has_its_holdings(rt: HostRuntime) -> Result<(), Fail> {
+    let index = HoldingsIndex::of(rt.alloc(), holdings_of(rt.alloc(), &[H, A, B])?)?;
+    assert_eq!(rt; index.holdings().rows().len(), 2);
+    assert_eq!(rt; index.holdings().rows()[1].title(), b"Beta".as_slice());
+    Ok(())
 }
 
 #[test]

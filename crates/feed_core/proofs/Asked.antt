@@ -7,10 +7,9 @@ use Rattle.feed_answer.specs.HitValue.{HitValue}
 use Rattle.feed_answer.specs.Queries.{query_of}
 use Rattle.feed_answer.specs.Answers.{answer_of, answer_text}
 use Rattle.feed_model.specs.History.{History, IsFile, Reports}
-use Rattle.feed_world.specs.World.{Text, text_for, file_says}
+use Rattle.feed_world.specs.World.{Text, IsAsked, text_for, file_says}
 use Rattle.feed_world.proofs.Over.{reports_one}
 use Rattle.feed_core.specs.Answered.{IsAnswered}
-use Rattle.feed_core.specs.Nodes.{IsAsked}
 
 -- the text of the hits of a whole file
 said : (name : Name) (file items : List ℕ) (query : QueryValue) (hits : List HitValue) → hits ≡ answer_of (holdings_of file) query → items ≡ answer_text (text_of name) hits → Text items ≡ file_says name file (Ok query)

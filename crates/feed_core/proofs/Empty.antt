@@ -1,14 +1,8 @@
 -- Nothing happened, and nothing is kept.
-use Rattle.std.proofs.Common.{◌≡◌, ◌++◌, Bool, true, false, List, [], ◌∷◌, length, sym, subst}
-use Rattle.std.specs.List.{IsDistinct}
+use Rattle.std.proofs.Common.{◌≡◌, ◌++◌, Bool, true, List, [], ◌∷◌, length, sym, subst}
 use Rattle.feed_model.specs.History.{History}
 use Rattle.feed_world.specs.World.{start}
-use Rattle.feed_model.specs.Content.{IsContent}
 use Rattle.feed_core.specs.Step.{AreNodes}
-
-pub empty_content : IsContent [] []
-unfolding IsDistinct
-empty_content = record { legal = tt; distinct = tt; each = λ n held. (let u : false ≡ true = held.0 in absurd (cc)) }
 
 -- one more node at the start
 pub start_more : {M : Type 0} (stands : M → Bool → History → Type 0) (xs ys : List M) (x : M) → ys ≡ xs ++ x ∷ [] → AreNodes stands xs (start (length xs)).nodes → stands x true [] → AreNodes stands ys (start (length ys)).nodes

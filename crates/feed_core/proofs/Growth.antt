@@ -18,7 +18,8 @@ use Rattle.feed_model.proofs.Keeps.{none_missing}
 use Rattle.feed_model.proofs.Merging.{byte_at-within}
 use Rattle.feed_parts.specs.declared.part.Part as code_part
 use Rattle.feed_parts.specs.Shown.{shown_parts}
-use Rattle.feed_parts.specs.Piece.{AreWithin, Covers, total_length}
+use Rattle.feed_model.specs.Parts.{Covers}
+use Rattle.feed_parts.specs.Piece.{AreWithin, total_length}
 use Rattle.feed_core.specs.ReleaseValue.{ReleaseValue, IsRelease, IsKnown, content_of, IsPlaceOf}
 use Rattle.feed_core.proofs.Finding.{found_at, set_at}
 

@@ -13,3 +13,4 @@ pub mod Shelves
 pub mod Asked
 pub mod Going
 pub mod Arranged
+pub mod Counts

@@ -10,12 +10,6 @@ pub none_found : (rs : List code.Record) (n : Name) → ((k : ℕ) (d : code.Rec
 none_found [] n out = refl
 none_found (r ∷ rs) n out = rw (out 0 r (omega arith)) (none_found rs n (λ k d lt. out (suc k) d (omega arith)))
 
-pub found_at : (rs : List code.Record) (n : Name) (i : ℕ) (d : code.Record) → IsRecordAt rs n i → record_of (shown rs) n ≡ Some (shown_record (get_or rs i d))
-found_at [] n i d place = absurd (omega (arith, place.within))
-found_at (r ∷ rs) n zero d place = rw (place.here r) refl
-found_at (r ∷ rs) n (suc i) d place = rw (place.before 0 r (omega arith))
-    (found_at rs n i d (record { within = omega (arith, place.within); here = λ e. place.here e; before = λ k e lt. place.before (suc k) e (omega arith) }))
-
 -- a record changed at its place is changed under its name
 pub set_at : (rs : List code.Record) (n : Name) (i : ℕ) (d x : code.Record) (f : Record → Record) → IsRecordAt rs n i → shown_record x ≡ f (shown_record (get_or rs i d)) → shown (set rs i x) ≡ changed n f (shown rs)
 set_at [] n i d x f place is = absurd (omega (arith, place.within))

@@ -53,9 +53,6 @@ pub reopened_not : (all rest more : List code.Record) (releases : List ReleaseVa
 reopened_not all rest more releases r so is wrong sound =
     wrong (all-at IsSoundRecord (content_of releases) (shown_record r) (shown more) (subst (All IsSoundRecord) (sym so.order ∙ ap (λ (ys : List code.Record). content_of releases ++ shown ys) is) sound.each))
 
-pub reopened_many : (all : List code.Record) → max_held < length all → IsSound (shown all) → ⊥
-reopened_many all many sound = omega (arith, many, sound.few, length-shown_records all)
-
 pub reopened_sound : (all : List code.Record) (releases : List ReleaseValue) → AreReopened all releases [] → IsDistinct name_eq (names (shown all)) → length all ≤ max_held → All (λ r. ¬ (HasLaterActive (content_of releases) r.name)) (content_of releases) → IsSound (shown all)
 reopened_sound all releases so distinct few current =
     let is = reopened_all all [] releases so refl in

@@ -2,8 +2,8 @@
 use Rattle.std.proofs.Common.{Bor, ◌≡◌, ◌<◌, ◌+◌, ◌++◌, ℕ, Bool, List, [], ◌∷◌, length, map, take, get_or, refl, sym, ap, subst}
 use Rattle.std.proofs.lemmas.List.{take_more}
 use Rattle.feed_model.specs.History.{History}
-use Rattle.feed_world.specs.World.{World, WorldEvent, Line, Shelf, Happens, Shows, start}
-use Rattle.feed_core.specs.Step.{Goes, GoesTo, HasShown}
+use Rattle.feed_world.specs.World.{World, WorldEvent, Line, Happens, Shows, start}
+use Rattle.feed_core.specs.Step.{GoesTo, HasShown}
 
 pub shows-push : (w m v : World) (es : List WorldEvent) (ls : List Line) (e : WorldEvent) (l : Line) → Shows w es ls m → Happens m e l v → Shows w (es ++ e ∷ []) (ls ++ l ∷ []) v
 shows-push w m v [] [] e l s h = (v, subst (λ (x : World). Happens x e l v) (sym s) h, refl)
@@ -22,6 +22,3 @@ has_more clean stands told shown count es ls ks i e l before shelf old new at lt
     let q = s r.0 in
     let t = r.1 q.0 q.2 q.3 in
     (t.0, rw (is, take_more es i e lt, map-push told (take i es) (get_or es i e), map-push shown ls l) (shows-push (start count) q.0 t.0 (map told (take i es)) (map shown ls) (told (get_or es i e)) (shown l) q.1 (subst (λ (x : _). Happens q.0 (told x) (shown l) t.0) at t.1)), t.2, t.3)
-
-pub goes_same : {M : Type 0} (clean : M → Type 0) (stands : M → Bool → History → Type 0) (fits : Shelf → Type 0) (xs ys : List M) (e : WorldEvent) (l : Line) → xs ≡ ys → Goes clean stands fits xs xs e l → Goes clean stands fits ys ys e l
-goes_same {M} clean stands fits xs ys e l same = subst (λ (zs : List M). Goes clean stands fits zs zs e l) same

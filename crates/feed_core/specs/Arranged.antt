@@ -1,6 +1,19 @@
 -- Records in another order.
-use Rattle.std.specs.Prelude.{◌≡◌, [], ◌∷◌, IsPermutation}
-use Rattle.feed_model.specs.Content.{Record, Content}
+use Rattle.std.specs.Prelude.{◌≡◌, ◌++◌, List, [], ◌∷◌, map, IsPermutation}
+use Rattle.feed_model.specs.declared.state.State.{State}
+use Rattle.feed_model.specs.Content.{Part, Record, Content}
+use Rattle.feed_model.specs.Change.{merged}
+
+-- the record with its parts in order: those that begin at one place stay as they stood
+abbrev pub ordered_record : Record → Record
+ordered_record r = record { name = r.name; size = r.size; state = r.state; parts = merged [] r.parts }
+
+abbrev pub ordered : Content → Content
+ordered rs = map ordered_record rs
+
+-- the record with these parts behind its own, and this state
+abbrev pub lengthened : List Part → State → Record → Record
+lengthened ps state r = record { name = r.name; size = r.size; state = state; parts = r.parts ++ ps }
 
 -- the same record, with its parts in another order
 pub record IsSame (r s : Record) : Type 0 where
@@ -9,6 +22,7 @@ pub record IsSame (r s : Record) : Type 0 where
   pub state : s.state ≡ r.state
   pub parts : IsPermutation r.parts s.parts
 
+-- one after another
 abbrev pub AreSame : Content → Content → Type 0
 AreSame [] [] = Unit {0}
 AreSame (r ∷ rs) (s ∷ ss) = IsSame r s × AreSame rs ss

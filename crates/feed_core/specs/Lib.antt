@@ -9,3 +9,4 @@ pub mod Step
 pub mod Slots
 pub mod Arranged
 pub mod Printed
+pub mod Counts

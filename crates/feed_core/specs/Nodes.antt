@@ -1,13 +1,11 @@
 -- A node as a world sees it.
-use Rattle.std.specs.Prelude.{◌≡◌, ◌≢◌, ◌⊎◌, ℕ, Bool, true, false, List, [], Option, Result, Ok, Err, MatchOption}
-use Rattle.feed_names.specs.ReleaseName.{Name}
-use Rattle.feed_answer.specs.Queries.{query_of}
+use Rattle.std.specs.Prelude.{◌≡◌, ◌≢◌, ◌⊎◌, ℕ, Bool, true, false, List, [], Result, Ok, Err}
 use Rattle.feed_model.specs.declared.keep_fault.KeepFault as cause
 use Rattle.feed_model.specs.declared.keep_fault.KeepFault.TheVariants as causes
-use Rattle.feed_model.specs.History.{Event, History, IsFile, Reports}
+use Rattle.feed_model.specs.History.{Event, History}
 use Rattle.feed_model.specs.Content.{Content}
 use Rattle.feed_world.specs.declared.line.Why as why
-use Rattle.feed_world.specs.World.{Line, Text, Refused, OrMemory, none_says, file_says}
+use Rattle.feed_world.specs.World.{Line, Text, Refused}
 use Rattle.feed_core.specs.declared.event.Event as code_event
 use Rattle.feed_core.specs.Told.{told}
 
@@ -20,11 +18,6 @@ Comes stands h (Err fault) = ((fault ≡ causes.Memory) ⊎ (fault ≡ causes.De
 abbrev pub shown_outcome : {T : Type 0} → (T → List ℕ) → Result T why.Why → Line
 shown_outcome bytes (Ok text) = Text (bytes text)
 shown_outcome bytes (Err why) = Refused why
-
--- a line that a query may be answered at this history
-abbrev pub IsAsked : History → List ℕ → List ℕ → Line → Type 0
-IsAsked h stem query line = (o : Option Name) × Reports h stem o × OrMemory line
-    (MatchOption o (line ≡ none_says (query_of query)) (λ n. (file : List ℕ) × IsFile h n file × (line ≡ file_says n file (query_of query))))
 
 -- what arrives at a node, or why nothing does
 abbrev pub shown_arrived : Result code_event.Event why.Why → Result Event why.Why

@@ -12,7 +12,8 @@ use Rattle.feed_model.specs.Sound.{IsText}
 use Rattle.feed_model.specs.Change.{Change, Pieces, Break, Activate}
 use Rattle.feed_model.specs.declared.state.State.{State}
 use Rattle.feed_model.specs.declared.state.State.TheVariants.{Staged, Broken, Active}
-use Rattle.feed_parts.specs.Piece.{AreWithin, total_length, DiffersIn, AgreesIn, HasNew, Covers}
+use Rattle.feed_model.specs.Parts.{DiffersIn, AgreesIn, HasNew, Covers}
+use Rattle.feed_parts.specs.Piece.{AreWithin, total_length}
 use Rattle.feed_core.specs.declared.overlap.Overlap.{Overlap}
 use Rattle.feed_core.specs.declared.overlap.Overlap.TheVariants.{Conflict, Kept, New}
 

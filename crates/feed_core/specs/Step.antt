@@ -14,6 +14,7 @@ use Rattle.feed_core.specs.declared.world.ReplayFault.{ReplayFault}
 use Rattle.feed_core.specs.declared.world.ReplayFault.TheVariants as faults
 use Rattle.feed_world.specs.World.{World, Node, WorldEvent, Line, Shelf, Happens, Shows, start, text_of}
 
+-- the content of each keeper is promised
 abbrev pub AllClean : {M : Type 0} → (M → Type 0) → List M → Type 0
 AllClean clean [] = Unit {0}
 AllClean clean (x ∷ xs) = clean x × AllClean clean xs
@@ -64,12 +65,13 @@ AreKept content (k ∷ ks) (y ∷ ys) = IsContent (content k) y.history × AreKe
 AreKept content [] (y ∷ ys) = ⊥
 AreKept content (k ∷ ks) [] = ⊥
 
--- the node that did not start, counted from 1: its device failed, or its keeper was not empty
+-- the node that did not start, counted from 1: its device failed, or its keeper was not empty; the keeper comes back with its content
 pub record IsNoStart {K : Type 0} (clean : K → Type 0) (content : K → Content) (failed : K → ℕ) (keepers : List K) (node : ℕ) (keeper : K) : Type 0 where
   pub before : K
   pub at : ℕ
   pub number : node ≡ suc at
   pub given : slice_get keepers at ≡ Some before
+  pub kept : clean keeper → content keeper ≡ content before
   pub refused : IsStartRefused (HasFailed (failed before) (failed keeper)) (clean keeper) (content before)
 
 -- what a fault of a replay says of the keepers

@@ -8,7 +8,7 @@ use crate::piece::piece;
 use crate::release::Release;
 use crate::releases::{active_of, find};
 use crate::reopen::reopened;
-use feed_answer::{Answer, Query, answer};
+use feed_answer::{Answer, Query};
 use feed_model::{KeepFault, Refusal, Reply};
 use feed_names::ReleaseName;
 use std::alloc::{AllocError, Global};
@@ -53,7 +53,7 @@ pub struct Feed<K: Keep + Drop> {
 
 impl<K: Keep + Drop> Feed<K> {
     ghost use Rattle.std.specs.Prelude.{◌≢◌, ◌↔◌, ◌∷◌, [], map, IfOk, IfErr, OnErr, IsTrue, option_map};
-    ghost use Rattle.feed_model.specs.History.{Answer as answer_of_event, History, Reports};
+    ghost use Rattle.feed_model.specs.History.{Answer as event_answer, History, Reports};
     ghost use Rattle.feed_model.specs.Reply.{IsRight, gone_on};
     ghost use Rattle.feed_model.specs.Sound.{IsSound};
     ghost use Rattle.feed_model.specs.Content.{IsContent};
@@ -173,7 +173,7 @@ impl<K: Keep + Drop> Feed<K> {
         let Some(holdings) = self.releases[at].holdings() else {
             return Err(AnswerFault::NoRelease);
         };
-        match answer(self.alloc, holdings, query) {
+        match holdings.answer(self.alloc, query) {
             Ok(answer) => Ok(answer),
             Err(_) => Err(AnswerFault::Memory),
         }
@@ -203,7 +203,7 @@ impl<K: Keep + Drop> Feed<K> {
     /// commits nothing, or whose commit is refused, leaves it as it was.
     pub fn stop_at(self, event: &Event<'_>, point: Point) -> K
         ensures before { point ≡ Point.Before → (result ≡ self.keeper) × (K.clean result → K.content result ≡ content_of self.releases.items) }
-        ensures after { point ≡ Point.After → K.clean result → (h : History) → IsContent (content_of self.releases.items) h → (answer : answer_of_event) × IsRight h (told event.now) answer × IsContent (K.content result) ((told event.now, answer) ∷ h) }
+        ensures after { point ≡ Point.After → K.clean result → (h : History) → IsContent (content_of self.releases.items) h → (answer : event_answer) × IsRight h (told event.now) answer × IsContent (K.content result) ((told event.now, answer) ∷ h) }
         ensures clean { K.clean result → K.clean self.keeper }
         ensures counted { K.failed self.keeper ≤ K.failed result }
     {

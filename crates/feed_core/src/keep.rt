@@ -15,9 +15,6 @@ use std::alloc::Global;
 /// A feed records at most this many releases, of all packages together.
 pub const RELEASE_LIMIT: usize = 256;
 
-/// A piece has 1 to this many bytes.
-pub const PIECE_LIMIT: usize = 1_048_576;
-
 /// A change of what is kept, made whole or not at all. Parts are in order, disjoint from one another and from the kept
 /// ones, and each has 1 to `PIECE_LIMIT` bytes.
 #[derive(Clone, Copy)]

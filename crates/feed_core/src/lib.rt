@@ -20,6 +20,7 @@ mod slot;
 mod step;
 #[cfg(test)]
 mod tests;
+mod text;
 mod transcript;
 mod world;
 
@@ -27,9 +28,9 @@ pub use event::Event;
 pub use feed::{AnswerFault, Feed, OpenFault, Point};
 pub use feed_answer::WriteFault;
 pub use feed_model::{KeepFault, Refusal, Reply, State};
-pub use feed_parts::Part;
+pub use feed_parts::{PIECE_LIMIT, Part};
 pub use feed_world::{Line, Sent, Why, WorldEvent};
-pub use keep::{Change, Keep, PIECE_LIMIT, RELEASE_LIMIT};
+pub use keep::{Change, Keep, RELEASE_LIMIT};
 pub use list_keep::ListKeep;
 pub use record::Record;
 pub use transcript::Transcript;

@@ -1,10 +1,10 @@
 ghost use Rattle.std.specs.Prelude.{◌≡◌, ◌↔◌, false, ◌≤◌, [], Some, None, IfOk, IfSome, IfNone, OnOk, OnErr, length, insert, not, IsPermutation};
 ghost use Rattle.std.specs.List.{IsDistinct};
 ghost use Rattle.feed_names.specs.ReleaseName.{name_eq};
-ghost use Rattle.feed_model.specs.Content.{Record as kept_record, AreParts, names, record_of};
-ghost use Rattle.feed_model.specs.Change.{changed, grown, insert_record, is_earlier, merged, new_record, without_earlier};
+ghost use Rattle.feed_model.specs.Content.{names, record_of};
+ghost use Rattle.feed_model.specs.Change.{changed, insert_record, is_earlier, new_record, without_earlier};
 ghost use Rattle.feed_parts.specs.Shown.{shown_parts};
-ghost use Rattle.feed_core.specs.Arranged.{AreSame, IsArranged};
+ghost use Rattle.feed_core.specs.Arranged.{IsArranged, lengthened, ordered};
 ghost use Rattle.feed_core.specs.Shown.{shown, shown_record, IsRecordAt};
 
 use crate::keep::{Change, Keep};
@@ -12,10 +12,11 @@ use crate::name_order::{is_before, stands_before};
 use crate::record::{Record, initial_state};
 use feed_model::{KeepFault, State};
 use feed_names::ReleaseName;
-use feed_parts::{Part, copied, merge};
+use feed_parts::{Part, copied, copied_in_order};
 use std::alloc::{AllocError, Global};
 
-/// The plain keeper: the records in memory, ordered by the texts of their names. It has no device that fails.
+/// The plain keeper: the records in memory, ordered by the texts of their names, each with its parts as they came. They
+/// are put in order as they are loaded. It has no device that fails.
 #[derive(Drop)]
 pub struct ListKeep {
     alloc: Global,
@@ -25,7 +26,7 @@ pub struct ListKeep {
 impl ListKeep {
     /// A keeper of no records. It takes no memory.
     pub fn new(alloc: Global) -> ListKeep
-        ensures { shown result.records.items ≡ [] }
+        ensures { ordered (shown result.records.items) ≡ [] }
     {
         ListKeep {
             alloc,
@@ -36,17 +37,16 @@ impl ListKeep {
     /// A keeper of these records, which it puts in order. It takes no memory. Where a name stands twice, `load` answers
     /// `Damaged`.
     pub fn of(alloc: Global, records: Vec<Record>) -> ListKeep
-        ensures { IsArranged (shown records.items) (shown result.records.items) }
+        ensures { IsArranged (shown records.items) (ordered (shown result.records.items)) }
     {
         let mut records = records;
         sort_by_name(&mut records);
-        sort_parts(&mut records);
         ListKeep { alloc, records }
     }
 }
 
 impl Keep for ListKeep {
-    ghost content = { λ keeper. shown keeper.records.items };
+    ghost content = { λ keeper. ordered (shown keeper.records.items) };
 
     ghost clean = { λ _. Unit {0} };
 
@@ -113,18 +113,15 @@ fn grow(
     parts: &[Part],
     state: State,
 ) -> Result<(), AllocError>
-    requires order { (r : kept_record) → record_of (shown records.old.items) name.now ≡ Some r → AreParts (shown_parts parts.now) }
-    requires apart { (r : kept_record) → record_of (shown records.old.items) name.now ≡ Some r → AreParts (merged r.parts (shown_parts parts.now)) }
-    ensures ok { OnOk result (shown records.new.items ≡ changed name.now (grown (shown_parts parts.now) state) (shown records.old.items)) }
+    ensures ok { OnOk result (shown records.new.items ≡ changed name.now (lengthened (shown_parts parts.now) state) (shown records.old.items)) }
     ensures err { OnErr result (shown records.new.items ≡ shown records.old.items) }
 {
     let Some(at) = find_record(records, name) else {
         return Ok(());
     };
-    let new = copied(alloc, parts)?;
+    let mut new = copied(alloc, parts)?;
     let record = &mut records[at];
-    record.parts.reserve(new.len())?;
-    merge(&mut record.parts, new);
+    record.parts.append(&mut new)?;
     record.state = state;
     Ok(())
 }
@@ -135,9 +132,7 @@ fn activate(
     name: &ReleaseName,
     parts: &[Part],
 ) -> Result<(), AllocError>
-    requires order { (r : kept_record) → record_of (shown records.old.items) name.now ≡ Some r → AreParts (shown_parts parts.now) }
-    requires apart { (r : kept_record) → record_of (shown records.old.items) name.now ≡ Some r → AreParts (merged r.parts (shown_parts parts.now)) }
-    ensures ok { OnOk result (shown records.new.items ≡ without_earlier name.now (changed name.now (grown (shown_parts parts.now) State.Active) (shown records.old.items))) }
+    ensures ok { OnOk result (shown records.new.items ≡ without_earlier name.now (changed name.now (lengthened (shown_parts parts.now) State.Active) (shown records.old.items))) }
     ensures err { OnErr result (shown records.new.items ≡ shown records.old.items) }
 {
     grow(alloc, records, name, parts, State::Active)?;
@@ -185,14 +180,6 @@ fn sort_by_name(records: &mut Vec<Record>)
     records.sort_unstable_by(|one, other| one.name.text().cmp(other.name.text()));
 }
 
-fn sort_parts(records: &mut Vec<Record>)
-    ensures { AreSame (shown records.old.items) (shown records.new.items) }
-{
-    for at in 0..records.len() {
-        records[at].parts.sort_unstable_by_key(|part| part.first);
-    }
-}
-
 // Whether a name stands twice.
 fn has_twice(records: &[Record]) -> bool
     ensures { result ≡ false ↔ IsDistinct name_eq (names (shown records.now)) }
@@ -205,8 +192,9 @@ fn has_twice(records: &[Record]) -> bool
     false
 }
 
+// The records once more, each with its parts in order.
 fn copied_records(alloc: Global, records: &[Record]) -> Result<Vec<Record>, AllocError>
-    ensures { IfOk result (λ copy. shown copy.items ≡ shown records.now) }
+    ensures { IfOk result (λ copy. shown copy.items ≡ ordered (shown records.now)) }
 {
     let mut copy = Vec::with_capacity(alloc, records.len())?;
     for record in records {
@@ -214,7 +202,7 @@ fn copied_records(alloc: Global, records: &[Record]) -> Result<Vec<Record>, Allo
             name: record.name.try_clone()?,
             size: record.size,
             state: record.state,
-            parts: copied(alloc, &record.parts)?,
+            parts: copied_in_order(alloc, &record.parts)?,
         };
         copy.push(record)?;
     }

@@ -1,8 +1,10 @@
-ghost use Rattle.std.specs.Prelude.{◌≡◌, ◌∷◌, Bool, true, option_map};
+ghost use Rattle.std.specs.Prelude.{◌≡◌, ◌≢◌, ◌∷◌, ℕ, Bool, true, Err, option_map};
 ghost use Rattle.feed_model.specs.History.{History, Answer, Reports};
 ghost use Rattle.feed_model.specs.Reply.{IsRight};
+ghost use Rattle.feed_core.specs.Cause.{IsAnswerCounted, IsCounted};
 ghost use Rattle.feed_core.specs.Told.{told};
-ghost use Rattle.feed_core.specs.Nodes.{Comes, IsAsked, shown_outcome};
+ghost use Rattle.feed_world.specs.World.{IsAsked};
+ghost use Rattle.feed_core.specs.Nodes.{Comes, shown_outcome};
 
 use crate::event::Event;
 use feed_model::{KeepFault, Refusal, Reply};
@@ -18,6 +20,9 @@ pub trait Node {
     /// Whether it is up, and the history at which it stands.
     ghost stands: { Self → Bool → History → Type 0 };
 
+    /// How often the device of its keeper has failed.
+    ghost failed: { Self → ℕ };
+
     fn is_up(&self) -> bool
         ensures { (up : Bool) (h : History) → stands self.now up h → result ≡ up };
 
@@ -27,20 +32,24 @@ pub trait Node {
 
     /// The text that answers a query about a package, or why there is none.
     fn ask(&self, alloc: Global, package: &[u8], query: &[u8]) -> Result<Vec<u8>, Why>
-        ensures { (h : History) → stands self.now true h → IsAsked h «package».now query.now (shown_outcome (λ text. text.items) result) };
+        ensures asked { (h : History) → stands self.now true h → IsAsked h «package».now query.now (shown_outcome (λ text. text.items) result) }
+        ensures device { result ≢ Err (Why.Feed Refusal.Device) };
 
     /// Takes an event.
     fn handle(&mut self, event: &Event<'_>) -> Result<Reply, Refusal>
         ensures clean { clean self.new → clean self.old }
-        ensures right { (h : History) → stands self.old true h → IsRight h (told event.now) result × stands self.new true ((told event.now, result) ∷ h) };
+        ensures right { (h : History) → stands self.old true h → IsRight h (told event.now) result × stands self.new true ((told event.now, result) ∷ h) }
+        ensures device { IsAnswerCounted result (failed self.old) (failed self.new) };
 
     /// Opens the node again, as after a stop between two events or before the commit of one.
     fn restart(self, alloc: Global) -> (Self, Result<(), KeepFault>)
         ensures clean { clean result.0 → clean self }
-        ensures same { (up : Bool) (h : History) → clean result.0 → stands self up h → Comes (stands result.0) h result.1 };
+        ensures same { (up : Bool) (h : History) → clean result.0 → stands self up h → Comes (stands result.0) h result.1 }
+        ensures device { IsCounted result.1 (failed self) (failed result.0) };
 
     /// Stops the node after the commit of an event and before its answer, and opens it again.
     fn stop_after(self, alloc: Global, event: &Event<'_>) -> (Self, Result<(), KeepFault>)
         ensures clean { clean result.0 → clean self }
-        ensures right { (h : History) → clean result.0 → stands self true h → (answer : Answer) × IsRight h (told event.now) answer × Comes (stands result.0) ((told event.now, answer) ∷ h) result.1 };
+        ensures right { (h : History) → clean result.0 → stands self true h → (answer : Answer) × IsRight h (told event.now) answer × Comes (stands result.0) ((told event.now, answer) ∷ h) result.1 }
+        ensures device { IsCounted result.1 (failed self) (failed result.0) };
 }

@@ -7,13 +7,14 @@ ghost use Rattle.feed_model.specs.Handles.{Handles};
 ghost use Rattle.feed_core.specs.Cause.{IsAnswerCounted};
 ghost use Rattle.feed_core.specs.ReleaseValue.{content_of, IsPlaceOf, LiesOver};
 
-use crate::keep::{Keep, PIECE_LIMIT};
+use crate::keep::Keep;
 use crate::overlap::Overlap;
 use crate::release::Release;
 use crate::releases::{drop_earlier, find, is_passed};
 use feed_kbart::KbartFault;
 use feed_model::{Refusal, Reply, State};
 use feed_names::ReleaseName;
+use feed_parts::PIECE_LIMIT;
 use std::alloc::Global;
 
 /// Answers a piece: the first case that holds decides.
@@ -105,7 +106,7 @@ fn take_in<K: Keep>(
             Ok(()) => Ok(Reply::Broken(why)),
             Err(refusal) => Err(refusal),
         },
-        // A text in memory is within the limit of a file and read to its end, so only memory is left.
+        // Parts in memory are within the limit of a file and read to their end, so only memory is left.
         Err(_) => Err(Refusal::Memory),
     }
 }

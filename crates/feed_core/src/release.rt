@@ -1,11 +1,12 @@
 ghost use Rattle.std.specs.Prelude.{◌≡◌, ◌≢◌, ◌<◌, ◌≤◌, ◌+◌, ◌⊎◌, ℕ, IsSome, OnOk, OnErr, IfOk, IfErr, length};
 ghost use Rattle.feed_model.specs.Reply.{missing_below};
-ghost use Rattle.feed_model.specs.Content.{byte_in};
+ghost use Rattle.feed_model.specs.Content.{byte_in, AreParts};
 ghost use Rattle.feed_model.specs.Change.{grown, merged, new_record, after, IsAllowed};
 ghost use Rattle.feed_model.specs.Sound.{BearsOut, IsSoundRecord};
 ghost use Rattle.feed_model.specs.declared.state.State.TheVariants.{Staged};
 ghost use Rattle.feed_parts.specs.Shown.{shown_parts};
-ghost use Rattle.feed_parts.specs.Piece.{Adds, AreWithin, HasNew};
+ghost use Rattle.feed_model.specs.Parts.{HasNew};
+ghost use Rattle.feed_parts.specs.Piece.{Adds, AreWithin};
 ghost use Rattle.feed_core.specs.Shown.{shown_change, shown_record};
 ghost use Rattle.feed_core.specs.Cause.{HasFailed};
 ghost use Rattle.feed_core.specs.NextRange.{IsNextOf};
@@ -14,17 +15,18 @@ ghost use Rattle.feed_core.specs.ReleaseValue.{LiesOver, IsJudged, IsKnown, chan
 use crate::keep::{Change, Keep};
 use crate::overlap::Overlap;
 use crate::record::{Record, initial_state};
-use feed_kbart::{FILE_LIMIT, Holdings, KbartFault, read_file};
+use feed_answer::HoldingsIndex;
+use feed_kbart::{FILE_LIMIT, KbartFault, read_file};
 use feed_model::{KeepFault, Refusal, State};
 use feed_names::ReleaseName;
 use feed_parts::{
-    Part, are_within, byte_count, conflicts, covers, merge, new_parts, next_gap, text_of,
+    Part, PartReader, are_within, byte_count, conflicts, covers, merge, new_parts, next_gap,
 };
 use std::alloc::{AllocError, Global};
 use std::marker::Model;
 
 /// A recorded release in memory: what is kept of it, how many places of its file are missing, and what its file holds
-/// if it is active.
+/// if it is active, indexed by ISSN.
 #[derive(Drop)]
 pub struct Release {
     name: ReleaseName,
@@ -32,7 +34,7 @@ pub struct Release {
     state: State,
     parts: Vec<Part>,
     missing: u64,
-    holdings: Option<Holdings>,
+    holdings: Option<HoldingsIndex>,
 }
 
 impl Model for Release {
@@ -68,17 +70,19 @@ impl Release {
         ensures ok { IfOk result (λ release. (release.kept ≡ shown_record «record») × IsSoundRecord (shown_record «record»)) }
         ensures err { IfErr result (λ cause. (cause ≡ KeepFault.Memory) ⊎ ((cause ≡ KeepFault.Damaged) × ¬ (IsSoundRecord (shown_record «record»)))) }
     {
+        if record.size > FILE_LIMIT as u64 || !are_within(&record.parts, record.size) {
+            return Err(KeepFault::Damaged);
+        }
+        let missing = record
+            .size
+            .saturating_sub(byte_count(&record.parts, record.size));
+        let holdings = found_in(alloc, &record, missing)?;
         let Record {
             name,
             size,
             state,
             parts,
         } = record;
-        if size > FILE_LIMIT as u64 || !are_within(&parts, size) {
-            return Err(KeepFault::Damaged);
-        }
-        let missing = size.saturating_sub(byte_count(&parts, size));
-        let holdings = found_in(alloc, &parts, size, missing, state)?;
         Ok(Release {
             name,
             size,
@@ -109,7 +113,7 @@ impl Release {
     }
 
     /// What the file holds, of an active release.
-    pub fn holdings(&self) -> &Option<Holdings>
+    pub fn holdings(&self) -> &Option<HoldingsIndex>
         ensures value { result.now ≡ self.now.holdings }
         ensures known { IsKnown self.now.kept.state self.now.kept.size self.now.kept.parts self.now.holdings }
     {
@@ -163,12 +167,13 @@ impl Release {
     }
 
     /// What the file holds with its last parts, or why it is bad.
-    pub fn judge(&self, alloc: Global, new: &[Part]) -> Result<Holdings, KbartFault>
+    pub fn judge(&self, alloc: Global, new: &[Part]) -> Result<HoldingsIndex, KbartFault>
+        requires order { AreWithin self.now.kept.size (shown_parts new.now) }
         requires whole { AreWithin self.now.kept.size (merged self.now.kept.parts (shown_parts new.now)) }
         requires covered { (place : ℕ) → place < self.now.kept.size → IsSome (byte_in (merged self.now.kept.parts (shown_parts new.now)) place) }
         ensures { IsJudged self.now.kept.size (merged self.now.kept.parts (shown_parts new.now)) result }
     {
-        judged(alloc, &self.parts, new, self.size)
+        judged(alloc, &self.parts, new)
     }
 
     /// Commits new parts, and the state that the release has with them, and then takes them in. All memory is taken
@@ -178,7 +183,7 @@ impl Release {
         keeper: &mut K,
         new: Vec<Part>,
         state: State,
-        holdings: Option<Holdings>,
+        holdings: Option<HoldingsIndex>,
     ) -> Result<(), Refusal>
         requires staged { self.old.kept.state ≡ Staged }
         requires order { AreWithin self.old.kept.size (shown_parts new.items) }
@@ -208,34 +213,31 @@ impl Release {
     }
 }
 
-// The holdings of a release with this state, of which so many places are missing: those of its file if it is active. The
-// parts have to bear out the state.
+// The holdings that a record's release has, of which so many places are missing: those of its file if it is active.
+// The parts have to bear out the state.
 fn found_in(
     alloc: Global,
-    parts: &[Part],
-    size: u64,
+    record: &Record,
     missing: u64,
-    state: State,
-) -> Result<Option<Holdings>, KeepFault>
-    requires limit { size ≤ 67108864 }
-    requires within { AreWithin size (shown_parts parts.now) }
-    requires counted { missing ≡ missing_below (byte_in (shown_parts parts.now)) size }
-    ensures known { IfOk result (λ holdings. IsKnown state size (shown_parts parts.now) holdings × BearsOut state size (shown_parts parts.now)) }
-    ensures staged { OnOk result ((state ≡ State.Staged → 0 < missing) × (state ≢ State.Staged → missing ≡ 0)) }
-    ensures err { IfErr result (λ cause. (cause ≡ KeepFault.Memory) ⊎ ((cause ≡ KeepFault.Damaged) × ¬ (BearsOut state size (shown_parts parts.now)))) }
+) -> Result<Option<HoldingsIndex>, KeepFault>
+    requires within { AreWithin «record».now.size (shown_parts «record».now.parts.items) }
+    requires counted { missing ≡ missing_below (byte_in (shown_parts «record».now.parts.items)) «record».now.size }
+    ensures known { IfOk result (λ holdings. IsKnown «record».now.state «record».now.size (shown_parts «record».now.parts.items) holdings × BearsOut «record».now.state «record».now.size (shown_parts «record».now.parts.items)) }
+    ensures staged { OnOk result ((«record».now.state ≡ State.Staged → 0 < missing) × («record».now.state ≢ State.Staged → missing ≡ 0)) }
+    ensures err { IfErr result (λ cause. (cause ≡ KeepFault.Memory) ⊎ ((cause ≡ KeepFault.Damaged) × ¬ (BearsOut «record».now.state «record».now.size (shown_parts «record».now.parts.items)))) }
 {
     if missing > 0 {
-        return match state {
+        return match record.state {
             State::Staged => Ok(None),
             State::Broken | State::Active => Err(KeepFault::Damaged),
         };
     }
-    match judged(alloc, parts, &[], size) {
-        Ok(holdings) => match state {
+    match judged(alloc, &record.parts, &[]) {
+        Ok(holdings) => match record.state {
             State::Active => Ok(Some(holdings)),
             State::Staged | State::Broken => Err(KeepFault::Damaged),
         },
-        Err(KbartFault::Bad(_)) => match state {
+        Err(KbartFault::Bad(_)) => match record.state {
             State::Broken => Ok(None),
             State::Staged | State::Active => Err(KeepFault::Damaged),
         },
@@ -243,15 +245,16 @@ fn found_in(
     }
 }
 
-// What a whole file holds, or why it is bad.
-fn judged(alloc: Global, kept: &[Part], new: &[Part], size: u64) -> Result<Holdings, KbartFault>
-    requires whole { AreWithin size (merged (shown_parts kept.now) (shown_parts new.now)) }
-    requires small { size ≤ 67108864 }
-    requires covered { (place : ℕ) → place < size → IsSome (byte_in (merged (shown_parts kept.now) (shown_parts new.now)) place) }
-    ensures { IsJudged size (merged (shown_parts kept.now) (shown_parts new.now)) result }
+// What a whole file holds, indexed by ISSN, or why it is bad. It is read from its parts where they lie.
+fn judged(alloc: Global, kept: &[Part], new: &[Part]) -> Result<HoldingsIndex, KbartFault>
+    requires order { AreParts (shown_parts new.now) }
+    requires apart { AreParts (merged (shown_parts kept.now) (shown_parts new.now)) }
+    ensures { (size : ℕ) → AreWithin size (merged (shown_parts kept.now) (shown_parts new.now)) → ((place : ℕ) → place < size → IsSome (byte_in (merged (shown_parts kept.now) (shown_parts new.now)) place)) → IsJudged size (merged (shown_parts kept.now) (shown_parts new.now)) result }
 {
-    let text = text_of(alloc, kept, new, size)?;
-    read_file(alloc, text.as_slice())
+    match read_file(alloc, PartReader::new(kept, new)) {
+        Ok(holdings) => Ok(HoldingsIndex::of(alloc, holdings)?),
+        Err(fault) => Err(fault),
+    }
 }
 
 // The change that adds parts to a release and gives it this state.

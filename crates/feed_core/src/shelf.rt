@@ -1,11 +1,12 @@
 //! The published files of a world.
-ghost use Rattle.std.specs.Prelude.{◌≡◌, ◌↔◌, [], IfOk, IsTrue, option_map};
+ghost use Rattle.std.specs.Prelude.{◌≡◌, ◌≢◌, ◌↔◌, [], Err, IfOk, IsTrue, option_map};
 ghost use Rattle.feed_world.specs.World.{World, Shelf as files, Publish, Offer, Deliver, Lose, Happens, arriving, text_of};
 ghost use Rattle.feed_world.specs.Shown.{shown_line, shown_sent};
 ghost use Rattle.feed_core.specs.Nodes.{shown_arrived};
 ghost use Rattle.feed_core.specs.Step.{IsShelf};
 
 use crate::event::Event;
+use feed_model::Refusal;
 use feed_names::{ReleaseName, one_release_for_text, one_text_for_release};
 use feed_world::{Line, Sent, Why};
 use std::alloc::{AllocError, Global};
@@ -55,7 +56,8 @@ impl<'a> Shelf<'a> {
 
     /// An offer of a published release, as it arrives at a node: with the size of its file.
     pub fn offer(&self, name: &'a ReleaseName) -> Result<Event<'a>, Why>
-        ensures { (shelf : files) → IsShelf self.now.files.entries shelf → arriving shelf (Offer name.now) ≡ shown_arrived result }
+        ensures arrives { (shelf : files) → IsShelf self.now.files.entries shelf → arriving shelf (Offer name.now) ≡ shown_arrived result }
+        ensures unsent { result ≢ Err (Why.Feed Refusal.Device) }
     {
         match self.file_of(name) {
             Some(file) => Ok(Event::Offered {
@@ -68,7 +70,8 @@ impl<'a> Shelf<'a> {
 
     /// A delivery as it arrives at a node: the slice of the published file, and the size of the file.
     pub fn deliver(&self, name: &'a ReleaseName, first: u64, len: u64) -> Result<Event<'a>, Why>
-        ensures { (shelf : files) → IsShelf self.now.files.entries shelf → arriving shelf (Deliver name.now first len) ≡ shown_arrived result }
+        ensures arrives { (shelf : files) → IsShelf self.now.files.entries shelf → arriving shelf (Deliver name.now first len) ≡ shown_arrived result }
+        ensures unsent { result ≢ Err (Why.Feed Refusal.Device) }
     {
         let Some(file) = self.file_of(name) else {
             return Err(Why::Unpublished);
@@ -90,7 +93,8 @@ impl<'a> Shelf<'a> {
 
     /// A loss as it arrives at a node.
     pub fn lose(&self, name: &'a ReleaseName) -> Result<Event<'a>, Why>
-        ensures { (shelf : files) → IsShelf self.now.files.entries shelf → arriving shelf (Lose name.now) ≡ shown_arrived result }
+        ensures arrives { (shelf : files) → IsShelf self.now.files.entries shelf → arriving shelf (Lose name.now) ≡ shown_arrived result }
+        ensures unsent { result ≢ Err (Why.Feed Refusal.Device) }
     {
         match self.file_of(name) {
             Some(_) => Ok(Event::Lost { name }),
@@ -100,7 +104,8 @@ impl<'a> Shelf<'a> {
 
     /// What is on its way to a node as it stops.
     pub fn sent(&self, what: &'a Sent) -> Result<Event<'a>, Why>
-        ensures { (shelf : files) → IsShelf self.now.files.entries shelf → arriving shelf (shown_sent what.now) ≡ shown_arrived result }
+        ensures arrives { (shelf : files) → IsShelf self.now.files.entries shelf → arriving shelf (shown_sent what.now) ≡ shown_arrived result }
+        ensures unsent { result ≢ Err (Why.Feed Refusal.Device) }
     {
         match what {
             Sent::Offer { name } => self.offer(name),

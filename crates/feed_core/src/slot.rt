@@ -1,20 +1,25 @@
-ghost use Rattle.std.specs.Prelude.{◌≡◌, ◌≢◌, Bool, true, [], IfOk, IfErr};
+ghost use Rattle.std.specs.Prelude.{◌≡◌, ◌≢◌, ◌≤◌, Bool, true, [], Err, IfOk, IfErr};
 ghost use Rattle.feed_model.specs.History.{History};
 ghost use Rattle.feed_model.specs.Content.{IsContent};
 ghost use Rattle.feed_core.specs.ReleaseValue.{content_of};
-ghost use Rattle.feed_core.specs.Cause.{HasFailed};
-ghost use Rattle.feed_core.specs.Slots.{IsSlotClean, SlotStands};
-ghost use Rattle.feed_core.specs.Nodes.{Comes, IsAsked, IsStartRefused, shown_outcome};
+ghost use Rattle.feed_core.specs.Cause.{HasFailed, IsCounted};
+ghost use Rattle.feed_core.specs.Slots.{IsSlotClean, SlotStands, slot_failed};
+ghost use Rattle.feed_world.specs.World.{IsAsked};
+ghost use Rattle.feed_core.specs.Nodes.{Comes, IsStartRefused, shown_outcome};
 
 use crate::event::Event;
 use crate::feed::{AnswerFault, Feed, OpenFault, Point};
 use crate::keep::Keep;
 use crate::node::Node;
+use crate::text::Text;
 use feed_answer::{Query, QueryFault};
 use feed_model::{KeepFault, Refusal, Reply};
 use feed_names::ReleaseName;
 use feed_world::Why;
 use std::alloc::Global;
+
+// The text of an answer with a hit or two has this many bytes, and then it does not grow.
+const TEXT_ROOM: usize = 256;
 
 /// A node over a keeper.
 #[derive(Drop)]
@@ -29,7 +34,9 @@ impl<K: Keep + Drop> Slot<K> {
     /// A node on a keeper that holds nothing. A keeper that holds something is handed back.
     pub fn start(alloc: Global, keeper: K) -> Result<Slot<K>, OpenFault<K>>
         ensures ok { IfOk result (λ s. SlotStands (λ f. content_of f.releases.items) K.content s true []) }
+        ensures counted { IfOk result (λ s. K.failed keeper ≤ slot_failed (λ f. K.failed f.keeper) K.failed s) }
         ensures err { IfErr result (λ fault. fault.cause ≢ KeepFault.Memory → IsStartRefused (HasFailed (K.failed keeper) (K.failed fault.keeper)) (K.clean fault.keeper) (K.content keeper)) }
+        ensures kept { IfErr result (λ fault. K.clean fault.keeper → K.content fault.keeper ≡ K.content keeper) }
     {
         match Feed::open(alloc, keeper) {
             Ok(feed) => {
@@ -50,6 +57,7 @@ impl<K: Keep + Drop> Slot<K> {
     pub fn into_keeper(self) -> K
         ensures clean { K.clean result → IsSlotClean (λ f. K.clean f.keeper) K.clean self }
         ensures content { K.clean result → (up : Bool) (h : History) → SlotStands (λ f. content_of f.releases.items) K.content self up h → IsContent (K.content result) h }
+        ensures failed { K.failed result ≡ slot_failed (λ f. K.failed f.keeper) K.failed self }
     {
         match self {
             Slot::Up(feed) => feed.restart(),
@@ -62,6 +70,7 @@ impl<K: Keep + Drop> Slot<K> {
 fn opened<K: Keep + Drop>(alloc: Global, keeper: K) -> (Slot<K>, Result<(), KeepFault>)
     ensures clean { IsSlotClean (λ f. K.clean f.keeper) K.clean result.0 → K.clean keeper }
     ensures same { (h : History) → IsSlotClean (λ f. K.clean f.keeper) K.clean result.0 → IsContent (K.content keeper) h → Comes (SlotStands (λ f. content_of f.releases.items) K.content result.0) h result.1 }
+    ensures device { IsCounted result.1 (K.failed keeper) (slot_failed (λ f. K.failed f.keeper) K.failed result.0) }
 {
     match Feed::open(alloc, keeper) {
         Ok(feed) => (Slot::Up(feed), Ok(())),
@@ -73,6 +82,8 @@ impl<K: Keep + Drop> Node for Slot<K> {
     ghost clean = { λ s. IsSlotClean (λ f. K.clean f.keeper) K.clean s };
 
     ghost stands = { λ s. SlotStands (λ f. content_of f.releases.items) K.content s };
+
+    ghost failed = { λ s. slot_failed (λ f. K.failed f.keeper) K.failed s };
 
     fn is_up(&self) -> bool {
         match self {
@@ -121,7 +132,8 @@ fn asked<K: Keep + Drop>(
     package: &[u8],
     query: &[u8],
 ) -> Result<Vec<u8>, Why>
-    ensures { (h : History) → IsContent (content_of feed.now.releases.items) h → IsAsked h «package».now query.now (shown_outcome (λ text. text.items) result) }
+    ensures asked { (h : History) → IsContent (content_of feed.now.releases.items) h → IsAsked h «package».now query.now (shown_outcome (λ text. text.items) result) }
+    ensures device { result ≢ Err (Why.Feed Refusal.Device) }
 {
     let active = feed.report(package);
     let query = match Query::read(alloc, query) {
@@ -137,9 +149,11 @@ fn asked<K: Keep + Drop>(
         Err(AnswerFault::NoRelease) => return Err(Why::NoRelease),
         Err(AnswerFault::Memory) => return Err(Why::Memory),
     };
-    let mut text = Vec::new(alloc);
+    let Ok(mut text) = Text::with_capacity(alloc, TEXT_ROOM) else {
+        return Err(Why::Memory);
+    };
     match answer.write(&mut text, name) {
-        Ok(()) => Ok(text),
+        Ok(()) => Ok(text.into_bytes()),
         Err(_) => Err(Why::Memory),
     }
 }

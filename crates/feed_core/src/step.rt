@@ -1,16 +1,18 @@
 //! What a world makes of one event at one node.
-ghost use Rattle.std.specs.Prelude.{◌≡◌, ◌+◌, ◌<◌, ◌≤◌, ◌⊎◌, ◌∷◌, Bool, true, IfOk, IfSome, IfNone, insert, length, vec_len, vec_capacity};
+ghost use Rattle.std.specs.Prelude.{◌≡◌, ◌≢◌, ◌+◌, ◌<◌, ◌≤◌, ◌⊎◌, ◌∷◌, Bool, true, Err, IfOk, IfSome, IfNone, insert, length, vec_len, vec_capacity};
 ghost use Rattle.feed_model.specs.History.{History, Answer};
 ghost use Rattle.feed_model.specs.Reply.{IsRight};
 ghost use Rattle.feed_world.specs.World.{Sent as sent, Tell, Restart, StopBefore, StopAfter, Report, Ask, arriving};
 ghost use Rattle.feed_world.specs.Shown.{shown_line};
+ghost use Rattle.feed_core.specs.Cause.{IsCounted};
+ghost use Rattle.feed_core.specs.Counts.{AreCounted, TellsDevice};
 ghost use Rattle.feed_core.specs.Told.{told};
 ghost use Rattle.feed_core.specs.Nodes.{Comes, shown_arrived};
 ghost use Rattle.feed_core.specs.Step.{Changes, Goes};
 
 use crate::event::Event;
 use crate::node::Node;
-use feed_model::KeepFault;
+use feed_model::{KeepFault, Refusal};
 use feed_world::{Line, Why};
 use std::alloc::{AllocError, Global};
 
@@ -42,7 +44,7 @@ fn put_back<N: Node + Drop>(nodes: &mut Vec<N>, at: usize, node: N)
 // Opens the node at a place again.
 fn reopened<N: Node + Drop>(alloc: Global, nodes: &mut Vec<N>, at: usize) -> Result<(), KeepFault>
     requires within { at < vec_len nodes.old }
-    ensures { Changes N.clean (λ x z. (up : Bool) (h : History) → N.clean z → N.stands x up h → Comes (N.stands z) h result) nodes.old.items nodes.new.items at }
+    ensures { Changes N.clean (λ x z. IsCounted result (N.failed x) (N.failed z) × ((up : Bool) (h : History) → N.clean z → N.stands x up h → Comes (N.stands z) h result)) nodes.old.items nodes.new.items at }
 {
     let (node, outcome) = nodes.remove(at).restart(alloc);
     put_back(nodes, at, node);
@@ -57,7 +59,7 @@ fn stopped_after<N: Node + Drop>(
     event: &Event<'_>,
 ) -> Result<(), KeepFault>
     requires within { at < vec_len nodes.old }
-    ensures { Changes N.clean (λ x z. (h : History) → N.clean z → N.stands x true h → (answer : Answer) × IsRight h (told event.now) answer × Comes (N.stands z) ((told event.now, answer) ∷ h) result) nodes.old.items nodes.new.items at }
+    ensures { Changes N.clean (λ x z. IsCounted result (N.failed x) (N.failed z) × ((h : History) → N.clean z → N.stands x true h → (answer : Answer) × IsRight h (told event.now) answer × Comes (N.stands z) ((told event.now, answer) ∷ h) result)) nodes.old.items nodes.new.items at }
 {
     let (node, outcome) = nodes.remove(at).stop_after(alloc, event);
     put_back(nodes, at, node);
@@ -68,6 +70,7 @@ fn stopped_after<N: Node + Drop>(
 pub fn restart_at<N: Node + Drop>(alloc: Global, nodes: &mut Vec<N>, node: u64) -> Line
     ensures step { Goes N.clean N.stands (λ _. Unit {0}) nodes.old.items nodes.new.items (Restart node) (shown_line result) }
     ensures count { length nodes.new.items ≡ length nodes.old.items }
+    ensures device { AreCounted (λ i. (i ≡ node) × TellsDevice (shown_line result)) N.failed N.failed 1 nodes.old.items nodes.new.items }
 {
     let Some(at) = place(nodes.len(), node) else {
         return Line::Refused(Why::NoNode);
@@ -82,6 +85,7 @@ pub fn restart_at<N: Node + Drop>(alloc: Global, nodes: &mut Vec<N>, node: u64) 
 pub fn tell_at<N: Node>(nodes: &mut Vec<N>, node: u64, arrived: &Result<Event<'_>, Why>) -> Line
     ensures step { (what : sent) → Goes N.clean N.stands (λ shelf. arriving shelf what ≡ shown_arrived arrived.now) nodes.old.items nodes.new.items (Tell node what) (shown_line result) }
     ensures count { length nodes.new.items ≡ length nodes.old.items }
+    ensures device { arrived.now ≢ Err (Why.Feed Refusal.Device) → AreCounted (λ i. (i ≡ node) × TellsDevice (shown_line result)) N.failed N.failed 1 nodes.old.items nodes.new.items }
 {
     let Some(at) = place(nodes.len(), node) else {
         return Line::Refused(Why::NoNode);
@@ -108,6 +112,7 @@ pub fn stop_before_at<N: Node + Drop>(
 ) -> Line
     ensures step { (what : sent) → Goes N.clean N.stands (λ shelf. arriving shelf what ≡ shown_arrived arrived.now) nodes.old.items nodes.new.items (StopBefore node what) (shown_line result) }
     ensures count { length nodes.new.items ≡ length nodes.old.items }
+    ensures device { arrived.now ≢ Err (Why.Feed Refusal.Device) → AreCounted (λ i. (i ≡ node) × TellsDevice (shown_line result)) N.failed N.failed 1 nodes.old.items nodes.new.items }
 {
     let Some(at) = place(nodes.len(), node) else {
         return Line::Refused(Why::NoNode);
@@ -134,6 +139,7 @@ pub fn stop_after_at<N: Node + Drop>(
 ) -> Line
     ensures step { (what : sent) → Goes N.clean N.stands (λ shelf. arriving shelf what ≡ shown_arrived arrived.now) nodes.old.items nodes.new.items (StopAfter node what) (shown_line result) }
     ensures count { length nodes.new.items ≡ length nodes.old.items }
+    ensures device { arrived.now ≢ Err (Why.Feed Refusal.Device) → AreCounted (λ i. (i ≡ node) × TellsDevice (shown_line result)) N.failed N.failed 1 nodes.old.items nodes.new.items }
 {
     let Some(at) = place(nodes.len(), node) else {
         return Line::Refused(Why::NoNode);
@@ -153,7 +159,8 @@ pub fn stop_after_at<N: Node + Drop>(
 
 /// The active release of a package at a node.
 pub fn report_at<N: Node>(nodes: &[N], node: u64, package: &[u8]) -> Result<Line, AllocError>
-    ensures { IfOk result (λ line. Goes N.clean N.stands (λ _. Unit {0}) nodes.now nodes.now (Report node «package».now) (shown_line line)) }
+    ensures step { IfOk result (λ line. Goes N.clean N.stands (λ _. Unit {0}) nodes.now nodes.now (Report node «package».now) (shown_line line)) }
+    ensures device { IfOk result (λ line. ¬ (TellsDevice (shown_line line))) }
 {
     let Some(at) = place(nodes.len(), node) else {
         return Ok(Line::Refused(Why::NoNode));
@@ -169,7 +176,8 @@ pub fn report_at<N: Node>(nodes: &[N], node: u64, package: &[u8]) -> Result<Line
 
 /// What a node answers a query about a package.
 pub fn ask_at<N: Node>(alloc: Global, nodes: &[N], node: u64, package: &[u8], query: &[u8]) -> Line
-    ensures { Goes N.clean N.stands (λ _. Unit {0}) nodes.now nodes.now (Ask node «package».now query.now) (shown_line result) }
+    ensures step { Goes N.clean N.stands (λ _. Unit {0}) nodes.now nodes.now (Ask node «package».now query.now) (shown_line result) }
+    ensures device { ¬ (TellsDevice (shown_line result)) }
 {
     let Some(at) = place(nodes.len(), node) else {
         return Line::Refused(Why::NoNode);

@@ -6,7 +6,8 @@ ghost use Rattle.feed_world.specs.Shown.{shown_event, shown_line};
 ghost use Rattle.feed_world.specs.Headline.{IsHeadline};
 ghost use Rattle.feed_core.specs.ReleaseValue.{content_of};
 ghost use Rattle.feed_core.specs.Cause.{HasFailed};
-ghost use Rattle.feed_core.specs.Slots.{IsSlotClean, SlotStands};
+ghost use Rattle.feed_core.specs.Counts.{AreCounted, IsToldOf, TellsDevice, node_of};
+ghost use Rattle.feed_core.specs.Slots.{IsSlotClean, SlotStands, slot_failed};
 ghost use Rattle.feed_core.specs.Step.{AllClean, AreNodes, AreKept, GoesTo, IsStart};
 
 use crate::feed::OpenFault;
@@ -44,6 +45,7 @@ pub fn replay<K: Keep + Drop>(
     ensures shown { IfOk result (λ t. AllClean K.clean t.keepers.items → (w : World) × Shows (start (vec_len keepers)) (map shown_event events.now) (map shown_line t.lines.items) w × AreKept K.content t.keepers.items w.nodes) }
     ensures headline { IfOk result (λ t. AllClean K.clean t.keepers.items → IsHeadline (map shown_event events.now) (map shown_line t.lines.items)) }
     ensures count { IfOk result (λ t. vec_len t.lines ≡ length events.now) }
+    ensures device { IfOk result (λ t. AreCounted (IsToldOf (map shown_event events.now) (map shown_line t.lines.items)) K.failed K.failed 1 keepers.items t.keepers.items) }
     ensures nodes { ((vec_len keepers ≡ 0) ⊎ (16 < vec_len keepers)) ↔ IsErrOf result ReplayFault.Nodes }
     ensures start { IfErr result (λ fault. IsStart K.clean K.content K.failed keepers.items fault) }
 {
@@ -64,6 +66,7 @@ pub fn replay<K: Keep + Drop>(
 fn start_all<K: Keep + Drop>(alloc: Global, keepers: Vec<K>) -> Result<Vec<Slot<K>>, ReplayFault<K>>
     ensures count { IfOk result (λ nodes. length nodes.items ≡ vec_len keepers) }
     ensures started { IfOk result (λ nodes. AreNodes (SlotStands (λ f. content_of f.releases.items) K.content) nodes.items (start (length nodes.items)).nodes) }
+    ensures counted { IfOk result (λ nodes. AreCounted (λ _. ⊥) K.failed (slot_failed (λ f. K.failed f.keeper) K.failed) 1 keepers.items nodes.items) }
     ensures nodes { ¬ (IsErrOf result ReplayFault.Nodes) }
     ensures start { IfErr result (λ fault. IsStart K.clean K.content K.failed keepers.items fault) }
 {
@@ -102,6 +105,7 @@ fn keepers_of<K: Keep + Drop>(room: Vec<K>, nodes: Vec<Slot<K>>) -> Vec<K>
     requires room { vec_len nodes ≤ vec_capacity room }
     ensures clean { AllClean K.clean result.items → AllClean (IsSlotClean (λ f. K.clean f.keeper) K.clean) nodes.items }
     ensures kept { AllClean K.clean result.items → (w : World) → AreNodes (SlotStands (λ f. content_of f.releases.items) K.content) nodes.items w.nodes → AreKept K.content result.items w.nodes }
+    ensures counted { AreCounted (λ _. ⊥) (slot_failed (λ f. K.failed f.keeper) K.failed) K.failed 1 nodes.items result.items }
 {
     let mut keepers = room;
     for node in nodes {
@@ -119,6 +123,7 @@ fn show_all<N: Node + Drop>(
     requires { AreNodes N.stands nodes.items (start (vec_len nodes)).nodes }
     ensures shown { IfOk result (λ t. AllClean N.clean t.1.items → (w : World) × Shows (start (vec_len nodes)) (map shown_event events.now) (map shown_line t.0.items) w × AreNodes N.stands t.1.items w.nodes) }
     ensures headline { IfOk result (λ t. AllClean N.clean t.1.items → IsHeadline (map shown_event events.now) (map shown_line t.0.items)) }
+    ensures device { IfOk result (λ t. AreCounted (IsToldOf (map shown_event events.now) (map shown_line t.0.items)) N.failed N.failed 1 nodes.items t.1.items) }
     ensures lines { IfOk result (λ t. vec_len t.0 ≡ length events.now) }
     ensures count { IfOk result (λ t. length t.1.items ≡ vec_len nodes) }
 {
@@ -141,6 +146,7 @@ fn show<'a, N: Node + Drop>(
     event: &'a WorldEvent,
 ) -> Result<Line, AllocError>
     ensures step { IfOk result (λ line. GoesTo N.clean N.stands shelf.old.files.entries shelf.new.files.entries nodes.old.items nodes.new.items (shown_event event.now) (shown_line line)) }
+    ensures device { IfOk result (λ line. AreCounted (λ i. (node_of (shown_event event.now) ≡ Some i) × TellsDevice (shown_line line)) N.failed N.failed 1 nodes.old.items nodes.new.items) }
     ensures count { IfOk result (λ _. length nodes.new.items ≡ length nodes.old.items) }
 {
     match event {

@@ -1,5 +1,5 @@
 -- ISSNs, after ISO 3297.
-use Rattle.std.specs.Prelude.{ℕ, ◌+◌, ◌-◌, ◌*◌, ◌%◌, ◌==◌, ◌&&◌, ◌||◌, Bool, List, [], ◌∷◌, Option, Some, None, if◌then◌else◌}
+use Rattle.std.specs.Prelude.{ℕ, ◌+◌, ◌-◌, ◌*◌, ◌%◌, ◌==◌, ◌&&◌, ◌||◌, Bool, List, [], ◌∷◌, Option, Some, None, if◌then◌else◌, slice_index}
 use Rattle.std.specs.Char.{is_ascii_digit}
 use Rattle.feed_kbart.specs.Text.{trimmed}
 
@@ -41,3 +41,13 @@ unhyphened _ = None
 -- the nine printed bytes of the ISSN that a text is, if it is one
 abbrev pub issn_of : List ℕ → Option (List ℕ)
 issn_of text = unhyphened (trimmed text)
+
+-- the worth of the digit at a place of a text
+abbrev pub digit_at : List ℕ → ℕ → ℕ
+digit_at text place = slice_index text place - 48
+
+-- the number that the seven digits of a printed ISSN are
+abbrev pub number_of : List ℕ → ℕ
+number_of issn =
+    1000000 * digit_at issn 0 + 100000 * digit_at issn 1 + 10000 * digit_at issn 2 + 1000 * digit_at issn 3
+    + 100 * digit_at issn 5 + 10 * digit_at issn 6 + digit_at issn 7

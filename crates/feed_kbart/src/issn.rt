@@ -20,7 +20,7 @@ impl Model for Issn {
 }
 
 impl Issn {
-    ghost use Rattle.feed_kbart.specs.Issn.{checked, issn_of};
+    ghost use Rattle.feed_kbart.specs.Issn.{checked, issn_of, number_of};
 
     /// Reads seven digits and a check character, with or without a hyphen after the fourth digit.
     /// Spaces at both ends are trimmed, and a check character `x` counts as `X`. Anything else is no
@@ -48,6 +48,22 @@ impl Issn {
         ensures { result ≡ self.now }
     {
         self.printed
+    }
+
+    /// The seven digits before the check character, as a number below 10,000,000. They determine the check
+    /// character.
+    pub fn number(&self) -> u32
+        ensures { result ≡ number_of self.now }
+    {
+        let [a, b, c, d, _, e, f, g, _] = self.printed;
+        let value = |digit: u8| -> u32 { digit.saturating_sub(b'0') as u32 };
+        1_000_000 * value(a)
+            + 100_000 * value(b)
+            + 10_000 * value(c)
+            + 1_000 * value(d)
+            + 100 * value(e)
+            + 10 * value(f)
+            + value(g)
     }
 
     // The ISSN of seven digits and a check character, if they are that and agree.

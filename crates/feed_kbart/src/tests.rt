@@ -310,6 +310,15 @@ fn reads_issns_and_volumes(rt: HostRuntime) -> Result<(), Fail> {
     }
     assert!(rt; Issn::parse(b"0000-0000").is_some());
     assert!(rt; Issn::parse(b"0317-8471") < Issn::parse(b"1050-124X"));
+    let numbers = [
+        (b"2434-561x", Some(2_434_561)),
+        (b"0317-8471", Some(317_847)),
+        (b"9999-9994", Some(9_999_999)),
+    ];
+    for (text, number) in numbers {
+        let read = Issn::parse(text).map(|issn| issn.number());
+        assert_eq!(rt; read, number, "of {text:?}");
+    }
     for text in [
         b"2434-5611".as_slice(),
         b"2434-561",

@@ -6,8 +6,10 @@ pub mod Left
 pub mod Agreed
 pub mod Merged
 pub mod Fresh
-pub mod Written
 pub mod Runs
 pub mod Unique
 pub mod Counting
 pub mod Checked
+pub mod Stable
+pub mod Joined
+pub mod Leading

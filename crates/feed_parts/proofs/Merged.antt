@@ -1,15 +1,15 @@
 -- Parts put among others.
 use Rattle.std.proofs.Common.{if◌then◌else◌, ◌≡◌, ◌<◌, ◌≤◌, ◌⊎◌, inl, inr, ℕ, Bool, true, false, List, [], ◌∷◌, length, Some, None, All, nat_lt, refl, sym, ◌∙◌, ap, arith}
 use Rattle.std.proofs.lemmas.Bool.{ltb-true, ltb-false, cases_lt}
-use Rattle.std.proofs.lemmas.List.Elements.{All-nil, All-head, All-tail, All-cons, All-weaker}
+use Rattle.std.proofs.lemmas.List.Elements.{All-head, All-tail, All-cons}
 use Rattle.feed_model.specs.History.{or_else, byte_at}
 use Rattle.feed_model.specs.Reply.{max_piece}
 use Rattle.feed_model.specs.Content.{Part, byte_in, end_of, ArePartsFrom, AreParts}
 use Rattle.feed_model.specs.Change.{insert_part, merged}
-use Rattle.feed_parts.proofs.Places.{cases_option, first_none, second_none, first_some, neither, either_way, or_else_assoc, byte_at_inside, none_behind}
+use Rattle.feed_parts.proofs.Places.{cases_option, first_none, second_none, neither, either_way, or_else_assoc, byte_at_inside, none_behind}
 
 -- all of the one list and the other
-pub all_insert : (P : Part → Type 0) (q : Part) (ps : List Part) → P q → All P ps → All P (insert_part q ps)
+all_insert : (P : Part → Type 0) (q : Part) (ps : List Part) → P q → All P ps → All P (insert_part q ps)
 all_insert P q [] one all = All-cons P q [] one all
 all_insert P q (p ∷ ps) one all = by (nat_lt q.first p.first) (all_insert P q ps one (All-tail P p ps all))
   where
@@ -20,43 +20,6 @@ all_insert P q (p ∷ ps) one all = by (nat_lt q.first p.first) (all_insert P q 
 pub all_merged : (P : Part → Type 0) (ps qs : List Part) → All P ps → All P qs → All P (merged ps qs)
 all_merged P ps [] f g = f
 all_merged P ps (q ∷ qs) f g = all_merged P (insert_part q ps) qs (all_insert P q ps (All-head P q qs g) f) (All-tail P q qs g)
-
--- and back
-all_from_insert : (P : Part → Type 0) (q : Part) (ps : List Part) → All P (insert_part q ps) → P q × All P ps
-all_from_insert P q [] all = (All-head P q [] all, All-nil P)
-all_from_insert P q (p ∷ ps) all = by (nat_lt q.first p.first) (all_from_insert P q ps) all
-  where
-    by : (b : Bool) → (All P (insert_part q ps) → P q × All P ps) → All P (if b then q ∷ p ∷ ps else p ∷ insert_part q ps) → P q × All P (p ∷ ps)
-    by true again w = (All-head P q (p ∷ ps) w, All-tail P q (p ∷ ps) w)
-    by false again w = let r = again (All-tail P p (insert_part q ps) w) in (r.0, All-cons P p ps (All-head P p (insert_part q ps) w) r.1)
-
-pub all_from_merged : (P : Part → Type 0) (ps qs : List Part) → All P (merged ps qs) → All P ps × All P qs
-all_from_merged P ps [] all = (all, All-nil P)
-all_from_merged P ps (q ∷ qs) all =
-    let r = all_from_merged P (insert_part q ps) qs all in
-    let s = all_from_insert P q ps r.0 in
-    (s.1, All-cons P q qs s.0 r.1)
-
--- Each part of an ordered list shows its bytes in it.
-pub shows_each : (at : ℕ) (ps : List Part) → ArePartsFrom at ps → All (λ p. (place x : ℕ) → byte_at p.first p.bytes place ≡ Some x → byte_in ps place ≡ Some x) ps
-shows_each at [] w = All-nil (λ p. (place x : ℕ) → byte_at p.first p.bytes place ≡ Some x → byte_in [] place ≡ Some x)
-shows_each at (p ∷ ps) w = All-cons Shows p ps here (All-weaker Behind Shows later ps (shows_each (end_of p) ps w.3))
-  where
-    Shows : Part → Type 0
-    Shows q = (place x : ℕ) → byte_at q.first q.bytes place ≡ Some x → byte_in (p ∷ ps) place ≡ Some x
-
-    Behind : Part → Type 0
-    Behind q = (place x : ℕ) → byte_at q.first q.bytes place ≡ Some x → byte_in ps place ≡ Some x
-
-    here : (place x : ℕ) → byte_at p.first p.bytes place ≡ Some x → byte_in (p ∷ ps) place ≡ Some x
-    here place x e = first_some (byte_at p.first p.bytes place) (byte_in ps place) x e
-
-    later : (q : Part) → ((place x : ℕ) → byte_at q.first q.bytes place ≡ Some x → byte_in ps place ≡ Some x) → (place x : ℕ) → byte_at q.first q.bytes place ≡ Some x → byte_in (p ∷ ps) place ≡ Some x
-    later q behind place x e = by (cases_option (byte_at p.first p.bytes place))
-      where
-        by : (byte_at p.first p.bytes place ≡ None) ⊎ ((y : ℕ) × (byte_at p.first p.bytes place ≡ Some y)) → byte_in (p ∷ ps) place ≡ Some x
-        by (inl none) = first_none (byte_at p.first p.bytes place) (byte_in ps place) none ∙ behind place x e
-        by (inr some) = absurd (let u : None ≡ Some x = sym (none_behind at p ps w place some.0 some.1) ∙ behind place x e in cc)
 
 -- Lists with no place in both.
 insert_bytes : (q : Part) (ps : List Part) (place : ℕ) → (byte_in ps place ≡ None) ⊎ (byte_at q.first q.bytes place ≡ None) → byte_in (insert_part q ps) place ≡ or_else (byte_in ps place) (byte_at q.first q.bytes place)

@@ -1,24 +1,8 @@
 -- A piece beside the parts that are kept.
-use Rattle.std.specs.Prelude.{◌≡◌, ◌≢◌, ◌≤◌, ℕ, List, Some, None, IsSome, All, sum_by, length}
+use Rattle.std.specs.Prelude.{◌≡◌, ◌≤◌, ◌++◌, ℕ, List, [], ◌∷◌, All, sum_by, length}
 use Rattle.feed_model.specs.History.{or_else, byte_at}
 use Rattle.feed_model.specs.Content.{Part, byte_in, end_of, AreParts}
 use Rattle.feed_model.specs.Change.{merged}
-
--- a byte of the piece is another one than the parts have at its place
-abbrev pub DiffersIn : List Part → ℕ → List ℕ → Type 0
-DiffersIn ps first bytes = (place x y : ℕ) × (byte_in ps place ≡ Some x) × (byte_at first bytes place ≡ Some y) × (x ≢ y)
-
--- where both have a byte it is the same
-abbrev pub AgreesIn : List Part → ℕ → List ℕ → Type 0
-AgreesIn ps first bytes = (place x y : ℕ) → byte_in ps place ≡ Some x → byte_at first bytes place ≡ Some y → x ≡ y
-
--- the piece has a byte at a place that the parts lack
-abbrev pub HasNew : List Part → ℕ → List ℕ → Type 0
-HasNew ps first bytes = (place : ℕ) × IsSome (byte_at first bytes place) × (byte_in ps place ≡ None)
-
--- the parts have each place of the piece
-abbrev pub Covers : List Part → ℕ → List ℕ → Type 0
-Covers ps first bytes = (place : ℕ) → IsSome (byte_at first bytes place) → IsSome (byte_in ps place)
 
 -- the parts are in order, and none reaches past the size of the file
 pub record AreWithin (size : ℕ) (ps : List Part) : Type 0 where
@@ -34,3 +18,8 @@ pub record Adds (size : ℕ) (ps : List Part) (first : ℕ) (bytes : List ℕ) (
 -- how many bytes the parts have
 abbrev pub total_length : List Part → ℕ
 total_length ps = sum_by (λ p. length p.bytes) ps
+
+-- the bytes of the parts, one part behind the other
+abbrev pub joined : List Part → List ℕ
+joined [] = []
+joined (p ∷ ps) = p.bytes ++ joined ps

@@ -5,12 +5,12 @@ mod gaps;
 mod merging;
 mod overlap;
 mod part;
+mod reading;
 #[cfg(test)]
 mod tests;
-mod text;
 
 pub use gaps::{Gap, next_gap};
-pub use merging::merge;
+pub use merging::{copied_in_order, merge};
 pub use overlap::{byte_count, conflicts, covers, new_parts};
-pub use part::{Part, are_within, copied};
-pub use text::text_of;
+pub use part::{PIECE_LIMIT, Part, are_within, copied};
+pub use reading::PartReader;

@@ -1,10 +1,11 @@
-ghost use Rattle.std.specs.Prelude.{◌≡◌, ◌+◌, ◌≤◌, take, drop, length, vec_len, vec_capacity, IsPermutation};
+ghost use Rattle.std.specs.Prelude.{◌≡◌, ◌+◌, ◌≤◌, [], IfOk, take, drop, length, vec_len, vec_capacity, IsPermutation};
 ghost use Rattle.std.specs.List.Sorted.{IsNonDecreasingBy};
 ghost use Rattle.feed_model.specs.Content.{AreParts};
 ghost use Rattle.feed_model.specs.Change.{merged};
 ghost use Rattle.feed_parts.specs.Shown.{shown_parts};
 
-use crate::part::Part;
+use crate::part::{Part, copied};
+use std::alloc::{AllocError, Global};
 
 /// Puts new parts, which are in order, among the kept ones. There is room for them, so this takes no memory. What
 /// follows the new parts is moved once, and no more is sorted than they lie among.
@@ -40,4 +41,13 @@ fn merge_runs(parts: &mut [Part], kept: usize)
     let end = front.partition_point(|part| part.first < to).max(begin);
     parts[end..].rotate_right(count);
     parts[begin..end + count].sort_unstable_by_key(|part| part.first);
+}
+
+/// The parts once more, in order: those that begin at one place stay as they stood.
+pub fn copied_in_order(alloc: Global, parts: &[Part]) -> Result<Vec<Part>, AllocError>
+    ensures { IfOk result (λ copy. shown_parts copy.items ≡ merged [] (shown_parts parts.now)) }
+{
+    let mut copy = copied(alloc, parts)?;
+    copy.sort_by_key(|part| part.first)?;
+    Ok(copy)
 }

@@ -4,8 +4,8 @@ ghost use Rattle.feed_parts.specs.Piece.{AreWithin};
 
 use std::alloc::{AllocError, Global};
 
-// A piece, and so a part, has at most this many bytes.
-const PIECE_LIMIT: u64 = 1_048_576;
+/// A piece, and so a part, has 1 to this many bytes.
+pub const PIECE_LIMIT: usize = 1_048_576;
 
 /// Bytes of a file, and the place of the first of them, from 0.
 #[derive(Debug, Drop)]
@@ -42,7 +42,7 @@ pub fn are_within(parts: &[Part], size: u64) -> bool
     let mut place = 0;
     for part in parts {
         let length = part.bytes.len() as u64;
-        if length == 0 || length > PIECE_LIMIT || part.first < place {
+        if length == 0 || part.bytes.len() > PIECE_LIMIT || part.first < place {
             return false;
         }
         if length > size.saturating_sub(part.first) {

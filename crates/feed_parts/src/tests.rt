@@ -2,8 +2,12 @@ ghost use Rattle.std.specs.Prelude.{◌≤◌, ◌<◌, ◌+◌, ◌^◌, length
 ghost use Rattle.feed_parts.specs.Piece.{AreWithin};
 ghost use Rattle.feed_parts.specs.Shown.{shown_parts};
 
-use crate::{Part, byte_count, conflicts, copied, covers, merge, new_parts, next_gap, text_of};
+use crate::{
+    Part, PartReader, byte_count, conflicts, copied, copied_in_order, covers, merge, new_parts,
+    next_gap,
+};
 use std::alloc::{AllocError, Global};
+use std::io::{self, Read};
 use std::test::Fail;
 
 const SIZE: u64 = 10;
@@ -35,7 +39,7 @@ fn completed(
     size: u64,
     first: u64,
     bytes: &[u8],
-) -> Result<Option<Vec<u8>>, AllocError>
+) -> io::Result<Option<Vec<u8>>>
     requires within { AreWithin size (shown_parts parts.now) }
     requires small { size < 2 ^ 63 }
     requires inside { first + length bytes.now ≤ size }
@@ -45,7 +49,9 @@ fn completed(
     if byte_count(parts, size) + byte_count(&new, size) < size {
         return Ok(None);
     }
-    Ok(Some(text_of(alloc, parts, &new, size)?))
+    let mut text = Vec::new(alloc);
+    PartReader::new(parts, &new).read_to_end(&mut text)?;
+    Ok(Some(text))
 }
 
 // The parts, as `0:01 4:45`.
@@ -112,5 +118,46 @@ fn pieces_fill_gaps(rt: HostRuntime) -> Result<(), Fail> {
         assert_eq!(rt; byte_count(&parts, SIZE), count, "{piece}");
     }
     assert!(rt; conflicts(&parts, SIZE, 3, b"4"));
+    Ok(())
+}
+
+#[test]
+fn parts_are_copied_in_order(rt: HostRuntime) -> Result<(), Fail> {
+    let alloc = rt.alloc();
+    let rows = [(4, "x"), (0, "ab"), (4, "y"), (2, ""), (0, "c")];
+    let mut parts = Vec::new(alloc);
+    for (first, text) in rows {
+        parts.push(Part {
+            first,
+            bytes: Vec::from_slice(alloc, text.as_bytes())?,
+        })?;
+    }
+    let copy = copied_in_order(alloc, &parts)?;
+    assert_eq!(rt; listed(alloc, &copy)?.as_str(), "0:ab 0:c 2: 4:x 4:y");
+    Ok(())
+}
+
+#[test]
+fn a_text_is_read_from_its_parts(rt: HostRuntime) -> Result<(), Fail> {
+    let alloc = rt.alloc();
+    let mut parts = Vec::new(alloc);
+    for (first, piece) in [(3, "3456"), (0, "0")] {
+        let bytes = piece.as_bytes();
+        assert!(rt; first <= SIZE && bytes.len() as u64 <= SIZE - first);
+        keep(alloc, &mut parts, SIZE, first, bytes)?;
+    }
+    let new = new_parts(alloc, &parts, SIZE, 0, b"0123456789")?;
+    assert_eq!(rt; listed(alloc, &parts)?.as_str(), "0:0 3:3456");
+    assert_eq!(rt; listed(alloc, &new)?.as_str(), "1:12 7:789");
+    let mut reader = PartReader::new(&parts, &new);
+    let mut text = Vec::new(alloc);
+    let mut buf = [0u8; 3];
+    for count in [0, 1, 2, 3, 1, 3, 0, 0] {
+        let room = if text.is_empty() && count == 0 { 0 } else { 3 };
+        let read = reader.read(&mut buf[..room])?;
+        assert_eq!(rt; read, count);
+        text.extend_from_slice(&buf[..read])?;
+    }
+    assert_eq!(rt; text.as_slice(), b"0123456789".as_slice());
     Ok(())
 }

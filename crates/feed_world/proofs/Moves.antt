@@ -3,10 +3,9 @@ use Rattle.std.proofs.Common.{◌≡◌, ◌≢◌, ◌++◌, ℕ, Bool, true, f
 use Rattle.feed_names.specs.ReleaseName.{Name}
 use Rattle.feed_world.specs.declared.line.Why.TheVariants as whys
 use Rattle.feed_names.specs.ReleaseName.{name_eq}
-use Rattle.feed_model.specs.History.{Event, Answer, History, or_else, IsFile, Reports}
+use Rattle.feed_model.specs.History.{Event, Answer, History, or_else, Reports}
 use Rattle.feed_model.specs.Reply.{Case, IsRight, IsLegal}
-use Rattle.feed_answer.specs.Queries.{query_of}
-use Rattle.feed_world.specs.World.{World, Node, WorldEvent, Publish, Tell, Restart, StopBefore, StopAfter, Report, Ask, Line, Published, Stopped, Restarted, Shelf, text_of, node_at, set_node, with_node, start, arriving, IsRefused, Reopens, OrMemory, answer_line, report_line, none_says, file_says, Happens}
+use Rattle.feed_world.specs.World.{World, Node, WorldEvent, Publish, Tell, Restart, StopBefore, StopAfter, Report, Ask, Line, Published, Stopped, Restarted, Shelf, text_of, node_at, set_node, with_node, start, arriving, IsRefused, Reopens, IsAsked, answer_line, report_line, Happens}
 use Rattle.feed_world.specs.Headline.{file_of, IsQuiet}
 use Rattle.feed_world.proofs.Slices.{none_some}
 use Rattle.feed_model.proofs.Names.{name_is}
@@ -57,8 +56,7 @@ abbrev pub Reported : World → List ℕ → Line → World → Node → Type 0
 Reported w stem line v x = (v ≡ w) × (o : Option Name) × Reports x.history stem o × (line ≡ report_line o)
 
 abbrev pub Asked : World → List ℕ → List ℕ → Line → World → Node → Type 0
-Asked w stem query line v x = (v ≡ w) × (o : Option Name) × Reports x.history stem o × OrMemory line
-    (MatchOption o (line ≡ none_says (query_of query)) (λ n. (file : List ℕ) × IsFile x.history n file × (line ≡ file_says n file (query_of query))))
+Asked w stem query line v x = (v ≡ w) × IsAsked x.history stem query line
 
 stays_at : (w : World) (line : Line) (v : World) (i : ℕ) (Here : Node → Type 0) → ((x : Node) → Here x → v ≡ w) → (IsRefused whys.NoNode w line v) ⊎ ((x : Node) × (node_at w.nodes i ≡ Some x) × ((IsRefused whys.Down w line v) ⊎ ((x.up ≡ true) × Here x))) → v ≡ w
 stays_at w line v i Here f (inl r) = r.1

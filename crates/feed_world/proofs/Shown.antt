@@ -56,7 +56,7 @@ ask_shown w v i stem n query line u h = by (subst (λ (b : Bool). MatchBool b (A
     or o e (inr r) = inr r
 
     by : Asked w stem query line v u.node → OrMemory line ((file : List ℕ) × (x : Node) × (node_at w.nodes i ≡ Some x) × IsFile x.history n file × (line ≡ file_says n file (query_of query)))
-    by r = or r.1 (reports_one u.node.history stem r.1 (Some n) r.2 u.reports) r.3
+    by r = or r.1.0 (reports_one u.node.history stem r.1.0 (Some n) r.1.1 u.reports) r.1.2
 
 none_is_no_text : (text : List ℕ) (r : Result QueryValue QueryFault) → Text text ≡ none_says r → ⊥
 none_is_no_text text (Ok q) e = cc
@@ -73,7 +73,7 @@ text_shown w v i stem query text h = by (asked_at i w (Text text) v (Asked w ste
 
     up : (x : Node) → node_at w.nodes i ≡ Some x → (IsRefused whys.Down w (Text text) v) ⊎ ((x.up ≡ true) × Asked w stem query (Text text) v x) → (v ≡ w) × (n : Name) × IsUp w i stem (Some n) × ((file : List ℕ) × (x : Node) × (node_at w.nodes i ≡ Some x) × IsFile x.history n file × (Text text ≡ file_says n file (query_of query)))
     up x at (inl r) = absurd (let e : Text text ≡ Refused whys.Down = r.0 in cc)
-    up x at (inr r) = named x at r.0 r.1.0 r.1.1 r.1.2 r.1.3
+    up x at (inr r) = named x at r.0 r.1.0 r.1.1.0 r.1.1.1 r.1.1.2
 
     by : (IsRefused whys.NoNode w (Text text) v) ⊎ ((x : Node) × (node_at w.nodes i ≡ Some x) × ((IsRefused whys.Down w (Text text) v) ⊎ ((x.up ≡ true) × Asked w stem query (Text text) v x))) → (v ≡ w) × (n : Name) × IsUp w i stem (Some n) × ((file : List ℕ) × (x : Node) × (node_at w.nodes i ≡ Some x) × IsFile x.history n file × (Text text ≡ file_says n file (query_of query)))
     by (inl r) = absurd (let e : Text text ≡ Refused whys.NoNode = r.0 in cc)

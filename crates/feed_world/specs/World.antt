@@ -14,7 +14,7 @@ use Rattle.feed_answer.specs.Queries.{query_of}
 use Rattle.feed_answer.specs.Answers.{answer_of, answer_text}
 use Rattle.feed_kbart.specs.Files.{holdings_of}
 
--- what is on its way to a node
+-- what is on its way to a node; a node of the code stops in an offer or a delivery alone
 pub data Sent : Type 0 where
   Offer : (name : Name) → Sent
   Deliver : (name : Name) (first len : ℕ) → Sent
@@ -46,6 +46,7 @@ pub data Line : Type 0 where
 abbrev pub Shelf : Type 0
 Shelf = List (Name × List ℕ)
 
+-- the file of a name, where it is published
 abbrev pub text_of : Shelf → Name → Option (List ℕ)
 text_of [] n = None
 text_of (f ∷ fs) n = if name_eq f.0 n then Some f.1 else text_of fs n
@@ -55,14 +56,17 @@ pub record Node : Type 0 where
   pub up : Bool
   pub history : History
 
+-- what is published, and the nodes in the order of their numbers
 pub record World : Type 0 where
   pub shelf : Shelf
   pub nodes : List Node
 
+-- the node of a number, from 1 on
 abbrev pub node_at : List Node → ℕ → Option Node
 node_at nodes zero = None
 node_at nodes (suc i) = slice_get nodes i
 
+-- the nodes with this one under the number
 abbrev pub set_node : List Node → ℕ → Node → List Node
 set_node nodes zero x = nodes
 set_node nodes (suc i) x = slice_set nodes i x
@@ -75,19 +79,22 @@ with_node w i up history = record { shelf = w.shelf; nodes = set_node w.nodes i 
 abbrev pub start : ℕ → World
 start count = record { shelf = []; nodes = replicate count (record { up = true; history = [] }) }
 
--- what a feed makes of it: an offer has the published size, a delivery is a slice of the published file
+-- an offer as it arrives: with the size of the published file
 abbrev pub offered : Name → Option (List ℕ) → Result Event why.Why
 offered n None = Err whys.Unpublished
 offered n (Some file) = Ok (Offered n (length file))
 
+-- a delivery as it arrives: a slice of the published file, and the size of the file
 abbrev pub delivered : Name → ℕ → ℕ → Option (List ℕ) → Result Event why.Why
 delivered n first len None = Err whys.Unpublished
 delivered n first len (Some file) = if nat_le (first + len) (length file) then Ok (Piece n first (Some (length file)) (take len (drop first file))) else Err whys.NoSlice
 
+-- a loss as it arrives
 abbrev pub lost : Name → Option (List ℕ) → Result Event why.Why
 lost n None = Err whys.Unpublished
 lost n (Some file) = Ok (Lost n)
 
+-- what arrives at a node of what is sent, or why nothing does
 abbrev pub arriving : Shelf → Sent → Result Event why.Why
 arriving shelf (Offer n) = offered n (text_of shelf n)
 arriving shelf (Deliver n first len) = delivered n first len (text_of shelf n)
@@ -115,10 +122,12 @@ Reopens i history done w line v =
     ((line ≡ done) × (v ≡ with_node w i true history))
     ⊎ ((cause : cause.KeepFault) × ((cause ≡ causes.Memory) ⊎ (cause ≡ causes.Device)) × (line ≡ IsDown cause) × (v ≡ with_node w i false history))
 
+-- the line of a feed's answer
 abbrev pub answer_line : Answer → Line
 answer_line (Ok reply) = Replied reply
 answer_line (Err refusal) = Refused (whys.Feed refusal)
 
+-- the line of a report
 abbrev pub report_line : Option Name → Line
 report_line None = Inactive
 report_line (Some n) = Active n
@@ -127,11 +136,12 @@ report_line (Some n) = Active n
 unfoldable pub text_for : Name → List ℕ → QueryValue → List ℕ
 text_for n file query = answer_text (name_text n) (answer_of (holdings_of file) query)
 
--- what a query is answered, from no release, and from the file of a release as a whole
+-- what a query is answered from no release: the query's own fault comes first
 abbrev pub none_says : Result QueryValue QueryFault → Line
 none_says (Err fault) = Refused (whys.Query fault)
 none_says (Ok query) = Refused whys.NoRelease
 
+-- what it is answered from the file of a release as a whole
 abbrev pub file_says : Name → List ℕ → Result QueryValue QueryFault → Line
 file_says n file (Err fault) = Refused (whys.Query fault)
 file_says n file (Ok query) = Text (text_for n file query)
@@ -139,6 +149,11 @@ file_says n file (Ok query) = Text (text_for n file query)
 -- this line, or want of memory in its place
 abbrev pub OrMemory : Line → Type 0 → Type 0
 OrMemory line right = right ⊎ (line ≡ Refused whys.Memory)
+
+-- a line that a query may be answered at this history
+abbrev pub IsAsked : History → List ℕ → List ℕ → Line → Type 0
+IsAsked h stem query line = (o : Option Name) × Reports h stem o × OrMemory line
+    (MatchOption o (line ≡ none_says (query_of query)) (λ n. (file : List ℕ) × IsFile h n file × (line ≡ file_says n file (query_of query))))
 
 -- the event may be shown by this line, and leave this world
 abbrev pub Happens : World → WorldEvent → Line → World → Type 0
@@ -162,8 +177,7 @@ Happens w (Report i stem) line v =
     ((v ≡ w) × (o : Option Name) × Reports x.history stem o × (line ≡ report_line o)))
 Happens w (Ask i stem query) line v =
     AtNode i w line v (λ x. IfUp x w line v
-    ((v ≡ w) × (o : Option Name) × Reports x.history stem o × OrMemory line
-    (MatchOption o (line ≡ none_says (query_of query)) (λ n. (file : List ℕ) × IsFile x.history n file × (line ≡ file_says n file (query_of query))))))
+    ((v ≡ w) × IsAsked x.history stem query line))
 
 -- the events may be shown by these lines, one after another
 abbrev pub Shows : World → List WorldEvent → List Line → World → Type 0

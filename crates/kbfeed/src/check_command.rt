@@ -4,7 +4,7 @@ use feed_kbart::{BadFile, Holdings, KbartFault, read_file};
 use feed_names::{NameFault, ReleaseName};
 use std::alloc::Global;
 use std::io::{Read, Write};
-use std::{io, mem};
+use std::io;
 
 /// Reads a file under its name and prints what it holds to `out`: `release NAME`, `rows N aside M`, and a line
 /// `aside NUMBER REASON` for each record that is set aside. A bad file prints `broken REASON` in place of the last two.
@@ -26,12 +26,7 @@ pub fn check_on<R: Read + Drop, O: Write, F: Write>(
         return FAILED;
     }
     match read_file(alloc, file) {
-        Ok(holdings) => {
-            let status = printed(print_holdings(out, &holdings), DONE);
-            // The program ends with the check, so its rows are not freed one by one.
-            mem::forget(holdings);
-            status
-        }
+        Ok(holdings) => printed(print_holdings(out, &holdings), DONE),
         Err(KbartFault::Bad(why)) => printed(print_broken(out, why), REFUSED),
         Err(fault) => {
             let status = if fault == KbartFault::TooLong {

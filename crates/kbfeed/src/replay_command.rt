@@ -1,6 +1,6 @@
 //! `kbfeed replay`: a script is read whole, replayed over keepers in memory, and its transcript printed.
 use crate::script;
-use crate::script::{SCRIPT_LIMIT, Script};
+use crate::script::{SCRIPT_LIMIT, Script, ScriptFault};
 use crate::status::{DONE, FAILED, REFUSED, fault_told, printed};
 use feed_core::{ListKeep, ReplayFault, replay};
 use std::alloc::{AllocError, Global};
@@ -15,14 +15,11 @@ pub fn replay_on<R: Read, O: Write, F: Write>(
     out: &mut O,
     faults: &mut F,
 ) -> u8 {
-    let script = match read_all(alloc, input) {
+    let Script { nodes, events } = match read_script(alloc, input) {
         Ok(script) => script,
-        Err(fault) => return fault_told(faults, fault, FAILED),
-    };
-    let Script { nodes, events } = match script::read(alloc, &script) {
-        Ok(script) => script,
-        Err(script::ScriptFault::Memory) => return fault_told(faults, "Memory", FAILED),
-        Err(fault) => return fault_told(faults, fault, REFUSED),
+        Err(Unread::Input(fault)) => return fault_told(faults, fault, FAILED),
+        Err(Unread::Script(ScriptFault::Memory)) => return fault_told(faults, "Memory", FAILED),
+        Err(Unread::Script(fault)) => return fault_told(faults, fault, REFUSED),
     };
     let Ok(keepers) = keepers_for(alloc, nodes) else {
         return fault_told(faults, "Memory", FAILED);
@@ -35,6 +32,25 @@ pub fn replay_on<R: Read, O: Write, F: Write>(
         Err(ReplayFault::Memory) => fault_told(faults, "Memory", FAILED),
         Err(ReplayFault::Nodes) => fault_told(faults, "Nodes", FAILED),
         Err(ReplayFault::Start { node: _, keeper: _ }) => fault_told(faults, "Start", FAILED),
+    }
+}
+
+// Why there is no script: the name of the fault of the input, or what is wrong with the bytes.
+#[derive(Drop)]
+enum Unread {
+    Input(&'static str),
+    Script(ScriptFault),
+}
+
+// The script that the input gives. Its bytes are let go before it is replayed.
+fn read_script<R: Read>(alloc: Global, input: &mut R) -> Result<Script, Unread> {
+    let bytes = match read_all(alloc, input) {
+        Ok(bytes) => bytes,
+        Err(fault) => return Err(Unread::Input(fault)),
+    };
+    match script::read(alloc, &bytes) {
+        Ok(script) => Ok(script),
+        Err(fault) => Err(Unread::Script(fault)),
     }
 }
 

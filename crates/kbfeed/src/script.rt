@@ -3,6 +3,7 @@ ghost use Rattle.std.specs.Prelude.{◌<◌, length, IfOk, IfSome};
 
 use feed_core::{NODE_LIMIT, Sent, WorldEvent};
 use feed_names::{NameFault, ReleaseName};
+use memchr::{memchr, memchr_iter};
 use std::alloc::{AllocError, AllocFailed, Global};
 use thiserror::Error;
 
@@ -76,13 +77,27 @@ fn fault_at(line: usize, fault: LineFault) -> ScriptFault {
 
 /// Reads a script of at most `SCRIPT_LIMIT` bytes and 100,000 lines.
 pub fn read(alloc: Global, script: &[u8]) -> Result<Script, ScriptFault> {
-    let lines = line_count(script);
-    if script.len() > SCRIPT_LIMIT || lines > LINE_LIMIT {
+    if script.len() > SCRIPT_LIMIT {
         return Err(ScriptFault::TooLong);
     }
+    match read_lines(alloc, script) {
+        Ok(script) => Ok(script),
+        // A script of too many lines is too long, whatever stands in the first ones.
+        Err(_) if line_count(script) > LINE_LIMIT => Err(ScriptFault::TooLong),
+        Err(fault) => Err(fault),
+    }
+}
+
+fn read_lines(alloc: Global, script: &[u8]) -> Result<Script, ScriptFault> {
     let mut nodes = None;
     let mut events = Vec::new(alloc);
-    for (before, line) in script.split(|byte| *byte == b'\n').enumerate() {
+    let mut rest = Some(script);
+    for before in 0..LINE_LIMIT {
+        let Some(text) = rest else {
+            break;
+        };
+        let (line, after) = split_at(text, b'\n');
+        rest = after;
         if line.is_empty() || line.first() == Some(&b'#') {
             continue;
         }
@@ -94,15 +109,21 @@ pub fn read(alloc: Global, script: &[u8]) -> Result<Script, ScriptFault> {
             return Err(fault_at(before + 1, fault));
         }
     }
+    if rest.is_some_and(|text| !text.is_empty()) {
+        return Err(ScriptFault::TooLong);
+    }
     match nodes {
         Some(nodes) => Ok(Script { nodes, events }),
-        None => Err(fault_at(lines + 1, LineFault::NodesExpected)),
+        None => {
+            let behind = line_count(script).saturating_add(1);
+            Err(fault_at(behind, LineFault::NodesExpected))
+        }
     }
 }
 
 // The last line counts where bytes stand after the last LF.
 fn line_count(script: &[u8]) -> usize {
-    let ended = script.iter().filter(|byte| **byte == b'\n').count();
+    let ended = memchr_iter(b'\n', script).count();
     match script.last() {
         None | Some(b'\n') => ended,
         Some(_) => ended + 1,
@@ -319,12 +340,16 @@ impl<'a> Words<'a> {
 
 // What stands before the first space, and what stands after it.
 fn split_word(line: &[u8]) -> (&[u8], Option<&[u8]>) {
-    match line.iter().position(|byte| *byte == b' ') {
-        Some(at) => {
-            let (word, rest) = line.split_at(at);
-            (word, rest.get(1..))
-        }
-        None => (line, None),
+    split_at(line, b' ')
+}
+
+// What stands before the first of these bytes, and what stands after it.
+fn split_at(text: &[u8], byte: u8) -> (&[u8], Option<&[u8]>)
+    ensures { IfSome result.1 (λ rest. length rest.now < length text.now) }
+{
+    match memchr(byte, text) {
+        Some(at) => (&text[..at], Some(&text[at + 1..])),
+        None => (text, None),
     }
 }
 
@@ -361,16 +386,13 @@ fn read_number(word: &[u8]) -> Result<u64, LineFault> {
 fn unescaped(alloc: Global, text: &[u8]) -> Result<Vec<u8>, LineFault> {
     let mut bytes = Vec::with_capacity(alloc, text.len())?;
     let mut rest = text;
-    while let Some((first, after)) = rest.split_first() {
-        if *first == b'\\' {
-            let (byte, after) = read_escape(after)?;
-            bytes.push(byte)?;
-            rest = after;
-        } else {
-            bytes.push(*first)?;
-            rest = after;
-        }
+    while let (plain, Some(escape)) = split_at(rest, b'\\') {
+        bytes.extend_from_slice(plain)?;
+        let (byte, after) = read_escape(escape)?;
+        bytes.push(byte)?;
+        rest = after;
     }
+    bytes.extend_from_slice(rest)?;
     Ok(bytes)
 }
 

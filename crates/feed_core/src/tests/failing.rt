@@ -1,3 +1,4 @@
+ghost use Rattle.feed_core.specs.Arranged.{ordered};
 ghost use Rattle.feed_core.specs.Shown.{shown};
 
 use crate::{Change, Keep, KeepFault, ListKeep, Record};
@@ -35,7 +36,7 @@ impl Failing {
 }
 
 impl Keep for Failing {
-    ghost content = { λ keeper. shown keeper.list.records.items };
+    ghost content = { λ keeper. ordered (shown keeper.list.records.items) };
 
     ghost clean = { λ _. Unit {0} };
 

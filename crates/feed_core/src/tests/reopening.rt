@@ -216,6 +216,56 @@ fn records_and_parts_are_put_in_order(rt: HostRuntime) -> Result<(), Fail> {
 }
 
 #[test]
+fn parts_at_one_place_stay_as_they_stood(rt: HostRuntime) -> Result<(), Fail> {
+    let given: [(u64, &[u8]); 5] = [(2, b"x"), (0, b"0"), (2, b"y"), (0, b"1"), (2, b"x")];
+    let ordered: [(u64, &[u8]); 5] = [(0, b"0"), (0, b"1"), (2, b"x"), (2, b"y"), (2, b"x")];
+    let record = record_of(rt.alloc(), JANUARY, 205, State::Staged, &given)?;
+    let mut keeper = ListKeep::of(rt.alloc(), Vec::from_array(rt.alloc(), [record])?);
+    let expected = [record_of(rt.alloc(), JANUARY, 205, State::Staged, &ordered)?];
+    assert_eq!(rt;
+        content_of(rt.alloc(), &mut keeper)?.as_slice(),
+        listed(rt.alloc(), &expected)?.as_slice()
+    );
+    Ok(())
+}
+
+// The 41 pieces of 5 bytes of the first file are handed in 17 places apart.
+#[test]
+fn pieces_in_any_order_are_loaded_in_order(rt: HostRuntime) -> Result<(), Fail> {
+    let name = name_of(rt.alloc(), JANUARY)?;
+    let file = january_file(rt.alloc())?;
+    let mut feed = feed_of(rt.alloc())?;
+    assert_eq!(rt; offered(&mut feed, &name, 205), Ok(Reply::Noted));
+    for number in 1..41u64 {
+        let first = number * 17 % 41 * 5;
+        let missing = 205 - number * 5;
+        assert_eq!(rt;
+            told(&mut feed, &name, first, cut(&file, first, 5)),
+            Ok(Reply::Stored { missing }),
+            "{first}"
+        );
+    }
+    let mut parts = Vec::new(rt.alloc());
+    for number in 1..41u64 {
+        parts.push((number * 5, cut(&file, number * 5, 5)))?;
+    }
+    let staged = [record_of(rt.alloc(), JANUARY, 205, State::Staged, &parts)?];
+    let mut keeper = feed.restart();
+    assert_eq!(rt;
+        content_of(rt.alloc(), &mut keeper)?.as_slice(),
+        listed(rt.alloc(), &staged)?.as_slice()
+    );
+    let mut feed = feed_over(rt.alloc(), keeper)?;
+    assert_eq!(rt;
+        told(&mut feed, &name, 0, cut(&file, 0, 5)),
+        Ok(Reply::Activated)
+    );
+    let feed = reopened(rt.alloc(), feed)?;
+    assert_eq!(rt; active_in(&feed), JANUARY.as_bytes());
+    Ok(())
+}
+
+#[test]
 fn a_name_that_stands_twice_is_damaged(rt: HostRuntime) -> Result<(), Fail> {
     let records = [
         record_of(rt.alloc(), JANUARY, 205, State::Staged, &[])?,

@@ -1,5 +1,5 @@
 //! Chunked bodies (RFC 9112, section 7.1).
-ghost use Rattle.std.specs.Prelude.{◌≡◌, ◌≤◌, ◌<◌, [], ◌∷◌, length, Some, OnOk, IfOk, IfErr, IfSome, MatchOption};
+ghost use Rattle.std.specs.Prelude.{◌≡◌, ◌≢◌, ◌≤◌, ◌<◌, [], ◌∷◌, length, Some, OnOk, IfOk, IfErr, IfSome, MatchOption};
 ghost use Rattle.std.specs.Io.KnownBytes.{Consumes};
 ghost use Rattle.httparse.specs.Ascii.{crlf_bytes};
 ghost use Rattle.httparse.specs.Grammar.{HasNoChunkLine, HasNoSection};
@@ -60,7 +60,8 @@ fn read_line<R: Read>(reader: &mut R) -> Result<u64, HttpFault>
 fn fault_of_line(line: &[u8]) -> HttpFault
     requires short { length line.now < 1024 }
     requires not_whole { HasNoChunkLine line.now }
-    ensures { IsLineFault (Some line.now) result }
+    ensures fault { IsLineFault (Some line.now) result }
+    ensures unread { result ≢ HttpFault.Read }
 {
     match parse_chunk_size(line) {
         Ok(Status::Partial) => HttpFault::Short,
@@ -94,7 +95,8 @@ fn read_trailers<R: Read>(reader: &mut R) -> Result<(), HttpFault>
 fn fault_of_section(section: &[u8]) -> HttpFault
     requires short { length section.now < 8192 }
     requires not_whole { HasNoSection section.now }
-    ensures { IsTrailersFault (Some section.now) result }
+    ensures fault { IsTrailersFault (Some section.now) result }
+    ensures unread { result ≢ HttpFault.Read }
 {
     let mut headers = [EMPTY_HEADER_SPAN; TRAILER_FIELDS];
     match parse_headers(section, &mut headers) {

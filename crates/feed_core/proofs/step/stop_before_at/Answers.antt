@@ -1,9 +1,10 @@
-use Rattle.std.proofs.Common.{List, subst, ◌≡◌, ◌<◌, ◌⊎◌, length, refl, sym, ◌∙◌, ap, inl, inr, true, false, arith, rules}
+use Rattle.std.proofs.Common.{List, subst, ◌≡◌, ◌<◌, ◌⊎◌, length, refl, sym, ◌∙◌, ap, inl, inr, true, false, arith, rules, Err}
 use Rattle.feed_world.specs.World.{Shelf, StopBefore, Stopped, IsDown, Refused, arriving}
 use Rattle.feed_world.specs.declared.line.Why.TheVariants.{NoNode, Down}
 use Rattle.feed_core.specs.Nodes.{shown_arrived}
 use Rattle.feed_core.specs.Step.{Goes}
 use Rattle.feed_core.proofs.Steps.{goes_none, goes_known, goes_stay, goes_up}
+use Rattle.feed_core.proofs.Counts.{counted_stay, counted_step, no_node_not, down_not, stopped_not, tells_down, tells_refused}
 use Rattle.feed_core.proofs.step.stop_before_at.Goals as goal
 
 pub returns-in_default-clause-step : goal.returns-in_default-clause-step
@@ -28,7 +29,7 @@ returns-in-Ok-reopened-clause-step g c =
     let running : c.is_up.result ≡ true = search rules in
     let r = c.in-Ok-reopened.ensures in
     λ sent. subst (λ (ys : List _). Goes g.N.Node.clean g.N.Node.stands (λ (z : Shelf). arriving z sent ≡ shown_arrived c.args.arrived.now) c.args.nodes.now.items ys (StopBefore c.args.node sent) (Stopped)) (sym r.now)
-    (goes_up g.N.Node.clean g.N.Node.stands (λ (z : Shelf). arriving z sent ≡ shown_arrived c.args.arrived.now) c.args.nodes.now.items c.in-Some.at c.index.result.now r.before r.after c.args.node (StopBefore c.args.node sent) (Stopped) c.is_up.result running lt c.index.ensures r.was c.in-Some.ensures.found.0 r.still (λ up h k s. c.is_up.ensures up h s) (λ w y s at up k stood. record { up = true; history = y.history; happens = rw (at, (s ∙ ap shown_arrived c.in-Ok.is), up) (inl (refl, refl)); stood = r.goes true y.history k stood }))
+    (goes_up g.N.Node.clean g.N.Node.stands (λ (z : Shelf). arriving z sent ≡ shown_arrived c.args.arrived.now) c.args.nodes.now.items c.in-Some.at c.index.result.now r.before r.after c.args.node (StopBefore c.args.node sent) (Stopped) c.is_up.result running lt c.index.ensures r.was c.in-Some.ensures.found.0 r.still (λ up h k s. c.is_up.ensures up h s) (λ w y s at up k stood. record { up = true; history = y.history; happens = rw (at, (s ∙ ap shown_arrived c.in-Ok.is), up) (inl (refl, refl)); stood = r.goes.1 true y.history k stood }))
 
 pub returns-in-Err-reopened-clause-step : goal.returns-in-Err-reopened-clause-step
 returns-in-Err-reopened-clause-step g c =
@@ -36,4 +37,25 @@ returns-in-Err-reopened-clause-step g c =
     let running : c.is_up.result ≡ true = search rules in
     let r = c.in-Err-reopened.ensures in
     λ sent. subst (λ (ys : List _). Goes g.N.Node.clean g.N.Node.stands (λ (z : Shelf). arriving z sent ≡ shown_arrived c.args.arrived.now) c.args.nodes.now.items ys (StopBefore c.args.node sent) (IsDown c.in-Err-reopened.cause)) (sym r.now)
-    (goes_up g.N.Node.clean g.N.Node.stands (λ (z : Shelf). arriving z sent ≡ shown_arrived c.args.arrived.now) c.args.nodes.now.items c.in-Some.at c.index.result.now r.before r.after c.args.node (StopBefore c.args.node sent) (IsDown c.in-Err-reopened.cause) c.is_up.result running lt c.index.ensures r.was c.in-Some.ensures.found.0 r.still (λ up h k s. c.is_up.ensures up h s) (λ w y s at up k stood. (let t = r.goes true y.history k stood in record { up = false; history = y.history; happens = rw (at, (s ∙ ap shown_arrived c.in-Ok.is), up) (inr (c.in-Err-reopened.cause, t.0, refl, refl)); stood = t.1 })))
+    (goes_up g.N.Node.clean g.N.Node.stands (λ (z : Shelf). arriving z sent ≡ shown_arrived c.args.arrived.now) c.args.nodes.now.items c.in-Some.at c.index.result.now r.before r.after c.args.node (StopBefore c.args.node sent) (IsDown c.in-Err-reopened.cause) c.is_up.result running lt c.index.ensures r.was c.in-Some.ensures.found.0 r.still (λ up h k s. c.is_up.ensures up h s) (λ w y s at up k stood. (let t = r.goes.1 true y.history k stood in record { up = false; history = y.history; happens = rw (at, (s ∙ ap shown_arrived c.in-Ok.is), up) (inr (c.in-Err-reopened.cause, t.0, refl, refl)); stood = t.1 })))
+
+pub returns-in_default-clause-device : goal.returns-in_default-clause-device
+returns-in_default-clause-device g c = λ sent. counted_stay g.N.Node.failed c.args.nodes.now.items c.args.node (Refused NoNode) no_node_not
+
+pub returns-in-Err-clause-device : goal.returns-in-Err-clause-device
+returns-in-Err-clause-device g c = λ sent. counted_stay g.N.Node.failed c.args.nodes.now.items c.args.node (Refused c.in-Err.why) (λ t. sent (c.in-Err.is ∙ ap Err (tells_refused c.in-Err.why t)))
+
+pub returns-then-not-is_up-clause-device : goal.returns-then-not-is_up-clause-device
+returns-then-not-is_up-clause-device g c = λ sent. counted_stay g.N.Node.failed c.args.nodes.now.items c.args.node (Refused Down) down_not
+
+pub returns-in-Ok-reopened-clause-device : goal.returns-in-Ok-reopened-clause-device
+returns-in-Ok-reopened-clause-device g c =
+    let lt : c.in-Some.at < length c.args.nodes.now.items = omega (arith, c.in-Some.ensures.found.1, c.len.ensures) in
+    let r = c.in-Ok-reopened.ensures in
+    λ sent. counted_step g.N.Node.failed c.args.nodes.now.items c.reopened.new.nodes.items c.in-Some.at c.args.node r.before r.after Stopped lt r.was r.now c.in-Some.ensures.found.0 r.goes.0.0 (λ t. absurd (stopped_not t))
+
+pub returns-in-Err-reopened-clause-device : goal.returns-in-Err-reopened-clause-device
+returns-in-Err-reopened-clause-device g c =
+    let lt : c.in-Some.at < length c.args.nodes.now.items = omega (arith, c.in-Some.ensures.found.1, c.len.ensures) in
+    let r = c.in-Err-reopened.ensures in
+    λ sent. counted_step g.N.Node.failed c.args.nodes.now.items c.reopened.new.nodes.items c.in-Some.at c.args.node r.before r.after (IsDown c.in-Err-reopened.cause) lt r.was r.now c.in-Some.ensures.found.0 r.goes.0.0 (λ t. r.goes.0.1 (ap Err (tells_down c.in-Err-reopened.cause t)))

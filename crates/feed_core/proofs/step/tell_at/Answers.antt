@@ -1,9 +1,10 @@
-use Rattle.std.proofs.Common.{◌≡◌, ◌<◌, ◌⊎◌, ◌∷◌, length, refl, ◌∙◌, ap, Ok, Err, true, false, arith, rules}
+use Rattle.std.proofs.Common.{◌≡◌, ◌<◌, ◌⊎◌, ◌∷◌, length, refl, ◌∙◌, ap, Ok, Err, true, false, arith, rules, slice_set}
 use Rattle.feed_world.specs.World.{Shelf, Tell, Replied, Refused, arriving}
 use Rattle.feed_world.specs.declared.line.Why.TheVariants.{NoNode, Down, Feed}
 use Rattle.feed_core.specs.Nodes.{shown_arrived}
 use Rattle.feed_core.specs.Told.{told}
 use Rattle.feed_core.proofs.Steps.{goes_none, goes_known, goes_stay, goes_up}
+use Rattle.feed_core.proofs.Counts.{counted_stay, counted_step, no_node_not, down_not, replied_not, tells_refused}
 use Rattle.feed_core.proofs.step.tell_at.Goals as goal
 
 pub returns-in_default-clause-step : goal.returns-in_default-clause-step
@@ -33,3 +34,22 @@ returns-in-Err-handle-clause-step g c =
     let lt : c.in-Some.at < length c.args.nodes.now.items = omega (arith, c.in-Some.ensures.found.1, c.len.ensures) in
     let running : c.is_up.result ≡ true = search rules in
     λ sent. goes_up g.N.Node.clean g.N.Node.stands (λ (z : Shelf). arriving z sent ≡ shown_arrived c.args.arrived.now) c.args.nodes.now.items c.in-Some.at c.index.result.now c.index_mut.result.now c.handle.new.self c.args.node (Tell c.args.node sent) (Refused (Feed c.in-Err-handle.refusal)) c.is_up.result running lt c.index.ensures c.index_mut.ensures.value c.in-Some.ensures.found.0 c.in-Err-handle.ensures.clean (λ up h k s. c.is_up.ensures up h s) (λ w y s at up k stood. (let r = c.in-Err-handle.ensures.right y.history stood in record { up = true; history = (told c.in-Ok.event, Err c.in-Err-handle.refusal) ∷ y.history; happens = rw (at, (s ∙ ap shown_arrived c.in-Ok.is), up) (Err c.in-Err-handle.refusal, r.0, refl, refl); stood = r.1 }))
+
+pub returns-in_default-clause-device : goal.returns-in_default-clause-device
+returns-in_default-clause-device g c = λ sent. counted_stay g.N.Node.failed c.args.nodes.now.items c.args.node (Refused NoNode) no_node_not
+
+pub returns-in-Err-clause-device : goal.returns-in-Err-clause-device
+returns-in-Err-clause-device g c = λ sent. counted_stay g.N.Node.failed c.args.nodes.now.items c.args.node (Refused c.in-Err.why) (λ t. sent (c.in-Err.is ∙ ap Err (tells_refused c.in-Err.why t)))
+
+pub returns-then-not-is_up-clause-device : goal.returns-then-not-is_up-clause-device
+returns-then-not-is_up-clause-device g c = λ sent. counted_stay g.N.Node.failed c.args.nodes.now.items c.args.node (Refused Down) down_not
+
+pub returns-in-Ok-handle-clause-device : goal.returns-in-Ok-handle-clause-device
+returns-in-Ok-handle-clause-device g c =
+    let lt : c.in-Some.at < length c.args.nodes.now.items = omega (arith, c.in-Some.ensures.found.1, c.len.ensures) in
+    λ sent. counted_step g.N.Node.failed c.args.nodes.now.items (slice_set c.args.nodes.now.items c.in-Some.at c.handle.new.self) c.in-Some.at c.args.node c.index_mut.result.now c.handle.new.self (Replied c.in-Ok-handle.reply) lt c.index_mut.ensures.value refl c.in-Some.ensures.found.0 c.in-Ok-handle.ensures.device.0 (λ t. absurd (replied_not c.in-Ok-handle.reply t))
+
+pub returns-in-Err-handle-clause-device : goal.returns-in-Err-handle-clause-device
+returns-in-Err-handle-clause-device g c =
+    let lt : c.in-Some.at < length c.args.nodes.now.items = omega (arith, c.in-Some.ensures.found.1, c.len.ensures) in
+    λ sent. counted_step g.N.Node.failed c.args.nodes.now.items (slice_set c.args.nodes.now.items c.in-Some.at c.handle.new.self) c.in-Some.at c.args.node c.index_mut.result.now c.handle.new.self (Refused (Feed c.in-Err-handle.refusal)) lt c.index_mut.ensures.value refl c.in-Some.ensures.found.0 c.in-Err-handle.ensures.device.0 (λ t. (let e = tells_refused (Feed c.in-Err-handle.refusal) t in c.in-Err-handle.ensures.device.1 (ap Err (cc))))

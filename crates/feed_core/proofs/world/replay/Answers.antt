@@ -1,6 +1,9 @@
-use Rattle.std.proofs.Common.{ℕ, map, ◌∙◌, subst}
+use Rattle.std.proofs.Common.{ℕ, map, ◌∙◌, subst, ◌⊎◌, inl, inr}
 use Rattle.feed_world.specs.World.{Shows, start}
 use Rattle.feed_world.specs.Shown.{shown_event, shown_line}
+use Rattle.feed_core.specs.Slots.{slot_failed}
+use Rattle.feed_core.specs.Counts.{IsToldOf}
+use Rattle.feed_core.proofs.Counts.{counted_then, counted_as}
 use Rattle.feed_core.proofs.world.replay.Goals as goal
 
 pub returns-in-Ok-show_all-clause-shown : goal.returns-in-Ok-show_all-clause-shown
@@ -17,3 +20,12 @@ returns-in-Ok-show_all-clause-headline g c = λ all.
 
 pub returns-in-Ok-show_all-clause-count : goal.returns-in-Ok-show_all-clause-count
 returns-in-Ok-show_all-clause-count g c = rw c.of.ensures.lines c.in-Ok-show_all.ensures.lines
+
+pub returns-in-Ok-show_all-clause-device : goal.returns-in-Ok-show_all-clause-device
+returns-in-Ok-show_all-clause-device g c =
+    let failed = slot_failed (λ f. g.K.Keep.failed f.keeper) g.K.Keep.failed in
+    let told = IsToldOf (map shown_event c.args.events.now) (map shown_line c.in-Ok-show_all.lines.items) in
+    let begun = c.in_ok-nodes.ensures.counted in
+    let gone = counted_then (λ _. ⊥) told g.K.Keep.failed failed failed 1 c.args.keepers.items c.in_ok-nodes.nodes.items c.in-Ok-show_all.nodes.items begun c.in-Ok-show_all.ensures.device in
+    let ended = counted_then (λ i. ⊥ ⊎ told i) (λ _. ⊥) g.K.Keep.failed failed g.K.Keep.failed 1 c.args.keepers.items c.in-Ok-show_all.nodes.items c.keepers_of.result.items gone c.keepers_of.ensures.counted in
+    rw (c.of.ensures.lines, c.of.ensures.keepers) (counted_as (λ i. (⊥ ⊎ told i) ⊎ ⊥) told g.K.Keep.failed g.K.Keep.failed 1 c.args.keepers.items c.keepers_of.result.items (λ i t. inl (inr t)) ended)

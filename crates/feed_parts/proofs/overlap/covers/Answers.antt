@@ -3,7 +3,7 @@ use Rattle.std.proofs.lemmas.Bool.{leb-true, leb-false}
 use Rattle.feed_model.specs.History.{byte_at}
 use Rattle.feed_model.specs.Content.{Part, byte_in}
 use Rattle.feed_parts.specs.Shown.{shown_part, shown_parts}
-use Rattle.feed_parts.specs.Piece.{HasNew}
+use Rattle.feed_model.specs.Parts.{HasNew}
 use Rattle.feed_parts.proofs.Places.{some_is, some_value, byte_at_inside, byte_at_place}
 use Rattle.feed_parts.proofs.Rest.{next, finished, end_is}
 use Rattle.feed_parts.proofs.Left.{IsLeft, left_starts, left_ends, left_missing, left_next, left_none, kept_more}

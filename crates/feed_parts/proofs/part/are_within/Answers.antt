@@ -32,5 +32,5 @@ loop-part-preserved c =
     let some : 0 < length part.bytes = positive c.len-length.result (length part.bytes) (omega (arith, c.len-length.ensures, c.part-item.result.bytes.ok.0)) c.if-length-eq0.false in
     subst (λ place. IsChecked c.args.size (shown_parts c.args.parts.now) place rest) (sym end)
     (checked_next c.args.size (shown_parts c.args.parts.now) c.loop-part.place part rest c.if-part-place.false some
-    (omega (arith, c.len-length.ensures, c.part-item.result.bytes.ok.0, c.if-length-gt-PIECE_LIMIT.false))
+    (omega (arith, c.len-length.ensures, c.part-item.result.bytes.ok.0, c.len.ensures, c.if-len-gt-PIECE_LIMIT.false))
     (omega (arith, some, c.len-length.ensures, c.part-item.result.bytes.ok.0, c.saturating_sub.ensures, c.if-length-saturating_sub.false)) at)

@@ -1,0 +1,230 @@
+-- The hits at the places that an index gives.
+use Rattle.std.proofs.Common.{◌≡◌, ◌<◌, ◌≤◌, ◌+◌, ◌⊎◌, inl, inr, ℕ, zero, suc, Bool, true, false, ◌||◌, eqb, cond, List, [], ◌∷◌, ◌++◌, map, length, drop, get_or, Option, Some, None, option_map, if◌then◌else◌, refl, sym, ap, subst, ◌∙◌, arith}
+use Rattle.std.specs.Option.{option_and_then}
+use Rattle.std.specs.List.{All, AllPairs, Contains, cons_option, filter, filter_map, flat_map, slice_get}
+use Rattle.std.specs.List.Sorted.{IsPermutation, IsStrictlyIncreasing}
+use Rattle.std.specs.Str.{bytes_eq}
+use Rattle.std.specs.Cmp.Lexicographic.{bytes_decides}
+use Rattle.std.proofs.lemmas.Bool.Decides.{nat_tests}
+use Rattle.std.proofs.lemmas.List.{drop_all, drop_more}
+use Rattle.std.proofs.lemmas.List.Elements.{All-contains, Contains-append_left, Contains-append_right}
+use Rattle.std.proofs.lemmas.List.Kept.{AllPairs-from_increasing}
+use Rattle.std.proofs.lemmas.List.Sorted.{Contains-permutation}
+use Rattle.std.proofs.lemmas.Option.{slice_get-get_or}
+use Rattle.feed_kbart.specs.Issn.{number_of}
+use Rattle.feed_kbart.specs.HoldingsValue.{HoldingsValue}
+use Rattle.feed_kbart.specs.RowValue.{RowValue}
+use Rattle.feed_answer.specs.Answers.{answer_of, hit_by}
+use Rattle.feed_answer.specs.Grades.{is_named}
+use Rattle.feed_answer.specs.HitValue.{HitValue}
+use Rattle.feed_answer.specs.Index.{entries_from, entries_with, entry_of, hit_at, places_with}
+use Rattle.feed_answer.specs.IssnSet.{is_among}
+use Rattle.feed_answer.specs.QueryValue.{QueryValue}
+use Rattle.feed_answer.specs.declared.grade.Grade.{Grade}
+use Rattle.feed_answer.specs.declared.index.Entry.{Entry}
+
+-- what is in a list of one more
+contains_first : {X : Type 0} (x : X) (xs : List X) → Contains (x ∷ xs) x
+contains_first x xs = (0, omega arith, refl)
+
+contains_later : {X : Type 0} (y : X) (xs : List X) (x : X) → Contains xs x → Contains (y ∷ xs) x
+contains_later y xs x has = (suc has.0, omega (arith, has.1), has.2)
+
+contains_cases : {X : Type 0} (y : X) (xs : List X) (x : X) → Contains (y ∷ xs) x → (y ≡ x) ⊎ Contains xs x
+contains_cases y xs x (zero, within, here) = inl here
+contains_cases y xs x (suc k, within, here) = inr (k, omega arith, here)
+
+contains_none : {X : Type 0} (x : X) → ¬ (Contains [] x)
+contains_none x has = omega (arith, has.1)
+
+-- what passes a filter, a map or a list of lists
+contains_map : {X Y : Type 0} (f : X → Y) (xs : List X) (x : X) → Contains xs x → Contains (map f xs) (f x)
+contains_map f [] x has = absurd (contains_none x has)
+contains_map f (y ∷ xs) x has = elim (contains_cases y xs x has) [
+  | inl same ↦ subst (λ z. Contains (map f (y ∷ xs)) (f z)) same (contains_first (f y) (map f xs))
+  | inr later ↦ contains_later (f y) (map f xs) (f x) (contains_map f xs x later)
+]
+
+contains_kept : {X : Type 0} (b : Bool) (y : X) (xs : List X) (x : X) → Contains xs x → Contains (cond b (y ∷ xs) xs) x
+contains_kept true y xs x has = contains_later y xs x has
+contains_kept false y xs x has = has
+
+contains_filter : {X : Type 0} (p : X → Bool) (xs : List X) (x : X) → Contains xs x → p x ≡ true → Contains (filter p xs) x
+contains_filter p [] x has passes = absurd (contains_none x has)
+contains_filter p (y ∷ xs) x has passes = elim (contains_cases y xs x has) [
+  | inl same ↦
+      let here : p y ≡ true = ap p same ∙ passes in
+      rw here (subst (Contains (y ∷ filter p xs)) same (contains_first y (filter p xs)))
+  | inr later ↦ contains_kept (p y) y (filter p xs) x (contains_filter p xs x later passes)
+]
+
+contains_flat : {X Y : Type 0} (f : X → List Y) (xs : List X) (x : X) (y : Y) → Contains xs x → Contains (f x) y → Contains (flat_map f xs) y
+contains_flat f [] x y has inner = absurd (contains_none x has)
+contains_flat f (z ∷ xs) x y has inner = elim (contains_cases z xs x has) [
+  | inl same ↦ Contains-append_left (f z) (flat_map f xs) y (subst (λ w. Contains (f w) y) (sym same) inner)
+  | inr later ↦ Contains-append_right (f z) (flat_map f xs) y (contains_flat f xs x y later inner)
+]
+
+-- an ISSN that is among some is one of them
+or_cases : (a b : Bool) → (a || b) ≡ true → (a ≡ true) ⊎ (b ≡ true)
+or_cases true b e = inl refl
+or_cases false b e = inr e
+
+among_is : (issn : List ℕ) (issns : List (List ℕ)) → is_among issn issns ≡ true → Contains issns issn
+among_is issn [] e = absurd (cc)
+among_is issn (other ∷ issns) e = elim (or_cases (bytes_eq other issn) (is_among issn issns) e) [
+  | inl same ↦ subst (Contains (other ∷ issns)) ((bytes_decides other issn).0 same) (contains_first other issns)
+  | inr later ↦ contains_later other issns issn (among_is issn issns later)
+]
+
+-- each ISSN of a row has its entry
+entry_here : (place : ℕ) (issn : List ℕ) (own : Option (List ℕ)) → own ≡ Some issn → Contains (entry_of place own) (record { issn = number_of issn; place = place })
+entry_here place issn own e = rw e (contains_first _ [])
+
+abbrev HasIssn : RowValue → List ℕ → Type 0
+HasIssn row issn = (row.print ≡ Some issn) ⊎ (row.online ≡ Some issn)
+
+row_entries : (place : ℕ) (row : RowValue) (rest : List Entry) (issn : List ℕ) → HasIssn row issn
+    → Contains (entry_of place row.print ++ entry_of place row.online ++ rest) (record { issn = number_of issn; place = place })
+row_entries place row rest issn has =
+    Contains-append_left (entry_of place row.print ++ entry_of place row.online) rest _ (elim has [
+      | inl print ↦ Contains-append_left (entry_of place row.print) (entry_of place row.online) _ (entry_here place issn row.print print)
+      | inr online ↦ Contains-append_right (entry_of place row.print) (entry_of place row.online) _ (entry_here place issn row.online online)
+    ])
+
+entries_have : (base : ℕ) (rows : List RowValue) (i place : ℕ) (d : RowValue) (issn : List ℕ) → i < length rows → place ≡ base + i
+    → HasIssn (get_or rows i d) issn → Contains (entries_from base rows) (record { issn = number_of issn; place = place })
+entries_have base [] i place d issn within at has = absurd (omega arith)
+entries_have base (row ∷ rows) zero place d issn within at has =
+    let same : place ≡ base = omega arith in
+    rw same (row_entries base row (entries_from (base + 1) rows) issn has)
+entries_have base (row ∷ rows) (suc i) place d issn within at has =
+    Contains-append_right (entry_of base row.print ++ entry_of base row.online) (entries_from (base + 1) rows) _
+    (entries_have (base + 1) rows i place d issn (omega arith) (omega arith) has)
+
+-- a row that matches has an ISSN that is asked for
+is_asked : (b : Bool) (grade : Option Grade) (f : Grade → HitValue) (hit : HitValue) → option_map f (if b then grade else None) ≡ Some hit → b ≡ true
+is_asked true grade f hit e = refl
+is_asked false grade f hit e = absurd (cc)
+
+named_is : (own : Option (List ℕ)) (issns : List (List ℕ)) → is_named own issns ≡ true → (issn : List ℕ) × (own ≡ Some issn) × Contains issns issn
+named_is None issns e = absurd (cc)
+named_is (Some issn) issns e = (issn, refl, among_is issn issns e)
+
+matches_by : (query : QueryValue) (row : RowValue) (hit : HitValue) → hit_by query row ≡ Some hit → (issn : List ℕ) × HasIssn row issn × Contains query.issns issn
+matches_by query row hit e =
+    let asked = is_asked (is_named row.print query.issns || is_named row.online query.issns) _ _ hit e in
+    elim (or_cases _ _ asked) [
+      | inl print ↦ let named = named_is row.print query.issns print in (named.0, inl named.1, named.2)
+      | inr online ↦ let named = named_is row.online query.issns online in (named.0, inr named.1, named.2)
+    ]
+
+eqb_itself : (n : ℕ) → eqb n n ≡ true
+eqb_itself n = grind (arith, nat_tests)
+
+-- so its place is among those of the query's ISSNs
+place_among : (query : QueryValue) (rows : List RowValue) (entries : List Entry) → IsPermutation (entries_from 0 rows) entries
+    → (i : ℕ) (d : RowValue) → i < length rows → (hit_by query (get_or rows i d) ≡ None) ⊎ Contains (places_with query.issns entries) i
+place_among query rows entries whole i d within =
+    elim (hit_by query (get_or rows i d)) as (λ h. hit_by query (get_or rows i d) ≡ h → (hit_by query (get_or rows i d) ≡ None) ⊎ Contains (places_with query.issns entries) i) [
+      | None ↦ λ e. inl e
+      | Some hit ↦ λ e.
+          let by = matches_by query (get_or rows i d) hit e in
+          let entry : Entry = record { issn = number_of by.0; place = i } in
+          let known : Contains entries entry = Contains-permutation (entries_from 0 rows) entries entry whole (entries_have 0 rows i i d by.0 within (omega arith) by.1) in
+          let found : Contains (entries_with (number_of by.0) entries) entry = contains_filter (λ e. eqb e.issn (number_of by.0)) entries entry known (eqb_itself (number_of by.0)) in
+          inr (contains_flat (λ issn. map (λ e. e.place) (entries_with (number_of issn) entries)) query.issns by.0 i by.2 (contains_map (λ e. e.place) (entries_with (number_of by.0) entries) entry found))
+    ] refl
+
+-- what h gives of the element at a place
+abbrev at_place : {X Y : Type 0} → (X → Option Y) → List X → ℕ → Option Y
+at_place h rows place = option_and_then h (slice_get rows place)
+
+past : {X Y : Type 0} (h : X → Option Y) (rows : List X) (place : ℕ) → length rows ≤ place → at_place h rows place ≡ None
+past h [] place over = refl
+past h (row ∷ rows) zero over = absurd (omega arith)
+past h (row ∷ rows) (suc place) over = past h rows place (omega arith)
+
+all_past : {X Y : Type 0} (h : X → Option Y) (rows : List X) (places : List ℕ) → All (λ place. length rows ≤ place) places → filter_map (at_place h rows) places ≡ []
+all_past h rows [] all = refl
+all_past h rows (place ∷ places) all = rw (past h rows place (all 0 0 (omega arith))) (all_past h rows places (λ k d within. all (suc k) d (omega (arith, within))))
+
+-- what is known of places from b on: they ascend, and each element at b or later of which h gives something has its place among them
+record Covers {X Y : Type 0} (h : X → Option Y) (rows : List X) (b : ℕ) (places : List ℕ) : Type 0 where
+  ascending : AllPairs (λ x y. x < y) places
+  from : All (λ place. b ≤ place) places
+  has : (i : ℕ) (d : X) → b ≤ i → i < length rows → (h (get_or rows i d) ≡ None) ⊎ Contains places i
+
+-- where b itself is not among the places
+covers_none : {X Y : Type 0} (h : X → Option Y) (rows : List X) (b : ℕ) (places : List ℕ) → Covers h rows b places → All (λ place. b + 1 ≤ place) places → Covers h rows (b + 1) places
+covers_none h rows b places covers later = record {
+  ascending = covers.ascending;
+  from = later;
+  has = λ i d k g. covers.has i d (omega arith) g;
+}
+
+-- where b is the first of the places
+covers_first : {X Y : Type 0} (h : X → Option Y) (rows : List X) (b place : ℕ) (places : List ℕ) → Covers h rows b (place ∷ places) → place ≡ b → Covers h rows (b + 1) places
+covers_first h rows b place places covers first = record {
+  ascending = λ i j d k g. covers.ascending (suc i) (suc j) d (omega (arith, k)) (omega (arith, g));
+  from = λ k d g. (let more : place < get_or places k d = covers.ascending 0 (suc k) d (omega arith) (omega (arith, g)) in omega arith);
+  has = λ i d k g. elim (covers.has i d (omega arith) g) [
+    | inl none ↦ inl none
+    | inr has ↦ elim (contains_cases place places i has) [ inl same ↦ absurd (omega arith) | inr later ↦ inr later ]
+  ];
+}
+
+-- the element at b gives nothing, if all places are later
+none_here : {X Y : Type 0} (h : X → Option Y) (rows : List X) (b : ℕ) (places : List ℕ) (d : X) → Covers h rows b places → b < length rows → All (λ place. b + 1 ≤ place) places → h (get_or rows b d) ≡ None
+none_here h rows b places d covers within later = elim (covers.has b d (omega arith) within) [
+  | inl none ↦ none
+  | inr has ↦ let wrong : b + 1 ≤ b = All-contains (λ place. b + 1 ≤ place) places b later has in absurd (omega arith)
+]
+
+all_later : (b place : ℕ) (places : List ℕ) → AllPairs (λ x y. x < y) (place ∷ places) → b < place → All (λ x. b + 1 ≤ x) (place ∷ places)
+all_later b place places pairs less zero d k = omega arith
+all_later b place places pairs less (suc i) d k = let more : place < get_or places i d = pairs 0 (suc i) d (omega arith) k in omega arith
+
+-- what h gives of the elements at the places is what it gives of all from b on
+from_places : {X Y : Type 0} (h : X → Option Y) (rows : List X) (d : X) (left b : ℕ) (places : List ℕ) → left + b ≡ length rows → Covers h rows b places
+    → filter_map (at_place h rows) places ≡ filter_map h (drop b rows)
+from_places h rows d zero b places count covers =
+    let over : length rows ≤ b = omega arith in
+    rw (drop_all b rows over) (all_past h rows places (λ k e g. (let more : b ≤ get_or places k e = covers.from k e g in omega arith)))
+from_places h rows d (suc left) b [] count covers =
+    let within : b < length rows = omega arith in
+    let none = none_here h rows b [] d covers within (λ k e g. absurd (omega (arith, g))) in
+    rw (drop_more rows b d within, none) (from_places h rows d left (b + 1) [] (omega arith) (covers_none h rows b [] covers (λ k e g. absurd (omega (arith, g)))))
+from_places h rows d (suc left) b (place ∷ places) count covers = elim (eqb place b) as (λ t. eqb place b ≡ t → filter_map (at_place h rows) (place ∷ places) ≡ filter_map h (drop b rows)) [
+  | true ↦ λ e.
+      let within : b < length rows = omega arith in
+      let first : place ≡ b = grind (arith, nat_tests) in
+      let here : slice_get rows place ≡ Some (get_or rows b d) = rw first (slice_get-get_or rows b d within) in
+      rw (drop_more rows b d within, here) (ap (cons_option (h (get_or rows b d))) (from_places h rows d left (b + 1) places (omega arith) (covers_first h rows b place places covers first)))
+  | false ↦ λ e.
+      let within : b < length rows = omega arith in
+      let low : b ≤ place = covers.from 0 0 (omega arith) in
+      let less : b < place = grind (arith, nat_tests) in
+      let later = all_later b place places covers.ascending less in
+      rw (drop_more rows b d within, none_here h rows b (place ∷ places) d covers within later) (from_places h rows d left (b + 1) (place ∷ places) (omega arith) (covers_none h rows b (place ∷ places) covers later))
+] refl
+
+over_all : {X Y : Type 0} (h : X → Option Y) (rows : List X) (places : List ℕ) → IsStrictlyIncreasing places
+    → ((i : ℕ) (d : X) → i < length rows → (h (get_or rows i d) ≡ None) ⊎ Contains places i)
+    → filter_map (at_place h rows) places ≡ filter_map h rows
+over_all h [] places ascending has = all_past h [] places (λ k d g. omega arith)
+over_all h (row ∷ rows) places ascending has =
+    from_places h (row ∷ rows) row (length (row ∷ rows)) 0 places (omega arith) (record {
+      ascending = AllPairs-from_increasing places ascending;
+      from = λ k d g. omega arith;
+      has = λ i d k g. has i d g;
+    })
+
+-- the hits at ascending places that have those of the query's ISSNs are the answer
+pub answered_at : (query : QueryValue) (holdings : HoldingsValue) (entries : List Entry) (places : List ℕ) → IsPermutation (entries_from 0 holdings.rows) entries
+    → IsStrictlyIncreasing places → ((place : ℕ) → Contains (places_with query.issns entries) place → Contains places place)
+    → filter_map (hit_at query holdings.rows) places ≡ answer_of holdings query
+unfolding answer_of
+answered_at query holdings entries places whole ascending has =
+    over_all (hit_by query) holdings.rows places ascending
+    (λ i d within. elim (place_among query holdings.rows entries whole i d within) [ inl none ↦ inl none | inr among ↦ inr (has i among) ])

@@ -1,0 +1,87 @@
+//! The text of a file, read from its parts where they lie.
+ghost use Rattle.std.specs.Prelude.{◌≡◌, ◌<◌, ◌∷◌, [], ℕ, IsSome, IfSome, IfNone};
+ghost use Rattle.feed_model.specs.Content.{byte_in, AreParts};
+ghost use Rattle.feed_model.specs.Change.{merged};
+ghost use Rattle.feed_model.specs.Sound.{IsText};
+ghost use Rattle.feed_parts.specs.Shown.{shown_part, shown_parts};
+ghost use Rattle.feed_parts.specs.Piece.{AreWithin};
+
+use crate::part::Part;
+use std::io::{self, Read};
+use std::marker::Model;
+
+/// Reads the bytes of kept and new parts, in the order of their places.
+#[derive(Drop)]
+pub struct PartReader<'a> {
+    front: &'a [u8],
+    kept: &'a [Part],
+    new: &'a [Part],
+}
+
+impl<'a> Model for PartReader<'a> {
+    ghost use Rattle.std.specs.Prelude.{ℕ, List, ◌++◌};
+    ghost use Rattle.feed_model.specs.Content.{AreParts};
+    ghost use Rattle.feed_model.specs.Change.{merged};
+    ghost use Rattle.feed_parts.specs.Shown.{shown_parts};
+    ghost use Rattle.feed_parts.specs.Piece.{joined};
+
+    ghost Value = { List ℕ };
+
+    ghost view = { λ r. r.front.now ++ joined (merged (shown_parts r.kept.now) (shown_parts r.new.now)) };
+
+    ghost invariant = { λ r. AreParts (shown_parts r.new.now) × AreParts (merged (shown_parts r.kept.now) (shown_parts r.new.now)) };
+}
+
+impl<'a> PartReader<'a> {
+    /// Of kept and new parts, both in order. Where no place of the file is missing, what it reads is the text of the
+    /// file.
+    pub fn new(kept: &'a [Part], new: &'a [Part]) -> PartReader<'a>
+        requires order { AreParts (shown_parts new.now) }
+        requires apart { AreParts (merged (shown_parts kept.now) (shown_parts new.now)) }
+        ensures { (size : ℕ) → AreWithin size (merged (shown_parts kept.now) (shown_parts new.now)) → ((place : ℕ) → place < size → IsSome (byte_in (merged (shown_parts kept.now) (shown_parts new.now)) place)) → IsText size (merged (shown_parts kept.now) (shown_parts new.now)) result }
+    {
+        PartReader {
+            front: &[],
+            kept,
+            new,
+        }
+    }
+}
+
+impl<'a> Read for PartReader<'a> {
+    ghost use Rattle.std.specs.Prelude.{Some};
+
+    ghost remaining = { λ r. Some r };
+
+    fn read(&mut self, buf: &mut [u8]) -> io::Result<usize> {
+        if !self.front.is_empty() {
+            return self.front.read(buf);
+        }
+        match split_first(self.kept, self.new) {
+            None => Ok(0),
+            Some((part, kept, new)) => {
+                self.front = part.bytes.as_slice();
+                self.kept = kept;
+                self.new = new;
+                self.front.read(buf)
+            }
+        }
+    }
+}
+
+// The part that begins first, and the other kept and new parts.
+fn split_first<'a>(kept: &'a [Part], new: &'a [Part]) -> Option<(&'a Part, &'a [Part], &'a [Part])>
+    requires { AreParts (shown_parts new.now) }
+    ensures first { IfSome result (λ split. merged (shown_parts kept.now) (shown_parts new.now) ≡ shown_part split.0.now ∷ merged (shown_parts split.1.now) (shown_parts split.2.now)) }
+    ensures order { IfSome result (λ split. AreParts (shown_parts split.2.now)) }
+    ensures end { IfNone result (merged (shown_parts kept.now) (shown_parts new.now) ≡ []) }
+{
+    let Some((part, rest)) = new.split_first() else {
+        let (part, rest) = kept.split_first()?;
+        return Some((part, rest, new));
+    };
+    match kept.split_first() {
+        Some((first, others)) if first.first <= part.first => Some((first, others, new)),
+        _ => Some((part, kept, rest)),
+    }
+}
