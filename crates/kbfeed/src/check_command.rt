@@ -3,8 +3,8 @@ use crate::status::{DONE, FAILED, REFUSED, fault_told, printed};
 use feed_kbart::{BadFile, Holdings, KbartFault, read_file};
 use feed_names::{NameFault, ReleaseName};
 use std::alloc::Global;
-use std::io::{Read, Write};
 use std::io;
+use std::io::{Read, Write};
 
 /// Reads a file under its name and prints what it holds to `out`: `release NAME`, `rows N aside M`, and a line
 /// `aside NUMBER REASON` for each record that is set aside. A bad file prints `broken REASON` in place of the last two.
