@@ -1,6 +1,6 @@
 -- How often the devices of nodes failed, over a step and over a run.
-use Rattle.std.proofs.Common.{◌≡◌, ◌<◌, ◌≤◌, ◌+◌, ◌++◌, ℕ, zero, suc, List, [], ◌∷◌, length, map, take, get_or, slice_set, Some, ◌⊎◌, inl, inr, refl, sym, ap, subst, length-take, arith}
-use Rattle.std.proofs.lemmas.List.{take_more}
+use Rattle.std.proofs.Common.{◌≡◌, ◌<◌, ◌≤◌, ◌+◌, ◌++◌, ℕ, zero, suc, List, [], ◌∷◌, length, map, take, get_or, slice_set, Some, ◌⊎◌, inl, inr, sym, subst, length-take, arith}
+use Rattle.std.proofs.lemmas.List.{take_more, length-map}
 use Rattle.feed_model.specs.declared.keep_fault.KeepFault.{KeepFault}
 use Rattle.feed_model.specs.declared.keep_fault.KeepFault.TheVariants as causes
 use Rattle.feed_model.specs.declared.reply.Reply.{Reply}
@@ -9,16 +9,21 @@ use Rattle.feed_world.specs.declared.line.Why.{Why}
 use Rattle.feed_world.specs.declared.line.Why.TheVariants.{Feed, NoNode, Down}
 use Rattle.feed_world.specs.World.{WorldEvent, Line, IsDown, Refused, Replied, Restarted, Stopped}
 use Rattle.feed_core.specs.Cause.{HasFailed}
-use Rattle.feed_core.specs.Counts.{AreCounted, IsToldOf, TellsDevice, node_of}
+use Rattle.feed_core.specs.Counts.{AreCounted, HasFailedSince, IsToldOf, TellsDevice, node_of}
 use Rattle.feed_core.proofs.Going.{AreOf}
+use Rattle.feed_core.proofs.Shows.{map-push}
 
-failed_later : (a b c : ℕ) → HasFailed a b → b ≤ c → HasFailed a c
+failed_since : (a b : ℕ) → HasFailed a b → HasFailedSince a b
+failed_since a b (inl rose) = inl rose
+failed_since a b (inr great) = inr (omega (arith, great))
+
+failed_later : (a b c : ℕ) → HasFailedSince a b → b ≤ c → HasFailedSince a c
 failed_later a b c (inl rose) le = inl (omega (arith, rose, le))
 failed_later a b c (inr great) le = inr (omega (arith, great, le))
 
-failed_since : (a b c : ℕ) → a ≤ b → HasFailed b c → HasFailed a c
-failed_since a b c le (inl rose) = inl (omega (arith, rose, le))
-failed_since a b c le (inr great) = inr great
+failed_before : (a b c : ℕ) → a ≤ b → HasFailedSince b c → HasFailedSince a c
+failed_before a b c le (inl rose) = inl (omega (arith, rose, le))
+failed_before a b c le (inr great) = inr great
 
 -- no node from this number on is told of
 pub counted_same : {M : Type 0} (is_told : ℕ → Type 0) (failed : M → ℕ) (node : ℕ) (xs : List M) → ((i : ℕ) → is_told i → i < node) → AreCounted is_told failed failed node xs xs
@@ -26,9 +31,9 @@ counted_same is_told failed node [] before = tt
 counted_same is_told failed node (x ∷ xs) before = (omega arith, (λ t. absurd (omega (arith, before node t))), counted_same is_told failed (suc node) xs (λ i t. omega (arith, before i t)))
 
 -- one node is told of at most
-pub counted_set : {M : Type 0} (is_told : ℕ → Type 0) (failed : M → ℕ) (node : ℕ) (xs : List M) (at : ℕ) (x z : M) → at < length xs → x ≡ get_or xs at x → failed x ≤ failed z → (is_told (node + at) → HasFailed (failed x) (failed z)) → ((i : ℕ) → is_told i → i ≡ node + at) → AreCounted is_told failed failed node xs (slice_set xs at z)
+pub counted_set : {M : Type 0} (is_told : ℕ → Type 0) (failed : M → ℕ) (node : ℕ) (xs : List M) (at : ℕ) (x z : M) → at < length xs → x ≡ get_or xs at x → failed x ≤ failed z → (is_told (node + at) → HasFailedSince (failed x) (failed z)) → ((i : ℕ) → is_told i → i ≡ node + at) → AreCounted is_told failed failed node xs (slice_set xs at z)
 counted_set is_told failed node [] at x z lt is le rise one = absurd (omega arith)
-counted_set {M} is_told failed node (y ∷ ys) zero x z lt is le rise one = (subst (λ (v : M). failed v ≤ failed z) is le, (λ t. subst (λ (v : M). HasFailed (failed v) (failed z)) is (rise (subst is_told (omega arith) t))), counted_same is_told failed (suc node) ys (λ i t. omega (arith, one i t)))
+counted_set {M} is_told failed node (y ∷ ys) zero x z lt is le rise one = (subst (λ (v : M). failed v ≤ failed z) is le, (λ t. subst (λ (v : M). HasFailedSince (failed v) (failed z)) is (rise (subst is_told (omega arith) t))), counted_same is_told failed (suc node) ys (λ i t. omega (arith, one i t)))
 counted_set is_told failed node (y ∷ ys) (suc at) x z lt is le rise one = (omega arith, (λ t. absurd (omega (arith, one node t))), counted_set is_told failed (suc node) ys at x z (omega arith) is le (λ t. rise (subst is_told (omega arith) t)) (λ i t. omega (arith, one i t)))
 
 -- one run after another
@@ -40,9 +45,9 @@ counted_then P Q f g h node (x ∷ xs) [] zs a b = absurd a
 counted_then P Q f g h node (x ∷ xs) (y ∷ ys) [] a b = absurd b
 counted_then P Q f g h node (x ∷ xs) (y ∷ ys) (z ∷ zs) a b = (omega (arith, a.0, b.0), (λ t. pick t), counted_then P Q f g h (suc node) xs ys zs a.2 b.2)
   where
-    pick : P node ⊎ Q node → HasFailed (f x) (h z)
+    pick : P node ⊎ Q node → HasFailedSince (f x) (h z)
     pick (inl t) = failed_later (f x) (g y) (h z) (a.1 t) b.0
-    pick (inr t) = failed_since (f x) (g y) (h z) a.0 (b.1 t)
+    pick (inr t) = failed_before (f x) (g y) (h z) a.0 (b.1 t)
 
 -- less is told
 pub counted_as : {X Y : Type 0} (P Q : ℕ → Type 0) (f : X → ℕ) (g : Y → ℕ) (node : ℕ) (xs : List X) (ys : List Y) → ((i : ℕ) → Q i → P i) → AreCounted P f g node xs ys → AreCounted Q f g node xs ys
@@ -92,7 +97,7 @@ counted_stay failed xs node line not = counted_same (λ i. (i ≡ node) × Tells
 -- one node changes
 pub counted_step : {M : Type 0} (failed : M → ℕ) (xs ys : List M) (at node : ℕ) (x z : M) (line : Line) → at < length xs → x ≡ get_or xs at x → ys ≡ slice_set xs at z → node ≡ at + 1 → failed x ≤ failed z → (TellsDevice line → HasFailed (failed x) (failed z)) → AreCounted (λ i. (i ≡ node) × TellsDevice line) failed failed 1 xs ys
 counted_step {M} failed xs ys at node x z line lt is now number le rise =
-    subst (λ (zs : List M). AreCounted (λ i. (i ≡ node) × TellsDevice line) failed failed 1 xs zs) (sym now) (counted_set (λ i. (i ≡ node) × TellsDevice line) failed 1 xs at x z lt is le (λ t. rise t.1) (λ i t. omega (arith, t.0, number)))
+    subst (λ (zs : List M). AreCounted (λ i. (i ≡ node) × TellsDevice line) failed failed 1 xs zs) (sym now) (counted_set (λ i. (i ≡ node) × TellsDevice line) failed 1 xs at x z lt is le (λ t. failed_since (failed x) (failed z) (rise t.1)) (λ i t. omega (arith, t.0, number)))
 
 -- the node of an event
 pub counted_at : {M : Type 0} (failed : M → ℕ) (xs ys : List M) (node : ℕ) (line : Line) → AreCounted (λ i. (i ≡ node) × TellsDevice line) failed failed 1 xs ys → AreCounted (λ i. (Some node ≡ Some i) × TellsDevice line) failed failed 1 xs ys
@@ -110,19 +115,11 @@ told_more (x ∷ xs) (y ∷ ys) e l node same (inr t) = pick (told_more xs ys e 
     pick (inl u) = inl (inr u)
     pick (inr u) = inr u
 
-map-push : {X Y : Type 0} (f : X → Y) (es : List X) (e : X) → map f (es ++ e ∷ []) ≡ map f es ++ f e ∷ []
-map-push f [] e = refl
-map-push f (x ∷ xs) e = ap (λ ys. f x ∷ ys) (map-push f xs e)
-
-length-map : {X Y : Type 0} (f : X → Y) (xs : List X) → length (map f xs) ≡ length xs
-length-map f [] = refl
-length-map f (x ∷ xs) = ap suc (length-map f xs)
-
 -- one more event and one more line
 pub counted_more : {M E L : Type 0} (failed : M → ℕ) (told : E → WorldEvent) (shown : L → Line) (es : List E) (ls ks : List L) (i : ℕ) (e : E) (l : L) (xs ys zs : List M) → e ≡ get_or es i e → i < length es → length ls ≡ i → ks ≡ ls ++ l ∷ [] → AreCounted (IsToldOf (map told (take i es)) (map shown ls)) failed failed 1 xs ys → AreCounted (λ n. (node_of (told e) ≡ Some n) × TellsDevice (shown l)) failed failed 1 ys zs → AreCounted (IsToldOf (map told (take (i + 1) es)) (map shown ks)) failed failed 1 xs zs
 counted_more {M} {E} failed told shown es ls ks i e l xs ys zs at lt same is before step =
     rw (is, take_more es i e lt, map-push told (take i es) (get_or es i e), map-push shown ls l)
     (subst (λ (x : E). AreCounted (IsToldOf (map told (take i es) ++ told x ∷ []) (map shown ls ++ shown l ∷ [])) failed failed 1 xs zs) at
     (counted_as (λ n. IsToldOf (map told (take i es)) (map shown ls) n ⊎ ((node_of (told e) ≡ Some n) × TellsDevice (shown l))) (IsToldOf (map told (take i es) ++ told e ∷ []) (map shown ls ++ shown l ∷ [])) failed failed 1 xs zs
-    (λ n t. told_more (map told (take i es)) (map shown ls) (told e) (shown l) n (omega (arith, length-map told (take i es), length-map shown ls, length-take i es, lt, same)) t)
+    (λ n t. told_more (map told (take i es)) (map shown ls) (told e) (shown l) n (omega (arith, length-map (take i es) told, length-map ls shown, length-take i es, lt, same)) t)
     (counted_then (IsToldOf (map told (take i es)) (map shown ls)) (λ n. (node_of (told e) ≡ Some n) × TellsDevice (shown l)) failed failed failed 1 xs ys zs before step)))

@@ -14,3 +14,4 @@ pub mod Asked
 pub mod Going
 pub mod Arranged
 pub mod Counts
+pub mod Wrong

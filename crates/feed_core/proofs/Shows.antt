@@ -11,7 +11,7 @@ shows-push w m v [] (x ∷ xs) e l s h = absurd s
 shows-push w m v (x ∷ xs) [] e l s h = absurd s
 shows-push w m v (x ∷ xs) (y ∷ ys) e l s h = (s.0, s.1, shows-push s.0 m v xs ys e l s.2 h)
 
-map-push : {X Y : Type 0} (f : X → Y) (es : List X) (e : X) → map f (es ++ e ∷ []) ≡ map f es ++ f e ∷ []
+pub map-push : {X Y : Type 0} (f : X → Y) (es : List X) (e : X) → map f (es ++ e ∷ []) ≡ map f es ++ f e ∷ []
 map-push f [] e = refl
 map-push f (x ∷ xs) e = ap (λ ys. f x ∷ ys) (map-push f xs e)
 

@@ -8,6 +8,7 @@ use Rattle.feed_model.specs.Change.{merged}
 abbrev pub ordered_record : Record → Record
 ordered_record r = record { name = r.name; size = r.size; state = r.state; parts = merged [] r.parts }
 
+-- the same records, each with its parts in order
 abbrev pub ordered : Content → Content
 ordered rs = map ordered_record rs
 

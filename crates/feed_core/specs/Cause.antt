@@ -5,9 +5,9 @@ use Rattle.feed_model.specs.History.{Answer}
 use Rattle.feed_model.specs.declared.keep_fault.KeepFault.{KeepFault}
 use Rattle.feed_model.specs.declared.keep_fault.KeepFault.TheVariants.{Device}
 
--- the count rose, or stands at its greatest value, which no count exceeds
+-- the count rose, or stands at its greatest value
 abbrev pub HasFailed : ℕ → ℕ → Type 0
-HasFailed before now = (before < now) ⊎ (18446744073709551615 ≤ now)
+HasFailed before now = (before < now) ⊎ (now ≡ 18446744073709551615)
 
 -- the count never falls, and a fault of the device is told only where it failed
 abbrev pub IsCounted : {T : Type 0} → Result T KeepFault → ℕ → ℕ → Type 0

@@ -18,7 +18,7 @@ use feed_names::ReleaseName;
 use feed_world::Why;
 use std::alloc::Global;
 
-// The text of an answer with a hit or two has this many bytes, and then it does not grow.
+// Most answers fit in this many bytes.
 const TEXT_ROOM: usize = 256;
 
 /// A node over a keeper.
