@@ -6,7 +6,9 @@ pub mod NextRange
 pub mod Answered
 pub mod Nodes
 pub mod Step
+pub mod Feeds
 pub mod Slots
+pub mod Transcripts
 pub mod Arranged
 pub mod Printed
 pub mod Counts

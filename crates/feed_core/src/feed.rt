@@ -62,16 +62,17 @@ impl<K: Keep + Drop> Feed<K> {
     ghost use Rattle.feed_core.specs.NextRange.{IsNextRange};
     ghost use Rattle.feed_core.specs.Told.{told};
     ghost use Rattle.feed_core.specs.Cause.{HasFailed, IsAnswerCounted};
+    ghost use Rattle.feed_core.specs.Feeds.{keeper_of, recorded, releases_of};
 
     /// Opens a feed on what a keeper holds. `Damaged` where this is nothing that a feed ever keeps: a name that stands
     /// twice, more than 256 releases, a size above the limit of a file, parts that are empty, above the limit of a
     /// piece, out of order or outside of the file, a release beside a later active one of its package, or a state that
     /// its file does not bear out. The file of each whole release is read once.
     pub fn open(alloc: Global, mut keeper: K) -> Result<Feed<K>, OpenFault<K>>
-        ensures content { IfOk result (λ feed. K.clean feed.keeper → content_of feed.releases.items ≡ K.content keeper) }
-        ensures sound { IfOk result (λ feed. IsSound (content_of feed.releases.items)) }
-        ensures clean { IfOk result (λ feed. K.clean feed.keeper → K.clean keeper) }
-        ensures counted { IfOk result (λ feed. K.failed keeper ≤ K.failed feed.keeper) }
+        ensures content { IfOk result (λ feed. K.clean (keeper_of feed) → recorded feed ≡ K.content keeper) }
+        ensures sound { IfOk result (λ feed. IsSound (recorded feed)) }
+        ensures clean { IfOk result (λ feed. K.clean (keeper_of feed) → K.clean keeper) }
+        ensures counted { IfOk result (λ feed. K.failed keeper ≤ K.failed (keeper_of feed)) }
         ensures damaged { IfErr result (λ fault. fault.cause ≡ KeepFault.Damaged → K.clean fault.keeper → ¬ (IsSound (K.content keeper))) }
         ensures legal { IfErr result (λ fault. K.clean fault.keeper → (h : History) → IsContent (K.content keeper) h → fault.cause ≢ KeepFault.Damaged) }
         ensures kept { IfErr result (λ fault. K.clean fault.keeper → K.content fault.keeper ≡ K.content keeper) }
@@ -95,10 +96,10 @@ impl<K: Keep + Drop> Feed<K> {
     /// Takes one event. Whatever history the feed stands at, the answer is right after it, and the feed then stands at
     /// the history with the event and the answer added. After a refusal the feed is as before.
     pub fn handle(&mut self, event: &Event<'_>) -> Result<Reply, Refusal>
-        ensures right { Handles (content_of self.old.releases.items) (told event.now) result (content_of self.new.releases.items) }
-        ensures refused { OnErr result (self.new.releases.items ≡ self.old.releases.items) }
-        ensures clean { K.clean self.new.keeper → K.clean self.old.keeper }
-        ensures device { IsAnswerCounted result (K.failed self.old.keeper) (K.failed self.new.keeper) }
+        ensures right { Handles (recorded self.old) (told event.now) result (recorded self.new) }
+        ensures refused { OnErr result (releases_of self.new ≡ releases_of self.old) }
+        ensures clean { K.clean (keeper_of self.new) → K.clean (keeper_of self.old) }
+        ensures device { IsAnswerCounted result (K.failed (keeper_of self.old)) (K.failed (keeper_of self.new)) }
     {
         match event {
             Event::Offered { name, size } => offer(
@@ -129,10 +130,10 @@ impl<K: Keep + Drop> Feed<K> {
     /// Takes the events in order. Each answer is right after the history and the answers before it. Where there is no
     /// memory for the list of answers, no event was taken.
     pub fn run(&mut self, events: &[Event<'_>]) -> Result<Vec<Result<Reply, Refusal>>, AllocError>
-        ensures right { IfOk result (λ answers. (h : History) → IsContent (content_of self.old.releases.items) h → IsContent (content_of self.new.releases.items) (gone_on h (map told events.now) answers.items)) }
+        ensures right { IfOk result (λ answers. (h : History) → IsContent (recorded self.old) h → IsContent (recorded self.new) (gone_on h (map told events.now) answers.items)) }
         ensures count { IfOk result (λ answers. length answers.items ≡ length events.now) }
-        ensures clean { K.clean self.new.keeper → K.clean self.old.keeper }
-        ensures counted { K.failed self.old.keeper ≤ K.failed self.new.keeper }
+        ensures clean { K.clean (keeper_of self.new) → K.clean (keeper_of self.old) }
+        ensures counted { K.failed (keeper_of self.old) ≤ K.failed (keeper_of self.new) }
         ensures err { OnErr result (self.new ≡ self.old) }
     {
         let mut answers = Vec::with_capacity(self.alloc, events.len())?;
@@ -144,7 +145,7 @@ impl<K: Keep + Drop> Feed<K> {
 
     /// The active release of a package: of its whole and good ones, the one with the latest day.
     pub fn report(&self, package: &[u8]) -> Option<&ReleaseName>
-        ensures { (h : History) → IsContent (content_of self.now.releases.items) h → Reports h «package».now (option_map (λ name. name.now) result) }
+        ensures { (h : History) → IsContent (recorded self.now) h → Reports h «package».now (option_map (λ name. name.now) result) }
     {
         match active_of(&self.releases, package) {
             Some(at) => Some(self.releases[at].name()),
@@ -155,7 +156,7 @@ impl<K: Keep + Drop> Feed<K> {
     /// The first missing places of a release's file, at most `max` of them: the first one and the last one. There are
     /// none of a release that is not recorded, is whole or is passed.
     pub fn next_range(&self, name: &ReleaseName, max: u64) -> Option<(u64, u64)>
-        ensures { (h : History) → IsContent (content_of self.now.releases.items) h → IsNextRange h name.now max result }
+        ensures { (h : History) → IsContent (recorded self.now) h → IsNextRange h name.now max result }
     {
         match find(&self.releases, name) {
             Some(at) => self.releases[at].next_range(max),
@@ -165,7 +166,7 @@ impl<K: Keep + Drop> Feed<K> {
 
     /// The rows of a package's active release that match a query: those of its published file as a whole.
     pub fn answer(&self, package: &[u8], query: &Query) -> Result<Answer<'_>, AnswerFault>
-        ensures { (h : History) → IsContent (content_of self.now.releases.items) h → IsAnswered h «package».now query.now result }
+        ensures { (h : History) → IsContent (recorded self.now) h → IsAnswered h «package».now query.now result }
     {
         let Some(at) = active_of(&self.releases, package) else {
             return Err(AnswerFault::NoRelease);
@@ -181,15 +182,15 @@ impl<K: Keep + Drop> Feed<K> {
 
     /// Whether no release is recorded.
     pub fn is_empty(&self) -> bool
-        ensures { IsTrue result ↔ (content_of self.now.releases.items ≡ []) }
+        ensures { IsTrue result ↔ (recorded self.now ≡ []) }
     {
         self.releases.is_empty()
     }
 
     /// Stops between two events: the keeper, with its content.
     pub fn restart(self) -> K
-        ensures same { result ≡ self.keeper }
-        ensures content { K.clean result → K.content result ≡ content_of self.releases.items }
+        ensures same { result ≡ keeper_of self }
+        ensures content { K.clean result → K.content result ≡ recorded self }
     {
         let Feed {
             alloc: _,
@@ -202,10 +203,10 @@ impl<K: Keep + Drop> Feed<K> {
     /// Stops in the middle of an event: the keeper as it was before the commit, or as it is after it. An event that
     /// commits nothing, or whose commit is refused, leaves it as it was.
     pub fn stop_at(self, event: &Event<'_>, point: Point) -> K
-        ensures before { point ≡ Point.Before → (result ≡ self.keeper) × (K.clean result → K.content result ≡ content_of self.releases.items) }
-        ensures after { point ≡ Point.After → K.clean result → (h : History) → IsContent (content_of self.releases.items) h → (answer : event_answer) × IsRight h (told event.now) answer × IsContent (K.content result) ((told event.now, answer) ∷ h) }
-        ensures clean { K.clean result → K.clean self.keeper }
-        ensures counted { K.failed self.keeper ≤ K.failed result }
+        ensures before { point ≡ Point.Before → (result ≡ keeper_of self) × (K.clean result → K.content result ≡ recorded self) }
+        ensures after { point ≡ Point.After → K.clean result → (h : History) → IsContent (recorded self) h → (answer : event_answer) × IsRight h (told event.now) answer × IsContent (K.content result) ((told event.now, answer) ∷ h) }
+        ensures clean { K.clean result → K.clean (keeper_of self) }
+        ensures counted { K.failed (keeper_of self) ≤ K.failed result }
     {
         match point {
             Point::Before => self.restart(),

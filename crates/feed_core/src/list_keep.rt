@@ -4,7 +4,7 @@ ghost use Rattle.feed_names.specs.ReleaseName.{name_eq};
 ghost use Rattle.feed_model.specs.Content.{names, record_of};
 ghost use Rattle.feed_model.specs.Change.{changed, insert_record, is_earlier, new_record, without_earlier};
 ghost use Rattle.feed_parts.specs.Shown.{shown_parts};
-ghost use Rattle.feed_core.specs.Arranged.{IsArranged, lengthened, ordered};
+ghost use Rattle.feed_core.specs.Arranged.{IsArranged, content_of_list, lengthened, ordered};
 ghost use Rattle.feed_core.specs.Shown.{shown, shown_record, IsRecordAt};
 
 use crate::keep::{Change, Keep};
@@ -26,7 +26,7 @@ pub struct ListKeep {
 impl ListKeep {
     /// A keeper of no records. It takes no memory.
     pub fn new(alloc: Global) -> ListKeep
-        ensures { ordered (shown result.records.items) ≡ [] }
+        ensures { content_of_list result ≡ [] }
     {
         ListKeep {
             alloc,
@@ -37,7 +37,7 @@ impl ListKeep {
     /// A keeper of these records, which it puts in order. It takes no memory. Where a name stands twice, `load` answers
     /// `Damaged`.
     pub fn of(alloc: Global, records: Vec<Record>) -> ListKeep
-        ensures { IsArranged (shown records.items) (ordered (shown result.records.items)) }
+        ensures { IsArranged (shown records.items) (content_of_list result) }
     {
         let mut records = records;
         sort_by_name(&mut records);
@@ -46,7 +46,7 @@ impl ListKeep {
 }
 
 impl Keep for ListKeep {
-    ghost content = { λ keeper. ordered (shown keeper.records.items) };
+    ghost content = { content_of_list };
 
     ghost clean = { λ _. Unit {0} };
 

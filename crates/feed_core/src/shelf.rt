@@ -14,13 +14,13 @@ use std::collections::BTreeMap;
 
 /// The published files, by the texts of their names.
 #[derive(Drop)]
-pub struct Shelf<'a> {
+pub(crate) struct Shelf<'a> {
     files: BTreeMap<&'a [u8], &'a [u8]>,
 }
 
 impl<'a> Shelf<'a> {
     /// A shelf without files.
-    pub fn new(alloc: Global) -> Shelf<'a>
+    pub(crate) fn new(alloc: Global) -> Shelf<'a>
         ensures { IsShelf result.files.entries [] }
     {
         Shelf {
@@ -29,7 +29,11 @@ impl<'a> Shelf<'a> {
     }
 
     /// Publishes a file. A name stands for one file for ever.
-    pub fn publish(&mut self, name: &'a ReleaseName, bytes: &'a [u8]) -> Result<Line, AllocError>
+    pub(crate) fn publish(
+        &mut self,
+        name: &'a ReleaseName,
+        bytes: &'a [u8],
+    ) -> Result<Line, AllocError>
         ensures { IfOk result (λ line. (w : World) → IsShelf self.old.files.entries w.shelf → (v : World) × Happens w (Publish name.now bytes.now) (shown_line line) v × IsShelf self.new.files.entries v.shelf × (v.nodes ≡ w.nodes)) }
     {
         one_release_for_text();
@@ -55,7 +59,7 @@ impl<'a> Shelf<'a> {
     }
 
     /// An offer of a published release, as it arrives at a node: with the size of its file.
-    pub fn offer(&self, name: &'a ReleaseName) -> Result<Event<'a>, Why>
+    pub(crate) fn offer(&self, name: &'a ReleaseName) -> Result<Event<'a>, Why>
         ensures arrives { (shelf : files) → IsShelf self.now.files.entries shelf → arriving shelf (Offer name.now) ≡ shown_arrived result }
         ensures unsent { result ≢ Err (Why.Feed Refusal.Device) }
     {
@@ -69,7 +73,12 @@ impl<'a> Shelf<'a> {
     }
 
     /// A delivery as it arrives at a node: the slice of the published file, and the size of the file.
-    pub fn deliver(&self, name: &'a ReleaseName, first: u64, len: u64) -> Result<Event<'a>, Why>
+    pub(crate) fn deliver(
+        &self,
+        name: &'a ReleaseName,
+        first: u64,
+        len: u64,
+    ) -> Result<Event<'a>, Why>
         ensures arrives { (shelf : files) → IsShelf self.now.files.entries shelf → arriving shelf (Deliver name.now first len) ≡ shown_arrived result }
         ensures unsent { result ≢ Err (Why.Feed Refusal.Device) }
     {
@@ -92,7 +101,7 @@ impl<'a> Shelf<'a> {
     }
 
     /// A loss as it arrives at a node.
-    pub fn lose(&self, name: &'a ReleaseName) -> Result<Event<'a>, Why>
+    pub(crate) fn lose(&self, name: &'a ReleaseName) -> Result<Event<'a>, Why>
         ensures arrives { (shelf : files) → IsShelf self.now.files.entries shelf → arriving shelf (Lose name.now) ≡ shown_arrived result }
         ensures unsent { result ≢ Err (Why.Feed Refusal.Device) }
     {
@@ -103,7 +112,7 @@ impl<'a> Shelf<'a> {
     }
 
     /// What is on its way to a node as it stops.
-    pub fn sent(&self, what: &'a Sent) -> Result<Event<'a>, Why>
+    pub(crate) fn sent(&self, what: &'a Sent) -> Result<Event<'a>, Why>
         ensures arrives { (shelf : files) → IsShelf self.now.files.entries shelf → arriving shelf (shown_sent what.now) ≡ shown_arrived result }
         ensures unsent { result ≢ Err (Why.Feed Refusal.Device) }
     {

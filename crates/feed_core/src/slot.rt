@@ -1,8 +1,8 @@
 ghost use Rattle.std.specs.Prelude.{◌≡◌, ◌≢◌, ◌≤◌, Bool, true, [], Err, IfOk, IfErr};
 ghost use Rattle.feed_model.specs.History.{History};
 ghost use Rattle.feed_model.specs.Content.{IsContent};
-ghost use Rattle.feed_core.specs.ReleaseValue.{content_of};
 ghost use Rattle.feed_core.specs.Cause.{HasFailed, IsCounted};
+ghost use Rattle.feed_core.specs.Feeds.{recorded};
 ghost use Rattle.feed_core.specs.Slots.{IsSlotClean, SlotStands, slot_failed};
 ghost use Rattle.feed_world.specs.World.{IsAsked};
 ghost use Rattle.feed_core.specs.Nodes.{Comes, IsStartRefused, shown_outcome};
@@ -33,8 +33,8 @@ pub enum Slot<K: Keep + Drop> {
 impl<K: Keep + Drop> Slot<K> {
     /// A node on a keeper that holds nothing. A keeper that holds something is handed back.
     pub fn start(alloc: Global, keeper: K) -> Result<Slot<K>, OpenFault<K>>
-        ensures ok { IfOk result (λ s. SlotStands (λ f. content_of f.releases.items) K.content s true []) }
-        ensures counted { IfOk result (λ s. K.failed keeper ≤ slot_failed (λ f. K.failed f.keeper) K.failed s) }
+        ensures ok { IfOk result (λ s. SlotStands K.content s true []) }
+        ensures counted { IfOk result (λ s. K.failed keeper ≤ slot_failed K.failed s) }
         ensures err { IfErr result (λ fault. fault.cause ≢ KeepFault.Memory → IsStartRefused (HasFailed (K.failed keeper) (K.failed fault.keeper)) (K.clean fault.keeper) (K.content keeper)) }
         ensures kept { IfErr result (λ fault. K.clean fault.keeper → K.content fault.keeper ≡ K.content keeper) }
     {
@@ -55,9 +55,9 @@ impl<K: Keep + Drop> Slot<K> {
 
     /// The keeper of the node, up or down.
     pub fn into_keeper(self) -> K
-        ensures clean { K.clean result → IsSlotClean (λ f. K.clean f.keeper) K.clean self }
-        ensures content { K.clean result → (up : Bool) (h : History) → SlotStands (λ f. content_of f.releases.items) K.content self up h → IsContent (K.content result) h }
-        ensures failed { K.failed result ≡ slot_failed (λ f. K.failed f.keeper) K.failed self }
+        ensures clean { K.clean result → IsSlotClean K.clean self }
+        ensures content { K.clean result → (up : Bool) (h : History) → SlotStands K.content self up h → IsContent (K.content result) h }
+        ensures failed { K.failed result ≡ slot_failed K.failed self }
     {
         match self {
             Slot::Up(feed) => feed.restart(),
@@ -68,9 +68,9 @@ impl<K: Keep + Drop> Slot<K> {
 
 // Opens a keeper, and says why the node is down if it can't.
 fn opened<K: Keep + Drop>(alloc: Global, keeper: K) -> (Slot<K>, Result<(), KeepFault>)
-    ensures clean { IsSlotClean (λ f. K.clean f.keeper) K.clean result.0 → K.clean keeper }
-    ensures same { (h : History) → IsSlotClean (λ f. K.clean f.keeper) K.clean result.0 → IsContent (K.content keeper) h → Comes (SlotStands (λ f. content_of f.releases.items) K.content result.0) h result.1 }
-    ensures device { IsCounted result.1 (K.failed keeper) (slot_failed (λ f. K.failed f.keeper) K.failed result.0) }
+    ensures clean { IsSlotClean K.clean result.0 → K.clean keeper }
+    ensures same { (h : History) → IsSlotClean K.clean result.0 → IsContent (K.content keeper) h → Comes (SlotStands K.content result.0) h result.1 }
+    ensures device { IsCounted result.1 (K.failed keeper) (slot_failed K.failed result.0) }
 {
     match Feed::open(alloc, keeper) {
         Ok(feed) => (Slot::Up(feed), Ok(())),
@@ -79,11 +79,11 @@ fn opened<K: Keep + Drop>(alloc: Global, keeper: K) -> (Slot<K>, Result<(), Keep
 }
 
 impl<K: Keep + Drop> Node for Slot<K> {
-    ghost clean = { λ s. IsSlotClean (λ f. K.clean f.keeper) K.clean s };
+    ghost clean = { IsSlotClean K.clean };
 
-    ghost stands = { λ s. SlotStands (λ f. content_of f.releases.items) K.content s };
+    ghost stands = { SlotStands K.content };
 
-    ghost failed = { λ s. slot_failed (λ f. K.failed f.keeper) K.failed s };
+    ghost failed = { slot_failed K.failed };
 
     fn is_up(&self) -> bool {
         match self {
@@ -132,7 +132,7 @@ fn asked<K: Keep + Drop>(
     package: &[u8],
     query: &[u8],
 ) -> Result<Vec<u8>, Why>
-    ensures asked { (h : History) → IsContent (content_of feed.now.releases.items) h → IsAsked h «package».now query.now (shown_outcome (λ text. text.items) result) }
+    ensures asked { (h : History) → IsContent (recorded feed.now) h → IsAsked h «package».now query.now (shown_outcome (λ text. text.items) result) }
     ensures device { result ≢ Err (Why.Feed Refusal.Device) }
 {
     let active = feed.report(package);

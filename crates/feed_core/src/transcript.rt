@@ -2,6 +2,7 @@ ghost use Rattle.std.specs.Prelude.{◌≡◌, OnOk};
 ghost use Rattle.std.specs.List.{flat_map};
 ghost use Rattle.std.specs.Io.KnownBytes.{Appends};
 ghost use Rattle.feed_core.specs.Printed.{printed};
+ghost use Rattle.feed_core.specs.Transcripts.{keepers_of, lines_of};
 
 use feed_answer::WriteFault;
 use feed_world::Line;
@@ -24,14 +25,14 @@ impl<K: Drop> Transcript<K> {
 
     /// A line for each event, in order.
     pub fn lines(&self) -> &[Line]
-        ensures { result.now ≡ self.now.lines.items }
+        ensures { result.now ≡ lines_of self.now }
     {
         &self.lines
     }
 
     /// Writes the lines, each ended by LF. Where the writer fails, nothing is said of how much it took.
     pub fn write<W: Write>(&self, writer: &mut W) -> Result<(), WriteFault>
-        ensures { OnOk result (Appends (W.contents writer.old) (W.contents writer.new) (flat_map printed self.now.lines.items)) }
+        ensures { OnOk result (Appends (W.contents writer.old) (W.contents writer.new) (flat_map printed (lines_of self.now))) }
     {
         for line in &self.lines {
             match line.write(writer) {
@@ -44,7 +45,7 @@ impl<K: Drop> Transcript<K> {
 
     /// The keepers, in the order of the nodes.
     pub fn into_keepers(self) -> Vec<K>
-        ensures { result ≡ self.keepers }
+        ensures { result.items ≡ keepers_of self }
     {
         let Transcript { lines: _, keepers } = self;
         keepers

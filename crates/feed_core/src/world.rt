@@ -4,10 +4,10 @@ ghost use Rattle.feed_model.specs.Content.{Content};
 ghost use Rattle.feed_world.specs.World.{World, start, Shows};
 ghost use Rattle.feed_world.specs.Shown.{shown_event, shown_line};
 ghost use Rattle.feed_world.specs.Headline.{IsHeadline};
-ghost use Rattle.feed_core.specs.ReleaseValue.{content_of};
 ghost use Rattle.feed_core.specs.Cause.{HasFailed};
 ghost use Rattle.feed_core.specs.Counts.{AreCounted, IsToldOf, TellsDevice, node_of};
 ghost use Rattle.feed_core.specs.Slots.{IsSlotClean, SlotStands, slot_failed};
+ghost use Rattle.feed_core.specs.Transcripts.{keepers_of, lines_of};
 ghost use Rattle.feed_core.specs.Step.{AllClean, AreNodes, AreKept, GoesTo, IsStart};
 
 use crate::feed::OpenFault;
@@ -42,10 +42,10 @@ pub fn replay<K: Keep + Drop>(
     keepers: Vec<K>,
     events: &[WorldEvent],
 ) -> Result<Transcript<K>, ReplayFault<K>>
-    ensures shown { IfOk result (λ t. AllClean K.clean t.keepers.items → (w : World) × Shows (start (vec_len keepers)) (map shown_event events.now) (map shown_line t.lines.items) w × AreKept K.content t.keepers.items w.nodes) }
-    ensures headline { IfOk result (λ t. AllClean K.clean t.keepers.items → IsHeadline (map shown_event events.now) (map shown_line t.lines.items)) }
-    ensures count { IfOk result (λ t. vec_len t.lines ≡ length events.now) }
-    ensures device { IfOk result (λ t. AreCounted (IsToldOf (map shown_event events.now) (map shown_line t.lines.items)) K.failed K.failed 1 keepers.items t.keepers.items) }
+    ensures shown { IfOk result (λ t. AllClean K.clean (keepers_of t) → (w : World) × Shows (start (vec_len keepers)) (map shown_event events.now) (map shown_line (lines_of t)) w × AreKept K.content (keepers_of t) w.nodes) }
+    ensures headline { IfOk result (λ t. AllClean K.clean (keepers_of t) → IsHeadline (map shown_event events.now) (map shown_line (lines_of t))) }
+    ensures count { IfOk result (λ t. length (lines_of t) ≡ length events.now) }
+    ensures device { IfOk result (λ t. AreCounted (IsToldOf (map shown_event events.now) (map shown_line (lines_of t))) K.failed K.failed 1 keepers.items (keepers_of t)) }
     ensures nodes { ((vec_len keepers ≡ 0) ⊎ (16 < vec_len keepers)) ↔ IsErrOf result ReplayFault.Nodes }
     ensures start { IfErr result (λ fault. IsStart K.clean K.content K.failed keepers.items fault) }
 {
@@ -57,7 +57,7 @@ pub fn replay<K: Keep + Drop>(
     };
     let nodes = start_all(alloc, keepers)?;
     match show_all(alloc, nodes, events) {
-        Ok((lines, nodes)) => Ok(Transcript::of(lines, keepers_of(room, nodes))),
+        Ok((lines, nodes)) => Ok(Transcript::of(lines, keepers_back(room, nodes))),
         Err(_) => Err(ReplayFault::Memory),
     }
 }
@@ -65,8 +65,8 @@ pub fn replay<K: Keep + Drop>(
 // Nodes on keepers that hold nothing.
 fn start_all<K: Keep + Drop>(alloc: Global, keepers: Vec<K>) -> Result<Vec<Slot<K>>, ReplayFault<K>>
     ensures count { IfOk result (λ nodes. length nodes.items ≡ vec_len keepers) }
-    ensures started { IfOk result (λ nodes. AreNodes (SlotStands (λ f. content_of f.releases.items) K.content) nodes.items (start (length nodes.items)).nodes) }
-    ensures counted { IfOk result (λ nodes. AreCounted (λ _. ⊥) K.failed (slot_failed (λ f. K.failed f.keeper) K.failed) 1 keepers.items nodes.items) }
+    ensures started { IfOk result (λ nodes. AreNodes (SlotStands K.content) nodes.items (start (length nodes.items)).nodes) }
+    ensures counted { IfOk result (λ nodes. AreCounted (λ _. ⊥) K.failed (slot_failed K.failed) 1 keepers.items nodes.items) }
     ensures nodes { ¬ (IsErrOf result ReplayFault.Nodes) }
     ensures start { IfErr result (λ fault. IsStart K.clean K.content K.failed keepers.items fault) }
 {
@@ -100,12 +100,12 @@ fn not_started<K: Keep + Drop>(fault: OpenFault<K>, node: usize) -> ReplayFault<
 }
 
 // The keepers of the nodes, in their order, in the room that was made for them.
-fn keepers_of<K: Keep + Drop>(room: Vec<K>, nodes: Vec<Slot<K>>) -> Vec<K>
+fn keepers_back<K: Keep + Drop>(room: Vec<K>, nodes: Vec<Slot<K>>) -> Vec<K>
     requires empty { room.items ≡ [] }
     requires room { vec_len nodes ≤ vec_capacity room }
-    ensures clean { AllClean K.clean result.items → AllClean (IsSlotClean (λ f. K.clean f.keeper) K.clean) nodes.items }
-    ensures kept { AllClean K.clean result.items → (w : World) → AreNodes (SlotStands (λ f. content_of f.releases.items) K.content) nodes.items w.nodes → AreKept K.content result.items w.nodes }
-    ensures counted { AreCounted (λ _. ⊥) (slot_failed (λ f. K.failed f.keeper) K.failed) K.failed 1 nodes.items result.items }
+    ensures clean { AllClean K.clean result.items → AllClean (IsSlotClean K.clean) nodes.items }
+    ensures kept { AllClean K.clean result.items → (w : World) → AreNodes (SlotStands K.content) nodes.items w.nodes → AreKept K.content result.items w.nodes }
+    ensures counted { AreCounted (λ _. ⊥) (slot_failed K.failed) K.failed 1 nodes.items result.items }
 {
     let mut keepers = room;
     for node in nodes {

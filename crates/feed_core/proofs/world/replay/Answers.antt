@@ -1,4 +1,4 @@
-use Rattle.std.proofs.Common.{ℕ, map, ◌∙◌, subst, ◌⊎◌, inl, inr}
+use Rattle.std.proofs.Common.{ℕ, map, sym, ◌∙◌, subst, ◌⊎◌, inl, inr}
 use Rattle.feed_world.specs.World.{Shows, start}
 use Rattle.feed_world.specs.Shown.{shown_event, shown_line}
 use Rattle.feed_core.specs.Slots.{slot_failed}
@@ -9,23 +9,23 @@ use Rattle.feed_core.proofs.world.replay.Goals as goal
 pub returns-in-Ok-show_all-clause-shown : goal.returns-in-Ok-show_all-clause-shown
 returns-in-Ok-show_all-clause-shown g c = λ all.
     (let clean = rw c.of.ensures.keepers at all in
-    let r = c.in-Ok-show_all.ensures.shown (c.keepers_of.ensures.clean clean) in
+    let r = c.in-Ok-show_all.ensures.shown (c.keepers_back.ensures.clean clean) in
     let same = c.in_ok-nodes.nodes.ok.0 ∙ c.in_ok-nodes.ensures.count in
-    rw (c.of.ensures.lines, c.of.ensures.keepers) (r.0, subst (λ (n : ℕ). Shows (start n) (map shown_event c.args.events.now) (map shown_line c.in-Ok-show_all.lines.items) r.0) same r.1, c.keepers_of.ensures.kept clean r.0 r.2))
+    rw (c.of.ensures.lines, c.of.ensures.keepers) (r.0, subst (λ (n : ℕ). Shows (start n) (map shown_event c.args.events.now) (map shown_line c.in-Ok-show_all.lines.items) r.0) same r.1, c.keepers_back.ensures.kept clean r.0 r.2))
 
 pub returns-in-Ok-show_all-clause-headline : goal.returns-in-Ok-show_all-clause-headline
 returns-in-Ok-show_all-clause-headline g c = λ all.
     (let clean = rw c.of.ensures.keepers at all in
-    rw c.of.ensures.lines (c.in-Ok-show_all.ensures.headline (c.keepers_of.ensures.clean clean)))
+    rw c.of.ensures.lines (c.in-Ok-show_all.ensures.headline (c.keepers_back.ensures.clean clean)))
 
 pub returns-in-Ok-show_all-clause-count : goal.returns-in-Ok-show_all-clause-count
-returns-in-Ok-show_all-clause-count g c = rw c.of.ensures.lines c.in-Ok-show_all.ensures.lines
+returns-in-Ok-show_all-clause-count g c = rw c.of.ensures.lines (sym c.in-Ok-show_all.lines.ok.0 ∙ c.in-Ok-show_all.ensures.lines)
 
 pub returns-in-Ok-show_all-clause-device : goal.returns-in-Ok-show_all-clause-device
 returns-in-Ok-show_all-clause-device g c =
-    let failed = slot_failed (λ f. g.K.Keep.failed f.keeper) g.K.Keep.failed in
+    let failed = slot_failed g.K.Keep.failed in
     let told = IsToldOf (map shown_event c.args.events.now) (map shown_line c.in-Ok-show_all.lines.items) in
     let begun = c.in_ok-nodes.ensures.counted in
     let gone = counted_then (λ _. ⊥) told g.K.Keep.failed failed failed 1 c.args.keepers.items c.in_ok-nodes.nodes.items c.in-Ok-show_all.nodes.items begun c.in-Ok-show_all.ensures.device in
-    let ended = counted_then (λ i. ⊥ ⊎ told i) (λ _. ⊥) g.K.Keep.failed failed g.K.Keep.failed 1 c.args.keepers.items c.in-Ok-show_all.nodes.items c.keepers_of.result.items gone c.keepers_of.ensures.counted in
-    rw (c.of.ensures.lines, c.of.ensures.keepers) (counted_as (λ i. (⊥ ⊎ told i) ⊎ ⊥) told g.K.Keep.failed g.K.Keep.failed 1 c.args.keepers.items c.keepers_of.result.items (λ i t. inl (inr t)) ended)
+    let ended = counted_then (λ i. ⊥ ⊎ told i) (λ _. ⊥) g.K.Keep.failed failed g.K.Keep.failed 1 c.args.keepers.items c.in-Ok-show_all.nodes.items c.keepers_back.result.items gone c.keepers_back.ensures.counted in
+    rw (c.of.ensures.lines, c.of.ensures.keepers) (counted_as (λ i. (⊥ ⊎ told i) ⊎ ⊥) told g.K.Keep.failed g.K.Keep.failed 1 c.args.keepers.items c.keepers_back.result.items (λ i t. inl (inr t)) ended)

@@ -1,5 +1,4 @@
 use Rattle.std.proofs.Common.{inl, inr, length, arith, ◌≤◌}
-use Rattle.feed_core.specs.ReleaseValue.{content_of}
 use Rattle.feed_core.specs.Slots.{SlotStands, slot_failed}
 use Rattle.feed_core.proofs.Empty.{start_more}
 use Rattle.feed_core.proofs.Going.{went_next, went_all, went_count, went_at}
@@ -9,8 +8,8 @@ use Rattle.feed_core.proofs.world.start_all.Goals as goal
 
 pub loop-keeper-preserved : goal.loop-keeper-preserved
 loop-keeper-preserved g c = record {
-  so = went_next (λ k s. g.K.Keep.failed k ≤ slot_failed (λ f. g.K.Keep.failed f.keeper) g.K.Keep.failed s) c.args.keepers.items c.loop-keeper.keeper-iterator.rest.items c.next.new.self.rest.items c.loop-keeper.nodes.items c.push.new.self.items c.in-Some.keeper c.in-Ok-start.slot c.loop-keeper.invariant.so c.in-Some.ensures.steps.0 c.in-Ok-start.ensures.counted c.in-Ok-push.ensures.items;
-  stood = start_more (SlotStands (λ f. content_of f.releases.items) g.K.Keep.content) c.loop-keeper.nodes.items c.push.new.self.items c.in-Ok-start.slot c.in-Ok-push.ensures.items c.loop-keeper.invariant.stood c.in-Ok-start.ensures.ok;
+  so = went_next (λ k s. g.K.Keep.failed k ≤ slot_failed g.K.Keep.failed s) c.args.keepers.items c.loop-keeper.keeper-iterator.rest.items c.next.new.self.rest.items c.loop-keeper.nodes.items c.push.new.self.items c.in-Some.keeper c.in-Ok-start.slot c.loop-keeper.invariant.so c.in-Some.ensures.steps.0 c.in-Ok-start.ensures.counted c.in-Ok-push.ensures.items;
+  stood = start_more (SlotStands g.K.Keep.content) c.loop-keeper.nodes.items c.push.new.self.items c.in-Ok-start.slot c.in-Ok-push.ensures.items c.loop-keeper.invariant.stood c.in-Ok-start.ensures.ok;
 }
 
 pub returns-in-Err-clause-start : goal.returns-in-Err-clause-start
@@ -20,14 +19,14 @@ returns-in-Err-clause-start g c = elim c.not_started.ensures [
     before = c.in-Some.keeper;
     at = length c.loop-keeper.nodes.items;
     number = omega (arith, c.len-in-Err.ensures, c.loop-keeper.nodes.ok.0);
-    given = went_at (λ k s. g.K.Keep.failed k ≤ slot_failed (λ f. g.K.Keep.failed f.keeper) g.K.Keep.failed s) c.args.keepers.items c.loop-keeper.keeper-iterator.rest.items c.next.new.self.rest.items c.loop-keeper.nodes.items c.in-Some.keeper c.loop-keeper.invariant.so c.in-Some.ensures.steps.0;
+    given = went_at (λ k s. g.K.Keep.failed k ≤ slot_failed g.K.Keep.failed s) c.args.keepers.items c.loop-keeper.keeper-iterator.rest.items c.next.new.self.rest.items c.loop-keeper.nodes.items c.in-Some.keeper c.loop-keeper.invariant.so c.in-Some.ensures.steps.0;
     kept = c.in-Err.ensures.kept;
     refused = c.in-Err.ensures.err other.0;
   })
 ]
 
 pub returns-clause-count : goal.returns-clause-count
-returns-clause-count g c = omega (arith, went_count (λ k s. g.K.Keep.failed k ≤ slot_failed (λ f. g.K.Keep.failed f.keeper) g.K.Keep.failed s) c.args.keepers.items c.loop-keeper.keeper-iterator.rest.items c.loop-keeper.nodes.items c.loop-keeper.invariant.so, c.loop-keeper.keeper-iterator.rest.ok.0, c.in-None.ensures.steps.0, c.args.keepers.ok.0)
+returns-clause-count g c = omega (arith, went_count (λ k s. g.K.Keep.failed k ≤ slot_failed g.K.Keep.failed s) c.args.keepers.items c.loop-keeper.keeper-iterator.rest.items c.loop-keeper.nodes.items c.loop-keeper.invariant.so, c.loop-keeper.keeper-iterator.rest.ok.0, c.in-None.ensures.steps.0, c.args.keepers.ok.0)
 
 pub returns-clause-counted : goal.returns-clause-counted
-returns-clause-counted g c = counted_of g.K.Keep.failed (slot_failed (λ f. g.K.Keep.failed f.keeper) g.K.Keep.failed) 1 c.args.keepers.items c.loop-keeper.nodes.items (went_all (λ k s. g.K.Keep.failed k ≤ slot_failed (λ f. g.K.Keep.failed f.keeper) g.K.Keep.failed s) c.args.keepers.items c.loop-keeper.keeper-iterator.rest.items c.loop-keeper.nodes.items c.loop-keeper.invariant.so (none_left c.loop-keeper.keeper-iterator.rest.items c.loop-keeper.keeper-iterator.rest.len c.loop-keeper.keeper-iterator.rest.ok.0 c.in-None.ensures.steps.0))
+returns-clause-counted g c = counted_of g.K.Keep.failed (slot_failed g.K.Keep.failed) 1 c.args.keepers.items c.loop-keeper.nodes.items (went_all (λ k s. g.K.Keep.failed k ≤ slot_failed g.K.Keep.failed s) c.args.keepers.items c.loop-keeper.keeper-iterator.rest.items c.loop-keeper.nodes.items c.loop-keeper.invariant.so (none_left c.loop-keeper.keeper-iterator.rest.items c.loop-keeper.keeper-iterator.rest.len c.loop-keeper.keeper-iterator.rest.ok.0 c.in-None.ensures.steps.0))

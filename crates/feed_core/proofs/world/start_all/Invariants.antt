@@ -1,6 +1,5 @@
 use Rattle.std.proofs.Common.{length, ◌≤◌}
 use Rattle.feed_world.specs.World.{start}
-use Rattle.feed_core.specs.ReleaseValue.{content_of}
 use Rattle.feed_core.specs.Slots.{SlotStands, slot_failed}
 use Rattle.feed_core.specs.Step.{AreNodes}
 use Rattle.feed_core.proofs.Going.{Went}
@@ -9,6 +8,6 @@ use Rattle.feed_core.proofs.world.start_all.Given as goal
 -- each keeper so far has a node at which nothing has happened, and whose device failed no less often
 abbrev pub invariant-loop-keeper : goal.invariant-loop-keeper
 invariant-loop-keeper g l = record {
-  so : Went (λ k s. g.K.Keep.failed k ≤ slot_failed (λ f. g.K.Keep.failed f.keeper) g.K.Keep.failed s) l.fn.keepers.items l.keeper-iterator.rest.items l.nodes.items;
-  stood : AreNodes (SlotStands (λ f. content_of f.releases.items) g.K.Keep.content) l.nodes.items (start (length l.nodes.items)).nodes;
+  so : Went (λ k s. g.K.Keep.failed k ≤ slot_failed g.K.Keep.failed s) l.fn.keepers.items l.keeper-iterator.rest.items l.nodes.items;
+  stood : AreNodes (SlotStands g.K.Keep.content) l.nodes.items (start (length l.nodes.items)).nodes;
 }
