@@ -8,22 +8,11 @@ use Rattle.feed_model.specs.declared.reply.Refusal.TheVariants as refusals
 use Rattle.feed_world.specs.declared.line.Why.{Why}
 use Rattle.feed_world.specs.declared.line.Why.TheVariants.{Feed, NoNode, Down}
 use Rattle.feed_world.specs.World.{WorldEvent, Line, IsDown, Refused, Replied, Restarted, Stopped}
-use Rattle.feed_core.specs.Cause.{HasFailed}
-use Rattle.feed_core.specs.Counts.{AreCounted, HasFailedSince, IsToldOf, TellsDevice, node_of}
+use Rattle.feed_core.specs.Cause.{HasFailed, HasFailedSince}
+use Rattle.feed_core.specs.Counts.{AreCounted, IsToldOf, TellsDevice, node_of}
+use Rattle.feed_core.proofs.Failed.{failed_since, failed_before, failed_later}
 use Rattle.feed_core.proofs.Going.{AreOf}
 use Rattle.feed_core.proofs.Shows.{map-push}
-
-failed_since : (a b : ℕ) → HasFailed a b → HasFailedSince a b
-failed_since a b (inl rose) = inl rose
-failed_since a b (inr great) = inr (omega (arith, great))
-
-failed_later : (a b c : ℕ) → HasFailedSince a b → b ≤ c → HasFailedSince a c
-failed_later a b c (inl rose) le = inl (omega (arith, rose, le))
-failed_later a b c (inr great) le = inr (omega (arith, great, le))
-
-failed_before : (a b c : ℕ) → a ≤ b → HasFailedSince b c → HasFailedSince a c
-failed_before a b c le (inl rose) = inl (omega (arith, rose, le))
-failed_before a b c le (inr great) = inr great
 
 -- no node from this number on is told of
 pub counted_same : {M : Type 0} (is_told : ℕ → Type 0) (failed : M → ℕ) (node : ℕ) (xs : List M) → ((i : ℕ) → is_told i → i < node) → AreCounted is_told failed failed node xs xs

@@ -13,5 +13,6 @@ pub mod Shelves
 pub mod Asked
 pub mod Going
 pub mod Arranged
+pub mod Failed
 pub mod Counts
 pub mod Wrong

@@ -1,9 +1,10 @@
 -- Where it is told that a device failed, and how often the devices of nodes did.
-use Rattle.std.specs.Prelude.{◌≡◌, ◌<◌, ◌≤◌, ◌⊎◌, ℕ, suc, List, [], ◌∷◌, Option, Some, None}
+use Rattle.std.specs.Prelude.{◌≡◌, ◌≤◌, ◌⊎◌, ℕ, suc, List, [], ◌∷◌, Option, Some, None}
 use Rattle.feed_model.specs.declared.keep_fault.KeepFault.TheVariants as causes
 use Rattle.feed_model.specs.declared.reply.Refusal.TheVariants as refusals
 use Rattle.feed_world.specs.declared.line.Why.TheVariants as whys
 use Rattle.feed_world.specs.World.{WorldEvent, Publish, Tell, Restart, StopBefore, StopAfter, Report, Ask, Line, IsDown, Refused}
+use Rattle.feed_core.specs.Cause.{HasFailedSince}
 
 -- the number of the node that an event happens at
 abbrev pub node_of : WorldEvent → Option ℕ
@@ -25,11 +26,8 @@ IsToldOf [] lines node = ⊥
 IsToldOf (event ∷ events) [] node = ⊥
 IsToldOf (event ∷ events) (line ∷ lines) node = ((node_of event ≡ Some node) × TellsDevice line) ⊎ IsToldOf events lines node
 
--- over several calls the count rose, or came to stand at its greatest value, which no count exceeds
-abbrev pub HasFailedSince : ℕ → ℕ → Type 0
-HasFailedSince before now = (before < now) ⊎ (18446744073709551615 ≤ now)
-
--- the counts of the nodes from this number on, before and now: none fell, and that of a node of which this is told rose
+-- the counts of the nodes from this number on, before and now: none fell, and that of a node of which this is told rose or
+-- stands at its greatest value
 abbrev pub AreCounted : {A B : Type 0} → (ℕ → Type 0) → (A → ℕ) → (B → ℕ) → ℕ → List A → List B → Type 0
 AreCounted is_told before now node [] [] = Unit {0}
 AreCounted is_told before now node (x ∷ xs) (y ∷ ys) = (before x ≤ now y) × (is_told node → HasFailedSince (before x) (now y)) × AreCounted is_told before now (suc node) xs ys

@@ -52,7 +52,8 @@ pub struct Feed<K: Keep + Drop> {
 }
 
 impl<K: Keep + Drop> Feed<K> {
-    ghost use Rattle.std.specs.Prelude.{◌≢◌, ◌↔◌, ◌∷◌, [], map, IfOk, IfErr, OnErr, IsTrue, option_map};
+    ghost use Rattle.std.specs.Prelude.{◌≢◌, ◌↔◌, ◌∷◌, [], Err, map, IfOk, IfErr, OnErr, IsTrue, option_map};
+    ghost use Rattle.std.specs.List.{Contains};
     ghost use Rattle.feed_model.specs.History.{Answer as event_answer, History, Reports};
     ghost use Rattle.feed_model.specs.Reply.{IsRight, gone_on};
     ghost use Rattle.feed_model.specs.Sound.{IsSound};
@@ -61,7 +62,7 @@ impl<K: Keep + Drop> Feed<K> {
     ghost use Rattle.feed_core.specs.Answered.{IsAnswered};
     ghost use Rattle.feed_core.specs.NextRange.{IsNextRange};
     ghost use Rattle.feed_core.specs.Told.{told};
-    ghost use Rattle.feed_core.specs.Cause.{HasFailed, IsAnswerCounted};
+    ghost use Rattle.feed_core.specs.Cause.{HasFailed, HasFailedSince, IsAnswerCounted};
     ghost use Rattle.feed_core.specs.Feeds.{keeper_of, recorded, releases_of};
 
     /// Opens a feed on what a keeper holds. `Damaged` where this is nothing that a feed ever keeps: a name that stands
@@ -134,6 +135,7 @@ impl<K: Keep + Drop> Feed<K> {
         ensures count { IfOk result (λ answers. length answers.items ≡ length events.now) }
         ensures clean { K.clean (keeper_of self.new) → K.clean (keeper_of self.old) }
         ensures counted { K.failed (keeper_of self.old) ≤ K.failed (keeper_of self.new) }
+        ensures device { IfOk result (λ answers. Contains answers.items (Err Refusal.Device) → HasFailedSince (K.failed (keeper_of self.old)) (K.failed (keeper_of self.new))) }
         ensures err { OnErr result (self.new ≡ self.old) }
     {
         let mut answers = Vec::with_capacity(self.alloc, events.len())?;
@@ -164,7 +166,7 @@ impl<K: Keep + Drop> Feed<K> {
         }
     }
 
-    /// The rows of a package's active release that match a query: those of its published file as a whole.
+    /// The rows of a package's active release that match a query: those of its file as a whole.
     pub fn answer(&self, package: &[u8], query: &Query) -> Result<Answer<'_>, AnswerFault>
         ensures { (h : History) → IsContent (recorded self.now) h → IsAnswered h «package».now query.now result }
     {

@@ -1,6 +1,9 @@
-use Rattle.std.proofs.Common.{◌≡◌, ◌≤◌, take, map, length, vec_len, vec_capacity}
+use Rattle.std.proofs.Common.{◌≡◌, ◌≤◌, Err, take, map, length, vec_len, vec_capacity}
+use Rattle.std.specs.List.{Contains}
+use Rattle.feed_model.specs.declared.reply.Refusal.TheVariants.{Device}
 use Rattle.feed_model.specs.Handles.{Runs}
 use Rattle.feed_core.specs.Told.{told}
+use Rattle.feed_core.specs.Cause.{HasFailedSince}
 use Rattle.feed_core.specs.ReleaseValue.{content_of}
 use Rattle.feed_core.proofs.feed.Feed.run.Given as goal
 
@@ -12,4 +15,5 @@ invariant-loop-event g l = record {
   room : length l.events ≤ vec_capacity l.answers;
   clean : g.K.Keep.clean l.self.keeper → g.K.Keep.clean l.fn.self.keeper;
   counted : g.K.Keep.failed l.fn.self.keeper ≤ g.K.Keep.failed l.self.keeper;
+  device : Contains l.answers.items (Err Device) → HasFailedSince (g.K.Keep.failed l.fn.self.keeper) (g.K.Keep.failed l.self.keeper);
 }

@@ -1,0 +1,31 @@
+-- A device that failed, over several calls.
+use Rattle.std.proofs.Common.{◌≡◌, ◌<◌, ◌≤◌, ◌++◌, ◌⊎◌, ℕ, zero, suc, List, [], ◌∷◌, get_or, Err, inl, inr, subst, arith}
+use Rattle.std.specs.List.{Contains}
+use Rattle.std.proofs.lemmas.List.Elements.{Contains-append_cases}
+use Rattle.feed_model.specs.declared.reply.Refusal.TheVariants.{Device}
+use Rattle.feed_model.specs.History.{Answer}
+use Rattle.feed_core.specs.Cause.{HasFailed, HasFailedSince}
+
+pub failed_since : (a b : ℕ) → HasFailed a b → HasFailedSince a b
+failed_since a b (inl rose) = inl rose
+failed_since a b (inr great) = inr (omega (arith, great))
+
+pub failed_later : (a b c : ℕ) → HasFailedSince a b → b ≤ c → HasFailedSince a c
+failed_later a b c (inl rose) le = inl (omega (arith, rose, le))
+failed_later a b c (inr great) le = inr (omega (arith, great, le))
+
+pub failed_before : (a b c : ℕ) → a ≤ b → HasFailedSince b c → HasFailedSince a c
+failed_before a b c le (inl rose) = inl (omega (arith, rose, le))
+failed_before a b c le (inr great) = inr great
+
+-- one more answer
+pub told_more : (answers more : List Answer) (answer : Answer) (a b c : ℕ) → more ≡ answers ++ answer ∷ [] → a ≤ b → b ≤ c → (Contains answers (Err Device) → HasFailedSince a b) → (answer ≡ Err Device → HasFailed b c) → Contains more (Err Device) → HasFailedSince a c
+told_more answers more answer a b c is low high before now has = pick (Contains-append_cases answers (answer ∷ []) (Err Device) (subst (λ (xs : List Answer). Contains xs (Err Device)) is has))
+  where
+    only : (i : ℕ) → i < 1 → get_or (answer ∷ []) i (Err Device) ≡ Err Device → answer ≡ Err Device
+    only zero lt at = at
+    only (suc i) lt at = absurd (omega (arith, lt))
+
+    pick : Contains answers (Err Device) ⊎ Contains (answer ∷ []) (Err Device) → HasFailedSince a c
+    pick (inl earlier) = failed_later a b c (before earlier) high
+    pick (inr (i, lt, at)) = failed_before a b c low (failed_since b c (now (only i lt at)))
