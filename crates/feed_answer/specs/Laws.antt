@@ -24,6 +24,7 @@ pub record AreGradedByDays (first last : Option ℤ) (days : DayRange) : Type 0 
   pub apart : (tested_days first last days ≡ None) ↔ ((day : ℤ) → IsAsked days day → ¬ (IsCovered first last day))
   pub inside : (tested_days first last days ≡ Some Inside) ↔ ((day : ℤ) → IsAsked days day → IsCovered first last day)
 
+-- of every coverage that has a day, and all days of a query
 abbrev pub GradesSpeakOfDays : Type 0
 GradesSpeakOfDays =
     (first last : Option ℤ) (days : DayRange) (some : ℤ) → IsCovered first last some → days.first ≤ℤ days.last

@@ -8,7 +8,7 @@ use Rattle.feed_answer.specs.declared.query.TheConstants.{QUERY_LIMIT}
 use Rattle.feed_answer.specs.declared.fault.QueryFault.{QueryFault}
 use Rattle.feed_answer.specs.declared.fault.QueryFault.TheVariants.{TooLong, Version, NotJournal, NoIssn, Memory}
 
--- a query asks for the rows of some ISSNs
+-- a query asks for the rows of these ISSNs, and is refused where there are none
 abbrev pub asked_for : List (List ℕ) → List (List ℕ × List ℕ) → Result QueryValue QueryFault
 asked_for issns pairs =
     if is_empty issns then Err NoIssn

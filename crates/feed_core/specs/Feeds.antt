@@ -5,6 +5,7 @@ use Rattle.feed_core.specs.declared.keep.Keep.{Ghosts}
 use Rattle.feed_core.specs.declared.feed.Feed.{Feed}
 use Rattle.feed_core.specs.ReleaseValue.{ReleaseValue, content_of}
 
+-- its keeper
 abbrev pub keeper_of : {K : Type 0} {k : Ghosts K} → Feed K k → K
 keeper_of feed = feed.keeper
 

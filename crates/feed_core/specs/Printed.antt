@@ -4,5 +4,6 @@ use Rattle.feed_world.specs.declared.line.Line as code_line
 use Rattle.feed_world.specs.Shown.{shown_line}
 use Rattle.feed_world.specs.LineText.{line_text}
 
+-- the text of a line of the code
 abbrev pub printed : code_line.Line → List ℕ
 printed line = line_text (shown_line line)

@@ -12,10 +12,11 @@ use Rattle.feed_core.specs.declared.keep.Change.TheVariants as changes
 abbrev pub shown_record : code_record.Record → Record
 shown_record r = record { name = r.name; size = r.size; state = r.state; parts = shown_parts r.parts.items }
 
+-- the content that a list of records is
 abbrev pub shown : List code_record.Record → Content
 shown rs = map shown_record rs
 
--- what a change does
+-- the change of the model that a change of the code is
 abbrev pub shown_change : code_change.Change → Change
 shown_change (changes.Add n size) = Add n.now size
 shown_change (changes.Pieces n ps) = Pieces n.now (shown_parts ps.now)

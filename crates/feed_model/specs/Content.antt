@@ -23,7 +23,7 @@ pub record Record : Type 0 where
   pub state : State
   pub parts : List Part
 
--- one record for each name
+-- the records of a keeper
 abbrev pub Content : Type 0
 Content = List Record
 

@@ -16,7 +16,8 @@ pub fn histories()
     ensures { (count : ℕ) (events : List WorldEvent) (lines : List Line) (w : World) (i : ℕ) (x : Node) (n : Name) (file : List ℕ) → Shows (start count) events lines w → node_at w.nodes i ≡ Some x → IsLegal x.history × (IsFile x.history n file → file_of events n ≡ Some file) }
 {}
 
-/// Two nodes that are up, and were given the same bytes of the releases of a package, in whatever orders, report the same of it.
+/// Two nodes that are up, and have recorded the same sizes and kept the same bytes of a package's releases, in whatever
+/// orders, report the same of it.
 pub fn order_is_free()
     ensures { (w u v : World) (i j : ℕ) (stem : List ℕ) (x y : Node) (l m : Line) → IsUpAt w i x → IsUpAt w j y → HasAlike x.history y.history stem → Happens w (Report i stem) l u → Happens w (Report j stem) m v → l ≡ m }
 {}

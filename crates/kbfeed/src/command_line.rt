@@ -26,13 +26,19 @@ A script is a line for each event. The first is `nodes N`, N from 1 to 16. Then,
 WHAT is `offer NAME` or `deliver NAME FIRST LEN`.
 
 Empty lines and lines that begin with # are skipped. NAME is as Acme_Global_All_2024-01-01.txt, and PACKAGE as
-Acme_Global_All. A fault of the script is printed with its line, and nothing is replayed.";
+Acme_Global_All. A fault of the script is printed with its line, and nothing is replayed.
+
+The status is 0 whatever the lines of the transcript are, 1 for a fault of the script, 2 for a wrong command line, and 3
+for a failing device or want of memory.";
 
 const CHECK_HELP: &str = "Reads a holdings list (KBART, NISO RP-9-2014) and prints what it holds.
 
 The last part of FILE is a release name, as Acme_Global_All_2024-01-01.txt. A good file prints how many rows it has and
 how many records are set aside, and for each of these its number and the reason. A bad file prints `broken` and the
-reason, and the status is 1.";
+reason. A FILE that begins with - stands behind --, as in `kbfeed check -- -x_2024-01-01.txt`.
+
+The status is 0 for a good file, 1 for a bad one, one that is too long and a name that is none, 2 for a wrong command
+line, and 3 for a failing device or want of memory.";
 
 /// Reads the words of the command line, the program's name first.
 pub fn read<'a>(alloc: Global, words: &'a [String]) -> Result<Request<'a>, Error> {

@@ -9,43 +9,62 @@ mod status;
 #[cfg(test)]
 mod tests;
 
+use clap::error::ErrorKind;
 use command_line::Request;
-use status::{FAILED, fault_told};
+use status::{FAILED, MISUSED, fault_told, printed};
 use std::fs::File;
 use std::io;
 use std::io::BufWriter;
 use std::process::ExitCode;
 
 fn main(rt: HostRuntime) -> ExitCode {
-    ExitCode::from(status_of(&rt).unwrap_or(FAILED))
+    ExitCode::from(status_of(&rt))
 }
 
-fn status_of(rt: &HostRuntime) -> io::Result<u8> {
-    let alloc = rt.alloc();
-    let words: Vec<String> = std::env::args(rt)?.collect(alloc)?;
-    match command_line::read(alloc, words.as_slice()) {
+// Does what the words of the command line ask for.
+fn status_of(rt: &HostRuntime) -> u8 {
+    let words = match words_of(rt) {
+        Ok(words) => words,
+        Err(fault) if fault.kind() == io::ErrorKind::InvalidData => {
+            return fault_told(&mut rt.stderr(), "a word is not UTF-8", MISUSED);
+        }
+        Err(_) => return memory_told(rt),
+    };
+    match command_line::read(rt.alloc(), words.as_slice()) {
         Ok(Request::Replay) => replay(rt),
         Ok(Request::Check { file }) => check(rt, file),
-        Err(error) => {
-            error.print(rt)?;
-            Ok(error.exit_code() as u8)
-        }
+        Err(error) if error.kind() == ErrorKind::OutOfMemory => memory_told(rt),
+        Err(error) => printed(error.print(rt), error.exit_code() as u8),
     }
 }
 
-fn replay(rt: &HostRuntime) -> io::Result<u8> {
-    let alloc = rt.alloc();
-    let mut out = BufWriter::new(alloc, io::writer(rt))?;
-    Ok(replay_command::replay_on(alloc, &mut rt.reader(), &mut out, &mut rt.stderr()))
+fn words_of(rt: &HostRuntime) -> io::Result<Vec<String>> {
+    let words = std::env::args(rt)?.collect(rt.alloc())?;
+    Ok(words)
 }
 
-fn check(rt: &HostRuntime, path: &str) -> io::Result<u8> {
+fn memory_told(rt: &HostRuntime) -> u8 {
+    fault_told(&mut rt.stderr(), "Memory", FAILED)
+}
+
+fn replay(rt: &HostRuntime) -> u8 {
     let alloc = rt.alloc();
-    let mut faults = rt.stderr();
-    let Ok(file) = File::open(rt, path) else {
-        return Ok(fault_told(&mut faults, "Read", FAILED));
+    let Ok(mut out) = BufWriter::new(alloc, io::writer(rt)) else {
+        return memory_told(rt);
     };
-    let mut out = BufWriter::new(alloc, io::writer(rt))?;
+    replay_command::replay_on(alloc, &mut rt.reader(), &mut out, &mut rt.stderr())
+}
+
+fn check(rt: &HostRuntime, path: &str) -> u8 {
+    let alloc = rt.alloc();
+    let file = match File::open(rt, path) {
+        Ok(file) => file,
+        Err(fault) if fault.kind() == io::ErrorKind::OutOfMemory => return memory_told(rt),
+        Err(_) => return fault_told(&mut rt.stderr(), "Read", FAILED),
+    };
+    let Ok(mut out) = BufWriter::new(alloc, io::writer(rt)) else {
+        return memory_told(rt);
+    };
     let name = check_command::file_name(path.as_bytes());
-    Ok(check_command::check_on(alloc, name, file, &mut out, &mut faults))
+    check_command::check_on(alloc, name, file, &mut out, &mut rt.stderr())
 }

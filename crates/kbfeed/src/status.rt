@@ -8,6 +8,9 @@ pub const DONE: u8 = 0;
 /// Refused by the content: of a script, a file, a query or a database.
 pub const REFUSED: u8 = 1;
 
+/// A wrong command line.
+pub const MISUSED: u8 = 2;
+
 /// A failing device, or want of memory.
 pub const FAILED: u8 = 3;
 

@@ -1,3 +1,4 @@
+mod limits;
 mod openurl;
 mod worlds;
 
@@ -167,19 +168,6 @@ fn faults_of_a_script_name_their_line(rt: HostRuntime) -> Result<(), Fail> {
 }
 
 #[test]
-fn a_script_has_a_limit_of_lines(rt: HostRuntime) -> Result<(), Fail> {
-    for (lines, status) in [(99_999, 0), (100_000, 1)] {
-        let mut script = Vec::from_slice(rt.alloc(), b"nodes 1\n")?;
-        script.resize(8 + lines, b'\n')?;
-        let mut out = Vec::new(rt.alloc());
-        let mut faults = Vec::new(rt.alloc());
-        let given = replay_on(rt.alloc(), &mut script.as_slice(), &mut out, &mut faults);
-        assert_eq!(rt; given, status, "{lines}");
-    }
-    Ok(())
-}
-
-#[test]
 fn a_file_is_checked(rt: HostRuntime) {
     let good =
         b"publication_title\tprint_identifier\tonline_identifier\tdate_first_issue_online\tnum_first_vol_online\tdate_last_issue_online\tnum_last_vol_online\ttitle_url\nActa\t2434-561X\t\t1995\t1\t2001-06-30\t7\thttp://a.example/\nDelta\t2434-5611\nEps\t0317-8471\t\t2001-13\nZeta\t0317-8471\t\t2002\t\t2001\n";
@@ -204,6 +192,20 @@ fn a_file_is_checked(rt: HostRuntime) {
             1,
             "",
             "kbfeed: BadDate\n",
+        ),
+        (
+            "T_2024-01-01",
+            good.as_slice(),
+            1,
+            "",
+            "kbfeed: BadEnding\n",
+        ),
+        (
+            "_2024-01-01.txt",
+            good.as_slice(),
+            1,
+            "",
+            "kbfeed: BadStem\n",
         ),
     ];
     for (name, file, status, out, faults) in rows {

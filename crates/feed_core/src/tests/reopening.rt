@@ -478,7 +478,7 @@ fn a_feed_opens_on_256_records(rt: HostRuntime) -> Result<(), Fail> {
 }
 
 #[test]
-fn a_file_in_many_parts_is_read_once(rt: HostRuntime) -> Result<(), Fail> {
+fn a_file_in_many_parts_is_reopened(rt: HostRuntime) -> Result<(), Fail> {
     let mut file = january_file(rt.alloc())?;
     for _ in 0..2_000 {
         file.extend_from_slice(BETA)?;

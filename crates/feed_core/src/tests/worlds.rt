@@ -336,7 +336,10 @@ refused NoNode
 refused NoNode
 ";
     assert_eq!(rt; printed(rt.alloc(), &shown)?.as_slice(), text);
-    for mut keeper in shown.into_keepers() {
+    let kept = shown.into_keepers();
+    assert_eq!(rt; kept.len(), 2);
+    for mut keeper in kept {
+        assert_eq!(rt; keeper.failures(), 0);
         assert_eq!(rt;
             content_of(rt.alloc(), &mut keeper)?.as_slice(),
             b"".as_slice()
@@ -413,7 +416,9 @@ refused NoRelease
     assert_eq!(rt; printed(alloc, &shown)?.as_slice(), text);
     let record = record_of(alloc, JANUARY, 205, State::Staged, &[])?;
     let expected = listed(alloc, &[record])?;
-    for mut keeper in shown.into_keepers() {
+    let kept = shown.into_keepers();
+    assert_eq!(rt; kept.len(), 1);
+    for mut keeper in kept {
         assert_eq!(rt; keeper.failures(), 2);
         assert_eq!(rt;
             content_of(alloc, &mut keeper)?.as_slice(),
