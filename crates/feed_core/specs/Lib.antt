@@ -1,3 +1,9 @@
+pub use Rattle.feed_model.specs.History
+pub use Rattle.feed_model.specs.Reply
+pub use Rattle.feed_model.specs.Content
+pub use Rattle.feed_model.specs.Change
+pub use Rattle.feed_world.specs.World
+pub use Rattle.feed_world.specs.Headline
 pub mod Shown
 pub mod Told
 pub mod ReleaseValue
