@@ -2,7 +2,7 @@ use Rattle.std.proofs.Common.{arith}
 use Rattle.feed_model.proofs.Runs.{run_more}
 use Rattle.feed_core.specs.Told.{told}
 use Rattle.feed_core.specs.ReleaseValue.{content_of}
-use Rattle.feed_core.proofs.Failed.{told_more}
+use Rattle.feed_core.proofs.Failed.{answered_more}
 use Rattle.feed_core.proofs.feed.Feed.run.Goals as goal
 
 pub loop-event-preserved : goal.loop-event-preserved
@@ -13,6 +13,6 @@ loop-event-preserved g c = record {
   room = omega (arith, c.push_reserved.ensures.capacity, c.loop-event.invariant.room);
   clean = λ clean. c.loop-event.invariant.clean (c.handle.ensures.clean clean);
   counted = omega (arith, c.handle.ensures.device.0, c.loop-event.invariant.counted);
-  device = told_more c.loop-event.answers.items c.push_reserved.new.self.items c.handle.result _ (g.K.Keep.failed c.loop-event.self.keeper) (g.K.Keep.failed c.handle.new.self.keeper)
+  device = answered_more c.loop-event.answers.items c.push_reserved.new.self.items c.handle.result _ (g.K.Keep.failed c.loop-event.self.keeper) (g.K.Keep.failed c.handle.new.self.keeper)
       c.push_reserved.ensures.items c.loop-event.invariant.counted c.handle.ensures.device.0 c.loop-event.invariant.device c.handle.ensures.device.1;
 }
