@@ -9,8 +9,7 @@ help:
 	@echo "make test     the gate: every proof from nothing, the edits that must fail, the tests, the program's run"
 
 build:
-	@mkdir -p crates/kbfeed/out
-	@cd crates/kbfeed && { rt run -- --help > /dev/null 2> out/build.log || { cat out/build.log >&2; exit 1; }; }
+	@tools/build
 
 replay: build
 	@for sample in samples/first samples/two_nodes; do \
@@ -21,4 +20,5 @@ replay: build
 	done
 
 test:
-	@rt ci
+	@began=$$(date +%s); rt ci; status=$$?; spent=$$(($$(date +%s) - began)); \
+	echo "the gate took $$((spent / 60)) min $$((spent % 60)) s on $$(nproc) processors"; exit $$status

@@ -9,7 +9,7 @@ use Rattle.feed_answer.specs.Answers.{answer_of, answer_text}
 use Rattle.feed_model.specs.History.{History, IsFile, Reports}
 use Rattle.feed_world.specs.World.{Text, IsAsked, text_for, file_says}
 use Rattle.feed_world.proofs.Over.{reports_one}
-use Rattle.feed_core.specs.Answered.{IsAnswered}
+use Rattle.feed_releases.specs.Answered.{IsAnswered}
 
 -- the text of the hits of a whole file
 said : (name : Name) (file items : List ℕ) (query : QueryValue) (hits : List HitValue) → hits ≡ answer_of (holdings_of file) query → items ≡ answer_text (text_of name) hits → Text items ≡ file_says name file (Ok query)

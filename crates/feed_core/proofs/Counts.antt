@@ -8,9 +8,9 @@ use Rattle.feed_model.specs.declared.reply.Refusal.TheVariants as refusals
 use Rattle.feed_world.specs.declared.line.Why.{Why}
 use Rattle.feed_world.specs.declared.line.Why.TheVariants.{Feed, NoNode, Down}
 use Rattle.feed_world.specs.World.{WorldEvent, Line, IsDown, Refused, Replied, Restarted, Stopped}
-use Rattle.feed_core.specs.Cause.{HasFailed, HasFailedSince}
+use Rattle.feed_keep.specs.Cause.{HasFailed, HasFailedSince}
 use Rattle.feed_core.specs.Counts.{AreCounted, IsToldOf, TellsDevice, node_of}
-use Rattle.feed_core.proofs.Failed.{failed_since, failed_before, failed_later}
+use Rattle.feed_keep.proofs.Failed.{failed_since, failed_before, failed_later}
 use Rattle.feed_core.proofs.Going.{AreOf}
 use Rattle.feed_core.proofs.Shows.{map-push}
 

@@ -1,6 +1,8 @@
 -- A step of one node, as a step of the world; and lists that go on together.
 use Rattle.std.proofs.Common.{◌≡◌, ◌+◌, ◌++◌, ℕ, suc, Bool, List, [], ◌∷◌, length, slice_get, Some, refl, sym, ◌∙◌, ap, subst, arith}
 use Rattle.std.specs.Borrow.{Bor}
+use Rattle.std.proofs.lemmas.List.{append-nil, length-append}
+use Rattle.std.proofs.Math.Seq.{append_snoc}
 use Rattle.feed_model.specs.History.{History}
 use Rattle.feed_model.specs.Content.{Content, IsContent}
 use Rattle.feed_world.specs.World.{World, Node, WorldEvent, Line, Shelf, Happens}
@@ -36,18 +38,6 @@ of-length law [] (y ∷ ys) so = absurd so
 of-length law (x ∷ xs) [] so = absurd so
 of-length law (x ∷ xs) (y ∷ ys) so = ap suc (of-length law xs ys so.1)
 
-pub append-assoc : {X : Type 0} (xs : List X) (y : X) (zs : List X) → (xs ++ y ∷ []) ++ zs ≡ xs ++ y ∷ zs
-append-assoc [] y zs = refl
-append-assoc (x ∷ xs) y zs = ap (λ ys. x ∷ ys) (append-assoc xs y zs)
-
-pub append-nil : {X : Type 0} (xs : List X) → xs ++ [] ≡ xs
-append-nil [] = refl
-append-nil (x ∷ xs) = ap (λ ys. x ∷ ys) (append-nil xs)
-
-pub length-append : {X : Type 0} (xs ys : List X) → length (xs ++ ys) ≡ length xs + length ys
-length-append [] ys = omega arith
-length-append (x ∷ xs) ys = omega (arith, length-append xs ys)
-
 get-middle : {X : Type 0} (xs : List X) (y : X) (zs : List X) → slice_get (xs ++ y ∷ zs) (length xs) ≡ Some y
 get-middle [] y zs = refl
 get-middle (x ∷ xs) y zs = get-middle xs y zs
@@ -64,7 +54,7 @@ went_start law all rest made none is = rw (none, is) (record { done = []; order 
 pub went_next : {S K : Type 0} (law : S → K → Type 0) (all rest more : List S) (made now : List K) (s : S) (k : K) → Went law all rest made → rest ≡ s ∷ more → law s k → now ≡ made ++ k ∷ [] → Went law all more now
 went_next {S} {K} law all rest more made now s k so is holds pushed = record {
   done = so.done ++ s ∷ [];
-  order = append-assoc so.done s more ∙ ap (λ (xs : List S). so.done ++ xs) (sym is) ∙ so.order;
+  order = append_snoc so.done s more ∙ ap (λ (xs : List S). so.done ++ xs) (sym is) ∙ so.order;
   each = subst (λ (ks : List K). AreOf law (so.done ++ s ∷ []) ks) (sym pushed) (of-push law so.done made s k so.each holds);
 }
 

@@ -1,18 +1,8 @@
-pub mod Finding
-pub mod Records
-pub mod Answered
-pub mod Judged
-pub mod Growth
-pub mod NextRange
-pub mod Reopened
-pub mod Twice
-pub mod Steps
-pub mod Shows
-pub mod Empty
-pub mod Shelves
-pub mod Asked
-pub mod Going
-pub mod Arranged
-pub mod Failed
-pub mod Counts
-pub mod Wrong
+mod Steps
+mod Shows
+mod Empty
+mod Shelves
+mod Asked
+mod Going
+mod Counts
+mod Wrong

@@ -2,7 +2,7 @@
 use Rattle.std.proofs.Common.{ℕ, [], ◌∷◌, inl, inr, refl, arith}
 use Rattle.feed_model.specs.declared.keep_fault.KeepFault.TheVariants.{Device}
 use Rattle.feed_world.specs.World.{Restart, IsDown}
-use Rattle.feed_core.specs.Cause.{HasFailedSince}
+use Rattle.feed_keep.specs.Cause.{HasFailedSince}
 use Rattle.feed_core.specs.Counts.{AreCounted, IsToldOf}
 
 -- the second of two nodes does not start: its device failed

@@ -4,7 +4,7 @@ use Rattle.feed_model.specs.declared.keep_fault.KeepFault.TheVariants as causes
 use Rattle.feed_model.specs.declared.reply.Refusal.TheVariants as refusals
 use Rattle.feed_world.specs.declared.line.Why.TheVariants as whys
 use Rattle.feed_world.specs.World.{WorldEvent, Publish, Tell, Restart, StopBefore, StopAfter, Report, Ask, Line, IsDown, Refused}
-use Rattle.feed_core.specs.Cause.{HasFailedSince}
+use Rattle.feed_keep.specs.Cause.{HasFailedSince}
 
 -- the number of the node that an event happens at
 abbrev pub node_of : WorldEvent → Option ℕ

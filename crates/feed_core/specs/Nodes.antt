@@ -6,8 +6,8 @@ use Rattle.feed_model.specs.History.{Event, History}
 use Rattle.feed_model.specs.Content.{Content}
 use Rattle.feed_world.specs.declared.line.Why as why
 use Rattle.feed_world.specs.World.{Line, Text, Refused}
-use Rattle.feed_core.specs.declared.event.Event as code_event
-use Rattle.feed_core.specs.Told.{told}
+use Rattle.feed_releases.specs.declared.event.Event as code_event
+use Rattle.feed_releases.specs.Told.{told}
 
 -- the node is up, or down for want of memory or for its device; and it stands at this history
 abbrev pub Comes : {U : Type 0} → (Bool → History → Type 0) → History → Result U cause.KeepFault → Type 0

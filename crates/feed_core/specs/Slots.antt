@@ -2,10 +2,10 @@
 use Rattle.std.specs.Prelude.{◌≡◌, ℕ, Bool, true, false}
 use Rattle.feed_model.specs.History.{History}
 use Rattle.feed_model.specs.Content.{Content, IsContent}
-use Rattle.feed_core.specs.declared.keep.Keep.{Ghosts}
+use Rattle.feed_keep.specs.declared.keep.Keep.{Ghosts}
 use Rattle.feed_core.specs.declared.slot.Slot.{Slot}
 use Rattle.feed_core.specs.declared.slot.Slot.TheVariants.{Up, Down}
-use Rattle.feed_core.specs.Feeds.{keeper_of, recorded}
+use Rattle.feed_releases.specs.Feeds.{keeper_of, recorded}
 
 -- the content of its keeper is promised
 abbrev pub IsSlotClean : {K : Type 0} {k : Ghosts K} → (K → Type 0) → Slot K k → Type 0

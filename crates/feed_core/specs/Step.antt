@@ -8,7 +8,7 @@ use Rattle.std.specs.Cmp.Lexicographic.{slice_cmp}
 use Rattle.feed_names.specs.ReleaseName.{Name, IsName}
 use Rattle.feed_model.specs.History.{History}
 use Rattle.feed_model.specs.Content.{Content, IsContent}
-use Rattle.feed_core.specs.Cause.{HasFailed}
+use Rattle.feed_keep.specs.Cause.{HasFailed}
 use Rattle.feed_core.specs.Nodes.{IsStartRefused}
 use Rattle.feed_core.specs.declared.world.ReplayFault.{ReplayFault}
 use Rattle.feed_core.specs.declared.world.ReplayFault.TheVariants as faults

@@ -1,14 +1,14 @@
 ghost use Rattle.std.specs.Prelude.{◌≡◌, ◌≢◌, ◌∷◌, ℕ, Bool, true, Err, option_map};
 ghost use Rattle.feed_model.specs.History.{History, Answer, Reports};
 ghost use Rattle.feed_model.specs.Reply.{IsRight};
-ghost use Rattle.feed_core.specs.Cause.{IsAnswerCounted, IsCounted};
-ghost use Rattle.feed_core.specs.Told.{told};
+ghost use Rattle.feed_keep.specs.Cause.{HasCounted, IsCounted};
+ghost use Rattle.feed_releases.specs.Told.{told};
 ghost use Rattle.feed_world.specs.World.{IsAsked};
 ghost use Rattle.feed_core.specs.Nodes.{Comes, shown_outcome};
 
-use crate::event::Event;
 use feed_model::{KeepFault, Refusal, Reply};
 use feed_names::ReleaseName;
+use feed_releases::Event;
 use feed_world::Why;
 use std::alloc::Global;
 
@@ -39,17 +39,17 @@ pub trait Node {
     fn handle(&mut self, event: &Event<'_>) -> Result<Reply, Refusal>
         ensures clean { clean self.new → clean self.old }
         ensures right { (h : History) → stands self.old true h → IsRight h (told event.now) result × stands self.new true ((told event.now, result) ∷ h) }
-        ensures device { IsAnswerCounted result (failed self.old) (failed self.new) };
+        ensures device { IsCounted (result ≡ Err Refusal.Device) (failed self.old) (failed self.new) };
 
     /// Opens the node again, as after a stop between two events or before the commit of one.
     fn restart(self, alloc: Global) -> (Self, Result<(), KeepFault>)
         ensures clean { clean result.0 → clean self }
         ensures same { (up : Bool) (h : History) → clean result.0 → stands self up h → Comes (stands result.0) h result.1 }
-        ensures device { IsCounted result.1 (failed self) (failed result.0) };
+        ensures device { IsCounted (result.1 ≡ Err KeepFault.Device) (failed self) (failed result.0) };
 
     /// Stops the node after the commit of an event and before its answer, and opens it again.
     fn stop_after(self, alloc: Global, event: &Event<'_>) -> (Self, Result<(), KeepFault>)
         ensures clean { clean result.0 → clean self }
         ensures right { (h : History) → clean result.0 → stands self true h → (answer : Answer) × IsRight h (told event.now) answer × Comes (stands result.0) ((told event.now, answer) ∷ h) result.1 }
-        ensures device { IsCounted result.1 (failed self) (failed result.0) };
+        ensures device { HasCounted (result.1 ≡ Err KeepFault.Device) (failed self) (failed result.0) };
 }

@@ -5,9 +5,9 @@ ghost use Rattle.feed_world.specs.Shown.{shown_line, shown_sent};
 ghost use Rattle.feed_core.specs.Nodes.{shown_arrived};
 ghost use Rattle.feed_core.specs.Step.{IsShelf};
 
-use crate::event::Event;
 use feed_model::Refusal;
 use feed_names::{ReleaseName, one_release_for_text, one_text_for_release};
+use feed_releases::Event;
 use feed_world::{Line, Sent, Why};
 use std::alloc::{AllocError, Global};
 use std::collections::BTreeMap;

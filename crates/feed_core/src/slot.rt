@@ -1,20 +1,19 @@
 ghost use Rattle.std.specs.Prelude.{◌≡◌, ◌≢◌, ◌≤◌, Bool, true, [], Err, IfOk, IfErr};
 ghost use Rattle.feed_model.specs.History.{History};
 ghost use Rattle.feed_model.specs.Content.{IsContent};
-ghost use Rattle.feed_core.specs.Cause.{HasFailed, IsCounted};
-ghost use Rattle.feed_core.specs.Feeds.{recorded};
+ghost use Rattle.feed_keep.specs.Cause.{HasFailed, IsCounted};
+ghost use Rattle.feed_releases.specs.Feeds.{recorded};
 ghost use Rattle.feed_core.specs.Slots.{IsSlotClean, SlotStands, slot_failed};
 ghost use Rattle.feed_world.specs.World.{IsAsked};
 ghost use Rattle.feed_core.specs.Nodes.{Comes, IsStartRefused, shown_outcome};
 
-use crate::event::Event;
-use crate::feed::{AnswerFault, Feed, OpenFault, Point};
-use crate::keep::Keep;
 use crate::node::Node;
 use crate::text::Text;
 use feed_answer::{Query, QueryFault};
+use feed_keep::Keep;
 use feed_model::{KeepFault, Refusal, Reply};
 use feed_names::ReleaseName;
+use feed_releases::{AnswerFault, Event, Feed, OpenFault, Point};
 use feed_world::Why;
 use std::alloc::Global;
 
@@ -70,7 +69,7 @@ impl<K: Keep + Drop> Slot<K> {
 fn opened<K: Keep + Drop>(alloc: Global, keeper: K) -> (Slot<K>, Result<(), KeepFault>)
     ensures clean { IsSlotClean K.clean result.0 → K.clean keeper }
     ensures same { (h : History) → IsSlotClean K.clean result.0 → IsContent (K.content keeper) h → Comes (SlotStands K.content result.0) h result.1 }
-    ensures device { IsCounted result.1 (K.failed keeper) (slot_failed K.failed result.0) }
+    ensures device { IsCounted (result.1 ≡ Err KeepFault.Device) (K.failed keeper) (slot_failed K.failed result.0) }
 {
     match Feed::open(alloc, keeper) {
         Ok(feed) => (Slot::Up(feed), Ok(())),

@@ -4,15 +4,15 @@ ghost use Rattle.feed_model.specs.History.{History, Answer};
 ghost use Rattle.feed_model.specs.Reply.{IsRight};
 ghost use Rattle.feed_world.specs.World.{Sent as sent, Tell, Restart, StopBefore, StopAfter, Report, Ask, arriving};
 ghost use Rattle.feed_world.specs.Shown.{shown_line};
-ghost use Rattle.feed_core.specs.Cause.{IsCounted};
+ghost use Rattle.feed_keep.specs.Cause.{HasCounted};
 ghost use Rattle.feed_core.specs.Counts.{AreCounted, TellsDevice};
-ghost use Rattle.feed_core.specs.Told.{told};
+ghost use Rattle.feed_releases.specs.Told.{told};
 ghost use Rattle.feed_core.specs.Nodes.{Comes, shown_arrived};
 ghost use Rattle.feed_core.specs.Step.{Changes, Goes};
 
-use crate::event::Event;
 use crate::node::Node;
 use feed_model::{KeepFault, Refusal};
+use feed_releases::Event;
 use feed_world::{Line, Why};
 use std::alloc::{AllocError, Global};
 
@@ -44,7 +44,7 @@ fn put_back<N: Node + Drop>(nodes: &mut Vec<N>, at: usize, node: N)
 // Opens the node at a place again.
 fn reopened<N: Node + Drop>(alloc: Global, nodes: &mut Vec<N>, at: usize) -> Result<(), KeepFault>
     requires within { at < vec_len nodes.old }
-    ensures { Changes N.clean (λ x z. IsCounted result (N.failed x) (N.failed z) × ((up : Bool) (h : History) → N.clean z → N.stands x up h → Comes (N.stands z) h result)) nodes.old.items nodes.new.items at }
+    ensures { Changes N.clean (λ x z. HasCounted (result ≡ Err KeepFault.Device) (N.failed x) (N.failed z) × ((up : Bool) (h : History) → N.clean z → N.stands x up h → Comes (N.stands z) h result)) nodes.old.items nodes.new.items at }
 {
     let (node, outcome) = nodes.remove(at).restart(alloc);
     put_back(nodes, at, node);
@@ -59,7 +59,7 @@ fn stopped_after<N: Node + Drop>(
     event: &Event<'_>,
 ) -> Result<(), KeepFault>
     requires within { at < vec_len nodes.old }
-    ensures { Changes N.clean (λ x z. IsCounted result (N.failed x) (N.failed z) × ((h : History) → N.clean z → N.stands x true h → (answer : Answer) × IsRight h (told event.now) answer × Comes (N.stands z) ((told event.now, answer) ∷ h) result)) nodes.old.items nodes.new.items at }
+    ensures { Changes N.clean (λ x z. HasCounted (result ≡ Err KeepFault.Device) (N.failed x) (N.failed z) × ((h : History) → N.clean z → N.stands x true h → (answer : Answer) × IsRight h (told event.now) answer × Comes (N.stands z) ((told event.now, answer) ∷ h) result)) nodes.old.items nodes.new.items at }
 {
     let (node, outcome) = nodes.remove(at).stop_after(alloc, event);
     put_back(nodes, at, node);

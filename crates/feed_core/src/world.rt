@@ -4,20 +4,20 @@ ghost use Rattle.feed_model.specs.Content.{Content};
 ghost use Rattle.feed_world.specs.World.{World, start, Shows};
 ghost use Rattle.feed_world.specs.Shown.{shown_event, shown_line};
 ghost use Rattle.feed_world.specs.Headline.{IsHeadline};
-ghost use Rattle.feed_core.specs.Cause.{HasFailed};
+ghost use Rattle.feed_keep.specs.Cause.{HasFailed};
 ghost use Rattle.feed_core.specs.Counts.{AreCounted, IsToldOf, TellsDevice, node_of};
 ghost use Rattle.feed_core.specs.Slots.{IsSlotClean, SlotStands, slot_failed};
 ghost use Rattle.feed_core.specs.Transcripts.{keepers_of, lines_of};
 ghost use Rattle.feed_core.specs.Step.{AllClean, AreNodes, AreKept, GoesTo, IsStart};
 
-use crate::feed::OpenFault;
-use crate::keep::Keep;
 use crate::node::Node;
 use crate::shelf::Shelf;
 use crate::slot::Slot;
 use crate::step::{ask_at, report_at, restart_at, stop_after_at, stop_before_at, tell_at};
 use crate::transcript::Transcript;
+use feed_keep::Keep;
 use feed_model::KeepFault;
+use feed_releases::OpenFault;
 use feed_world::{Line, WorldEvent, headline};
 use std::alloc::{AllocError, Global};
 

@@ -6,8 +6,6 @@ mod merging;
 mod overlap;
 mod part;
 mod reading;
-#[cfg(test)]
-mod tests;
 
 pub use gaps::{Gap, next_gap};
 pub use merging::{copied_in_order, merge};

@@ -2,7 +2,7 @@ use Rattle.std.proofs.Common.{List, subst, ◌≡◌, ◌<◌, ◌⊎◌, ◌∷
 use Rattle.feed_world.specs.World.{Shelf, StopAfter, Stopped, IsDown, Refused, arriving}
 use Rattle.feed_world.specs.declared.line.Why.TheVariants.{NoNode, Down}
 use Rattle.feed_core.specs.Nodes.{shown_arrived}
-use Rattle.feed_core.specs.Told.{told}
+use Rattle.feed_releases.specs.Told.{told}
 use Rattle.feed_core.specs.Step.{Goes}
 use Rattle.feed_core.proofs.Steps.{goes_none, goes_known, goes_stay, goes_up}
 use Rattle.feed_core.proofs.Counts.{counted_stay, counted_step, no_node_not, down_not, stopped_not, tells_down, tells_refused}

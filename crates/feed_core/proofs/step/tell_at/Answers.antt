@@ -2,7 +2,7 @@ use Rattle.std.proofs.Common.{◌≡◌, ◌<◌, ◌⊎◌, ◌∷◌, length, 
 use Rattle.feed_world.specs.World.{Shelf, Tell, Replied, Refused, arriving}
 use Rattle.feed_world.specs.declared.line.Why.TheVariants.{NoNode, Down, Feed}
 use Rattle.feed_core.specs.Nodes.{shown_arrived}
-use Rattle.feed_core.specs.Told.{told}
+use Rattle.feed_releases.specs.Told.{told}
 use Rattle.feed_core.proofs.Steps.{goes_none, goes_known, goes_stay, goes_up}
 use Rattle.feed_core.proofs.Counts.{counted_stay, counted_step, no_node_not, down_not, replied_not, tells_refused}
 use Rattle.feed_core.proofs.step.tell_at.Goals as goal
@@ -47,9 +47,9 @@ returns-then-not-is_up-clause-device g c = λ sent. counted_stay g.N.Node.failed
 pub returns-in-Ok-handle-clause-device : goal.returns-in-Ok-handle-clause-device
 returns-in-Ok-handle-clause-device g c =
     let lt : c.in-Some.at < length c.args.nodes.now.items = omega (arith, c.in-Some.ensures.found.1, c.len.ensures) in
-    λ sent. counted_step g.N.Node.failed c.args.nodes.now.items (slice_set c.args.nodes.now.items c.in-Some.at c.handle.new.self) c.in-Some.at c.args.node c.index_mut.result.now c.handle.new.self (Replied c.in-Ok-handle.reply) lt c.index_mut.ensures.value refl c.in-Some.ensures.found.0 c.in-Ok-handle.ensures.device.0 (λ t. absurd (replied_not c.in-Ok-handle.reply t))
+    λ sent. counted_step g.N.Node.failed c.args.nodes.now.items (slice_set c.args.nodes.now.items c.in-Some.at c.handle.new.self) c.in-Some.at c.args.node c.index_mut.result.now c.handle.new.self (Replied c.in-Ok-handle.reply) lt c.index_mut.ensures.value refl c.in-Some.ensures.found.0 c.in-Ok-handle.ensures.device.rises (λ t. absurd (replied_not c.in-Ok-handle.reply t))
 
 pub returns-in-Err-handle-clause-device : goal.returns-in-Err-handle-clause-device
 returns-in-Err-handle-clause-device g c =
     let lt : c.in-Some.at < length c.args.nodes.now.items = omega (arith, c.in-Some.ensures.found.1, c.len.ensures) in
-    λ sent. counted_step g.N.Node.failed c.args.nodes.now.items (slice_set c.args.nodes.now.items c.in-Some.at c.handle.new.self) c.in-Some.at c.args.node c.index_mut.result.now c.handle.new.self (Refused (Feed c.in-Err-handle.refusal)) lt c.index_mut.ensures.value refl c.in-Some.ensures.found.0 c.in-Err-handle.ensures.device.0 (λ t. (let e = tells_refused (Feed c.in-Err-handle.refusal) t in c.in-Err-handle.ensures.device.1 (ap Err (cc))))
+    λ sent. counted_step g.N.Node.failed c.args.nodes.now.items (slice_set c.args.nodes.now.items c.in-Some.at c.handle.new.self) c.in-Some.at c.args.node c.index_mut.result.now c.handle.new.self (Refused (Feed c.in-Err-handle.refusal)) lt c.index_mut.ensures.value refl c.in-Some.ensures.found.0 c.in-Err-handle.ensures.device.rises (λ t. (let e = tells_refused (Feed c.in-Err-handle.refusal) t in c.in-Err-handle.ensures.device.failed (ap Err (cc))))

@@ -1,6 +1,6 @@
 use Rattle.std.proofs.Common.{length, ap, arith, ◌≤◌}
 use Rattle.feed_core.specs.Slots.{IsSlotClean, SlotStands, slot_failed}
-use Rattle.feed_core.proofs.Reopened.{none_left}
+use Rattle.std.proofs.lemmas.List.{nil_from_length}
 use Rattle.feed_core.proofs.Going.{IsKeptOf, went_next, went_all, went_count, kept_clean, kept_all}
 use Rattle.feed_core.proofs.Counts.{counted_of}
 use Rattle.feed_core.proofs.world.keepers_back.Goals as goal
@@ -16,10 +16,10 @@ loop-node-preserved g c = record {
 }
 
 pub returns-clause-clean : goal.returns-clause-clean
-returns-clause-clean g c = λ all. kept_clean (IsSlotClean g.K.Keep.clean) (SlotStands g.K.Keep.content) g.K.Keep.clean g.K.Keep.content c.args.nodes.items c.loop-node.keepers.items (went_all (IsKeptOf (IsSlotClean g.K.Keep.clean) (SlotStands g.K.Keep.content) g.K.Keep.clean g.K.Keep.content) c.args.nodes.items c.loop-node.node-iterator.rest.items c.loop-node.keepers.items c.loop-node.invariant.so (none_left c.loop-node.node-iterator.rest.items c.loop-node.node-iterator.rest.len c.loop-node.node-iterator.rest.ok.0 c.in-None.ensures.steps.0)) all
+returns-clause-clean g c = λ all. kept_clean (IsSlotClean g.K.Keep.clean) (SlotStands g.K.Keep.content) g.K.Keep.clean g.K.Keep.content c.args.nodes.items c.loop-node.keepers.items (went_all (IsKeptOf (IsSlotClean g.K.Keep.clean) (SlotStands g.K.Keep.content) g.K.Keep.clean g.K.Keep.content) c.args.nodes.items c.loop-node.node-iterator.rest.items c.loop-node.keepers.items c.loop-node.invariant.so (nil_from_length c.loop-node.node-iterator.rest.items (omega (arith, c.loop-node.node-iterator.rest.ok.0, c.in-None.ensures.steps.0)))) all
 
 pub returns-clause-kept : goal.returns-clause-kept
-returns-clause-kept g c = λ all w n. kept_all (IsSlotClean g.K.Keep.clean) (SlotStands g.K.Keep.content) g.K.Keep.clean g.K.Keep.content c.args.nodes.items c.loop-node.keepers.items w.nodes (went_all (IsKeptOf (IsSlotClean g.K.Keep.clean) (SlotStands g.K.Keep.content) g.K.Keep.clean g.K.Keep.content) c.args.nodes.items c.loop-node.node-iterator.rest.items c.loop-node.keepers.items c.loop-node.invariant.so (none_left c.loop-node.node-iterator.rest.items c.loop-node.node-iterator.rest.len c.loop-node.node-iterator.rest.ok.0 c.in-None.ensures.steps.0)) all n
+returns-clause-kept g c = λ all w n. kept_all (IsSlotClean g.K.Keep.clean) (SlotStands g.K.Keep.content) g.K.Keep.clean g.K.Keep.content c.args.nodes.items c.loop-node.keepers.items w.nodes (went_all (IsKeptOf (IsSlotClean g.K.Keep.clean) (SlotStands g.K.Keep.content) g.K.Keep.clean g.K.Keep.content) c.args.nodes.items c.loop-node.node-iterator.rest.items c.loop-node.keepers.items c.loop-node.invariant.so (nil_from_length c.loop-node.node-iterator.rest.items (omega (arith, c.loop-node.node-iterator.rest.ok.0, c.in-None.ensures.steps.0)))) all n
 
 pub returns-clause-counted : goal.returns-clause-counted
-returns-clause-counted g c = counted_of (slot_failed g.K.Keep.failed) g.K.Keep.failed 1 c.args.nodes.items c.loop-node.keepers.items (went_all (λ s k. slot_failed g.K.Keep.failed s ≤ g.K.Keep.failed k) c.args.nodes.items c.loop-node.node-iterator.rest.items c.loop-node.keepers.items c.loop-node.invariant.counts (none_left c.loop-node.node-iterator.rest.items c.loop-node.node-iterator.rest.len c.loop-node.node-iterator.rest.ok.0 c.in-None.ensures.steps.0))
+returns-clause-counted g c = counted_of (slot_failed g.K.Keep.failed) g.K.Keep.failed 1 c.args.nodes.items c.loop-node.keepers.items (went_all (λ s k. slot_failed g.K.Keep.failed s ≤ g.K.Keep.failed k) c.args.nodes.items c.loop-node.node-iterator.rest.items c.loop-node.keepers.items c.loop-node.invariant.counts (nil_from_length c.loop-node.node-iterator.rest.items (omega (arith, c.loop-node.node-iterator.rest.ok.0, c.in-None.ensures.steps.0))))

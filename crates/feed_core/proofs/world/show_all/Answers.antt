@@ -2,7 +2,7 @@ use Rattle.std.proofs.Common.{[], ◌∷◌, length, refl, sym, ◌∙◌, ap, a
 use Rattle.std.specs.Prelude.{vec_len}
 use Rattle.feed_world.specs.World.{start}
 use Rattle.feed_world.specs.Shown.{shown_event, shown_line}
-use Rattle.feed_core.proofs.Going.{length-append}
+use Rattle.std.proofs.lemmas.List.{length-append}
 use Rattle.feed_core.proofs.Shows.{has_more}
 use Rattle.feed_core.proofs.Counts.{counted_same, counted_more}
 use Rattle.feed_core.proofs.world.show_all.Goals as goal

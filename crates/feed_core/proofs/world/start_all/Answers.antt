@@ -3,7 +3,7 @@ use Rattle.feed_core.specs.Slots.{SlotStands, slot_failed}
 use Rattle.feed_core.proofs.Empty.{start_more}
 use Rattle.feed_core.proofs.Going.{went_next, went_all, went_count, went_at}
 use Rattle.feed_core.proofs.Counts.{counted_of}
-use Rattle.feed_core.proofs.Reopened.{none_left}
+use Rattle.std.proofs.lemmas.List.{nil_from_length}
 use Rattle.feed_core.proofs.world.start_all.Goals as goal
 
 pub loop-keeper-preserved : goal.loop-keeper-preserved
@@ -29,4 +29,4 @@ pub returns-clause-count : goal.returns-clause-count
 returns-clause-count g c = omega (arith, went_count (λ k s. g.K.Keep.failed k ≤ slot_failed g.K.Keep.failed s) c.args.keepers.items c.loop-keeper.keeper-iterator.rest.items c.loop-keeper.nodes.items c.loop-keeper.invariant.so, c.loop-keeper.keeper-iterator.rest.ok.0, c.in-None.ensures.steps.0, c.args.keepers.ok.0)
 
 pub returns-clause-counted : goal.returns-clause-counted
-returns-clause-counted g c = counted_of g.K.Keep.failed (slot_failed g.K.Keep.failed) 1 c.args.keepers.items c.loop-keeper.nodes.items (went_all (λ k s. g.K.Keep.failed k ≤ slot_failed g.K.Keep.failed s) c.args.keepers.items c.loop-keeper.keeper-iterator.rest.items c.loop-keeper.nodes.items c.loop-keeper.invariant.so (none_left c.loop-keeper.keeper-iterator.rest.items c.loop-keeper.keeper-iterator.rest.len c.loop-keeper.keeper-iterator.rest.ok.0 c.in-None.ensures.steps.0))
+returns-clause-counted g c = counted_of g.K.Keep.failed (slot_failed g.K.Keep.failed) 1 c.args.keepers.items c.loop-keeper.nodes.items (went_all (λ k s. g.K.Keep.failed k ≤ slot_failed g.K.Keep.failed s) c.args.keepers.items c.loop-keeper.keeper-iterator.rest.items c.loop-keeper.nodes.items c.loop-keeper.invariant.so (nil_from_length c.loop-keeper.keeper-iterator.rest.items (omega (arith, c.loop-keeper.keeper-iterator.rest.ok.0, c.in-None.ensures.steps.0))))

@@ -13,4 +13,4 @@ refused Device failed clean content device damaged other = inl (device refl)
 refused Damaged failed clean content device damaged other = inr (λ c empty. damaged refl c (subst IsSound (sym empty) sound_empty))
 
 pub returns-in-Err-clause-err : goal.returns-in-Err-clause-err
-returns-in-Err-clause-err g c = refused c.in-Err.fault.cause _ (g.K.Keep.clean c.in-Err.fault.keeper) (g.K.Keep.content c.args.keeper) c.in-Err.ensures.device.1 c.in-Err.ensures.damaged
+returns-in-Err-clause-err g c = refused c.in-Err.fault.cause _ (g.K.Keep.clean c.in-Err.fault.keeper) (g.K.Keep.content c.args.keeper) c.in-Err.ensures.device.failed c.in-Err.ensures.damaged

@@ -1,8 +1,0 @@
-use Rattle.std.proofs.Common.{◌≡◌, take}
-use Rattle.feed_core.specs.Shown.{shown}
-use Rattle.feed_core.specs.Arranged.{ordered}
-use Rattle.feed_core.proofs.list_keep.copied_records.Given as goal
-
--- the records that were passed are copied, each with its parts in order
-abbrev pub invariant-loop-record : goal.invariant-loop-record
-invariant-loop-record l = shown l.copy.items ≡ ordered (shown (take l.record-index l.records))

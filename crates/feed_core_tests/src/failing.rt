@@ -1,0 +1,66 @@
+ghost use Rattle.feed_keep.specs.Arranged.{content_of_list};
+
+use feed_core::{Change, Keep, KeepFault, ListKeep, Record};
+use std::alloc::Global;
+
+// A keeper over a list, with a device that fails at one load, or at every commit after so many.
+#[derive(Drop)]
+pub struct Failing {
+    list: ListKeep,
+    loads_before: u64,
+    commits_before: u64,
+    failed: u64,
+}
+
+impl Failing {
+    // The load after so many others fails, and no other one.
+    pub fn at_load(alloc: Global, loads_before: u64) -> Failing {
+        Failing {
+            list: ListKeep::new(alloc),
+            loads_before,
+            commits_before: u64::MAX,
+            failed: 0,
+        }
+    }
+
+    // Every commit after so many fails.
+    pub fn after_commits(alloc: Global, commits_before: u64) -> Failing {
+        Failing {
+            list: ListKeep::new(alloc),
+            loads_before: u64::MAX,
+            commits_before,
+            failed: 0,
+        }
+    }
+}
+
+impl Keep for Failing {
+    ghost content = { λ keeper. content_of_list keeper.list };
+
+    ghost clean = { λ _. Unit {0} };
+
+    ghost failed = { λ keeper. keeper.failed };
+
+    fn failures(&self) -> u64 {
+        self.failed
+    }
+
+    fn load(&mut self, alloc: Global) -> Result<Vec<Record>, KeepFault> {
+        let fails = self.loads_before == 0;
+        self.loads_before = self.loads_before.wrapping_sub(1);
+        if fails {
+            self.failed = self.failed.saturating_add(1);
+            return Err(KeepFault::Device);
+        }
+        self.list.load(alloc)
+    }
+
+    fn commit(&mut self, change: &Change<'_>) -> Result<(), KeepFault> {
+        if self.commits_before == 0 {
+            self.failed = self.failed.saturating_add(1);
+            return Err(KeepFault::Device);
+        }
+        self.commits_before = self.commits_before.saturating_sub(1);
+        self.list.commit(change)
+    }
+}

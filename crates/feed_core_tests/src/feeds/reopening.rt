@@ -1,0 +1,518 @@
+// Feeds that are opened on what a keeper holds.
+use super::{
+    ACTA, BETA, FEBRUARY, HEADER, HEADER_WITHOUT_URL, JANUARY, MARCH, PACKAGE, active_in,
+    answer_of, content_of, cut, february_file, feed_of, feed_over, january_file, listed, name_of,
+    offered, record_of, told,
+};
+use crate::failing::Failing;
+use feed_core::{
+    Feed, Keep, KeepFault, ListKeep, OpenFault, PIECE_LIMIT, Part, Record, Reply, State,
+};
+use std::alloc::Global;
+use std::test::Fail;
+
+fn reopened<K: Keep + Drop>(alloc: Global, feed: Feed<K>) -> Result<Feed<K>, Fail> {
+    feed_over(alloc, feed.restart())
+}
+
+#[test]
+fn a_piece_is_repeated_before_and_after_a_restart(rt: HostRuntime) -> Result<(), Fail> {
+    let name = name_of(rt.alloc(), JANUARY)?;
+    let file = january_file(rt.alloc())?;
+    let mut feed = feed_of(rt.alloc())?;
+    assert_eq!(rt; offered(&mut feed, &name, 205), Ok(Reply::Noted));
+    let rows = [
+        (200, 5, Reply::Stored { missing: 200 }),
+        (100, 100, Reply::Stored { missing: 100 }),
+        (100, 100, Reply::Repeated),
+        (0, 100, Reply::Activated),
+        (100, 100, Reply::Repeated),
+    ];
+    for (first, count, reply) in rows {
+        let answer = told(&mut feed, &name, first, cut(&file, first, count));
+        assert_eq!(rt; answer, Ok(reply), "{first}");
+    }
+    let mut feed = reopened(rt.alloc(), feed)?;
+    let again = told(&mut feed, &name, 100, cut(&file, 100, 100));
+    assert_eq!(rt; again, Ok(Reply::Repeated));
+    assert_eq!(rt; active_in(&feed), JANUARY.as_bytes());
+    Ok(())
+}
+
+#[test]
+fn a_release_that_was_passed_stays_passed(rt: HostRuntime) -> Result<(), Fail> {
+    let january = name_of(rt.alloc(), JANUARY)?;
+    let february = name_of(rt.alloc(), FEBRUARY)?;
+    let file = january_file(rt.alloc())?;
+    let later_file = february_file(rt.alloc())?;
+    let last = cut(&file, 200, 5);
+    let mut feed = feed_of(rt.alloc())?;
+    assert_eq!(rt; offered(&mut feed, &january, 205), Ok(Reply::Noted));
+    assert_eq!(rt;
+        told(&mut feed, &january, 0, cut(&file, 0, 200)),
+        Ok(Reply::Stored { missing: 5 })
+    );
+    assert_eq!(rt; offered(&mut feed, &february, 243), Ok(Reply::Noted));
+    assert_eq!(rt;
+        told(&mut feed, &february, 0, &later_file),
+        Ok(Reply::Activated)
+    );
+    assert_eq!(rt; told(&mut feed, &january, 200, last), Ok(Reply::Older));
+    let mut feed = reopened(rt.alloc(), feed)?;
+    assert_eq!(rt; told(&mut feed, &january, 200, last), Ok(Reply::Older));
+    assert_eq!(rt; offered(&mut feed, &january, 205), Ok(Reply::Older));
+    assert_eq!(rt; active_in(&feed), FEBRUARY.as_bytes());
+    Ok(())
+}
+
+#[test]
+fn a_keeper_without_records_opens(rt: HostRuntime) -> Result<(), Fail> {
+    let none = Vec::new(rt.alloc());
+    for keeper in [ListKeep::new(rt.alloc()), ListKeep::of(rt.alloc(), none)] {
+        let feed = feed_over(rt.alloc(), keeper)?;
+        assert!(rt; feed.is_empty());
+        assert_eq!(rt; feed.report(PACKAGE), None);
+        assert_eq!(rt;
+            content_of(rt.alloc(), &mut feed.restart())?.as_slice(),
+            b"".as_slice()
+        );
+    }
+    Ok(())
+}
+
+// The records of an active release, a staged one of a later day and a broken one.
+fn three_records(alloc: Global) -> Result<Vec<Record>, Fail> {
+    let active = january_file(alloc)?;
+    let staged = february_file(alloc)?;
+    let records = [
+        record_of(alloc, JANUARY, 205, State::Active, &[(0, &active)])?,
+        record_of(
+            alloc,
+            FEBRUARY,
+            243,
+            State::Staged,
+            &[(0, cut(&staged, 0, 200))],
+        )?,
+        record_of(alloc, MARCH, 141, State::Broken, &[(0, HEADER_WITHOUT_URL)])?,
+    ];
+    Ok(Vec::from_array(alloc, records)?)
+}
+
+// A feed of these releases that took its events itself.
+fn three_releases(alloc: Global) -> Result<Feed<ListKeep>, Fail> {
+    let mut feed = feed_of(alloc)?;
+    let active = january_file(alloc)?;
+    let staged = february_file(alloc)?;
+    let rows = [
+        (JANUARY, 205, active.as_slice()),
+        (FEBRUARY, 243, cut(&staged, 0, 200)),
+        (MARCH, 141, HEADER_WITHOUT_URL),
+    ];
+    for (text, size, bytes) in rows {
+        let name = name_of(alloc, text)?;
+        offered(&mut feed, &name, size)?;
+        told(&mut feed, &name, 0, bytes)?;
+    }
+    Ok(feed)
+}
+
+#[test]
+fn a_feed_is_after_a_restart_what_it_was(rt: HostRuntime) -> Result<(), Fail> {
+    let january = name_of(rt.alloc(), JANUARY)?;
+    let february = name_of(rt.alloc(), FEBRUARY)?;
+    let march = name_of(rt.alloc(), MARCH)?;
+    let file = february_file(rt.alloc())?;
+    let expected = listed(rt.alloc(), &three_records(rt.alloc())?)?;
+    let feeds = [
+        three_releases(rt.alloc())?,
+        reopened(rt.alloc(), three_releases(rt.alloc())?)?,
+        feed_over(
+            rt.alloc(),
+            ListKeep::of(rt.alloc(), three_records(rt.alloc())?),
+        )?,
+    ];
+    for mut feed in feeds {
+        assert_eq!(rt; active_in(&feed), JANUARY.as_bytes());
+        assert_eq!(rt; feed.next_range(&january, 1000), None);
+        assert_eq!(rt; feed.next_range(&february, 1000), Some((200, 242)));
+        assert_eq!(rt; feed.next_range(&february, 10), Some((200, 209)));
+        assert_eq!(rt; feed.next_range(&march, 1000), None);
+        assert_eq!(rt;
+            answer_of(rt.alloc(), &feed, b"rft.issn=2434561x")?.as_slice(),
+            b"release Acme_Global_All_2024-01-01.txt hits 1\n2\tuntested\tActa\thttp://a.example/\t\t\t\t\n".as_slice()
+        );
+        assert_eq!(rt; offered(&mut feed, &january, 205), Ok(Reply::Known));
+        assert_eq!(rt; offered(&mut feed, &february, 243), Ok(Reply::Known));
+        assert_eq!(rt; offered(&mut feed, &march, 141), Ok(Reply::Known));
+        assert_eq!(rt; told(&mut feed, &january, 0, HEADER), Ok(Reply::Repeated));
+        assert_eq!(rt; told(&mut feed, &february, 0, HEADER), Ok(Reply::Repeated));
+        assert_eq!(rt;
+            told(&mut feed, &march, 0, HEADER_WITHOUT_URL),
+            Ok(Reply::Repeated)
+        );
+        let mut keeper = feed.restart();
+        assert_eq!(rt;
+            content_of(rt.alloc(), &mut keeper)?.as_slice(),
+            expected.as_slice()
+        );
+        let mut feed = feed_over(rt.alloc(), keeper)?;
+        assert_eq!(rt;
+            told(&mut feed, &february, 200, cut(&file, 200, 43)),
+            Ok(Reply::Activated)
+        );
+        assert_eq!(rt; active_in(&feed), FEBRUARY.as_bytes());
+    }
+    Ok(())
+}
+
+#[test]
+fn records_and_parts_are_put_in_order(rt: HostRuntime) -> Result<(), Fail> {
+    let file = january_file(rt.alloc())?;
+    let parts = [
+        (0, cut(&file, 0, 100)),
+        (100, cut(&file, 100, 100)),
+        (200, cut(&file, 200, 5)),
+    ];
+    let shuffled = [parts[1], parts[2], parts[0]];
+    // By bytes `-` stands before `_`, and this before the letters.
+    let ordered = [
+        record_of(
+            rt.alloc(),
+            "A-B_2024-03-01.txt",
+            10,
+            State::Staged,
+            &[(2, b"23"), (6, b"67")],
+        )?,
+        record_of(rt.alloc(), "A_2024-01-01.txt", 10, State::Staged, &[])?,
+        record_of(rt.alloc(), "A_2024-02-01.txt", 10, State::Staged, &[])?,
+        record_of(rt.alloc(), JANUARY, 205, State::Active, &parts)?,
+    ];
+    let expected = listed(rt.alloc(), &ordered)?;
+    let records = [
+        record_of(rt.alloc(), JANUARY, 205, State::Active, &shuffled)?,
+        record_of(rt.alloc(), "A_2024-02-01.txt", 10, State::Staged, &[])?,
+        record_of(
+            rt.alloc(),
+            "A-B_2024-03-01.txt",
+            10,
+            State::Staged,
+            &[(6, b"67"), (2, b"23")],
+        )?,
+        record_of(rt.alloc(), "A_2024-01-01.txt", 10, State::Staged, &[])?,
+    ];
+    let mut keeper = ListKeep::of(rt.alloc(), Vec::from_array(rt.alloc(), records)?);
+    assert_eq!(rt;
+        content_of(rt.alloc(), &mut keeper)?.as_slice(),
+        expected.as_slice()
+    );
+    let feed = feed_over(rt.alloc(), keeper)?;
+    assert_eq!(rt; active_in(&feed), JANUARY.as_bytes());
+    assert_eq!(rt; feed.report(b"A"), None);
+    let staged = name_of(rt.alloc(), "A-B_2024-03-01.txt")?;
+    assert_eq!(rt; feed.next_range(&staged, 100), Some((0, 1)));
+    assert_eq!(rt;
+        content_of(rt.alloc(), &mut feed.restart())?.as_slice(),
+        expected.as_slice()
+    );
+    Ok(())
+}
+
+#[test]
+fn parts_at_one_place_stay_as_they_stood(rt: HostRuntime) -> Result<(), Fail> {
+    let given: [(u64, &[u8]); 5] = [(2, b"x"), (0, b"0"), (2, b"y"), (0, b"1"), (2, b"x")];
+    let ordered: [(u64, &[u8]); 5] = [(0, b"0"), (0, b"1"), (2, b"x"), (2, b"y"), (2, b"x")];
+    let record = record_of(rt.alloc(), JANUARY, 205, State::Staged, &given)?;
+    let mut keeper = ListKeep::of(rt.alloc(), Vec::from_array(rt.alloc(), [record])?);
+    let expected = [record_of(rt.alloc(), JANUARY, 205, State::Staged, &ordered)?];
+    assert_eq!(rt;
+        content_of(rt.alloc(), &mut keeper)?.as_slice(),
+        listed(rt.alloc(), &expected)?.as_slice()
+    );
+    Ok(())
+}
+
+// The 41 pieces of 5 bytes of the first file are handed in 17 places apart.
+#[test]
+fn pieces_in_any_order_are_loaded_in_order(rt: HostRuntime) -> Result<(), Fail> {
+    let name = name_of(rt.alloc(), JANUARY)?;
+    let file = january_file(rt.alloc())?;
+    let mut feed = feed_of(rt.alloc())?;
+    assert_eq!(rt; offered(&mut feed, &name, 205), Ok(Reply::Noted));
+    for number in 1..41u64 {
+        let first = number * 17 % 41 * 5;
+        let missing = 205 - number * 5;
+        assert_eq!(rt;
+            told(&mut feed, &name, first, cut(&file, first, 5)),
+            Ok(Reply::Stored { missing }),
+            "{first}"
+        );
+    }
+    let mut parts = Vec::new(rt.alloc());
+    for number in 1..41u64 {
+        parts.push((number * 5, cut(&file, number * 5, 5)))?;
+    }
+    let staged = [record_of(rt.alloc(), JANUARY, 205, State::Staged, &parts)?];
+    let mut keeper = feed.restart();
+    assert_eq!(rt;
+        content_of(rt.alloc(), &mut keeper)?.as_slice(),
+        listed(rt.alloc(), &staged)?.as_slice()
+    );
+    let mut feed = feed_over(rt.alloc(), keeper)?;
+    assert_eq!(rt;
+        told(&mut feed, &name, 0, cut(&file, 0, 5)),
+        Ok(Reply::Activated)
+    );
+    let feed = reopened(rt.alloc(), feed)?;
+    assert_eq!(rt; active_in(&feed), JANUARY.as_bytes());
+    Ok(())
+}
+
+#[test]
+fn a_name_that_stands_twice_is_damaged(rt: HostRuntime) -> Result<(), Fail> {
+    let records = [
+        record_of(rt.alloc(), JANUARY, 205, State::Staged, &[])?,
+        record_of(rt.alloc(), FEBRUARY, 243, State::Staged, &[])?,
+        record_of(rt.alloc(), JANUARY, 10, State::Staged, &[(0, b"01")])?,
+    ];
+    let mut keeper = ListKeep::of(rt.alloc(), Vec::from_array(rt.alloc(), records)?);
+    assert_eq!(rt; keeper.load(rt.alloc()).err(), Some(KeepFault::Damaged));
+    let Err(OpenFault { cause, mut keeper }) = Feed::open(rt.alloc(), keeper) else {
+        return Err(Fail::new("the feed opens"));
+    };
+    assert_eq!(rt; cause, KeepFault::Damaged);
+    assert_eq!(rt; keeper.load(rt.alloc()).err(), Some(KeepFault::Damaged));
+    Ok(())
+}
+
+// So many records of packages of their own.
+fn staged_records(alloc: Global, count: u32) -> Result<Vec<Record>, Fail> {
+    let mut records = Vec::new(alloc);
+    for number in 0..count {
+        let name = format!(in alloc; "n{number:03}_2024-01-01.txt")?;
+        records.push(record_of(alloc, &name, 1, State::Staged, &[])?)?;
+    }
+    Ok(records)
+}
+
+// Opens a feed on these records, and then compares what the keeper holds. The fault, where it does not open.
+fn fault_over(alloc: Global, records: Vec<Record>) -> Result<Option<KeepFault>, Fail> {
+    let given = listed(alloc, &records)?;
+    let (fault, mut keeper) = match Feed::open(alloc, ListKeep::of(alloc, records)) {
+        Ok(feed) => (None, feed.restart()),
+        Err(OpenFault { cause, keeper }) => (Some(cause), keeper),
+    };
+    if content_of(alloc, &mut keeper)? != given {
+        return Err(Fail::new("the keeper holds something else"));
+    }
+    Ok(fault)
+}
+
+// Why no feed opens on a keeper with this record alone.
+fn fault_over_one(
+    alloc: Global,
+    size: u64,
+    state: State,
+    parts: &[(u64, &[u8])],
+) -> Result<Option<KeepFault>, Fail> {
+    let record = record_of(alloc, "X_2024-01-01.txt", size, state, parts)?;
+    fault_over(alloc, Vec::from_array(alloc, [record])?)
+}
+
+#[test]
+fn parts_are_apart_and_inside_the_size(rt: HostRuntime) -> Result<(), Fail> {
+    let damaged = Some(KeepFault::Damaged);
+    let rows: [(&[(u64, &[u8])], Option<KeepFault>); 16] = [
+        (&[], None),
+        (&[(0, b"012"), (3, b"34")], None),
+        (&[(1, b"1"), (9, b"9")], None),
+        // Empty.
+        (&[(3, b"")], damaged),
+        (&[(10, b"")], damaged),
+        (&[(0, b"012"), (3, b"")], damaged),
+        // Not apart.
+        (&[(0, b"012"), (2, b"23")], damaged),
+        (&[(0, b"012"), (2, b"x3")], damaged),
+        (&[(0, b"0123"), (1, b"1")], damaged),
+        (&[(0, b"0123"), (3, b"3")], damaged),
+        (&[(0, b"012"), (0, b"012")], damaged),
+        // Outside.
+        (&[(8, b"89x")], damaged),
+        (&[(10, b"x")], damaged),
+        (&[(0, b"0"), (10, b"x")], damaged),
+        (&[(u64::MAX, b"x")], damaged),
+        (&[(0, b"0123456789x")], damaged),
+    ];
+    for (parts, fault) in rows {
+        let found = fault_over_one(rt.alloc(), 10, State::Staged, parts)?;
+        assert_eq!(rt; found, fault, "{parts:?}");
+    }
+    Ok(())
+}
+
+#[test]
+fn sizes_and_parts_are_within_their_limits(rt: HostRuntime) -> Result<(), Fail> {
+    let damaged = Some(KeepFault::Damaged);
+    let sizes = [
+        (67_108_864, None),
+        (67_108_865, damaged),
+        (u64::MAX, damaged),
+    ];
+    for (size, fault) in sizes {
+        let found = fault_over_one(rt.alloc(), size, State::Staged, &[])?;
+        assert_eq!(rt; found, fault, "{size}");
+    }
+    let lengths = [(PIECE_LIMIT, None), (PIECE_LIMIT + 1, damaged)];
+    for (length, fault) in lengths {
+        let bytes = vec![in rt.alloc(); b'x'; length]?;
+        let found = fault_over_one(rt.alloc(), 2_000_000, State::Staged, &[(0, &bytes)])?;
+        assert_eq!(rt; found, fault, "{length}");
+    }
+    Ok(())
+}
+
+#[test]
+fn a_file_bears_out_its_state(rt: HostRuntime) -> Result<(), Fail> {
+    let good = january_file(rt.alloc())?;
+    let bad = HEADER_WITHOUT_URL;
+    let damaged = Some(KeepFault::Damaged);
+    let rows = [
+        (State::Staged, 205, cut(&good, 0, 204), None),
+        (State::Staged, 205, &good, damaged),
+        (State::Staged, 141, bad, damaged),
+        (State::Active, 205, &good, None),
+        (State::Active, 205, cut(&good, 0, 204), damaged),
+        (State::Active, 141, bad, damaged),
+        (State::Broken, 141, bad, None),
+        (State::Broken, 142, bad, damaged),
+        (State::Broken, 205, &good, damaged),
+    ];
+    for (state, size, bytes, fault) in rows {
+        let found = fault_over_one(rt.alloc(), size, state, &[(0, bytes)])?;
+        assert_eq!(rt; found, fault, "{state:?} {size}");
+    }
+    Ok(())
+}
+
+#[test]
+fn a_record_without_parts_bears_out_its_state(rt: HostRuntime) -> Result<(), Fail> {
+    let damaged = Some(KeepFault::Damaged);
+    let rows = [
+        (State::Staged, 10, None),
+        (State::Staged, 0, damaged),
+        (State::Active, 10, damaged),
+        (State::Active, 0, damaged),
+        (State::Broken, 10, damaged),
+        (State::Broken, 0, None),
+    ];
+    for (state, size, fault) in rows {
+        let found = fault_over_one(rt.alloc(), size, state, &[])?;
+        assert_eq!(rt; found, fault, "{state:?} {size}");
+    }
+    Ok(())
+}
+
+// A record whose file bears out its state.
+fn sound_record(alloc: Global, name: &str, state: State) -> Result<Record, Fail> {
+    match state {
+        State::Staged => record_of(alloc, name, 10, state, &[(2, b"23")]),
+        State::Broken => record_of(alloc, name, 141, state, &[(0, HEADER_WITHOUT_URL)]),
+        State::Active => record_of(alloc, name, 205, state, &[(0, HEADER), (151, ACTA)]),
+    }
+}
+
+#[test]
+fn no_record_stands_beside_a_later_active_one(rt: HostRuntime) -> Result<(), Fail> {
+    let damaged = Some(KeepFault::Damaged);
+    let rows = [
+        (JANUARY, State::Active, FEBRUARY, State::Active, damaged),
+        (JANUARY, State::Staged, FEBRUARY, State::Active, damaged),
+        (JANUARY, State::Broken, FEBRUARY, State::Active, damaged),
+        (JANUARY, State::Active, FEBRUARY, State::Staged, None),
+        (JANUARY, State::Active, FEBRUARY, State::Broken, None),
+        (JANUARY, State::Staged, FEBRUARY, State::Staged, None),
+        (JANUARY, State::Broken, FEBRUARY, State::Staged, None),
+        (JANUARY, State::Broken, FEBRUARY, State::Broken, None),
+        // Of other packages.
+        (
+            JANUARY,
+            State::Active,
+            "Acme_Local_2024-02-01.txt",
+            State::Active,
+            None,
+        ),
+        (
+            "Acme_2024-01-01.txt",
+            State::Staged,
+            FEBRUARY,
+            State::Active,
+            None,
+        ),
+        (
+            "Acme_Global_2024-01-01.txt",
+            State::Broken,
+            FEBRUARY,
+            State::Active,
+            None,
+        ),
+    ];
+    for (one, one_state, other, other_state, fault) in rows {
+        let records = [
+            sound_record(rt.alloc(), one, one_state)?,
+            sound_record(rt.alloc(), other, other_state)?,
+        ];
+        let records = Vec::from_array(rt.alloc(), records)?;
+        assert_eq!(rt;
+            fault_over(rt.alloc(), records)?,
+            fault,
+            "{one} {one_state:?} {other} {other_state:?}"
+        );
+    }
+    Ok(())
+}
+
+#[test]
+fn a_feed_opens_on_256_records(rt: HostRuntime) -> Result<(), Fail> {
+    for (count, fault) in [(256, None), (257, Some(KeepFault::Damaged))] {
+        let records = staged_records(rt.alloc(), count)?;
+        assert_eq!(rt; fault_over(rt.alloc(), records)?, fault, "{count}");
+    }
+    Ok(())
+}
+
+#[test]
+fn a_file_in_many_parts_is_reopened(rt: HostRuntime) -> Result<(), Fail> {
+    let mut file = january_file(rt.alloc())?;
+    for _ in 0..2_000 {
+        file.extend_from_slice(BETA)?;
+    }
+    let mut parts = Vec::new(rt.alloc());
+    for (first, byte) in (0..).zip(&file) {
+        parts.push(Part {
+            first,
+            bytes: Vec::from_slice(rt.alloc(), &[*byte])?,
+        })?;
+    }
+    let record = Record {
+        name: name_of(rt.alloc(), JANUARY)?,
+        size: file.len() as u64,
+        state: State::Active,
+        parts,
+    };
+    let records = Vec::from_array(rt.alloc(), [record])?;
+    let feed = feed_over(rt.alloc(), ListKeep::of(rt.alloc(), records))?;
+    assert_eq!(rt; active_in(&feed), JANUARY.as_bytes());
+    Ok(())
+}
+
+#[test]
+fn a_keeper_that_does_not_load_comes_back(rt: HostRuntime) -> Result<(), Fail> {
+    let keeper = Failing::at_load(rt.alloc(), 0);
+    let Err(OpenFault { cause, mut keeper }) = Feed::open(rt.alloc(), keeper) else {
+        return Err(Fail::new("the feed opens"));
+    };
+    assert_eq!(rt; cause, KeepFault::Device);
+    assert_eq!(rt; keeper.failures(), 1);
+    let content = content_of(rt.alloc(), &mut keeper)?;
+    assert_eq!(rt; content.as_slice(), b"".as_slice());
+    Ok(())
+}

@@ -1,0 +1,540 @@
+// Worlds of published files and nodes.
+use super::{
+    FEBRUARY, HEADER, HEADER_WITHOUT_URL, JANUARY, MARCH, PACKAGE, content_of, february_file,
+    january_file, listed, name_of, record_of,
+};
+use crate::failing::Failing;
+use feed_core::{
+    Keep, Line, ListKeep, ReplayFault, Reply, Sent, State, Transcript, Why, WorldEvent, WriteFault,
+    replay,
+};
+use std::alloc::Global;
+use std::test::Fail;
+
+// The events of a world, as they are told.
+#[derive(Drop)]
+struct Events {
+    alloc: Global,
+    list: Vec<WorldEvent>,
+}
+
+impl Events {
+    fn new(alloc: Global) -> Events {
+        Events {
+            alloc,
+            list: Vec::new(alloc),
+        }
+    }
+
+    fn publish(&mut self, name: &str, file: &[u8]) -> Result<(), Fail> {
+        let name = name_of(self.alloc, name)?;
+        let bytes = Vec::from_slice(self.alloc, file)?;
+        Ok(self.list.push(WorldEvent::Publish { name, bytes })?)
+    }
+
+    fn offer(&mut self, node: u64, name: &str) -> Result<(), Fail> {
+        let name = name_of(self.alloc, name)?;
+        Ok(self.list.push(WorldEvent::Offer { node, name })?)
+    }
+
+    fn deliver(&mut self, node: u64, name: &str, first: u64, len: u64) -> Result<(), Fail> {
+        let name = name_of(self.alloc, name)?;
+        Ok(
+            self.list.push(WorldEvent::Deliver {
+                node,
+                name,
+                first,
+                len,
+            })?,
+        )
+    }
+
+    fn lose(&mut self, node: u64, name: &str) -> Result<(), Fail> {
+        let name = name_of(self.alloc, name)?;
+        Ok(self.list.push(WorldEvent::Lose { node, name })?)
+    }
+
+    fn restart(&mut self, node: u64) -> Result<(), Fail> {
+        Ok(self.list.push(WorldEvent::Restart { node })?)
+    }
+
+    fn stop_before_offer(&mut self, node: u64, name: &str) -> Result<(), Fail> {
+        let name = name_of(self.alloc, name)?;
+        let what = Sent::Offer { name };
+        Ok(self.list.push(WorldEvent::StopBefore { node, what })?)
+    }
+
+    fn stop_after_delivery(
+        &mut self,
+        node: u64,
+        name: &str,
+        first: u64,
+        len: u64,
+    ) -> Result<(), Fail> {
+        let name = name_of(self.alloc, name)?;
+        let what = Sent::Deliver { name, first, len };
+        Ok(self.list.push(WorldEvent::StopAfter { node, what })?)
+    }
+
+    fn report(&mut self, node: u64) -> Result<(), Fail> {
+        let package = Vec::from_slice(self.alloc, PACKAGE)?;
+        Ok(self.list.push(WorldEvent::Report { node, package })?)
+    }
+
+    fn ask(&mut self, node: u64, query: &[u8]) -> Result<(), Fail> {
+        let package = Vec::from_slice(self.alloc, PACKAGE)?;
+        let query = Vec::from_slice(self.alloc, query)?;
+        Ok(
+            self.list.push(WorldEvent::Ask {
+                node,
+                package,
+                query,
+            })?,
+        )
+    }
+
+    // What happens to nodes over these keepers.
+    fn shown<K: Keep + Drop>(&self, keepers: Vec<K>) -> Result<Transcript<K>, Fail> {
+        replay(self.alloc, keepers, &self.list).map_err(|_| Fail::new("the replay ended"))
+    }
+}
+
+// The lines of a transcript.
+fn printed<K: Drop>(alloc: Global, transcript: &Transcript<K>) -> Result<Vec<u8>, Fail> {
+    let mut text = Vec::new(alloc);
+    transcript.write(&mut text)?;
+    Ok(text)
+}
+
+// So many keepers that hold nothing.
+fn empty_keepers(alloc: Global, count: u64) -> Result<Vec<ListKeep>, Fail> {
+    let mut keepers = Vec::new(alloc);
+    for _ in 0..count {
+        keepers.push(ListKeep::new(alloc))?;
+    }
+    Ok(keepers)
+}
+
+#[test]
+fn a_world_has_1_to_16_nodes(rt: HostRuntime) -> Result<(), Fail> {
+    for count in [0, 17, 100] {
+        let keepers = empty_keepers(rt.alloc(), count)?;
+        let refused = matches!(replay(rt.alloc(), keepers, &[]), Err(ReplayFault::Nodes));
+        assert!(rt; refused, "{count}");
+    }
+    for count in [1, 16] {
+        let mut events = Events::new(rt.alloc());
+        events.report(count)?;
+        events.report(count + 1)?;
+        let shown = events.shown(empty_keepers(rt.alloc(), count)?)?;
+        assert_eq!(rt;
+            printed(rt.alloc(), &shown)?.as_slice(),
+            b"none\nrefused NoNode\n".as_slice(),
+            "{count}"
+        );
+        assert_eq!(rt; shown.into_keepers().len() as u64, count, "{count}");
+    }
+    Ok(())
+}
+
+#[test]
+fn a_node_starts_on_a_keeper_that_holds_nothing(rt: HostRuntime) -> Result<(), Fail> {
+    let alloc = rt.alloc();
+    let file = january_file(alloc)?;
+    let rows = [
+        (1_u64, record_of(alloc, JANUARY, 10, State::Staged, &[])?),
+        (
+            2,
+            record_of(alloc, JANUARY, 10, State::Staged, &[(2, b"23")])?,
+        ),
+        (
+            3,
+            record_of(alloc, JANUARY, 205, State::Active, &[(0, &file)])?,
+        ),
+        // A record that no feed ever keeps.
+        (
+            2,
+            record_of(alloc, JANUARY, 10, State::Active, &[(2, b"23")])?,
+        ),
+    ];
+    for (number, record) in rows {
+        let records = Vec::from_array(alloc, [record])?;
+        let given = listed(alloc, &records)?;
+        let mut keepers = empty_keepers(alloc, number.saturating_sub(1))?;
+        keepers.push(ListKeep::of(alloc, records))?;
+        keepers.push(ListKeep::new(alloc))?;
+        let Err(ReplayFault::Start { node, mut keeper }) = replay(alloc, keepers, &[]) else {
+            return Err(Fail::new("the replay began"));
+        };
+        assert_eq!(rt; node as u64, number);
+        assert_eq!(rt;
+            content_of(alloc, &mut keeper)?.as_slice(),
+            given.as_slice(),
+            "{number}"
+        );
+    }
+    Ok(())
+}
+
+#[test]
+fn a_node_does_not_start_where_the_device_fails(rt: HostRuntime) -> Result<(), Fail> {
+    let keepers = [
+        Failing::after_commits(rt.alloc(), 0),
+        Failing::at_load(rt.alloc(), 0),
+    ];
+    let keepers = Vec::from_array(rt.alloc(), keepers)?;
+    let Err(ReplayFault::Start { node, mut keeper }) = replay(rt.alloc(), keepers, &[]) else {
+        return Err(Fail::new("the replay began"));
+    };
+    assert_eq!(rt; node, 2);
+    assert_eq!(rt; keeper.failures(), 1);
+    assert_eq!(rt;
+        content_of(rt.alloc(), &mut keeper)?.as_slice(),
+        b"".as_slice()
+    );
+    Ok(())
+}
+
+#[test]
+fn each_line_is_printed(rt: HostRuntime) -> Result<(), Fail> {
+    let alloc = rt.alloc();
+    let mut events = Events::new(alloc);
+    events.publish(JANUARY, &january_file(alloc)?)?;
+    events.publish(JANUARY, &january_file(alloc)?)?;
+    events.publish(JANUARY, b"x")?;
+    events.publish(FEBRUARY, &february_file(alloc)?)?;
+    events.publish(MARCH, HEADER_WITHOUT_URL)?;
+    events.publish("Acme_Global_All_2024-04-01.txt", b"")?;
+    events.report(1)?;
+    events.ask(1, b"rft.issn=2434561x")?;
+    events.ask(1, b"rft.issn=2434561")?;
+    events.offer(1, JANUARY)?;
+    events.offer(1, JANUARY)?;
+    events.offer(1, "Acme_Global_All_2024-05-01.txt")?;
+    events.deliver(1, JANUARY, 100, 105)?;
+    events.deliver(1, JANUARY, 199, 6)?;
+    events.deliver(1, JANUARY, 205, 0)?;
+    events.lose(1, JANUARY)?;
+    events.restart(1)?;
+    events.stop_before_offer(1, FEBRUARY)?;
+    events.deliver(1, FEBRUARY, 0, 243)?;
+    events.deliver(1, JANUARY, 0, 151)?;
+    events.report(1)?;
+    events.ask(1, b"rft.issn=2434561x")?;
+    events.ask(1, b"rft.issn=2434561x&ctx_ver=Z39.88-2003")?;
+    events.offer(1, MARCH)?;
+    events.deliver(1, MARCH, 0, 141)?;
+    events.offer(1, "Acme_Global_All_2024-04-01.txt")?;
+    events.report(1)?;
+    events.offer(1, FEBRUARY)?;
+    events.stop_after_delivery(1, FEBRUARY, 0, 243)?;
+    events.offer(1, JANUARY)?;
+    events.ask(1, b"rft.eissn=0317-8471")?;
+    events.restart(0)?;
+    let shown = events.shown(empty_keepers(alloc, 1)?)?;
+    let text: &[u8] = b"published
+published
+refused Republished
+published
+published
+published
+none
+refused NoRelease
+refused NoIssn
+noted
+known
+refused Unpublished
+stored missing 100
+repeated
+refused BadPiece
+nothing
+restarted
+stopped
+refused Unknown
+activated
+active Acme_Global_All_2024-01-01.txt
+release Acme_Global_All_2024-01-01.txt hits 1
+2\tuntested\tActa\thttp://a.example/\t\t\t\t
+refused Version
+noted
+broken MissingLabel title_url
+broken NoHeader
+active Acme_Global_All_2024-01-01.txt
+noted
+stopped
+older
+release Acme_Global_All_2024-02-01.txt hits 1
+3\tuntested\tBeta\thttp://b.example/\t\t\t\t
+refused NoNode
+";
+    assert_eq!(rt; printed(alloc, &shown)?.as_slice(), text);
+    Ok(())
+}
+
+#[test]
+fn a_transcript_has_a_line_for_each_event(rt: HostRuntime) -> Result<(), Fail> {
+    let mut events = Events::new(rt.alloc());
+    events.publish(JANUARY, &january_file(rt.alloc())?)?;
+    events.offer(1, JANUARY)?;
+    events.deliver(1, JANUARY, 0, 205)?;
+    events.report(1)?;
+    events.report(2)?;
+    let shown = events.shown(empty_keepers(rt.alloc(), 1)?)?;
+    let as_expected = match shown.lines() {
+        [
+            Line::Published,
+            Line::Replied(Reply::Noted),
+            Line::Replied(Reply::Activated),
+            Line::Active(name),
+            Line::Refused(Why::NoNode),
+        ] => name.text() == JANUARY.as_bytes(),
+        _ => false,
+    };
+    assert!(rt; as_expected);
+    // The writer is full at each place in turn.
+    let text = printed(rt.alloc(), &shown)?;
+    for room in 0..text.len() {
+        let mut written = vec![in rt.alloc(); 0; room]?;
+        let mut writer = written.as_mut_slice();
+        assert_eq!(rt; shown.write(&mut writer), Err(WriteFault::Write), "{room}");
+    }
+    Ok(())
+}
+
+#[test]
+fn events_that_name_what_is_not_there_are_refused(rt: HostRuntime) -> Result<(), Fail> {
+    let mut events = Events::new(rt.alloc());
+    events.publish(JANUARY, &january_file(rt.alloc())?)?;
+    events.offer(3, JANUARY)?;
+    events.deliver(1, JANUARY, 200, 6)?;
+    events.deliver(1, JANUARY, 0, 205)?;
+    events.deliver(1, JANUARY, u64::MAX, 1)?;
+    // The node is judged first, then the name, then the slice.
+    events.deliver(0, MARCH, 0, 1)?;
+    events.deliver(2, MARCH, 0, 1)?;
+    events.lose(2, MARCH)?;
+    events.stop_before_offer(3, MARCH)?;
+    events.stop_before_offer(2, MARCH)?;
+    events.stop_after_delivery(2, JANUARY, 205, 1)?;
+    events.restart(3)?;
+    events.report(3)?;
+    events.ask(3, b"")?;
+    let shown = events.shown(empty_keepers(rt.alloc(), 2)?)?;
+    let text: &[u8] = b"published
+refused NoNode
+refused NoSlice
+refused Unknown
+refused NoSlice
+refused NoNode
+refused Unpublished
+refused Unpublished
+refused NoNode
+refused Unpublished
+refused NoSlice
+refused NoNode
+refused NoNode
+refused NoNode
+";
+    assert_eq!(rt; printed(rt.alloc(), &shown)?.as_slice(), text);
+    let kept = shown.into_keepers();
+    assert_eq!(rt; kept.len(), 2);
+    for mut keeper in kept {
+        assert_eq!(rt; keeper.failures(), 0);
+        assert_eq!(rt;
+            content_of(rt.alloc(), &mut keeper)?.as_slice(),
+            b"".as_slice()
+        );
+    }
+    Ok(())
+}
+
+#[test]
+fn each_node_hands_back_what_it_keeps(rt: HostRuntime) -> Result<(), Fail> {
+    let alloc = rt.alloc();
+    let file = january_file(alloc)?;
+    let later_file = february_file(alloc)?;
+    let mut events = Events::new(alloc);
+    events.publish(JANUARY, &file)?;
+    events.publish(FEBRUARY, &later_file)?;
+    events.publish(MARCH, HEADER_WITHOUT_URL)?;
+    events.offer(1, JANUARY)?;
+    events.deliver(1, JANUARY, 0, 205)?;
+    events.offer(1, FEBRUARY)?;
+    events.deliver(1, FEBRUARY, 0, 151)?;
+    events.restart(1)?;
+    events.offer(1, MARCH)?;
+    events.offer(3, JANUARY)?;
+    events.deliver(3, JANUARY, 0, 151)?;
+    events.offer(3, MARCH)?;
+    events.deliver(3, MARCH, 0, 141)?;
+    events.offer(3, FEBRUARY)?;
+    events.stop_after_delivery(3, FEBRUARY, 0, 243)?;
+    let first = [
+        record_of(alloc, JANUARY, 205, State::Active, &[(0, &file)])?,
+        record_of(alloc, FEBRUARY, 243, State::Staged, &[(0, HEADER)])?,
+        record_of(alloc, MARCH, 141, State::Staged, &[])?,
+    ];
+    let third = [
+        record_of(alloc, FEBRUARY, 243, State::Active, &[(0, &later_file)])?,
+        record_of(alloc, MARCH, 141, State::Broken, &[(0, HEADER_WITHOUT_URL)])?,
+    ];
+    let expected = [
+        listed(alloc, &first)?,
+        Vec::new(alloc),
+        listed(alloc, &third)?,
+    ];
+    let kept = events.shown(empty_keepers(alloc, 3)?)?.into_keepers();
+    assert_eq!(rt; kept.len(), 3);
+    for (mut keeper, content) in kept.into_iter().zip(expected) {
+        assert_eq!(rt;
+            content_of(alloc, &mut keeper)?.as_slice(),
+            content.as_slice()
+        );
+    }
+    Ok(())
+}
+
+#[test]
+fn a_failing_device_is_told_and_keeps_nothing(rt: HostRuntime) -> Result<(), Fail> {
+    let alloc = rt.alloc();
+    let mut events = Events::new(alloc);
+    events.publish(JANUARY, &january_file(alloc)?)?;
+    events.offer(1, JANUARY)?;
+    events.deliver(1, JANUARY, 0, 100)?;
+    events.deliver(1, JANUARY, 100, 105)?;
+    events.report(1)?;
+    events.ask(1, b"rft.issn=2434561x")?;
+    let keepers = Vec::from_array(alloc, [Failing::after_commits(alloc, 1)])?;
+    let shown = events.shown(keepers)?;
+    let text: &[u8] = b"published
+noted
+refused Device
+refused Device
+none
+refused NoRelease
+";
+    assert_eq!(rt; printed(alloc, &shown)?.as_slice(), text);
+    let record = record_of(alloc, JANUARY, 205, State::Staged, &[])?;
+    let expected = listed(alloc, &[record])?;
+    let kept = shown.into_keepers();
+    assert_eq!(rt; kept.len(), 1);
+    for mut keeper in kept {
+        assert_eq!(rt; keeper.failures(), 2);
+        assert_eq!(rt;
+            content_of(alloc, &mut keeper)?.as_slice(),
+            expected.as_slice()
+        );
+    }
+    Ok(())
+}
+
+#[test]
+fn a_node_is_down_until_a_restart_succeeds(rt: HostRuntime) -> Result<(), Fail> {
+    let mut events = Events::new(rt.alloc());
+    events.publish(JANUARY, &january_file(rt.alloc())?)?;
+    events.offer(1, JANUARY)?;
+    events.restart(1)?;
+    events.report(1)?;
+    events.lose(1, JANUARY)?;
+    events.restart(1)?;
+    events.report(1)?;
+    events.offer(1, JANUARY)?;
+    let keepers = Vec::from_array(rt.alloc(), [Failing::at_load(rt.alloc(), 1)])?;
+    let shown = events.shown(keepers)?;
+    let text: &[u8] = b"published
+noted
+down Device
+refused Down
+refused Down
+restarted
+none
+known
+";
+    assert_eq!(rt; printed(rt.alloc(), &shown)?.as_slice(), text);
+    Ok(())
+}
+
+#[test]
+fn a_node_that_was_down_has_what_it_kept(rt: HostRuntime) -> Result<(), Fail> {
+    let alloc = rt.alloc();
+    let mut events = Events::new(alloc);
+    events.publish(JANUARY, &january_file(alloc)?)?;
+    events.publish(FEBRUARY, &february_file(alloc)?)?;
+    for node in [1, 2] {
+        events.offer(node, JANUARY)?;
+        events.deliver(node, JANUARY, 0, 205)?;
+        events.offer(node, FEBRUARY)?;
+    }
+    // The first node goes down in its reopening after a stop that keeps the file, and the other one stays up.
+    events.stop_after_delivery(1, FEBRUARY, 0, 243)?;
+    events.offer(1, FEBRUARY)?;
+    events.deliver(1, FEBRUARY, 0, 243)?;
+    events.lose(1, FEBRUARY)?;
+    events.stop_before_offer(1, FEBRUARY)?;
+    events.stop_after_delivery(1, FEBRUARY, 0, 243)?;
+    events.report(1)?;
+    events.ask(1, b"")?;
+    events.offer(1, MARCH)?;
+    events.deliver(1, FEBRUARY, 0, 244)?;
+    events.report(2)?;
+    events.restart(1)?;
+    events.report(1)?;
+    events.deliver(1, FEBRUARY, 0, 243)?;
+    events.ask(1, b"rft.eissn=0317-8471")?;
+    let keepers = [
+        Failing::at_load(alloc, 1),
+        Failing::after_commits(alloc, u64::MAX),
+    ];
+    let shown = events.shown(Vec::from_array(alloc, keepers)?)?;
+    let text: &[u8] = b"published
+published
+noted
+activated
+noted
+noted
+activated
+noted
+down Device
+refused Down
+refused Down
+refused Down
+refused Down
+refused Down
+refused Down
+refused Down
+refused Unpublished
+refused NoSlice
+active Acme_Global_All_2024-01-01.txt
+restarted
+active Acme_Global_All_2024-02-01.txt
+repeated
+release Acme_Global_All_2024-02-01.txt hits 1
+3\tuntested\tBeta\thttp://b.example/\t\t\t\t
+";
+    assert_eq!(rt; printed(alloc, &shown)?.as_slice(), text);
+    Ok(())
+}
+
+#[test]
+fn a_node_that_is_down_hands_back_its_keeper(rt: HostRuntime) -> Result<(), Fail> {
+    let alloc = rt.alloc();
+    let file = january_file(alloc)?;
+    let mut events = Events::new(alloc);
+    events.publish(JANUARY, &file)?;
+    events.offer(1, JANUARY)?;
+    events.deliver(1, JANUARY, 0, 205)?;
+    events.stop_before_offer(1, JANUARY)?;
+    let keepers = Vec::from_array(alloc, [Failing::at_load(alloc, 1)])?;
+    let shown = events.shown(keepers)?;
+    let text: &[u8] = b"published\nnoted\nactivated\ndown Device\n";
+    assert_eq!(rt; printed(alloc, &shown)?.as_slice(), text);
+    let record = record_of(alloc, JANUARY, 205, State::Active, &[(0, &file)])?;
+    let expected = listed(alloc, &[record])?;
+    let mut kept = shown.into_keepers();
+    assert_eq!(rt; kept.len(), 1);
+    for keeper in &mut kept {
+        assert_eq!(rt; keeper.failures(), 1);
+        assert_eq!(rt; content_of(alloc, keeper)?.as_slice(), expected.as_slice());
+    }
+    Ok(())
+}

@@ -1,0 +1,4 @@
+mod Records
+mod Twice
+mod Arranged
+pub mod Failed

@@ -1,0 +1,41 @@
+-- Records in another order.
+use Rattle.std.specs.Prelude.{◌≡◌, ◌++◌, List, [], ◌∷◌, map, IsPermutation}
+use Rattle.feed_model.specs.declared.state.State.{State}
+use Rattle.feed_model.specs.Content.{Part, Record, Content}
+use Rattle.feed_model.specs.Change.{merged}
+use Rattle.feed_keep.specs.declared.list_keep.ListKeep.{ListKeep}
+use Rattle.feed_keep.specs.Shown.{shown}
+
+-- the record with its parts in order: those that begin at one place stay as they stood
+abbrev pub ordered_record : Record → Record
+ordered_record r = record { name = r.name; size = r.size; state = r.state; parts = merged [] r.parts }
+
+-- the same records, each with its parts in order
+abbrev pub ordered : Content → Content
+ordered rs = map ordered_record rs
+
+-- the content of a list in memory
+abbrev pub content_of_list : ListKeep → Content
+content_of_list keeper = ordered (shown keeper.records.items)
+
+-- the record with these parts behind its own, and this state
+abbrev pub lengthened : List Part → State → Record → Record
+lengthened ps state r = record { name = r.name; size = r.size; state = state; parts = r.parts ++ ps }
+
+-- the same record, with its parts in another order
+pub record IsSame (r s : Record) : Type 0 where
+  pub name : s.name ≡ r.name
+  pub size : s.size ≡ r.size
+  pub state : s.state ≡ r.state
+  pub parts : IsPermutation r.parts s.parts
+
+-- one after another
+abbrev pub AreSame : Content → Content → Type 0
+AreSame [] [] = Unit {0}
+AreSame (r ∷ rs) (s ∷ ss) = IsSame r s × AreSame rs ss
+AreSame [] (s ∷ ss) = ⊥
+AreSame (r ∷ rs) [] = ⊥
+
+-- the records and the parts of each in another order, and nothing else
+abbrev pub IsArranged : Content → Content → Type 0
+IsArranged given kept = (moved : Content) × IsPermutation given moved × AreSame moved kept

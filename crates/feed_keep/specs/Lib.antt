@@ -1,0 +1,5 @@
+pub use Rattle.feed_model.specs.Content
+pub use Rattle.feed_model.specs.Change
+pub mod Shown
+pub mod Cause
+pub mod Arranged

@@ -1,0 +1,96 @@
+ghost use Rattle.std.specs.Prelude.{◌≡◌, ℕ, Err, IfOk, OnOk, OnErr, IsErrOf};
+ghost use Rattle.std.specs.List.{IsDistinct};
+ghost use Rattle.feed_names.specs.ReleaseName.{name_eq};
+ghost use Rattle.feed_model.specs.Content.{Content, names};
+ghost use Rattle.feed_model.specs.Change.{after, IsAllowed};
+ghost use Rattle.feed_keep.specs.Shown.{shown, shown_change};
+ghost use Rattle.feed_keep.specs.Cause.{IsCounted};
+
+use crate::record::Record;
+use feed_model::{KeepFault, State};
+use feed_names::ReleaseName;
+use feed_parts::Part;
+use std::alloc::Global;
+
+/// A feed records at most this many releases, of all packages together.
+pub const RELEASE_LIMIT: usize = 256;
+
+/// A change of what is kept, made whole or not at all. Parts are in order, disjoint from one another and from the kept
+/// ones, and each has 1 to `PIECE_LIMIT` bytes.
+#[derive(Clone, Copy)]
+pub enum Change<'a> {
+    /// A new record without parts: staged, or broken where the size is 0.
+    Add {
+        name: &'a ReleaseName,
+        size: u64,
+    },
+    /// More parts of a staged release, which is not whole with them.
+    Pieces {
+        name: &'a ReleaseName,
+        parts: &'a [Part],
+    },
+    /// The last parts of a staged release whose file is bad.
+    Break {
+        name: &'a ReleaseName,
+        parts: &'a [Part],
+    },
+    /// The last parts of a staged release whose file is good. The package's records of earlier days go.
+    Activate {
+        name: &'a ReleaseName,
+        parts: &'a [Part],
+    },
+}
+
+impl<'a> Change<'a> {
+    ghost use Rattle.feed_parts.specs.Shown.{shown_parts};
+    ghost use Rattle.feed_keep.specs.Shown.{change_to};
+
+    /// The change that adds parts to a release and gives it this state.
+    pub fn to(state: State, name: &'a ReleaseName, parts: &'a [Part]) -> Change<'a>
+        ensures { shown_change result ≡ change_to state name.now (shown_parts parts.now) }
+    {
+        match state {
+            State::Staged => Change::Pieces { name, parts },
+            State::Broken => Change::Break { name, parts },
+            State::Active => Change::Activate { name, parts },
+        }
+    }
+}
+
+/// What keeps the records of a feed from one run of its node to the next.
+///
+/// Its content is what was committed. What a call says of the content holds where the keeper is `clean` as the call
+/// ends, and then it was clean as the call began: memory always is, a file while nobody else writes it and the disk
+/// gives back what was written.
+pub trait Keep {
+    /// The records: one for each name, in the store of a feed.
+    ghost content: { Self → Content };
+
+    ghost clean: { Self → Type 0 };
+
+    /// How often the device has failed.
+    ghost failed: { Self → ℕ };
+
+    /// How often the device has failed; it stays at its greatest value.
+    fn failures(&self) -> u64
+        ensures { result ≡ failed self.now };
+
+    /// All records, ordered by the texts of their names, each with its parts ordered by their first places. `Damaged`
+    /// where the store holds no list of records, one for each name.
+    fn load(&mut self, alloc: Global) -> Result<Vec<Record>, KeepFault>
+        ensures records { IfOk result (λ records. clean self.new → shown records.items ≡ content self.old) }
+        ensures distinct { IfOk result (λ records. IsDistinct name_eq (names (shown records.items))) }
+        ensures damaged { IsErrOf result KeepFault.Damaged → clean self.new → ¬ (IsDistinct name_eq (names (content self.old))) }
+        ensures same { clean self.new → content self.new ≡ content self.old }
+        ensures clean { clean self.new → clean self.old }
+        ensures device { IsCounted (result ≡ Err KeepFault.Device) (failed self.old) (failed self.new) };
+
+    /// Makes the whole change, or refuses and changes nothing. It never answers `Damaged`.
+    fn commit(&mut self, change: &Change<'_>) -> Result<(), KeepFault>
+        requires allowed { clean self.old → IsAllowed (shown_change change.now) (content self.old) }
+        ensures made { OnOk result (clean self.new → content self.new ≡ after (shown_change change.now) (content self.old)) }
+        ensures refused { OnErr result (clean self.new → content self.new ≡ content self.old) }
+        ensures clean { clean self.new → clean self.old }
+        ensures undamaged { ¬ (IsErrOf result KeepFault.Damaged) }
+        ensures device { IsCounted (result ≡ Err KeepFault.Device) (failed self.old) (failed self.new) };
+}

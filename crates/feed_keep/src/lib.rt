@@ -1,0 +1,15 @@
+//! What keeps the releases of a feed from one run of its node to the next: the records, the changes that are made to
+//! them, what a keeper promises, and the plain keeper in memory.
+#![tactic(auto)]
+
+mod keep;
+mod list_keep;
+mod name_order;
+mod record;
+
+pub use feed_model::{KeepFault, State};
+pub use feed_parts::Part;
+pub use keep::{Change, Keep, RELEASE_LIMIT};
+pub use list_keep::ListKeep;
+pub use name_order::{is_before, stands_before};
+pub use record::Record;

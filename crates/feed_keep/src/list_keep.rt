@@ -1,0 +1,204 @@
+ghost use Rattle.std.specs.Prelude.{◌≡◌, ◌↔◌, false, ◌≤◌, [], Some, None, IfOk, IfSome, IfNone, OnOk, OnErr, length, insert, not, IsPermutation};
+ghost use Rattle.std.specs.List.{IsDistinct};
+ghost use Rattle.feed_names.specs.ReleaseName.{name_eq};
+ghost use Rattle.feed_model.specs.Content.{names, record_of};
+ghost use Rattle.feed_model.specs.Change.{changed, insert_record, is_earlier, new_record, without_earlier};
+ghost use Rattle.feed_parts.specs.Shown.{shown_parts};
+ghost use Rattle.feed_keep.specs.Arranged.{IsArranged, content_of_list, lengthened, ordered};
+ghost use Rattle.feed_keep.specs.Shown.{shown, shown_record, IsRecordAt};
+
+use crate::keep::{Change, Keep};
+use crate::name_order::{is_before, stands_before};
+use crate::record::Record;
+use feed_model::{KeepFault, State};
+use feed_names::ReleaseName;
+use feed_parts::{Part, copied, copied_in_order};
+use std::alloc::{AllocError, Global};
+
+/// The plain keeper: the records in memory, ordered by the texts of their names, each with its parts as they came. They
+/// are put in order as they are loaded. It has no device that fails.
+#[derive(Drop)]
+pub struct ListKeep {
+    alloc: Global,
+    records: Vec<Record>,
+}
+
+impl ListKeep {
+    /// A keeper of no records. It takes no memory.
+    pub fn new(alloc: Global) -> ListKeep
+        ensures { content_of_list result ≡ [] }
+    {
+        ListKeep {
+            alloc,
+            records: Vec::new(alloc),
+        }
+    }
+
+    /// A keeper of these records, which it puts in order. It takes no memory. Where a name stands twice, `load` answers
+    /// `Damaged`.
+    pub fn of(alloc: Global, records: Vec<Record>) -> ListKeep
+        ensures { IsArranged (shown records.items) (content_of_list result) }
+    {
+        let mut records = records;
+        sort_by_name(&mut records);
+        ListKeep { alloc, records }
+    }
+}
+
+impl Keep for ListKeep {
+    ghost content = { content_of_list };
+
+    ghost clean = { λ _. Unit {0} };
+
+    ghost failed = { λ _. 0 };
+
+    fn failures(&self) -> u64 {
+        0
+    }
+
+    fn load(&mut self, alloc: Global) -> Result<Vec<Record>, KeepFault> {
+        if has_twice(&self.records) {
+            return Err(KeepFault::Damaged);
+        }
+        match copied_records(alloc, &self.records) {
+            Ok(records) => Ok(records),
+            Err(_) => Err(KeepFault::Memory),
+        }
+    }
+
+    fn commit(&mut self, change: &Change<'_>) -> Result<(), KeepFault> {
+        let done = match change {
+            Change::Add { name, size } => add(self.alloc, &mut self.records, name, *size),
+            Change::Pieces { name, parts } => {
+                grow(self.alloc, &mut self.records, name, parts, State::Staged)
+            }
+            Change::Break { name, parts } => {
+                grow(self.alloc, &mut self.records, name, parts, State::Broken)
+            }
+            Change::Activate { name, parts } => {
+                activate(self.alloc, &mut self.records, name, parts)
+            }
+        };
+        match done {
+            Ok(()) => Ok(()),
+            Err(_) => Err(KeepFault::Memory),
+        }
+    }
+}
+
+fn add(
+    alloc: Global,
+    records: &mut Vec<Record>,
+    name: &ReleaseName,
+    size: u64,
+) -> Result<(), AllocError>
+    ensures ok { OnOk result (shown records.new.items ≡ insert_record (new_record name.now size) (shown records.old.items)) }
+    ensures err { OnErr result (shown records.new.items ≡ shown records.old.items) }
+{
+    let at = place_for(records, name);
+    records.insert(at, Record::new(alloc, name.try_clone()?, size))?;
+    Ok(())
+}
+
+fn grow(
+    alloc: Global,
+    records: &mut Vec<Record>,
+    name: &ReleaseName,
+    parts: &[Part],
+    state: State,
+) -> Result<(), AllocError>
+    ensures ok { OnOk result (shown records.new.items ≡ changed name.now (lengthened (shown_parts parts.now) state) (shown records.old.items)) }
+    ensures err { OnErr result (shown records.new.items ≡ shown records.old.items) }
+{
+    let Some(at) = find_record(records, name) else {
+        return Ok(());
+    };
+    let mut new = copied(alloc, parts)?;
+    let record = &mut records[at];
+    record.parts.append(&mut new)?;
+    record.state = state;
+    Ok(())
+}
+
+fn activate(
+    alloc: Global,
+    records: &mut Vec<Record>,
+    name: &ReleaseName,
+    parts: &[Part],
+) -> Result<(), AllocError>
+    ensures ok { OnOk result (shown records.new.items ≡ without_earlier name.now (changed name.now (lengthened (shown_parts parts.now) State.Active) (shown records.old.items))) }
+    ensures err { OnErr result (shown records.new.items ≡ shown records.old.items) }
+{
+    grow(alloc, records, name, parts, State::Active)?;
+    drop_earlier(records, name);
+    Ok(())
+}
+
+fn drop_earlier(records: &mut Vec<Record>, name: &ReleaseName)
+    ensures { shown records.new.items ≡ without_earlier name.now (shown records.old.items) }
+{
+    records.retain(
+        |record: &Record| -> bool
+            ensures { result ≡ not (is_earlier record.now.name name.entry.now) }
+        { !is_before(&record.name, name) },
+    );
+}
+
+fn find_record(records: &[Record], name: &ReleaseName) -> Option<usize>
+    ensures found { IfSome result (λ i. IsRecordAt records.now name.now i) }
+    ensures none { IfNone result (record_of (shown records.now) name.now ≡ None) }
+{
+    for (at, record) in records.iter().enumerate() {
+        if record.name == *name {
+            return Some(at);
+        }
+    }
+    None
+}
+
+fn place_for(records: &[Record], name: &ReleaseName) -> usize
+    ensures within { result ≤ length records.now }
+    ensures place { (r : _) → (shown_record r).name ≡ name.now → shown (insert records.now result r) ≡ insert_record (shown_record r) (shown records.now) }
+{
+    for (at, record) in records.iter().enumerate() {
+        if !stands_before(&record.name, name) {
+            return at;
+        }
+    }
+    records.len()
+}
+
+fn sort_by_name(records: &mut Vec<Record>)
+    ensures { IsPermutation records.old.items records.new.items }
+{
+    records.sort_unstable_by(|one, other| one.name.text().cmp(other.name.text()));
+}
+
+// Whether a name stands twice.
+fn has_twice(records: &[Record]) -> bool
+    ensures { result ≡ false ↔ IsDistinct name_eq (names (shown records.now)) }
+{
+    for (at, record) in records.iter().enumerate() {
+        if let Some(_) = find_record(&records[..at], &record.name) {
+            return true;
+        }
+    }
+    false
+}
+
+// The records once more, each with its parts in order.
+fn copied_records(alloc: Global, records: &[Record]) -> Result<Vec<Record>, AllocError>
+    ensures { IfOk result (λ copy. shown copy.items ≡ ordered (shown records.now)) }
+{
+    let mut copy = Vec::with_capacity(alloc, records.len())?;
+    for record in records {
+        let record = Record {
+            name: record.name.try_clone()?,
+            size: record.size,
+            state: record.state,
+            parts: copied_in_order(alloc, &record.parts)?,
+        };
+        copy.push(record)?;
+    }
+    Ok(copy)
+}

@@ -1,0 +1,69 @@
+-- Answers of a feed that change nothing, and what is known of a piece that brings new bytes.
+use Rattle.std.proofs.Common.{◌≡◌, ◌≢◌, ◌⊎◌, ◌≤◌, ◌<◌, ◌+◌, ℕ, Some, Result, Ok, Err, OnErr, IfSome, IsSomeAnd, inl, inr, refl, sym, ap, subst, arith, List, Option, None, length}
+use Rattle.std.proofs.lemmas.Bool.Decides.{eqb_tells}
+use Rattle.feed_names.specs.ReleaseName.{Name}
+use Rattle.feed_model.specs.declared.reply.Refusal.{Refusal}
+use Rattle.feed_model.specs.declared.reply.Refusal.TheVariants.{Memory, Device}
+use Rattle.feed_model.specs.declared.reply.Reply.{Reply}
+use Rattle.feed_model.specs.History.{Event, Answer}
+use Rattle.feed_model.specs.Content.{Record, Content, record_of}
+use Rattle.feed_model.specs.Change.{NoneIsLater}
+use Rattle.feed_model.specs.Parts.{IsSmall, Reaches}
+use Rattle.feed_model.specs.Handles.{Handles}
+use Rattle.feed_keep.specs.Cause.{IsCounted}
+use Rattle.feed_keep.specs.declared.keep.Keep.{Ghosts}
+use Rattle.feed_releases.specs.declared.feed.Feed.{Feed}
+use Rattle.feed_releases.specs.Feeds.{IsAnsweredBy, keeper_of, releases_of, recorded}
+
+-- what holds anyway holds after an error
+pub on_err : (a : Answer) (P : Type 0) → P → OnErr a P
+on_err (Ok x) P p = tt
+on_err (Err e) P p = p
+
+-- an answer that changes nothing, and tells no fault of the device
+pub idle : {K : Type 0} {k : Ghosts K} (old new : Feed K k) (event : Event) (answer : Answer) → keeper_of new ≡ keeper_of old → releases_of new ≡ releases_of old → answer ≢ Err Device → Handles (recorded old) event answer (recorded old) → IsAnsweredBy old new event answer
+idle {K} {k} old new event answer keeper same other right = record {
+  right = rw same right;
+  refused = on_err answer _ same;
+  clean = λ clean. subst k.clean keeper clean;
+  device = record { rises = subst (λ (x : K). k.failed (keeper_of old) ≤ k.failed x) (sym keeper) (omega arith); failed = λ e. absurd (other e); stays = λ _. ap k.failed keeper };
+}
+
+-- a refusal of what commits
+pub refused_with : {K : Type 0} {k : Ghosts K} (old new : Feed K k) (event : Event) (refusal : Refusal) → releases_of new ≡ releases_of old → (k.clean (keeper_of new) → k.clean (keeper_of old))
+    → IsCounted (let a : Answer = Err refusal in a ≡ Err Device) (k.failed (keeper_of old)) (k.failed (keeper_of new)) → Handles (recorded old) event (Err refusal) (recorded old) → IsAnsweredBy old new event (Err refusal)
+refused_with old new event refusal same clean counted right = record { right = rw same right; refused = same; clean = clean; device = counted }
+
+-- an answer that commits
+pub taken_in : {K : Type 0} {k : Ghosts K} (old new : Feed K k) (event : Event) (reply : Reply) → (k.clean (keeper_of new) → k.clean (keeper_of old))
+    → IsCounted (let a : Answer = Ok reply in a ≡ Err Device) (k.failed (keeper_of old)) (k.failed (keeper_of new)) → Handles (recorded old) event (Ok reply) (recorded new) → IsAnsweredBy old new event (Ok reply)
+taken_in old new event reply clean counted right = record { right = right; refused = tt; clean = clean; device = counted }
+
+-- an error that is want of memory
+pub only_memory : {T : Type 0} (refusal : Refusal) → (let r : Result T Refusal = Err refusal in r ≡ Err Memory) → refusal ≡ Memory
+only_memory refusal e = cc
+
+-- no other answer is the fault of the device
+pub ok_not : (reply : Reply) → (let a : Answer = Ok reply in a ≢ Err Device)
+ok_not reply e = cc
+
+pub memory_not : let a : Answer = Err Memory in a ≢ Err Device
+memory_not e = cc
+
+-- want of memory, or a fault of the device
+pub refused : (r : Refusal) → (r ≡ Memory) ⊎ (r ≡ Device) → (let a : Answer = Err r in a ≡ Err Memory) ⊎ (let a : Answer = Err r in a ≡ Err Device)
+refused r (inl e) = inl (ap Err e)
+refused r (inr e) = inr (ap Err e)
+
+-- a total that is no other size is this size
+pub sized : (total : Option ℕ) (size : ℕ) → ¬ (IsSomeAnd total (λ t. t ≢ size)) → IfSome total (λ t. t ≡ size)
+sized None size same = tt
+sized (Some t) size same = elim (eqb_tells t size) [ inl p ↦ p.1 | inr q ↦ absurd (same q.1) ]
+
+-- the piece is one of a recorded release, and inside of its file
+pub reaches : (c : Content) (n : Name) (first : ℕ) (total : Option ℕ) (bytes : List ℕ) (r : Record) → IsSmall bytes → NoneIsLater c n → record_of c n ≡ Some r → ¬ (IsSomeAnd total (λ t. t ≢ r.size)) → ¬ (r.size < first + length bytes) → Reaches c n first total bytes r
+reaches c n first total bytes r small free found same inside = record { small = small; free = free; found = found; sized = sized total r.size same; within = omega (arith, inside) }
+
+-- a record that is found is the one that was found before
+pub one_record : (o : Option Record) (r x : Record) (P : Record → Type 0) → o ≡ Some r → o ≡ Some x → P r → P x
+one_record o r x P first second p = let same : r ≡ x = cc in subst P same p

@@ -1,0 +1,9 @@
+mod Finding
+mod Growth
+mod Growing
+mod Judged
+mod NextRange
+mod Answered
+mod Answering
+mod Reopened
+mod Failed

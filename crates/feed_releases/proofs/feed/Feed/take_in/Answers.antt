@@ -1,0 +1,114 @@
+use Rattle.std.proofs.Common.{◌≡◌, ◌≢◌, List, Ok, Err, inl, refl, sym, ◌∙◌, ap, arith, set}
+use Rattle.std.proofs.lemmas.Result.{err_from_is_err_and}
+use Rattle.feed_model.specs.declared.reply.Refusal.TheVariants.{Memory}
+use Rattle.feed_model.specs.Change.{after, without_earlier}
+use Rattle.feed_model.proofs.Pieces.{piece_refused}
+use Rattle.feed_keep.proofs.Failed.{told_as}
+use Rattle.feed_releases.specs.ReleaseValue.{ReleaseValue, content_of}
+use Rattle.feed_releases.specs.Growth.{change_of, parts_of, reply_of, state_of}
+use Rattle.feed_releases.proofs.Answering.{idle, memory_not, only_memory, refused, refused_with, taken_in}
+use Rattle.feed_releases.proofs.Growth.{found_here, grown_at, length-set, name_at, one_at, set_back}
+use Rattle.feed_releases.proofs.Growing.{growth_right, growth_allowed, after_activated, after_kept}
+use Rattle.feed_releases.proofs.feed.Feed.take_in.Goals as goal
+
+pub growth-requires-clause-inside : goal.growth-requires-clause-inside
+growth-requires-clause-inside g c =
+    (c.requires.reaches c.index.result.now.kept (found_here c.args.self.now.releases.items c.args.name.now c.args.at c.index.result.now c.requires.place c.index.ensures)).within
+
+pub growth-requires-clause-piece : goal.growth-requires-clause-piece
+growth-requires-clause-piece g c =
+    (c.requires.reaches c.index.result.now.kept (found_here c.args.self.now.releases.items c.args.name.now c.args.at c.index.result.now c.requires.place c.index.ensures)).small.most
+
+pub growth-requires-clause-new : goal.growth-requires-clause-new
+growth-requires-clause-new g c = c.requires.new c.index.result.now.kept (found_here c.args.self.now.releases.items c.args.name.now c.args.at c.index.result.now c.requires.place c.index.ensures)
+
+pub returns-in_err-growth : goal.returns-in_err-growth
+returns-in_err-growth g c =
+    let rs = c.args.self.now.releases.items in
+    let n = c.args.name.now in
+    let r = c.index.result.now in
+    let found = found_here rs n c.args.at r c.requires.place c.index.ensures in
+    let reach = c.requires.reaches r.kept found in
+    let lies = c.requires.new r.kept found in
+    let p = err_from_is_err_and c.from_residual.result c.from_residual.ensures.1 in
+    let memory = only_memory _ c.in_err-growth.ensures.refused in
+    rw (p.1, p.2, memory) (idle c.args.self.now _ _ _ refl refl memory_not (piece_refused (content_of rs) n c.args.first c.args.total c.args.bytes.now r.kept _ reach lies.0 lies.1 (inl refl)))
+
+pub grow-requires-clause-allowed : goal.grow-requires-clause-allowed
+grow-requires-clause-allowed g c =
+    let rs = c.args.self.now.releases.items in
+    let n = c.args.name.now in
+    let r = c.index_mut.result.now in
+    let found = found_here rs n c.args.at r c.requires.place c.index_mut.ensures.value in
+    let same = one_at rs c.args.at c.index.result.now r c.requires.place.within c.index.ensures c.index_mut.ensures.value in
+    λ clean. rw (c.args.self.now.mirrors clean) (growth_allowed (content_of rs) n c.args.first c.args.total c.args.bytes.now r.kept c.in_ok-growth.growth (name_at rs n c.args.at r c.requires.place c.index_mut.ensures.value)
+    (c.requires.reaches r.kept found) (c.requires.new r.kept found) (rw same at c.in_ok-growth.ensures.growth))
+
+pub returns-in_err-reply : goal.returns-in_err-reply
+returns-in_err-reply g c =
+    let rs = c.args.self.now.releases.items in
+    let n = c.args.name.now in
+    let r = c.index_mut.result.now in
+    let found = found_here rs n c.args.at r c.requires.place c.index_mut.ensures.value in
+    let reach = c.requires.reaches r.kept found in
+    let lies = c.requires.new r.kept found in
+    let back = set_back rs c.args.at r c.grow.new.self c.index_mut.ensures.value c.in_err-reply.ensures.same in
+    let p = err_from_is_err_and c.from_residual-in_err-reply.result c.from_residual-in_err-reply.ensures.1 in
+    rw (p.1, p.2) (refused_with c.args.self.now _ _ c.in_err-reply.field-0.0 back c.in_err-reply.ensures.committed.was (told_as c.in_err-reply.ensures.committed.counted (λ e. cc) (λ e. cc))
+    (piece_refused (content_of rs) n c.args.first c.args.total c.args.bytes.now r.kept _ reach lies.0 lies.1 (refused c.in_err-reply.field-0.0 c.in_err-reply.ensures.committed.fault)))
+
+pub invariant_of-self-in-Activated-clause-mirrors : goal.invariant_of-self-in-Activated-clause-mirrors
+invariant_of-self-in-Activated-clause-mirrors g c = λ clean.
+    let rs = c.args.self.now.releases.items in
+    let n = c.args.name.now in
+    let r = c.index_mut.result.now in
+    let growth = c.in_ok-growth.growth in
+    let grown = grown_at rs n c.args.at r c.grow.new.self (parts_of growth) (state_of growth.standing) c.requires.place c.index_mut.ensures.value (ap (λ (y : ReleaseValue). y.kept) c.in_ok-reply.ensures.taken) in
+    c.in_ok-reply.ensures.committed.made clean ∙ ap (after (change_of r.kept growth)) (c.args.self.now.mirrors (c.in_ok-reply.ensures.committed.was clean))
+    ∙ after_activated n r.kept growth (content_of rs) (name_at rs n c.args.at r c.requires.place c.index_mut.ensures.value) (sym c.in_ok-reply.ensures.reply ∙ c.in-Activated.is)
+    ∙ sym (c.drop_earlier.ensures.dropped ∙ ap (without_earlier n) grown)
+
+pub invariant_of-self-in-Activated-clause-few : goal.invariant_of-self-in-Activated-clause-few
+invariant_of-self-in-Activated-clause-few g c =
+    omega (arith, c.drop_earlier.ensures.fewer, length-set c.args.self.now.releases.items c.args.at c.grow.new.self, c.args.self.now.few)
+
+pub invariant_of-self-in_default-clause-mirrors : goal.invariant_of-self-in_default-clause-mirrors
+invariant_of-self-in_default-clause-mirrors g c = λ clean.
+    let rs = c.args.self.now.releases.items in
+    let n = c.args.name.now in
+    let r = c.index_mut.result.now in
+    let growth = c.in_ok-growth.growth in
+    let grown = grown_at rs n c.args.at r c.grow.new.self (parts_of growth) (state_of growth.standing) c.requires.place c.index_mut.ensures.value (ap (λ (y : ReleaseValue). y.kept) c.in_ok-reply.ensures.taken) in
+    c.in_ok-reply.ensures.committed.made clean ∙ ap (after (change_of r.kept growth)) (c.args.self.now.mirrors (c.in_ok-reply.ensures.committed.was clean))
+    ∙ after_kept n r.kept growth (content_of rs) (name_at rs n c.args.at r c.requires.place c.index_mut.ensures.value) (λ e. c.in_default.not-Activated (c.in_ok-reply.ensures.reply ∙ e)) ∙ sym grown
+
+pub invariant_of-self-in_default-clause-few : goal.invariant_of-self-in_default-clause-few
+invariant_of-self-in_default-clause-few g c = omega (arith, length-set c.args.self.now.releases.items c.args.at c.grow.new.self, c.args.self.now.few)
+
+pub returns-in-Activated : goal.returns-in-Activated
+returns-in-Activated g c =
+    let rs = c.args.self.now.releases.items in
+    let n = c.args.name.now in
+    let r = c.index_mut.result.now in
+    let growth = c.in_ok-growth.growth in
+    let found = found_here rs n c.args.at r c.requires.place c.index_mut.ensures.value in
+    let name = name_at rs n c.args.at r c.requires.place c.index_mut.ensures.value in
+    let same = one_at rs c.args.at c.index.result.now r c.requires.place.within c.index.ensures c.index_mut.ensures.value in
+    let grown = grown_at rs n c.args.at r c.grow.new.self (parts_of growth) (state_of growth.standing) c.requires.place c.index_mut.ensures.value (ap (λ (y : ReleaseValue). y.kept) c.in_ok-reply.ensures.taken) in
+    let content = c.drop_earlier.ensures.dropped ∙ ap (without_earlier n) grown ∙ sym (after_activated n r.kept growth (content_of rs) name (sym c.in_ok-reply.ensures.reply ∙ c.in-Activated.is)) in
+    rw c.in_ok-reply.ensures.reply (taken_in c.args.self.now _ _ _ c.in_ok-reply.ensures.committed.was (told_as c.in_ok-reply.ensures.committed.counted (λ e. cc) (λ e. cc))
+    (rw content (growth_right (content_of rs) n c.args.first c.args.total c.args.bytes.now r.kept growth name (c.requires.reaches r.kept found) (c.requires.new r.kept found) (rw same at c.in_ok-growth.ensures.growth))))
+
+pub returns-in_default : goal.returns-in_default
+returns-in_default g c =
+    let rs = c.args.self.now.releases.items in
+    let n = c.args.name.now in
+    let r = c.index_mut.result.now in
+    let growth = c.in_ok-growth.growth in
+    let found = found_here rs n c.args.at r c.requires.place c.index_mut.ensures.value in
+    let name = name_at rs n c.args.at r c.requires.place c.index_mut.ensures.value in
+    let same = one_at rs c.args.at c.index.result.now r c.requires.place.within c.index.ensures c.index_mut.ensures.value in
+    let grown = grown_at rs n c.args.at r c.grow.new.self (parts_of growth) (state_of growth.standing) c.requires.place c.index_mut.ensures.value (ap (λ (y : ReleaseValue). y.kept) c.in_ok-reply.ensures.taken) in
+    let content = grown ∙ sym (after_kept n r.kept growth (content_of rs) name (λ e. c.in_default.not-Activated (c.in_ok-reply.ensures.reply ∙ e))) in
+    rw c.in_ok-reply.ensures.reply (taken_in c.args.self.now _ _ _ c.in_ok-reply.ensures.committed.was (told_as c.in_ok-reply.ensures.committed.counted (λ e. cc) (λ e. cc))
+    (rw content (growth_right (content_of rs) n c.args.first c.args.total c.args.bytes.now r.kept growth name (c.requires.reaches r.kept found) (c.requires.new r.kept found) (rw same at c.in_ok-growth.ensures.growth))))

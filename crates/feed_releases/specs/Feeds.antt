@@ -1,0 +1,29 @@
+-- What is seen of a feed, and how it answers an event.
+use Rattle.std.specs.Prelude.{◌≡◌, List, Err, OnErr}
+use Rattle.feed_model.specs.declared.reply.Refusal.TheVariants.{Device}
+use Rattle.feed_model.specs.History.{Event, Answer}
+use Rattle.feed_model.specs.Content.{Content}
+use Rattle.feed_model.specs.Handles.{Handles}
+use Rattle.feed_keep.specs.Cause.{IsCounted}
+use Rattle.feed_keep.specs.declared.keep.Keep.{Ghosts}
+use Rattle.feed_releases.specs.declared.feed.Feed.{Feed}
+use Rattle.feed_releases.specs.ReleaseValue.{ReleaseValue, content_of}
+
+-- its keeper
+abbrev pub keeper_of : {K : Type 0} {k : Ghosts K} → Feed K k → K
+keeper_of feed = feed.keeper
+
+-- its releases in memory
+abbrev pub releases_of : {K : Type 0} {k : Ghosts K} → Feed K k → List ReleaseValue
+releases_of feed = feed.releases.items
+
+-- the content that its releases in memory are
+abbrev pub recorded : {K : Type 0} {k : Ghosts K} → Feed K k → Content
+recorded feed = content_of (releases_of feed)
+
+-- the answer is right after whatever history the feed stands at, and the feed then stands at the longer one; after a refusal its releases are as before; its keeper was clean if it is; and a fault of the device is told just where it failed
+pub record IsAnsweredBy {K : Type 0} {k : Ghosts K} (old new : Feed K k) (event : Event) (answer : Answer) : Type 0 where
+  pub right : Handles (recorded old) event answer (recorded new)
+  pub refused : OnErr answer (releases_of new ≡ releases_of old)
+  pub clean : k.clean (keeper_of new) → k.clean (keeper_of old)
+  pub device : IsCounted (answer ≡ Err Device) (k.failed (keeper_of old)) (k.failed (keeper_of new))

@@ -1,0 +1,12 @@
+pub use Rattle.feed_model.specs.History
+pub use Rattle.feed_model.specs.Reply
+pub use Rattle.feed_model.specs.Handles
+pub use Rattle.feed_model.specs.Sound
+pub use Rattle.feed_keep.specs.Cause
+pub mod Told
+pub mod ReleaseValue
+pub mod NextRange
+pub mod Answered
+pub mod Feeds
+pub mod Growth
+pub mod Committed

@@ -1,0 +1,72 @@
+-- What is seen of a recorded release.
+use Rattle.std.specs.Prelude.{◌≡◌, ◌≢◌, ◌<◌, ◌≤◌, ℕ, true, false, List, Option, Some, None, IsSome, Result, Ok, Err, map, length, slice_index_or}
+use Rattle.feed_names.specs.ReleaseName.{Name, name_eq, IsEarlier}
+use Rattle.feed_kbart.specs.HoldingsValue.{HoldingsValue}
+use Rattle.feed_kbart.specs.Files.{holdings_of}
+use Rattle.feed_kbart.specs.declared.fault.KbartFault.{KbartFault}
+use Rattle.feed_kbart.specs.declared.fault.KbartFault.TheVariants.{Bad}
+use Rattle.feed_model.specs.File.{fault_of}
+use Rattle.feed_model.specs.Reply.{max_file, missing_below}
+use Rattle.feed_model.specs.Content.{Part, Record, Content, byte_in}
+use Rattle.feed_model.specs.Sound.{IsText}
+use Rattle.feed_model.specs.declared.state.State.{State}
+use Rattle.feed_model.specs.declared.state.State.TheVariants.{Staged, Broken, Active}
+use Rattle.feed_model.specs.Parts.{DiffersIn, AgreesIn, HasNew, Covers}
+use Rattle.feed_parts.specs.Piece.{AreWithin}
+use Rattle.feed_releases.specs.declared.overlap.Overlap.{Overlap}
+use Rattle.feed_releases.specs.declared.overlap.Overlap.TheVariants.{Conflict, Kept, New}
+
+-- its record, and what its file holds if it is active
+pub record ReleaseValue : Type 0 where
+  pub kept : Record
+  pub holdings : Option HoldingsValue
+
+-- what is known of the file: of an active release that it is good, and its holdings; of a broken one that it is bad
+abbrev pub IsKnown : State → ℕ → List Part → Option HoldingsValue → Type 0
+IsKnown Staged size parts holdings = holdings ≡ None
+IsKnown Broken size parts holdings = (text : List ℕ) × IsText size parts text × (fault_of text ≢ None) × (holdings ≡ None)
+IsKnown Active size parts holdings = (text : List ℕ) × IsText size parts text × (fault_of text ≡ None) × (holdings ≡ Some (holdings_of text))
+
+-- the parts lie inside the file, which is within the limit; so many places are missing; and it is staged just while some are
+pub record IsRelease (kept : Record) (missing : ℕ) (holdings : Option HoldingsValue) : Type 0 where
+  pub within : AreWithin kept.size kept.parts
+  pub limit : kept.size ≤ max_file
+  pub counted : missing ≡ missing_below (byte_in kept.parts) kept.size
+  pub staged : kept.state ≡ Staged → 0 < missing
+  pub whole : kept.state ≢ Staged → missing ≡ 0
+  pub known : IsKnown kept.state kept.size kept.parts holdings
+
+-- the records of releases
+abbrev pub content_of : List ReleaseValue → Content
+content_of releases = map (λ r. r.kept) releases
+
+-- the first release of the name stands at this place
+pub record IsPlaceOf (releases : List ReleaseValue) (n : Name) (i : ℕ) : Type 0 where
+  pub within : i < length releases
+  pub here : (d : ReleaseValue) → name_eq (slice_index_or releases i d).kept.name n ≡ true
+  pub before : (k : ℕ) (d : ReleaseValue) → k < i → name_eq (slice_index_or releases k d).kept.name n ≡ false
+
+-- an active release that is later than the name, in its package
+abbrev pub IsActiveAfter : Name → ReleaseValue → Type 0
+IsActiveAfter n r = (r.kept.state ≡ Active) × IsEarlier n r.kept.name
+
+-- an active release of the package
+abbrev pub IsActiveOf : List ℕ → ReleaseValue → Type 0
+IsActiveOf stem r = (r.kept.state ≡ Active) × (r.kept.name.stem ≡ stem)
+
+-- how a piece lies over what is kept of a release
+abbrev pub LiesOver : Record → ℕ → List ℕ → Overlap → Type 0
+LiesOver r first bytes Conflict = DiffersIn r.parts first bytes
+LiesOver r first bytes Kept = AgreesIn r.parts first bytes × Covers r.parts first bytes
+LiesOver r first bytes New = AgreesIn r.parts first bytes × HasNew r.parts first bytes × (r.state ≡ Staged)
+
+-- the parts lie inside the file, and no place of it is missing
+pub record IsFull (size : ℕ) (parts : List Part) : Type 0 where
+  pub within : AreWithin size parts
+  pub every : (place : ℕ) → place < size → IsSome (byte_in parts place)
+
+-- what whole parts are judged as, unless memory is short
+abbrev pub IsJudged : ℕ → List Part → Result HoldingsValue KbartFault → Type 0
+IsJudged size parts (Ok holdings) = (text : List ℕ) × IsText size parts text × (fault_of text ≡ None) × (holdings ≡ holdings_of text)
+IsJudged size parts (Err (Bad why)) = (text : List ℕ) × IsText size parts text × (fault_of text ≡ Some why)
+IsJudged size parts (Err fault) = Unit {0}

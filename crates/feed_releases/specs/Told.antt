@@ -1,0 +1,10 @@
+-- What an event tells a feed.
+use Rattle.feed_model.specs.History.{Event, Offered, Piece, Lost}
+use Rattle.feed_releases.specs.declared.event.Event as code_event
+use Rattle.feed_releases.specs.declared.event.Event.TheVariants as events
+
+-- the event of the model that an event of the code is
+abbrev pub told : code_event.Event → Event
+told (events.Offered n size) = Offered n.now size
+told (events.Piece n first total bytes) = Piece n.now first total bytes.now
+told (events.Lost n) = Lost n.now

@@ -1,0 +1,18 @@
+ghost use Rattle.feed_model.specs.Change.{IsAllowed};
+ghost use Rattle.feed_keep.specs.Shown.{shown_change};
+ghost use Rattle.feed_releases.specs.Committed.{IsCommitted};
+
+use feed_keep::{Change, Keep};
+use feed_model::{KeepFault, Refusal};
+
+/// Commits a change, and names the fault as a feed does.
+pub(crate) fn commit<K: Keep>(keeper: &mut K, change: &Change<'_>) -> Result<(), Refusal>
+    requires allowed { K.clean keeper.old → IsAllowed (shown_change change.now) (K.content keeper.old) }
+    ensures committed { IsCommitted K.clean K.content K.failed (shown_change change.now) keeper.old keeper.new result }
+{
+    match keeper.commit(change) {
+        Ok(()) => Ok(()),
+        Err(KeepFault::Device) => Err(Refusal::Device),
+        Err(_) => Err(Refusal::Memory),
+    }
+}

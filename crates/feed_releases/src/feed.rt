@@ -1,0 +1,211 @@
+ghost use Rattle.std.specs.Prelude.{◌≡◌, ◌≤◌, length};
+ghost use Rattle.feed_model.specs.Reply.{max_held};
+ghost use Rattle.feed_releases.specs.ReleaseValue.{content_of};
+
+mod offer;
+mod piece;
+mod reopen;
+
+use crate::event::Event;
+use crate::feed::reopen::reopened;
+use crate::release::Release;
+use crate::releases::{active_of, find};
+use feed_answer::{Answer, Query};
+use feed_keep::Keep;
+use feed_model::{KeepFault, Refusal, Reply};
+use feed_names::ReleaseName;
+use std::alloc::{AllocError, Global};
+use thiserror::Error;
+
+/// Why a feed could not be opened, with the keeper as it was.
+#[derive(Drop)]
+pub struct OpenFault<K: Drop> {
+    pub cause: KeepFault,
+    pub keeper: K,
+}
+
+/// Why a feed gives no answer.
+#[derive(Clone, Copy, Debug, PartialEq, Eq, Error)]
+pub enum AnswerFault {
+    /// The package has no whole and good release.
+    #[error("NoRelease")]
+    NoRelease,
+    /// Want of memory.
+    #[error("Memory")]
+    Memory,
+}
+
+/// Where in an event a feed stops.
+#[derive(Clone, Copy, Debug, PartialEq, Eq)]
+pub enum Point {
+    /// Before its commit.
+    Before,
+    /// After its commit, and before its answer.
+    After,
+}
+
+/// The feed of a node over its keeper.
+#[derive(Drop)]
+pub struct Feed<K: Keep + Drop> {
+    alloc: Global,
+    keeper: K,
+    releases: Vec<Release>,
+    ghost mirrors: { K.clean keeper → K.content keeper ≡ content_of releases.items },
+    ghost few: { length releases.items ≤ max_held },
+}
+
+impl<K: Keep + Drop> Feed<K> {
+    ghost use Rattle.std.specs.Prelude.{◌≢◌, ◌↔◌, ◌∷◌, [], Err, map, IfOk, IfErr, OnErr, IsTrue, option_map};
+    ghost use Rattle.std.specs.List.{Contains};
+    ghost use Rattle.feed_model.specs.History.{Answer as event_answer, History, Reports};
+    ghost use Rattle.feed_model.specs.Reply.{IsRight, gone_on};
+    ghost use Rattle.feed_model.specs.Sound.{IsSound};
+    ghost use Rattle.feed_model.specs.Content.{IsContent};
+    ghost use Rattle.feed_model.specs.Handles.{Handles};
+    ghost use Rattle.feed_releases.specs.Answered.{IsAnswered};
+    ghost use Rattle.feed_releases.specs.NextRange.{IsNextRange};
+    ghost use Rattle.feed_releases.specs.Told.{told};
+    ghost use Rattle.feed_keep.specs.Cause.{HasFailedSince, IsCounted};
+    ghost use Rattle.feed_releases.specs.Feeds.{keeper_of, recorded, releases_of};
+
+    /// Opens a feed on what a keeper holds. `Damaged` where this is nothing that a feed ever keeps: a name that stands
+    /// twice, more than 256 releases, a size above the limit of a file, parts that are empty, above the limit of a
+    /// piece, out of order or outside of the file, a release beside a later active one of its package, or a state that
+    /// its file does not bear out. The file of each whole release is read once.
+    pub fn open(alloc: Global, mut keeper: K) -> Result<Feed<K>, OpenFault<K>>
+        ensures content { IfOk result (λ feed. K.clean (keeper_of feed) → recorded feed ≡ K.content keeper) }
+        ensures sound { IfOk result (λ feed. IsSound (recorded feed)) }
+        ensures clean { IfOk result (λ feed. K.clean (keeper_of feed) → K.clean keeper) }
+        ensures counted { IfOk result (λ feed. K.failed (keeper_of feed) ≡ K.failed keeper) }
+        ensures damaged { IfErr result (λ fault. fault.cause ≡ KeepFault.Damaged → K.clean fault.keeper → ¬ (IsSound (K.content keeper))) }
+        ensures legal { IfErr result (λ fault. K.clean fault.keeper → (h : History) → IsContent (K.content keeper) h → fault.cause ≢ KeepFault.Damaged) }
+        ensures kept { IfErr result (λ fault. K.clean fault.keeper → K.content fault.keeper ≡ K.content keeper) }
+        ensures kept_clean { IfErr result (λ fault. K.clean fault.keeper → K.clean keeper) }
+        ensures device { IfErr result (λ fault. IsCounted (fault.cause ≡ KeepFault.Device) (K.failed keeper) (K.failed fault.keeper)) }
+    {
+        let records = match keeper.load(alloc) {
+            Ok(records) => records,
+            Err(cause) => return Err(OpenFault { cause, keeper }),
+        };
+        match reopened(alloc, records) {
+            Ok(releases) => Ok(Feed {
+                alloc,
+                keeper,
+                releases,
+            }),
+            Err(cause) => Err(OpenFault { cause, keeper }),
+        }
+    }
+
+    /// Takes one event. Whatever history the feed stands at, the answer is right after it, and the feed then stands at
+    /// the history with the event and the answer added. After a refusal the feed is as before.
+    pub fn handle(&mut self, event: &Event<'_>) -> Result<Reply, Refusal>
+        ensures right { Handles (recorded self.old) (told event.now) result (recorded self.new) }
+        ensures refused { OnErr result (releases_of self.new ≡ releases_of self.old) }
+        ensures clean { K.clean (keeper_of self.new) → K.clean (keeper_of self.old) }
+        ensures device { IsCounted (result ≡ Err Refusal.Device) (K.failed (keeper_of self.old)) (K.failed (keeper_of self.new)) }
+    {
+        match event {
+            Event::Offered { name, size } => self.offer(name, *size),
+            Event::Piece {
+                name,
+                first,
+                total,
+                bytes,
+            } => self.piece(name, *first, *total, bytes),
+            Event::Lost { name: _ } => Ok(Reply::Nothing),
+        }
+    }
+
+    /// Takes the events in order. Each answer is right after the history and the answers before it. Where there is no
+    /// memory for the list of answers, no event was taken.
+    pub fn run(&mut self, events: &[Event<'_>]) -> Result<Vec<Result<Reply, Refusal>>, AllocError>
+        ensures right { IfOk result (λ answers. (h : History) → IsContent (recorded self.old) h → IsContent (recorded self.new) (gone_on h (map told events.now) answers.items)) }
+        ensures count { IfOk result (λ answers. length answers.items ≡ length events.now) }
+        ensures clean { K.clean (keeper_of self.new) → K.clean (keeper_of self.old) }
+        ensures counted { K.failed (keeper_of self.old) ≤ K.failed (keeper_of self.new) }
+        ensures device { IfOk result (λ answers. Contains answers.items (Err Refusal.Device) → HasFailedSince (K.failed (keeper_of self.old)) (K.failed (keeper_of self.new))) }
+        ensures err { OnErr result (self.new ≡ self.old) }
+    {
+        let mut answers = Vec::with_capacity(self.alloc, events.len())?;
+        for event in events {
+            answers.push_reserved(self.handle(event));
+        }
+        Ok(answers)
+    }
+
+    /// The active release of a package: of its whole and good ones, the one with the latest day.
+    pub fn report(&self, package: &[u8]) -> Option<&ReleaseName>
+        ensures { (h : History) → IsContent (recorded self.now) h → Reports h «package».now (option_map (λ name. name.now) result) }
+    {
+        match active_of(&self.releases, package) {
+            Some(at) => Some(self.releases[at].name()),
+            None => None,
+        }
+    }
+
+    /// The first missing places of a release's file, at most `max` of them: the first one and the last one. There are
+    /// none of a release that is not recorded, is whole or is passed.
+    pub fn next_range(&self, name: &ReleaseName, max: u64) -> Option<(u64, u64)>
+        ensures { (h : History) → IsContent (recorded self.now) h → IsNextRange h name.now max result }
+    {
+        match find(&self.releases, name) {
+            Some(at) => self.releases[at].next_range(max),
+            None => None,
+        }
+    }
+
+    /// The rows of a package's active release that match a query: those of its file as a whole.
+    pub fn answer(&self, package: &[u8], query: &Query) -> Result<Answer<'_>, AnswerFault>
+        ensures { (h : History) → IsContent (recorded self.now) h → IsAnswered h «package».now query.now result }
+    {
+        let Some(at) = active_of(&self.releases, package) else {
+            return Err(AnswerFault::NoRelease);
+        };
+        let Some(holdings) = self.releases[at].holdings() else {
+            return Err(AnswerFault::NoRelease);
+        };
+        match holdings.answer(self.alloc, query) {
+            Ok(answer) => Ok(answer),
+            Err(_) => Err(AnswerFault::Memory),
+        }
+    }
+
+    /// Whether no release is recorded.
+    pub fn is_empty(&self) -> bool
+        ensures { IsTrue result ↔ (recorded self.now ≡ []) }
+    {
+        self.releases.is_empty()
+    }
+
+    /// Stops between two events: the keeper, with its content.
+    pub fn restart(self) -> K
+        ensures same { result ≡ keeper_of self }
+        ensures content { K.clean result → K.content result ≡ recorded self }
+    {
+        let Feed {
+            alloc: _,
+            keeper,
+            releases: _,
+        } = self;
+        keeper
+    }
+
+    /// Stops in the middle of an event: the keeper as it was before the commit, or as it is after it. An event that
+    /// commits nothing, or whose commit is refused, leaves it as it was.
+    pub fn stop_at(self, event: &Event<'_>, point: Point) -> K
+        ensures before { point ≡ Point.Before → (result ≡ keeper_of self) × (K.clean result → K.content result ≡ recorded self) }
+        ensures after { point ≡ Point.After → K.clean result → (h : History) → IsContent (recorded self) h → (answer : event_answer) × IsRight h (told event.now) answer × IsContent (K.content result) ((told event.now, answer) ∷ h) }
+        ensures clean { K.clean result → K.clean (keeper_of self) }
+        ensures counted { K.failed (keeper_of self) ≤ K.failed result }
+    {
+        match point {
+            Point::Before => self.restart(),
+            Point::After => {
+                let mut feed = self;
+                let _answer = feed.handle(event);
+                feed.restart()
+            }
+        }
+    }
+}

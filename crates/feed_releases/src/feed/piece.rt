@@ -1,0 +1,104 @@
+//! How a feed answers a piece.
+ghost use Rattle.std.specs.Prelude.{◌≡◌, ◌≢◌, ◌<◌, ◌+◌, ◌⊎◌, ◌↔◌, false, IsTrue, IsSomeAnd, length};
+ghost use Rattle.feed_model.specs.Reply.{max_piece};
+ghost use Rattle.feed_model.specs.Parts.{IsSmall};
+
+use crate::feed::Feed;
+use crate::overlap::Overlap;
+use crate::releases::{drop_earlier, find, is_passed};
+use feed_keep::Keep;
+use feed_model::{Refusal, Reply};
+use feed_names::ReleaseName;
+use feed_parts::PIECE_LIMIT;
+
+impl<K: Keep + Drop> Feed<K> {
+    ghost use Rattle.std.specs.Prelude.{Some};
+    ghost use Rattle.feed_model.specs.History.{Piece};
+    ghost use Rattle.feed_model.specs.Content.{Record, record_of};
+    ghost use Rattle.feed_model.specs.Parts.{Reaches};
+    ghost use Rattle.feed_releases.specs.ReleaseValue.{IsPlaceOf, LiesOver};
+    ghost use Rattle.feed_releases.specs.Feeds.{IsAnsweredBy, recorded, releases_of};
+
+    /// Answers a piece: the first case that holds decides.
+    pub(crate) fn piece(
+        &mut self,
+        name: &ReleaseName,
+        first: u64,
+        total: Option<u64>,
+        bytes: &[u8],
+    ) -> Result<Reply, Refusal>
+        ensures { IsAnsweredBy self.old self.new (Piece name.now first total bytes.now) result }
+    {
+        if !is_fit(bytes) {
+            return Err(Refusal::BadPiece);
+        }
+        if is_passed(&self.releases, name) {
+            return Ok(Reply::Older);
+        }
+        let Some(at) = find(&self.releases, name) else {
+            return Err(Refusal::Unknown);
+        };
+        let release = &self.releases[at];
+        let size = release.size();
+        if is_other(total, size) {
+            return Err(Refusal::WrongSize);
+        }
+        if is_outside(first, bytes.len(), size) {
+            return Err(Refusal::Outside);
+        }
+        match release.overlap(first, bytes) {
+            Overlap::Conflict => Err(Refusal::Conflict),
+            Overlap::Kept => Ok(Reply::Repeated),
+            Overlap::New => self.take_in(name, at, first, total, bytes),
+        }
+    }
+
+    // Keeps the new bytes of a piece, of which there are some. All memory is taken before the commit.
+    fn take_in(
+        &mut self,
+        name: &ReleaseName,
+        at: usize,
+        first: u64,
+        total: Option<u64>,
+        bytes: &[u8],
+    ) -> Result<Reply, Refusal>
+        requires place { IsPlaceOf (releases_of self.old) name.now at }
+        requires reaches { (r : Record) → record_of (recorded self.old) name.now ≡ Some r
+            → Reaches (recorded self.old) name.now first total bytes.now r }
+        requires new { (r : Record) → record_of (recorded self.old) name.now ≡ Some r
+            → LiesOver r first bytes.now Overlap.New }
+        ensures { IsAnsweredBy self.old self.new (Piece name.now first total bytes.now) result }
+    {
+        let growth = self.releases[at].growth(self.alloc, first, bytes)?;
+        let reply = self.releases[at].grow(&mut self.keeper, growth)?;
+        if let Reply::Activated = reply {
+            drop_earlier(&mut self.releases, name);
+        }
+        Ok(reply)
+    }
+}
+
+// Whether a piece has a permitted length.
+fn is_fit(bytes: &[u8]) -> bool
+    ensures fit { IsTrue result → IsSmall bytes.now }
+    ensures unfit { result ≡ false → (length bytes.now ≡ 0) ⊎ (max_piece < length bytes.now) }
+{
+    0 < bytes.len() && bytes.len() <= PIECE_LIMIT
+}
+
+// Whether a total is told, and is another one.
+fn is_other(total: Option<u64>, size: u64) -> bool
+    ensures { IsTrue result ↔ IsSomeAnd total (λ t. t ≢ size) }
+{
+    match total {
+        Some(total) => total != size,
+        None => false,
+    }
+}
+
+// Whether places from `first` on reach past the size.
+fn is_outside(first: u64, count: usize, size: u64) -> bool
+    ensures { IsTrue result ↔ (size < first + count) }
+{
+    first > size || (count as u64) > size - first
+}

@@ -1,0 +1,14 @@
+//! The feed of a node: releases kept in pieces over any keeper, the latest whole and good one of each package reported and
+//! asked.
+#![tactic(auto)]
+
+mod commit;
+mod event;
+mod feed;
+mod overlap;
+mod release;
+mod releases;
+
+pub use event::Event;
+pub use feed::{AnswerFault, Feed, OpenFault, Point};
+pub use feed_model::{Refusal, Reply};

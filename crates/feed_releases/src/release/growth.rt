@@ -1,0 +1,103 @@
+//! What a piece makes of a release, and how the release takes it in.
+ghost use Rattle.std.specs.Prelude.{◌≡◌, ◌≤◌, ◌+◌, ℕ, List, length, IfOk, OnOk, OnErr};
+ghost use Rattle.feed_model.specs.Reply.{max_piece};
+ghost use Rattle.feed_model.specs.Change.{grown, IsAllowed};
+ghost use Rattle.feed_releases.specs.Committed.{IsCommitted};
+ghost use Rattle.feed_releases.specs.ReleaseValue.{LiesOver};
+ghost use Rattle.feed_releases.specs.Growth.{IsGrowth, change_of, parts_of, reply_of, rows_of, state_of};
+
+use crate::commit::commit;
+use crate::overlap::Overlap;
+use crate::release::Release;
+use crate::release::judge::judged;
+use feed_answer::HoldingsIndex;
+use feed_kbart::{BadFile, KbartFault};
+use feed_keep::{Change, Keep};
+use feed_model::{Refusal, Reply, State};
+use feed_parts::{Part, byte_count, merge, new_parts};
+use std::alloc::Global;
+
+/// The new bytes of a piece, a part for each gap; how many places are missing with them; and how the file stands then.
+#[derive(Drop)]
+pub(crate) struct Growth {
+    pub(crate) parts: Vec<Part>,
+    pub(crate) missing: u64,
+    pub(crate) standing: Standing,
+}
+
+/// How a file stands.
+#[derive(Drop)]
+pub(crate) enum Standing {
+    /// Places are missing.
+    Partial,
+    /// It is whole, and bad.
+    Bad(BadFile),
+    /// It is whole and good, and holds this.
+    Good(HoldingsIndex),
+}
+
+impl Release {
+    /// What a piece that brings new bytes makes of the release. Only want of memory refuses it.
+    pub(crate) fn growth(&self, alloc: Global, first: u64, bytes: &[u8]) -> Result<Growth, Refusal>
+        requires inside { first + length bytes.now ≤ self.now.kept.size }
+        requires piece { length bytes.now ≤ max_piece }
+        requires new { LiesOver self.now.kept first bytes.now Overlap.New }
+        ensures growth { IfOk result (IsGrowth self.now.kept first bytes.now) }
+        ensures refused { OnErr result (result ≡ Err Refusal.Memory) }
+    {
+        let Ok(parts) = new_parts(alloc, &self.kept.parts, self.kept.size, first, bytes) else {
+            return Err(Refusal::Memory);
+        };
+        let missing = self
+            .missing
+            .saturating_sub(byte_count(&parts, self.kept.size));
+        let standing = if missing > 0 {
+            Standing::Partial
+        } else {
+            match judged(alloc, &self.kept.parts, &parts) {
+                Ok(holdings) => Standing::Good(holdings),
+                Err(KbartFault::Bad(why)) => Standing::Bad(why),
+                // Parts in memory are within the limit of a file and read to their end, so only memory is left.
+                Err(_) => return Err(Refusal::Memory),
+            }
+        };
+        Ok(Growth {
+            parts,
+            missing,
+            standing,
+        })
+    }
+
+    /// Commits what a piece makes of the release, and then takes it in. All memory is taken before the commit.
+    pub(crate) fn grow<K: Keep>(&mut self, keeper: &mut K, growth: Growth) -> Result<Reply, Refusal>
+        requires growth { (first : ℕ) × (bytes : List ℕ) × IsGrowth self.old.kept first bytes growth }
+        requires allowed { K.clean keeper.old → IsAllowed (change_of self.old.kept growth) (K.content keeper.old) }
+        ensures reply { IfOk result (λ reply. reply ≡ reply_of growth.missing growth.standing) }
+        ensures taken { OnOk result (self.new ≡ record {
+          kept = grown (parts_of growth) (state_of growth.standing) self.old.kept;
+          holdings = rows_of growth.standing;
+        }) }
+        ensures same { OnErr result (self.new ≡ self.old) }
+        ensures committed { IsCommitted K.clean K.content K.failed (change_of self.old.kept growth) keeper.old keeper.new result }
+    {
+        let Growth {
+            parts,
+            missing,
+            standing,
+        } = growth;
+        let Ok(()) = self.kept.parts.reserve(parts.len()) else {
+            return Err(Refusal::Memory);
+        };
+        let (state, reply, holdings) = match standing {
+            Standing::Partial => (State::Staged, Reply::Stored { missing }, None),
+            Standing::Bad(why) => (State::Broken, Reply::Broken(why), None),
+            Standing::Good(holdings) => (State::Active, Reply::Activated, Some(holdings)),
+        };
+        commit(keeper, &Change::to(state, &self.kept.name, &parts))?;
+        merge(&mut self.kept.parts, parts);
+        self.kept.state = state;
+        self.missing = missing;
+        self.holdings = holdings;
+        Ok(reply)
+    }
+}
