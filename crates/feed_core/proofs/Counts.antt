@@ -1,5 +1,5 @@
 -- How often the devices of nodes failed, over a step and over a run.
-use Rattle.std.proofs.Common.{◌≡◌, ◌<◌, ◌≤◌, ◌+◌, ◌++◌, ℕ, zero, suc, List, [], ◌∷◌, length, map, take, get_or, slice_set, Some, ◌⊎◌, inl, inr, sym, subst, length-take, arith}
+use Rattle.std.proofs.Common.{◌≡◌, ◌<◌, ◌≤◌, ◌+◌, ◌++◌, ℕ, zero, suc, Bool, List, [], ◌∷◌, length, map, take, get_or, slice_set, Some, Result, Err, ◌⊎◌, inl, inr, sym, ◌∙◌, ap, subst, length-take, arith}
 use Rattle.std.proofs.lemmas.List.{take_more, length-map}
 use Rattle.feed_model.specs.declared.keep_fault.KeepFault.{KeepFault}
 use Rattle.feed_model.specs.declared.keep_fault.KeepFault.TheVariants as causes
@@ -11,6 +11,8 @@ use Rattle.feed_world.specs.World.{WorldEvent, Line, IsDown, Refused, Replied, R
 use Rattle.feed_keep.specs.Cause.{HasFailed, HasFailedSince}
 use Rattle.feed_core.specs.Counts.{AreCounted, IsToldOf, TellsDevice, node_of}
 use Rattle.feed_keep.proofs.Failed.{failed_since, failed_before, failed_later}
+use Rattle.feed_model.specs.History.{History}
+use Rattle.feed_core.specs.Step.{IsAway}
 use Rattle.feed_core.proofs.Going.{AreOf}
 use Rattle.feed_core.proofs.Shows.{map-push}
 
@@ -78,6 +80,12 @@ no_node_not t = let e = tells_refused NoNode t in absurd (cc)
 
 pub down_not : ¬ (TellsDevice (Refused Down))
 down_not t = let e = tells_refused Down t in absurd (cc)
+
+-- why nothing happens at a node is no fault of its device, unless that is what arrived
+pub away_not : {M T : Type 0} (stands : M → Bool → History → Type 0) (xs : List M) (node : ℕ) (arrived : Result T Why) (reason : Why) → (arrived ≡ Err (Feed refusals.Device) → ⊥) → IsAway stands xs node arrived reason → ¬ (TellsDevice (Refused reason))
+away_not stands xs node arrived reason sent (inl none) told = no_node_not (subst (λ (r : Why). TellsDevice (Refused r)) none.0 told)
+away_not stands xs node arrived reason sent (inr (inl away)) told = sent (away.told ∙ ap Err (tells_refused reason told))
+away_not stands xs node arrived reason sent (inr (inr down)) told = down_not (subst (λ (r : Why). TellsDevice (Refused r)) down.0 told)
 
 -- nothing changes
 pub counted_stay : {M : Type 0} (failed : M → ℕ) (xs : List M) (node : ℕ) (line : Line) → ¬ (TellsDevice line) → AreCounted (λ i. (i ≡ node) × TellsDevice line) failed failed 1 xs xs

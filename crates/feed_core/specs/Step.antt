@@ -1,5 +1,5 @@
 -- What a step makes of the nodes and files of the code, and what it shows of those of a world.
-use Rattle.std.specs.Prelude.{◌≡◌, ℕ, Bool, List, [], ◌∷◌, option_map, slice_get, suc, slice_set, slice_index_or, Option, Some}
+use Rattle.std.specs.Prelude.{◌≡◌, ◌<◌, ◌⊎◌, ℕ, Bool, true, false, length, Result, Ok, Err, List, [], ◌∷◌, option_map, slice_get, suc, slice_set, slice_index_or, Option, Some}
 use Rattle.std.specs.Borrow.{Bor}
 use Rattle.std.specs.Map.{lookup}
 use Rattle.std.specs.BTreeMap.{is_at}
@@ -12,6 +12,8 @@ use Rattle.feed_keep.specs.Cause.{HasFailed}
 use Rattle.feed_core.specs.Nodes.{IsStartRefused}
 use Rattle.feed_core.specs.declared.world.ReplayFault.{ReplayFault}
 use Rattle.feed_core.specs.declared.world.ReplayFault.TheVariants as faults
+use Rattle.feed_world.specs.declared.line.Why as why
+use Rattle.feed_world.specs.declared.line.Why.TheVariants as whys
 use Rattle.feed_world.specs.World.{World, Node, WorldEvent, Line, Shelf, Happens, Shows, start, text_of}
 
 -- the content of each keeper is promised
@@ -34,6 +36,34 @@ pub record Changes {M : Type 0} (clean : M → Type 0) (law : M → M → Type 0
   pub now : new ≡ slice_set old at after
   pub still : clean after → clean before
   pub goes : law before after
+
+-- the node of this number is at this place, and up
+pub record IsReady {M : Type 0} (stands : M → Bool → History → Type 0) (nodes : List M) (node at : ℕ) : Type 0 where
+  pub number : node ≡ suc at
+  pub within : at < length nodes
+  pub up : (x : M) → x ≡ slice_index_or nodes at x → (up : Bool) (h : History) → stands x up h → up ≡ true
+
+-- there is a node of this number, and what arrives is this reason why nothing does
+pub record IsTurnedAway {M T : Type 0} (nodes : List M) (node : ℕ) (arrived : Result T why.Why) (reason : why.Why) : Type 0 where
+  pub at : ℕ
+  pub number : node ≡ suc at
+  pub within : at < length nodes
+  pub told : arrived ≡ Err reason
+
+-- there is a node of this number, and it is down
+pub record IsNotUp {M T : Type 0} (stands : M → Bool → History → Type 0) (nodes : List M) (node : ℕ) (arrived : Result T why.Why) : Type 0 where
+  pub at : ℕ
+  pub number : node ≡ suc at
+  pub within : at < length nodes
+  pub what : T
+  pub came : arrived ≡ Ok what
+  pub up : (x : M) → x ≡ slice_index_or nodes at x → (up : Bool) (h : History) → stands x up h → up ≡ false
+
+-- why nothing happens at a node: there is none of this number, nothing arrives, or it is down
+abbrev pub IsAway : {M T : Type 0} → (M → Bool → History → Type 0) → List M → ℕ → Result T why.Why → why.Why → Type 0
+IsAway stands nodes node arrived reason =
+    ((reason ≡ whys.NoNode) × ((node ≡ 0) ⊎ (length nodes < node)))
+    ⊎ (IsTurnedAway nodes node arrived reason ⊎ ((reason ≡ whys.Down) × IsNotUp stands nodes node arrived))
 
 -- Where all nodes are clean now, they were clean, and from each world at which they stood, and whose published files fit, the event may be shown by this line, and leave a world at which they stand.
 abbrev pub Goes : {M : Type 0} → (M → Type 0) → (M → Bool → History → Type 0) → (Shelf → Type 0) → List M → List M → WorldEvent → Line → Type 0

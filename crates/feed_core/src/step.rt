@@ -1,5 +1,5 @@
 //! What a world makes of one event at one node.
-ghost use Rattle.std.specs.Prelude.{◌≡◌, ◌≢◌, ◌+◌, ◌<◌, ◌≤◌, ◌⊎◌, ◌∷◌, Bool, true, Err, IfOk, IfSome, IfNone, insert, length, vec_len, vec_capacity};
+ghost use Rattle.std.specs.Prelude.{◌≡◌, ◌≢◌, ◌+◌, ◌<◌, ◌≤◌, ◌⊎◌, ◌∷◌, Bool, true, Ok, Err, IfOk, IfErr, IfSome, IfNone, insert, length, vec_len, vec_capacity};
 ghost use Rattle.feed_model.specs.History.{History, Answer};
 ghost use Rattle.feed_model.specs.Reply.{IsRight};
 ghost use Rattle.feed_world.specs.World.{Sent as sent, Tell, Restart, StopBefore, StopAfter, Report, Ask, arriving};
@@ -8,7 +8,7 @@ ghost use Rattle.feed_keep.specs.Cause.{HasCounted};
 ghost use Rattle.feed_core.specs.Counts.{AreCounted, TellsDevice};
 ghost use Rattle.feed_releases.specs.Told.{told};
 ghost use Rattle.feed_core.specs.Nodes.{Comes, shown_arrived};
-ghost use Rattle.feed_core.specs.Step.{Changes, Goes};
+ghost use Rattle.feed_core.specs.Step.{Changes, Goes, IsAway, IsReady};
 
 use crate::node::Node;
 use feed_model::{KeepFault, Refusal};
@@ -16,7 +16,7 @@ use feed_releases::Event;
 use feed_world::{Line, Why};
 use std::alloc::{AllocError, Global};
 
-/// The place of the node of a number.
+// The place of the node of a number.
 fn place(count: usize, node: u64) -> Option<usize>
     ensures found { IfSome result (λ at. (node ≡ at + 1) × (at < count)) }
     ensures none { IfNone result ((node ≡ 0) ⊎ (count < node)) }
@@ -27,6 +27,26 @@ fn place(count: usize, node: u64) -> Option<usize>
     } else {
         None
     }
+}
+
+// The place of the node of a number that is up, with what arrives at it; or why nothing happens there, the first of these
+// that holds: there is no such node, nothing arrives, the node is down.
+fn ready_at<N: Node, T: Drop>(
+    nodes: &[N],
+    node: u64,
+    arrived: Result<T, Why>,
+) -> Result<(usize, T), Why>
+    ensures ready { IfOk result (λ ready. IsReady N.stands nodes.now node ready.0 × (arrived ≡ Ok ready.1)) }
+    ensures away { IfErr result (IsAway N.stands nodes.now node arrived) }
+{
+    let Some(at) = place(nodes.len(), node) else {
+        return Err(Why::NoNode);
+    };
+    let what = arrived?;
+    if !nodes[at].is_up() {
+        return Err(Why::Down);
+    }
+    Ok((at, what))
 }
 
 // Puts a node back to the place from which it was taken.
@@ -67,7 +87,7 @@ fn stopped_after<N: Node + Drop>(
 }
 
 /// Opens a node again.
-pub fn restart_at<N: Node + Drop>(alloc: Global, nodes: &mut Vec<N>, node: u64) -> Line
+pub(crate) fn restart_at<N: Node + Drop>(alloc: Global, nodes: &mut Vec<N>, node: u64) -> Line
     ensures step { Goes N.clean N.stands (λ _. Unit {0}) nodes.old.items nodes.new.items (Restart node) (shown_line result) }
     ensures count { length nodes.new.items ≡ length nodes.old.items }
     ensures device { AreCounted (λ i. (i ≡ node) × TellsDevice (shown_line result)) N.failed N.failed 1 nodes.old.items nodes.new.items }
@@ -82,48 +102,44 @@ pub fn restart_at<N: Node + Drop>(alloc: Global, nodes: &mut Vec<N>, node: u64) 
 }
 
 /// Tells a node what arrives at it.
-pub fn tell_at<N: Node>(nodes: &mut Vec<N>, node: u64, arrived: &Result<Event<'_>, Why>) -> Line
-    ensures step { (what : sent) → Goes N.clean N.stands (λ shelf. arriving shelf what ≡ shown_arrived arrived.now) nodes.old.items nodes.new.items (Tell node what) (shown_line result) }
+pub(crate) fn tell_at<N: Node>(
+    nodes: &mut Vec<N>,
+    node: u64,
+    arrived: Result<Event<'_>, Why>,
+) -> Line
+    ensures step { (what : sent) → Goes N.clean N.stands (λ shelf. arriving shelf what ≡ shown_arrived arrived.entry)
+        nodes.old.items nodes.new.items (Tell node what) (shown_line result) }
     ensures count { length nodes.new.items ≡ length nodes.old.items }
-    ensures device { arrived.now ≢ Err (Why.Feed Refusal.Device) → AreCounted (λ i. (i ≡ node) × TellsDevice (shown_line result)) N.failed N.failed 1 nodes.old.items nodes.new.items }
+    ensures device { arrived.entry ≢ Err (Why.Feed Refusal.Device)
+        → AreCounted (λ i. (i ≡ node) × TellsDevice (shown_line result)) N.failed N.failed 1 nodes.old.items nodes.new.items }
 {
-    let Some(at) = place(nodes.len(), node) else {
-        return Line::Refused(Why::NoNode);
+    let (at, event) = match ready_at(nodes, node, arrived) {
+        Ok(ready) => ready,
+        Err(why) => return Line::Refused(why),
     };
-    let event = match arrived {
-        Ok(event) => event,
-        Err(why) => return Line::Refused(*why),
-    };
-    if !nodes[at].is_up() {
-        return Line::Refused(Why::Down);
-    }
-    match nodes[at].handle(event) {
+    match nodes[at].handle(&event) {
         Ok(reply) => Line::Replied(reply),
         Err(refusal) => Line::Refused(Why::Feed(refusal)),
     }
 }
 
 /// Stops a node before the commit of what arrives at it, and opens it again.
-pub fn stop_before_at<N: Node + Drop>(
+pub(crate) fn stop_before_at<N: Node + Drop>(
     alloc: Global,
     nodes: &mut Vec<N>,
     node: u64,
-    arrived: &Result<Event<'_>, Why>,
+    arrived: Result<Event<'_>, Why>,
 ) -> Line
-    ensures step { (what : sent) → Goes N.clean N.stands (λ shelf. arriving shelf what ≡ shown_arrived arrived.now) nodes.old.items nodes.new.items (StopBefore node what) (shown_line result) }
+    ensures step { (what : sent) → Goes N.clean N.stands (λ shelf. arriving shelf what ≡ shown_arrived arrived.entry)
+        nodes.old.items nodes.new.items (StopBefore node what) (shown_line result) }
     ensures count { length nodes.new.items ≡ length nodes.old.items }
-    ensures device { arrived.now ≢ Err (Why.Feed Refusal.Device) → AreCounted (λ i. (i ≡ node) × TellsDevice (shown_line result)) N.failed N.failed 1 nodes.old.items nodes.new.items }
+    ensures device { arrived.entry ≢ Err (Why.Feed Refusal.Device)
+        → AreCounted (λ i. (i ≡ node) × TellsDevice (shown_line result)) N.failed N.failed 1 nodes.old.items nodes.new.items }
 {
-    let Some(at) = place(nodes.len(), node) else {
-        return Line::Refused(Why::NoNode);
+    let (at, _event) = match ready_at(nodes, node, arrived) {
+        Ok(ready) => ready,
+        Err(why) => return Line::Refused(why),
     };
-    let _event = match arrived {
-        Ok(event) => event,
-        Err(why) => return Line::Refused(*why),
-    };
-    if !nodes[at].is_up() {
-        return Line::Refused(Why::Down);
-    }
     match reopened(alloc, nodes, at) {
         Ok(()) => Line::Stopped,
         Err(cause) => Line::Down(cause),
@@ -131,43 +147,38 @@ pub fn stop_before_at<N: Node + Drop>(
 }
 
 /// Stops a node after the commit of what arrives at it, and opens it again.
-pub fn stop_after_at<N: Node + Drop>(
+pub(crate) fn stop_after_at<N: Node + Drop>(
     alloc: Global,
     nodes: &mut Vec<N>,
     node: u64,
-    arrived: &Result<Event<'_>, Why>,
+    arrived: Result<Event<'_>, Why>,
 ) -> Line
-    ensures step { (what : sent) → Goes N.clean N.stands (λ shelf. arriving shelf what ≡ shown_arrived arrived.now) nodes.old.items nodes.new.items (StopAfter node what) (shown_line result) }
+    ensures step { (what : sent) → Goes N.clean N.stands (λ shelf. arriving shelf what ≡ shown_arrived arrived.entry)
+        nodes.old.items nodes.new.items (StopAfter node what) (shown_line result) }
     ensures count { length nodes.new.items ≡ length nodes.old.items }
-    ensures device { arrived.now ≢ Err (Why.Feed Refusal.Device) → AreCounted (λ i. (i ≡ node) × TellsDevice (shown_line result)) N.failed N.failed 1 nodes.old.items nodes.new.items }
+    ensures device { arrived.entry ≢ Err (Why.Feed Refusal.Device)
+        → AreCounted (λ i. (i ≡ node) × TellsDevice (shown_line result)) N.failed N.failed 1 nodes.old.items nodes.new.items }
 {
-    let Some(at) = place(nodes.len(), node) else {
-        return Line::Refused(Why::NoNode);
+    let (at, event) = match ready_at(nodes, node, arrived) {
+        Ok(ready) => ready,
+        Err(why) => return Line::Refused(why),
     };
-    let event = match arrived {
-        Ok(event) => event,
-        Err(why) => return Line::Refused(*why),
-    };
-    if !nodes[at].is_up() {
-        return Line::Refused(Why::Down);
-    }
-    match stopped_after(alloc, nodes, at, event) {
+    match stopped_after(alloc, nodes, at, &event) {
         Ok(()) => Line::Stopped,
         Err(cause) => Line::Down(cause),
     }
 }
 
 /// The active release of a package at a node.
-pub fn report_at<N: Node>(nodes: &[N], node: u64, package: &[u8]) -> Result<Line, AllocError>
-    ensures step { IfOk result (λ line. Goes N.clean N.stands (λ _. Unit {0}) nodes.now nodes.now (Report node «package».now) (shown_line line)) }
+pub(crate) fn report_at<N: Node>(nodes: &[N], node: u64, package: &[u8]) -> Result<Line, AllocError>
+    ensures step { IfOk result (λ line. Goes N.clean N.stands (λ _. Unit {0})
+        nodes.now nodes.now (Report node «package».now) (shown_line line)) }
     ensures device { IfOk result (λ line. ¬ (TellsDevice (shown_line line))) }
 {
-    let Some(at) = place(nodes.len(), node) else {
-        return Ok(Line::Refused(Why::NoNode));
+    let (at, ()) = match ready_at(nodes, node, Ok(())) {
+        Ok(ready) => ready,
+        Err(why) => return Ok(Line::Refused(why)),
     };
-    if !nodes[at].is_up() {
-        return Ok(Line::Refused(Why::Down));
-    }
     match nodes[at].report(package) {
         Some(name) => Ok(Line::Active(name.try_clone()?)),
         None => Ok(Line::Inactive),
@@ -175,16 +186,21 @@ pub fn report_at<N: Node>(nodes: &[N], node: u64, package: &[u8]) -> Result<Line
 }
 
 /// What a node answers a query about a package.
-pub fn ask_at<N: Node>(alloc: Global, nodes: &[N], node: u64, package: &[u8], query: &[u8]) -> Line
-    ensures step { Goes N.clean N.stands (λ _. Unit {0}) nodes.now nodes.now (Ask node «package».now query.now) (shown_line result) }
+pub(crate) fn ask_at<N: Node>(
+    alloc: Global,
+    nodes: &[N],
+    node: u64,
+    package: &[u8],
+    query: &[u8],
+) -> Line
+    ensures step { Goes N.clean N.stands (λ _. Unit {0})
+        nodes.now nodes.now (Ask node «package».now query.now) (shown_line result) }
     ensures device { ¬ (TellsDevice (shown_line result)) }
 {
-    let Some(at) = place(nodes.len(), node) else {
-        return Line::Refused(Why::NoNode);
+    let (at, ()) = match ready_at(nodes, node, Ok(())) {
+        Ok(ready) => ready,
+        Err(why) => return Line::Refused(why),
     };
-    if !nodes[at].is_up() {
-        return Line::Refused(Why::Down);
-    }
     match nodes[at].ask(alloc, package, query) {
         Ok(text) => Line::Text(text),
         Err(why) => Line::Refused(why),

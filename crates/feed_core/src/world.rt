@@ -151,20 +151,20 @@ fn show<'a, N: Node + Drop>(
 {
     match event {
         WorldEvent::Publish { name, bytes } => Ok(shelf.publish(name, bytes)?),
-        WorldEvent::Offer { node, name } => Ok(tell_at(nodes, *node, &shelf.offer(name))),
+        WorldEvent::Offer { node, name } => Ok(tell_at(nodes, *node, shelf.offer(name))),
         WorldEvent::Deliver {
             node,
             name,
             first,
             len,
-        } => Ok(tell_at(nodes, *node, &shelf.deliver(name, *first, *len))),
-        WorldEvent::Lose { node, name } => Ok(tell_at(nodes, *node, &shelf.lose(name))),
+        } => Ok(tell_at(nodes, *node, shelf.deliver(name, *first, *len))),
+        WorldEvent::Lose { node, name } => Ok(tell_at(nodes, *node, shelf.lose(name))),
         WorldEvent::Restart { node } => Ok(restart_at(alloc, nodes, *node)),
         WorldEvent::StopBefore { node, what } => {
-            Ok(stop_before_at(alloc, nodes, *node, &shelf.sent(what)))
+            Ok(stop_before_at(alloc, nodes, *node, shelf.sent(what)))
         }
         WorldEvent::StopAfter { node, what } => {
-            Ok(stop_after_at(alloc, nodes, *node, &shelf.sent(what)))
+            Ok(stop_after_at(alloc, nodes, *node, shelf.sent(what)))
         }
         WorldEvent::Report { node, package } => Ok(report_at(nodes, *node, package)?),
         WorldEvent::Ask {
