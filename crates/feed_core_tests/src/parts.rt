@@ -1,5 +1,5 @@
 ghost use Rattle.std.specs.Prelude.{◌≤◌, ◌<◌, ◌+◌, ◌^◌, length};
-ghost use Rattle.feed_parts.specs.Piece.{AreWithin};
+ghost use Rattle.feed_model.specs.Parts.{AreWithin};
 ghost use Rattle.feed_model.specs.Reply.{max_piece};
 ghost use Rattle.feed_parts.specs.Shown.{shown_parts};
 

@@ -18,7 +18,7 @@ use Rattle.feed_model.proofs.Moves.{added_size, only_empty}
 use Rattle.feed_model.proofs.Faults.{empty_bad}
 use Rattle.feed_model.proofs.Growth.{keeps_but, kept_here}
 use Rattle.feed_model.proofs.Tests.{good_not_bad}
-use Rattle.feed_model.proofs.Merging.{slice_some, byte_at-within}
+use Rattle.feed_model.proofs.Bytes.{slice_some, byte_at-within}
 use Rattle.feed_model.proofs.Arrivals.{missing_none}
 use Rattle.feed_model.proofs.Limits.{IsTaken, IsNoted, taken_by, noted_by, unsized}
 

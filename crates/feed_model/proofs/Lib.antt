@@ -15,12 +15,11 @@ pub mod Offers
 pub mod Losses
 pub mod Reports
 pub mod Runs
-pub mod Merging
+pub mod Bytes
 pub mod Pieces
 pub mod Arrivals
 pub mod Places
 pub mod Keeps
-pub mod Gaps
 pub mod Limits
 pub mod Held
 pub mod Soundness

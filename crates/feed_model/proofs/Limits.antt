@@ -6,7 +6,7 @@ use Rattle.feed_model.specs.History.{Offered, Piece, Lost, History, Answer, is_n
 use Rattle.feed_model.specs.Reply.{IsRight, IsLegal, IsKept, Stores, HoldsNumber, max_file, max_held}
 use Rattle.feed_model.proofs.Names.{name_is}
 use Rattle.feed_model.proofs.Legal.{nothing_kept}
-use Rattle.feed_model.proofs.Merging.{byte_at-within}
+use Rattle.feed_model.proofs.Bytes.{byte_at-within}
 
 untaken : {A : Type 0} (a b : Answer) → is_taken a ≡ true → a ≡ b → is_taken b ≡ false → A
 untaken a b taken e out = absurd (let u : is_taken a ≡ is_taken b = ap is_taken e in cc)

@@ -6,6 +6,7 @@ use Rattle.feed_model.specs.Change.{comes_before, insert_record, changed, is_ear
 use Rattle.feed_model.proofs.Names.{name_is, name_apart, name_not}
 
 -- the record that is found has the name
+
 pub name-record_of : (c : Content) (n : Name) (r : Record) → record_of c n ≡ Some r → r.name ≡ n
 name-record_of [] n r e = absurd cc
 name-record_of (x ∷ xs) n r e = by (name_eq x.name n) refl (name-record_of xs n r)
@@ -17,14 +18,6 @@ name-record_of (x ∷ xs) n r e = by (name_eq x.name n) refl (name-record_of xs 
 -- it is found under its own name too
 pub record_of-own : (c : Content) (n : Name) (r : Record) → record_of c n ≡ Some r → record_of c r.name ≡ Some r
 record_of-own c n r e = subst (λ (m : Name). record_of c m ≡ Some r) (sym (name-record_of c n r e)) e
-
-pub length-insert_record : (r : Record) (c : Content) → length (insert_record r c) ≡ length c + 1
-length-insert_record r [] = refl
-length-insert_record r (x ∷ xs) = by (comes_before x.name r.name) (length-insert_record r xs)
-  where
-    by : (b : Bool) → length (insert_record r xs) ≡ length xs + 1 → length (cond b (x ∷ insert_record r xs) (r ∷ x ∷ xs)) ≡ length (x ∷ xs) + 1
-    by true again = omega (arith, again)
-    by false again = omega arith
 
 pub record_of-insert_record : (r : Record) (c : Content) (m : Name) → record_of c r.name ≡ None → record_of (insert_record r c) m ≡ cond (name_eq r.name m) (Some r) (record_of c m)
 record_of-insert_record r [] m e = refl
@@ -79,19 +72,3 @@ record_of-without_earlier n (x ∷ xs) m = by (name_eq x.name m) (is_earlier x.n
     by true false false s t u again = rw (t, u, s) refl
     by false true d s t u again = rw (t, s) again
     by false false d s t u again = rw (t, s) again
-
-pub length-changed : (n : Name) (f : Record → Record) (c : Content) → length (changed n f c) ≡ length c
-length-changed n f [] = refl
-length-changed n f (x ∷ xs) = by (name_eq x.name n) (length-changed n f xs)
-  where
-    by : (b : Bool) → length (changed n f xs) ≡ length xs → length (cond b (f x ∷ xs) (x ∷ changed n f xs)) ≡ length (x ∷ xs)
-    by true again = refl
-    by false again = omega (arith, again)
-
-pub length-without_earlier : (n : Name) (c : Content) → length (without_earlier n c) ≤ length c
-length-without_earlier n [] = omega arith
-length-without_earlier n (x ∷ xs) = by (is_earlier x.name n) (length-without_earlier n xs)
-  where
-    by : (b : Bool) → length (without_earlier n xs) ≤ length xs → length (cond (not b) (x ∷ without_earlier n xs) (without_earlier n xs)) ≤ length (x ∷ xs)
-    by true again = omega (arith, again)
-    by false again = omega (arith, again)

@@ -10,8 +10,3 @@ use Rattle.feed_model.proofs.Idle.{unchanged}
 
 pub loss : (c : Content) (n : Name) → Handles c (Lost n) (Ok replies.Nothing) c
 loss c n = unchanged c (Lost n) (Ok replies.Nothing) refl refl (λ h is. refl)
-
--- nothing happened, and nothing is kept
-pub empty_content : IsContent [] []
-unfolding IsDistinct
-empty_content = record { legal = tt; distinct = tt; each = λ n held. (let u : false ≡ true = held.0 in absurd (cc)) }

@@ -14,9 +14,6 @@ use Rattle.feed_model.proofs.Idle.{unchanged}
 use Rattle.feed_model.proofs.Moves.{add_moves}
 use Rattle.feed_model.proofs.Tests.{of_record, not_held, passed_by, not_passed_by}
 
-pub offer_too_large : (c : Content) (n : Name) (size : ℕ) → max_file < size → Handles c (Offered n size) (Err refusals.TooLarge) c
-offer_too_large c n size lt = unchanged c (Offered n size) (Err refusals.TooLarge) refl refl (λ h is. inl (lt, refl))
-
 pub offer_older : (c : Content) (n : Name) (size : ℕ) → size ≤ max_file → HasLaterActive c n → Handles c (Offered n size) (Ok replies.Older) c
 offer_older c n size le later = unchanged c (Offered n size) (Ok replies.Older) refl refl (λ h is. inr ((λ lt. omega arith), inl (passed_by c h n is later, refl)))
 

@@ -13,7 +13,7 @@ use Rattle.feed_model.specs.Change.{NoneIsLater}
 use Rattle.feed_model.specs.Parts.{DiffersIn, AgreesIn, HasNew, Covers, IsSmall, Reaches}
 use Rattle.feed_model.specs.Handles.{Handles, HasLaterActive}
 use Rattle.feed_model.proofs.Idle.{unchanged}
-use Rattle.feed_model.proofs.Merging.{slice_some, byte_at-within, some_none}
+use Rattle.feed_model.proofs.Bytes.{slice_some, byte_at-within, some_none}
 use Rattle.feed_model.proofs.Tests.{of_record, not_held, passed_by, not_passed_by}
 
 no_bad_piece : (bytes : List ℕ) → IsSmall bytes → ¬ ((length bytes ≡ 0) ⊎ (max_piece < length bytes))
@@ -27,9 +27,6 @@ same_total h n size (Some t) e same other = other (e ∙ ap Some (sym same))
 other_total : (h : History) (n : Name) (size : ℕ) (total : Option ℕ) → size_of h n ≡ Some size → IsSomeAnd total (λ t. t ≢ size) → IsSomeAnd total (λ t. size_of h n ≢ Some t)
 other_total h n size None e other = other
 other_total h n size (Some t) e other = λ u. other (let v : Some t ≡ Some size = sym u ∙ e in cc)
-
-pub piece_bad : (c : Content) (n : Name) (first : ℕ) (total : Option ℕ) (bytes : List ℕ) → (length bytes ≡ 0) ⊎ (max_piece < length bytes) → Handles c (Piece n first total bytes) (Err refusals.BadPiece) c
-piece_bad c n first total bytes bad = unchanged c (Piece n first total bytes) (Err refusals.BadPiece) refl refl (λ h is. inl (bad, refl))
 
 pub piece_older : (c : Content) (n : Name) (first : ℕ) (total : Option ℕ) (bytes : List ℕ) → IsSmall bytes → HasLaterActive c n → Handles c (Piece n first total bytes) (Ok replies.Older) c
 piece_older c n first total bytes small later = unchanged c (Piece n first total bytes) (Ok replies.Older) refl refl (λ h is. inr (no_bad_piece bytes small, inl (passed_by c h n is later, refl)))
@@ -107,33 +104,6 @@ repeated_right c h n first total bytes r reach agrees covers is =
 
 pub piece_repeated : (c : Content) (n : Name) (first : ℕ) (total : Option ℕ) (bytes : List ℕ) (r : Record) → Reaches c n first total bytes r → AgreesIn r.parts first bytes → Covers r.parts first bytes → Handles c (Piece n first total bytes) (Ok replies.Repeated) c
 piece_repeated c n first total bytes r reach agrees covers = unchanged c (Piece n first total bytes) (Ok replies.Repeated) refl refl (λ h is. repeated_right c h n first total bytes r reach agrees covers is)
-
--- a record that is not staged has every byte of its file, so a piece brings nothing new
-pub whole_covers : (c : Content) (h : History) (n : Name) (first : ℕ) (bytes : List ℕ) (r : Record) → IsContent c h → record_of c n ≡ Some r → r.state ≢ Staged → first + length bytes ≤ r.size → Covers r.parts first bytes
-whole_covers c h n first bytes r is found other within = λ place s. by (whole r.state refl x.state) place s
-  where
-    x : IsRecord h n r
-    x = of_record c h n r is found
-
-    whole : (s : State) → r.state ≡ s → IsState h n s → IsWhole h n
-    whole Staged e w = absurd (other e)
-    whole Active e a = (a.0.0, a.0.1)
-    whole Broken e b = (b.0, b.1)
-
-    by : IsWhole h n → Covers r.parts first bytes
-    by w place s =
-        let len : length w.0 ≡ r.size = (let u : Some (length w.0) ≡ Some r.size = sym w.1.0 ∙ x.size in cc) in
-        let lt : place < length w.0 = omega (arith, (byte_at-within first bytes place s).1) in
-        subst IsSome (sym (x.bytes place ∙ w.1.1 place lt)) (slice_some w.0 place lt)
-
-pub piece_repeated_whole : (c : Content) (n : Name) (first : ℕ) (total : Option ℕ) (bytes : List ℕ) (r : Record) → Reaches c n first total bytes r → r.state ≢ Staged → AgreesIn r.parts first bytes → Handles c (Piece n first total bytes) (Ok replies.Repeated) c
-piece_repeated_whole c n first total bytes r reach other agrees = unchanged c (Piece n first total bytes) (Ok replies.Repeated) refl refl (λ h is.
-    repeated_right c h n first total bytes r reach agrees (whole_covers c h n first bytes r is reach.found other reach.within) is)
-
--- so where it is not staged and a byte is new, the content is that of no history
-pub piece_impossible : (c c' : Content) (n : Name) (first : ℕ) (total : Option ℕ) (bytes : List ℕ) (r : Record) (a : Answer) → record_of c n ≡ Some r → r.state ≢ Staged → first + length bytes ≤ r.size → HasNew r.parts first bytes → Handles c (Piece n first total bytes) a c'
-piece_impossible c c' n first total bytes r a found other within new = λ h is.
-    some_none (byte_in r.parts new.0) (whole_covers c h n first bytes r is found other within new.0 new.1) new.2
 
 -- a piece that brings a new byte
 not_kept : (c : Content) (h : History) (n : Name) (r : Record) (first : ℕ) (bytes : List ℕ) → IsContent c h → record_of c n ≡ Some r → HasNew r.parts first bytes → ¬ (IsKept h n first bytes)

@@ -29,9 +29,3 @@ pub file_of_record : (c : Content) (h : History) (r : Record) (text : List ℕ) 
 file_of_record c h r text is found len at =
     let x = of_record c h r.name r is found in
     (x.size ∙ ap Some (sym len), λ place lt. sym (x.bytes place) ∙ at place (omega arith))
-
--- and the file of an active record is good
-pub active_is_good : (c : Content) (h : History) (r : Record) (text : List ℕ) → IsContent c h → record_of c r.name ≡ Some r → r.state ≡ Active → length text ≡ r.size → ((place : ℕ) → place < r.size → byte_in r.parts place ≡ slice_get text place) → fault_of text ≡ None
-active_is_good c h r text is found active len at =
-    let good = (active_by c h r is found active).0 in
-    subst (λ (t : List ℕ). fault_of t ≡ None) (file_one h r.name good.0 text good.1 (file_of_record c h r text is found len at)) good.2

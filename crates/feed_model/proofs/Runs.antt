@@ -12,10 +12,6 @@ gone_on-push h [] (b ∷ bs) event answer same = absurd (omega arith)
 gone_on-push h (x ∷ xs) [] event answer same = absurd (omega arith)
 gone_on-push h (x ∷ xs) (b ∷ bs) event answer same = gone_on-push ((x, b) ∷ h) xs bs event answer (omega arith)
 
--- no step
-pub run_none : (c : Content) → Runs c [] [] c
-run_none c = record { each = refl; content = λ h is. is }
-
 -- one step more
 pub run_push : (c m c' : Content) (events : List Event) (answers : List Answer) (event : Event) (answer : Answer) → Runs c events answers m → Handles m event answer c' → Runs c (events ++ event ∷ []) (answers ++ answer ∷ []) c'
 run_push c m c' events answers event answer runs step = record {

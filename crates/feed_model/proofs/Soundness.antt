@@ -13,7 +13,7 @@ use Rattle.feed_model.specs.Sound.{IsText, BearsOut, IsSoundRecord, IsSound}
 use Rattle.feed_model.proofs.Counting.{length_names}
 use Rattle.feed_model.proofs.Held.{held_limit}
 use Rattle.feed_model.proofs.Limits.{size_limit, kept_inside}
-use Rattle.feed_model.proofs.Merging.{within_by}
+use Rattle.feed_model.proofs.Bytes.{within_by}
 use Rattle.feed_model.proofs.Places.{record_of-at}
 use Rattle.feed_model.proofs.Tests.{of_record, passed_by}
 use Rattle.feed_model.proofs.Keeps.{none_missing}

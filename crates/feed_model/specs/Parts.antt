@@ -1,15 +1,10 @@
 -- Bytes beside the parts that are kept.
-use Rattle.std.specs.Prelude.{◌≡◌, ◌≢◌, ◌<◌, ◌≤◌, ◌+◌, ℕ, List, [], ◌∷◌, length, Option, Some, None, IsSome, is_none, if◌then◌else◌, IfSome}
+use Rattle.std.specs.Prelude.{◌≡◌, ◌≢◌, ◌<◌, ◌≤◌, ◌+◌, ℕ, List, length, Option, Some, None, IsSome, IfSome, All}
 use Rattle.feed_names.specs.ReleaseName.{Name}
 use Rattle.feed_model.specs.History.{or_else, byte_at}
 use Rattle.feed_model.specs.Reply.{max_piece}
-use Rattle.feed_model.specs.Content.{Part, Record, Content, record_of, byte_in, AreParts}
+use Rattle.feed_model.specs.Content.{Part, Record, Content, record_of, byte_in, end_of, AreParts}
 use Rattle.feed_model.specs.Change.{merged, NoneIsLater}
-
--- how many bytes the parts have
-abbrev pub bytes_of : List Part → ℕ
-bytes_of [] = 0
-bytes_of (p ∷ ps) = length p.bytes + bytes_of ps
 
 -- a byte is another one than the parts have at its place
 abbrev pub DiffersIn : List Part → ℕ → List ℕ → Type 0
@@ -27,23 +22,16 @@ HasNew ps first bytes = (place : ℕ) × IsSome (byte_at first bytes place) × (
 abbrev pub Covers : List Part → ℕ → List ℕ → Type 0
 Covers ps first bytes = (place : ℕ) → IsSome (byte_at first bytes place) → IsSome (byte_in ps place)
 
--- the part has no place of the parts
-abbrev pub IsApart : Part → List Part → Type 0
-IsApart p ps = (place : ℕ) → IsSome (byte_at p.first p.bytes place) → byte_in ps place ≡ None
+-- the parts are in order, and none reaches past the size of the file
+pub record AreWithin (size : ℕ) (ps : List Part) : Type 0 where
+  pub parts : AreParts ps
+  pub inside : All (λ p. end_of p ≤ size) ps
 
--- the parts qs have no place of the parts ps
-abbrev pub AreApart : List Part → List Part → Type 0
-AreApart qs ps = (place : ℕ) → IsSome (byte_in qs place) → byte_in ps place ≡ None
-
--- with the parts qs the parts ps have these bytes too
-pub record Adds (ps : List Part) (first : ℕ) (bytes : List ℕ) (qs : List Part) : Type 0 where
-  pub union : (place : ℕ) → byte_in (merged ps qs) place ≡ or_else (byte_in ps place) (byte_at first bytes place)
-  pub parts : AreParts (merged ps qs)
-
--- the parts qs have just those of the bytes whose places ps lack
-pub record Fills (ps : List Part) (first : ℕ) (bytes : List ℕ) (qs : List Part) : Type 0 where
-  pub parts : AreParts qs
-  pub just : (place : ℕ) → byte_in qs place ≡ (if is_none (byte_in ps place) then byte_at first bytes place else None)
+-- with the new parts the kept ones have the bytes of the piece too
+pub record Adds (size : ℕ) (ps : List Part) (first : ℕ) (bytes : List ℕ) (new : List Part) : Type 0 where
+  pub union : (place : ℕ) → byte_in (merged ps new) place ≡ or_else (byte_in ps place) (byte_at first bytes place)
+  pub order : AreWithin size new
+  pub whole : AreWithin size (merged ps new)
 
 -- the piece is of a permitted length
 pub record IsSmall (bytes : List ℕ) : Type 0 where

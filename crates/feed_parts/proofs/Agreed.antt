@@ -5,8 +5,7 @@ use Rattle.std.proofs.lemmas.List.Elements.{All-tail}
 use Rattle.std.specs.Cmp.Lexicographic.{pointwise, bytes_decides}
 use Rattle.feed_model.specs.History.{byte_at}
 use Rattle.feed_model.specs.Content.{Part, byte_in, end_of}
-use Rattle.feed_model.specs.Parts.{DiffersIn, AgreesIn}
-use Rattle.feed_parts.specs.Piece.{AreWithin}
+use Rattle.feed_model.specs.Parts.{DiffersIn, AgreesIn, AreWithin}
 use Rattle.feed_parts.specs.Cut.{cut}
 use Rattle.feed_parts.proofs.Places.{cases_option, first_none, first_some, second_none, byte_at_inside, byte_at_place, cut_bytes, cut_length, none_behind, starts_earlier}
 

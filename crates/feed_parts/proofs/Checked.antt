@@ -4,7 +4,7 @@ use Rattle.std.specs.List.{All}
 use Rattle.std.proofs.lemmas.List.Elements.{All-nil, All-cons, All-head, All-tail}
 use Rattle.feed_model.specs.Reply.{max_piece}
 use Rattle.feed_model.specs.Content.{Part, end_of, ArePartsFrom}
-use Rattle.feed_parts.specs.Piece.{AreWithin}
+use Rattle.feed_model.specs.Parts.{AreWithin}
 
 -- all the parts are in order and inside just if the rest are, from a place on
 abbrev pub IsChecked : ℕ → List Part → ℕ → List Part → Type 0

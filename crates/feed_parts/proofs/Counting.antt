@@ -7,7 +7,8 @@ use Rattle.feed_model.specs.History.{or_else, byte_at}
 use Rattle.feed_model.specs.Reply.{missing_below}
 use Rattle.feed_model.specs.Content.{Part, byte_in, end_of, ArePartsFrom}
 use Rattle.feed_model.specs.Change.{insert_part, merged}
-use Rattle.feed_parts.specs.Piece.{AreWithin, total_length}
+use Rattle.feed_model.specs.Parts.{AreWithin}
+use Rattle.feed_parts.specs.Piece.{total_length}
 use Rattle.feed_parts.proofs.Places.{cases_option, some_not_none, first_none, first_some, byte_at_before, byte_at_after, byte_at_inside, none_behind}
 
 pub total_cons : (p : Part) (ps : List Part) → total_length (p ∷ ps) ≡ length p.bytes + total_length ps

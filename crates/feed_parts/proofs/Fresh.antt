@@ -5,8 +5,7 @@ use Rattle.std.proofs.lemmas.List.Elements.{All-nil, All-push, All-weaker}
 use Rattle.feed_model.specs.History.{or_else, byte_at}
 use Rattle.feed_model.specs.Reply.{max_piece}
 use Rattle.feed_model.specs.Content.{Part, byte_in, end_of, ArePartsFrom}
-use Rattle.feed_model.specs.Parts.{HasNew}
-use Rattle.feed_parts.specs.Piece.{Adds, AreWithin}
+use Rattle.feed_model.specs.Parts.{HasNew, Adds, AreWithin}
 use Rattle.feed_parts.specs.Cut.{cut, cuts}
 use Rattle.feed_parts.proofs.Places.{cases_option, some_not_none, first_none, second_none, byte_at_before, byte_at_after, cut_bytes, cut_length, none_after, byte_in_append, parts_push}
 use Rattle.feed_parts.proofs.Merged.{all_merged, merged_bytes, merged_parts}

@@ -8,7 +8,8 @@ use Rattle.std.proofs.lemmas.Option.{slice_get-get_or}
 use Rattle.feed_model.specs.History.{byte_at}
 use Rattle.feed_model.specs.Content.{Part, byte_in, end_of, ArePartsFrom}
 use Rattle.feed_model.specs.Sound.{IsText}
-use Rattle.feed_parts.specs.Piece.{AreWithin, joined}
+use Rattle.feed_model.specs.Parts.{AreWithin}
+use Rattle.feed_parts.specs.Piece.{joined}
 use Rattle.feed_parts.proofs.Places.{first_none, first_some, both_none, some_not_none, byte_at_before, byte_at_after, byte_at_inside, none_before}
 
 -- what the parts are from a place on

@@ -4,7 +4,7 @@ use Rattle.std.proofs.lemmas.Bool.{cases_lt}
 use Rattle.std.proofs.lemmas.List.Elements.{All-head, All-tail}
 use Rattle.feed_model.specs.History.{byte_at}
 use Rattle.feed_model.specs.Content.{Part, byte_in, end_of}
-use Rattle.feed_parts.specs.Piece.{AreWithin}
+use Rattle.feed_model.specs.Parts.{AreWithin}
 use Rattle.feed_parts.proofs.Places.{some_is, first_none, first_some, byte_at_after, byte_at_inside, none_before, starts_earlier}
 
 -- what all parts have from the place up to the end of the piece is in these

@@ -8,7 +8,7 @@ use Rattle.std.proofs.lemmas.List.Elements.{All-map, All-take, All-drop}
 use Rattle.feed_model.specs.Content.{byte_in, end_of, ArePartsFrom}
 use Rattle.feed_parts.specs.declared.part.Part as code_part
 use Rattle.feed_parts.specs.Shown.{shown_part, shown_parts}
-use Rattle.feed_parts.specs.Piece.{AreWithin}
+use Rattle.feed_model.specs.Parts.{AreWithin}
 use Rattle.feed_parts.proofs.Rest.{all_code}
 use Rattle.feed_parts.proofs.Places.{none_after, none_ahead, parts_drop, parts_take, byte_in_take, byte_in_drop}
 

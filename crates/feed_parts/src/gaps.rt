@@ -1,7 +1,7 @@
 ghost use Rattle.std.specs.Prelude.{◌≡◌, ◌<◌, ◌≤◌, ◌^◌, ℕ, None, MatchOption, IsSome};
 ghost use Rattle.feed_model.specs.Content.{byte_in};
 ghost use Rattle.feed_parts.specs.Shown.{shown_parts};
-ghost use Rattle.feed_parts.specs.Piece.{AreWithin};
+ghost use Rattle.feed_model.specs.Parts.{AreWithin};
 
 use crate::part::{Part, end_of};
 

@@ -4,8 +4,8 @@ ghost use Rattle.feed_model.specs.Reply.{missing_below};
 ghost use Rattle.feed_model.specs.Content.{byte_in};
 ghost use Rattle.feed_model.specs.Change.{merged};
 ghost use Rattle.feed_parts.specs.Shown.{shown_part, shown_parts};
-ghost use Rattle.feed_model.specs.Parts.{AgreesIn, Covers, DiffersIn, HasNew};
-ghost use Rattle.feed_parts.specs.Piece.{Adds, AreWithin, total_length};
+ghost use Rattle.feed_model.specs.Parts.{AgreesIn, Covers, DiffersIn, HasNew, Adds, AreWithin};
+ghost use Rattle.feed_parts.specs.Piece.{total_length};
 ghost use Rattle.feed_parts.specs.Cut.{cut, cuts};
 
 use crate::part::{Part, end_of};

@@ -4,7 +4,7 @@ ghost use Rattle.feed_model.specs.Content.{byte_in, AreParts};
 ghost use Rattle.feed_model.specs.Change.{merged};
 ghost use Rattle.feed_model.specs.Sound.{IsText};
 ghost use Rattle.feed_parts.specs.Shown.{shown_part, shown_parts};
-ghost use Rattle.feed_parts.specs.Piece.{AreWithin};
+ghost use Rattle.feed_model.specs.Parts.{AreWithin};
 
 use crate::part::Part;
 use std::io::{self, Read};

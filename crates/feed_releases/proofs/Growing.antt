@@ -12,7 +12,6 @@ use Rattle.feed_model.specs.Parts.{Adds, Reaches}
 use Rattle.feed_model.specs.Handles.{Handles}
 use Rattle.feed_model.proofs.Keeps.{completes_by}
 use Rattle.feed_model.proofs.Arrivals.{piece_stored, piece_broken, piece_activated}
-use Rattle.feed_parts.specs.Piece as parts
 use Rattle.feed_keep.specs.Shown.{change_to}
 use Rattle.feed_releases.specs.declared.overlap.Overlap.TheVariants.{New}
 use Rattle.feed_releases.specs.declared.release.growth.Growth.{Growth}
@@ -22,12 +21,8 @@ use Rattle.feed_releases.specs.ReleaseValue.{LiesOver}
 use Rattle.feed_releases.specs.Growth.{IsGrowth, StandsSo, change_of, parts_of, reply_of, state_of}
 use Rattle.feed_releases.proofs.Growth.{length-shown}
 
--- new parts bring the bytes of the piece to the kept ones
-brings : (size : ℕ) (ps : List Part) (first : ℕ) (bytes : List ℕ) (new : List Part) → parts.Adds size ps first bytes new → Adds ps first bytes new
-brings size ps first bytes new adds = record { union = adds.union; parts = adds.whole.parts }
-
 right_so : (c : Content) (n : Name) (first : ℕ) (total : Option ℕ) (bytes : List ℕ) (r : Record) (ps : List Part) (missing : ℕ) (s : Standing) → Reaches c n first total bytes r → LiesOver r first bytes New
-    → Adds r.parts first bytes ps → missing ≡ missing_below (byte_in (merged r.parts ps)) r.size → StandsSo r.size (merged r.parts ps) missing s → Handles c (Piece n first total bytes) (Ok (reply_of missing s)) (after (change_to (state_of s) n ps) c)
+    → Adds r.size r.parts first bytes ps → missing ≡ missing_below (byte_in (merged r.parts ps)) r.size → StandsSo r.size (merged r.parts ps) missing s → Handles c (Piece n first total bytes) (Ok (reply_of missing s)) (after (change_to (state_of s) n ps) c)
 right_so c n first total bytes r ps missing Partial reach lies adds count so = piece_stored c n first total bytes r ps missing reach lies.2 lies.0 lies.1 adds count so
 right_so c n first total bytes r ps missing (Bad why) reach lies adds count so = piece_broken c n first total bytes r ps so.1.0 why reach lies.2 lies.0 lies.1 adds (sym count ∙ so.0) so.1.1.count so.1.1.bytes so.1.2
 right_so c n first total bytes r ps missing (Good holdings) reach lies adds count so = piece_activated c n first total bytes r ps so.1.0 reach lies.2 lies.0 lies.1 adds (sym count ∙ so.0) so.1.1.count so.1.1.bytes so.1.2
@@ -36,7 +31,7 @@ right_so c n first total bytes r ps missing (Good holdings) reach lies adds coun
 pub growth_right : (c : Content) (n : Name) (first : ℕ) (total : Option ℕ) (bytes : List ℕ) (r : Record) (growth : Growth) → r.name ≡ n → Reaches c n first total bytes r → LiesOver r first bytes New
     → IsGrowth r first bytes growth → Handles c (Piece n first total bytes) (Ok (reply_of growth.missing growth.standing)) (after (change_of r growth) c)
 growth_right c n first total bytes r growth name reach lies is =
-    rw name (right_so c n first total bytes r (parts_of growth) growth.missing growth.standing reach lies (brings r.size r.parts first bytes (parts_of growth) is.adds) is.missing is.stands)
+    rw name (right_so c n first total bytes r (parts_of growth) growth.missing growth.standing reach lies is.adds is.missing is.stands)
 
 allowed_so : (c : Content) (n : Name) (r : Record) (ps : List Part) (missing : ℕ) (s : Standing) → TakesParts c n ps r → NoneIsLater c n → missing ≡ missing_below (byte_in (merged r.parts ps)) r.size
     → StandsSo r.size (merged r.parts ps) missing s → IsAllowed (change_to (state_of s) n ps) c

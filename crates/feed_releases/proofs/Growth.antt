@@ -13,7 +13,7 @@ use Rattle.feed_model.proofs.Names.{name_is}
 use Rattle.feed_model.proofs.Faults.{empty_bad}
 use Rattle.feed_parts.specs.declared.part.Part as code_part
 use Rattle.feed_parts.specs.Shown.{shown_parts}
-use Rattle.feed_parts.specs.Piece.{AreWithin}
+use Rattle.feed_model.specs.Parts.{AreWithin}
 use Rattle.feed_releases.specs.ReleaseValue.{ReleaseValue, IsRelease, IsKnown, content_of, IsPlaceOf}
 use Rattle.feed_releases.proofs.Finding.{found_at, set_at}
 

@@ -10,7 +10,7 @@ use Rattle.feed_model.specs.Reply.{missing_below}
 use Rattle.feed_model.specs.Content.{Part, Record, byte_in}
 use Rattle.feed_model.specs.Change.{Change, merged}
 use Rattle.feed_parts.specs.Shown.{shown_parts}
-use Rattle.feed_parts.specs.Piece.{Adds}
+use Rattle.feed_model.specs.Parts.{Adds}
 use Rattle.feed_keep.specs.Shown.{change_to}
 use Rattle.feed_releases.specs.ReleaseValue.{IsJudged}
 use Rattle.feed_releases.specs.declared.release.growth.Growth.{Growth}

@@ -11,8 +11,7 @@ use Rattle.feed_model.specs.Content.{Part, Record, Content, byte_in}
 use Rattle.feed_model.specs.Sound.{IsText}
 use Rattle.feed_model.specs.declared.state.State.{State}
 use Rattle.feed_model.specs.declared.state.State.TheVariants.{Staged, Broken, Active}
-use Rattle.feed_model.specs.Parts.{DiffersIn, AgreesIn, HasNew, Covers}
-use Rattle.feed_parts.specs.Piece.{AreWithin}
+use Rattle.feed_model.specs.Parts.{DiffersIn, AgreesIn, HasNew, Covers, AreWithin}
 use Rattle.feed_releases.specs.declared.overlap.Overlap.{Overlap}
 use Rattle.feed_releases.specs.declared.overlap.Overlap.TheVariants.{Conflict, Kept, New}
 

@@ -11,6 +11,70 @@ use feed_core::{
 use std::alloc::Global;
 use std::test::Fail;
 
+// What is told a world, with the names of releases as texts.
+#[derive(Clone, Copy)]
+enum Told<'a> {
+    Publish(&'a str, &'a [u8]),
+    Offer(u64, &'a str),
+    Deliver(u64, &'a str, u64, u64),
+    Lose(u64, &'a str),
+    Restart(u64),
+    StopBeforeOffer(u64, &'a str),
+    StopAfterDelivery(u64, &'a str, u64, u64),
+    Report(u64),
+    Ask(u64, &'a [u8]),
+}
+
+impl Told<'_> {
+    // The event that this tells, of a node or of a file.
+    fn event(&self, alloc: Global) -> Result<WorldEvent, Fail> {
+        Ok(match *self {
+            Told::Publish(name, file) => WorldEvent::Publish {
+                name: name_of(alloc, name)?,
+                bytes: Vec::from_slice(alloc, file)?,
+            },
+            Told::Offer(node, name) => WorldEvent::Offer {
+                node,
+                name: name_of(alloc, name)?,
+            },
+            Told::Deliver(node, name, first, len) => WorldEvent::Deliver {
+                node,
+                name: name_of(alloc, name)?,
+                first,
+                len,
+            },
+            Told::Lose(node, name) => WorldEvent::Lose {
+                node,
+                name: name_of(alloc, name)?,
+            },
+            Told::Restart(node) => WorldEvent::Restart { node },
+            Told::StopBeforeOffer(node, name) => WorldEvent::StopBefore {
+                node,
+                what: Sent::Offer {
+                    name: name_of(alloc, name)?,
+                },
+            },
+            Told::StopAfterDelivery(node, name, first, len) => WorldEvent::StopAfter {
+                node,
+                what: Sent::Deliver {
+                    name: name_of(alloc, name)?,
+                    first,
+                    len,
+                },
+            },
+            Told::Report(node) => WorldEvent::Report {
+                node,
+                package: Vec::from_slice(alloc, PACKAGE)?,
+            },
+            Told::Ask(node, query) => WorldEvent::Ask {
+                node,
+                package: Vec::from_slice(alloc, PACKAGE)?,
+                query: Vec::from_slice(alloc, query)?,
+            },
+        })
+    }
+}
+
 // The events of a world, as they are told.
 #[derive(Drop)]
 struct Events {
@@ -19,78 +83,12 @@ struct Events {
 }
 
 impl Events {
-    fn new(alloc: Global) -> Events {
-        Events {
-            alloc,
-            list: Vec::new(alloc),
+    fn of(alloc: Global, told: &[Told<'_>]) -> Result<Events, Fail> {
+        let mut list = Vec::new(alloc);
+        for one in told {
+            list.push(one.event(alloc)?)?;
         }
-    }
-
-    fn publish(&mut self, name: &str, file: &[u8]) -> Result<(), Fail> {
-        let name = name_of(self.alloc, name)?;
-        let bytes = Vec::from_slice(self.alloc, file)?;
-        Ok(self.list.push(WorldEvent::Publish { name, bytes })?)
-    }
-
-    fn offer(&mut self, node: u64, name: &str) -> Result<(), Fail> {
-        let name = name_of(self.alloc, name)?;
-        Ok(self.list.push(WorldEvent::Offer { node, name })?)
-    }
-
-    fn deliver(&mut self, node: u64, name: &str, first: u64, len: u64) -> Result<(), Fail> {
-        let name = name_of(self.alloc, name)?;
-        Ok(
-            self.list.push(WorldEvent::Deliver {
-                node,
-                name,
-                first,
-                len,
-            })?,
-        )
-    }
-
-    fn lose(&mut self, node: u64, name: &str) -> Result<(), Fail> {
-        let name = name_of(self.alloc, name)?;
-        Ok(self.list.push(WorldEvent::Lose { node, name })?)
-    }
-
-    fn restart(&mut self, node: u64) -> Result<(), Fail> {
-        Ok(self.list.push(WorldEvent::Restart { node })?)
-    }
-
-    fn stop_before_offer(&mut self, node: u64, name: &str) -> Result<(), Fail> {
-        let name = name_of(self.alloc, name)?;
-        let what = Sent::Offer { name };
-        Ok(self.list.push(WorldEvent::StopBefore { node, what })?)
-    }
-
-    fn stop_after_delivery(
-        &mut self,
-        node: u64,
-        name: &str,
-        first: u64,
-        len: u64,
-    ) -> Result<(), Fail> {
-        let name = name_of(self.alloc, name)?;
-        let what = Sent::Deliver { name, first, len };
-        Ok(self.list.push(WorldEvent::StopAfter { node, what })?)
-    }
-
-    fn report(&mut self, node: u64) -> Result<(), Fail> {
-        let package = Vec::from_slice(self.alloc, PACKAGE)?;
-        Ok(self.list.push(WorldEvent::Report { node, package })?)
-    }
-
-    fn ask(&mut self, node: u64, query: &[u8]) -> Result<(), Fail> {
-        let package = Vec::from_slice(self.alloc, PACKAGE)?;
-        let query = Vec::from_slice(self.alloc, query)?;
-        Ok(
-            self.list.push(WorldEvent::Ask {
-                node,
-                package,
-                query,
-            })?,
-        )
+        Ok(Events { alloc, list })
     }
 
     // What happens to nodes over these keepers.
@@ -123,9 +121,8 @@ fn a_world_has_1_to_16_nodes(rt: HostRuntime) -> Result<(), Fail> {
         assert!(rt; refused, "{count}");
     }
     for count in [1, 16] {
-        let mut events = Events::new(rt.alloc());
-        events.report(count)?;
-        events.report(count + 1)?;
+        let told = [Told::Report(count), Told::Report(count + 1)];
+        let events = Events::of(rt.alloc(), &told)?;
         let shown = events.shown(empty_keepers(rt.alloc(), count)?)?;
         assert_eq!(rt;
             printed(rt.alloc(), &shown)?.as_slice(),
@@ -198,39 +195,43 @@ fn a_node_does_not_start_where_the_device_fails(rt: HostRuntime) -> Result<(), F
 #[test]
 fn each_line_is_printed(rt: HostRuntime) -> Result<(), Fail> {
     let alloc = rt.alloc();
-    let mut events = Events::new(alloc);
-    events.publish(JANUARY, &january_file(alloc)?)?;
-    events.publish(JANUARY, &january_file(alloc)?)?;
-    events.publish(JANUARY, b"x")?;
-    events.publish(FEBRUARY, &february_file(alloc)?)?;
-    events.publish(MARCH, HEADER_WITHOUT_URL)?;
-    events.publish("Acme_Global_All_2024-04-01.txt", b"")?;
-    events.report(1)?;
-    events.ask(1, b"rft.issn=2434561x")?;
-    events.ask(1, b"rft.issn=2434561")?;
-    events.offer(1, JANUARY)?;
-    events.offer(1, JANUARY)?;
-    events.offer(1, "Acme_Global_All_2024-05-01.txt")?;
-    events.deliver(1, JANUARY, 100, 105)?;
-    events.deliver(1, JANUARY, 199, 6)?;
-    events.deliver(1, JANUARY, 205, 0)?;
-    events.lose(1, JANUARY)?;
-    events.restart(1)?;
-    events.stop_before_offer(1, FEBRUARY)?;
-    events.deliver(1, FEBRUARY, 0, 243)?;
-    events.deliver(1, JANUARY, 0, 151)?;
-    events.report(1)?;
-    events.ask(1, b"rft.issn=2434561x")?;
-    events.ask(1, b"rft.issn=2434561x&ctx_ver=Z39.88-2003")?;
-    events.offer(1, MARCH)?;
-    events.deliver(1, MARCH, 0, 141)?;
-    events.offer(1, "Acme_Global_All_2024-04-01.txt")?;
-    events.report(1)?;
-    events.offer(1, FEBRUARY)?;
-    events.stop_after_delivery(1, FEBRUARY, 0, 243)?;
-    events.offer(1, JANUARY)?;
-    events.ask(1, b"rft.eissn=0317-8471")?;
-    events.restart(0)?;
+    let january = january_file(alloc)?;
+    let february = february_file(alloc)?;
+    let told = [
+        Told::Publish(JANUARY, &january),
+        Told::Publish(JANUARY, &january),
+        Told::Publish(JANUARY, b"x"),
+        Told::Publish(FEBRUARY, &february),
+        Told::Publish(MARCH, HEADER_WITHOUT_URL),
+        Told::Publish("Acme_Global_All_2024-04-01.txt", b""),
+        Told::Report(1),
+        Told::Ask(1, b"rft.issn=2434561x"),
+        Told::Ask(1, b"rft.issn=2434561"),
+        Told::Offer(1, JANUARY),
+        Told::Offer(1, JANUARY),
+        Told::Offer(1, "Acme_Global_All_2024-05-01.txt"),
+        Told::Deliver(1, JANUARY, 100, 105),
+        Told::Deliver(1, JANUARY, 199, 6),
+        Told::Deliver(1, JANUARY, 205, 0),
+        Told::Lose(1, JANUARY),
+        Told::Restart(1),
+        Told::StopBeforeOffer(1, FEBRUARY),
+        Told::Deliver(1, FEBRUARY, 0, 243),
+        Told::Deliver(1, JANUARY, 0, 151),
+        Told::Report(1),
+        Told::Ask(1, b"rft.issn=2434561x"),
+        Told::Ask(1, b"rft.issn=2434561x&ctx_ver=Z39.88-2003"),
+        Told::Offer(1, MARCH),
+        Told::Deliver(1, MARCH, 0, 141),
+        Told::Offer(1, "Acme_Global_All_2024-04-01.txt"),
+        Told::Report(1),
+        Told::Offer(1, FEBRUARY),
+        Told::StopAfterDelivery(1, FEBRUARY, 0, 243),
+        Told::Offer(1, JANUARY),
+        Told::Ask(1, b"rft.eissn=0317-8471"),
+        Told::Restart(0),
+    ];
+    let events = Events::of(alloc, &told)?;
     let shown = events.shown(empty_keepers(alloc, 1)?)?;
     let text: &[u8] = b"published
 published
@@ -273,12 +274,15 @@ refused NoNode
 
 #[test]
 fn a_transcript_has_a_line_for_each_event(rt: HostRuntime) -> Result<(), Fail> {
-    let mut events = Events::new(rt.alloc());
-    events.publish(JANUARY, &january_file(rt.alloc())?)?;
-    events.offer(1, JANUARY)?;
-    events.deliver(1, JANUARY, 0, 205)?;
-    events.report(1)?;
-    events.report(2)?;
+    let january = january_file(rt.alloc())?;
+    let told = [
+        Told::Publish(JANUARY, &january),
+        Told::Offer(1, JANUARY),
+        Told::Deliver(1, JANUARY, 0, 205),
+        Told::Report(1),
+        Told::Report(2),
+    ];
+    let events = Events::of(rt.alloc(), &told)?;
     let shown = events.shown(empty_keepers(rt.alloc(), 1)?)?;
     let as_expected = match shown.lines() {
         [
@@ -303,22 +307,25 @@ fn a_transcript_has_a_line_for_each_event(rt: HostRuntime) -> Result<(), Fail> {
 
 #[test]
 fn events_that_name_what_is_not_there_are_refused(rt: HostRuntime) -> Result<(), Fail> {
-    let mut events = Events::new(rt.alloc());
-    events.publish(JANUARY, &january_file(rt.alloc())?)?;
-    events.offer(3, JANUARY)?;
-    events.deliver(1, JANUARY, 200, 6)?;
-    events.deliver(1, JANUARY, 0, 205)?;
-    events.deliver(1, JANUARY, u64::MAX, 1)?;
-    // The node is judged first, then the name, then the slice.
-    events.deliver(0, MARCH, 0, 1)?;
-    events.deliver(2, MARCH, 0, 1)?;
-    events.lose(2, MARCH)?;
-    events.stop_before_offer(3, MARCH)?;
-    events.stop_before_offer(2, MARCH)?;
-    events.stop_after_delivery(2, JANUARY, 205, 1)?;
-    events.restart(3)?;
-    events.report(3)?;
-    events.ask(3, b"")?;
+    let january = january_file(rt.alloc())?;
+    let told = [
+        Told::Publish(JANUARY, &january),
+        Told::Offer(3, JANUARY),
+        Told::Deliver(1, JANUARY, 200, 6),
+        Told::Deliver(1, JANUARY, 0, 205),
+        Told::Deliver(1, JANUARY, u64::MAX, 1),
+        // The node is judged first, then the name, then the slice.
+        Told::Deliver(0, MARCH, 0, 1),
+        Told::Deliver(2, MARCH, 0, 1),
+        Told::Lose(2, MARCH),
+        Told::StopBeforeOffer(3, MARCH),
+        Told::StopBeforeOffer(2, MARCH),
+        Told::StopAfterDelivery(2, JANUARY, 205, 1),
+        Told::Restart(3),
+        Told::Report(3),
+        Told::Ask(3, b""),
+    ];
+    let events = Events::of(rt.alloc(), &told)?;
     let shown = events.shown(empty_keepers(rt.alloc(), 2)?)?;
     let text: &[u8] = b"published
 refused NoNode
@@ -353,22 +360,24 @@ fn each_node_hands_back_what_it_keeps(rt: HostRuntime) -> Result<(), Fail> {
     let alloc = rt.alloc();
     let file = january_file(alloc)?;
     let later_file = february_file(alloc)?;
-    let mut events = Events::new(alloc);
-    events.publish(JANUARY, &file)?;
-    events.publish(FEBRUARY, &later_file)?;
-    events.publish(MARCH, HEADER_WITHOUT_URL)?;
-    events.offer(1, JANUARY)?;
-    events.deliver(1, JANUARY, 0, 205)?;
-    events.offer(1, FEBRUARY)?;
-    events.deliver(1, FEBRUARY, 0, 151)?;
-    events.restart(1)?;
-    events.offer(1, MARCH)?;
-    events.offer(3, JANUARY)?;
-    events.deliver(3, JANUARY, 0, 151)?;
-    events.offer(3, MARCH)?;
-    events.deliver(3, MARCH, 0, 141)?;
-    events.offer(3, FEBRUARY)?;
-    events.stop_after_delivery(3, FEBRUARY, 0, 243)?;
+    let told = [
+        Told::Publish(JANUARY, &file),
+        Told::Publish(FEBRUARY, &later_file),
+        Told::Publish(MARCH, HEADER_WITHOUT_URL),
+        Told::Offer(1, JANUARY),
+        Told::Deliver(1, JANUARY, 0, 205),
+        Told::Offer(1, FEBRUARY),
+        Told::Deliver(1, FEBRUARY, 0, 151),
+        Told::Restart(1),
+        Told::Offer(1, MARCH),
+        Told::Offer(3, JANUARY),
+        Told::Deliver(3, JANUARY, 0, 151),
+        Told::Offer(3, MARCH),
+        Told::Deliver(3, MARCH, 0, 141),
+        Told::Offer(3, FEBRUARY),
+        Told::StopAfterDelivery(3, FEBRUARY, 0, 243),
+    ];
+    let events = Events::of(alloc, &told)?;
     let first = [
         record_of(alloc, JANUARY, 205, State::Active, &[(0, &file)])?,
         record_of(alloc, FEBRUARY, 243, State::Staged, &[(0, HEADER)])?,
@@ -397,13 +406,16 @@ fn each_node_hands_back_what_it_keeps(rt: HostRuntime) -> Result<(), Fail> {
 #[test]
 fn a_failing_device_is_told_and_keeps_nothing(rt: HostRuntime) -> Result<(), Fail> {
     let alloc = rt.alloc();
-    let mut events = Events::new(alloc);
-    events.publish(JANUARY, &january_file(alloc)?)?;
-    events.offer(1, JANUARY)?;
-    events.deliver(1, JANUARY, 0, 100)?;
-    events.deliver(1, JANUARY, 100, 105)?;
-    events.report(1)?;
-    events.ask(1, b"rft.issn=2434561x")?;
+    let january = january_file(alloc)?;
+    let told = [
+        Told::Publish(JANUARY, &january),
+        Told::Offer(1, JANUARY),
+        Told::Deliver(1, JANUARY, 0, 100),
+        Told::Deliver(1, JANUARY, 100, 105),
+        Told::Report(1),
+        Told::Ask(1, b"rft.issn=2434561x"),
+    ];
+    let events = Events::of(alloc, &told)?;
     let keepers = Vec::from_array(alloc, [Failing::after_commits(alloc, 1)])?;
     let shown = events.shown(keepers)?;
     let text: &[u8] = b"published
@@ -430,15 +442,18 @@ refused NoRelease
 
 #[test]
 fn a_node_is_down_until_a_restart_succeeds(rt: HostRuntime) -> Result<(), Fail> {
-    let mut events = Events::new(rt.alloc());
-    events.publish(JANUARY, &january_file(rt.alloc())?)?;
-    events.offer(1, JANUARY)?;
-    events.restart(1)?;
-    events.report(1)?;
-    events.lose(1, JANUARY)?;
-    events.restart(1)?;
-    events.report(1)?;
-    events.offer(1, JANUARY)?;
+    let january = january_file(rt.alloc())?;
+    let told = [
+        Told::Publish(JANUARY, &january),
+        Told::Offer(1, JANUARY),
+        Told::Restart(1),
+        Told::Report(1),
+        Told::Lose(1, JANUARY),
+        Told::Restart(1),
+        Told::Report(1),
+        Told::Offer(1, JANUARY),
+    ];
+    let events = Events::of(rt.alloc(), &told)?;
     let keepers = Vec::from_array(rt.alloc(), [Failing::at_load(rt.alloc(), 1)])?;
     let shown = events.shown(keepers)?;
     let text: &[u8] = b"published
@@ -457,30 +472,35 @@ known
 #[test]
 fn a_node_that_was_down_has_what_it_kept(rt: HostRuntime) -> Result<(), Fail> {
     let alloc = rt.alloc();
-    let mut events = Events::new(alloc);
-    events.publish(JANUARY, &january_file(alloc)?)?;
-    events.publish(FEBRUARY, &february_file(alloc)?)?;
-    for node in [1, 2] {
-        events.offer(node, JANUARY)?;
-        events.deliver(node, JANUARY, 0, 205)?;
-        events.offer(node, FEBRUARY)?;
-    }
-    // The first node goes down in its reopening after a stop that keeps the file, and the other one stays up.
-    events.stop_after_delivery(1, FEBRUARY, 0, 243)?;
-    events.offer(1, FEBRUARY)?;
-    events.deliver(1, FEBRUARY, 0, 243)?;
-    events.lose(1, FEBRUARY)?;
-    events.stop_before_offer(1, FEBRUARY)?;
-    events.stop_after_delivery(1, FEBRUARY, 0, 243)?;
-    events.report(1)?;
-    events.ask(1, b"")?;
-    events.offer(1, MARCH)?;
-    events.deliver(1, FEBRUARY, 0, 244)?;
-    events.report(2)?;
-    events.restart(1)?;
-    events.report(1)?;
-    events.deliver(1, FEBRUARY, 0, 243)?;
-    events.ask(1, b"rft.eissn=0317-8471")?;
+    let january = january_file(alloc)?;
+    let february = february_file(alloc)?;
+    let told = [
+        Told::Publish(JANUARY, &january),
+        Told::Publish(FEBRUARY, &february),
+        Told::Offer(1, JANUARY),
+        Told::Deliver(1, JANUARY, 0, 205),
+        Told::Offer(1, FEBRUARY),
+        Told::Offer(2, JANUARY),
+        Told::Deliver(2, JANUARY, 0, 205),
+        Told::Offer(2, FEBRUARY),
+        // The first node goes down in its reopening after a stop that keeps the file, and the other one stays up.
+        Told::StopAfterDelivery(1, FEBRUARY, 0, 243),
+        Told::Offer(1, FEBRUARY),
+        Told::Deliver(1, FEBRUARY, 0, 243),
+        Told::Lose(1, FEBRUARY),
+        Told::StopBeforeOffer(1, FEBRUARY),
+        Told::StopAfterDelivery(1, FEBRUARY, 0, 243),
+        Told::Report(1),
+        Told::Ask(1, b""),
+        Told::Offer(1, MARCH),
+        Told::Deliver(1, FEBRUARY, 0, 244),
+        Told::Report(2),
+        Told::Restart(1),
+        Told::Report(1),
+        Told::Deliver(1, FEBRUARY, 0, 243),
+        Told::Ask(1, b"rft.eissn=0317-8471"),
+    ];
+    let events = Events::of(alloc, &told)?;
     let keepers = [
         Failing::at_load(alloc, 1),
         Failing::after_commits(alloc, u64::MAX),
@@ -519,11 +539,13 @@ release Acme_Global_All_2024-02-01.txt hits 1
 fn a_node_that_is_down_hands_back_its_keeper(rt: HostRuntime) -> Result<(), Fail> {
     let alloc = rt.alloc();
     let file = january_file(alloc)?;
-    let mut events = Events::new(alloc);
-    events.publish(JANUARY, &file)?;
-    events.offer(1, JANUARY)?;
-    events.deliver(1, JANUARY, 0, 205)?;
-    events.stop_before_offer(1, JANUARY)?;
+    let told = [
+        Told::Publish(JANUARY, &file),
+        Told::Offer(1, JANUARY),
+        Told::Deliver(1, JANUARY, 0, 205),
+        Told::StopBeforeOffer(1, JANUARY),
+    ];
+    let events = Events::of(alloc, &told)?;
     let keepers = Vec::from_array(alloc, [Failing::at_load(alloc, 1)])?;
     let shown = events.shown(keepers)?;
     let text: &[u8] = b"published\nnoted\nactivated\ndown Device\n";

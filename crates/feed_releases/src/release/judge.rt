@@ -3,7 +3,7 @@ ghost use Rattle.std.specs.Prelude.{◌≡◌, ◌<◌, ℕ, IsSome};
 ghost use Rattle.feed_model.specs.Content.{byte_in, AreParts};
 ghost use Rattle.feed_model.specs.Change.{merged};
 ghost use Rattle.feed_parts.specs.Shown.{shown_parts};
-ghost use Rattle.feed_parts.specs.Piece.{AreWithin};
+ghost use Rattle.feed_model.specs.Parts.{AreWithin};
 ghost use Rattle.feed_releases.specs.ReleaseValue.{IsFull, IsJudged};
 
 use feed_answer::HoldingsIndex;

@@ -4,7 +4,7 @@ ghost use Rattle.feed_model.specs.Reply.{missing_below};
 ghost use Rattle.feed_model.specs.Content.{byte_in};
 ghost use Rattle.feed_model.specs.Sound.{BearsOut, IsSoundRecord};
 ghost use Rattle.feed_parts.specs.Shown.{shown_parts};
-ghost use Rattle.feed_parts.specs.Piece.{AreWithin};
+ghost use Rattle.feed_model.specs.Parts.{AreWithin};
 ghost use Rattle.feed_keep.specs.Shown.{shown_record};
 ghost use Rattle.feed_releases.specs.ReleaseValue.{IsKnown};
 

@@ -1,5 +1,5 @@
 use Rattle.feed_parts.specs.Shown.{shown_parts}
-use Rattle.feed_parts.specs.Piece.{AreWithin}
+use Rattle.feed_model.specs.Parts.{AreWithin}
 use Rattle.feed_core_tests.proofs.parts.pieces_fill_gaps.Given as goal
 
 abbrev pub invariant-loop-first : goal.invariant-loop-first

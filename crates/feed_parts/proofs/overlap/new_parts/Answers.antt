@@ -3,7 +3,7 @@ use Rattle.std.proofs.lemmas.List.{length-map}
 use Rattle.feed_model.specs.Content.{byte_in, end_of}
 use Rattle.feed_model.specs.Change.{merged}
 use Rattle.feed_parts.specs.Shown.{shown_part, shown_parts}
-use Rattle.feed_parts.specs.Piece.{Adds}
+use Rattle.feed_model.specs.Parts.{Adds}
 use Rattle.feed_parts.specs.Cut.{cuts}
 use Rattle.feed_parts.proofs.Rest.{next, finished, end_is}
 use Rattle.feed_parts.proofs.Left.{IsLeft, left_starts, left_ends, left_missing, left_kept, left_next, left_none}

@@ -1,7 +1,7 @@
 use Rattle.std.proofs.Common.{◌≡◌, ◌≢◌, ◌<◌, ◌+◌, length, IsSomeAnd, refl, arith}
 use Rattle.feed_model.specs.Content.{record_of}
 use Rattle.feed_model.specs.Parts.{Reaches}
-use Rattle.feed_model.proofs.Pieces.{piece_bad, piece_older, piece_unknown, piece_wrong_size, piece_outside, piece_conflict, piece_repeated}
+use Rattle.feed_model.proofs.Pieces.{piece_older, piece_unknown, piece_wrong_size, piece_outside, piece_conflict, piece_repeated}
 use Rattle.feed_releases.specs.declared.overlap.Overlap.TheVariants.{New}
 use Rattle.feed_releases.specs.ReleaseValue.{content_of, LiesOver}
 use Rattle.feed_releases.proofs.Answering.{idle, sized, reaches, one_record}

@@ -1,7 +1,7 @@
 use Rattle.std.proofs.Common.{refl, sym, ◌∙◌, arith}
 use Rattle.feed_model.specs.Content.{byte_in}
 use Rattle.feed_model.proofs.Keeps.{none_missing}
-use Rattle.feed_model.proofs.Merging.{byte_at-within}
+use Rattle.feed_model.proofs.Bytes.{byte_at-within}
 use Rattle.feed_parts.specs.Shown.{shown_parts}
 use Rattle.feed_releases.proofs.release.Release.overlap.Goals as goal
 
