@@ -7,7 +7,3 @@ pub mod judge;
 pub mod length;
 pub mod reply;
 pub mod request_text;
-#[cfg(test)]
-mod server_replies;
-#[cfg(test)]
-mod tests;

@@ -7,8 +7,6 @@ mod heads;
 mod http_fault;
 mod laws;
 mod serving;
-#[cfg(test)]
-mod test_ends;
 
 pub use fetching::got::{Bytes, Got, Method};
 pub use fetching::reply::read_reply;

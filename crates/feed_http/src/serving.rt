@@ -5,5 +5,3 @@ pub mod request;
 pub mod send;
 pub mod serve;
 pub mod shelf;
-#[cfg(test)]
-mod tests;

@@ -6,8 +6,6 @@ use thiserror::Error;
 
 mod ask;
 mod content;
-#[cfg(test)]
-mod tests;
 mod text;
 
 pub use ask::{RangeAsk, ask_reads_back, write_ask};

@@ -1,4 +1,6 @@
-use super::{
+//! Byte ranges: values that are read and written.
+
+use feed_range::{
     ContentRange, RangeAsk, RangeFault, WriteFault, ask_reads_back, content_range_reads_back,
     write_ask, write_content_range,
 };

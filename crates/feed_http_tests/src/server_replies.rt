@@ -1,10 +1,9 @@
 //! Replies as nginx, Apache and Python's `http.server` wrote them to the requests of
 //! `write_request` and `write_head_request`, on 127.0.0.1, byte for byte.
 
-use crate::fetching::got::Method;
-use crate::fetching::request_text::{write_head_request, write_request};
-use crate::fetching::tests::told;
-use crate::test_ends::Sink;
+use crate::ends::Sink;
+use crate::replies_read::told;
+use feed_http::{Method, write_head_request, write_request};
 use feed_names::ReleaseName;
 use std::test::Fail;
 

@@ -1,10 +1,7 @@
-use crate::serving::serve::serve_one;
-use crate::serving::shelf::{Shelf, ShelfFault};
-use crate::test_ends::{Cuts, Sink};
-use crate::{
-    Bytes, Got, HttpFault, Method, fetch_gives_slice, head_gives_size, is_host, part_reads_back,
-    read_reply, size_reads_back, write_request,
-};
+//! Requests that the server answers.
+
+use crate::ends::{Cuts, Sink};
+use feed_http::{HttpFault, Shelf, ShelfFault, serve_one};
 use feed_names::ReleaseName;
 use std::alloc::Global;
 use std::test::Fail;
@@ -50,7 +47,7 @@ const NOT_IMPLEMENTED: &str =
 
 /// A shelf of one file, whose device fails at the call of that number, counted from 1.
 #[derive(Drop)]
-struct OneFile<'a> {
+pub struct OneFile<'a> {
     file: &'a [u8],
     fails_at: usize,
     calls: usize,
@@ -59,7 +56,7 @@ struct OneFile<'a> {
 }
 
 impl<'a> OneFile<'a> {
-    fn new(file: &'a [u8]) -> OneFile<'a> {
+    pub fn new(file: &'a [u8]) -> OneFile<'a> {
         OneFile::failing(file, usize::MAX)
     }
 
@@ -339,40 +336,5 @@ fn bodies_go_out_in_blocks(rt: HostRuntime) -> Result<(), Fail> {
     assert_eq!(rt; file.len(), 140_000);
     assert!(rt; sink.bytes.ends_with(&file[7..]));
     assert_eq!(rt; shelf.longest, 65_536);
-    Ok(())
-}
-
-#[test]
-fn what_is_asked_is_served_and_read_back(rt: HostRuntime) -> Result<(), Fail> {
-    part_reads_back();
-    size_reads_back();
-    fetch_gives_slice();
-    head_gives_size();
-    let name = ReleaseName::parse(rt.alloc(), NAME.as_bytes())?;
-    assert!(rt; is_host(b"h"));
-    let mut request = Sink::new(rt.alloc());
-    assert_eq!(rt; write_request(&mut request, b"h", &name, 2, 4), Ok(()));
-    let mut reply = Sink::new(rt.alloc());
-    let mut shelf = OneFile::new(b"0123456789");
-    let mut reader = Cuts::new(&request.bytes, 7);
-    let answer = serve_one(rt.alloc(), &mut reader, &mut reply, &mut shelf);
-    assert_eq!(rt; answer, Ok(206));
-    let mut reader = Cuts::new(&reply.bytes, 7);
-    let got = read_reply(rt.alloc(), &mut reader, Method::Get);
-    let Ok(
-        Got::Piece {
-            first,
-            total,
-            bytes,
-        },
-    ) = got
-    else {
-        return Err(Fail::from("no piece"));
-    };
-    assert_eq!(rt; first, 2);
-    assert_eq!(rt; total, Some(10));
-    assert_eq!(rt; bytes.as_slice(), b"234".as_slice());
-    let kept = Bytes::new(bytes.into_vec());
-    assert_eq!(rt; kept.as_slice(), b"234".as_slice());
     Ok(())
 }
