@@ -1,5 +1,5 @@
 -- The law over both ends: what is asked for, served and read back.
-use Rattle.std.proofs.Common.{◌≡◌, ◌≤◌, ◌<◌, ◌+◌, ◌-◌, ◌^◌, ℕ, List, [], ◌∷◌, ◌++◌, length, All, codes, Some, Result, Ok, Err, true, false, refl, sym, ap, arith, ◌∙◌, append_assoc, subst, inl, inr, reverse, lit≤}
+use Rattle.std.proofs.Common.{◌≡◌, ◌≤◌, ◌<◌, ◌+◌, ◌-◌, ◌^◌, ℕ, List, [], ◌∷◌, ◌++◌, length, take, All, codes, Some, Result, Ok, Err, true, false, refl, sym, ap, arith, ◌∙◌, append_assoc, subst, inl, inr, reverse, lit≤}
 use Rattle.std.specs.List.{list_all, flat_map}
 use Rattle.std.specs.Char.{is_ascii_digit}
 use Rattle.std.specs.Fmt.{decimal}
@@ -23,6 +23,7 @@ use Rattle.feed_http.specs.declared.fetching.got.Got.TheVariants.{Piece, Size}
 use Rattle.feed_http.specs.Served.{reply_of, reply_text, head_alone}
 use Rattle.feed_http.specs.ReplyHeads.{is_interim, print_heads, IsInterimHead, HasNoReply, IsWhyNoReply}
 use Rattle.feed_http.specs.Got.{IsGot, IsReply, IsJudged, IsHeadFailure}
+use Rattle.feed_http.proofs.BufferFilling.{take-behind}
 use Rattle.feed_http.specs.Laws.{IsGiven, PartReadsBack, SizeReadsBack}
 use Rattle.std.specs.Result.{result_ok}
 use Rattle.feed_http.specs.declared.fetching.got.Method.{Method}
@@ -242,33 +243,40 @@ unfolding part_head
 not_interim places count = refl
 
 -- behind no interim head
-no_interim : (text : List ℕ) (h : ResponseHead) (body rest : List ℕ) (interim : List ResponseHead) → ReadsResponse text h body → is_interim h ≡ false → All IsInterimHead interim → text ≡ print_heads interim ++ rest → interim ≡ []
+no_interim : (text : List ℕ) (h : ResponseHead) (body rest : List ℕ) (interim : List ResponseHead) → ReadsResponse text h body → is_interim h ≡ false → All (IsInterimHead 64) interim → text ≡ print_heads interim ++ rest → interim ≡ []
 no_interim text h body rest [] reads other skipped e = refl
 no_interim text h body rest (i ∷ more) reads other skipped e =
-    let one : IsInterimHead i = skipped 0 i (omega arith) in
+    let one : IsInterimHead 64 i = skipped 0 i (omega arith) in
     let same : i ≡ h = (response_unique text i h (print_heads more ++ rest) body (one.valid, e ∙ append_assoc (print_response i) (print_heads more) rest) reads).0 in
     absurd (false≢true (sym other ∙ ap is_interim (sym same) ∙ one.interim))
 
 -- a piece is all of the body
 piece_given : (first size count : ℕ) (body : List ℕ) (result : Result Got HttpFault) → length body ≡ count → IsGot (judgement.Part first (Some size) count (Sized count)) body result → IsGiven (Piece first (Some size) body) result
-piece_given first size count body (Ok given) long is = is.1 ∙ ap (λ b. Piece first (Some size) b) (is.2.1.1 ∙ take_all count body (omega arith))
+piece_given first size count body (Ok given) long is = is.1 ∙ ap (λ b. Piece first (Some size) b) (is.2.1 ∙ take_all count body (omega arith))
 piece_given first size count body (Err Read) long is = tt
 piece_given first size count body (Err Memory) long is = tt
 piece_given first size count body (Err Length) long (inl is) = absurd is
-piece_given first size count body (Err Length) long (inr is) = absurd (cc)
-piece_given first size count body (Err Short) long (inl is) = absurd (omega arith)
-piece_given first size count body (Err Short) long (inr is) = absurd (cc)
+piece_given first size count body (Err Length) long (inr is) = absurd is
+piece_given first size count body (Err Short) long is = absurd (omega arith)
 piece_given first size count body (Err _) long is = absurd is
 
 few_fields : (places count : List ℕ) → length (part_head places count).fields ≤ 64
 unfolding part_head part_fields
 few_fields places count = lit≤ tt
 
+-- a head that fits stands in as many bytes
+reads_front : (bytes : ℕ) (text : List ℕ) (h : ResponseHead) (body : List ℕ) → ReadsResponse text h body → length (print_response h) ≤ bytes
+    → ReadsResponse (take bytes text) h (take (bytes - length (print_response h)) body)
+reads_front bytes text h body reads short =
+    let whole : length (print_response h) + (bytes - length (print_response h)) ≡ bytes = omega arith in
+    (reads.0, ap (take bytes) reads.1 ∙ ap (λ n. take n (print_response h ++ body)) (sym whole) ∙ take-behind (print_response h) body (length (print_response h)) (bytes - length (print_response h)) refl)
+
 -- a text that begins with a head within the limits is at no fault
 why_not : (fault : HttpFault) (bytes : ℕ) (text : List ℕ) (h : ResponseHead) (body : List ℕ) → ReadsResponse text h body → length (print_response h) ≤ bytes → length h.fields ≤ 64 → IsWhyNoReply bytes 64 fault text → ⊥
 why_not Short bytes text h body reads short few why = why.1.not_whole h body reads
-why_not HeadTooLong bytes text h body reads short few why = why [] h (body ++ []) (ReadsResponse-append text h body [] reads) short few
-why_not BadHead bytes text h body reads short few why = why [] h (body ++ []) (ReadsResponse-append text h body [] reads) short few
+why_not HeadTooLong bytes text h body reads short few why = why.1.not_whole h (take (bytes - length (print_response h)) body) (reads_front bytes text h body reads short)
+why_not BadHead bytes text h body reads short few why = let front : List ℕ = take (bytes - length (print_response h)) body in
+    why [] h (front ++ []) (ReadsResponse-append (take bytes text) h front [] (reads_front bytes text h body reads short)) few
 why_not _ bytes text h body reads short few why = why
 
 -- the heads of a text that begins with a head within the limits do not fail

@@ -9,7 +9,7 @@ use Rattle.std.proofs.lemmas.List.{append-nil, length-append, take_at, take-appe
 use Rattle.httparse.specs.Grammar.{ChunkLine, print_chunk_line, print_extension, ReadsChunkLine, HasNoChunkLine, NeverHasChunkLine, Field, LineEnd, crlf, lf, print_field, print_section, ReadsSection, HasNoSection}
 use Rattle.httparse.specs.Spans.{IsChunkLineAt, IsSectionOf, IsSectionWithin, SectionOverflows, header_bytes, name_and_value}
 use Rattle.httparse.specs.declared.spans.HeaderSpan.{HeaderSpan}
-use Rattle.feed_http.proofs.KnownBytes.{consumes_more}
+use Rattle.std.proofs.KnownBytes.{Consumes-trans}
 use Rattle.feed_http.specs.Chunks.{NeverBeginsWithLine, NeverBeginsWithTrailers, IsLineTaken, AreTrailersTaken}
 
 -- the last byte
@@ -127,7 +127,7 @@ full_section (Some text) (Some rest) bytes taken none long = λ more fields end 
 
 -- one more byte of the reader
 pub pushed : (old mid new : Option (List ℕ)) (front items : List ℕ) (b : ℕ) → items ≡ front ++ b ∷ [] → Consumes old mid front → Consumes mid new (b ∷ []) → Consumes old new items
-pushed old mid new front items b e taken one = rw e (consumes_more old mid new front (b ∷ []) taken one)
+pushed old mid new front items b e taken one = rw e (Consumes-trans old mid new front (b ∷ []) taken one)
 
 pub no_line_pushed : (front items : List ℕ) (b : ℕ) → items ≡ front ++ b ∷ [] → HasNoChunkLine front → b ≢ 10 → HasNoChunkLine items
 no_line_pushed front items b e none other = let P : List ℕ → Type 0 = HasNoChunkLine in subst P (sym e) (no_line_more front b none other)
@@ -149,7 +149,7 @@ line_taken old mid new front items text b len size e same short taken one none f
       line = found.0;
       valid = record { valid = at.0; short = omega (arith, ap length whole, length-append front (b ∷ [])) };
       size_is = found.1.size_is;
-      taken = subst P whole (consumes_more old mid new front (b ∷ []) taken one);
+      taken = subst P whole (Consumes-trans old mid new front (b ∷ []) taken one);
     }
 
 -- a whole trailer section was taken
@@ -169,5 +169,5 @@ trailers_taken old mid new front items text b headers found e same short room wi
         few = omega (arith, simp length-map at counted, length-take found.1 headers, room);
         short = omega (arith, ap length whole, length-append front (b ∷ []));
       };
-      taken = subst P whole (consumes_more old mid new front (b ∷ []) taken one);
+      taken = subst P whole (Consumes-trans old mid new front (b ∷ []) taken one);
     }

@@ -1,5 +1,6 @@
 //! The server end of an exchange.
 
+pub mod memory_shelf;
 pub mod reply_head;
 pub mod request;
 pub mod send;

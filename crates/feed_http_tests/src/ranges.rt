@@ -1,10 +1,10 @@
 //! Byte ranges: values that are read and written.
 
+use RangeAsk::{Part, Unsatisfied, Whole};
 use feed_range::{
     ContentRange, RangeAsk, RangeFault, WriteFault, ask_reads_back, content_range_reads_back,
     write_ask, write_content_range,
 };
-use RangeAsk::{Part, Unsatisfied, Whole};
 use std::io::Write;
 
 const fn part(first: u64, last: u64, total: Option<u64>) -> ContentRange {

@@ -42,17 +42,18 @@ pub fn read_sized<R: Read>(alloc: Global, reader: &mut R, size: usize) -> Result
     Ok(body)
 }
 
-/// Reads all bytes up to the end of the stream, of which there may be so many.
+/// Reads all bytes up to the end of the stream, of which there may be from `least` to `most`.
 pub fn read_to_end<R: Read>(
     alloc: Global,
     reader: &mut R,
+    least: usize,
     most: usize,
 ) -> Result<Vec<u8>, HttpFault>
-    ensures size { IfOk result (λ body. length body.items ≤ most) }
+    ensures size { IfOk result (λ body. (least ≤ length body.items) × (length body.items ≤ most)) }
     ensures taken { IfOk result (λ body.
         Consumes (R.remaining reader.old) (R.remaining reader.new) body.items) }
     ensures end { OnOk result (IsAtEnd (R.remaining reader.new)) }
-    ensures faults { IfErr result (IsEndlessFault most (R.remaining reader.old)) }
+    ensures faults { IfErr result (IsEndlessFault least most (R.remaining reader.old)) }
 {
     let mut block = [0u8; BLOCK];
     let mut body = Vec::new(alloc);
@@ -61,6 +62,9 @@ pub fn read_to_end<R: Read>(
             return Err(HttpFault::Read);
         };
         if count == 0 {
+            if body.len() < least {
+                return Err(HttpFault::Short);
+            }
             return Ok(body);
         }
         if count > most - body.len() {

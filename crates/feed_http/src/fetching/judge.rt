@@ -1,21 +1,17 @@
 //! What the head of a reply says (RFC 9110, sections 8.4, 8.6, 14.4 and 15; RFC 9112, section 6).
-ghost use Rattle.std.specs.Prelude.{◌≡◌, IfSome, IfOk, option_copied};
+ghost use Rattle.std.specs.Prelude.{◌≡◌, IfSome, option_copied};
 ghost use Rattle.feed_range.specs.Content.{IsInOrder};
 ghost use Rattle.httparse.specs.Grammar.{ResponseHead};
 ghost use Rattle.feed_http.specs.Fields.{only, has_any, values_named};
-ghost use Rattle.feed_http.specs.Judgements.{is_identity, is_chunked, is_transfer_coded, is_coded_otherwise, stated_length, framing_of, framed_by_length, range_of, part_judged, part_framed, whole_judged, size_judged, unsatisfied_part, file_judged, judged, gives_file, IsInBuffer, HasHead, IsSizedRight};
+ghost use Rattle.feed_http.specs.Judgements.{is_identity, is_chunked, is_transfer_coded, is_coded_otherwise, stated_length, framing_of, framed_by_length, range_of, part_judged, part_framed, whole_judged, size_judged, unsatisfied_part, file_judged, judged, gives_file, IsInBuffer, HasHead};
 
 use crate::fetching::got::Method;
 use crate::fetching::length::agreed_length;
 use crate::heads::fields::{all_values_are, has_field, sole_value};
 use crate::http_fault::HttpFault;
+use crate::limits::{FILE_LIMIT, PIECE_LIMIT};
 use feed_range::ContentRange;
 use httparse::spans::{HeaderSpan, ResponseSpans};
-
-// The most places of a piece, and the most bytes of a file.
-const MOST_PLACES: u64 = 1_048_576;
-
-pub const MOST_BYTES: u64 = 67_108_864;
 
 /// How a body ends.
 #[derive(Clone, Copy, Debug, PartialEq, Eq)]
@@ -148,7 +144,6 @@ impl Reply<'_> {
         requires { IsInBuffer self.now }
         ensures value { (head : ResponseHead) → HasHead self.now head
             → result ≡ unsatisfied_part head }
-        ensures sized { IfOk result IsSizedRight }
     {
         if !self.has_field(b"content-range") {
             return Ok(Judgement::Unsatisfied { total: None });
@@ -165,7 +160,6 @@ impl Reply<'_> {
         requires { IsInBuffer self.now }
         ensures value { (head : ResponseHead) → HasHead self.now head
             → result ≡ file_judged method head }
-        ensures sized { IfOk result IsSizedRight }
     {
         if self.is_coded_otherwise(method) {
             return Err(HttpFault::Coding);
@@ -184,7 +178,6 @@ impl Reply<'_> {
         requires { IsInBuffer self.now }
         ensures value { (head : ResponseHead) → HasHead self.now head
             → result ≡ judged method head }
-        ensures sized { IfOk result IsSizedRight }
     {
         if self.spans.code == 404 {
             return Ok(Judgement::Missing);
@@ -211,7 +204,6 @@ fn framed_by_length(length: Result<Option<u64>, HttpFault>) -> Result<Framing, H
 
 fn judge_size(length: Result<Option<u64>, HttpFault>) -> Result<Judgement, HttpFault>
     ensures value { result ≡ size_judged length }
-    ensures sized { IfOk result IsSizedRight }
 {
     match length {
         Ok(Some(length)) => Ok(Judgement::Size(length)),
@@ -226,12 +218,11 @@ fn judge_part(
 ) -> Result<Judgement, HttpFault>
     requires { IfSome range IsInOrder }
     ensures value { result ≡ part_judged range framing }
-    ensures sized { IfOk result IsSizedRight }
 {
     let Some(ContentRange::Part { first, last, total }) = range else {
         return Err(HttpFault::Range);
     };
-    if last - first >= MOST_PLACES {
+    if last - first >= PIECE_LIMIT {
         return Err(HttpFault::BodyTooLong);
     }
     frame_part(first, total, last - first + 1, framing)
@@ -244,7 +235,6 @@ fn frame_part(
     framing: Result<Framing, HttpFault>,
 ) -> Result<Judgement, HttpFault>
     ensures value { result ≡ part_framed first total count framing }
-    ensures sized { IfOk result IsSizedRight }
 {
     let framing = framing?;
     match framing {
@@ -260,11 +250,10 @@ fn frame_part(
 
 fn judge_whole(framing: Result<Framing, HttpFault>) -> Result<Judgement, HttpFault>
     ensures value { result ≡ whole_judged framing }
-    ensures sized { IfOk result IsSizedRight }
 {
     let framing = framing?;
     match framing {
-        Framing::Sized(length) if length > MOST_BYTES => Err(HttpFault::BodyTooLong),
+        Framing::Sized(length) if length > FILE_LIMIT => Err(HttpFault::BodyTooLong),
         _ => Ok(Judgement::Whole(framing)),
     }
 }

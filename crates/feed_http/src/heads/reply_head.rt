@@ -53,7 +53,7 @@ pub fn read_reply_head<R: Read>(
     ensures within { IfOk result (λ read. IsResponseWithin
         (drop read.start (take read.filled buffer.new)) headers.new read.spans) }
     ensures head { IfOk result (λ read.
-        IsReplyIn (take read.filled buffer.new) headers.new read.start read.spans) }
+        IsReplyIn (length headers.old) (take read.filled buffer.new) headers.new read.start read.spans) }
     ensures taken { IfOk result (λ read.
         Consumes (R.remaining reader.old) (R.remaining reader.new) (take read.filled buffer.new)) }
     ensures faults { IfErr result IsHeadFault }
