@@ -111,6 +111,59 @@ fn replies_are_read(rt: HostRuntime) -> Result<(), Fail> {
             "Coding",
         ),
         (
+            "HTTP/1.1 206 x\r\nContent-Range: bytes 0-9/10\r\nTransfer-Encoding: chunked\r\n\r\n\
+             5\r\n01234\r\n0\r\n",
+            "Length",
+        ),
+        (
+            "HTTP/1.1 206 x\r\nContent-Range: bytes 0-9/10\r\nTransfer-Encoding: chunked\r\n\r\n\
+             5\r\n01234\r\n0\r\nno field\r\n\r\n",
+            "Length",
+        ),
+        (
+            "HTTP/1.1 206 x\r\nContent-Range: bytes 0-9/10\r\nTransfer-Encoding: chunked\r\n\r\n\
+             5\r\n01234\r\n0",
+            "Short",
+        ),
+        (
+            "HTTP/1.1 206 x\r\nContent-Range: bytes 0-9/10\r\nTransfer-Encoding: chunked\r\n\r\n\
+             b\r\n0123",
+            "Length",
+        ),
+        (
+            "HTTP/1.1 206 x\r\nContent-Range: bytes 0-9/10\r\nTransfer-Encoding: chunked\r\n\r\n\
+             b\r\n01234567890zz",
+            "Length",
+        ),
+        (
+            "HTTP/1.1 206 x\r\nContent-Range: bytes 0-9/10\r\nTransfer-Encoding: chunked\r\n\r\n\
+             5\r\n01234\r\n6\r\n567",
+            "Length",
+        ),
+        (
+            "HTTP/1.1 206 x\r\nContent-Range: bytes 0-9/10\r\nTransfer-Encoding: chunked\r\n\r\n\
+             5\r\n01234\r\nffffffffffffffff\r\nz",
+            "Length",
+        ),
+        (
+            "HTTP/1.1 206 x\r\nContent-Range: bytes 0-9/10\r\nTransfer-Encoding: chunked\r\n\r\n\
+             a\r\n0123456789\r\n0\r\nA: b\r\n",
+            "Short",
+        ),
+        (
+            "HTTP/1.1 200 OK\r\nTransfer-Encoding: chunked\r\n\r\n4000001\r\n0123",
+            "BodyTooLong",
+        ),
+        (
+            "HTTP/1.1 200 OK\r\nTransfer-Encoding: chunked\r\n\r\n\
+             2\r\nab\r\n4000000\r\n0123",
+            "BodyTooLong",
+        ),
+        (
+            "HTTP/1.1 200 OK\r\nTransfer-Encoding: chunked\r\n\r\nffffffffffffffff\r\nzz",
+            "BodyTooLong",
+        ),
+        (
             "HTTP/1.1 206 x\r\nContent-Range: bytes 0-3/4\r\n\r\n0123",
             "piece 0 Some(4) 0123",
         ),
@@ -291,5 +344,99 @@ fn replies_have_limits(rt: HostRuntime) -> Result<(), Fail> {
         let given = told(rt.alloc(), &reply, Method::Get, 7)?;
         assert_eq!(rt; given.as_str(), wanted, "{count}");
     }
+    Ok(())
+}
+
+// 67,108,865 bytes and a wrong end: the chunk is refused by its size, and not read.
+#[test]
+fn oversize_chunks_are_not_read(rt: HostRuntime) -> Result<(), Fail> {
+    let head = b"HTTP/1.1 200 OK\r\nTransfer-Encoding: chunked\r\n\r\n4000001\r\n".as_slice();
+    let mut reply = Vec::from_slice(rt.alloc(), head)?;
+    let bytes = vec![in rt.alloc(); b'a'; 67_108_865]?;
+    reply.extend_from_slice(&bytes)?;
+    reply.extend_from_slice(b"zz")?;
+    let mut reader = Cuts::new(&reply, 7);
+    let given = tell(rt.alloc(), read_reply(rt.alloc(), &mut reader, Method::Get))?;
+    assert_eq!(rt; given.as_str(), "BodyTooLong");
+    assert!(rt; reader.calls < 1_000);
+    Ok(())
+}
+
+// The head of a reply with so many fields.
+fn with_fields(alloc: Global, start: &[u8], count: usize) -> Result<Vec<u8>, Fail> {
+    let mut head = Vec::from_slice(alloc, start)?;
+    for _ in 0..count {
+        head.extend_from_slice(b"X: x\r\n")?;
+    }
+    head.extend_from_slice(b"\r\n")?;
+    Ok(head)
+}
+
+// Each head may have 64 fields, an interim one too.
+#[test]
+fn fields_of_replies_have_limits(rt: HostRuntime) -> Result<(), Fail> {
+    let table = [
+        (0, 64, "missing"),
+        (0, 65, "BadHead"),
+        (64, 64, "missing"),
+        (65, 0, "BadHead"),
+        (64, 65, "BadHead"),
+    ];
+    for (early, late, wanted) in table {
+        let mut reply = with_fields(rt.alloc(), b"HTTP/1.1 103 x\r\n", early)?;
+        let last = with_fields(rt.alloc(), b"HTTP/1.1 404 x\r\n", late)?;
+        reply.extend_from_slice(&last)?;
+        for step in [1, 2, 7, usize::MAX] {
+            let given = told(rt.alloc(), &reply, Method::Get, step)?;
+            assert_eq!(rt; given.as_str(), wanted, "{early} and {late} by {step}");
+        }
+    }
+    Ok(())
+}
+
+// A head of that start, whose only field makes it so many bytes long.
+fn padded(alloc: Global, start: &[u8], length: usize) -> Result<Vec<u8>, Fail> {
+    let mut head = Vec::from_slice(alloc, start)?;
+    head.extend_from_slice(b"X:")?;
+    let mut left = length.saturating_sub(start.len()).saturating_sub(6);
+    while left > 0 {
+        head.push(b'x')?;
+        left -= 1;
+    }
+    head.extend_from_slice(b"\r\n\r\n")?;
+    Ok(head)
+}
+
+// All heads together may have 8,192 bytes. What is refused is `BadHead`, however long it is.
+#[test]
+fn heads_of_replies_have_limits(rt: HostRuntime) -> Result<(), Fail> {
+    let longest = padded(rt.alloc(), b"HTTP/1.1 404 x\r\n", 8_192)?;
+    let longer = padded(rt.alloc(), b"HTTP/1.1 404 x\r\n", 8_193)?;
+    let mut interim = padded(rt.alloc(), b"HTTP/1.1 103 x\r\n", 8_174)?;
+    interim.extend_from_slice(b"HTTP/1.1 404 x\r\n\r\n")?;
+    let mut full = padded(rt.alloc(), b"HTTP/1.1 103 x\r\n", 8_192)?;
+    full.extend_from_slice(b"HTTP/1.1 404 x\r\n\r\n")?;
+    let mut refused = with_fields(rt.alloc(), b"HTTP/1.1 404 x\r\n", 65)?;
+    refused.truncate(refused.len().saturating_sub(2));
+    let padding = vec![in rt.alloc(); b'x'; 8_192]?;
+    refused.extend_from_slice(&padding)?;
+    let endless = vec![in rt.alloc(); b'\n'; 8_193]?;
+    let table = [
+        (&longest, 8_192, "missing"),
+        (&longer, 8_193, "HeadTooLong"),
+        (&interim, 8_192, "missing"),
+        (&full, 8_210, "HeadTooLong"),
+        (&refused, 8_598, "BadHead"),
+        (&endless, 8_193, "HeadTooLong"),
+    ];
+    for (reply, length, wanted) in table {
+        assert_eq!(rt; reply.len(), length);
+        for step in [7, usize::MAX] {
+            let given = told(rt.alloc(), reply, Method::Get, step)?;
+            assert_eq!(rt; given.as_str(), wanted, "{length} bytes by {step}");
+        }
+    }
+    let short = told(rt.alloc(), &longer[..8_191], Method::Get, 7)?;
+    assert_eq!(rt; short.as_str(), "Short");
     Ok(())
 }
