@@ -1,13 +1,13 @@
 //! What the head of a reply says (RFC 9110, sections 8.4, 8.6, 14.4 and 15; RFC 9112, section 6).
-ghost use Rattle.std.specs.Prelude.{◌≡◌, IfSome, option_copied};
+ghost use Rattle.std.specs.Prelude.{◌≡◌, IfSome};
 ghost use Rattle.feed_range.specs.Content.{IsInOrder};
 ghost use Rattle.httparse.specs.Grammar.{ResponseHead};
-ghost use Rattle.feed_http.specs.Fields.{only, has_any, values_named};
+ghost use Rattle.feed_http.specs.Fields.{AreWithin, AreFieldsOf};
 ghost use Rattle.feed_http.specs.Judgements.{is_identity, is_chunked, is_transfer_coded, is_coded_otherwise, stated_length, framing_of, framed_by_length, range_of, part_judged, part_framed, whole_judged, size_judged, unsatisfied_part, file_judged, judged, gives_file, IsInBuffer, HasHead};
 
 use crate::fetching::got::Method;
 use crate::fetching::length::agreed_length;
-use crate::heads::fields::{all_values_are, has_field, sole_value};
+use crate::heads::fields::Fields;
 use crate::http_fault::HttpFault;
 use crate::limits::{FILE_LIMIT, PIECE_LIMIT};
 use feed_range::ContentRange;
@@ -49,42 +49,36 @@ pub struct Reply<'b> {
 }
 
 impl Reply<'_> {
-    fn sole_value(&self, name: &[u8]) -> Option<&[u8]>
+    fn fields(&self) -> Fields<'_>
         requires { IsInBuffer self.now }
-        ensures { (head : ResponseHead) → HasHead self.now head
-            → option_copied result ≡ only (values_named name.now head.fields) }
+        ensures within { AreWithin result }
+        ensures fields { (head : ResponseHead) → HasHead self.now head → AreFieldsOf result head.fields }
     {
-        sole_value(self.buffer, &self.headers[..self.spans.headers], name)
-    }
-
-    fn has_field(&self, name: &[u8]) -> bool
-        requires { IsInBuffer self.now }
-        ensures { (head : ResponseHead) → HasHead self.now head
-            → result ≡ has_any (values_named name.now head.fields) }
-    {
-        has_field(self.buffer, &self.headers[..self.spans.headers], name)
+        Fields {
+            buffer: self.buffer,
+            headers: &self.headers[..self.spans.headers],
+        }
     }
 
     fn is_identity(&self) -> bool
         requires { IsInBuffer self.now }
         ensures { (head : ResponseHead) → HasHead self.now head → result ≡ is_identity head }
     {
-        let headers = &self.headers[..self.spans.headers];
-        all_values_are(self.buffer, headers, b"content-encoding", b"identity")
+        self.fields().all_values_are(b"content-encoding", b"identity")
     }
 
     fn is_transfer_coded(&self) -> bool
         requires { IsInBuffer self.now }
         ensures { (head : ResponseHead) → HasHead self.now head → result ≡ is_transfer_coded head }
     {
-        self.has_field(b"transfer-encoding")
+        self.fields().has_field(b"transfer-encoding")
     }
 
     fn is_chunked(&self) -> bool
         requires { IsInBuffer self.now }
         ensures { (head : ResponseHead) → HasHead self.now head → result ≡ is_chunked head }
     {
-        match self.sole_value(b"transfer-encoding") {
+        match self.fields().sole_value(b"transfer-encoding") {
             Some(value) => self.spans.version == 1 && value.eq_ignore_ascii_case(b"chunked"),
             None => false,
         }
@@ -103,10 +97,10 @@ impl Reply<'_> {
         requires { IsInBuffer self.now }
         ensures { (head : ResponseHead) → HasHead self.now head → result ≡ stated_length head }
     {
-        if !self.has_field(b"content-length") {
+        if !self.fields().has_field(b"content-length") {
             return Ok(None);
         }
-        match agreed_length(self.buffer, &self.headers[..self.spans.headers]) {
+        match agreed_length(&self.fields()) {
             Some(length) => Ok(Some(length)),
             None => Err(HttpFault::Length),
         }
@@ -127,7 +121,7 @@ impl Reply<'_> {
         ensures in_order { IfSome result IsInOrder }
         ensures value { (head : ResponseHead) → HasHead self.now head → result ≡ range_of head }
     {
-        match self.sole_value(b"content-range") {
+        match self.fields().sole_value(b"content-range") {
             Some(value) => ContentRange::read(value).ok(),
             None => None,
         }
@@ -145,7 +139,7 @@ impl Reply<'_> {
         ensures value { (head : ResponseHead) → HasHead self.now head
             → result ≡ unsatisfied_part head }
     {
-        if !self.has_field(b"content-range") {
+        if !self.fields().has_field(b"content-range") {
             return Ok(Judgement::Unsatisfied { total: None });
         }
         match self.range() {

@@ -3,10 +3,10 @@ ghost use Rattle.std.specs.Prelude.{◌≡◌, ◌==◌, IfOk, IsOkUnless, optio
 ghost use Rattle.httparse.specs.Grammar.{RequestHead};
 ghost use Rattle.feed_range.specs.Text.{slash, strip_prefix};
 ghost use Rattle.feed_range.specs.Ask.{IsInside};
-ghost use Rattle.feed_http.specs.Fields.{only, has_any, values_named};
+ghost use Rattle.feed_http.specs.Fields.{AreWithin, AreFieldsOf};
 ghost use Rattle.feed_http.specs.Requests.{from_slash, path_of, lacks_host, is_get, is_head, is_unsupported, range_value, ask_for, IsNamedBy, IsInBuffer, HasHead};
 
-use crate::heads::fields::{has_field, sole_value};
+use crate::heads::fields::Fields;
 use crate::http_fault::HttpFault;
 use feed_names::{NameFault, ReleaseName};
 use feed_range::RangeAsk;
@@ -22,20 +22,15 @@ pub struct Request<'b> {
 }
 
 impl Request<'_> {
-    fn sole_value(&self, name: &[u8]) -> Option<&[u8]>
+    fn fields(&self) -> Fields<'_>
         requires { IsInBuffer self.now }
-        ensures { (head : RequestHead) → HasHead self.now head
-            → option_copied result ≡ only (values_named name.now head.fields) }
+        ensures within { AreWithin result }
+        ensures fields { (head : RequestHead) → HasHead self.now head → AreFieldsOf result head.fields }
     {
-        sole_value(self.buffer, &self.headers[..self.spans.headers], name)
-    }
-
-    fn has_field(&self, name: &[u8]) -> bool
-        requires { IsInBuffer self.now }
-        ensures { (head : RequestHead) → HasHead self.now head
-            → result ≡ has_any (values_named name.now head.fields) }
-    {
-        has_field(self.buffer, &self.headers[..self.spans.headers], name)
+        Fields {
+            buffer: self.buffer,
+            headers: &self.headers[..self.spans.headers],
+        }
     }
 
     /// Whether a request of HTTP/1.1 has not just one Host field (RFC 9112, section 3.2).
@@ -43,7 +38,7 @@ impl Request<'_> {
         requires { IsInBuffer self.now }
         ensures { (head : RequestHead) → HasHead self.now head → result ≡ lacks_host head }
     {
-        self.spans.version == 1 && self.sole_value(b"host").is_none()
+        self.spans.version == 1 && self.fields().sole_value(b"host").is_none()
     }
 
     /// Whether only the head of the reply is asked for (RFC 9110, section 9.3.2).
@@ -66,7 +61,7 @@ impl Request<'_> {
         requires { IsInBuffer self.now }
         ensures { (head : RequestHead) → HasHead self.now head → result ≡ is_unsupported head }
     {
-        !(self.is_get() || self.is_head()) || self.has_field(b"transfer-encoding")
+        !(self.is_get() || self.is_head()) || self.fields().has_field(b"transfer-encoding")
     }
 
     fn range_value(&self) -> Option<&[u8]>
@@ -74,10 +69,10 @@ impl Request<'_> {
         ensures { (head : RequestHead) → HasHead self.now head
             → option_copied result ≡ range_value head }
     {
-        if self.has_field(b"if-range") {
+        if self.fields().has_field(b"if-range") {
             return None;
         }
-        self.sole_value(b"range")
+        self.fields().sole_value(b"range")
     }
 
     /// The part of a file of that length that is asked for (RFC 9110, section 14.2).
