@@ -9,7 +9,8 @@ use Rattle.httparse.specs.Ascii.{crlf_bytes}
 use Rattle.httparse.specs.Grammar.{print_chunk_line}
 use Rattle.feed_http.specs.declared.http_fault.HttpFault.{HttpFault}
 use Rattle.feed_http.specs.declared.http_fault.HttpFault.TheVariants.{Read, Short, Coding, Memory}
-use Rattle.feed_http.specs.Chunks.{Chunk, IsChunk, print_chunk, print_chunks, bytes_of, IsLineTaken, IsChunkTaken, IsChunkedFault, IsNotChunked, IsChunkFault, IsUnfinishedLine, NeverBeginsWithLine, BeginsWithLine, IsFitting, IsUnfinishedBehind, IsBadBehind, IsWhyNoChunk}
+use Rattle.feed_http.specs.Chunks.{Chunk, IsChunk, print_chunk, print_chunks, bytes_of, IsLineTaken, IsChunkTaken, IsChunkedFault, IsNotChunked, IsChunkFault, IsUnfinishedLine, NeverBeginsWithLine}
+use Rattle.feed_http.specs.Chunks.{BeginsWithLine, IsFitting, IsUnfinishedBehind, IsBadBehind, IsWhyNoChunk}
 use Rattle.std.proofs.KnownBytes.{Consumes-trans}
 
 -- the chunks that were read so far
@@ -20,7 +21,8 @@ pub record AreChunksRead (old now : Option (List ℕ)) (body : List ℕ) : Type 
   pub taken : Consumes old now (print_chunks chunks)
 
 -- one more chunk
-pub chunk_more : (old mid behind new : Option (List ℕ)) (before after : List ℕ) (size : ℕ) → 0 < size → AreChunksRead old mid before → IsLineTaken mid behind size → IsChunkTaken behind new size before after
+pub chunk_more : (old mid behind new : Option (List ℕ)) (before after : List ℕ) (size : ℕ) → 0 < size → AreChunksRead old mid before → IsLineTaken mid behind size
+    → IsChunkTaken behind new size before after
     → AreChunksRead old new after
 chunk_more old mid behind new before after size some so_far line taken =
     let chunk : Chunk = record { line = line.line; bytes = taken.bytes } in

@@ -13,7 +13,8 @@ use Rattle.feed_http.specs.declared.fetching.judge.Framing.TheVariants.{Chunked,
 use Rattle.feed_http.specs.declared.fetching.judge.Judgement.{Judgement}
 use Rattle.feed_http.specs.declared.fetching.judge.Judgement.TheVariants.{Missing, Unsatisfied, Size, Part, Whole}
 use Rattle.feed_http.specs.Limits.{piece_limit, file_limit}
-use Rattle.feed_http.specs.Judgements.{is_get, values, gives_file, is_transfer_coded, is_coded_otherwise, stated_of, agreed, stated_length, content_length, framed_by_length, framing_of, range_of, part_framed, part_judged, whole_judged, size_judged, unsatisfied_judged, unsatisfied_part, file_judged, judged}
+use Rattle.feed_http.specs.Judgements.{is_get, values, gives_file, is_transfer_coded, is_coded_otherwise, stated_of, agreed, stated_length, content_length, framed_by_length, framing_of, range_of}
+use Rattle.feed_http.specs.Judgements.{part_framed, part_judged, whole_judged, size_judged, unsatisfied_judged, unsatisfied_part, file_judged, judged}
 use Rattle.feed_http.specs.Fields.{has_any}
 use Rattle.feed_http.specs.Got.{IsReadingFault}
 use Rattle.std.specs.Prelude.{codes}
@@ -77,7 +78,8 @@ unsatisfied_head head = either (has_any (values (codes "content-range") head)) (
 file : (method : Method) (head : ResponseHead) → IfErr (file_judged method head) IsReadingFault
 file method head = either (is_coded_otherwise method head) (Err fault.Coding) _ tt
     (either (not (is_get method)) (size_judged (stated_length head)) _ (sized (stated_length head) (stated (values content_length head)))
-    (either (status_code head == 206) (part_judged (range_of head) (framing_of head)) (whole_judged (framing_of head)) (part (range_of head) (framing_of head) (framing head)) (whole (framing_of head) (framing head))))
+    (either (status_code head == 206) (part_judged (range_of head) (framing_of head)) (whole_judged (framing_of head)) (part (range_of head) (framing_of head) (framing head)) (whole
+    (framing_of head) (framing head))))
 
 judged_faults : (method : Method) (head : ResponseHead) → IfErr (judged method head) IsReadingFault
 judged_faults method head = either (status_code head == 404) (Ok Missing) _ tt

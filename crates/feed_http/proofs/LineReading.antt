@@ -6,7 +6,8 @@ use Rattle.std.specs.List.{flat_map}
 use Rattle.std.proofs.lemmas.Bool.{cases_Bool}
 use borrow.Author.Tests.{leb-true, leb-false}
 use Rattle.std.proofs.lemmas.List.{append-nil, length-append, take_at, take-append-le, take-append-drop, length-map, length-take}
-use Rattle.httparse.specs.Grammar.{ChunkLine, print_chunk_line, print_extension, ReadsChunkLine, HasNoChunkLine, NeverHasChunkLine, Field, LineEnd, crlf, lf, print_field, print_section, ReadsSection, HasNoSection}
+use Rattle.httparse.specs.Grammar.{ChunkLine, print_chunk_line, print_extension, ReadsChunkLine, HasNoChunkLine, NeverHasChunkLine, Field, LineEnd, crlf, lf, print_field, print_section, ReadsSection}
+use Rattle.httparse.specs.Grammar.{HasNoSection}
 use Rattle.httparse.specs.Spans.{IsChunkLineAt, IsSectionOf, IsSectionWithin, SectionOverflows, header_bytes, name_and_value}
 use Rattle.httparse.specs.declared.spans.HeaderSpan.{HeaderSpan}
 use Rattle.std.proofs.KnownBytes.{Consumes-trans}
@@ -73,7 +74,8 @@ whole_line front b l rest none reads = elim (cases_Bool (nat_le (length (print_c
   | inr f ↦ all_of front (print_chunk_line l) rest b (leb-false _ _ f) reads.1
 ]
 
-pub whole_section : (front : List ℕ) (b : ℕ) (fields : List Field) (end : LineEnd) (rest : List ℕ) → HasNoSection front → ReadsSection (front ++ b ∷ []) fields end rest → front ++ b ∷ [] ≡ print_section fields end
+pub whole_section : (front : List ℕ) (b : ℕ) (fields : List Field) (end : LineEnd) (rest : List ℕ) → HasNoSection front → ReadsSection (front ++ b ∷ []) fields end rest
+    → front ++ b ∷ [] ≡ print_section fields end
 whole_section front b fields end rest none reads = elim (cases_Bool (nat_le (length (print_section fields end)) (length front))) [
   | inl t ↦ absurd (none fields end (drop (length (print_section fields end)) front) (reads.0, in_front front (b ∷ []) (print_section fields end) rest (leb-true _ _ t) reads.1))
   | inr f ↦ all_of front (print_section fields end) rest b (leb-false _ _ f) reads.1

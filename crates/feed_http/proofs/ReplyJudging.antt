@@ -44,7 +44,8 @@ behind buffer headers start filled spans read =
     read.reply.at.reads.1 ∙ ap (λ t. print_response read.reply.head ++ t)
     (drop-drop spans.len start (take filled buffer) ∙ sym (part_is buffer (start + spans.len) filled (inside buffer headers start filled spans read)))
 
-pub begins : (text buffer rest : List ℕ) (headers : List HeaderSpan) (start filled : ℕ) (spans : ResponseSpans) (read : IsHeadRead buffer headers start filled spans) → text ≡ take filled buffer ++ rest
+pub begins : (text buffer rest : List ℕ) (headers : List HeaderSpan) (start filled : ℕ) (spans : ResponseSpans) (read : IsHeadRead buffer headers start filled spans)
+    → text ≡ take filled buffer ++ rest
     → BeginsWithHeads head_limit field_limit text read.reply.interim read.reply.head (ahead_of buffer start filled spans ++ rest)
 begins text buffer rest headers start filled spans read e =
     let heads : List ℕ = print_heads read.reply.interim in
@@ -69,7 +70,8 @@ at_part : (buffer : List ℕ) (headers : List HeaderSpan) (start filled : ℕ) (
 at_part buffer headers start filled spans read = rw (part_is buffer start filled read.ordered) read.reply.at
 
 -- a fault of the head is the result
-pub head_refused : (method : Method) (old new : Option (List ℕ)) (buffer : List ℕ) (headers : List HeaderSpan) (start filled : ℕ) (spans : ResponseSpans) (result : Result Got HttpFault) (fault : HttpFault)
+pub head_refused : (method : Method) (old new : Option (List ℕ)) (buffer : List ℕ) (headers : List HeaderSpan) (start filled : ℕ) (spans : ResponseSpans) (result : Result Got HttpFault)
+    (fault : HttpFault)
     → IsHeadRead buffer headers start filled spans → Consumes old new (take filled buffer)
     → ((head : ResponseHead) → IsResponseAt (take (filled - start) (drop start buffer)) headers spans head → Err fault ≡ judged method head)
     → IsErrAnd result (λ e. e ≡ fault) → IfSome old (λ text. IsReply method text result)
@@ -93,7 +95,8 @@ head_faults method buffer headers start filled spans (Err e) fault read says is 
     rw is (judged_fault method read.reply.head fault (says read.reply.head (at_part buffer headers start filled spans read)))
 
 -- what is read behind the head is the result
-pub body_given : (method : Method) (old new chain : Option (List ℕ)) (buffer : List ℕ) (headers : List HeaderSpan) (start filled : ℕ) (spans : ResponseSpans) (judgement : Judgement) (result : Result Got HttpFault)
+pub body_given : (method : Method) (old new chain : Option (List ℕ)) (buffer : List ℕ) (headers : List HeaderSpan) (start filled : ℕ) (spans : ResponseSpans) (judgement : Judgement)
+    (result : Result Got HttpFault)
     → IsHeadRead buffer headers start filled spans → Consumes old new (take filled buffer)
     → ((head : ResponseHead) → IsResponseAt (take (filled - start) (drop start buffer)) headers spans head → Ok judgement ≡ judged method head)
     → chain ≡ option_append (Some (ahead_of buffer start filled spans)) new → IfSome chain (λ text. IsGot judgement text result) → IfSome old (λ text. IsReply method text result)

@@ -1,5 +1,6 @@
 -- What reads of a reply's heads into a buffer keep, and why there is no head.
-use Rattle.std.proofs.Common.{◌≡◌, ◌≤◌, ◌<◌, ◌+◌, ◌-◌, ℕ, List, [], ◌∷◌, ◌++◌, length, take, drop, Option, Some, None, IfSome, IfErr, Result, Ok, Err, true, false, map, refl, sym, ap, arith, ◌∙◌, append_assoc}
+use Rattle.std.proofs.Common.{◌≡◌, ◌≤◌, ◌<◌, ◌+◌, ◌-◌, ℕ, List, [], ◌∷◌, ◌++◌, length, take, drop, Option, Some, None, IfSome, IfErr, Result, Ok, Err, true, false, map, refl, sym, ap, arith, ◌∙◌}
+use Rattle.std.proofs.Common.{append_assoc}
 use Rattle.std.specs.Prelude.{IsErrAnd}
 use Rattle.std.specs.Io.KnownBytes.{Consumes}
 use Rattle.std.proofs.lemmas.List.{append-nil, length-append, length-map, take_at, take-append-le, take-append-drop, length-take-le, length-drop, length-take, drop-take}
@@ -117,7 +118,8 @@ short limit room (Some text) (Some rest) bytes start interim taken done are with
   interim = interim;
   rest = drop start bytes;
   skipped = are.skipped;
-  text_is = split_text room text bytes rest start interim taken are ∙ ap (λ t. print_heads interim ++ (drop start bytes ++ t)) done ∙ ap (λ t. print_heads interim ++ t) (append-nil (drop start bytes));
+  text_is = split_text room text bytes rest start interim taken are ∙ ap (λ t. print_heads interim ++ (drop start bytes ++ t)) done
+      ∙ ap (λ t. print_heads interim ++ t) (append-nil (drop start bytes));
   why = (omega (arith, left room bytes start interim within are), record { not_whole = none; may_become = may });
 }
 
@@ -144,8 +146,11 @@ pub interim_in : (fields : ℕ) (buffer : List ℕ) (headers : List HeaderSpan) 
     → AreInterimTo fields (take filled buffer) start interim → length headers ≤ fields → IsResponseWithin (take (filled - start) (drop start buffer)) headers spans
     → IsResponseOf (take (filled - start) (drop start buffer)) headers spans → is_interim_status spans.code ≡ true
     → (more : List ResponseHead) × AreInterimTo fields (take filled buffer) (start + spans.len) more
-interim_in fields buffer headers start filled spans interim ordered are room within of other =
-    (interim ++ of.0 ∷ [], interim_more fields (take filled buffer) headers start spans interim of.0 are room (rw (part_is buffer start filled ordered) at within) (rw (part_is buffer start filled ordered) at of.1) (ap is_interim_status (sym of.1.code) ∙ other))
+interim_in fields buffer headers start filled spans interim ordered are room within of other = (
+  interim ++ of.0 ∷ [],
+  interim_more fields (take filled buffer) headers start spans interim of.0 are room (rw (part_is buffer start filled ordered) at within) (rw
+      (part_is buffer start filled ordered) at of.1) (ap is_interim_status (sym of.1.code) ∙ other),
+)
 
 -- it has bytes, all of them in the buffer
 pub head_inside : (buffer : List ℕ) (headers : List HeaderSpan) (start filled : ℕ) (spans : ResponseSpans) → start ≤ filled → filled ≤ length buffer
@@ -188,4 +193,5 @@ pub filled_up : (limit room : ℕ) (old mid : Option (List ℕ)) (buffer : List 
 filled_up limit room old mid buffer start filled interim taken are ordered all same none may =
     let within : filled ≤ length buffer = omega arith in
     let front : length (take filled buffer) ≡ filled = length-take-le filled buffer within in
-    too_long limit room old mid (take filled buffer) start interim taken are (omega arith) (omega arith) (rw (part_is buffer start filled ordered) at none) (rw (part_is buffer start filled ordered) at may)
+    too_long limit room old mid (take filled buffer) start interim taken are (omega arith) (omega arith) (rw (part_is buffer start filled ordered) at none) (rw
+    (part_is buffer start filled ordered) at may)

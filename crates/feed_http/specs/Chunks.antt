@@ -18,6 +18,7 @@ pub record Chunk : Type 0 where
   pub line : ChunkLine
   pub bytes : List ℕ
 
+-- the text of a chunk
 abbrev pub print_chunk : Chunk → List ℕ
 print_chunk chunk = print_chunk_line chunk.line ++ (chunk.bytes ++ crlf_bytes)
 
@@ -27,10 +28,11 @@ pub record IsChunk (chunk : Chunk) : Type 0 where
   pub size : length chunk.bytes ≡ chunk_size chunk.line
   pub some : 0 < length chunk.bytes
 
--- the text of chunks in a row, and their bytes
+-- the text of chunks in a row
 abbrev pub print_chunks : List Chunk → List ℕ
 print_chunks chunks = flat_map print_chunk chunks
 
+-- their bytes
 abbrev pub bytes_of : List Chunk → List ℕ
 bytes_of chunks = flat_map (λ chunk. chunk.bytes) chunks
 
@@ -80,11 +82,12 @@ NeverBeginsWithEnd text = (more rest : List ℕ) → text ++ more ≡ crlf_bytes
 abbrev pub IsBadChunk : ℕ → List ℕ → Type 0
 IsBadChunk size text = (bytes : List ℕ) × (rest : List ℕ) × (length bytes ≡ size) × (text ≡ bytes ++ rest) × NeverBeginsWithEnd rest
 
--- behind the line of a chunk, and behind the last line
+-- what stands behind a line of that size breaks off: the trailers behind the last line, the bytes and CR LF behind another
 abbrev pub IsUnfinishedBehind : ℕ → List ℕ → Type 0
 IsUnfinishedBehind zero text = IsUnfinishedTrailers text
 IsUnfinishedBehind (suc size) text = length text < suc size + 2
 
+-- what stands behind a line of that size is wrong
 abbrev pub IsBadBehind : ℕ → List ℕ → Type 0
 IsBadBehind zero text = NeverBeginsWithTrailers text
 IsBadBehind (suc size) text = IsBadChunk (suc size) text
@@ -130,26 +133,28 @@ abbrev pub IsChunkedFault : ℕ → ℕ → Option (List ℕ) → HttpFault → 
 IsChunkedFault least most remaining Read = ⊤
 IsChunkedFault least most remaining fault = IfSome remaining (IsNotChunked least most fault)
 
--- the faults of the parts
-
+-- the faults of reading a line; here and below a reader that fails says nothing
 abbrev pub IsLineFault : Option (List ℕ) → HttpFault → Type 0
 IsLineFault remaining Read = ⊤
 IsLineFault remaining Short = IfSome remaining IsUnfinishedLine
 IsLineFault remaining Coding = IfSome remaining NeverBeginsWithLine
 IsLineFault remaining _ = ⊥
 
+-- the faults of reading a trailer section
 abbrev pub IsTrailersFault : Option (List ℕ) → HttpFault → Type 0
 IsTrailersFault remaining Read = ⊤
 IsTrailersFault remaining Short = IfSome remaining IsUnfinishedTrailers
 IsTrailersFault remaining Coding = IfSome remaining NeverBeginsWithTrailers
 IsTrailersFault remaining _ = ⊥
 
+-- the faults of reading CR LF
 abbrev pub IsEndFault : Option (List ℕ) → HttpFault → Type 0
 IsEndFault remaining Read = ⊤
 IsEndFault remaining Short = IfSome remaining (λ text. length text < 2)
 IsEndFault remaining Coding = IfSome remaining NeverBeginsWithEnd
 IsEndFault remaining _ = ⊥
 
+-- the faults of reading so many bytes and CR LF
 abbrev pub IsChunkFault : ℕ → Option (List ℕ) → HttpFault → Type 0
 IsChunkFault size remaining Read = ⊤
 IsChunkFault size remaining Memory = ⊤
@@ -157,13 +162,14 @@ IsChunkFault size remaining Short = IfSome remaining (λ text. length text < siz
 IsChunkFault size remaining Coding = IfSome remaining (IsBadChunk size)
 IsChunkFault size remaining _ = ⊥
 
--- the reader gave a line of that size, and a trailer section
+-- the reader gave a line of that size
 pub record IsLineTaken (old new : Option (List ℕ)) (size : ℕ) : Type 0 where
   pub line : ChunkLine
   pub valid : IsLine line
   pub size_is : size ≡ chunk_size line
   pub taken : Consumes old new (print_chunk_line line)
 
+-- the reader gave a trailer section
 pub record AreTrailersTaken (old new : Option (List ℕ)) : Type 0 where
   pub fields : List Field
   pub end : LineEnd

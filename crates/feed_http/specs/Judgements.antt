@@ -22,6 +22,7 @@ use Rattle.feed_http.specs.declared.fetching.judge.Framing.TheVariants.{Chunked,
 use Rattle.feed_http.specs.declared.fetching.judge.Judgement.{Judgement}
 use Rattle.feed_http.specs.declared.fetching.judge.Judgement.TheVariants.{Missing, Unsatisfied, Size, Part, Whole}
 
+-- the file is asked for, and not its head alone
 abbrev pub is_get : Method → Bool
 is_get Get = true
 is_get Head = false
@@ -67,9 +68,11 @@ abbrev pub stated_of : List (List ℕ) → Result (Option ℕ) HttpFault
 stated_of [] = Ok None
 stated_of (value ∷ more) = option_map_or (λ length. Ok (Some length)) (agreed (value ∷ more)) (Err fault.Length)
 
+-- the name of the field
 abbrev pub content_length : List ℕ
 content_length = codes "content-length"
 
+-- the same of a head
 abbrev pub stated_length : ResponseHead → Result (Option ℕ) HttpFault
 stated_length head = stated_of (values content_length head)
 
@@ -120,6 +123,7 @@ unsatisfied_judged (Some (range.Unsatisfied total)) = Ok (Unsatisfied (Some tota
 unsatisfied_judged (Some (range.Part first last total)) = Err fault.Range
 unsatisfied_judged None = Err fault.Range
 
+-- the same of a head, which may tell none
 abbrev pub unsatisfied_part : ResponseHead → Result Judgement HttpFault
 unsatisfied_part head =
     if has_any (values (codes "content-range") head) then unsatisfied_judged (range_of head) else Ok (Unsatisfied None)

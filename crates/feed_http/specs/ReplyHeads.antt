@@ -9,6 +9,7 @@ use Rattle.feed_http.specs.declared.http_fault.HttpFault.TheVariants.{Read, Shor
 abbrev pub is_interim_status : ℕ → Bool
 is_interim_status status = nat_le 100 status && nat_lt status 200
 
+-- the same of a head
 abbrev pub is_interim : ResponseHead → Bool
 is_interim head = is_interim_status (status_code head)
 

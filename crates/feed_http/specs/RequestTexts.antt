@@ -21,6 +21,7 @@ start_then method host name rest =
     line_then (method ∷ codes " /" ∷ name ∷ codes " HTTP/1.1" ∷ [])
     (crlf_bytes ++ line_then (codes "Host: " ∷ host ∷ []) (crlf_bytes ++ rest))
 
+-- the request line and the Host field
 abbrev pub start_text : List ℕ → List ℕ → List ℕ → List ℕ
 start_text method host name = start_then method host name []
 

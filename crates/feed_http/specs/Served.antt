@@ -20,10 +20,11 @@ pub record Reply : Type 0 where
   pub head : ReplyHead
   pub body : List ℕ
 
--- a reply with this body, and one without
+-- a reply with this body
 abbrev pub reply_of : ReplyHead → List ℕ → Reply
 reply_of head body = record { head = head; body = body }
 
+-- a reply without a body
 abbrev pub head_alone : ReplyHead → Reply
 head_alone head = reply_of head []
 

@@ -4,7 +4,8 @@ ghost use Rattle.std.specs.Char.{is_ascii_digit};
 ghost use Rattle.std.specs.List.{list_all, position};
 ghost use Rattle.std.specs.Option.{option_map};
 ghost use Rattle.std.specs.Str.Parse.{digits_value};
-ghost use Rattle.feed_range.specs.Text.{strip_prefix, split_once, is_number, number_of, in_64_bits, number_in_64_bits, capped_number};
+ghost use Rattle.feed_range.specs.Text.{strip_prefix, split_once, is_number, number_of, in_64_bits, number_in_64_bits};
+ghost use Rattle.feed_range.specs.Text.{capped_number};
 
 /// What follows the prefix, at the front of the text in any case.
 pub(crate) fn strip_prefix<'a>(text: &'a [u8], prefix: &[u8]) -> Option<&'a [u8]>

@@ -10,7 +10,7 @@ use std::io::Read;
 const BLOCK: usize = 8_192;
 
 /// Fills the buffer, however the reader cuts its bytes.
-pub fn fill<R: Read>(reader: &mut R, buffer: &mut [u8]) -> Result<(), HttpFault>
+pub(crate) fn fill<R: Read>(reader: &mut R, buffer: &mut [u8]) -> Result<(), HttpFault>
     ensures taken { OnOk result
         (Consumes (R.remaining reader.old) (R.remaining reader.new) buffer.new) }
     ensures faults { IfErr result (IsFillFault (length buffer.old) (R.remaining reader.old)) }
@@ -29,7 +29,11 @@ pub fn fill<R: Read>(reader: &mut R, buffer: &mut [u8]) -> Result<(), HttpFault>
 }
 
 /// Reads a body of so many bytes.
-pub fn read_sized<R: Read>(alloc: Global, reader: &mut R, size: usize) -> Result<Vec<u8>, HttpFault>
+pub(crate) fn read_sized<R: Read>(
+    alloc: Global,
+    reader: &mut R,
+    size: usize,
+) -> Result<Vec<u8>, HttpFault>
     ensures size { IfOk result (λ body. length body.items ≡ size) }
     ensures taken { IfOk result (λ body.
         Consumes (R.remaining reader.old) (R.remaining reader.new) body.items) }
@@ -43,7 +47,7 @@ pub fn read_sized<R: Read>(alloc: Global, reader: &mut R, size: usize) -> Result
 }
 
 /// Reads all bytes up to the end of the stream, of which there may be from `least` to `most`.
-pub fn read_to_end<R: Read>(
+pub(crate) fn read_to_end<R: Read>(
     alloc: Global,
     reader: &mut R,
     least: usize,

@@ -5,7 +5,8 @@ ghost use Rattle.httparse.specs.Ascii.{crlf_bytes};
 ghost use Rattle.httparse.specs.Grammar.{HasNoChunkLine, HasNoSection};
 ghost use Rattle.feed_http.specs.Limits.{chunk_line_limit, head_limit};
 ghost use Rattle.feed_http.specs.Got.{IsReadingFault};
-ghost use Rattle.feed_http.specs.Chunks.{IsLineTaken, IsLineFault, AreTrailersTaken, IsTrailersFault, IsEndFault, IsChunkTaken, IsChunkFault, IsBodyChunked, IsChunkedFault};
+ghost use Rattle.feed_http.specs.Chunks.{IsLineTaken, IsLineFault, AreTrailersTaken, IsTrailersFault, IsEndFault};
+ghost use Rattle.feed_http.specs.Chunks.{IsChunkTaken, IsChunkFault, IsBodyChunked, IsChunkedFault};
 
 use crate::fetching::body::read_sized;
 use crate::http_fault::HttpFault;
@@ -139,7 +140,7 @@ fn read_chunk<R: Read>(
 
 /// Reads a chunked body and its trailer fields, which are dropped. The body may have from `least`
 /// to `most` bytes, which is judged by the size in front of each chunk.
-pub fn read_chunked<R: Read>(
+pub(crate) fn read_chunked<R: Read>(
     alloc: Global,
     reader: &mut R,
     least: usize,

@@ -3,7 +3,10 @@ ghost use Rattle.std.specs.Prelude.{◌≡◌, IfSome};
 ghost use Rattle.feed_range.specs.Content.{IsInOrder};
 ghost use Rattle.httparse.specs.Grammar.{ResponseHead};
 ghost use Rattle.feed_http.specs.Fields.{AreWithin, AreFieldsOf};
-ghost use Rattle.feed_http.specs.Judgements.{is_identity, is_chunked, is_transfer_coded, is_coded_otherwise, stated_length, framing_of, framed_by_length, range_of, part_judged, part_framed, whole_judged, size_judged, unsatisfied_part, file_judged, judged, gives_file, IsInBuffer, HasHead};
+ghost use Rattle.feed_http.specs.Judgements.{is_identity, is_chunked, is_transfer_coded, is_coded_otherwise};
+ghost use Rattle.feed_http.specs.Judgements.{stated_length, framing_of, framed_by_length, range_of, part_judged};
+ghost use Rattle.feed_http.specs.Judgements.{part_framed, whole_judged, size_judged, unsatisfied_part, file_judged};
+ghost use Rattle.feed_http.specs.Judgements.{judged, gives_file, IsInBuffer, HasHead};
 
 use crate::fetching::got::Method;
 use crate::fetching::length::agreed_length;
@@ -15,7 +18,7 @@ use httparse::spans::{HeaderSpan, ResponseSpans};
 
 /// How a body ends.
 #[derive(Clone, Copy, Debug, PartialEq, Eq)]
-pub enum Framing {
+pub(crate) enum Framing {
     Chunked,
     /// After so many bytes.
     Sized(u64),
@@ -25,7 +28,7 @@ pub enum Framing {
 
 /// What a reply's head says: an answer, or which body follows.
 #[derive(Clone, Copy, Debug, PartialEq, Eq)]
-pub enum Judgement {
+pub(crate) enum Judgement {
     Missing,
     Unsatisfied {
         total: Option<u64>,
@@ -42,7 +45,7 @@ pub enum Judgement {
 
 /// A reply's head, in the buffer into which it was read.
 #[derive(Clone, Copy)]
-pub struct Reply<'b> {
+pub(crate) struct Reply<'b> {
     pub buffer: &'b [u8],
     pub headers: &'b [HeaderSpan],
     pub spans: ResponseSpans,
@@ -64,7 +67,8 @@ impl Reply<'_> {
         requires { IsInBuffer self.now }
         ensures { (head : ResponseHead) → HasHead self.now head → result ≡ is_identity head }
     {
-        self.fields().all_values_are(b"content-encoding", b"identity")
+        self.fields()
+            .all_values_are(b"content-encoding", b"identity")
     }
 
     fn is_transfer_coded(&self) -> bool
@@ -168,7 +172,7 @@ impl Reply<'_> {
     }
 
     /// What the head says of the reply to a request by that method, or the first fault.
-    pub fn judge(&self, method: Method) -> Result<Judgement, HttpFault>
+    pub(crate) fn judge(&self, method: Method) -> Result<Judgement, HttpFault>
         requires { IsInBuffer self.now }
         ensures value { (head : ResponseHead) → HasHead self.now head
             → result ≡ judged method head }

@@ -4,7 +4,8 @@ ghost use Rattle.std.specs.List.{list_all};
 ghost use Rattle.std.specs.Str.{str_eq_ignore_ascii_case};
 ghost use Rattle.httparse.specs.Grammar.{Field};
 ghost use Rattle.httparse.specs.Spans.{IsWithin, IsHeaderWithin};
-ghost use Rattle.feed_http.specs.Fields.{is_named, only, has_any, first_of, values_named, spans_named, agrees, AreWithin, AreFieldsOf};
+ghost use Rattle.feed_http.specs.Fields.{is_named, only, has_any, first_of, values_named, spans_named, agrees};
+ghost use Rattle.feed_http.specs.Fields.{AreWithin, AreFieldsOf};
 
 use httparse::spans::{HeaderSpan, Span};
 
@@ -48,7 +49,7 @@ impl<'b> Fields<'b> {
     }
 
     /// The value of the field of that name, if there is just one such field.
-    pub fn sole_value(&self, name: &[u8]) -> Option<&'b [u8]>
+    pub(crate) fn sole_value(&self, name: &[u8]) -> Option<&'b [u8]>
         requires { AreWithin self.now }
         ensures { (fields : List Field) → AreFieldsOf self.now fields
             → option_copied result ≡ only (values_named name.now fields) }
@@ -60,7 +61,7 @@ impl<'b> Fields<'b> {
     }
 
     /// Whether there is a field of that name.
-    pub fn has_field(&self, name: &[u8]) -> bool
+    pub(crate) fn has_field(&self, name: &[u8]) -> bool
         requires { AreWithin self.now }
         ensures { (fields : List Field) → AreFieldsOf self.now fields
             → result ≡ has_any (values_named name.now fields) }
@@ -74,7 +75,7 @@ impl<'b> Fields<'b> {
     }
 
     /// Where the value of the first field of that name stands.
-    pub fn first_span(&self, name: &[u8]) -> Option<Span>
+    pub(crate) fn first_span(&self, name: &[u8]) -> Option<Span>
         requires { AreWithin self.now }
         ensures first { result ≡ first_of (spans_named self.now.buffer.now name.now self.now.headers.now) }
         ensures within { IfSome result (IsWithin (length self.now.buffer.now)) }
@@ -88,7 +89,7 @@ impl<'b> Fields<'b> {
     }
 
     /// Whether each value of the fields of that name is this text, in any case.
-    pub fn all_values_are(&self, name: &[u8], text: &[u8]) -> bool
+    pub(crate) fn all_values_are(&self, name: &[u8], text: &[u8]) -> bool
         requires { AreWithin self.now }
         ensures { (fields : List Field) → AreFieldsOf self.now fields
             → result ≡ list_all (λ value. str_eq_ignore_ascii_case value text.now)

@@ -13,7 +13,7 @@ use std::io::Read;
 
 /// A reply's head in a buffer.
 #[derive(Clone, Copy)]
-pub struct ReplyRead {
+pub(crate) struct ReplyRead {
     pub spans: ResponseSpans,
     /// Where the head begins, behind the interim heads.
     pub start: usize,
@@ -43,7 +43,7 @@ fn read_some<R: Read>(reader: &mut R, space: &mut [u8]) -> Result<usize, HttpFau
 
 /// Reads into the buffer until a head that is not interim is whole, however the reader cuts its
 /// bytes.
-pub fn read_reply_head<R: Read>(
+pub(crate) fn read_reply_head<R: Read>(
     reader: &mut R,
     buffer: &mut [u8],
     headers: &mut [HeaderSpan],

@@ -4,7 +4,8 @@ ghost use Rattle.httparse.specs.Grammar.{RequestHead};
 ghost use Rattle.feed_range.specs.Text.{slash, strip_prefix};
 ghost use Rattle.feed_range.specs.Ask.{IsInside};
 ghost use Rattle.feed_http.specs.Fields.{AreWithin, AreFieldsOf};
-ghost use Rattle.feed_http.specs.Requests.{from_slash, path_of, lacks_host, is_get, is_head, is_unsupported, range_value, ask_for, IsNamedBy, IsInBuffer, HasHead};
+ghost use Rattle.feed_http.specs.Requests.{from_slash, path_of, lacks_host, is_get, is_head, is_unsupported};
+ghost use Rattle.feed_http.specs.Requests.{range_value, ask_for, IsNamedBy, IsInBuffer, HasHead};
 
 use crate::heads::fields::Fields;
 use crate::http_fault::HttpFault;
@@ -15,7 +16,7 @@ use std::alloc::Global;
 
 /// A request's head, in the buffer into which it was read.
 #[derive(Clone, Copy)]
-pub struct Request<'b> {
+pub(crate) struct Request<'b> {
     pub buffer: &'b [u8],
     pub headers: &'b [HeaderSpan],
     pub spans: RequestSpans,
@@ -34,7 +35,7 @@ impl Request<'_> {
     }
 
     /// Whether a request of HTTP/1.1 has not just one Host field (RFC 9112, section 3.2).
-    pub fn lacks_host(&self) -> bool
+    pub(crate) fn lacks_host(&self) -> bool
         requires { IsInBuffer self.now }
         ensures { (head : RequestHead) → HasHead self.now head → result ≡ lacks_host head }
     {
@@ -42,7 +43,7 @@ impl Request<'_> {
     }
 
     /// Whether only the head of the reply is asked for (RFC 9110, section 9.3.2).
-    pub fn is_head(&self) -> bool
+    pub(crate) fn is_head(&self) -> bool
         requires { IsInBuffer self.now }
         ensures { (head : RequestHead) → HasHead self.now head → result ≡ is_head head }
     {
@@ -57,7 +58,7 @@ impl Request<'_> {
     }
 
     /// Whether the method is neither GET nor HEAD, or a coded body follows.
-    pub fn is_unsupported(&self) -> bool
+    pub(crate) fn is_unsupported(&self) -> bool
         requires { IsInBuffer self.now }
         ensures { (head : RequestHead) → HasHead self.now head → result ≡ is_unsupported head }
     {
@@ -76,7 +77,7 @@ impl Request<'_> {
     }
 
     /// The part of a file of that length that is asked for (RFC 9110, section 14.2).
-    pub fn ask(&self, length: u64) -> RangeAsk
+    pub(crate) fn ask(&self, length: u64) -> RangeAsk
         requires { IsInBuffer self.now }
         ensures value { (head : RequestHead) → HasHead self.now head
             → result ≡ ask_for head length }
@@ -89,7 +90,7 @@ impl Request<'_> {
     }
 
     /// The release that the target names, if it names one.
-    pub fn name(&self, alloc: Global) -> Result<Option<ReleaseName>, HttpFault>
+    pub(crate) fn name(&self, alloc: Global) -> Result<Option<ReleaseName>, HttpFault>
         requires { IsInBuffer self.now }
         ensures named { IfOk result (λ named. (head : RequestHead) → HasHead self.now head
             → IsNamedBy head.target named) }

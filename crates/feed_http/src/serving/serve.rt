@@ -9,7 +9,8 @@ ghost use Rattle.feed_http.specs.RequestHeads.{BeginsWithHead};
 ghost use Rattle.feed_http.specs.Requests.{IsNamedBy, IsInBuffer, HasHead};
 ghost use Rattle.feed_http.specs.Replies.{IsPartInside};
 ghost use Rattle.feed_http.specs.Shelves.{CountsFailure};
-ghost use Rattle.feed_http.specs.Served.{served, fileless, part_reply, file_reply, IsOutcomeOf, IsRefusalOf, IsReplyFault, IsServingFault, reply_of};
+ghost use Rattle.feed_http.specs.Served.{served, fileless, part_reply, file_reply, IsOutcomeOf, IsRefusalOf};
+ghost use Rattle.feed_http.specs.Served.{IsReplyFault, IsServingFault, reply_of};
 
 use crate::heads::request_head::read_request;
 use crate::http_fault::HttpFault;

@@ -10,7 +10,8 @@ returns-in_err-first c = λ fields are. c.from_residual.ensures
 
 pub returns-in_err-size : goal.returns-in_err-size
 returns-in_err-size c = λ fields are. c.from_residual-in_err-size.ensures
-    ∙ agreed_on_no_length _ c.of.result.now (ap (λ v. Some v) c.of.ensures ∙ first_value c.args.found.now.buffer.now content_length c.args.found.now.headers.now _ c.in_ok-first.ensures.first fields are) c.in_err-size.ensures
+    ∙ agreed_on_no_length _ c.of.result.now (ap (λ v. Some v) c.of.ensures
+    ∙ first_value c.args.found.now.buffer.now content_length c.args.found.now.headers.now _ c.in_ok-first.ensures.first fields are) c.in_err-size.ensures
 
 pub returns : goal.returns
 returns c = λ fields are. agreed_on _ c.of.result.now c.in_ok-size.size c.all_lengths_are.result c.then_some.result

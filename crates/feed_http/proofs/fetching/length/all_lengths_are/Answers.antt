@@ -14,4 +14,5 @@ returns-then-not-agrees_with_length c = all_values (writes c.args.size) c.args.f
 
 pub returns : goal.returns
 returns c = all_values (writes c.args.size) c.args.found.now.buffer.now content_length c.args.found.now.headers.now true
-    (sym (ap (list_all (agrees (writes c.args.size) c.args.found.now.buffer.now content_length)) (sym (take_all c.loop-header.header-index c.args.found.now.headers.now c.loop-header-test.false)) ∙ c.loop-header.invariant))
+    (sym (ap (list_all (agrees (writes c.args.size) c.args.found.now.buffer.now content_length)) (sym (take_all c.loop-header.header-index c.args.found.now.headers.now c.loop-header-test.false))
+    ∙ c.loop-header.invariant))

@@ -16,10 +16,12 @@ returns-in-Ok-clause-refused g c = has_head 8192 64 (g.R.Read.remaining c.args.r
     (let kept = c.read_request.auto.headers in omega (arith, kept))
 
 pub returns-in-Err-BadHead-clause-served : goal.returns-in-Err-BadHead-clause-served
-returns-in-Err-BadHead-clause-served g c = never_served 8192 64 (g.R.Read.remaining c.args.reader.now) (g.S.Shelf.files c.args.shelf.now) _ (rw c.in-Err-BadHead.field-0-is at c.in-Err-BadHead.ensures.why)
+returns-in-Err-BadHead-clause-served g c = never_served 8192 64 (g.R.Read.remaining c.args.reader.now) (g.S.Shelf.files c.args.shelf.now) _
+    (rw c.in-Err-BadHead.field-0-is at c.in-Err-BadHead.ensures.why)
 
 pub returns-in-Err-HeadTooLong-clause-served : goal.returns-in-Err-HeadTooLong-clause-served
-returns-in-Err-HeadTooLong-clause-served g c = never_served 8192 64 (g.R.Read.remaining c.args.reader.now) (g.S.Shelf.files c.args.shelf.now) _ (rw c.in-Err-HeadTooLong.field-0-is at c.in-Err-HeadTooLong.ensures.why)
+returns-in-Err-HeadTooLong-clause-served g c = never_served 8192 64 (g.R.Read.remaining c.args.reader.now) (g.S.Shelf.files c.args.shelf.now) _
+    (rw c.in-Err-HeadTooLong.field-0-is at c.in-Err-HeadTooLong.ensures.why)
 
 pub returns-in-Ok-clause-fileless : goal.returns-in-Ok-clause-fileless
 returns-in-Ok-clause-fileless g c = by_head_alone 8192 64 (g.R.Read.remaining c.args.reader.now) (g.R.Read.remaining c.read_request.new.reader)
