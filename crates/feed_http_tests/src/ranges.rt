@@ -2,8 +2,8 @@
 
 use RangeAsk::{Part, Unsatisfied, Whole};
 use feed_range::{
-    ContentRange, RangeAsk, RangeFault, WriteFault, ask_reads_back, content_range_reads_back,
-    write_ask, write_content_range,
+    ContentRange, RangeAsk, RangeFault, WriteFault, ask_reads_back, asks_by_form,
+    content_range_reads_back, read_number, write_ask, write_content_range,
 };
 use std::io::Write;
 
@@ -46,6 +46,7 @@ fn ranges_are_read(rt: HostRuntime) {
         ("bytes= 2-4", 10, Whole),
         ("", 10, Whole),
     ];
+    asks_by_form();
     for (value, length, wanted) in table {
         let asked = RangeAsk::read(value.as_bytes(), length);
         assert_eq!(rt; asked, wanted, "at {value} of {length}");
@@ -181,5 +182,22 @@ fn faults_are_numbered_and_named(rt: HostRuntime) {
         let mut out = Vec::new(rt.alloc());
         assert!(rt; write!(&mut out, "{fault}").is_ok());
         assert_eq!(rt; out.as_slice(), name.as_bytes());
+    }
+}
+
+#[test]
+fn numbers_are_read(rt: HostRuntime) {
+    let table = [
+        ("0", Some(0)),
+        ("010", Some(10)),
+        ("18446744073709551615", Some(u64::MAX)),
+        ("18446744073709551616", None),
+        ("+1", None),
+        ("-1", None),
+        ("1 ", None),
+        ("", None),
+    ];
+    for (text, wanted) in table {
+        assert_eq!(rt; read_number(text.as_bytes()), wanted, "at {text}");
     }
 }

@@ -8,7 +8,7 @@ mod ask;
 mod content;
 mod text;
 
-pub use ask::{RangeAsk, ask_reads_back, write_ask};
+pub use ask::{RangeAsk, ask_reads_back, asks_by_form, write_ask};
 pub use content::{ContentRange, RangeFault, content_range_reads_back, write_content_range};
 pub use text::read_number;
 
