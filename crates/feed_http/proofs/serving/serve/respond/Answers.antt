@@ -1,6 +1,6 @@
 use Rattle.std.proofs.Common.{sym, ◌∙◌}
 use Rattle.feed_http.specs.declared.serving.reply_head.ReplyHead.TheVariants.{NotFound}
-use Rattle.feed_http.proofs.Answering.{written_alone, answered_named, answered_missing, needs_file, names_none}
+use Rattle.feed_http.proofs.Answering.{written_alone, answered_named, answered_missing}
 use Rattle.feed_http.proofs.serving.serve.respond.Goals as goal
 
 pub returns-in-Some-2-clause-served : goal.returns-in-Some-2-clause-served
