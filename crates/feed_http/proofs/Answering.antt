@@ -1,7 +1,7 @@
 -- The reply that is written is the one that the request is owed.
 use Rattle.std.proofs.Common.{◌≡◌, ℕ, List, length, Option, Some, None, IfSome, IfOk, OnOk, Result, Ok, Err, true, false, sym, ◌∙◌, subst}
 use Rattle.std.specs.Prelude.{IsOkUnless, IsSomeAnd}
-use Rattle.std.specs.Option.{option_map}
+use Rattle.std.specs.Option.{option_map, option_map_or}
 use Rattle.std.specs.Io.KnownBytes.{Appends}
 use Rattle.std.proofs.lemmas.List.{append-nil}
 use Rattle.httparse.specs.Grammar.{RequestHead}
@@ -14,7 +14,7 @@ use Rattle.feed_http.specs.declared.serving.request.Request.{Request}
 use Rattle.feed_http.specs.Shelves.{Files}
 use Rattle.feed_http.specs.Requests.{lacks_host, is_unsupported, is_head, IsNamedBy, HasHead}
 use Rattle.feed_http.specs.Replies.{status_of, head_text}
-use Rattle.feed_http.specs.Served.{served, file_reply, head_alone, IsOutcomeOf}
+use Rattle.feed_http.specs.Served.{Reply, served, fileless, file_reply, head_alone, IsOutcomeOf}
 use Rattle.feed_http.proofs.Targets.{named_is}
 
 -- a head that was written alone
@@ -56,3 +56,26 @@ answered_named None request found name result old new hosted supported is some o
 answered_named (Some files) request found name result old new hosted supported is some outcome = λ head has named is_named.
     let names = rw some at (is head has) in
     rw (← hosted head has, ← supported head has, named_is head.target named name is_named names) (outcome head has)
+
+-- a request that names a release needs its file
+pub needs_file : (request : Request) (found : Option Name) (name : Name) (P : Reply → Type 0)
+    → ((head : RequestHead) → HasHead request head → false ≡ lacks_host head) → ((head : RequestHead) → HasHead request head → false ≡ is_unsupported head)
+    → ((head : RequestHead) → HasHead request head → IsNamedBy head.target found) → found ≡ Some name
+    → (head : RequestHead) → HasHead request head → (named : Option Name) → IsNamedBy head.target named → IfSome (fileless head named) P
+needs_file request found name P hosted supported is some head has named is_named =
+    let names = rw some at (is head has) in
+    rw (← hosted head has, ← supported head has, named_is head.target named name is_named names) tt
+
+-- one that names none is answered without
+pub names_none : (request : Request) (found : Option Name) (result : Result ℕ HttpFault) (old new : Option (List ℕ))
+    → ((head : RequestHead) → HasHead request head → false ≡ lacks_host head) → ((head : RequestHead) → HasHead request head → false ≡ is_unsupported head)
+    → ((head : RequestHead) → HasHead request head → IsNamedBy head.target found) → found ≡ None → IsOutcomeOf (head_alone NotFound) result old new
+    → (head : RequestHead) → HasHead request head → (named : Option Name) → IsNamedBy head.target named → IfSome (fileless head named) (λ reply. IsOutcomeOf reply result old new)
+names_none request found result old new hosted supported is none outcome head has named is_named =
+    let names = rw none at (is head has) in
+    rw (← hosted head has, ← supported head has) (at_name named is_named names)
+  where
+    at_name : (named : Option Name) → IsNamedBy head.target named → IsNamedBy head.target None
+        → IfSome (option_map_or (λ name. None) named (Some (head_alone NotFound))) (λ reply. IsOutcomeOf reply result old new)
+    at_name None is_named names = outcome
+    at_name (Some name) is_named names = absurd (names name is_named)

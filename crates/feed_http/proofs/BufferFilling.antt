@@ -1,15 +1,13 @@
 -- A buffer that is filled from the front by reads.
-use Rattle.std.proofs.Common.{◌≡◌, ◌≤◌, ◌+◌, ℕ, List, [], ◌∷◌, ◌++◌, length, take, Option, refl, ap, arith, ◌∙◌, suc, zero, zero-add, suc-add}
+use Rattle.std.proofs.Common.{◌≡◌, ◌≤◌, ◌+◌, ℕ, List, ◌++◌, length, take, Option, ap, arith, ◌∙◌}
 use Rattle.std.specs.Io.KnownBytes.{Consumes}
+use Rattle.std.proofs.Math.Seq.{take-append-add}
 use Rattle.std.proofs.lemmas.List.{length-append, take-append-le, length-take-le}
 use borrow.Rule.Slice.PartMut.{put_mid, post_of}
-use Rattle.feed_http.proofs.KnownBytes.{consumes_more}
+use Rattle.std.proofs.KnownBytes.{Consumes-trans}
 
-take-behind : (p q : List ℕ) (a n : ℕ) → length p ≡ a → take (a + n) (p ++ q) ≡ p ++ take n q
-take-behind [] q zero n e = rw zero-add refl
-take-behind [] q (suc a) n e = absurd (omega arith)
-take-behind (x ∷ p) q zero n e = absurd (omega arith)
-take-behind (x ∷ p) q (suc a) n e = rw suc-add (ap (λ t. x ∷ t) (take-behind p q a n (omega arith)))
+pub take-behind : (p q : List ℕ) (a n : ℕ) → length p ≡ a → take (a + n) (p ++ q) ≡ p ++ take n q
+take-behind p q a n e = rw (← e) (take-append-add p q n)
 
 -- the front grows by what was read behind it
 pub take-put_mid : (a k n : ℕ) (xs ys : List ℕ) → a ≤ length xs → n ≤ length ys
@@ -30,4 +28,4 @@ put_mid_fits a k n xs ys within fits =
 pub read_more : (old mid new : Option (List ℕ)) (a k n : ℕ) (xs ys : List ℕ) → a ≤ length xs → n ≤ length ys
     → Consumes old mid (take a xs) → Consumes mid new (take n ys) → Consumes old new (take (a + n) (put_mid a k xs ys))
 read_more old mid new a k n xs ys within fits first more =
-    rw (take-put_mid a k n xs ys within fits) (consumes_more old mid new (take a xs) (take n ys) first more)
+    rw (take-put_mid a k n xs ys within fits) (Consumes-trans old mid new (take a xs) (take n ys) first more)

@@ -1,6 +1,6 @@
 -- Chunks that are read one after another.
-use Rattle.std.proofs.Common.{◌≡◌, ◌≤◌, ◌<◌, ◌+◌, ◌-◌, ℕ, zero, suc, List, [], ◌∷◌, ◌++◌, length, All, Option, Some, None, IfErr, Result, Ok, Err, sym, ap, arith, ◌∙◌, subst, inr}
-use Rattle.std.specs.Prelude.{IsErrAnd}
+use Rattle.std.proofs.Common.{◌≡◌, ◌≤◌, ◌<◌, ◌-◌, ℕ, zero, suc, List, [], ◌∷◌, ◌++◌, length, All, Option, Some, None, IfSome, IfErr, Result, Ok, Err, sym, ap, arith, ◌∙◌, subst, inr, ◌⊎◌}
+use Rattle.std.specs.Prelude.{IsErrAnd, ⊤}
 use Rattle.std.specs.Io.KnownBytes.{Consumes}
 use Rattle.std.proofs.lemmas.List.{append-nil}
 use Rattle.std.proofs.lemmas.List.Elements.{All-push}
@@ -9,8 +9,9 @@ use Rattle.httparse.specs.Ascii.{crlf_bytes}
 use Rattle.httparse.specs.Grammar.{print_chunk_line}
 use Rattle.feed_http.specs.declared.http_fault.HttpFault.{HttpFault}
 use Rattle.feed_http.specs.declared.http_fault.HttpFault.TheVariants.{Read, Short, Coding, Memory}
-use Rattle.feed_http.specs.Chunks.{Chunk, IsChunk, print_chunk, print_chunks, bytes_of, IsLineTaken, IsChunkTaken, IsChunkedFault, IsNotChunked, IsChunkFault, IsUnfinishedBehind, IsBadBehind, IsBadChunk, IsLineBefore, IsWhyNoChunk}
-use Rattle.feed_http.proofs.KnownBytes.{consumes_more}
+use Rattle.feed_http.specs.Chunks.{Chunk, IsChunk, print_chunk, print_chunks, bytes_of, IsLineTaken, IsChunkTaken, IsChunkedFault, IsNotChunked, IsChunkFault, IsUnfinishedLine, NeverBeginsWithLine}
+use Rattle.feed_http.specs.Chunks.{BeginsWithLine, IsFitting, IsUnfinishedBehind, IsBadBehind, IsWhyNoChunk}
+use Rattle.std.proofs.KnownBytes.{Consumes-trans}
 
 -- the chunks that were read so far
 pub record AreChunksRead (old now : Option (List ℕ)) (body : List ℕ) : Type 0 where
@@ -20,7 +21,8 @@ pub record AreChunksRead (old now : Option (List ℕ)) (body : List ℕ) : Type 
   pub taken : Consumes old now (print_chunks chunks)
 
 -- one more chunk
-pub chunk_more : (old mid behind new : Option (List ℕ)) (before after : List ℕ) (size : ℕ) → 0 < size → AreChunksRead old mid before → IsLineTaken mid behind size → IsChunkTaken behind new size before after
+pub chunk_more : (old mid behind new : Option (List ℕ)) (before after : List ℕ) (size : ℕ) → 0 < size → AreChunksRead old mid before → IsLineTaken mid behind size
+    → IsChunkTaken behind new size before after
     → AreChunksRead old new after
 chunk_more old mid behind new before after size some so_far line taken =
     let chunk : Chunk = record { line = line.line; bytes = taken.bytes } in
@@ -32,50 +34,70 @@ chunk_more old mid behind new before after size some so_far line taken =
       valid = All-push IsChunk so_far.chunks chunk so_far.valid (record { line = line.valid; size = taken.size_is ∙ line.size_is; some = omega (arith, taken.size_is) });
       body_is = taken.added ∙ ap (λ t. t ++ taken.bytes) so_far.body_is
           ∙ sym (flat_map-append (λ (c : Chunk). c.bytes) so_far.chunks (chunk ∷ []) ∙ ap (λ t. bytes_of so_far.chunks ++ t) (append-nil taken.bytes));
-      taken = subst P text (consumes_more old mid new (print_chunks so_far.chunks) (print_chunk chunk) so_far.taken
-          (consumes_more mid behind new (print_chunk_line line.line) (taken.bytes ++ crlf_bytes) line.taken taken.taken));
+      taken = subst P text (Consumes-trans old mid new (print_chunks so_far.chunks) (print_chunk chunk) so_far.taken
+          (Consumes-trans mid behind new (print_chunk_line line.line) (taken.bytes ++ crlf_bytes) line.taken taken.taken));
     }
 
-unfinished_behind : (size : ℕ) (text : List ℕ) → 0 < size → length text < size + 2 → IsUnfinishedBehind size text
-unfinished_behind zero text some short = absurd (omega arith)
-unfinished_behind (suc size) text some short = short
+-- what stops the reading of chunks behind those that were read, as the reader's next bytes show it
+abbrev pub IsStop : ℕ → ℕ → Option (List ℕ) → HttpFault → Type 0
+IsStop missing room now Read = ⊤
+IsStop missing room now fault = IfSome now (IsWhyNoChunk missing room fault)
 
-bad_behind : (size : ℕ) (text : List ℕ) → 0 < size → IsBadChunk size text → IsBadBehind size text
-bad_behind zero text some bad = absurd (omega arith)
-bad_behind (suc size) text some bad = bad
-
--- what stands behind the line of a chunk
-broken_chunk : (text left behind : List ℕ) (most size : ℕ) (body : List ℕ) (fault : HttpFault) (so_far : AreChunksRead (Some text) (Some left) body) → length body ≤ most
-    → (line : IsLineTaken (Some left) (Some behind) size) → IsWhyNoChunk (most - length (bytes_of so_far.chunks)) fault left → IsNotChunked most fault text
-broken_chunk text left behind most size body fault so_far fits line why = record {
+broken : (text left : List ℕ) (least most : ℕ) (body : List ℕ) (fault : HttpFault) (so_far : AreChunksRead (Some text) (Some left) body) → length body ≤ most
+    → IsWhyNoChunk (least - length body) (most - length body) fault left → IsNotChunked least most fault text
+broken text left least most body fault so_far fits why = record {
   chunks = so_far.chunks;
   rest = left;
   valid = so_far.valid;
   fits = omega (arith, ap length so_far.body_is);
   text_is = so_far.taken;
-  why = why;
+  why = subst (λ (bytes : List ℕ). IsWhyNoChunk (least - length bytes) (most - length bytes) fault left) so_far.body_is why;
 }
 
-before_chunk : (left behind : List ℕ) (size : ℕ) (line : IsLineTaken (Some left) (Some behind) size) → IsLineBefore left line.line behind
-before_chunk left behind size line = record { valid = line.valid; text_is = line.taken }
+stopped : (old now : Option (List ℕ)) (least most : ℕ) (body : List ℕ) (fault : HttpFault) → AreChunksRead old now body → length body ≤ most
+    → IsStop (least - length body) (most - length body) now fault → IsChunkedFault least most old fault
+stopped old now least most body Read so_far fits why = tt
+stopped None now least most body fault so_far fits why = tt
+stopped (Some text) None least most body fault so_far fits why = absurd so_far.taken
+stopped (Some text) (Some left) least most body fault so_far fits why = broken text left least most body fault so_far fits why
 
-no_chunk : (old mid behind : Option (List ℕ)) (most size : ℕ) (body : List ℕ) (fault : HttpFault) → 0 < size → AreChunksRead old mid body → length body ≤ most → IsLineTaken mid behind size
-    → IsChunkFault size behind fault → IsChunkedFault most old fault
-no_chunk old mid behind most size body Read some so_far fits line is = tt
-no_chunk old mid behind most size body Memory some so_far fits line is = tt
-no_chunk None mid behind most size body Short some so_far fits line is = tt
-no_chunk (Some text) None behind most size body Short some so_far fits line is = absurd so_far.taken
-no_chunk (Some text) (Some left) None most size body Short some so_far fits line is = absurd line.taken
-no_chunk (Some text) (Some left) (Some behind) most size body Short some so_far fits line is =
-    broken_chunk text left behind most size body Short so_far fits line (inr (line.line, behind, before_chunk left behind size line, rw (← line.size_is) (unfinished_behind size behind some is)))
-no_chunk None mid behind most size body Coding some so_far fits line is = tt
-no_chunk (Some text) None behind most size body Coding some so_far fits line is = absurd so_far.taken
-no_chunk (Some text) (Some left) None most size body Coding some so_far fits line is = absurd line.taken
-no_chunk (Some text) (Some left) (Some behind) most size body Coding some so_far fits line is =
-    broken_chunk text left behind most size body Coding so_far fits line (inr (line.line, behind, before_chunk left behind size line, rw (← line.size_is) (bad_behind size behind some is)))
-no_chunk old mid behind most size body _ some so_far fits line is = absurd is
+-- so there is no chunked body
+pub no_body : {A : Type 0} (old now : Option (List ℕ)) (least most : ℕ) (body : List ℕ) (result : Result A HttpFault) (fault : HttpFault) → IsErrAnd result (λ e. e ≡ fault)
+    → AreChunksRead old now body → length body ≤ most → IsStop (least - length body) (most - length body) now fault → IfErr result (IsChunkedFault least most old)
+no_body old now least most body (Ok done) fault is so_far fits why = absurd is
+no_body old now least most body (Err e) fault is so_far fits why = rw is (stopped old now least most body fault so_far fits why)
 
-pub chunk_broken : {A : Type 0} (old mid behind : Option (List ℕ)) (most size : ℕ) (body : List ℕ) (result : Result A HttpFault) (fault : HttpFault) → IsErrAnd result (λ e. e ≡ fault) → 0 < size
-    → AreChunksRead old mid body → length body ≤ most → IsLineTaken mid behind size → IsChunkFault size behind fault → IfErr result (IsChunkedFault most old)
-chunk_broken old mid behind most size body (Ok done) fault is some so_far fits line why = absurd is
-chunk_broken old mid behind most size body (Err e) fault is some so_far fits line why = rw is (no_chunk old mid behind most size body fault some so_far fits line why)
+beside : (now : Option (List ℕ)) (A : Type 0) (P : List ℕ → Type 0) → A → IfSome now P → IfSome now (λ text. A × P text)
+beside None A P a p = tt
+beside (Some text) A P a p = (a, p)
+
+always : (now : Option (List ℕ)) (A : Type 0) → A → IfSome now (λ text. A)
+always None A a = tt
+always (Some text) A a = a
+
+or_else : (now : Option (List ℕ)) (P Q : List ℕ → Type 0) → IfSome now Q → IfSome now (λ text. P text ⊎ Q text)
+or_else None P Q q = tt
+or_else (Some text) P Q q = inr q
+
+-- what holds behind a line that was taken
+behind_line : (now behind : Option (List ℕ)) (size : ℕ) (Holds : ℕ → List ℕ → Type 0) → IsLineTaken now behind size → IfSome behind (Holds size) → IfSome now (BeginsWithLine Holds)
+behind_line None behind size Holds line is = tt
+behind_line (Some left) None size Holds line is = absurd line.taken
+behind_line (Some left) (Some behind) size Holds line is =
+    (line.line, behind, record { valid = line.valid; text_is = line.taken }, subst (λ (n : ℕ). Holds n behind) line.size_is is)
+
+abbrev Breaks : (ℕ → List ℕ → Type 0) → ℕ → ℕ → ℕ → List ℕ → Type 0
+Breaks Holds missing room size rest = IsFitting missing room size × Holds size rest
+
+-- the chunk does not come
+pub stops_at_chunk : (missing room size : ℕ) (now behind : Option (List ℕ)) (fault : HttpFault) → 0 < size → size ≤ room → IsLineTaken now behind size → IsChunkFault size behind fault
+    → IsStop missing room now fault
+stops_at_chunk missing room zero now behind fault some fits line why = absurd (omega arith)
+stops_at_chunk missing room (suc size) now behind Read some fits line why = tt
+stops_at_chunk missing room (suc size) now behind Memory some fits line why =
+    behind_line now behind (suc size) (λ n rest. (0 < n) × (n ≤ room)) line (always behind ((0 < suc size) × (suc size ≤ room)) (some, fits))
+stops_at_chunk missing room (suc size) now behind Short some fits line why = or_else now IsUnfinishedLine (BeginsWithLine (Breaks IsUnfinishedBehind missing room))
+    (behind_line now behind (suc size) (Breaks IsUnfinishedBehind missing room) line (beside behind (suc size ≤ room) (IsUnfinishedBehind (suc size)) fits why))
+stops_at_chunk missing room (suc size) now behind Coding some fits line why = or_else now NeverBeginsWithLine (BeginsWithLine (Breaks IsBadBehind missing room))
+    (behind_line now behind (suc size) (Breaks IsBadBehind missing room) line (beside behind (suc size ≤ room) (IsBadBehind (suc size)) fits why))
+stops_at_chunk missing room (suc size) now behind _ some fits line why = absurd why

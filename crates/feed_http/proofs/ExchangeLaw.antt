@@ -1,5 +1,6 @@
 -- The law over both ends: what is asked for, served and read back.
-use Rattle.std.proofs.Common.{◌≡◌, ◌≤◌, ◌<◌, ◌+◌, ◌-◌, ◌^◌, ℕ, List, [], ◌∷◌, ◌++◌, length, All, codes, Some, Result, Ok, Err, true, false, refl, sym, ap, arith, ◌∙◌, append_assoc, subst, inl, inr, reverse, lit≤}
+use Rattle.std.proofs.Common.{◌≡◌, ◌≤◌, ◌<◌, ◌+◌, ◌-◌, ◌^◌, ℕ, List, [], ◌∷◌, ◌++◌, length, take, All, codes, Some, Result, Ok, Err, true, false, refl, sym, ap, arith, ◌∙◌, append_assoc, subst, inl}
+use Rattle.std.proofs.Common.{inr, reverse, lit≤}
 use Rattle.std.specs.List.{list_all, flat_map}
 use Rattle.std.specs.Char.{is_ascii_digit}
 use Rattle.std.specs.Fmt.{decimal}
@@ -23,6 +24,7 @@ use Rattle.feed_http.specs.declared.fetching.got.Got.TheVariants.{Piece, Size}
 use Rattle.feed_http.specs.Served.{reply_of, reply_text, head_alone}
 use Rattle.feed_http.specs.ReplyHeads.{is_interim, print_heads, IsInterimHead, HasNoReply, IsWhyNoReply}
 use Rattle.feed_http.specs.Got.{IsGot, IsReply, IsJudged, IsHeadFailure}
+use Rattle.feed_http.proofs.BufferFilling.{take-behind}
 use Rattle.feed_http.specs.Laws.{IsGiven, PartReadsBack, SizeReadsBack}
 use Rattle.std.specs.Result.{result_ok}
 use Rattle.feed_http.specs.declared.fetching.got.Method.{Method}
@@ -102,7 +104,8 @@ fields_text (p ∷ ps) rest = append_assoc (print_field (field p.0 p.1)) (flat_m
     ∙ ap (λ t. print_field (field p.0 p.1) ++ t) (fields_text ps rest) ∙ field_then p.0 p.1 (lines_of ps rest)
 
 abbrev part_pairs : List ℕ → List ℕ → List (List ℕ × List ℕ)
-part_pairs places count = (codes "Content-Type", codes "application/octet-stream") ∷ (codes "Accept-Ranges", codes "bytes") ∷ (codes "Content-Range", places) ∷ (codes "Content-Length", count) ∷ (codes "Connection", codes "close") ∷ []
+part_pairs places count = (codes "Content-Type", codes "application/octet-stream") ∷ (codes "Accept-Ranges", codes "bytes") ∷ (codes "Content-Range", places) ∷ (codes "Content-Length", count) ∷
+    (codes "Connection", codes "close") ∷ []
 
 part_printed : (places count : List ℕ) → print_response (part_head places count) ≡ head_of (part_lines (codes "Content-Range: " ∷ places ∷ []) count)
 unfolding print_response part_head part_fields
@@ -116,7 +119,8 @@ range_split first last size rest = simp append_assoc refl
 
 range_line : (first last size count : List ℕ) → head_of (part_lines (codes "Content-Range: " ∷ range_value first last size ∷ []) count)
     ≡ head_of (part_lines (codes "Content-Range: bytes " ∷ first ∷ codes "-" ∷ last ∷ codes "/" ∷ size ∷ []) count)
-range_line first last size count = ap (λ t. codes "HTTP/1.1 206 Partial Content" ++ (13 ∷ 10 ∷ (codes "Content-Type: application/octet-stream" ++ (13 ∷ 10 ∷ (codes "Accept-Ranges: bytes" ++ (13 ∷ 10 ∷ (codes "Content-Range: " ++ t))))))) (range_split first last size _)
+range_line first last size count = ap (λ t. codes "HTTP/1.1 206 Partial Content" ++ (13 ∷ 10 ∷ (codes "Content-Type: application/octet-stream" ++ (13 ∷ 10 ∷ (codes "Accept-Ranges: bytes" ++
+    (13 ∷ 10 ∷ (codes "Content-Range: " ++ t))))))) (range_split first last size _)
 
 -- the reply's head is the text of that head
 abbrev reply_head : ℕ → ℕ → ℕ → ResponseHead
@@ -160,7 +164,8 @@ fields_valid places count p c =
     let close : List Field = field (codes "Connection") (codes "close") ∷ [] in
     let counted : List Field = field (codes "Content-Length") count ∷ field (codes "Connection") (codes "close") ∷ [] in
     let ranged : List Field = field (codes "Content-Range") places ∷ field (codes "Content-Length") count ∷ field (codes "Connection") (codes "close") ∷ [] in
-    let accepts : List Field = field (codes "Accept-Ranges") (codes "bytes") ∷ field (codes "Content-Range") places ∷ field (codes "Content-Length") count ∷ field (codes "Connection") (codes "close") ∷ [] in
+    let accepts : List Field = field (codes "Accept-Ranges") (codes "bytes") ∷ field (codes "Content-Range") places ∷ field (codes "Content-Length") count ∷ field (codes "Connection")
+    (codes "close") ∷ [] in
     All-cons IsField (field (codes "Content-Type") (codes "application/octet-stream")) accepts (static_field (codes "Content-Type") (codes "application/octet-stream") (omega arith) refl refl)
     (All-cons IsField (field (codes "Accept-Ranges") (codes "bytes")) ranged (static_field (codes "Accept-Ranges") (codes "bytes") (omega arith) refl refl)
     (All-cons IsField (field (codes "Content-Range") places) counted (number_field (codes "Content-Range") places (omega arith) refl p)
@@ -177,7 +182,8 @@ head_valid places count p c = record {
 }
 
 -- what the head says
-judged_part : (places count : List ℕ) → judged Get (part_head places count) ≡ part_judged (result_ok (content_range (trim_ows (32 ∷ places)))) (framed_by_length (stated_of (trim_ows (32 ∷ count) ∷ [])))
+judged_part : (places count : List ℕ) → judged Get (part_head places count) ≡ part_judged (result_ok (content_range (trim_ows (32 ∷ places)))) (framed_by_length (stated_of (trim_ows
+    (32 ∷ count) ∷ [])))
 unfolding part_head part_fields field
 judged_part places count = refl
 
@@ -186,7 +192,8 @@ range_trimmed : (first last size : ℕ) → size < 2 ^ 64 → trim_ows (32 ∷ r
 range_trimmed first last size small = trimmed (codes "bytes " ++ decimal first ++ codes "-" ++ decimal last ++ codes "/") (decimal size) refl (decimal_digits size small) (decimal_some size small)
 
 count_trimmed : (n : ℕ) → n < 2 ^ 64 → trim_ows (32 ∷ decimal n) ≡ decimal n
-count_trimmed n small = trimmed [] (decimal n) (ap skip_ows (sym (append-nil (decimal n))) ∙ visible_front (decimal n) [] (decimal_digits n small) (decimal_some n small) ∙ append-nil (decimal n)) (decimal_digits n small) (decimal_some n small)
+count_trimmed n small = trimmed [] (decimal n) (ap skip_ows (sym (append-nil (decimal n))) ∙ visible_front (decimal n) [] (decimal_digits n small) (decimal_some n small)
+    ∙ append-nil (decimal n)) (decimal_digits n small) (decimal_some n small)
 
 range_says : (first last size : ℕ) → first ≤ last → last < size → size < 2 ^ 64 → content_range (range_value (decimal first) (decimal last) (decimal size)) ≡ Ok (range.Part first last (Some size))
 range_says first last size ordered inside small =
@@ -203,7 +210,15 @@ head_says : (first last size : ℕ) → first ≤ last → last < size → size 
 head_says first last size ordered inside small few =
     let fits : last - first + 1 < 2 ^ 64 = omega arith in
     judged_part (range_value (decimal first) (decimal last) (decimal size)) (decimal (last - first + 1))
-    ∙ rw (range_trimmed first last size small, range_says first last size ordered inside small, count_trimmed (last - first + 1) fits, length_says (last - first + 1) fits, le-ltb 1048576 (last - first + 1) few, eq-eqb (last - first + 1) (last - first + 1) refl) refl
+    ∙ rw (
+      range_trimmed first last size small,
+      range_says first last size ordered inside small,
+      count_trimmed (last - first + 1) fits,
+      length_says (last - first + 1) fits,
+      le-ltb 1048576
+          (last - first + 1) few,
+      eq-eqb (last - first + 1) (last - first + 1) refl,
+    ) refl
 
 -- the head is within the limits
 total : (a x b y c z d w e : List ℕ) → length x ≤ 20 → length y ≤ 20 → length z ≤ 20 → length w ≤ 20 → length a ≤ 4000 → length b ≤ 100 → length c ≤ 100 → length d ≤ 100 → length e ≤ 100
@@ -214,7 +229,8 @@ pub decimal_short : (n : ℕ) → n < 2 ^ 64 → length (decimal n) ≤ 20
 decimal_short n small = length-decimal-le 20 n (omega arith) (omega arith) small
 
 start_lines : List ℕ
-start_lines = codes "HTTP/1.1 206 Partial Content" ++ (13 ∷ 10 ∷ (codes "Content-Type: application/octet-stream" ++ (13 ∷ 10 ∷ (codes "Accept-Ranges: bytes" ++ (13 ∷ 10 ∷ codes "Content-Range: bytes ")))))
+start_lines = codes "HTTP/1.1 206 Partial Content" ++ (13 ∷ 10 ∷ (codes "Content-Type: application/octet-stream" ++ (13 ∷ 10 ∷ (codes "Accept-Ranges: bytes" ++
+    (13 ∷ 10 ∷ codes "Content-Range: bytes ")))))
 
 length_line : List ℕ
 length_line = 13 ∷ 10 ∷ codes "Content-Length: "
@@ -225,15 +241,18 @@ close_line = 13 ∷ 10 ∷ (codes "Connection: close" ++ (13 ∷ 10 ∷ 13 ∷ 1
 head_short : (first last size : ℕ) → first ≤ last → last < size → size < 2 ^ 64 → length (print_response (reply_head first last size)) ≤ 8192
 unfolding start_lines length_line close_line
 head_short first last size ordered inside small =
-    let pieces : print_response (reply_head first last size) ≡ start_lines ++ (decimal first ++ (codes "-" ++ (decimal last ++ (codes "/" ++ (decimal size ++ (length_line ++ (decimal (last - first + 1) ++ close_line))))))) = reply_printed first last size in
+    let pieces : print_response (reply_head first last size) ≡ start_lines ++ (decimal first ++ (codes "-" ++ (decimal last ++ (codes "/" ++ (decimal size ++ (length_line ++ (decimal
+    (last - first + 1) ++ close_line))))))) = reply_printed first last size in
     rw pieces (total start_lines (decimal first) (codes "-") (decimal last) (codes "/") (decimal size) length_line (decimal (last - first + 1)) close_line
-    (decimal_short first (omega arith)) (decimal_short last (omega arith)) (decimal_short size small) (decimal_short (last - first + 1) (omega arith)) (lit≤ tt) (lit≤ tt) (lit≤ tt) (lit≤ tt) (lit≤ tt))
+    (decimal_short first (omega arith)) (decimal_short last (omega arith)) (decimal_short size small) (decimal_short (last - first + 1) (omega arith)) (lit≤ tt) (lit≤ tt) (lit≤ tt) (lit≤ tt)
+    (lit≤ tt))
 
 -- the reply begins with this head
 reply_reads : (first last size : ℕ) (body : List ℕ) → first ≤ last → last < size → size < 2 ^ 64 → ReadsResponse (reply_text (reply_of (Part first last size) body)) (reply_head first last size) body
 reply_reads first last size body ordered inside small =
     let fits : last - first + 1 < 2 ^ 64 = omega arith in (
-      head_valid (range_value (decimal first) (decimal last) (decimal size)) (decimal (last - first + 1)) (range_passes first last size (omega arith) (omega arith) small) (digits_pass (last - first + 1) fits),
+      head_valid (range_value (decimal first) (decimal last) (decimal size)) (decimal (last - first + 1)) (range_passes first last size (omega arith) (omega arith) small) (digits_pass
+          (last - first + 1) fits),
       ap (λ t. t ++ body) (sym (reply_printed first last size)),
     )
 
@@ -242,33 +261,46 @@ unfolding part_head
 not_interim places count = refl
 
 -- behind no interim head
-no_interim : (text : List ℕ) (h : ResponseHead) (body rest : List ℕ) (interim : List ResponseHead) → ReadsResponse text h body → is_interim h ≡ false → All IsInterimHead interim → text ≡ print_heads interim ++ rest → interim ≡ []
+no_interim : (text : List ℕ) (h : ResponseHead) (body rest : List ℕ) (interim : List ResponseHead) → ReadsResponse text h body → is_interim h ≡ false → All (IsInterimHead 64) interim
+    → text ≡ print_heads interim ++ rest → interim ≡ []
 no_interim text h body rest [] reads other skipped e = refl
 no_interim text h body rest (i ∷ more) reads other skipped e =
-    let one : IsInterimHead i = skipped 0 i (omega arith) in
+    let one : IsInterimHead 64 i = skipped 0 i (omega arith) in
     let same : i ≡ h = (response_unique text i h (print_heads more ++ rest) body (one.valid, e ∙ append_assoc (print_response i) (print_heads more) rest) reads).0 in
     absurd (false≢true (sym other ∙ ap is_interim (sym same) ∙ one.interim))
 
 -- a piece is all of the body
-piece_given : (first size count : ℕ) (body : List ℕ) (result : Result Got HttpFault) → length body ≡ count → IsGot (judgement.Part first (Some size) count (Sized count)) body result → IsGiven (Piece first (Some size) body) result
-piece_given first size count body (Ok given) long is = is.1 ∙ ap (λ b. Piece first (Some size) b) (is.2.1.1 ∙ take_all count body (omega arith))
+piece_given : (first size count : ℕ) (body : List ℕ) (result : Result Got HttpFault) → length body ≡ count → IsGot (judgement.Part first (Some size) count (Sized count)) body result
+    → IsGiven (Piece first (Some size) body) result
+piece_given first size count body (Ok given) long is = is.1 ∙ ap (λ b. Piece first (Some size) b) (is.2.1 ∙ take_all count body (omega arith))
 piece_given first size count body (Err Read) long is = tt
 piece_given first size count body (Err Memory) long is = tt
 piece_given first size count body (Err Length) long (inl is) = absurd is
-piece_given first size count body (Err Length) long (inr is) = absurd (cc)
-piece_given first size count body (Err Short) long (inl is) = absurd (omega arith)
-piece_given first size count body (Err Short) long (inr is) = absurd (cc)
+piece_given first size count body (Err Length) long (inr is) = absurd is
+piece_given first size count body (Err Short) long is = absurd (omega arith)
 piece_given first size count body (Err _) long is = absurd is
 
 few_fields : (places count : List ℕ) → length (part_head places count).fields ≤ 64
 unfolding part_head part_fields
 few_fields places count = lit≤ tt
 
+-- a head that fits stands in as many bytes
+reads_front : (bytes : ℕ) (text : List ℕ) (h : ResponseHead) (body : List ℕ) → ReadsResponse text h body → length (print_response h) ≤ bytes
+    → ReadsResponse (take bytes text) h (take (bytes - length (print_response h)) body)
+reads_front bytes text h body reads short =
+    let whole : length (print_response h) + (bytes - length (print_response h)) ≡ bytes = omega arith in (
+      reads.0,
+      ap (take bytes) reads.1 ∙ ap (λ n. take n (print_response h ++ body)) (sym whole) ∙ take-behind (print_response h) body (length (print_response h)) (bytes - length
+          (print_response h)) refl,
+    )
+
 -- a text that begins with a head within the limits is at no fault
-why_not : (fault : HttpFault) (bytes : ℕ) (text : List ℕ) (h : ResponseHead) (body : List ℕ) → ReadsResponse text h body → length (print_response h) ≤ bytes → length h.fields ≤ 64 → IsWhyNoReply bytes 64 fault text → ⊥
+why_not : (fault : HttpFault) (bytes : ℕ) (text : List ℕ) (h : ResponseHead) (body : List ℕ) → ReadsResponse text h body → length (print_response h) ≤ bytes → length h.fields ≤ 64
+    → IsWhyNoReply bytes 64 fault text → ⊥
 why_not Short bytes text h body reads short few why = why.1.not_whole h body reads
-why_not HeadTooLong bytes text h body reads short few why = why [] h (body ++ []) (ReadsResponse-append text h body [] reads) short few
-why_not BadHead bytes text h body reads short few why = why [] h (body ++ []) (ReadsResponse-append text h body [] reads) short few
+why_not HeadTooLong bytes text h body reads short few why = why.1.not_whole h (take (bytes - length (print_response h)) body) (reads_front bytes text h body reads short)
+why_not BadHead bytes text h body reads short few why = let front : List ℕ = take (bytes - length (print_response h)) body in
+    why [] h (front ++ []) (ReadsResponse-append (take bytes text) h front [] (reads_front bytes text h body reads short)) few
 why_not _ bytes text h body reads short few why = why
 
 -- the heads of a text that begins with a head within the limits do not fail
@@ -280,7 +312,8 @@ no_failure text h body fault reads other short few failed =
     let R : List ℕ → Type 0 = λ t. ReadsResponse t h body in
     why_not fault (8192 - length (print_heads failed.interim)) failed.rest h body (subst R rest reads) (rw none short) few failed.why
 
-failed_or_given : (text : List ℕ) (h : ResponseHead) (body : List ℕ) (wanted : Got) (result : Result Got HttpFault) → ReadsResponse text h body → is_interim h ≡ false → length (print_response h) ≤ 8192 → length h.fields ≤ 64
+failed_or_given : (text : List ℕ) (h : ResponseHead) (body : List ℕ) (wanted : Got) (result : Result Got HttpFault) → ReadsResponse text h body → is_interim h ≡ false
+    → length (print_response h) ≤ 8192 → length h.fields ≤ 64
     → IsHeadFailure text result → IsGiven wanted result
 failed_or_given text h body wanted (Ok given) reads other short few failed = absurd failed
 failed_or_given text h body wanted (Err Read) reads other short few failed = tt
@@ -291,7 +324,8 @@ failed_or_given text h body wanted (Err BadHead) reads other short few failed = 
 failed_or_given text h body wanted (Err _) reads other short few failed = absurd failed.why
 
 -- what is given of the one head that a text begins with is given of the text
-pub one_reply : (method : Method) (text : List ℕ) (h : ResponseHead) (body : List ℕ) (wanted : Got) (result : Result Got HttpFault) → ReadsResponse text h body → is_interim h ≡ false → length (print_response h) ≤ 8192 → length h.fields ≤ 64
+pub one_reply : (method : Method) (text : List ℕ) (h : ResponseHead) (body : List ℕ) (wanted : Got) (result : Result Got HttpFault) → ReadsResponse text h body → is_interim h ≡ false
+    → length (print_response h) ≤ 8192 → length h.fields ≤ 64
     → (IsJudged (judged method h) body result → IsGiven wanted result) → IsReply method text result → IsGiven wanted result
 one_reply method text h body wanted result reads other short few gives (inr failed) = failed_or_given text h body wanted result reads other short few failed
 one_reply method text h body wanted result reads other short few gives (inl got) =
@@ -304,7 +338,8 @@ one_reply method text h body wanted result reads other short few gives (inl got)
 -- what a GET gives of the reply with a part
 pub part_reads_back : PartReadsBack
 part_reads_back first last size body result ordered inside small few long =
-    one_reply Get (reply_text (reply_of (Part first last size) body)) (reply_head first last size) body (Piece first (Some size) body) result (reply_reads first last size body ordered inside small) (not_interim _ _)
+    one_reply Get (reply_text (reply_of (Part first last size) body)) (reply_head first last size) body (Piece first (Some size) body) result (reply_reads first last size body ordered inside small)
+    (not_interim _ _)
     (head_short first last size ordered inside small) (few_fields _ _)
     (λ is. piece_given first size (last - first + 1) body result long (rw (head_says first last size ordered inside small few) at is))
 

@@ -61,3 +61,13 @@ never_served bytes fields None told P never = tt
 never_served bytes fields (Some text) None P never = tt
 never_served bytes fields (Some text) (Some files) P never = λ head begins.
     absurd (never [] head (record { rest = begins.rest; reads = (begins.reads.0, append-nil text ∙ begins.reads.1); short = begins.short; few = begins.few }))
+
+-- the same of what needs no file
+pub by_head_alone : (bytes fields : ℕ) (old new : Option (List ℕ)) (buffer : List ℕ) (headers : List HeaderSpan) (spans : RequestSpans) (P : RequestHead → Type 0)
+    → Consumes old new buffer → IsRequestOf buffer headers spans → ((head : RequestHead) → IsRequestAt buffer headers spans head → P head)
+    → IfSome old (λ text. (head : RequestHead) → BeginsWithHead bytes fields text head → P head)
+by_head_alone bytes fields old new buffer headers spans P taken of all = by_head bytes fields old new buffer headers spans {Told = ℕ} (Some 0) (λ n. P) taken of all
+
+pub never_asked : (bytes fields : ℕ) (old : Option (List ℕ)) (P : RequestHead → Type 0) → IfSome old (NeverBeginsWithHead bytes fields)
+    → IfSome old (λ text. (head : RequestHead) → BeginsWithHead bytes fields text head → P head)
+never_asked bytes fields old P never = never_served bytes fields old {Told = ℕ} (Some 0) (λ n. P) never

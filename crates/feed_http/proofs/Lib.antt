@@ -1,4 +1,3 @@
-pub mod KnownBytes
 pub mod BufferFilling
 pub mod RequestReading
 pub mod NamedFields
@@ -11,6 +10,7 @@ pub mod RequestWriting
 pub mod AgreedLengths
 pub mod LineReading
 pub mod ChunkReading
+pub mod JudgedFaults
 pub mod ReplyJudging
 pub mod ExchangeLaw
 pub mod RequestLaw

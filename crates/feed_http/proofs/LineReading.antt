@@ -6,10 +6,11 @@ use Rattle.std.specs.List.{flat_map}
 use Rattle.std.proofs.lemmas.Bool.{cases_Bool}
 use borrow.Author.Tests.{leb-true, leb-false}
 use Rattle.std.proofs.lemmas.List.{append-nil, length-append, take_at, take-append-le, take-append-drop, length-map, length-take}
-use Rattle.httparse.specs.Grammar.{ChunkLine, print_chunk_line, print_extension, ReadsChunkLine, HasNoChunkLine, NeverHasChunkLine, Field, LineEnd, crlf, lf, print_field, print_section, ReadsSection, HasNoSection}
+use Rattle.httparse.specs.Grammar.{ChunkLine, print_chunk_line, print_extension, ReadsChunkLine, HasNoChunkLine, NeverHasChunkLine, Field, LineEnd, crlf, lf, print_field, print_section, ReadsSection}
+use Rattle.httparse.specs.Grammar.{HasNoSection}
 use Rattle.httparse.specs.Spans.{IsChunkLineAt, IsSectionOf, IsSectionWithin, SectionOverflows, header_bytes, name_and_value}
 use Rattle.httparse.specs.declared.spans.HeaderSpan.{HeaderSpan}
-use Rattle.feed_http.proofs.KnownBytes.{consumes_more}
+use Rattle.std.proofs.KnownBytes.{Consumes-trans}
 use Rattle.feed_http.specs.Chunks.{NeverBeginsWithLine, NeverBeginsWithTrailers, IsLineTaken, AreTrailersTaken}
 
 -- the last byte
@@ -73,7 +74,8 @@ whole_line front b l rest none reads = elim (cases_Bool (nat_le (length (print_c
   | inr f ↦ all_of front (print_chunk_line l) rest b (leb-false _ _ f) reads.1
 ]
 
-pub whole_section : (front : List ℕ) (b : ℕ) (fields : List Field) (end : LineEnd) (rest : List ℕ) → HasNoSection front → ReadsSection (front ++ b ∷ []) fields end rest → front ++ b ∷ [] ≡ print_section fields end
+pub whole_section : (front : List ℕ) (b : ℕ) (fields : List Field) (end : LineEnd) (rest : List ℕ) → HasNoSection front → ReadsSection (front ++ b ∷ []) fields end rest
+    → front ++ b ∷ [] ≡ print_section fields end
 whole_section front b fields end rest none reads = elim (cases_Bool (nat_le (length (print_section fields end)) (length front))) [
   | inl t ↦ absurd (none fields end (drop (length (print_section fields end)) front) (reads.0, in_front front (b ∷ []) (print_section fields end) rest (leb-true _ _ t) reads.1))
   | inr f ↦ all_of front (print_section fields end) rest b (leb-false _ _ f) reads.1
@@ -127,7 +129,7 @@ full_section (Some text) (Some rest) bytes taken none long = λ more fields end 
 
 -- one more byte of the reader
 pub pushed : (old mid new : Option (List ℕ)) (front items : List ℕ) (b : ℕ) → items ≡ front ++ b ∷ [] → Consumes old mid front → Consumes mid new (b ∷ []) → Consumes old new items
-pushed old mid new front items b e taken one = rw e (consumes_more old mid new front (b ∷ []) taken one)
+pushed old mid new front items b e taken one = rw e (Consumes-trans old mid new front (b ∷ []) taken one)
 
 pub no_line_pushed : (front items : List ℕ) (b : ℕ) → items ≡ front ++ b ∷ [] → HasNoChunkLine front → b ≢ 10 → HasNoChunkLine items
 no_line_pushed front items b e none other = let P : List ℕ → Type 0 = HasNoChunkLine in subst P (sym e) (no_line_more front b none other)
@@ -149,7 +151,7 @@ line_taken old mid new front items text b len size e same short taken one none f
       line = found.0;
       valid = record { valid = at.0; short = omega (arith, ap length whole, length-append front (b ∷ [])) };
       size_is = found.1.size_is;
-      taken = subst P whole (consumes_more old mid new front (b ∷ []) taken one);
+      taken = subst P whole (Consumes-trans old mid new front (b ∷ []) taken one);
     }
 
 -- a whole trailer section was taken
@@ -169,5 +171,5 @@ trailers_taken old mid new front items text b headers found e same short room wi
         few = omega (arith, simp length-map at counted, length-take found.1 headers, room);
         short = omega (arith, ap length whole, length-append front (b ∷ []));
       };
-      taken = subst P whole (consumes_more old mid new front (b ∷ []) taken one);
+      taken = subst P whole (Consumes-trans old mid new front (b ∷ []) taken one);
     }

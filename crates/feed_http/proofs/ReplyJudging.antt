@@ -1,31 +1,33 @@
 -- From the head of a reply that was read to the bytes of the reader.
-use Rattle.std.proofs.Common.{◌≡◌, ◌≤◌, ◌+◌, ◌-◌, ℕ, List, ◌++◌, length, take, drop, map, Option, Some, None, IfSome, Result, Ok, Err, refl, sym, ap, arith, ◌∙◌, append_assoc, inl}
+use Rattle.std.proofs.Common.{◌≡◌, ◌≤◌, ◌+◌, ◌-◌, ℕ, List, ◌++◌, length, take, drop, Option, Some, None, IfSome, IfErr, Result, Ok, Err, refl, sym, ap, arith, ◌∙◌, append_assoc, inl}
 use Rattle.std.specs.Prelude.{IsErrAnd}
 use Rattle.std.specs.Fmt.{option_append}
 use Rattle.std.specs.Io.KnownBytes.{Consumes}
-use Rattle.std.proofs.lemmas.List.{length-take, length-take-le, length-drop, length-map, drop-drop}
+use Rattle.std.proofs.lemmas.List.{length-take-le, length-drop, drop-drop}
 use Rattle.httparse.specs.Grammar.{ResponseHead, print_response}
-use Rattle.httparse.specs.Spans.{IsResponseAt, IsResponseWithin, header_bytes, name_and_value}
+use Rattle.httparse.specs.Spans.{IsResponseAt, IsResponseWithin}
 use Rattle.httparse.specs.declared.spans.ResponseSpans.{ResponseSpans}
 use Rattle.httparse.specs.declared.spans.HeaderSpan.{HeaderSpan}
 use Rattle.feed_http.specs.declared.http_fault.HttpFault.{HttpFault}
 use Rattle.feed_http.specs.declared.fetching.got.Method.{Method}
 use Rattle.feed_http.specs.declared.fetching.got.Got.{Got}
 use Rattle.feed_http.specs.declared.fetching.judge.Judgement.{Judgement}
+use Rattle.feed_http.specs.Limits.{head_limit, field_limit}
 use Rattle.feed_http.specs.ReplyHeads.{BeginsWithHeads, print_heads}
 use Rattle.feed_http.specs.ReplyReads.{IsReplyIn}
 use Rattle.feed_http.specs.Judgements.{judged}
-use Rattle.feed_http.specs.Got.{IsGot, IsReply}
-use Rattle.feed_http.proofs.ReplyReading.{split_text, part_is}
+use Rattle.feed_http.specs.Got.{IsGot, IsReply, IsReadingFault}
+use Rattle.feed_http.proofs.JudgedFaults.{judged_fault}
+use Rattle.feed_http.proofs.ReplyReading.{split_text, part_is, counted}
 
 -- a reply's head that was read within the limits, and what is known of it
 pub record IsHeadRead (buffer : List ℕ) (headers : List HeaderSpan) (start filled : ℕ) (spans : ResponseSpans) : Type 0 where
   pub ordered : start ≤ filled
   pub fits : filled ≤ length buffer
-  pub short : length buffer ≤ 8192
-  pub few : length headers ≤ 64
+  pub short : length buffer ≤ head_limit
+  pub few : length headers ≤ field_limit
   pub within : IsResponseWithin (drop start (take filled buffer)) headers spans
-  pub reply : IsReplyIn (take filled buffer) headers start spans
+  pub reply : IsReplyIn field_limit (take filled buffer) headers start spans
 
 -- what came with the head
 abbrev pub ahead_of : List ℕ → ℕ → ℕ → ResponseSpans → List ℕ
@@ -35,11 +37,6 @@ inside : (buffer : List ℕ) (headers : List HeaderSpan) (start filled : ℕ) (s
 inside buffer headers start filled spans read =
     omega (arith, read.ordered, read.fits, read.within.section.len_fits, length-drop start (take filled buffer), length-take-le filled buffer read.fits)
 
-counted : (buffer : List ℕ) (headers : List HeaderSpan) (spans : ResponseSpans) (h : ResponseHead) → IsResponseWithin buffer headers spans → IsResponseAt buffer headers spans h → length h.fields ≤ length headers
-counted buffer headers spans h within at =
-    let same : length (map (header_bytes buffer) (take spans.headers headers)) ≡ length (map name_and_value h.fields) = ap length at.fields in
-    omega (arith, simp length-map at same, length-take spans.headers headers)
-
 -- the bytes behind the head
 behind : (buffer : List ℕ) (headers : List HeaderSpan) (start filled : ℕ) (spans : ResponseSpans) (read : IsHeadRead buffer headers start filled spans)
     → drop start (take filled buffer) ≡ print_response read.reply.head ++ ahead_of buffer start filled spans
@@ -47,8 +44,9 @@ behind buffer headers start filled spans read =
     read.reply.at.reads.1 ∙ ap (λ t. print_response read.reply.head ++ t)
     (drop-drop spans.len start (take filled buffer) ∙ sym (part_is buffer (start + spans.len) filled (inside buffer headers start filled spans read)))
 
-pub begins : (text buffer rest : List ℕ) (headers : List HeaderSpan) (start filled : ℕ) (spans : ResponseSpans) (read : IsHeadRead buffer headers start filled spans) → text ≡ take filled buffer ++ rest
-    → BeginsWithHeads 8192 64 text read.reply.interim read.reply.head (ahead_of buffer start filled spans ++ rest)
+pub begins : (text buffer rest : List ℕ) (headers : List HeaderSpan) (start filled : ℕ) (spans : ResponseSpans) (read : IsHeadRead buffer headers start filled spans)
+    → text ≡ take filled buffer ++ rest
+    → BeginsWithHeads head_limit field_limit text read.reply.interim read.reply.head (ahead_of buffer start filled spans ++ rest)
 begins text buffer rest headers start filled spans read e =
     let heads : List ℕ = print_heads read.reply.interim in
     let ahead : List ℕ = ahead_of buffer start filled spans in
@@ -58,7 +56,7 @@ begins text buffer rest headers start filled spans read e =
       skipped = read.reply.before.skipped;
       valid = read.reply.at.reads.0;
       last = read.reply.last;
-      text_is = split_text text (take filled buffer) rest start read.reply.interim e read.reply.before
+      text_is = split_text field_limit text (take filled buffer) rest start read.reply.interim e read.reply.before
           ∙ ap (λ t. heads ++ (t ++ rest)) (behind buffer headers start filled spans read)
           ∙ ap (λ t. heads ++ t) (append_assoc (print_response read.reply.head) ahead rest)
           ∙ sym (append_assoc heads (print_response read.reply.head) (ahead ++ rest));
@@ -72,7 +70,8 @@ at_part : (buffer : List ℕ) (headers : List HeaderSpan) (start filled : ℕ) (
 at_part buffer headers start filled spans read = rw (part_is buffer start filled read.ordered) read.reply.at
 
 -- a fault of the head is the result
-pub head_refused : (method : Method) (old new : Option (List ℕ)) (buffer : List ℕ) (headers : List HeaderSpan) (start filled : ℕ) (spans : ResponseSpans) (result : Result Got HttpFault) (fault : HttpFault)
+pub head_refused : (method : Method) (old new : Option (List ℕ)) (buffer : List ℕ) (headers : List HeaderSpan) (start filled : ℕ) (spans : ResponseSpans) (result : Result Got HttpFault)
+    (fault : HttpFault)
     → IsHeadRead buffer headers start filled spans → Consumes old new (take filled buffer)
     → ((head : ResponseHead) → IsResponseAt (take (filled - start) (drop start buffer)) headers spans head → Err fault ≡ judged method head)
     → IsErrAnd result (λ e. e ≡ fault) → IfSome old (λ text. IsReply method text result)
@@ -87,8 +86,17 @@ head_refused method (Some text) (Some rest) buffer headers start filled spans (E
   is = rw (← says read.reply.head (at_part buffer headers start filled spans read), is) refl;
 })
 
+pub head_faults : (method : Method) (buffer : List ℕ) (headers : List HeaderSpan) (start filled : ℕ) (spans : ResponseSpans) (result : Result Got HttpFault) (fault : HttpFault)
+    → IsHeadRead buffer headers start filled spans
+    → ((head : ResponseHead) → IsResponseAt (take (filled - start) (drop start buffer)) headers spans head → Err fault ≡ judged method head)
+    → IsErrAnd result (λ e. e ≡ fault) → IfErr result IsReadingFault
+head_faults method buffer headers start filled spans (Ok given) fault read says is = absurd is
+head_faults method buffer headers start filled spans (Err e) fault read says is =
+    rw is (judged_fault method read.reply.head fault (says read.reply.head (at_part buffer headers start filled spans read)))
+
 -- what is read behind the head is the result
-pub body_given : (method : Method) (old new chain : Option (List ℕ)) (buffer : List ℕ) (headers : List HeaderSpan) (start filled : ℕ) (spans : ResponseSpans) (judgement : Judgement) (result : Result Got HttpFault)
+pub body_given : (method : Method) (old new chain : Option (List ℕ)) (buffer : List ℕ) (headers : List HeaderSpan) (start filled : ℕ) (spans : ResponseSpans) (judgement : Judgement)
+    (result : Result Got HttpFault)
     → IsHeadRead buffer headers start filled spans → Consumes old new (take filled buffer)
     → ((head : ResponseHead) → IsResponseAt (take (filled - start) (drop start buffer)) headers spans head → Ok judgement ≡ judged method head)
     → chain ≡ option_append (Some (ahead_of buffer start filled spans)) new → IfSome chain (λ text. IsGot judgement text result) → IfSome old (λ text. IsReply method text result)

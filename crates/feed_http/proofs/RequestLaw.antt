@@ -54,7 +54,8 @@ digit_is_stem : (k : ℕ) → k < 10 → Passes (48 + k)
 digit_is_stem k small = grind (arith, nat_tests)
 
 two_pass : (n : ℕ) → All Passes (two n)
-two_pass n = All-cons Passes (48 + n / 10 % 10) ((48 + n % 10) ∷ []) (digit_is_stem (n / 10 % 10) (omega arith)) (All-cons Passes (48 + n % 10) [] (digit_is_stem (n % 10) (omega arith)) (All-nil Passes))
+two_pass n = All-cons Passes (48 + n / 10 % 10) ((48 + n % 10) ∷ []) (digit_is_stem (n / 10 % 10) (omega arith)) (All-cons Passes (48 + n % 10) [] (digit_is_stem (n % 10) (omega arith))
+    (All-nil Passes))
 
 date_passes : (year month day : ℕ) → All Passes (written year month day)
 date_passes year month day =
@@ -148,10 +149,12 @@ host_text = codes " HTTP/1.1" ++ (13 ∷ 10 ∷ codes "Host: ")
 range_text : List ℕ
 range_text = 13 ∷ 10 ∷ codes "Range: "
 
-get_short : (host text : List ℕ) (name : Name) (first last : ℕ) → IsTrue (is_host host) → IsName text name → first < 2 ^ 64 → last < 2 ^ 64 → length (print_request (get_head host text (ask_text first last))) ≤ 8192
+get_short : (host text : List ℕ) (name : Name) (first last : ℕ) → IsTrue (is_host host) → IsName text name → first < 2 ^ 64 → last < 2 ^ 64
+    → length (print_request (get_head host text (ask_text first last))) ≤ 8192
 unfolding last_text host_text range_text
 get_short host text name first last is_valid is a b =
-    let pieces : print_request (get_head host text (ask_text first last)) ≡ codes "GET /" ++ (text ++ (host_text ++ (host ++ (range_text ++ (ask_text first last ++ last_text))))) = get_printed host text first last in
+    let pieces : print_request (get_head host text (ask_text first last)) ≡ codes "GET /" ++ (text ++ (host_text ++ (host ++ (range_text ++
+    (ask_text first last ++ last_text))))) = get_printed host text first last in
     rw pieces (get_total (codes "GET /") text host_text host range_text (ask_text first last) last_text (name_short text name is) (host_parts host is_valid).0 (ask_short first last a b)
     (lit≤ tt) (lit≤ tt) (lit≤ tt) (lit≤ tt))
 

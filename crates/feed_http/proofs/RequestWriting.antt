@@ -1,8 +1,8 @@
 -- The text of a request, piece by piece.
-use Rattle.std.proofs.Common.{◌≡◌, ℕ, List, ◌++◌, Option, append_assoc}
+use Rattle.std.proofs.Common.{◌≡◌, ℕ, List, ◌++◌, Option, append_assoc, subst}
 use Rattle.std.specs.Io.KnownBytes.{Appends}
 use Rattle.feed_http.specs.RequestTexts.{start_then, start_text}
-use Rattle.feed_http.proofs.KnownBytes.{appends_same, appends_more}
+use Rattle.std.proofs.KnownBytes.{Appends-trans}
 
 start-append : (method host name rest : List ℕ) → start_text method host name ++ rest ≡ start_then method host name rest
 start-append method host name rest = simp append_assoc
@@ -11,7 +11,7 @@ start-append method host name rest = simp append_assoc
 pub started : (old mid new : Option (List ℕ)) (method host name rest : List ℕ) → Appends old mid (start_text method host name) → Appends mid new rest
     → Appends old new (start_then method host name rest)
 started old mid new method host name rest a b =
-    appends_same old new (start_text method host name ++ rest) (start_then method host name rest) (start-append method host name rest) (appends_more old mid new _ _ a b)
+    subst (Appends old new) (start-append method host name rest) (Appends-trans old mid new _ _ a b)
 
 pub three : (a b c d : Option (List ℕ)) (xs ys zs : List ℕ) → Appends a b xs → Appends b c ys → Appends c d zs → Appends a d (xs ++ (ys ++ zs))
-three a b c d xs ys zs p q r = appends_more a b d xs (ys ++ zs) p (appends_more b c d ys zs q r)
+three a b c d xs ys zs p q r = Appends-trans a b d xs (ys ++ zs) p (Appends-trans b c d ys zs q r)

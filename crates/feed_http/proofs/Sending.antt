@@ -1,5 +1,6 @@
 -- What is sent of a file, block by block.
-use Rattle.std.proofs.Common.{◌≡◌, ◌≤◌, ◌<◌, inl, inr, ◌+◌, ◌-◌, ℕ, List, ◌++◌, take, drop, length, Option, Some, None, IfSome, Result, Ok, Err, refl, sym, ap, arith, ◌∙◌, zero, suc, [], ◌∷◌, zero-add, suc-add, subst}
+use Rattle.std.proofs.Common.{◌≡◌, ◌≤◌, ◌<◌, inl, inr, ◌+◌, ◌-◌, ℕ, List, ◌++◌, take, drop, length, Option, Some, None, IfSome, Result, Ok, Err, refl, sym, ap, arith, ◌∙◌, zero, suc, [], ◌∷◌}
+use Rattle.std.proofs.Common.{zero-add, suc-add, subst}
 use Rattle.std.specs.Prelude.{slice_range, IsErrAnd, min, nat_le}
 use Rattle.std.specs.Io.KnownBytes.{Appends}
 use Rattle.std.proofs.lemmas.Bool.{cases_Bool}
@@ -10,7 +11,7 @@ use Rattle.feed_http.specs.declared.http_fault.HttpFault.{HttpFault}
 use Rattle.feed_http.specs.declared.http_fault.HttpFault.TheVariants.{Write, Memory, Shelf}
 use Rattle.feed_http.specs.Shelves.{Files}
 use Rattle.feed_http.specs.Served.{IsSending}
-use Rattle.feed_http.proofs.KnownBytes.{appends_more}
+use Rattle.std.proofs.KnownBytes.{Appends-trans}
 
 nil_take : (n : ℕ) → take {A = ℕ} n [] ≡ []
 nil_take zero = refl
@@ -47,7 +48,7 @@ pub sent_more : (told : Option Files) (name : Name) (old mid new : Option (List 
     → IfSome told (λ files. IfSome (files name) (λ file. Appends old new (slice_range file first (at + len))))
 sent_more told name old mid new first at len below = by_file told name
     (λ file. Appends old mid (slice_range file first at)) (λ file. Appends mid new (take len (drop at file))) (λ file. Appends old new (slice_range file first (at + len)))
-    (λ file a b. subst (Appends old new) (range_more file first at len below) (appends_more old mid new _ _ a b))
+    (λ file a b. subst (Appends old new) (range_more file first at len below) (Appends-trans old mid new _ _ a b))
 
 take-take-min : (m n : ℕ) (xs : List ℕ) → take m (take n xs) ≡ take (min m n) xs
 take-take-min m n xs = elim (cases_Bool (nat_le m n)) [
@@ -69,7 +70,7 @@ cut_part file first at len end sent below within =
 cut_sent : (file : List ℕ) (old mid new : Option (List ℕ)) (first at len end : ℕ) → first ≤ at → at + len ≤ end → Appends old mid (slice_range file first at)
     → (sent : ℕ) × Appends mid new (take sent (take len (drop at file))) → (sent : ℕ) × Appends old new (take sent (slice_range file first end))
 cut_sent file old mid new first at len end below within a b =
-    (at + min b.0 len - first, subst (Appends old new) (cut_part file first at len end b.0 below within) (appends_more old mid new _ _ a b.1))
+    (at + min b.0 len - first, subst (Appends old new) (cut_part file first at len end b.0 below within) (Appends-trans old mid new _ _ a b.1))
 
 broken_off : (file : List ℕ) (old mid new : Option (List ℕ)) (first at len end : ℕ) (result : Result (Unit {0}) HttpFault) (fault : HttpFault) → first ≤ at → at + len ≤ end
     → IsErrAnd result (λ e. e ≡ fault) → Appends old mid (slice_range file first at) → IsSending (take len (drop at file)) (Err fault) mid new

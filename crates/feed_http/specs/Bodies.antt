@@ -14,9 +14,10 @@ abbrev pub IsSizedFault : ℕ → Option (List ℕ) → HttpFault → Type 0
 IsSizedFault size remaining Memory = ⊤
 IsSizedFault size remaining fault = IsFillFault size remaining fault
 
--- there were more bytes, or no memory, or the reader failed
-abbrev pub IsEndlessFault : ℕ → Option (List ℕ) → HttpFault → Type 0
-IsEndlessFault most remaining Read = ⊤
-IsEndlessFault most remaining Memory = ⊤
-IsEndlessFault most remaining BodyTooLong = IfSome remaining (λ text. most < length text)
-IsEndlessFault most remaining _ = ⊥
+-- there were fewer bytes, or more, or no memory, or the reader failed
+abbrev pub IsEndlessFault : ℕ → ℕ → Option (List ℕ) → HttpFault → Type 0
+IsEndlessFault least most remaining Read = ⊤
+IsEndlessFault least most remaining Memory = ⊤
+IsEndlessFault least most remaining Short = IfSome remaining (λ text. length text < least)
+IsEndlessFault least most remaining BodyTooLong = IfSome remaining (λ text. most < length text)
+IsEndlessFault least most remaining _ = ⊥

@@ -4,19 +4,21 @@ use Rattle.std.specs.List.{flat_map}
 use Rattle.std.specs.Io.KnownBytes.{Consumes}
 use Rattle.httparse.specs.Ascii.{crlf_bytes}
 use Rattle.httparse.specs.Grammar.{ChunkLine, IsChunkLine, HasNoChunkLine, MayBecomeChunkLine, print_chunk_line, chunk_size, Field, IsField, LineEnd, print_section, HasNoSection, MayBecomeSection}
+use Rattle.feed_http.specs.Limits.{chunk_line_limit, head_limit, field_limit}
 use Rattle.feed_http.specs.declared.http_fault.HttpFault.{HttpFault}
-use Rattle.feed_http.specs.declared.http_fault.HttpFault.TheVariants.{Read, Short, Coding, BodyTooLong, Memory}
+use Rattle.feed_http.specs.declared.http_fault.HttpFault.TheVariants.{Read, Short, Coding, Length, BodyTooLong, Memory}
 
--- a line of at most 1,024 bytes
+-- a line that is not too long
 pub record IsLine (line : ChunkLine) : Type 0 where
   pub valid : IsChunkLine line
-  pub short : length (print_chunk_line line) ≤ 1024
+  pub short : length (print_chunk_line line) ≤ chunk_line_limit
 
 -- a chunk: its line and its bytes
 pub record Chunk : Type 0 where
   pub line : ChunkLine
   pub bytes : List ℕ
 
+-- the text of a chunk
 abbrev pub print_chunk : Chunk → List ℕ
 print_chunk chunk = print_chunk_line chunk.line ++ (chunk.bytes ++ crlf_bytes)
 
@@ -26,18 +28,19 @@ pub record IsChunk (chunk : Chunk) : Type 0 where
   pub size : length chunk.bytes ≡ chunk_size chunk.line
   pub some : 0 < length chunk.bytes
 
--- the text of chunks in a row, and their bytes
+-- the text of chunks in a row
 abbrev pub print_chunks : List Chunk → List ℕ
 print_chunks chunks = flat_map print_chunk chunks
 
+-- their bytes
 abbrev pub bytes_of : List Chunk → List ℕ
 bytes_of chunks = flat_map (λ chunk. chunk.bytes) chunks
 
--- a trailer section: at most 64 fields and 8,192 bytes
+-- a trailer section, which has not too many fields and bytes
 pub record IsTrailers (fields : List Field) (last : LineEnd) : Type 0 where
   pub valid : All IsField fields
-  pub few : length fields ≤ 64
-  pub short : length (print_section fields last) ≤ 8192
+  pub few : length fields ≤ field_limit
+  pub short : length (print_section fields last) ≤ head_limit
 
 -- the text begins with this chunked body: the chunks, a line of size 0, and a trailer section
 pub record IsChunked (text : List ℕ) (chunks : List Chunk) : Type 0 where
@@ -51,13 +54,13 @@ pub record IsChunked (text : List ℕ) (chunks : List Chunk) : Type 0 where
   pub rest : List ℕ
   pub text_is : text ≡ print_chunks chunks ++ (print_chunk_line last ++ (print_section fields end ++ rest))
 
--- whatever bytes follow, the text begins with no line of at most 1,024 bytes
+-- whatever bytes follow, the text begins with no line that is not too long
 abbrev pub NeverBeginsWithLine : List ℕ → Type 0
 NeverBeginsWithLine text = (more : List ℕ) (line : ChunkLine) (rest : List ℕ) → IsLine line → text ++ more ≡ print_chunk_line line ++ rest → ⊥
 
 -- the text begins with no whole line, but may come to be one
 pub record IsUnfinishedLine (text : List ℕ) : Type 0 where
-  pub short : length text < 1024
+  pub short : length text < chunk_line_limit
   pub not_whole : HasNoChunkLine text
   pub may_become : MayBecomeChunkLine text
 
@@ -67,7 +70,7 @@ NeverBeginsWithTrailers text = (more : List ℕ) (fields : List Field) (end : Li
 
 -- the text begins with no whole section, but may come to be one
 pub record IsUnfinishedTrailers (text : List ℕ) : Type 0 where
-  pub short : length text < 8192
+  pub short : length text < head_limit
   pub not_whole : HasNoSection text
   pub may_become : MayBecomeSection text
 
@@ -79,11 +82,12 @@ NeverBeginsWithEnd text = (more rest : List ℕ) → text ++ more ≡ crlf_bytes
 abbrev pub IsBadChunk : ℕ → List ℕ → Type 0
 IsBadChunk size text = (bytes : List ℕ) × (rest : List ℕ) × (length bytes ≡ size) × (text ≡ bytes ++ rest) × NeverBeginsWithEnd rest
 
--- behind the line of a chunk, and behind the last line
+-- what stands behind a line of that size breaks off: the trailers behind the last line, the bytes and CR LF behind another
 abbrev pub IsUnfinishedBehind : ℕ → List ℕ → Type 0
 IsUnfinishedBehind zero text = IsUnfinishedTrailers text
 IsUnfinishedBehind (suc size) text = length text < suc size + 2
 
+-- what stands behind a line of that size is wrong
 abbrev pub IsBadBehind : ℕ → List ℕ → Type 0
 IsBadBehind zero text = NeverBeginsWithTrailers text
 IsBadBehind (suc size) text = IsBadChunk (suc size) text
@@ -93,51 +97,64 @@ pub record IsLineBefore (text : List ℕ) (line : ChunkLine) (rest : List ℕ) :
   pub valid : IsLine line
   pub text_is : text ≡ print_chunk_line line ++ rest
 
--- why no chunk and no end follows, where there is room for so many bytes
-abbrev pub IsWhyNoChunk : ℕ → HttpFault → List ℕ → Type 0
-IsWhyNoChunk room Short text =
-    IsUnfinishedLine text ⊎ ((line : ChunkLine) × (rest : List ℕ) × IsLineBefore text line rest × IsUnfinishedBehind (chunk_size line) rest)
-IsWhyNoChunk room Coding text =
-    NeverBeginsWithLine text ⊎ ((line : ChunkLine) × (rest : List ℕ) × IsLineBefore text line rest × IsBadBehind (chunk_size line) rest)
-IsWhyNoChunk room BodyTooLong text =
-    (line : ChunkLine) × (rest : List ℕ) × IsLineBefore text line rest × (room < chunk_size line)
-IsWhyNoChunk room _ text = ⊥
+-- the text begins with a line, of whose size and of what follows it this holds
+abbrev pub BeginsWithLine : (ℕ → List ℕ → Type 0) → List ℕ → Type 0
+BeginsWithLine Holds text = (line : ChunkLine) × (rest : List ℕ) × IsLineBefore text line rest × Holds (chunk_size line) rest
 
--- the text begins with chunks of at most so many bytes together, behind which there is neither a chunk nor the end
-pub record IsNotChunked (most : ℕ) (fault : HttpFault) (text : List ℕ) : Type 0 where
+-- the size of a line fits: that of the last chunk where no byte is missing, and another where there is room for it
+abbrev pub IsFitting : ℕ → ℕ → ℕ → Type 0
+IsFitting missing room zero = missing ≡ 0
+IsFitting missing room (suc size) = suc size ≤ room
+
+-- why no chunk and no end follows, where so many bytes are missing yet and there is room for so many: the fault that is met first.
+-- Nothing behind a line is looked at, and no memory asked for, unless its size fits
+abbrev pub IsWhyNoChunk : ℕ → ℕ → HttpFault → List ℕ → Type 0
+IsWhyNoChunk missing room Short text =
+    IsUnfinishedLine text ⊎ BeginsWithLine (λ size rest. IsFitting missing room size × IsUnfinishedBehind size rest) text
+IsWhyNoChunk missing room Coding text =
+    NeverBeginsWithLine text ⊎ BeginsWithLine (λ size rest. IsFitting missing room size × IsBadBehind size rest) text
+IsWhyNoChunk missing room Memory text = BeginsWithLine (λ size rest. (0 < size) × (size ≤ room)) text
+IsWhyNoChunk missing room BodyTooLong text = BeginsWithLine (λ size rest. room < size) text
+IsWhyNoChunk missing room Length text = BeginsWithLine (λ size rest. (size ≡ 0) × (0 < missing)) text
+IsWhyNoChunk missing room _ text = ⊥
+
+-- the text begins with chunks of at most `most` bytes together, behind which there is neither a chunk nor the end of a body of at least
+-- `least` bytes
+pub record IsNotChunked (least most : ℕ) (fault : HttpFault) (text : List ℕ) : Type 0 where
   pub chunks : List Chunk
   pub rest : List ℕ
   pub valid : All IsChunk chunks
   pub fits : length (bytes_of chunks) ≤ most
   pub text_is : text ≡ print_chunks chunks ++ rest
-  pub why : IsWhyNoChunk (most - length (bytes_of chunks)) fault rest
+  pub why : IsWhyNoChunk (least - length (bytes_of chunks)) (most - length (bytes_of chunks)) fault rest
 
--- the same of a reader's bytes; a reader that fails and want of memory say nothing
-abbrev pub IsChunkedFault : ℕ → Option (List ℕ) → HttpFault → Type 0
-IsChunkedFault most remaining Read = ⊤
-IsChunkedFault most remaining Memory = ⊤
-IsChunkedFault most remaining fault = IfSome remaining (IsNotChunked most fault)
+-- the same of a reader's bytes; a reader that fails says nothing
+abbrev pub IsChunkedFault : ℕ → ℕ → Option (List ℕ) → HttpFault → Type 0
+IsChunkedFault least most remaining Read = ⊤
+IsChunkedFault least most remaining fault = IfSome remaining (IsNotChunked least most fault)
 
--- the faults of the parts
-
+-- the faults of reading a line; here and below a reader that fails says nothing
 abbrev pub IsLineFault : Option (List ℕ) → HttpFault → Type 0
 IsLineFault remaining Read = ⊤
 IsLineFault remaining Short = IfSome remaining IsUnfinishedLine
 IsLineFault remaining Coding = IfSome remaining NeverBeginsWithLine
 IsLineFault remaining _ = ⊥
 
+-- the faults of reading a trailer section
 abbrev pub IsTrailersFault : Option (List ℕ) → HttpFault → Type 0
 IsTrailersFault remaining Read = ⊤
 IsTrailersFault remaining Short = IfSome remaining IsUnfinishedTrailers
 IsTrailersFault remaining Coding = IfSome remaining NeverBeginsWithTrailers
 IsTrailersFault remaining _ = ⊥
 
+-- the faults of reading CR LF
 abbrev pub IsEndFault : Option (List ℕ) → HttpFault → Type 0
 IsEndFault remaining Read = ⊤
 IsEndFault remaining Short = IfSome remaining (λ text. length text < 2)
 IsEndFault remaining Coding = IfSome remaining NeverBeginsWithEnd
 IsEndFault remaining _ = ⊥
 
+-- the faults of reading so many bytes and CR LF
 abbrev pub IsChunkFault : ℕ → Option (List ℕ) → HttpFault → Type 0
 IsChunkFault size remaining Read = ⊤
 IsChunkFault size remaining Memory = ⊤
@@ -145,13 +162,14 @@ IsChunkFault size remaining Short = IfSome remaining (λ text. length text < siz
 IsChunkFault size remaining Coding = IfSome remaining (IsBadChunk size)
 IsChunkFault size remaining _ = ⊥
 
--- the reader gave a line of that size, and a trailer section
+-- the reader gave a line of that size
 pub record IsLineTaken (old new : Option (List ℕ)) (size : ℕ) : Type 0 where
   pub line : ChunkLine
   pub valid : IsLine line
   pub size_is : size ≡ chunk_size line
   pub taken : Consumes old new (print_chunk_line line)
 
+-- the reader gave a trailer section
 pub record AreTrailersTaken (old new : Option (List ℕ)) : Type 0 where
   pub fields : List Field
   pub end : LineEnd

@@ -1,11 +1,12 @@
 -- The fields of a head by name, in capital or small letters (RFC 9110, section 5.1).
-use Rattle.std.specs.Prelude.{ℕ, List, [], ◌∷◌, map, Bool, true, false, not, ◌||◌, Option, Some, None}
+use Rattle.std.specs.Prelude.{ℕ, List, [], ◌∷◌, map, length, All, Bool, true, false, not, ◌||◌, Option, Some, None}
 use Rattle.std.specs.List.{filter}
 use Rattle.std.specs.Str.{str_eq_ignore_ascii_case}
 use Rattle.httparse.specs.Grammar.{Field, field_value}
-use Rattle.httparse.specs.Spans.{span_bytes}
+use Rattle.httparse.specs.Spans.{span_bytes, IsHeaderWithin, AreFieldsAt}
 use Rattle.httparse.specs.declared.spans.Span.{Span}
 use Rattle.httparse.specs.declared.spans.HeaderSpan.{HeaderSpan}
+use Rattle.feed_http.specs.declared.heads.fields.Fields.{Fields}
 
 -- the values of the fields of that name, in their order
 abbrev pub values_named : List ℕ → List Field → List (List ℕ)
@@ -40,3 +41,11 @@ spans_named buffer name headers = map (λ header. header.value) (filter (is_name
 -- the header has another name, or a value that passes the test
 abbrev pub agrees : (List ℕ → Bool) → List ℕ → List ℕ → HeaderSpan → Bool
 agrees test buffer name header = not (is_named buffer name header) || test (span_bytes buffer header.value)
+
+-- the headers lie in the buffer
+abbrev pub AreWithin : Fields → Type 0
+AreWithin found = All (IsHeaderWithin (length found.buffer.now)) found.headers.now
+
+-- they cover these fields
+abbrev pub AreFieldsOf : Fields → List Field → Type 0
+AreFieldsOf found fields = AreFieldsAt found.buffer.now found.headers.now (length found.headers.now) fields

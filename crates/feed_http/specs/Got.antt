@@ -2,7 +2,7 @@
 use Rattle.std.specs.Prelude.{◌≡◌, ◌<◌, ◌≤◌, ◌⊎◌, ℕ, List, length, take, Result, Ok, Err, ⊤}
 use Rattle.httparse.specs.Grammar.{ResponseHead}
 use Rattle.feed_http.specs.declared.http_fault.HttpFault.{HttpFault}
-use Rattle.feed_http.specs.declared.http_fault.HttpFault.TheVariants.{Read, Short, Length, BodyTooLong, Memory}
+use Rattle.feed_http.specs.declared.http_fault.HttpFault.TheVariants.{Read, Write, Short, Length, BodyTooLong, Memory, Shelf}
 use Rattle.feed_http.specs.declared.fetching.got.Method.{Method}
 use Rattle.feed_http.specs.declared.fetching.got.Got.{Got}
 use Rattle.feed_http.specs.declared.fetching.got.Got.TheVariants as got
@@ -10,45 +10,46 @@ use Rattle.feed_http.specs.declared.fetching.judge.Framing.{Framing}
 use Rattle.feed_http.specs.declared.fetching.judge.Framing.TheVariants.{Chunked, Sized, ToEnd}
 use Rattle.feed_http.specs.declared.fetching.judge.Judgement.{Judgement}
 use Rattle.feed_http.specs.declared.fetching.judge.Judgement.TheVariants.{Missing, Unsatisfied, Size, Part, Whole}
+use Rattle.feed_http.specs.Limits.{head_limit, field_limit, file_limit}
 use Rattle.feed_http.specs.ReplyHeads.{BeginsWithHeads, IsNoReply}
 use Rattle.feed_http.specs.Judgements.{judged}
 use Rattle.feed_http.specs.Chunks.{IsBodyChunked, IsNotChunked}
 
--- the body at the front of the text, by how it ends, where it may have so many bytes, or what is wrong with it
-abbrev pub IsBody : Framing → ℕ → List ℕ → Result (List ℕ) HttpFault → Type 0
-IsBody framing most text (Err Read) = ⊤
-IsBody framing most text (Err Memory) = ⊤
-IsBody (Sized size) most text (Ok body) = (size ≤ length text) × (body ≡ take size text)
-IsBody (Sized size) most text (Err Short) = length text < size
-IsBody (Sized size) most text (Err fault) = ⊥
-IsBody ToEnd most text (Ok body) = (length text ≤ most) × (body ≡ text)
-IsBody ToEnd most text (Err BodyTooLong) = most < length text
-IsBody ToEnd most text (Err fault) = ⊥
-IsBody Chunked most text (Ok body) = (length body ≤ most) × IsBodyChunked body text
-IsBody Chunked most text (Err fault) = IsNotChunked most fault text
+-- the body at the front of the text, by how it ends, or what is wrong with it; one that does not say its length beforehand has from
+-- `least` to `most` bytes
+abbrev pub IsBody : Framing → ℕ → ℕ → List ℕ → Result (List ℕ) HttpFault → Type 0
+IsBody framing least most text (Err Read) = ⊤
+IsBody (Sized size) least most text (Ok body) = (size ≤ length text) × (body ≡ take size text)
+IsBody (Sized size) least most text (Err Short) = length text < size
+IsBody (Sized size) least most text (Err Memory) = ⊤
+IsBody (Sized size) least most text (Err _) = ⊥
+IsBody ToEnd least most text (Ok body) = (least ≤ length text) × (length text ≤ most) × (body ≡ text)
+IsBody ToEnd least most text (Err Short) = length text < least
+IsBody ToEnd least most text (Err BodyTooLong) = most < length text
+IsBody ToEnd least most text (Err Memory) = ⊤
+IsBody ToEnd least most text (Err _) = ⊥
+IsBody Chunked least most text (Ok body) = (least ≤ length body) × (length body ≤ most) × IsBodyChunked body text
+IsBody Chunked least most text (Err fault) = IsNotChunked least most fault text
 
--- the body of a part, which has just so many bytes
+-- the body of a part, which has just so many bytes: one that is longer has the wrong length
 abbrev pub IsPartBody : Framing → ℕ → List ℕ → Result (List ℕ) HttpFault → Type 0
-IsPartBody framing count text (Ok body) = (length body ≡ count) × IsBody framing count text (Ok body)
-IsPartBody framing count text (Err Length) =
-    IsBody framing count text (Err BodyTooLong)
-    ⊎ ((framing ≡ Chunked) × (body : List ℕ) × (length body < count) × IsBody Chunked count text (Ok body))
-IsPartBody framing count text (Err Short) = IsBody framing count text (Err Short) ⊎ ((framing ≡ ToEnd) × (length text < count))
+IsPartBody framing count text (Ok body) = IsBody framing count count text (Ok body)
+IsPartBody framing count text (Err Length) = IsBody framing count count text (Err Length) ⊎ IsBody framing count count text (Err BodyTooLong)
 IsPartBody framing count text (Err BodyTooLong) = ⊥
-IsPartBody framing count text (Err fault) = IsBody framing count text (Err fault)
+IsPartBody framing count text (Err fault) = IsBody framing count count text (Err fault)
 
 -- what is given of a body, or its fault
 abbrev pub IsGivenBy : (Result (List ℕ) HttpFault → Type 0) → (List ℕ → Got) → Result Got HttpFault → Type 0
 IsGivenBy IsRead gives (Ok given) = (body : List ℕ) × (given ≡ gives body) × IsRead (Ok body)
 IsGivenBy IsRead gives (Err fault) = IsRead (Err fault)
 
--- what the head's judgement and the bytes behind the head give; a file has at most 67,108,864 bytes
+-- what the head's judgement and the bytes behind the head give
 abbrev pub IsGot : Judgement → List ℕ → Result Got HttpFault → Type 0
 IsGot Missing text result = result ≡ Ok got.Missing
 IsGot (Unsatisfied total) text result = result ≡ Ok (got.Unsatisfied total)
 IsGot (Size length) text result = result ≡ Ok (got.Size length)
 IsGot (Part first total count framing) text result = IsGivenBy (IsPartBody framing count text) (got.Piece first total) result
-IsGot (Whole framing) text result = IsGivenBy (IsBody framing 67108864 text) got.Whole result
+IsGot (Whole framing) text result = IsGivenBy (IsBody framing 0 file_limit text) got.Whole result
 
 -- the first fault of the head, or what it says is given
 abbrev pub IsJudged : Result Judgement HttpFault → List ℕ → Result Got HttpFault → Type 0
@@ -60,14 +61,20 @@ pub record IsReplyGot (method : Method) (text : List ℕ) (result : Result Got H
   pub interim : List ResponseHead
   pub head : ResponseHead
   pub rest : List ℕ
-  pub begins : BeginsWithHeads 8192 64 text interim head rest
+  pub begins : BeginsWithHeads head_limit field_limit text interim head rest
   pub is : IsJudged (judged method head) rest result
 
 -- the text does not begin with heads within the limits
 abbrev pub IsHeadFailure : List ℕ → Result Got HttpFault → Type 0
 IsHeadFailure text (Ok given) = ⊥
-IsHeadFailure text (Err fault) = IsNoReply 8192 64 fault text
+IsHeadFailure text (Err fault) = IsNoReply head_limit field_limit fault text
 
 -- what the reply at the front of the text gives to a request of this method
 abbrev pub IsReply : Method → List ℕ → Result Got HttpFault → Type 0
 IsReply method text result = IsReplyGot method text result ⊎ IsHeadFailure text result
+
+-- the faults of reading a reply
+abbrev pub IsReadingFault : HttpFault → Type 0
+IsReadingFault Write = ⊥
+IsReadingFault Shelf = ⊥
+IsReadingFault _ = ⊤

@@ -1,15 +1,16 @@
 -- What the head of a reply says (RFC 9110, sections 8.4, 8.6, 14.4 and 15; RFC 9112, sections 6 and 7).
-use Rattle.std.specs.Prelude.{◌≡◌, ◌==◌, ◌+◌, ◌-◌, ◌&&◌, ◌||◌, not, ℕ, List, [], ◌∷◌, Bool, true, false, nat_lt, codes, if◌then◌else◌, Option, None, Some, Result, Ok, Err, ⊤}
+use Rattle.std.specs.Prelude.{◌==◌, ◌+◌, ◌-◌, ◌&&◌, ◌||◌, not, ℕ, List, [], ◌∷◌, Bool, true, false, nat_lt, codes, if◌then◌else◌, Option, None, Some, Result, Ok, Err}
 use Rattle.std.specs.Result.{result_ok}
 use Rattle.std.specs.Option.{option_and_then, option_map_or}
 use Rattle.std.specs.List.{list_all}
 use Rattle.std.specs.Str.{str_eq_ignore_ascii_case}
 use Rattle.httparse.specs.Grammar.{ResponseHead, status_code}
 use Rattle.httparse.specs.Spans.{IsResponseWithin, IsResponseAt}
-use Rattle.feed_range.specs.Text.{number_of, in_64_bits}
+use Rattle.feed_range.specs.Text.{number_in_64_bits}
 use Rattle.feed_range.specs.Content.{content_range}
 use Rattle.feed_range.specs.declared.content.ContentRange.{ContentRange}
 use Rattle.feed_range.specs.declared.content.ContentRange.TheVariants as range
+use Rattle.feed_http.specs.Limits.{piece_limit, file_limit}
 use Rattle.feed_http.specs.Fields.{values_named, only, has_any, first_of}
 use Rattle.feed_http.specs.declared.http_fault.HttpFault.{HttpFault}
 use Rattle.feed_http.specs.declared.http_fault.HttpFault.TheVariants as fault
@@ -21,6 +22,7 @@ use Rattle.feed_http.specs.declared.fetching.judge.Framing.TheVariants.{Chunked,
 use Rattle.feed_http.specs.declared.fetching.judge.Judgement.{Judgement}
 use Rattle.feed_http.specs.declared.fetching.judge.Judgement.TheVariants.{Missing, Unsatisfied, Size, Part, Whole}
 
+-- the file is asked for, and not its head alone
 abbrev pub is_get : Method → Bool
 is_get Get = true
 is_get Head = false
@@ -51,28 +53,26 @@ is_transfer_coded head = has_any (values (codes "transfer-encoding") head)
 abbrev pub is_coded_otherwise : Method → ResponseHead → Bool
 is_coded_otherwise method head = not (is_identity head) || (is_get method && is_transfer_coded head && not (is_chunked head))
 
--- a length of 64 bits that a Content-Length value writes
-abbrev pub length_of : List ℕ → Option ℕ
-length_of value = option_and_then in_64_bits (number_of value)
-
 -- the value writes this length
 abbrev pub writes : ℕ → List ℕ → Bool
-writes length value = option_map_or (λ other. other == length) (length_of value) false
+writes length value = option_map_or (λ other. other == length) (number_in_64_bits value) false
 
 -- the length that the first value writes, if they all write it
 abbrev pub agreed : List (List ℕ) → Option ℕ
 agreed all =
     option_and_then (λ length. if list_all (writes length) all then Some length else None)
-    (option_and_then length_of (first_of all))
+    (option_and_then number_in_64_bits (first_of all))
 
 -- the length that Content-Length fields state, where there is one
 abbrev pub stated_of : List (List ℕ) → Result (Option ℕ) HttpFault
 stated_of [] = Ok None
 stated_of (value ∷ more) = option_map_or (λ length. Ok (Some length)) (agreed (value ∷ more)) (Err fault.Length)
 
+-- the name of the field
 abbrev pub content_length : List ℕ
 content_length = codes "content-length"
 
+-- the same of a head
 abbrev pub stated_length : ResponseHead → Result (Option ℕ) HttpFault
 stated_length head = stated_of (values content_length head)
 
@@ -97,18 +97,18 @@ part_framed first total count (Ok ToEnd) = Ok (Part first total count ToEnd)
 part_framed first total count (Ok (Sized length)) = if length == count then Ok (Part first total count (Sized length)) else Err fault.Length
 part_framed first total count (Err e) = Err e
 
--- a part names its places, of which a piece may have 1,048,576
+-- a part names its places, of which a piece may not have too many
 abbrev pub part_judged : Option ContentRange → Result Framing HttpFault → Result Judgement HttpFault
 part_judged (Some (range.Part first last total)) framing =
-    if nat_lt 1048576 (last - first + 1) then Err fault.BodyTooLong else part_framed first total (last - first + 1) framing
+    if nat_lt piece_limit (last - first + 1) then Err fault.BodyTooLong else part_framed first total (last - first + 1) framing
 part_judged (Some (range.Unsatisfied total)) framing = Err fault.Range
 part_judged None framing = Err fault.Range
 
--- a whole file, which may have 67,108,864 bytes
+-- a whole file, which may not be too long
 abbrev pub whole_judged : Result Framing HttpFault → Result Judgement HttpFault
 whole_judged (Ok Chunked) = Ok (Whole Chunked)
 whole_judged (Ok ToEnd) = Ok (Whole ToEnd)
-whole_judged (Ok (Sized length)) = if nat_lt 67108864 length then Err fault.BodyTooLong else Ok (Whole (Sized length))
+whole_judged (Ok (Sized length)) = if nat_lt file_limit length then Err fault.BodyTooLong else Ok (Whole (Sized length))
 whole_judged (Err e) = Err e
 
 -- the length of the file, which the reply to a HEAD has to state
@@ -123,6 +123,7 @@ unsatisfied_judged (Some (range.Unsatisfied total)) = Ok (Unsatisfied (Some tota
 unsatisfied_judged (Some (range.Part first last total)) = Err fault.Range
 unsatisfied_judged None = Err fault.Range
 
+-- the same of a head, which may tell none
 abbrev pub unsatisfied_part : ResponseHead → Result Judgement HttpFault
 unsatisfied_part head =
     if has_any (values (codes "content-range") head) then unsatisfied_judged (range_of head) else Ok (Unsatisfied None)
@@ -150,12 +151,3 @@ IsInBuffer reply = IsResponseWithin reply.buffer.now reply.headers.now reply.spa
 -- the reply that was read has this head
 abbrev pub HasHead : Reply → ResponseHead → Type 0
 HasHead reply head = IsResponseAt reply.buffer.now reply.headers.now reply.spans head
-
--- a part with a length has that of its places
-abbrev pub IsSizedAs : ℕ → Framing → Type 0
-IsSizedAs count (Sized size) = size ≡ count
-IsSizedAs count framing = ⊤
-
-abbrev pub IsSizedRight : Judgement → Type 0
-IsSizedRight (Part first total count framing) = IsSizedAs count framing
-IsSizedRight judgement = ⊤

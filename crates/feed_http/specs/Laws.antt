@@ -2,6 +2,7 @@
 use Rattle.std.specs.Prelude.{◌≡◌, ◌≤◌, ◌<◌, ◌+◌, ◌-◌, ◌^◌, ℕ, List, length, min, slice_range, IsTrue, Some, Result, Ok, Err, ⊤}
 use Rattle.httparse.specs.Grammar.{RequestHead}
 use Rattle.feed_names.specs.ReleaseName.{Name, IsName, text_of}
+use Rattle.feed_http.specs.Limits.{head_limit, field_limit, piece_limit}
 use Rattle.feed_http.specs.RequestTexts.{is_host, get_text, head_request_text}
 use Rattle.feed_http.specs.RequestHeads.{BeginsWithHead}
 use Rattle.feed_http.specs.Requests.{IsNamedBy}
@@ -25,7 +26,7 @@ IsGiven wanted (Err _) = ⊥
 -- what a GET gives of the reply with a part of a file is the piece with its place, the file's length and its bytes
 abbrev pub PartReadsBack : Type 0
 PartReadsBack = (first last size : ℕ) (body : List ℕ) (result : Result Got HttpFault)
-    → first ≤ last → last < size → size < 2 ^ 64 → last - first + 1 ≤ 1048576 → length body ≡ last - first + 1
+    → first ≤ last → last < size → size < 2 ^ 64 → last - first + 1 ≤ piece_limit → length body ≡ last - first + 1
     → IsReply Get (reply_text (reply_of (Part first last size) body)) result
     → IsGiven (Piece first (Some size) body) result
 
@@ -39,8 +40,8 @@ SizeReadsBack = (size : ℕ) (result : Result Got HttpFault) → size < 2 ^ 64
 abbrev pub FetchGivesSlice : Type 0
 FetchGivesSlice = (files : Files) (host : List ℕ) (name : Name) (file : List ℕ) (first last : ℕ)
     → IsTrue (is_host host) → IsName (text_of name) name → files name ≡ Some file
-    → first ≤ last → last < 2 ^ 64 → first < length file → length file < 2 ^ 64 → min last (length file - 1) - first + 1 ≤ 1048576
-    → (head : RequestHead) × BeginsWithHead 8192 64 (get_text host (text_of name) first last) head × IsNamedBy head.target (Some name)
+    → first ≤ last → last < 2 ^ 64 → first < length file → length file < 2 ^ 64 → min last (length file - 1) - first + 1 ≤ piece_limit
+    → (head : RequestHead) × BeginsWithHead head_limit field_limit (get_text host (text_of name) first last) head × IsNamedBy head.target (Some name)
     × ((result : Result Got HttpFault) → IsReply Get (reply_text (served files head (Some name))) result
     → IsGiven (Piece first (Some (length file)) (slice_range file first (min last (length file - 1) + 1))) result)
 
@@ -48,5 +49,5 @@ FetchGivesSlice = (files : Files) (host : List ℕ) (name : Name) (file : List �
 abbrev pub HeadGivesSize : Type 0
 HeadGivesSize = (files : Files) (host : List ℕ) (name : Name) (file : List ℕ)
     → IsTrue (is_host host) → IsName (text_of name) name → files name ≡ Some file → length file < 2 ^ 64
-    → (head : RequestHead) × BeginsWithHead 8192 64 (head_request_text host (text_of name)) head × IsNamedBy head.target (Some name)
+    → (head : RequestHead) × BeginsWithHead head_limit field_limit (head_request_text host (text_of name)) head × IsNamedBy head.target (Some name)
     × ((result : Result Got HttpFault) → IsReply Head (reply_text (served files head (Some name))) result → IsGiven (Size (length file)) result)

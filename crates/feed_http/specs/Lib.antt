@@ -1,6 +1,8 @@
+pub mod Limits
 pub mod RequestHeads
 pub mod Fields
 pub mod Shelves
+pub mod MemoryShelves
 pub mod Replies
 pub mod Requests
 pub mod Served

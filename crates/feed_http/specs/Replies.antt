@@ -35,6 +35,7 @@ refusal_lines status =
     ∷ line (codes "Content-Length: 0")
     ∷ line (codes "Connection: close") ∷ []
 
+-- the text of such a refusal
 abbrev pub refusal_text : List ℕ → List ℕ
 refusal_text status = head_of (refusal_lines status)
 

@@ -8,15 +8,15 @@ use Rattle.feed_http.specs.declared.http_fault.HttpFault.{HttpFault}
 use Rattle.feed_http.specs.declared.http_fault.HttpFault.TheVariants.{Read, Short}
 use Rattle.feed_http.specs.ReplyHeads.{print_heads, is_interim, IsInterimHead}
 
--- interim heads stand before the start
-pub record AreInterimTo (buffer : List ℕ) (start : ℕ) (interim : List ResponseHead) : Type 0 where
-  pub skipped : All IsInterimHead interim
+-- interim heads of at most so many fields stand before the start
+pub record AreInterimTo (fields : ℕ) (buffer : List ℕ) (start : ℕ) (interim : List ResponseHead) : Type 0 where
+  pub skipped : All (IsInterimHead fields) interim
   pub front : print_heads interim ≡ take start buffer
 
 -- behind them stands a head that is not interim, whose parts the spans cover
-pub record IsReplyIn (buffer : List ℕ) (headers : List HeaderSpan) (start : ℕ) (spans : ResponseSpans) : Type 0 where
+pub record IsReplyIn (fields : ℕ) (buffer : List ℕ) (headers : List HeaderSpan) (start : ℕ) (spans : ResponseSpans) : Type 0 where
   pub interim : List ResponseHead
-  pub before : AreInterimTo buffer start interim
+  pub before : AreInterimTo fields buffer start interim
   pub head : ResponseHead
   pub at : IsResponseAt (drop start buffer) headers spans head
   pub last : is_interim head ≡ false

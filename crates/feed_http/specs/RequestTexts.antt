@@ -4,15 +4,16 @@ use Rattle.std.specs.List.{list_all}
 use Rattle.std.specs.Char.{is_ascii_alphanumeric}
 use Rattle.httparse.specs.Ascii.{crlf_bytes}
 use Rattle.feed_range.specs.Ask.{ask_text}
+use Rattle.feed_http.specs.Limits.{host_limit}
 use Rattle.feed_http.specs.Replies.{line, line_then, head_of}
 
 -- a letter, a digit, `.`, `-`, `:`, `[` or `]`
 abbrev pub is_host_byte : ℕ → Bool
 is_host_byte b = is_ascii_alphanumeric b || (b == 46) || (b == 45) || (b == 58) || (b == 91) || (b == 93)
 
--- 1 to 255 such bytes
+-- such bytes, at least one and not too many
 abbrev pub is_host : List ℕ → Bool
-is_host host = nat_lt 0 (length host) && nat_le (length host) 255 && list_all is_host_byte host
+is_host host = nat_lt 0 (length host) && nat_le (length host) host_limit && list_all is_host_byte host
 
 -- the request line and the Host field, and then the rest
 abbrev pub start_then : List ℕ → List ℕ → List ℕ → List ℕ → List ℕ
@@ -20,6 +21,7 @@ start_then method host name rest =
     line_then (method ∷ codes " /" ∷ name ∷ codes " HTTP/1.1" ∷ [])
     (crlf_bytes ++ line_then (codes "Host: " ∷ host ∷ []) (crlf_bytes ++ rest))
 
+-- the request line and the Host field
 abbrev pub start_text : List ℕ → List ℕ → List ℕ → List ℕ
 start_text method host name = start_then method host name []
 

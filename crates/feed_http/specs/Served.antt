@@ -1,6 +1,6 @@
 -- What the server replies to a request, and what is written of it.
 use Rattle.std.specs.Prelude.{◌≡◌, ℕ, ◌+◌, ◌⊎◌, List, [], ◌++◌, length, take, slice_range, if◌then◌else◌, Option, None, Some, Result, Ok, Err, ⊤}
-use Rattle.std.specs.Option.{option_and_then}
+use Rattle.std.specs.Option.{option_and_then, option_map_or}
 use Rattle.std.specs.Io.KnownBytes.{Keeps, Appends}
 use Rattle.httparse.specs.Grammar.{RequestHead}
 use Rattle.feed_names.specs.ReleaseName.{Name}
@@ -20,10 +20,11 @@ pub record Reply : Type 0 where
   pub head : ReplyHead
   pub body : List ℕ
 
--- a reply with this body, and one without
+-- a reply with this body
 abbrev pub reply_of : ReplyHead → List ℕ → Reply
 reply_of head body = record { head = head; body = body }
 
+-- a reply without a body
 abbrev pub head_alone : ReplyHead → Reply
 head_alone head = reply_of head []
 
@@ -50,6 +51,13 @@ served files head named =
     if lacks_host head then head_alone BadRequest
     else (if is_unsupported head then head_alone NotImplemented
     else file_reply head (option_and_then files named))
+
+-- the reply that is the same whatever files there are: the request is refused, or names no release
+abbrev pub fileless : RequestHead → Option Name → Option Reply
+fileless head named =
+    if lacks_host head then Some (head_alone BadRequest)
+    else (if is_unsupported head then Some (head_alone NotImplemented)
+    else option_map_or (λ name. None) named (Some (head_alone NotFound)))
 
 -- the shelf failed: nothing was written, or the head and so many bytes of the body
 abbrev pub IsCutShort : Reply → Option (List ℕ) → Option (List ℕ) → Type 0

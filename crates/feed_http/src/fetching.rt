@@ -1,13 +1,9 @@
 //! The node end of an exchange.
 
-pub mod body;
-pub mod chunks;
-pub mod got;
-pub mod judge;
-pub mod length;
-pub mod reply;
-pub mod request_text;
-#[cfg(test)]
-mod server_replies;
-#[cfg(test)]
-mod tests;
+pub(crate) mod body;
+pub(crate) mod chunks;
+pub(crate) mod got;
+pub(crate) mod judge;
+pub(crate) mod length;
+pub(crate) mod reply;
+pub(crate) mod request_text;

@@ -1,5 +1,5 @@
 //! The heads of messages.
 
-pub mod fields;
-pub mod reply_head;
-pub mod request_head;
+pub(crate) mod fields;
+pub(crate) mod reply_head;
+pub(crate) mod request_head;

@@ -1,9 +1,8 @@
 //! The server end of an exchange.
 
-pub mod reply_head;
-pub mod request;
-pub mod send;
-pub mod serve;
-pub mod shelf;
-#[cfg(test)]
-mod tests;
+pub(crate) mod memory_shelf;
+pub(crate) mod reply_head;
+pub(crate) mod request;
+pub(crate) mod send;
+pub(crate) mod serve;
+pub(crate) mod shelf;

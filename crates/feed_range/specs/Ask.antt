@@ -1,6 +1,7 @@
 -- The part of a file that a Range value asks for (RFC 9110, sections 14.1.2 and 14.2).
-use Rattle.std.specs.Prelude.{ℕ, ◌-◌, List, ◌++◌, length, nat_lt, nat_le, ◌==◌, min, codes, if◌then◌else◌, Option, Some, None, ⊤, ◌≤◌, ◌<◌}
+use Rattle.std.specs.Prelude.{ℕ, ◌-◌, List, ◌++◌, length, nat_lt, nat_le, ◌==◌, min, codes, if◌then◌else◌, Option, Some, None, ⊤, ◌≡◌, ◌≤◌, ◌<◌, [], ◌∷◌, true}
 use Rattle.std.specs.Option.{option_and_then, option_map, option_map_or}
+use Rattle.std.specs.Str.{str_eq_ignore_ascii_case}
 use Rattle.std.specs.Fmt.{decimal}
 use Rattle.feed_range.specs.Text.{dash, strip_prefix, split_once, number_of, capped_number}
 use Rattle.feed_range.specs.declared.ask.RangeAsk.{RangeAsk}
@@ -49,3 +50,35 @@ abbrev pub IsInside : ℕ → RangeAsk → Type 0
 IsInside size Whole = ⊤
 IsInside size (Part first last) = (first ≤ last) × (last < size)
 IsInside size Unsatisfied = ⊤
+
+-- the value is `bytes=`, in capital or small letters, and these texts round a dash
+pub record IsRangeValue (value before after : List ℕ) : Type 0 where
+  pub unit : List ℕ
+  pub is_unit : str_eq_ignore_ascii_case unit (codes "bytes=") ≡ true
+  pub text_is : value ≡ unit ++ (before ++ dash ∷ after)
+
+-- the value is first-last, with these numbers in digits
+abbrev pub AsksBetween : List ℕ → ℕ → ℕ → Type 0
+AsksBetween value first last =
+    (before : List ℕ) × (after : List ℕ) × IsRangeValue value before after × (number_of before ≡ Some first) × (number_of after ≡ Some last)
+
+-- the value is first-
+abbrev pub AsksFrom : List ℕ → ℕ → Type 0
+AsksFrom value first = (before : List ℕ) × IsRangeValue value before [] × (number_of before ≡ Some first)
+
+-- the value is -suffix
+abbrev pub AsksLast : List ℕ → ℕ → Type 0
+AsksLast value suffix = (after : List ℕ) × IsRangeValue value [] after × (number_of after ≡ Some suffix)
+
+-- the value is none of these
+pub record IsOtherValue (value : List ℕ) : Type 0 where
+  pub not_between : (first last : ℕ) → ¬ (AsksBetween value first last)
+  pub not_from : (first : ℕ) → ¬ (AsksFrom value first)
+  pub not_last : (suffix : ℕ) → ¬ (AsksLast value suffix)
+
+-- what a value asks for goes by its form, and any other value asks for the whole file
+pub record AsksByForm (value : List ℕ) (size : ℕ) : Type 0 where
+  pub between : (first last : ℕ) → AsksBetween value first last → ask_of value size ≡ places_between (capped_number first) (capped_number last) size
+  pub from : (first : ℕ) → AsksFrom value first → ask_of value size ≡ places_from (capped_number first) size
+  pub suffix : (suffix : ℕ) → AsksLast value suffix → ask_of value size ≡ last_places (capped_number suffix) size
+  pub other : IsOtherValue value → ask_of value size ≡ Whole

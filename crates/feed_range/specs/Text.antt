@@ -1,7 +1,7 @@
 -- The parts of a field value: its prefix, what stands round a byte, and numbers.
 use Rattle.std.specs.Prelude.{ℕ, ◌+◌, ◌-◌, ◌^◌, List, length, Bool, ◌&&◌, nat_lt, ◌==◌, min, take, drop, if◌then◌else◌, Option, Some, None}
 use Rattle.std.specs.List.{list_all, position}
-use Rattle.std.specs.Option.{option_map}
+use Rattle.std.specs.Option.{option_map, option_and_then}
 use Rattle.std.specs.Char.{is_ascii_digit}
 use Rattle.std.specs.Str.{str_eq_ignore_ascii_case}
 use Rattle.std.specs.Str.Parse.{digits_value}
@@ -41,6 +41,10 @@ fits number = nat_lt number (2 ^ 64)
 -- the number, if it fits in 64 bits
 abbrev pub in_64_bits : ℕ → Option ℕ
 in_64_bits number = if fits number then Some number else None
+
+-- the number that the text writes, if it writes one that fits in 64 bits
+abbrev pub number_in_64_bits : List ℕ → Option ℕ
+number_in_64_bits text = option_and_then in_64_bits (number_of text)
 
 -- the number, where one past 64 bits counts as the greatest that fits
 abbrev pub capped_number : ℕ → ℕ

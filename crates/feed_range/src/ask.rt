@@ -1,8 +1,9 @@
 //! What a request asks for: the Range field (RFC 9110, sections 14.1.2 and 14.2).
-ghost use Rattle.std.specs.Prelude.{◌≡◌, ◌≤◌, ◌<◌, ◌-◌, ◌^◌, ℕ, min, OnOk};
+ghost use Rattle.std.specs.Prelude.{◌≡◌, ◌≤◌, ◌<◌, ◌-◌, ◌^◌, ℕ, List, min, OnOk};
 ghost use Rattle.std.specs.Io.KnownBytes.{Appends};
 ghost use Rattle.feed_range.specs.declared.ask.RangeAsk.TheVariants.{Part};
 ghost use Rattle.feed_range.specs.Ask.{places_between, places_from, last_places, places_of, ask_of, ask_text, IsInside};
+ghost use Rattle.feed_range.specs.Ask.{AsksByForm};
 
 use super::WriteFault;
 use crate::text::{read_capped, split_once, strip_prefix};
@@ -105,4 +106,10 @@ pub fn write_ask<W: Write>(writer: &mut W, first: u64, last: u64) -> Result<(), 
 pub fn ask_reads_back()
     ensures { (first last size : ℕ) → first ≤ last → last < 2 ^ 64 → first < size
         → ask_of (ask_text first last) size ≡ Part first (min last (size - 1)) }
+{}
+
+/// A law, with nothing to run: a value of one of the three forms asks for what its numbers say,
+/// and any other value for the whole file.
+pub fn asks_by_form()
+    ensures { (value : List ℕ) (size : ℕ) → AsksByForm value size }
 {}

@@ -4,7 +4,9 @@ ghost use Rattle.std.specs.Io.KnownBytes.{Appends};
 ghost use Rattle.std.specs.Option.{option_and_then};
 ghost use Rattle.feed_range.specs.declared.content.ContentRange.{ContentRange};
 ghost use Rattle.feed_range.specs.Text.{number_of};
-ghost use Rattle.feed_range.specs.Content.{is_star, total_of, total_in_64_bits, part_in_order, part_of, unsatisfied_of, range_of, content_range, content_range_text, range_in_order, FitsIn64Bits, IsInOrder};
+ghost use Rattle.feed_range.specs.Content.{is_star, total_of, total_in_64_bits, part_in_order, part_of, unsatisfied_of};
+ghost use Rattle.feed_range.specs.Content.{range_of, content_range, content_range_text, range_in_order, FitsIn64Bits};
+ghost use Rattle.feed_range.specs.Content.{IsInOrder};
 
 use super::WriteFault;
 use crate::text::{is_number, parse_number, split_once, strip_prefix};

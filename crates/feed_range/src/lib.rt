@@ -6,12 +6,11 @@ use thiserror::Error;
 
 mod ask;
 mod content;
-#[cfg(test)]
-mod tests;
 mod text;
 
-pub use ask::{RangeAsk, ask_reads_back, write_ask};
+pub use ask::{RangeAsk, ask_reads_back, asks_by_form, write_ask};
 pub use content::{ContentRange, RangeFault, content_range_reads_back, write_content_range};
+pub use text::read_number;
 
 /// Why a value was not written.
 #[derive(Clone, Copy, Debug, PartialEq, Eq, Error)]

@@ -4,10 +4,11 @@ ghost use Rattle.std.specs.Char.{is_ascii_digit};
 ghost use Rattle.std.specs.List.{list_all, position};
 ghost use Rattle.std.specs.Option.{option_map};
 ghost use Rattle.std.specs.Str.Parse.{digits_value};
-ghost use Rattle.feed_range.specs.Text.{strip_prefix, split_once, is_number, number_of, in_64_bits, capped_number};
+ghost use Rattle.feed_range.specs.Text.{strip_prefix, split_once, is_number, number_of, in_64_bits, number_in_64_bits};
+ghost use Rattle.feed_range.specs.Text.{capped_number};
 
 /// What follows the prefix, at the front of the text in any case.
-pub fn strip_prefix<'a>(text: &'a [u8], prefix: &[u8]) -> Option<&'a [u8]>
+pub(crate) fn strip_prefix<'a>(text: &'a [u8], prefix: &[u8]) -> Option<&'a [u8]>
     ensures { option_copied result ≡ strip_prefix prefix.now text.now }
 {
     let (front, rest) = text.split_at_checked(prefix.len())?;
@@ -21,7 +22,7 @@ fn place_of(text: &[u8], byte: u8) -> Option<usize>
 }
 
 /// What stands before the first such byte, and what stands after it.
-pub fn split_once(text: &[u8], byte: u8) -> Option<(&[u8], &[u8])>
+pub(crate) fn split_once(text: &[u8], byte: u8) -> Option<(&[u8], &[u8])>
     ensures { option_map (λ parts. (parts.0.now, parts.1.now)) result ≡ split_once byte text.now }
 {
     let place = place_of(text, byte)?;
@@ -35,14 +36,14 @@ fn has_digits_alone(text: &[u8]) -> bool
 }
 
 /// Whether the text is a number: one digit or more.
-pub fn is_number(text: &[u8]) -> bool
+pub(crate) fn is_number(text: &[u8]) -> bool
     ensures { result ≡ is_number text.now }
 {
     !text.is_empty() && has_digits_alone(text)
 }
 
 /// The number that the digits write, or `None` past 64 bits.
-pub fn parse_number(digits: &[u8]) -> Option<u64>
+pub(crate) fn parse_number(digits: &[u8]) -> Option<u64>
     requires { IsTrue (is_number digits.now) }
     ensures { result ≡ in_64_bits (digits_value 10 digits.now) }
 {
@@ -52,8 +53,19 @@ pub fn parse_number(digits: &[u8]) -> Option<u64>
     text.parse().ok()
 }
 
+/// The number that the text writes in digits, or `None` where it is no number or does not fit in 64
+/// bits.
+pub fn read_number(text: &[u8]) -> Option<u64>
+    ensures { result ≡ number_in_64_bits text.now }
+{
+    if !is_number(text) {
+        return None;
+    }
+    parse_number(text)
+}
+
 /// The number that the text writes, if it is one, where one past 64 bits counts as the greatest.
-pub fn read_capped(text: &[u8]) -> Option<u64>
+pub(crate) fn read_capped(text: &[u8]) -> Option<u64>
     ensures { result ≡ option_map capped_number (number_of text.now) }
 {
     if !is_number(text) {

@@ -10,7 +10,7 @@ use std::io::Read;
 const BLOCK: usize = 8_192;
 
 /// Fills the buffer, however the reader cuts its bytes.
-pub fn fill<R: Read>(reader: &mut R, buffer: &mut [u8]) -> Result<(), HttpFault>
+pub(crate) fn fill<R: Read>(reader: &mut R, buffer: &mut [u8]) -> Result<(), HttpFault>
     ensures taken { OnOk result
         (Consumes (R.remaining reader.old) (R.remaining reader.new) buffer.new) }
     ensures faults { IfErr result (IsFillFault (length buffer.old) (R.remaining reader.old)) }
@@ -29,7 +29,11 @@ pub fn fill<R: Read>(reader: &mut R, buffer: &mut [u8]) -> Result<(), HttpFault>
 }
 
 /// Reads a body of so many bytes.
-pub fn read_sized<R: Read>(alloc: Global, reader: &mut R, size: usize) -> Result<Vec<u8>, HttpFault>
+pub(crate) fn read_sized<R: Read>(
+    alloc: Global,
+    reader: &mut R,
+    size: usize,
+) -> Result<Vec<u8>, HttpFault>
     ensures size { IfOk result (λ body. length body.items ≡ size) }
     ensures taken { IfOk result (λ body.
         Consumes (R.remaining reader.old) (R.remaining reader.new) body.items) }
@@ -42,17 +46,18 @@ pub fn read_sized<R: Read>(alloc: Global, reader: &mut R, size: usize) -> Result
     Ok(body)
 }
 
-/// Reads all bytes up to the end of the stream, of which there may be so many.
-pub fn read_to_end<R: Read>(
+/// Reads all bytes up to the end of the stream, of which there may be from `least` to `most`.
+pub(crate) fn read_to_end<R: Read>(
     alloc: Global,
     reader: &mut R,
+    least: usize,
     most: usize,
 ) -> Result<Vec<u8>, HttpFault>
-    ensures size { IfOk result (λ body. length body.items ≤ most) }
+    ensures size { IfOk result (λ body. (least ≤ length body.items) × (length body.items ≤ most)) }
     ensures taken { IfOk result (λ body.
         Consumes (R.remaining reader.old) (R.remaining reader.new) body.items) }
     ensures end { OnOk result (IsAtEnd (R.remaining reader.new)) }
-    ensures faults { IfErr result (IsEndlessFault most (R.remaining reader.old)) }
+    ensures faults { IfErr result (IsEndlessFault least most (R.remaining reader.old)) }
 {
     let mut block = [0u8; BLOCK];
     let mut body = Vec::new(alloc);
@@ -61,6 +66,9 @@ pub fn read_to_end<R: Read>(
             return Err(HttpFault::Read);
         };
         if count == 0 {
+            if body.len() < least {
+                return Err(HttpFault::Short);
+            }
             return Ok(body);
         }
         if count > most - body.len() {

@@ -3,22 +3,19 @@ ghost use Rattle.std.specs.Prelude.{◌≡◌, ◌≢◌, ◌≤◌, ◌<◌, []
 ghost use Rattle.std.specs.Io.KnownBytes.{Consumes};
 ghost use Rattle.httparse.specs.Ascii.{crlf_bytes};
 ghost use Rattle.httparse.specs.Grammar.{HasNoChunkLine, HasNoSection};
-ghost use Rattle.feed_http.specs.Chunks.{IsLineTaken, IsLineFault, AreTrailersTaken, IsTrailersFault, IsEndFault, IsChunkTaken, IsChunkFault, IsBodyChunked, IsChunkedFault};
+ghost use Rattle.feed_http.specs.Limits.{chunk_line_limit, head_limit};
+ghost use Rattle.feed_http.specs.Got.{IsReadingFault};
+ghost use Rattle.feed_http.specs.Chunks.{IsLineTaken, IsLineFault, AreTrailersTaken, IsTrailersFault, IsEndFault};
+ghost use Rattle.feed_http.specs.Chunks.{IsChunkTaken, IsChunkFault, IsBodyChunked, IsChunkedFault};
 
 use crate::fetching::body::read_sized;
 use crate::http_fault::HttpFault;
+use crate::limits::{CHUNK_LINE_LIMIT, FIELD_LIMIT, HEAD_LIMIT};
 use arrayvec::ArrayVec;
 use httparse::spans::{EMPTY_HEADER_SPAN, parse_headers};
 use httparse::{Status, parse_chunk_size};
 use std::alloc::Global;
 use std::io::Read;
-
-// The most bytes of a chunk's line and of a trailer section, and the most trailer fields.
-const LINE_BYTES: usize = 1_024;
-
-const TRAILER_BYTES: usize = 8_192;
-
-const TRAILER_FIELDS: usize = 64;
 
 fn read_byte<R: Read>(reader: &mut R) -> Result<Option<u8>, HttpFault>
     ensures byte { IfOk result (λ read. MatchOption read
@@ -39,8 +36,8 @@ fn read_line<R: Read>(reader: &mut R) -> Result<u64, HttpFault>
     ensures line { IfOk result (IsLineTaken (R.remaining reader.old) (R.remaining reader.new)) }
     ensures faults { IfErr result (IsLineFault (R.remaining reader.old)) }
 {
-    let mut line = ArrayVec::<u8, LINE_BYTES>::new();
-    while line.len() < LINE_BYTES {
+    let mut line = ArrayVec::<u8, CHUNK_LINE_LIMIT>::new();
+    while line.len() < CHUNK_LINE_LIMIT {
         let Some(byte) = read_byte(reader)? else {
             return Err(fault_of_line(line.as_slice()));
         };
@@ -58,7 +55,7 @@ fn read_line<R: Read>(reader: &mut R) -> Result<u64, HttpFault>
 
 // A line that can't be ended is wrong, even where it breaks off.
 fn fault_of_line(line: &[u8]) -> HttpFault
-    requires short { length line.now < 1024 }
+    requires short { length line.now < chunk_line_limit }
     requires not_whole { HasNoChunkLine line.now }
     ensures fault { IsLineFault (Some line.now) result }
     ensures unread { result ≢ HttpFault.Read }
@@ -74,9 +71,9 @@ fn read_trailers<R: Read>(reader: &mut R) -> Result<(), HttpFault>
     ensures taken { OnOk result (AreTrailersTaken (R.remaining reader.old) (R.remaining reader.new)) }
     ensures faults { IfErr result (IsTrailersFault (R.remaining reader.old)) }
 {
-    let mut headers = [EMPTY_HEADER_SPAN; TRAILER_FIELDS];
-    let mut section = ArrayVec::<u8, TRAILER_BYTES>::new();
-    while section.len() < TRAILER_BYTES {
+    let mut headers = [EMPTY_HEADER_SPAN; FIELD_LIMIT];
+    let mut section = ArrayVec::<u8, HEAD_LIMIT>::new();
+    while section.len() < HEAD_LIMIT {
         let Some(byte) = read_byte(reader)? else {
             return Err(fault_of_section(section.as_slice()));
         };
@@ -93,12 +90,12 @@ fn read_trailers<R: Read>(reader: &mut R) -> Result<(), HttpFault>
 }
 
 fn fault_of_section(section: &[u8]) -> HttpFault
-    requires short { length section.now < 8192 }
+    requires short { length section.now < head_limit }
     requires not_whole { HasNoSection section.now }
     ensures fault { IsTrailersFault (Some section.now) result }
     ensures unread { result ≢ HttpFault.Read }
 {
-    let mut headers = [EMPTY_HEADER_SPAN; TRAILER_FIELDS];
+    let mut headers = [EMPTY_HEADER_SPAN; FIELD_LIMIT];
     match parse_headers(section, &mut headers) {
         Ok(Status::Partial) => HttpFault::Short,
         Ok(Status::Complete(_)) => unreachable!(),
@@ -141,22 +138,27 @@ fn read_chunk<R: Read>(
     Ok(())
 }
 
-/// Reads a chunked body and its trailer fields, which are dropped. The body may have so many
-/// bytes.
-pub fn read_chunked<R: Read>(
+/// Reads a chunked body and its trailer fields, which are dropped. The body may have from `least`
+/// to `most` bytes, which is judged by the size in front of each chunk.
+pub(crate) fn read_chunked<R: Read>(
     alloc: Global,
     reader: &mut R,
+    least: usize,
     most: usize,
 ) -> Result<Vec<u8>, HttpFault>
-    ensures size { IfOk result (λ body. length body.items ≤ most) }
+    ensures size { IfOk result (λ body. (least ≤ length body.items) × (length body.items ≤ most)) }
     ensures body { IfOk result (λ body.
         IfSome (R.remaining reader.old) (IsBodyChunked body.items)) }
-    ensures faults { IfErr result (IsChunkedFault most (R.remaining reader.old)) }
+    ensures faults { IfErr result (IsChunkedFault least most (R.remaining reader.old)) }
+    ensures reading { IfErr result IsReadingFault }
 {
     let mut body = Vec::new(alloc);
     loop {
         let size = read_line(reader)?;
         if size == 0 {
+            if body.len() < least {
+                return Err(HttpFault::Length);
+            }
             read_trailers(reader)?;
             return Ok(body);
         }

@@ -1,25 +1,24 @@
 //! What the head of a reply says (RFC 9110, sections 8.4, 8.6, 14.4 and 15; RFC 9112, section 6).
-ghost use Rattle.std.specs.Prelude.{◌≡◌, IfSome, IfOk, option_copied};
+ghost use Rattle.std.specs.Prelude.{◌≡◌, IfSome};
 ghost use Rattle.feed_range.specs.Content.{IsInOrder};
 ghost use Rattle.httparse.specs.Grammar.{ResponseHead};
-ghost use Rattle.feed_http.specs.Fields.{only, has_any, values_named};
-ghost use Rattle.feed_http.specs.Judgements.{is_identity, is_chunked, is_transfer_coded, is_coded_otherwise, stated_length, framing_of, framed_by_length, range_of, part_judged, part_framed, whole_judged, size_judged, unsatisfied_part, file_judged, judged, gives_file, IsInBuffer, HasHead, IsSizedRight};
+ghost use Rattle.feed_http.specs.Fields.{AreWithin, AreFieldsOf};
+ghost use Rattle.feed_http.specs.Judgements.{is_identity, is_chunked, is_transfer_coded, is_coded_otherwise};
+ghost use Rattle.feed_http.specs.Judgements.{stated_length, framing_of, framed_by_length, range_of, part_judged};
+ghost use Rattle.feed_http.specs.Judgements.{part_framed, whole_judged, size_judged, unsatisfied_part, file_judged};
+ghost use Rattle.feed_http.specs.Judgements.{judged, gives_file, IsInBuffer, HasHead};
 
 use crate::fetching::got::Method;
 use crate::fetching::length::agreed_length;
-use crate::heads::fields::{all_values_are, has_field, sole_value};
+use crate::heads::fields::Fields;
 use crate::http_fault::HttpFault;
+use crate::limits::{FILE_LIMIT, PIECE_LIMIT};
 use feed_range::ContentRange;
 use httparse::spans::{HeaderSpan, ResponseSpans};
 
-// The most places of a piece, and the most bytes of a file.
-const MOST_PLACES: u64 = 1_048_576;
-
-pub const MOST_BYTES: u64 = 67_108_864;
-
 /// How a body ends.
 #[derive(Clone, Copy, Debug, PartialEq, Eq)]
-pub enum Framing {
+pub(crate) enum Framing {
     Chunked,
     /// After so many bytes.
     Sized(u64),
@@ -29,7 +28,7 @@ pub enum Framing {
 
 /// What a reply's head says: an answer, or which body follows.
 #[derive(Clone, Copy, Debug, PartialEq, Eq)]
-pub enum Judgement {
+pub(crate) enum Judgement {
     Missing,
     Unsatisfied {
         total: Option<u64>,
@@ -46,49 +45,44 @@ pub enum Judgement {
 
 /// A reply's head, in the buffer into which it was read.
 #[derive(Clone, Copy)]
-pub struct Reply<'b> {
+pub(crate) struct Reply<'b> {
     pub buffer: &'b [u8],
     pub headers: &'b [HeaderSpan],
     pub spans: ResponseSpans,
 }
 
 impl Reply<'_> {
-    fn sole_value(&self, name: &[u8]) -> Option<&[u8]>
+    fn fields(&self) -> Fields<'_>
         requires { IsInBuffer self.now }
-        ensures { (head : ResponseHead) → HasHead self.now head
-            → option_copied result ≡ only (values_named name.now head.fields) }
+        ensures within { AreWithin result }
+        ensures fields { (head : ResponseHead) → HasHead self.now head → AreFieldsOf result head.fields }
     {
-        sole_value(self.buffer, &self.headers[..self.spans.headers], name)
-    }
-
-    fn has_field(&self, name: &[u8]) -> bool
-        requires { IsInBuffer self.now }
-        ensures { (head : ResponseHead) → HasHead self.now head
-            → result ≡ has_any (values_named name.now head.fields) }
-    {
-        has_field(self.buffer, &self.headers[..self.spans.headers], name)
+        Fields {
+            buffer: self.buffer,
+            headers: &self.headers[..self.spans.headers],
+        }
     }
 
     fn is_identity(&self) -> bool
         requires { IsInBuffer self.now }
         ensures { (head : ResponseHead) → HasHead self.now head → result ≡ is_identity head }
     {
-        let headers = &self.headers[..self.spans.headers];
-        all_values_are(self.buffer, headers, b"content-encoding", b"identity")
+        self.fields()
+            .all_values_are(b"content-encoding", b"identity")
     }
 
     fn is_transfer_coded(&self) -> bool
         requires { IsInBuffer self.now }
         ensures { (head : ResponseHead) → HasHead self.now head → result ≡ is_transfer_coded head }
     {
-        self.has_field(b"transfer-encoding")
+        self.fields().has_field(b"transfer-encoding")
     }
 
     fn is_chunked(&self) -> bool
         requires { IsInBuffer self.now }
         ensures { (head : ResponseHead) → HasHead self.now head → result ≡ is_chunked head }
     {
-        match self.sole_value(b"transfer-encoding") {
+        match self.fields().sole_value(b"transfer-encoding") {
             Some(value) => self.spans.version == 1 && value.eq_ignore_ascii_case(b"chunked"),
             None => false,
         }
@@ -107,10 +101,10 @@ impl Reply<'_> {
         requires { IsInBuffer self.now }
         ensures { (head : ResponseHead) → HasHead self.now head → result ≡ stated_length head }
     {
-        if !self.has_field(b"content-length") {
+        if !self.fields().has_field(b"content-length") {
             return Ok(None);
         }
-        match agreed_length(self.buffer, &self.headers[..self.spans.headers]) {
+        match agreed_length(&self.fields()) {
             Some(length) => Ok(Some(length)),
             None => Err(HttpFault::Length),
         }
@@ -131,7 +125,7 @@ impl Reply<'_> {
         ensures in_order { IfSome result IsInOrder }
         ensures value { (head : ResponseHead) → HasHead self.now head → result ≡ range_of head }
     {
-        match self.sole_value(b"content-range") {
+        match self.fields().sole_value(b"content-range") {
             Some(value) => ContentRange::read(value).ok(),
             None => None,
         }
@@ -148,9 +142,8 @@ impl Reply<'_> {
         requires { IsInBuffer self.now }
         ensures value { (head : ResponseHead) → HasHead self.now head
             → result ≡ unsatisfied_part head }
-        ensures sized { IfOk result IsSizedRight }
     {
-        if !self.has_field(b"content-range") {
+        if !self.fields().has_field(b"content-range") {
             return Ok(Judgement::Unsatisfied { total: None });
         }
         match self.range() {
@@ -165,7 +158,6 @@ impl Reply<'_> {
         requires { IsInBuffer self.now }
         ensures value { (head : ResponseHead) → HasHead self.now head
             → result ≡ file_judged method head }
-        ensures sized { IfOk result IsSizedRight }
     {
         if self.is_coded_otherwise(method) {
             return Err(HttpFault::Coding);
@@ -180,11 +172,10 @@ impl Reply<'_> {
     }
 
     /// What the head says of the reply to a request by that method, or the first fault.
-    pub fn judge(&self, method: Method) -> Result<Judgement, HttpFault>
+    pub(crate) fn judge(&self, method: Method) -> Result<Judgement, HttpFault>
         requires { IsInBuffer self.now }
         ensures value { (head : ResponseHead) → HasHead self.now head
             → result ≡ judged method head }
-        ensures sized { IfOk result IsSizedRight }
     {
         if self.spans.code == 404 {
             return Ok(Judgement::Missing);
@@ -211,7 +202,6 @@ fn framed_by_length(length: Result<Option<u64>, HttpFault>) -> Result<Framing, H
 
 fn judge_size(length: Result<Option<u64>, HttpFault>) -> Result<Judgement, HttpFault>
     ensures value { result ≡ size_judged length }
-    ensures sized { IfOk result IsSizedRight }
 {
     match length {
         Ok(Some(length)) => Ok(Judgement::Size(length)),
@@ -226,12 +216,11 @@ fn judge_part(
 ) -> Result<Judgement, HttpFault>
     requires { IfSome range IsInOrder }
     ensures value { result ≡ part_judged range framing }
-    ensures sized { IfOk result IsSizedRight }
 {
     let Some(ContentRange::Part { first, last, total }) = range else {
         return Err(HttpFault::Range);
     };
-    if last - first >= MOST_PLACES {
+    if last - first >= PIECE_LIMIT {
         return Err(HttpFault::BodyTooLong);
     }
     frame_part(first, total, last - first + 1, framing)
@@ -244,7 +233,6 @@ fn frame_part(
     framing: Result<Framing, HttpFault>,
 ) -> Result<Judgement, HttpFault>
     ensures value { result ≡ part_framed first total count framing }
-    ensures sized { IfOk result IsSizedRight }
 {
     let framing = framing?;
     match framing {
@@ -260,11 +248,10 @@ fn frame_part(
 
 fn judge_whole(framing: Result<Framing, HttpFault>) -> Result<Judgement, HttpFault>
     ensures value { result ≡ whole_judged framing }
-    ensures sized { IfOk result IsSizedRight }
 {
     let framing = framing?;
     match framing {
-        Framing::Sized(length) if length > MOST_BYTES => Err(HttpFault::BodyTooLong),
+        Framing::Sized(length) if length > FILE_LIMIT => Err(HttpFault::BodyTooLong),
         _ => Ok(Judgement::Whole(framing)),
     }
 }

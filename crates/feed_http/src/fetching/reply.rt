@@ -1,34 +1,32 @@
 //! The node end: one reply in.
-ghost use Rattle.std.specs.Prelude.{◌≡◌, IfSome};
-ghost use Rattle.feed_http.specs.Got.{IsBody, IsPartBody, IsGot, IsReply};
-ghost use Rattle.feed_http.specs.Judgements.{IsSizedAs, IsSizedRight};
+ghost use Rattle.std.specs.Prelude.{IfSome, IfErr};
+ghost use Rattle.feed_http.specs.Got.{IsBody, IsPartBody, IsGot, IsReply, IsReadingFault};
 
 use crate::fetching::body::{read_sized, read_to_end};
 use crate::fetching::chunks::read_chunked;
 use crate::fetching::got::{Bytes, Got, Method};
-use crate::fetching::judge::{Framing, Judgement, MOST_BYTES, Reply};
+use crate::fetching::judge::{Framing, Judgement, Reply};
 use crate::heads::reply_head::read_reply_head;
 use crate::http_fault::HttpFault;
+use crate::limits::{FIELD_LIMIT, FILE_LIMIT, HEAD_LIMIT};
 use httparse::spans::EMPTY_HEADER_SPAN;
 use std::alloc::Global;
 use std::io::Read;
-
-const HEAD_BYTES: usize = 8_192;
-
-const HEAD_FIELDS: usize = 64;
 
 fn read_body<R: Read>(
     alloc: Global,
     reader: &mut R,
     framing: Framing,
+    least: u64,
     most: u64,
 ) -> Result<Bytes, HttpFault>
-    ensures { IfSome (R.remaining reader.old) (λ text. IsBody framing most text result) }
+    ensures body { IfSome (R.remaining reader.old) (λ text. IsBody framing least most text result) }
+    ensures faults { IfErr result IsReadingFault }
 {
     let body = match framing {
-        Framing::Chunked => read_chunked(alloc, reader, most as usize)?,
+        Framing::Chunked => read_chunked(alloc, reader, least as usize, most as usize)?,
         Framing::Sized(size) => read_sized(alloc, reader, size as usize)?,
-        Framing::ToEnd => read_to_end(alloc, reader, most as usize)?,
+        Framing::ToEnd => read_to_end(alloc, reader, least as usize, most as usize)?,
     };
     Ok(Bytes::new(body))
 }
@@ -39,21 +37,18 @@ fn read_part<R: Read>(
     framing: Framing,
     count: u64,
 ) -> Result<Bytes, HttpFault>
-    requires { IsSizedAs count framing }
-    ensures { IfSome (R.remaining reader.old) (λ text. IsPartBody framing count text result) }
+    ensures body { IfSome (R.remaining reader.old) (λ text. IsPartBody framing count text result) }
+    ensures faults { IfErr result IsReadingFault }
 {
-    match read_body(alloc, reader, framing, count) {
-        Ok(body) if body.as_slice().len() as u64 == count => Ok(body),
-        Ok(_) if framing == Framing::Chunked => Err(HttpFault::Length),
-        Ok(_) => Err(HttpFault::Short),
+    match read_body(alloc, reader, framing, count, count) {
         Err(HttpFault::BodyTooLong) => Err(HttpFault::Length),
-        Err(fault) => Err(fault),
+        read => read,
     }
 }
 
 fn read_got<R: Read>(alloc: Global, reader: &mut R, judgement: Judgement) -> Result<Got, HttpFault>
-    requires { IsSizedRight judgement }
-    ensures { IfSome (R.remaining reader.old) (λ text. IsGot judgement text result) }
+    ensures got { IfSome (R.remaining reader.old) (λ text. IsGot judgement text result) }
+    ensures faults { IfErr result IsReadingFault }
 {
     match judgement {
         Judgement::Missing => Ok(Got::Missing),
@@ -73,7 +68,7 @@ fn read_got<R: Read>(alloc: Global, reader: &mut R, judgement: Judgement) -> Res
             })
         }
         Judgement::Whole(framing) => {
-            let bytes = read_body(alloc, reader, framing, MOST_BYTES)?;
+            let bytes = read_body(alloc, reader, framing, 0, FILE_LIMIT)?;
             Ok(Got::Whole { bytes })
         }
     }
@@ -95,10 +90,11 @@ fn read_got<R: Read>(alloc: Global, reader: &mut R, judgement: Judgement) -> Res
 /// bytes of a file. `Length` where Content-Length does not state one length, that of the places
 /// on 206, or the body is of another. Of the body: `Read`, `Short`, `Coding` and `Memory`.
 pub fn read_reply<R: Read>(alloc: Global, reader: &mut R, method: Method) -> Result<Got, HttpFault>
-    ensures { IfSome (R.remaining reader.old) (λ text. IsReply method text result) }
+    ensures reply { IfSome (R.remaining reader.old) (λ text. IsReply method text result) }
+    ensures faults { IfErr result IsReadingFault }
 {
-    let mut buffer = [0u8; HEAD_BYTES];
-    let mut headers = [EMPTY_HEADER_SPAN; HEAD_FIELDS];
+    let mut buffer = [0u8; HEAD_LIMIT];
+    let mut headers = [EMPTY_HEADER_SPAN; FIELD_LIMIT];
     let read = read_reply_head(reader, &mut buffer, &mut headers)?;
     let reply = Reply {
         buffer: &buffer[read.start..read.filled],

@@ -6,13 +6,12 @@ ghost use Rattle.feed_names.specs.ReleaseName.{text_of};
 ghost use Rattle.feed_http.specs.RequestTexts.{is_host, is_host_byte, start_text, get_text, head_request_text};
 
 use crate::http_fault::HttpFault;
+use crate::limits::HOST_LIMIT;
 use arrayvec::ArrayVec;
 use feed_names::ReleaseName;
 use feed_range::write_ask;
 use std::io;
 use std::io::Write;
-
-const LONGEST_HOST: usize = 255;
 
 // With the longest name, the longest host and the greatest places a request has 498 bytes.
 const LONGEST_REQUEST: usize = 512;
@@ -39,7 +38,7 @@ fn has_host_bytes_alone(host: &[u8]) -> bool
 pub fn is_host(host: &[u8]) -> bool
     ensures { result ≡ is_host host.now }
 {
-    !host.is_empty() && host.len() <= LONGEST_HOST && has_host_bytes_alone(host)
+    !host.is_empty() && host.len() <= HOST_LIMIT && has_host_bytes_alone(host)
 }
 
 fn format_start<W: Write>(

@@ -3,73 +3,24 @@ ghost use Rattle.std.specs.Prelude.{◌≡◌, List, length, All, IfSome, option
 ghost use Rattle.std.specs.List.{list_all};
 ghost use Rattle.std.specs.Str.{str_eq_ignore_ascii_case};
 ghost use Rattle.httparse.specs.Grammar.{Field};
-ghost use Rattle.httparse.specs.Spans.{IsWithin, IsHeaderWithin, AreFieldsAt};
+ghost use Rattle.httparse.specs.Spans.{IsWithin, IsHeaderWithin};
 ghost use Rattle.feed_http.specs.Fields.{is_named, only, has_any, first_of, values_named, spans_named, agrees};
+ghost use Rattle.feed_http.specs.Fields.{AreWithin, AreFieldsOf};
 
 use httparse::spans::{HeaderSpan, Span};
 
-pub fn is_named(buffer: &[u8], header: HeaderSpan, name: &[u8]) -> bool
+/// Where the fields of a head stand in the buffer into which it was read.
+#[derive(Clone, Copy)]
+pub(crate) struct Fields<'b> {
+    pub buffer: &'b [u8],
+    pub headers: &'b [HeaderSpan],
+}
+
+pub(crate) fn is_named(buffer: &[u8], header: HeaderSpan, name: &[u8]) -> bool
     requires { IsHeaderWithin (length buffer.now) header }
     ensures { result ≡ is_named buffer.now name.now header }
 {
     header.name.of(buffer).eq_ignore_ascii_case(name)
-}
-
-fn sole_span(buffer: &[u8], headers: &[HeaderSpan], name: &[u8]) -> Option<Span>
-    requires { All (IsHeaderWithin (length buffer.now)) headers.now }
-    ensures sole { result ≡ only (spans_named buffer.now name.now headers.now) }
-    ensures within { IfSome result (IsWithin (length buffer.now)) }
-{
-    let mut found = None;
-    for header in headers {
-        if is_named(buffer, *header, name) {
-            if found.is_some() {
-                return None;
-            }
-            found = Some(header.value);
-        }
-    }
-    found
-}
-
-/// The value of the field of that name, if there is just one such field.
-pub fn sole_value<'b>(buffer: &'b [u8], headers: &[HeaderSpan], name: &[u8]) -> Option<&'b [u8]>
-    requires { All (IsHeaderWithin (length buffer.now)) headers.now }
-    ensures { (fields : List Field) → AreFieldsAt buffer.now headers.now (length headers.now) fields
-        → option_copied result ≡ only (values_named name.now fields) }
-{
-    match sole_span(buffer, headers, name) {
-        Some(span) => Some(span.of(buffer)),
-        None => None,
-    }
-}
-
-/// Whether there is a field of that name.
-pub fn has_field(buffer: &[u8], headers: &[HeaderSpan], name: &[u8]) -> bool
-    requires { All (IsHeaderWithin (length buffer.now)) headers.now }
-    ensures { (fields : List Field) → AreFieldsAt buffer.now headers.now (length headers.now) fields
-        → result ≡ has_any (values_named name.now fields) }
-{
-    for header in headers {
-        if is_named(buffer, *header, name) {
-            return true;
-        }
-    }
-    false
-}
-
-/// Where the value of the first field of that name stands.
-pub fn first_span(buffer: &[u8], headers: &[HeaderSpan], name: &[u8]) -> Option<Span>
-    requires { All (IsHeaderWithin (length buffer.now)) headers.now }
-    ensures first { result ≡ first_of (spans_named buffer.now name.now headers.now) }
-    ensures within { IfSome result (IsWithin (length buffer.now)) }
-{
-    for header in headers {
-        if is_named(buffer, *header, name) {
-            return Some(header.value);
-        }
-    }
-    None
 }
 
 fn agrees_with_text(buffer: &[u8], header: HeaderSpan, name: &[u8], text: &[u8]) -> bool
@@ -79,17 +30,76 @@ fn agrees_with_text(buffer: &[u8], header: HeaderSpan, name: &[u8], text: &[u8])
     !is_named(buffer, header, name) || header.value.of(buffer).eq_ignore_ascii_case(text)
 }
 
-/// Whether each value of the fields of that name is this text, in any case.
-pub fn all_values_are(buffer: &[u8], headers: &[HeaderSpan], name: &[u8], text: &[u8]) -> bool
-    requires { All (IsHeaderWithin (length buffer.now)) headers.now }
-    ensures { (fields : List Field) → AreFieldsAt buffer.now headers.now (length headers.now) fields
-        → result ≡ list_all (λ value. str_eq_ignore_ascii_case value text.now)
-        (values_named name.now fields) }
-{
-    for header in headers {
-        if !agrees_with_text(buffer, *header, name, text) {
-            return false;
+impl<'b> Fields<'b> {
+    fn sole_span(&self, name: &[u8]) -> Option<Span>
+        requires { AreWithin self.now }
+        ensures sole { result ≡ only (spans_named self.now.buffer.now name.now self.now.headers.now) }
+        ensures within { IfSome result (IsWithin (length self.now.buffer.now)) }
+    {
+        let mut found = None;
+        for header in self.headers {
+            if is_named(self.buffer, *header, name) {
+                if found.is_some() {
+                    return None;
+                }
+                found = Some(header.value);
+            }
+        }
+        found
+    }
+
+    /// The value of the field of that name, if there is just one such field.
+    pub(crate) fn sole_value(&self, name: &[u8]) -> Option<&'b [u8]>
+        requires { AreWithin self.now }
+        ensures { (fields : List Field) → AreFieldsOf self.now fields
+            → option_copied result ≡ only (values_named name.now fields) }
+    {
+        match self.sole_span(name) {
+            Some(span) => Some(span.of(self.buffer)),
+            None => None,
         }
     }
-    true
+
+    /// Whether there is a field of that name.
+    pub(crate) fn has_field(&self, name: &[u8]) -> bool
+        requires { AreWithin self.now }
+        ensures { (fields : List Field) → AreFieldsOf self.now fields
+            → result ≡ has_any (values_named name.now fields) }
+    {
+        for header in self.headers {
+            if is_named(self.buffer, *header, name) {
+                return true;
+            }
+        }
+        false
+    }
+
+    /// Where the value of the first field of that name stands.
+    pub(crate) fn first_span(&self, name: &[u8]) -> Option<Span>
+        requires { AreWithin self.now }
+        ensures first { result ≡ first_of (spans_named self.now.buffer.now name.now self.now.headers.now) }
+        ensures within { IfSome result (IsWithin (length self.now.buffer.now)) }
+    {
+        for header in self.headers {
+            if is_named(self.buffer, *header, name) {
+                return Some(header.value);
+            }
+        }
+        None
+    }
+
+    /// Whether each value of the fields of that name is this text, in any case.
+    pub(crate) fn all_values_are(&self, name: &[u8], text: &[u8]) -> bool
+        requires { AreWithin self.now }
+        ensures { (fields : List Field) → AreFieldsOf self.now fields
+            → result ≡ list_all (λ value. str_eq_ignore_ascii_case value text.now)
+            (values_named name.now fields) }
+    {
+        for header in self.headers {
+            if !agrees_with_text(self.buffer, *header, name, text) {
+                return false;
+            }
+        }
+        true
+    }
 }

@@ -13,7 +13,7 @@ use std::io::Read;
 
 /// A reply's head in a buffer.
 #[derive(Clone, Copy)]
-pub struct ReplyRead {
+pub(crate) struct ReplyRead {
     pub spans: ResponseSpans,
     /// Where the head begins, behind the interim heads.
     pub start: usize,
@@ -43,7 +43,7 @@ fn read_some<R: Read>(reader: &mut R, space: &mut [u8]) -> Result<usize, HttpFau
 
 /// Reads into the buffer until a head that is not interim is whole, however the reader cuts its
 /// bytes.
-pub fn read_reply_head<R: Read>(
+pub(crate) fn read_reply_head<R: Read>(
     reader: &mut R,
     buffer: &mut [u8],
     headers: &mut [HeaderSpan],
@@ -53,7 +53,7 @@ pub fn read_reply_head<R: Read>(
     ensures within { IfOk result (λ read. IsResponseWithin
         (drop read.start (take read.filled buffer.new)) headers.new read.spans) }
     ensures head { IfOk result (λ read.
-        IsReplyIn (take read.filled buffer.new) headers.new read.start read.spans) }
+        IsReplyIn (length headers.old) (take read.filled buffer.new) headers.new read.start read.spans) }
     ensures taken { IfOk result (λ read.
         Consumes (R.remaining reader.old) (R.remaining reader.new) (take read.filled buffer.new)) }
     ensures faults { IfErr result IsHeadFault }

@@ -11,14 +11,14 @@ use std::io::Read;
 
 /// A request's head in a buffer.
 #[derive(Clone, Copy)]
-pub struct RequestRead {
+pub(crate) struct RequestRead {
     pub spans: RequestSpans,
     /// How many bytes of the buffer were read: the head, and what came with it.
     pub filled: usize,
 }
 
 /// Reads into the buffer until a head is whole, however the reader cuts its bytes.
-pub fn read_request<R: Read>(
+pub(crate) fn read_request<R: Read>(
     reader: &mut R,
     buffer: &mut [u8],
     headers: &mut [HeaderSpan],

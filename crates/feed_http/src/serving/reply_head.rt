@@ -12,7 +12,7 @@ const LONGEST_HEAD: usize = 512;
 
 /// The head of a reply. Lengths are in bytes, and places count from 0.
 #[derive(Clone, Copy, Debug, PartialEq, Eq)]
-pub enum ReplyHead {
+pub(crate) enum ReplyHead {
     /// The whole file follows, unless only its head was asked for.
     Whole { length: u64 },
     /// The places from the first to the last follow, both included.
@@ -26,7 +26,7 @@ pub enum ReplyHead {
 
 impl ReplyHead {
     /// The status code (RFC 9110, section 15).
-    pub fn status(self) -> u16
+    pub(crate) fn status(self) -> u16
         ensures { result ≡ status_of self }
     {
         match self {
@@ -40,7 +40,7 @@ impl ReplyHead {
     }
 
     /// Writes the head, all of it at once, and gives its status.
-    pub fn write<W: Write>(self, writer: &mut W) -> Result<u16, HttpFault>
+    pub(crate) fn write<W: Write>(self, writer: &mut W) -> Result<u16, HttpFault>
         requires { IsPartInside self }
         ensures status { IfOk result (λ status. status ≡ status_of self) }
         ensures head { OnOk result

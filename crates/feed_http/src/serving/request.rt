@@ -3,10 +3,11 @@ ghost use Rattle.std.specs.Prelude.{◌≡◌, ◌==◌, IfOk, IsOkUnless, optio
 ghost use Rattle.httparse.specs.Grammar.{RequestHead};
 ghost use Rattle.feed_range.specs.Text.{slash, strip_prefix};
 ghost use Rattle.feed_range.specs.Ask.{IsInside};
-ghost use Rattle.feed_http.specs.Fields.{only, has_any, values_named};
-ghost use Rattle.feed_http.specs.Requests.{from_slash, path_of, lacks_host, is_get, is_head, is_unsupported, range_value, ask_for, IsNamedBy, IsInBuffer, HasHead};
+ghost use Rattle.feed_http.specs.Fields.{AreWithin, AreFieldsOf};
+ghost use Rattle.feed_http.specs.Requests.{from_slash, path_of, lacks_host, is_get, is_head, is_unsupported};
+ghost use Rattle.feed_http.specs.Requests.{range_value, ask_for, IsNamedBy, IsInBuffer, HasHead};
 
-use crate::heads::fields::{has_field, sole_value};
+use crate::heads::fields::Fields;
 use crate::http_fault::HttpFault;
 use feed_names::{NameFault, ReleaseName};
 use feed_range::RangeAsk;
@@ -15,39 +16,34 @@ use std::alloc::Global;
 
 /// A request's head, in the buffer into which it was read.
 #[derive(Clone, Copy)]
-pub struct Request<'b> {
+pub(crate) struct Request<'b> {
     pub buffer: &'b [u8],
     pub headers: &'b [HeaderSpan],
     pub spans: RequestSpans,
 }
 
 impl Request<'_> {
-    fn sole_value(&self, name: &[u8]) -> Option<&[u8]>
+    fn fields(&self) -> Fields<'_>
         requires { IsInBuffer self.now }
-        ensures { (head : RequestHead) → HasHead self.now head
-            → option_copied result ≡ only (values_named name.now head.fields) }
+        ensures within { AreWithin result }
+        ensures fields { (head : RequestHead) → HasHead self.now head → AreFieldsOf result head.fields }
     {
-        sole_value(self.buffer, &self.headers[..self.spans.headers], name)
-    }
-
-    fn has_field(&self, name: &[u8]) -> bool
-        requires { IsInBuffer self.now }
-        ensures { (head : RequestHead) → HasHead self.now head
-            → result ≡ has_any (values_named name.now head.fields) }
-    {
-        has_field(self.buffer, &self.headers[..self.spans.headers], name)
+        Fields {
+            buffer: self.buffer,
+            headers: &self.headers[..self.spans.headers],
+        }
     }
 
     /// Whether a request of HTTP/1.1 has not just one Host field (RFC 9112, section 3.2).
-    pub fn lacks_host(&self) -> bool
+    pub(crate) fn lacks_host(&self) -> bool
         requires { IsInBuffer self.now }
         ensures { (head : RequestHead) → HasHead self.now head → result ≡ lacks_host head }
     {
-        self.spans.version == 1 && self.sole_value(b"host").is_none()
+        self.spans.version == 1 && self.fields().sole_value(b"host").is_none()
     }
 
     /// Whether only the head of the reply is asked for (RFC 9110, section 9.3.2).
-    pub fn is_head(&self) -> bool
+    pub(crate) fn is_head(&self) -> bool
         requires { IsInBuffer self.now }
         ensures { (head : RequestHead) → HasHead self.now head → result ≡ is_head head }
     {
@@ -62,11 +58,11 @@ impl Request<'_> {
     }
 
     /// Whether the method is neither GET nor HEAD, or a coded body follows.
-    pub fn is_unsupported(&self) -> bool
+    pub(crate) fn is_unsupported(&self) -> bool
         requires { IsInBuffer self.now }
         ensures { (head : RequestHead) → HasHead self.now head → result ≡ is_unsupported head }
     {
-        !(self.is_get() || self.is_head()) || self.has_field(b"transfer-encoding")
+        !(self.is_get() || self.is_head()) || self.fields().has_field(b"transfer-encoding")
     }
 
     fn range_value(&self) -> Option<&[u8]>
@@ -74,14 +70,14 @@ impl Request<'_> {
         ensures { (head : RequestHead) → HasHead self.now head
             → option_copied result ≡ range_value head }
     {
-        if self.has_field(b"if-range") {
+        if self.fields().has_field(b"if-range") {
             return None;
         }
-        self.sole_value(b"range")
+        self.fields().sole_value(b"range")
     }
 
     /// The part of a file of that length that is asked for (RFC 9110, section 14.2).
-    pub fn ask(&self, length: u64) -> RangeAsk
+    pub(crate) fn ask(&self, length: u64) -> RangeAsk
         requires { IsInBuffer self.now }
         ensures value { (head : RequestHead) → HasHead self.now head
             → result ≡ ask_for head length }
@@ -94,7 +90,7 @@ impl Request<'_> {
     }
 
     /// The release that the target names, if it names one.
-    pub fn name(&self, alloc: Global) -> Result<Option<ReleaseName>, HttpFault>
+    pub(crate) fn name(&self, alloc: Global) -> Result<Option<ReleaseName>, HttpFault>
         requires { IsInBuffer self.now }
         ensures named { IfOk result (λ named. (head : RequestHead) → HasHead self.now head
             → IsNamedBy head.target named) }

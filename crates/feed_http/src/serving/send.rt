@@ -38,7 +38,7 @@ fn send_block<W: Write, S: Shelf>(
 }
 
 /// Sends the places of a file from the first up to the end, in blocks.
-pub fn send<W: Write, S: Shelf>(
+pub(crate) fn send<W: Write, S: Shelf>(
     alloc: Global,
     writer: &mut W,
     shelf: &mut S,

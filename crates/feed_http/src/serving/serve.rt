@@ -4,14 +4,17 @@ ghost use Rattle.std.specs.Io.KnownBytes.{Keeps};
 ghost use Rattle.httparse.specs.Grammar.{RequestHead};
 ghost use Rattle.feed_range.specs.Ask.{IsInside};
 ghost use Rattle.feed_names.specs.ReleaseName.{Name};
+ghost use Rattle.feed_http.specs.Limits.{head_limit, field_limit};
 ghost use Rattle.feed_http.specs.RequestHeads.{BeginsWithHead};
 ghost use Rattle.feed_http.specs.Requests.{IsNamedBy, IsInBuffer, HasHead};
 ghost use Rattle.feed_http.specs.Replies.{IsPartInside};
 ghost use Rattle.feed_http.specs.Shelves.{CountsFailure};
-ghost use Rattle.feed_http.specs.Served.{served, part_reply, file_reply, IsOutcomeOf, IsRefusalOf, IsReplyFault, IsServingFault, reply_of};
+ghost use Rattle.feed_http.specs.Served.{served, fileless, part_reply, file_reply, IsOutcomeOf, IsRefusalOf};
+ghost use Rattle.feed_http.specs.Served.{IsReplyFault, IsServingFault, reply_of};
 
 use crate::heads::request_head::read_request;
 use crate::http_fault::HttpFault;
+use crate::limits::{FIELD_LIMIT, HEAD_LIMIT};
 use crate::serving::reply_head::ReplyHead;
 use crate::serving::request::Request;
 use crate::serving::send::send;
@@ -21,10 +24,6 @@ use feed_range::RangeAsk;
 use httparse::spans::EMPTY_HEADER_SPAN;
 use std::alloc::Global;
 use std::io::{Read, Write};
-
-const HEAD_BYTES: usize = 8_192;
-
-const HEAD_FIELDS: usize = 64;
 
 fn reply_with<W: Write, S: Shelf>(
     alloc: Global,
@@ -125,6 +124,9 @@ fn respond<W: Write, S: Shelf>(
         (head : RequestHead) → HasHead request.now head
         → (named : Option Name) → IsNamedBy head.target named
         → IsOutcomeOf (served files head named) result (W.contents writer.old) (W.contents writer.new)) }
+    ensures fileless { (head : RequestHead) → HasHead request.now head
+        → (named : Option Name) → IsNamedBy head.target named → IfSome (fileless head named) (λ reply.
+        IsOutcomeOf reply result (W.contents writer.old) (W.contents writer.new)) }
     ensures faults { IfErr result IsReplyFault }
     ensures kept { S.files shelf.new ≡ S.files shelf.old }
     ensures rises { S.failed shelf.old ≤ S.failed shelf.new }
@@ -168,14 +170,20 @@ pub fn serve_one<R: Read, W: Write, S: Shelf>(
 ) -> Result<u16, HttpFault>
     // Where the bytes begin with a head within the limits, and the shelf tells its files.
     ensures served { IfSome (R.remaining reader.old) (λ text. IfSome (S.files shelf.old) (λ files.
-        (head : RequestHead) → BeginsWithHead 8192 64 text head
+        (head : RequestHead) → BeginsWithHead head_limit field_limit text head
         → (named : Option Name) → IsNamedBy head.target named
         → IsOutcomeOf (served files head named) result (W.contents writer.old) (W.contents writer.new))) }
 
+    // The same of any shelf, where the reply needs no file.
+    ensures fileless { IfSome (R.remaining reader.old) (λ text.
+        (head : RequestHead) → BeginsWithHead head_limit field_limit text head
+        → (named : Option Name) → IsNamedBy head.target named → IfSome (fileless head named) (λ reply.
+        IsOutcomeOf reply result (W.contents writer.old) (W.contents writer.new))) }
+
     // Where they do not.
     ensures refused { IfSome (R.remaining reader.old) (λ text.
-        ((head : RequestHead) → ¬ (BeginsWithHead 8192 64 text head))
-        → IsRefusalOf 8192 64 text result (W.contents writer.old) (W.contents writer.new)) }
+        ((head : RequestHead) → ¬ (BeginsWithHead head_limit field_limit text head))
+        → IsRefusalOf head_limit field_limit text result (W.contents writer.old) (W.contents writer.new)) }
 
     ensures faults { IfErr result IsServingFault }
     ensures unread { IsErrOf result HttpFault.Read → Keeps (W.contents writer.old) (W.contents writer.new) }
@@ -187,8 +195,8 @@ pub fn serve_one<R: Read, W: Write, S: Shelf>(
     ensures device { IsErrOf result HttpFault.Shelf
         → CountsFailure (S.failed shelf.old) (S.failed shelf.new) }
 {
-    let mut buffer = [0u8; HEAD_BYTES];
-    let mut headers = [EMPTY_HEADER_SPAN; HEAD_FIELDS];
+    let mut buffer = [0u8; HEAD_LIMIT];
+    let mut headers = [EMPTY_HEADER_SPAN; FIELD_LIMIT];
     match read_request(reader, &mut buffer, &mut headers) {
         Ok(read) => {
             let request = Request {

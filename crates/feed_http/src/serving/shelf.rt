@@ -1,4 +1,5 @@
-ghost use Rattle.std.specs.Prelude.{◌≡◌, ◌≤◌, ◌+◌, ℕ, Option, None, IfSome, IsSomeAnd, IfOk, IsErrOf, length, take, drop};
+ghost use Rattle.std.specs.Prelude.{◌≡◌, ◌≤◌, ◌+◌, ℕ, Option, None, IfSome, IsSomeAnd, IfOk, IsErrOf, length, take};
+ghost use Rattle.std.specs.Prelude.{drop};
 ghost use Rattle.std.specs.Option.{option_map};
 ghost use Rattle.feed_http.specs.Shelves.{Files, CountsFailure};
 ghost use Rattle.feed_http.specs.declared.serving.shelf.ShelfFault.TheVariants.{Device};

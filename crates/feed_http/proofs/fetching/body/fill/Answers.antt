@@ -1,10 +1,10 @@
 use Rattle.std.proofs.Common.{arith}
-use Rattle.feed_http.proofs.KnownBytes.{consumes_none}
+use Rattle.std.proofs.KnownBytes.{Consumes-nil}
 use Rattle.feed_http.proofs.BufferFilling.{put_mid_fits, read_more}
 use Rattle.feed_http.proofs.fetching.body.fill.Goals as goal
 
 pub loop-filled-init : goal.loop-filled-init
-loop-filled-init g c = (omega arith, consumes_none (g.R.Read.remaining c.args.reader.now))
+loop-filled-init g c = (omega arith, Consumes-nil (g.R.Read.remaining c.args.reader.now))
 
 pub loop-filled-preserved : goal.loop-filled-preserved
 loop-filled-preserved g c = (

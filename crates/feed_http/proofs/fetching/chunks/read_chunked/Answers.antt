@@ -1,13 +1,14 @@
-use Rattle.std.proofs.Common.{◌≡◌, ◌<◌, ◌+◌, arith, length, ap, ◌∙◌}
+use Rattle.std.proofs.Common.{◌≡◌, ◌<◌, ◌+◌, ◌-◌, arith, length, ap, ◌∙◌}
 use Rattle.std.proofs.lemmas.List.{length-append}
-use Rattle.feed_http.proofs.ChunkReading.{chunk_more, chunk_broken}
+use Rattle.feed_http.proofs.ChunkReading.{chunk_more, no_body, stops_at_chunk}
 use Rattle.feed_http.proofs.fetching.chunks.read_chunked.Goals as goal
 
 pub loop-body-preserved : goal.loop-body-preserved
 loop-body-preserved g c = let i = c.loop-body.invariant in
     let some : 0 < c.in_ok-size.size = let z = c.if-size-eq0.false in omega arith in
     let taken = c.in_ok-read_chunk.ensures.taken in (
-      let fits = c.if-size-most.false in let l = c.len.ensures in let p : length c.read_chunk.new.body.items ≡ length c.loop-body.body.items + length taken.bytes = ap length taken.added ∙ length-append c.loop-body.body.items taken.bytes in
+      let fits = c.if-size-most.false in let l = c.len-in-loop-body.ensures in let p : length c.read_chunk.new.body.items ≡ length c.loop-body.body.items + length taken.bytes =
+          ap length taken.added ∙ length-append c.loop-body.body.items taken.bytes in
           omega (arith, p, taken.size_is, i.0),
       chunk_more (g.R.Read.remaining c.args.reader.now) (g.R.Read.remaining c.loop-body.reader) (g.R.Read.remaining c.read_line.new.reader) (g.R.Read.remaining c.read_chunk.new.reader)
           c.loop-body.body.items c.read_chunk.new.body.items c.in_ok-size.size some i.1 c.in_ok-size.ensures.line taken,
@@ -16,5 +17,9 @@ loop-body-preserved g c = let i = c.loop-body.invariant in
 pub returns-in_err-read_chunk-clause-faults : goal.returns-in_err-read_chunk-clause-faults
 returns-in_err-read_chunk-clause-faults g c = let i = c.loop-body.invariant in
     let some : 0 < c.in_ok-size.size = let z = c.if-size-eq0.false in omega arith in
-    chunk_broken (g.R.Read.remaining c.args.reader.now) (g.R.Read.remaining c.loop-body.reader) (g.R.Read.remaining c.read_line.new.reader) c.args.most c.in_ok-size.size c.loop-body.body.items
-    c.from_residual-in_err-read_chunk.result c.in_err-read_chunk.field-0.0 c.from_residual-in_err-read_chunk.ensures.1 some i.1 i.0 c.in_ok-size.ensures.line c.in_err-read_chunk.ensures.faults
+    let fits = c.if-size-most.false in let l = c.len-in-loop-body.ensures in
+    no_body (g.R.Read.remaining c.args.reader.now) (g.R.Read.remaining c.loop-body.reader) c.args.least c.args.most c.loop-body.body.items
+    c.from_residual-in_err-read_chunk.result c.in_err-read_chunk.field-0.0 c.from_residual-in_err-read_chunk.ensures.1 i.1 i.0
+    (stops_at_chunk (c.args.least - length c.loop-body.body.items) (c.args.most - length c.loop-body.body.items) c.in_ok-size.size (g.R.Read.remaining c.loop-body.reader)
+    (g.R.Read.remaining c.read_line.new.reader)
+    c.in_err-read_chunk.field-0.0 some (omega arith) c.in_ok-size.ensures.line c.in_err-read_chunk.ensures.faults)

@@ -1,11 +1,11 @@
 use Rattle.std.proofs.Common.{arith, List, ℕ, subst}
 use Rattle.httparse.specs.Grammar.{NeverHasChunkLine}
-use Rattle.feed_http.proofs.KnownBytes.{consumes_none}
+use Rattle.std.proofs.KnownBytes.{Consumes-nil}
 use Rattle.feed_http.proofs.LineReading.{no_line_yet, never_line, full_line, pushed, no_line_pushed, length-pushed, line_taken}
 use Rattle.feed_http.proofs.fetching.chunks.read_line.Goals as goal
 
 pub loop-line-init : goal.loop-line-init
-loop-line-init g c = rw c.new-line.ensures (omega arith, consumes_none (g.R.Read.remaining c.args.reader.now), no_line_yet)
+loop-line-init g c = rw c.new-line.ensures (omega arith, Consumes-nil (g.R.Read.remaining c.args.reader.now), no_line_yet)
 
 pub returns-in-Ok-Complete-clause-line : goal.returns-in-Ok-Complete-clause-line
 returns-in-Ok-Complete-clause-line g c = let i = c.loop-line.invariant in

@@ -15,7 +15,8 @@ returns-in-Ok-Complete-clause-taken g c = let i = c.loop-headers.invariant in
 pub returns-in-Err-clause-faults : goal.returns-in-Err-clause-faults
 returns-in-Err-clause-faults g c = let i = c.loop-headers.invariant in
     never_section (g.R.Read.remaining c.args.reader.now) (g.R.Read.remaining c.read_byte.new.reader) c.push.new.self.items
-    (pushed (g.R.Read.remaining c.args.reader.now) (g.R.Read.remaining c.loop-headers.reader) (g.R.Read.remaining c.read_byte.new.reader) c.loop-headers.section.items c.push.new.self.items c.in-Some.byte
+    (pushed (g.R.Read.remaining c.args.reader.now) (g.R.Read.remaining c.loop-headers.reader)
+    (g.R.Read.remaining c.read_byte.new.reader) c.loop-headers.section.items c.push.new.self.items c.in-Some.byte
     c.push.ensures.items i.2 (rw c.in-Some.is at c.in_ok-byte.ensures.byte))
     (let P : List ℕ → Type 0 = SectionOverflows 64 in subst P c.as_slice-then-byte-eq10.ensures.value (rw i.1 at c.in-Err.ensures.no_room))
 

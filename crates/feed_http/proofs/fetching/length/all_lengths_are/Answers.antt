@@ -8,10 +8,11 @@ use Rattle.feed_http.proofs.NamedFields.{all_values}
 use Rattle.feed_http.proofs.fetching.length.all_lengths_are.Goals as goal
 
 pub returns-then-not-agrees_with_length : goal.returns-then-not-agrees_with_length
-returns-then-not-agrees_with_length c = all_values (writes c.args.size) c.args.buffer.now content_length c.args.headers.now false
-    (sym (list_all_at (agrees (writes c.args.size) c.args.buffer.now content_length) c.args.headers.now c.loop-header.header-index _ c.loop-header-test.true
+returns-then-not-agrees_with_length c = all_values (writes c.args.size) c.args.found.now.buffer.now content_length c.args.found.now.headers.now false
+    (sym (list_all_at (agrees (writes c.args.size) c.args.found.now.buffer.now content_length) c.args.found.now.headers.now c.loop-header.header-index _ c.loop-header-test.true
     (sym c.agrees_with_length.ensures ∙ c.if-not-agrees_with_length.true)))
 
 pub returns : goal.returns
-returns c = all_values (writes c.args.size) c.args.buffer.now content_length c.args.headers.now true
-    (sym (ap (list_all (agrees (writes c.args.size) c.args.buffer.now content_length)) (sym (take_all c.loop-header.header-index c.args.headers.now c.loop-header-test.false)) ∙ c.loop-header.invariant))
+returns c = all_values (writes c.args.size) c.args.found.now.buffer.now content_length c.args.found.now.headers.now true
+    (sym (ap (list_all (agrees (writes c.args.size) c.args.found.now.buffer.now content_length)) (sym (take_all c.loop-header.header-index c.args.found.now.headers.now c.loop-header-test.false))
+    ∙ c.loop-header.invariant))

@@ -5,4 +5,4 @@ use Rattle.feed_http.specs.Judgements.{writes, content_length}
 use Rattle.feed_http.proofs.fetching.length.all_lengths_are.Given as goal
 
 abbrev pub invariant-loop-header : goal.invariant-loop-header
-invariant-loop-header l = list_all (agrees (writes l.size) l.buffer content_length) (take l.header-index l.headers) ≡ true
+invariant-loop-header l = list_all (agrees (writes l.size) l.found.buffer.now content_length) (take l.header-index l.found.headers.now) ≡ true

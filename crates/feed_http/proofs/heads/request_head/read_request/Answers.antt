@@ -1,12 +1,12 @@
 use Rattle.std.proofs.Common.{◌≡◌, take, length, arith}
 use Rattle.std.proofs.lemmas.List.{length-take-le}
-use Rattle.feed_http.proofs.KnownBytes.{consumes_none}
+use Rattle.std.proofs.KnownBytes.{Consumes-nil}
 use Rattle.feed_http.proofs.BufferFilling.{put_mid_fits, read_more}
 use Rattle.feed_http.proofs.RequestReading.{nothing_yet, overflowing, full}
 use Rattle.feed_http.proofs.heads.request_head.read_request.Goals as goal
 
 pub loop-filled-init : goal.loop-filled-init
-loop-filled-init g c = (omega arith, consumes_none (g.R.Read.remaining c.args.reader.now), nothing_yet)
+loop-filled-init g c = (omega arith, Consumes-nil (g.R.Read.remaining c.args.reader.now), nothing_yet)
 
 pub returns-in-Ok-Complete-clause-taken : goal.returns-in-Ok-Complete-clause-taken
 returns-in-Ok-Complete-clause-taken g c = read_more _ _ _ c.loop-filled.filled _ c.in-Ok.count c.loop-filled.buffer c.read.new.buf
