@@ -3,5 +3,3 @@ pub mod BlockTexts
 pub mod Bytes
 pub mod Cuts
 pub mod Steps
-pub mod Digits
-pub mod DateLaw

@@ -1,25 +1,15 @@
 -- The days of a text are the least and the greatest whose written date begins with it.
 use Rattle.std.proofs.Common.{◌≡◌, ◌≢◌, ◌≤◌, ◌<◌, ◌+◌, ◌/◌, ◌%◌, ◌==◌, ℕ, List, [], ◌∷◌, ◌++◌, length, Option, Some, None, refl, sym, ap, arith, ◌∙◌, Bool, true, false, cond, inl, inr, ℤ, pos, ◌≤ℤ◌}
-use Rattle.std.specs.Prelude.{MatchOption, ◌&&◌}
+use Rattle.std.specs.Prelude.{MatchOption, option_map, ◌&&◌}
 use Rattle.std.proofs.lemmas.Bool.{cases_lt, eqb-true}
 use Rattle.std.proofs.lemmas.Bool.Decides.{nat_tests}
-use Rattle.jiff.specs.Words.{days_in_month}
-use Rattle.jiff_core.specs.Calendar.{days_from_civil, IsCivilDate}
+use Rattle.jiff_core.specs.Calendar.{days_from_civil, days_in_month, IsCivilDate}
 use Rattle.jiff_core.proofs.CalendarLemmas.{day_count-lt_month, day_count-day, days_from_civil-day_count, days_in_month_bounds}
 use Rattle.jiff_core.proofs.SignedLemmas.{signed_arith}
-use Rattle.feed_kbart.specs.Days.{range, IsDay, IsDayOf, AreDaysOf, IsDateLength, DatesAreRanges, written, two, is_day, day_number, four_digits, two_digits, days_of_year, days_of_month, days_of_day, days_of}
-use Rattle.feed_kbart.specs.declared.day.DayRange.{DayRange}
-use Rattle.feed_kbart.proofs.Digits.{two_digits-two, four_digits-two, two-two_digits, two-four_digits}
-
--- the test of a day and the day
-day-real : (y m d : ℕ) → is_day y m d ≡ true → IsDay y m d
-day-real y m d e = grind (arith, nat_tests)
-
-real-day : (y m d : ℕ) → IsDay y m d → is_day y m d ≡ true
-real-day y m d h = grind (arith, nat_tests)
-
-civil : (y m d : ℕ) → IsDay y m d → IsCivilDate (pos y) m d
-civil y m d h = ((omega (arith, signed_arith, h.year_in), omega (arith, signed_arith, h.year_in)), (h.month_in.0, h.month_in.1), (h.day_in.0, h.day_in.1))
+use Rattle.feed_dates.specs.Days.{IsDay, written, two, is_day, day_number, day_of_parts, four_digits, two_digits}
+use Rattle.feed_dates.specs.DayRanges.{range, alone, IsDayOf, AreDaysOf, IsDateLength, DatesAreRanges, days_of_year, days_of_month, days_of}
+use Rattle.feed_dates.specs.declared.day_range.DayRange.{DayRange}
+use Rattle.feed_dates.proofs.Dates.{civil, day_number-some, four_digits-written, is_day-real, real-is_day, two_digits-two, two-two_digits, two-four_digits}
 
 -- other days of the year and of the month of a real day
 new_year : (y m d : ℕ) → IsDay y m d → IsDay y 1 1
@@ -64,7 +54,7 @@ year-written y m k a b c d rest h w =
     let eb : b ≡ 48 + y / 100 % 10 = cc in
     let ec : c ≡ 48 + y / 10 % 10 = cc in
     let ed : d ≡ 48 + y % 10 = cc in
-    rw (ea, eb, ec, ed) (four_digits-two y h.year_in.1)
+    rw (ea, eb, ec, ed) (four_digits-written y h.year_in.1)
 
 month-written : (y m k a b c d g e f : ℕ) (rest : List ℕ) → IsDay y m k → written y m k ≡ a ∷ b ∷ c ∷ d ∷ g ∷ e ∷ f ∷ rest → (g ≡ 45) × (two_digits e f ≡ Some m)
 month-written y m k a b c d g e f rest h w =
@@ -91,7 +81,17 @@ range_some false q u v days e = cc
 
 both_real : (y m d m2 d2 : ℕ) → IsDay y m d → IsDay y m2 d2
     → range (day_number y m d) (day_number y m2 d2) ≡ Some (record { first = days_from_civil (pos y) m d; last = days_from_civil (pos y) m2 d2 })
-both_real y m d m2 d2 h k = rw (real-day y m d h, real-day y m2 d2 k) refl
+both_real y m d m2 d2 h k = rw (is_day-real y m d h, is_day-real y m2 d2 k) refl
+
+-- a day alone is real
+alone_some : (p : Bool) (u : ℤ) (days : DayRange) → option_map alone (cond p (Some u) None) ≡ Some days → (p ≡ true) × (days.first ≡ u) × (days.last ≡ u)
+alone_some true u days e =
+    let same : days ≡ record { first = u; last = u } = cc in
+    (refl, ap (λ r. r.first) same, ap (λ r. r.last) same)
+alone_some false u days e = cc
+
+alone_real : (y m d : ℕ) → IsDay y m d → option_map alone (day_number y m d) ≡ Some (record { first = days_from_civil (pos y) m d; last = days_from_civil (pos y) m d })
+alone_real y m d h = rw (is_day-real y m d h) refl
 
 some_same : (m n : ℕ) (o : Option ℕ) → o ≡ Some m → o ≡ Some n → m ≡ n
 some_same m n o e f = cc
@@ -107,8 +107,10 @@ begin_month y m k a b c d e f p q = begin_year y m k a b c d p ∙ ap (λ back. 
 -- `YYYY`: a day's year reads, and so does the text
 year-reads : (a b c d : ℕ) (n : ℤ) → IsDayOf (a ∷ b ∷ c ∷ d ∷ []) n → (days : DayRange) × (days_of (a ∷ b ∷ c ∷ d ∷ []) ≡ Some days)
 year-reads a b c d n h =
-    let y = year-written h.year h.month h.day a b c d h.rest h.real h.begins in
-    (record { first = days_from_civil (pos h.year) 1 1; last = days_from_civil (pos h.year) 12 31 }, rw y (both_real h.year 1 1 12 31 (new_year h.year h.month h.day h.real) (year_end h.year h.month h.day h.real)))
+    let y = year-written h.year h.month h.day a b c d h.rest h.real h.begins in (
+      record { first = days_from_civil (pos h.year) 1 1; last = days_from_civil (pos h.year) 12 31 },
+      rw y (both_real h.year 1 1 12 31 (new_year h.year h.month h.day h.real) (year_end h.year h.month h.day h.real)),
+    )
 
 year-found : (a b c d : ℕ) (days : DayRange) → days_of (a ∷ b ∷ c ∷ d ∷ []) ≡ Some days → AreDaysOf (a ∷ b ∷ c ∷ d ∷ []) days
 year-found a b c d days e = go (four_digits a b c d) refl e
@@ -120,8 +122,24 @@ year-found a b c d days e = go (four_digits a b c d) refl e
         let same = λ (n : ℤ) (h : IsDayOf (a ∷ b ∷ c ∷ d ∷ []) n). some_same h.year y (four_digits a b c d) (year-written h.year h.month h.day a b c d h.rest h.real h.begins) f in
         record {
           shape = inl refl;
-          is_first = record { year = y; month = 1; day = 1; real = day-real y 1 1 r.0; rest = (45 ∷ two 1) ++ (45 ∷ two 1); begins = begin_year y 1 1 a b c d (two-four_digits a b c d y f); number = r.2 };
-          is_last = record { year = y; month = 12; day = 31; real = day-real y 12 31 r.1; rest = (45 ∷ two 12) ++ (45 ∷ two 31); begins = begin_year y 12 31 a b c d (two-four_digits a b c d y f); number = r.3 };
+          is_first = record {
+            year = y;
+            month = 1;
+            day = 1;
+            real = real-is_day y 1 1 r.0;
+            rest = (45 ∷ two 1) ++ (45 ∷ two 1);
+            begins = begin_year y 1 1 a b c d (two-four_digits a b c d y f);
+            number = r.2;
+          };
+          is_last = record {
+            year = y;
+            month = 12;
+            day = 31;
+            real = real-is_day y 12 31 r.1;
+            rest = (45 ∷ two 12) ++ (45 ∷ two 31);
+            begins = begin_year y 12 31 a b c d (two-four_digits a b c d y f);
+            number = r.3;
+          };
           least = λ n h. rw (r.2, h.number, sym (same n h)) (year_first h.year h.month h.day h.real);
           greatest = λ n h. rw (r.3, h.number, sym (same n h)) (year_last h.year h.month h.day h.real);
         }
@@ -130,8 +148,11 @@ year-found a b c d days e = go (four_digits a b c d) refl e
 month-reads : (a b c d g e f : ℕ) (n : ℤ) → IsDayOf (a ∷ b ∷ c ∷ d ∷ g ∷ e ∷ f ∷ []) n → (days : DayRange) × (days_of (a ∷ b ∷ c ∷ d ∷ g ∷ e ∷ f ∷ []) ≡ Some days)
 month-reads a b c d g e f n h =
     let y = year-written h.year h.month h.day a b c d (g ∷ e ∷ f ∷ h.rest) h.real h.begins in
-    let m = month-written h.year h.month h.day a b c d g e f h.rest h.real h.begins in
-    (record { first = days_from_civil (pos h.year) h.month 1; last = days_from_civil (pos h.year) h.month (days_in_month (pos h.year) h.month) }, rw (m.0, y, m.1) (both_real h.year h.month 1 h.month (days_in_month (pos h.year) h.month) (month_begin h.year h.month h.day h.real) (month_end h.year h.month h.day h.real)))
+    let m = month-written h.year h.month h.day a b c d g e f h.rest h.real h.begins in (
+      record { first = days_from_civil (pos h.year) h.month 1; last = days_from_civil (pos h.year) h.month (days_in_month (pos h.year) h.month) },
+      rw (m.0, y, m.1) (both_real h.year h.month 1 h.month (days_in_month (pos h.year) h.month)
+          (month_begin h.year h.month h.day h.real) (month_end h.year h.month h.day h.real)),
+    )
 
 month-found : (a b c d e f : ℕ) (days : DayRange) → days_of (a ∷ b ∷ c ∷ d ∷ 45 ∷ e ∷ f ∷ []) ≡ Some days → AreDaysOf (a ∷ b ∷ c ∷ d ∷ 45 ∷ e ∷ f ∷ []) days
 month-found a b c d e f days is = go (four_digits a b c d) (two_digits e f) refl refl is
@@ -148,8 +169,24 @@ month-found a b c d e f days is = go (four_digits a b c d) (two_digits e f) refl
         some_same h.month m (two_digits e f) (month-written h.year h.month h.day a b c d 45 e f h.rest h.real h.begins).1 t in
         record {
           shape = inr (inl refl);
-          is_first = record { year = y; month = m; day = 1; real = day-real y m 1 r.0; rest = 45 ∷ two 1; begins = begin_month y m 1 a b c d e f (two-four_digits a b c d y s) (two-two_digits e f m t); number = r.2 };
-          is_last = record { year = y; month = m; day = long; real = day-real y m long r.1; rest = 45 ∷ two long; begins = begin_month y m long a b c d e f (two-four_digits a b c d y s) (two-two_digits e f m t); number = r.3 };
+          is_first = record {
+            year = y;
+            month = m;
+            day = 1;
+            real = real-is_day y m 1 r.0;
+            rest = 45 ∷ two 1;
+            begins = begin_month y m 1 a b c d e f (two-four_digits a b c d y s) (two-two_digits e f m t);
+            number = r.2;
+          };
+          is_last = record {
+            year = y;
+            month = m;
+            day = long;
+            real = real-is_day y m long r.1;
+            rest = 45 ∷ two long;
+            begins = begin_month y m long a b c d e f (two-four_digits a b c d y s) (two-two_digits e f m t);
+            number = r.3;
+          };
           least = λ n h. rw (r.2, h.number, sym (same_year n h), sym (same_month n h)) (within (pos h.year) h.month 1 h.day (omega arith) h.real.day_in.0);
           greatest = λ n h. rw (r.3, h.number, sym (same_year n h), sym (same_month n h)) (within (pos h.year) h.month h.day (days_in_month (pos h.year) h.month) h.real.day_in.0 h.real.day_in.1);
         }
@@ -165,20 +202,20 @@ day-reads a b c d g e f u i j n h =
     let m = month-written h.year h.month h.day a b c d g e f (u ∷ i ∷ j ∷ h.rest) h.real h.begins in
     let k = day-written h.year h.month h.day a b c d g e f u i j h.rest h.real h.begins in (
       record { first = days_from_civil (pos h.year) h.month h.day; last = days_from_civil (pos h.year) h.month h.day },
-      rw (m.0, k.0, y, m.1, k.1) (both_real h.year h.month h.day h.month h.day h.real h.real),
+      rw (m.0, k.0, y, m.1, k.1) (alone_real h.year h.month h.day h.real),
     )
 
 day-found : (a b c d e f i j : ℕ) (days : DayRange) → days_of (a ∷ b ∷ c ∷ d ∷ 45 ∷ e ∷ f ∷ 45 ∷ i ∷ j ∷ []) ≡ Some days
     → AreDaysOf (a ∷ b ∷ c ∷ d ∷ 45 ∷ e ∷ f ∷ 45 ∷ i ∷ j ∷ []) days
 day-found a b c d e f i j days is = go (four_digits a b c d) (two_digits e f) (two_digits i j) refl refl refl is
   where
-    go : (o p q : Option ℕ) → four_digits a b c d ≡ o → two_digits e f ≡ p → two_digits i j ≡ q → days_of_day o p q ≡ Some days
+    go : (o p q : Option ℕ) → four_digits a b c d ≡ o → two_digits e f ≡ p → two_digits i j ≡ q → option_map alone (day_of_parts o p q) ≡ Some days
         → AreDaysOf (a ∷ b ∷ c ∷ d ∷ 45 ∷ e ∷ f ∷ 45 ∷ i ∷ j ∷ []) days
     go None p q r s t is = cc
     go (Some y) None q r s t is = cc
     go (Some y) (Some m) None r s t is = cc
     go (Some y) (Some m) (Some k) r s t is =
-        let both = range_some (is_day y m k) (is_day y m k) (days_from_civil (pos y) m k) (days_from_civil (pos y) m k) days is in
+        let both = alone_some (is_day y m k) (days_from_civil (pos y) m k) days is in
         let begins = begin_month y m k a b c d e f (two-four_digits a b c d y r) (two-two_digits e f m s) ∙ ap (λ back. (a ∷ b ∷ c ∷ d ∷ 45 ∷ e ∷ f ∷ []) ++ (45 ∷ back)) (two-two_digits i j k t) in
         let one = λ (n : ℤ) (h : IsDayOf (a ∷ b ∷ c ∷ d ∷ 45 ∷ e ∷ f ∷ 45 ∷ i ∷ j ∷ []) n).
         only_day h.year h.month h.day y m k
@@ -187,10 +224,10 @@ day-found a b c d e f i j days is = go (four_digits a b c d) (two_digits e f) (t
         (some_same h.day k (two_digits i j) (day-written h.year h.month h.day a b c d 45 e f 45 i j h.rest h.real h.begins).1 t) in
         record {
           shape = inr (inr refl);
-          is_first = record { year = y; month = m; day = k; real = day-real y m k both.0; rest = []; begins = begins; number = both.2 };
-          is_last = record { year = y; month = m; day = k; real = day-real y m k both.1; rest = []; begins = begins; number = both.3 };
-          least = λ n h. rw (both.2, h.number, one n h) (omega (arith, signed_arith));
-          greatest = λ n h. rw (both.3, h.number, one n h) (omega (arith, signed_arith));
+          is_first = record { year = y; month = m; day = k; real = real-is_day y m k both.0; rest = []; begins = begins; number = both.1 };
+          is_last = record { year = y; month = m; day = k; real = real-is_day y m k both.0; rest = []; begins = begins; number = both.2 };
+          least = λ n h. rw (both.1, h.number, one n h) (omega (arith, signed_arith));
+          greatest = λ n h. rw (both.2, h.number, one n h) (omega (arith, signed_arith));
         }
 
 -- the law, from what a day's text reads as and what is found
@@ -218,7 +255,7 @@ day-hyphened : (a b c d g e f u i j : ℕ) (days : DayRange) → days_of (a ∷ 
     → AreDaysOf (a ∷ b ∷ c ∷ d ∷ g ∷ e ∷ f ∷ u ∷ i ∷ j ∷ []) days
 day-hyphened a b c d g e f u i j days is = go (g == 45) (u == 45) refl refl is
   where
-    go : (p q : Bool) → (g == 45) ≡ p → (u == 45) ≡ q → cond (p && q) (days_of_day (four_digits a b c d) (two_digits e f) (two_digits i j)) None ≡ Some days
+    go : (p q : Bool) → (g == 45) ≡ p → (u == 45) ≡ q → option_map alone (cond (p && q) (day_of_parts (four_digits a b c d) (two_digits e f) (two_digits i j)) None) ≡ Some days
         → AreDaysOf (a ∷ b ∷ c ∷ d ∷ g ∷ e ∷ f ∷ u ∷ i ∷ j ∷ []) days
     go false q test more is = cc
     go true false test more is = cc

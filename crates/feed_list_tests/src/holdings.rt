@@ -1,16 +1,10 @@
-use crate::*;
-use std::alloc::{AllocError, Global};
+use crate::files::{ACTA, BETA, HEADER, joined};
+use feed_kbart::{Aside, BadFile, Holdings, Issn, KbartFault, Label, Reason, read_file};
+use std::alloc::Global;
 use std::io;
 use std::io::Read;
 use std::process::Abort;
 use std::test::Fail;
-
-const HEADER: &[u8] =
-    b"publication_title\tprint_identifier\tonline_identifier\tdate_first_issue_online\tnum_first_vol_online\tdate_last_issue_online\tnum_last_vol_online\ttitle_url\n";
-
-const ACTA: &[u8] = b"Acta\t2434-561X\t\t1995\t1\t2001-06-30\t7\thttp://a.example/\n";
-
-const BETA: &[u8] = b"Beta\t\t0317-8471\t\t\t\t\thttp://b.example/\n";
 
 // Gives at most so many bytes at a call, and fails in place of the end where it is told to.
 #[derive(Drop)]
@@ -34,14 +28,6 @@ impl Read for Slow {
         self.at = self.at.saturating_add(count);
         Ok(count)
     }
-}
-
-fn joined(alloc: Global, parts: &[&[u8]]) -> Result<Vec<u8>, AllocError> {
-    let mut bytes = Vec::new(alloc);
-    for part in parts {
-        bytes.extend_from_slice(part)?;
-    }
-    Ok(bytes)
 }
 
 fn read_by(
@@ -129,8 +115,9 @@ fn reads_every_text_of_a_row(rt: HostRuntime) -> Result<(), Fail> {
 
 #[test]
 fn reads_columns_in_any_order(rt: HostRuntime) -> Result<(), Fail> {
-    let header =
-        b"\r\nNOTES\tPUBLICATION_TITLE\tPRINT_IDENTIFIER\tONLINE_IDENTIFIER\tDATE_FIRST_ISSUE_ONLINE\tNUM_FIRST_VOL_ONLINE\tDATE_LAST_ISSUE_ONLINE\tNUM_LAST_VOL_ONLINE\tTITLE_URL\tembargo_info\taccess_type\tcoverage_depth\ttitle_id\r\n";
+    let header = b"\r\nNOTES\tPUBLICATION_TITLE\tPRINT_IDENTIFIER\tONLINE_IDENTIFIER\t\
+        DATE_FIRST_ISSUE_ONLINE\tNUM_FIRST_VOL_ONLINE\tDATE_LAST_ISSUE_ONLINE\tNUM_LAST_VOL_ONLINE\tTITLE_URL\t\
+        embargo_info\taccess_type\tcoverage_depth\ttitle_id\r\n";
     let acta =
         b"\r\nn\tActa\t2434-561X\t\t1995\t1\t2001-06-30\t7\thttp://a.example/\tP1Y\tP\tfulltext\tA1\r\n";
     for step in STEPS {
@@ -167,8 +154,8 @@ fn drops_a_reversed_pair_of_volumes(rt: HostRuntime) -> Result<(), Fail> {
 
 #[test]
 fn reads_a_quote_as_it_stands(rt: HostRuntime) -> Result<(), Fail> {
-    let header =
-        b"publication_title\tprint_identifier\tonline_identifier\tdate_first_issue_online\tnum_first_vol_online\tdate_last_issue_online\tnum_last_vol_online\ttitle_url\r";
+    let header = b"publication_title\tprint_identifier\tonline_identifier\t\
+        date_first_issue_online\tnum_first_vol_online\tdate_last_issue_online\tnum_last_vol_online\ttitle_url\r";
     for step in STEPS {
         let holdings = read_by(rt.alloc(), &[header, b"\"Acta\t2434-561X\r"], step, false)?;
         assert_eq!(rt; holdings.rows().len(), 1);
@@ -248,7 +235,7 @@ fn reads_long_files(rt: HostRuntime) -> Result<(), Fail> {
     let lines = vec![in rt.alloc(); b'\n'; 1_000_000]?;
     let result = read_file(rt.alloc(), lines.as_slice());
     assert_eq!(rt; result.err(), Some(KbartFault::Bad(BadFile::NoHeader)));
-    let long = vec![in rt.alloc(); b'x'; FILE_LIMIT + 1]?;
+    let long = vec![in rt.alloc(); b'x'; 67_108_865]?;
     let result = read_file(rt.alloc(), long.as_slice());
     assert_eq!(rt; result.err(), Some(KbartFault::TooLong));
     let result = read_file(rt.alloc(), &long[1..]);
@@ -273,116 +260,5 @@ fn reads_characters_across_blocks(rt: HostRuntime) -> Result<(), Fail> {
     let half = [HEADER, ACTA, title.as_slice(), b"\xC3\t2434-561X\n", BETA];
     let result = read_by(rt.alloc(), &half, usize::MAX, false);
     assert_eq!(rt; result.err(), Some(KbartFault::Bad(BadFile::NotUtf8)));
-    Ok(())
-}
-
-#[test]
-fn reads_dates(rt: HostRuntime) -> Result<(), Fail> {
-    let february = Some(DayRange {
-        first: 19754,
-        last: 19782,
-    });
-    let leap_day = Some(DayRange {
-        first: 19782,
-        last: 19782,
-    });
-    assert_eq!(rt; DayRange::of_text(b"2024-02"), february);
-    assert_eq!(rt; DayRange::of_text(b"2024-02-29"), leap_day);
-    assert_eq!(rt; DayRange::of_text(b"202402"), None);
-    assert_eq!(rt; DayRange::of_text(b"2023-02-29"), None);
-    assert_eq!(rt; DayRange::of_text(b"0000"), None);
-    assert_eq!(rt; DayRange::of_text(b" 2024"), None);
-    assert_eq!(rt; DayRange::of_query(b"202402"), february);
-    assert_eq!(rt; DayRange::of_query(b"20240229"), leap_day);
-    assert_eq!(rt; DayRange::of_query(b"2024-02"), february);
-    Ok(())
-}
-
-#[test]
-fn reads_issns_and_volumes(rt: HostRuntime) -> Result<(), Fail> {
-    for text in [b" 2434-561X ".as_slice(), b"2434-561x", b"2434561x"] {
-        let issn = Issn::parse(text);
-        assert_eq!(rt;
-            issn.map(|issn| issn.text()),
-            Some(*b"2434-561X"),
-            "of {text:?}"
-        );
-    }
-    assert!(rt; Issn::parse(b"0000-0000").is_some());
-    assert!(rt; Issn::parse(b"0317-8471") < Issn::parse(b"1050-124X"));
-    let numbers = [
-        (b"2434-561x", Some(2_434_561)),
-        (b"0317-8471", Some(317_847)),
-        (b"9999-9994", Some(9_999_999)),
-    ];
-    for (text, number) in numbers {
-        let read = Issn::parse(text).map(|issn| issn.number());
-        assert_eq!(rt; read, number, "of {text:?}");
-    }
-    for text in [
-        b"2434-5611".as_slice(),
-        b"2434-561",
-        b"243-4561X",
-        b"X434-561X",
-        b"\t2434-561X",
-    ] {
-        assert_eq!(rt; Issn::parse(text), None, "of {text:?}");
-    }
-    assert_eq!(rt; trim_spaces(b"  a b \t "), b"a b \t".as_slice());
-    assert_eq!(rt; read_volume(b"007"), Some(7));
-    assert_eq!(rt; read_volume(b"999999999"), Some(999_999_999));
-    assert_eq!(rt; read_volume(b"1000000000"), None);
-    assert_eq!(rt; read_volume(b"XIV"), None);
-    Ok(())
-}
-
-#[test]
-fn names_labels(rt: HostRuntime) -> Result<(), Fail> {
-    for place in 1..14u8 {
-        assert_eq!(rt;
-            Label::of_place(place).map(|label| label.place()),
-            Some(place)
-        );
-    }
-    assert_eq!(rt; Label::of_place(0), None);
-    assert_eq!(rt; Label::of_place(14), None);
-    assert_eq!(rt; Label::TitleUrl.place(), 8);
-    assert_eq!(rt; Label::EmbargoInfo.text(), b"embargo_info".as_slice());
-    Ok(())
-}
-
-#[test]
-fn prints_names(rt: HostRuntime) -> Result<(), Fail> {
-    let missing = BadFile::MissingLabel(Label::TitleUrl);
-    let twice = BadFile::LabelTwice(Label::AccessType);
-    let faults = format!(in rt.alloc();
-        "{missing}, {twice}, {}, {}, {}",
-        BadFile::NotUtf8,
-        BadFile::TwoMarks,
-        BadFile::NoHeader
-    )?;
-    assert_eq!(rt;
-        faults.as_str(),
-        "MissingLabel title_url, LabelTwice access_type, NotUtf8, TwoMarks, NoHeader"
-    );
-    let bad = KbartFault::Bad(missing);
-    let faults = format!(in rt.alloc();
-        "{bad}, {}, {}, {}",
-        KbartFault::Memory,
-        KbartFault::Read,
-        KbartFault::TooLong
-    )?;
-    assert_eq!(rt;
-        faults.as_str(),
-        "MissingLabel title_url, Memory, Read, TooLong"
-    );
-    let reasons = format!(in rt.alloc();
-        "{}, {}, {}, {}",
-        Reason::NotSerial,
-        Reason::NoIssn,
-        Reason::BadDate,
-        Reason::Reversed
-    )?;
-    assert_eq!(rt; reasons.as_str(), "NotSerial, NoIssn, BadDate, Reversed");
     Ok(())
 }

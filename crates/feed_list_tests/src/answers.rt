@@ -1,4 +1,5 @@
-use crate::*;
+use crate::files::{ACTA, BETA, HEADER, joined};
+use feed_answer::{Answer, Grade, HoldingsIndex, Query, WriteFault, answer};
 use feed_kbart::{Holdings, KbartFault, read_file};
 use feed_names::ReleaseName;
 use std::alloc::{AllocError, Global};
@@ -9,28 +10,14 @@ use std::test::Fail;
 
 const NAME: &[u8] = b"Acme_Global_All_2024-01-01.txt";
 
-const H: &str =
-    "publication_title\tprint_identifier\tonline_identifier\tdate_first_issue_online\tnum_first_vol_online\tdate_last_issue_online\tnum_last_vol_online\ttitle_url\n";
+// All labels that an answer hands on.
+const LONG_HEADER: &[u8] = b"publication_title\tprint_identifier\tonline_identifier\t\
+    date_first_issue_online\tnum_first_vol_online\tdate_last_issue_online\tnum_last_vol_online\ttitle_url\t\
+    title_id\tembargo_info\tcoverage_depth\tpublication_type\taccess_type\n";
 
-// The same and all other labels that an answer hands on.
-const H_LONG: &str =
-    "publication_title\tprint_identifier\tonline_identifier\tdate_first_issue_online\tnum_first_vol_online\tdate_last_issue_online\tnum_last_vol_online\ttitle_url\ttitle_id\tembargo_info\tcoverage_depth\tpublication_type\taccess_type\n";
+const GAMMA: &[u8] = b"Gamma\t1050-124X\t\t1990\n";
 
-const A: &str = "Acta\t2434-561X\t\t1995\t1\t2001-06-30\t7\thttp://a.example/\n";
-
-const B: &str = "Beta\t\t0317-8471\t\t\t\t\thttp://b.example/\n";
-
-const C: &str = "Gamma\t1050-124X\t\t1990\n";
-
-fn joined(alloc: Global, parts: &[&str]) -> Result<Vec<u8>, AllocError> {
-    let mut text = Vec::new(alloc);
-    for part in parts {
-        text.extend_from_slice(part.as_bytes())?;
-    }
-    Ok(text)
-}
-
-fn holdings_of(alloc: Global, parts: &[&str]) -> Result<Holdings, KbartFault> {
+fn holdings_of(alloc: Global, parts: &[&[u8]]) -> Result<Holdings, KbartFault> {
     read_file(alloc, joined(alloc, parts)?.as_slice())
 }
 
@@ -38,9 +25,9 @@ fn holdings_of(alloc: Global, parts: &[&str]) -> Result<Holdings, KbartFault> {
 fn expect_text(
     rt: &impl Abort,
     alloc: Global,
-    file: &[&str],
+    file: &[&[u8]],
     query: &str,
-    text: &[&str],
+    text: &[&[u8]],
 ) -> Result<(), Fail> {
     let holdings = holdings_of(alloc, file)?;
     let query = Query::read(alloc, query.as_bytes())?;
@@ -55,7 +42,7 @@ fn expect_text(
 fn expect_records(
     rt: &impl Abort,
     alloc: Global,
-    file: &[&str],
+    file: &[&[u8]],
     query: &str,
     numbers: &[u32],
 ) -> Result<(), Fail> {
@@ -81,91 +68,15 @@ fn numbers_of(alloc: Global, found: &Answer<'_>) -> Result<Vec<u32>, AllocError>
 fn expect_grade(
     rt: &impl Abort,
     alloc: Global,
-    record: &str,
+    record: &[u8],
     query: &str,
     grade: Option<Grade>,
 ) -> Result<(), Fail> {
-    let holdings = holdings_of(alloc, &[H, record])?;
+    let holdings = holdings_of(alloc, &[HEADER, record])?;
     let query = Query::read(alloc, query.as_bytes())?;
     let found = answer(alloc, &holdings, &query)?;
     let found = found.hits().first().map(|hit| hit.grade);
-    assert_eq!(rt; found, grade, "{record}");
-    Ok(())
-}
-
-#[test]
-fn faults_stand_in_their_order(rt: HostRuntime) -> Result<(), Fail> {
-    let rows = [
-        ("", QueryFault::NoIssn),
-        ("rft.issn=2434-5611", QueryFault::NoIssn),
-        ("rft.issn", QueryFault::NoIssn),
-        ("Rft.issn=2434561x", QueryFault::NoIssn),
-        ("rft.issn=2434561x%FF", QueryFault::NoIssn),
-        ("rft.issn%FF=2434561x", QueryFault::NoIssn),
-        ("rft_id=urn:ISSN2434561x", QueryFault::NoIssn),
-        ("rft_id=+urn:ISSN:2434561x", QueryFault::NoIssn),
-        ("ctx_ver=Z39.88-2003&rft.issn=2434561x", QueryFault::Version),
-        ("url_ver=%FF&rft.issn=2434561x", QueryFault::Version),
-        ("url_ver=Z39.88-2004&url_ver=1", QueryFault::Version),
-        (
-            "rft_val_fmt=info:ofi/fmt:kev:mtx:book&ctx_ver=1",
-            QueryFault::Version,
-        ),
-        (
-            "rft_val_fmt=info:ofi/fmt:kev:mtx:book&rft.issn=2434561x",
-            QueryFault::NotJournal,
-        ),
-        ("rft_val_fmt=%FF", QueryFault::NotJournal),
-    ];
-    for (text, fault) in rows {
-        let read = Query::read(rt.alloc(), text.as_bytes());
-        assert_eq!(rt; read.err(), Some(fault), "{text}");
-    }
-    Ok(())
-}
-
-#[test]
-fn a_query_has_at_most_4096_bytes(rt: HostRuntime) -> Result<(), Fail> {
-    for (length, refused) in [(4096, None), (4097, Some(QueryFault::TooLong))] {
-        let mut text = joined(rt.alloc(), &["rft.issn=2434561x&rft.au="])?;
-        text.resize(length, b'a')?;
-        let read = Query::read(rt.alloc(), &text);
-        assert_eq!(rt; read.err(), refused, "{length}");
-    }
-    Ok(())
-}
-
-#[test]
-fn issns_ascend_each_once(rt: HostRuntime) -> Result<(), Fail> {
-    let rows = [
-        "rft.issn=2434561x&rft.eissn=0317-8471&rft.issn=2434-561X",
-        "url_ver=&rft_val_fmt=info%3Aofi%2Ffmt%3Akev%3Amtx%3Ajournal&rft_id=URN:issn:2434-561X&rft_id=urn:ISSN:03178471",
-        "&&rft%2Eissn=+2434%2D561x+&rft.issn=2434-5611&x&%zz=%&rft_id=urn%3aISSN%3a+0317-8471",
-    ];
-    for text in rows {
-        let query = Query::read(rt.alloc(), text.as_bytes())?;
-        assert_eq!(rt; query.issns().len(), 2, "{text}");
-        assert_eq!(rt; query.issns()[0].text(), *b"0317-8471", "{text}");
-        assert_eq!(rt; query.issns()[1].text(), *b"2434-561X", "{text}");
-    }
-    Ok(())
-}
-
-#[test]
-fn the_first_date_and_volume_that_read_count(rt: HostRuntime) -> Result<(), Fail> {
-    let rows = [
-        ("rft.date=x&rft.date=1996&rft.date=1997", Some(9496), None),
-        ("rft.date=1996-02-30&rft.date=+19960101+", Some(9496), None),
-        ("rft.volume=XIV&rft.volume=+07&rft.volume=8", None, Some(7)),
-        ("rft.volume=1000000000&date=1996&volume=7", None, None),
-        ("rft.date=%FF1996&rft.volume=%FF7", None, None),
-    ];
-    for (text, day, volume) in rows {
-        let text = joined(rt.alloc(), &["rft.issn=2434561x&", text])?;
-        let query = Query::read(rt.alloc(), &text)?;
-        assert_eq!(rt; query.days().map(|days| days.first), day);
-        assert_eq!(rt; query.volume(), volume);
-    }
+    assert_eq!(rt; found, grade, "{record:?}");
     Ok(())
 }
 
@@ -189,7 +100,7 @@ fn rows_are_graded_by_date(rt: HostRuntime) -> Result<(), Fail> {
     for (first, last, date, grade) in rows {
         let record = format!(in rt.alloc(); "Acta\t2434-561X\t\t{first}\t\t{last}\n")?;
         let query = format!(in rt.alloc(); "rft.issn=2434561x&rft.date={date}")?;
-        expect_grade(&rt, rt.alloc(), record.as_str(), query.as_str(), grade)?;
+        expect_grade(&rt, rt.alloc(), record.as_bytes(), query.as_str(), grade)?;
     }
     Ok(())
 }
@@ -210,7 +121,7 @@ fn rows_are_graded_by_volume(rt: HostRuntime) -> Result<(), Fail> {
     for (first, last, volume, grade) in rows {
         let record = format!(in rt.alloc(); "Acta\t\t2434-561X\t\t{first}\t\t{last}\n")?;
         let query = format!(in rt.alloc(); "rft.issn=2434561x&rft.volume={volume}")?;
-        expect_grade(&rt, rt.alloc(), record.as_str(), query.as_str(), grade)?;
+        expect_grade(&rt, rt.alloc(), record.as_bytes(), query.as_str(), grade)?;
     }
     Ok(())
 }
@@ -225,69 +136,75 @@ fn rows_are_graded_by_both(rt: HostRuntime) -> Result<(), Fail> {
     ];
     for (query, grade) in rows {
         let query = format!(in rt.alloc(); "rft.issn=2434561x&{query}")?;
-        expect_grade(&rt, rt.alloc(), A, query.as_str(), grade)?;
+        expect_grade(&rt, rt.alloc(), ACTA, query.as_str(), grade)?;
     }
     Ok(())
 }
 
 #[test]
 fn answers_are_written(rt: HostRuntime) -> Result<(), Fail> {
-    let none = ["release Acme_Global_All_2024-01-01.txt hits 0\n"];
-    let acta = [
-        "release Acme_Global_All_2024-01-01.txt hits 1\n",
-        "2\tinside\tActa\thttp://a.example/\t\t\t\t\n",
+    let none: [&[u8]; 1] = [b"release Acme_Global_All_2024-01-01.txt hits 0\n"];
+    let acta: [&[u8]; 2] = [
+        b"release Acme_Global_All_2024-01-01.txt hits 1\n",
+        b"2\tinside\tActa\thttp://a.example/\t\t\t\t\n",
     ];
-    let gamma = [
-        "release Acme_Global_All_2024-01-01.txt hits 1\n",
-        "2\tuntested\tGamma\t\t\t\t\t\n",
+    let gamma: [&[u8]; 2] = [
+        b"release Acme_Global_All_2024-01-01.txt hits 1\n",
+        b"2\tuntested\tGamma\t\t\t\t\t\n",
     ];
-    let both = [
-        "release Acme_Global_All_2024-01-01.txt hits 2\n",
-        "2\toverlap\tActa\thttp://a.example/\t\t\t\t\n",
-        "4\tuntested\tBeta\thttp://b.example/\t\t\t\t\n",
+    let both: [&[u8]; 3] = [
+        b"release Acme_Global_All_2024-01-01.txt hits 2\n",
+        b"2\toverlap\tActa\thttp://a.example/\t\t\t\t\n",
+        b"4\tuntested\tBeta\thttp://b.example/\t\t\t\t\n",
     ];
-    let long = [
-        "release Acme_Global_All_2024-01-01.txt hits 1\n",
-        "2\tuntested\t Acta \tu\ti\td\te\ta\n",
+    let long: [&[u8]; 2] = [
+        b"release Acme_Global_All_2024-01-01.txt hits 1\n",
+        b"2\tuntested\t Acta \tu\ti\td\te\ta\n",
     ];
-    let record = " Acta \t2434-561X\t\t\t\t\t\tu\ti\te\td\tserial\ta\n";
+    let record = b" Acta \t2434-561X\t\t\t\t\t\tu\ti\te\td\tserial\ta\n";
     let alloc = rt.alloc();
     expect_text(
         &rt,
         alloc,
-        &[H, A],
+        &[HEADER, ACTA],
         "rft.issn=2434561x&rft.date=1994",
         &none,
     )?;
     expect_text(
         &rt,
         alloc,
-        &[H, A],
+        &[HEADER, ACTA],
         "rft.issn=2434561x&rft.date=x&rft.date=1996",
         &acta,
     )?;
     expect_text(
         &rt,
         alloc,
-        &[H, C],
+        &[HEADER, GAMMA],
         "rft.issn=1050-124X&rft.volume=12",
         &gamma,
     )?;
     expect_text(
         &rt,
         alloc,
-        &[H, A, C, B],
+        &[HEADER, ACTA, GAMMA, BETA],
         "rft.issn=2434561x&rft.eissn=03178471&rft.date=2001",
         &both,
     )?;
-    expect_text(&rt, alloc, &[H_LONG, record], "rft.issn=2434561x", &long)
+    expect_text(
+        &rt,
+        alloc,
+        &[LONG_HEADER, record],
+        "rft.issn=2434561x",
+        &long,
+    )
 }
 
 #[test]
 fn an_index_gives_the_rows_in_file_order(rt: HostRuntime) -> Result<(), Fail> {
-    let both = "Delta\t1050-124X\t0317-8471\t1990\n";
-    let equal = "Epsilon\t2434-561X\t2434-561X\t1996\n";
-    let file = [H, A, C, B, both, equal];
+    let both = b"Delta\t1050-124X\t0317-8471\t1990\n";
+    let equal = b"Epsilon\t2434-561X\t2434-561X\t1996\n";
+    let file: [&[u8]; 6] = [HEADER, ACTA, GAMMA, BETA, both, equal];
     let rows = [
         ("rft.issn=2434561x", [2, 6].as_slice()),
         ("rft.issn=03178471", &[4, 5]),
@@ -303,38 +220,14 @@ fn an_index_gives_the_rows_in_file_order(rt: HostRuntime) -> Result<(), Fail> {
     for (query, numbers) in rows {
         expect_records(&rt, rt.alloc(), &file, query, numbers)?;
     }
-    expect_records(&rt, rt.alloc(), &[H], "rft.issn=2434561x", &[])
+    expect_records(&rt, rt.alloc(), &[HEADER], "rft.issn=2434561x", &[])
 }
 
 #[test]
 fn an_index_has_its_holdings(rt: HostRuntime) -> Result<(), Fail> {
-    let index = HoldingsIndex::of(rt.alloc(), holdings_of(rt.alloc(), &[H, A, B])?)?;
+    let index = HoldingsIndex::of(rt.alloc(), holdings_of(rt.alloc(), &[HEADER, ACTA, BETA])?)?;
     assert_eq!(rt; index.holdings().rows().len(), 2);
     assert_eq!(rt; index.holdings().rows()[1].title(), b"Beta".as_slice());
-    Ok(())
-}
-
-#[test]
-fn faults_and_grades_print_their_names(rt: HostRuntime) -> Result<(), Fail> {
-    let faults = [
-        (QueryFault::TooLong, "TooLong"),
-        (QueryFault::Version, "Version"),
-        (QueryFault::NotJournal, "NotJournal"),
-        (QueryFault::NoIssn, "NoIssn"),
-        (QueryFault::Memory, "Memory"),
-    ];
-    for (fault, name) in faults {
-        assert_eq!(rt; fault.to_string(rt.alloc())?.as_str(), name);
-    }
-    let grades = [
-        (Grade::Untested, "untested"),
-        (Grade::Overlap, "overlap"),
-        (Grade::Inside, "inside"),
-    ];
-    for (grade, name) in grades {
-        assert_eq!(rt; grade.to_string(rt.alloc())?.as_str(), name);
-    }
-    assert_eq!(rt; WriteFault::Write.to_string(rt.alloc())?.as_str(), "Write");
     Ok(())
 }
 
@@ -361,7 +254,7 @@ impl Write for Full {
 
 #[test]
 fn a_writer_that_fails_is_told(rt: HostRuntime) -> Result<(), Fail> {
-    let holdings = holdings_of(rt.alloc(), &[H, A])?;
+    let holdings = holdings_of(rt.alloc(), &[HEADER, ACTA])?;
     let query = Query::read(rt.alloc(), b"rft.issn=2434561x")?;
     let name = ReleaseName::parse(rt.alloc(), NAME)?;
     let found = answer(rt.alloc(), &holdings, &query)?;
