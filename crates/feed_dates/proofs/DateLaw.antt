@@ -2,14 +2,13 @@
 use Rattle.std.proofs.Common.{◌≡◌, ◌≢◌, ◌≤◌, ◌<◌, ◌+◌, ◌/◌, ◌%◌, ◌==◌, ℕ, List, [], ◌∷◌, ◌++◌, length, Option, Some, None, refl, sym, ap, arith, ◌∙◌, Bool, true, false, cond, inl, inr, ℤ, pos, ◌≤ℤ◌}
 use Rattle.std.specs.Prelude.{MatchOption, option_map, ◌&&◌}
 use Rattle.std.proofs.lemmas.Bool.{cases_lt, eqb-true}
-use Rattle.std.proofs.lemmas.Bool.Decides.{nat_tests}
 use Rattle.jiff_core.specs.Calendar.{days_from_civil, days_in_month, IsCivilDate}
 use Rattle.jiff_core.proofs.CalendarLemmas.{day_count-lt_month, day_count-day, days_from_civil-day_count, days_in_month_bounds}
 use Rattle.jiff_core.proofs.SignedLemmas.{signed_arith}
 use Rattle.feed_dates.specs.Days.{IsDay, written, two, is_day, day_number, day_of_parts, four_digits, two_digits}
 use Rattle.feed_dates.specs.DayRanges.{range, alone, IsDayOf, AreDaysOf, IsDateLength, DatesAreRanges, days_of_year, days_of_month, days_of}
 use Rattle.feed_dates.specs.declared.day_range.DayRange.{DayRange}
-use Rattle.feed_dates.proofs.Dates.{civil, day_number-some, four_digits-written, is_day-real, real-is_day, two_digits-two, two-two_digits, two-four_digits}
+use Rattle.feed_dates.proofs.Dates.{civil, four_digits-written, is_day-real, real-is_day, two_digits-two, two-two_digits, two-four_digits}
 
 -- other days of the year and of the month of a real day
 new_year : (y m d : ℕ) → IsDay y m d → IsDay y 1 1

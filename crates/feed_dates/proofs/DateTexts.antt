@@ -1,11 +1,11 @@
 -- The text of a day's number is the date of that day.
-use Rattle.std.proofs.Common.{◌≡◌, ◌≤◌, ◌<◌, ◌+◌, ◌-◌, ◌*◌, ℕ, zero, suc, List, refl, sym, ap, cond, arith, ◌∙◌, Bool, true, false, ℤ, pos, ◌≤ℤ◌, ◌<ℤ◌, ◌-ℤ◌, int_le, unsigned_abs, inl, inr, ◌⊎◌}
+use Rattle.std.proofs.Common.{◌≡◌, ◌≤◌, ◌<◌, ◌+◌, ℕ, zero, suc, refl, sym, ap, cond, arith, ◌∙◌, Bool, true, false, ℤ, pos, ◌≤ℤ◌, ◌<ℤ◌, ◌-ℤ◌, int_le, unsigned_abs, inl, inr}
 use Rattle.std.proofs.lemmas.Bool.{cases_lt}
-use Rattle.jiff_core.specs.Calendar.{days_from_civil, days_in_month, day_count, IsCivilDate}
+use Rattle.jiff_core.specs.Calendar.{days_from_civil, IsCivilDate}
 use Rattle.jiff_core.proofs.CalendarLemmas.{day_count-lt_month, day_count-lt_year, day_count-day, days_from_civil-day_count, days_in_month_bounds}
 use Rattle.jiff_core.proofs.SignedLemmas.{signed_arith, one_part}
 use Rattle.feed_dates.proofs.Dates.{civil}
-use Rattle.feed_dates.specs.Days.{IsDay, IsDateOf, written, last_begun, year_of, month_of, date_text, OneDateForDay}
+use Rattle.feed_dates.specs.Days.{IsDay, written, last_begun, year_of, date_text, OneDateForDay}
 
 -- the greatest number whose span has begun is found
 last_begun_is : (start : ℕ → ℤ) (n k : ℕ) (day : ℤ) → 1 ≤ k → k ≤ n → start k ≤ℤ day → ((j : ℕ) → k < j → j ≤ n → day <ℤ start j) → last_begun start n day ≡ k

@@ -1,10 +1,10 @@
 -- A date reads as the day that it was written for, and only dates read.
-use Rattle.std.proofs.Common.{◌≡◌, ◌≤◌, ◌<◌, ◌+◌, ◌-◌, ◌*◌, ◌/◌, ◌%◌, ℕ, zero, suc, List, [], ◌∷◌, ◌++◌, length, Option, Some, None, refl, sym, ap, cond, arith}
-use Rattle.std.proofs.Common.{◌∙◌, Bool, true, false, ◌&&◌, nat_le, ℤ, pos, ◌≤ℤ◌, inl, inr}
+use Rattle.std.proofs.Common.{◌≡◌, ◌≤◌, ◌<◌, ◌+◌, ◌-◌, ◌*◌, ◌/◌, ◌%◌, ℕ, List, [], ◌∷◌, ◌++◌, Option, Some, None, refl, sym, ap, cond, arith}
+use Rattle.std.proofs.Common.{◌∙◌, Bool, true, false, ℤ, pos, inl, inr}
 use Rattle.std.specs.Prelude.{MatchOption}
 use Rattle.std.specs.Char.{is_ascii_digit}
 use Rattle.std.proofs.lemmas.Bool.Decides.{nat_tests, eqb_tells}
-use Rattle.jiff_core.specs.Calendar.{days_from_civil, days_in_month, IsCivilDate}
+use Rattle.jiff_core.specs.Calendar.{days_from_civil, IsCivilDate}
 use Rattle.jiff_core.proofs.CalendarLemmas.{days_in_month_bounds, day_count_bounds, days_from_civil-day_count}
 use Rattle.jiff_core.proofs.SignedLemmas.{signed_arith}
 use Rattle.feed_dates.specs.Days.{IsDay, IsDateOf, two, written, two_digits, four_digits, is_day, day_number, day_of_parts, day_of_date, OneDayForDate}

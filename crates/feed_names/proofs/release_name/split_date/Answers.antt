@@ -1,6 +1,5 @@
-use Rattle.std.proofs.Common.{◌≡◌, ℕ, List, [], ◌∷◌, Some, None, ◌-◌, length, take, drop, w32, to_z-of_z, sym, ◌∙◌, ap}
+use Rattle.std.proofs.Common.{◌≡◌, [], ◌∷◌, take, drop, to_z-of_z, sym}
 use Rattle.std.specs.Cmp.Lexicographic.{same_text}
-use Rattle.feed_names.specs.ReleaseName.{IsDated}
 use Rattle.feed_names.proofs.NameLemmas.{date-drop, split_found}
 use Rattle.feed_names.proofs.release_name.split_date.Goals as goal
 

@@ -1,7 +1,4 @@
-use Rattle.std.proofs.Common.{◌≡◌, ℕ, ℤ, List, [], ◌∷◌, ◌++◌, length, ◌-◌, take, drop, codes, sym, ◌∙◌, ap, w32, to_z-of_z, true}
-use Rattle.std.proofs.lemmas.List.{take-append-drop}
-use Rattle.std.specs.Cmp.Lexicographic.{same_text}
-use Rattle.feed_names.specs.ReleaseName.{IsStem, IsDated, IsName, EndsInTxt}
+use Rattle.std.proofs.Common.{to_z-of_z}
 use Rattle.feed_names.proofs.NameLemmas.{ending_cut, name_cut}
 use Rattle.feed_names.proofs.release_name.ReleaseName.parse.Goals as goal
 
