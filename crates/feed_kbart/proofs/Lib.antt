@@ -1,5 +1,4 @@
 pub mod Places
 pub mod BlockTexts
-pub mod Bytes
 pub mod Cuts
 pub mod Steps
