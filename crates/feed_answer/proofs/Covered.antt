@@ -2,7 +2,7 @@
 use Rattle.std.proofs.Common.{◌≡◌, ◌&&◌, Bool, true, false, if◌then◌else◌, Option, Some, None, refl, sym, ap, ◌∙◌, arith}
 use Rattle.std.specs.Prelude.{ℤ, ◌≤ℤ◌, int_le}
 use Rattle.std.proofs.lemmas.Int.{ints}
-use Rattle.feed_kbart.specs.declared.day.DayRange.{DayRange}
+use Rattle.feed_dates.specs.declared.day_range.DayRange.{DayRange}
 use Rattle.feed_answer.specs.Grades.{begins_by, lasts_to, tested_days}
 use Rattle.feed_answer.specs.Laws.{IsAsked, IsCovered, AreGradedByDays}
 use Rattle.feed_answer.specs.declared.grade.Grade.{Grade}

@@ -5,4 +5,3 @@ pub mod Ascending
 pub mod Covered
 pub mod Ranges
 pub mod Places
-pub mod Plain

@@ -1,5 +1,6 @@
 -- The hits at the places that an index gives.
-use Rattle.std.proofs.Common.{◌≡◌, ◌<◌, ◌≤◌, ◌+◌, ◌⊎◌, inl, inr, ℕ, zero, suc, Bool, true, false, ◌||◌, eqb, cond, List, [], ◌∷◌, ◌++◌, map, length, drop, get_or, Option, Some, None, option_map, if◌then◌else◌, refl, sym, ap, subst, ◌∙◌, arith}
+use Rattle.std.proofs.Common.{◌≡◌, ◌<◌, ◌≤◌, ◌+◌, ◌⊎◌, inl, inr, ℕ, zero, suc, Bool, true, false, ◌||◌, eqb, cond, List, [], ◌∷◌, ◌++◌, map, length, drop}
+use Rattle.std.proofs.Common.{get_or, Option, Some, None, option_map, if◌then◌else◌, refl, sym, ap, subst, ◌∙◌, arith}
 use Rattle.std.specs.Option.{option_and_then}
 use Rattle.std.specs.List.{All, AllPairs, Contains, cons_option, filter, filter_map, flat_map, slice_get}
 use Rattle.std.specs.List.Sorted.{IsPermutation, IsStrictlyIncreasing}
@@ -133,7 +134,8 @@ place_among query rows entries whole i d within =
           let entry : Entry = record { issn = number_of by.0; place = i } in
           let known : Contains entries entry = Contains-permutation (entries_from 0 rows) entries entry whole (entries_have 0 rows i i d by.0 within (omega arith) by.1) in
           let found : Contains (entries_with (number_of by.0) entries) entry = contains_filter (λ e. eqb e.issn (number_of by.0)) entries entry known (eqb_itself (number_of by.0)) in
-          inr (contains_flat (λ issn. map (λ e. e.place) (entries_with (number_of issn) entries)) query.issns by.0 i by.2 (contains_map (λ e. e.place) (entries_with (number_of by.0) entries) entry found))
+          inr (contains_flat (λ issn. map (λ e. e.place) (entries_with (number_of issn) entries)) query.issns by.0 i by.2
+          (contains_map (λ e. e.place) (entries_with (number_of by.0) entries) entry found))
     ] refl
 
 -- what h gives of the element at a place
@@ -175,7 +177,8 @@ covers_first h rows b place places covers first = record {
 }
 
 -- the element at b gives nothing, if all places are later
-none_here : {X Y : Type 0} (h : X → Option Y) (rows : List X) (b : ℕ) (places : List ℕ) (d : X) → Covers h rows b places → b < length rows → All (λ place. b + 1 ≤ place) places → h (get_or rows b d) ≡ None
+none_here : {X Y : Type 0} (h : X → Option Y) (rows : List X) (b : ℕ) (places : List ℕ) (d : X) → Covers h rows b places → b < length rows → All (λ place. b + 1 ≤ place) places
+    → h (get_or rows b d) ≡ None
 none_here h rows b places d covers within later = elim (covers.has b d (omega arith) within) [
   | inl none ↦ none
   | inr has ↦ let wrong : b + 1 ≤ b = All-contains (λ place. b + 1 ≤ place) places b later has in absurd (omega arith)
@@ -206,7 +209,8 @@ from_places h rows d (suc left) b (place ∷ places) count covers = elim (eqb pl
       let low : b ≤ place = covers.from 0 0 (omega arith) in
       let less : b < place = grind (arith, nat_tests) in
       let later = all_later b place places covers.ascending less in
-      rw (drop_more rows b d within, none_here h rows b (place ∷ places) d covers within later) (from_places h rows d left (b + 1) (place ∷ places) (omega arith) (covers_none h rows b (place ∷ places) covers later))
+      rw (drop_more rows b d within, none_here h rows b (place ∷ places) d covers within later)
+      (from_places h rows d left (b + 1) (place ∷ places) (omega arith) (covers_none h rows b (place ∷ places) covers later))
 ] refl
 
 over_all : {X Y : Type 0} (h : X → Option Y) (rows : List X) (places : List ℕ) → IsStrictlyIncreasing places

@@ -1,7 +1,7 @@
 -- Which rows match a query, and how well.
 use Rattle.std.specs.Prelude.{ℕ, ◌&&◌, ◌||◌, nat_le, Bool, true, false, List, Option, Some, None, if◌then◌else◌, codes, ℤ, int_le}
 use Rattle.feed_kbart.specs.RowValue.{RowValue}
-use Rattle.feed_kbart.specs.declared.day.DayRange.{DayRange}
+use Rattle.feed_dates.specs.declared.day_range.DayRange.{DayRange}
 use Rattle.feed_answer.specs.IssnSet.{is_among}
 use Rattle.feed_answer.specs.QueryValue.{QueryValue}
 use Rattle.feed_answer.specs.declared.grade.Grade.{Grade}
@@ -13,11 +13,12 @@ grade_text Untested = codes "untested"
 grade_text Overlap = codes "overlap"
 grade_text Inside = codes "inside"
 
--- coverage has begun by a day, and it lasts to a day; a side that is absent is open
+-- coverage has begun by a day; without a first day it always has
 abbrev pub begins_by : Option ℤ → ℤ → Bool
 begins_by None day = true
 begins_by (Some first) day = int_le first day
 
+-- coverage lasts to a day; without a last day it lasts to the present, and on
 abbrev pub lasts_to : Option ℤ → ℤ → Bool
 lasts_to None day = true
 lasts_to (Some last) day = int_le day last
@@ -35,11 +36,12 @@ days_grade first last None = Some Untested
 days_grade None None (Some days) = Some Untested
 days_grade first last (Some days) = tested_days first last days
 
--- a volume is not below a first one, and not above a last one; a side that is absent is open
+-- a volume is not below a first one; a side that is absent is open
 abbrev pub not_below : Option ℕ → ℕ → Bool
 not_below None volume = true
 not_below (Some first) volume = nat_le first volume
 
+-- a volume is not above a last one; a side that is absent is open
 abbrev pub not_above : Option ℕ → ℕ → Bool
 not_above None volume = true
 not_above (Some last) volume = nat_le volume last

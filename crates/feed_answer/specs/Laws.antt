@@ -1,6 +1,6 @@
 -- Laws of queries and grades.
 use Rattle.std.specs.Prelude.{◌≡◌, ◌↔◌, ℕ, List, Option, Some, None, true, ℤ, ◌≤ℤ◌}
-use Rattle.feed_kbart.specs.declared.day.DayRange.{DayRange}
+use Rattle.feed_dates.specs.declared.day_range.DayRange.{DayRange}
 use Rattle.feed_answer.specs.IssnSet.{is_among, issn_set}
 use Rattle.feed_answer.specs.Grades.{begins_by, lasts_to, tested_days}
 use Rattle.feed_answer.specs.declared.grade.Grade.TheVariants.{Inside}

@@ -1,3 +1,4 @@
+pub mod Limits
 pub mod IssnSet
 pub mod Pairs
 pub mod QueryValue

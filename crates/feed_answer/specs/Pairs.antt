@@ -4,8 +4,8 @@ use Rattle.std.specs.List.{filter_map}
 use Rattle.std.specs.Str.{bytes_eq, str_eq_ignore_ascii_case}
 use Rattle.feed_kbart.specs.Text.{trimmed, volume_of}
 use Rattle.feed_kbart.specs.Issn.{issn_of}
-use Rattle.feed_kbart.specs.Days.{query_days_of}
-use Rattle.feed_kbart.specs.declared.day.DayRange.{DayRange}
+use Rattle.feed_dates.specs.DayRanges.{query_days_of}
+use Rattle.feed_dates.specs.declared.day_range.DayRange.{DayRange}
 use Rattle.feed_answer.specs.IssnSet.{issn_set}
 
 -- the key of a pair is this text

@@ -4,7 +4,7 @@ use Rattle.std.specs.List.{list_any}
 use Rattle.form_urlencoded.specs.Form as form
 use Rattle.feed_answer.specs.Pairs.{is_empty, is_other_version, is_other_format, issns_among, first_days, first_volume}
 use Rattle.feed_answer.specs.QueryValue.{QueryValue}
-use Rattle.feed_answer.specs.declared.query.TheConstants.{QUERY_LIMIT}
+use Rattle.feed_answer.specs.Limits.{query_limit}
 use Rattle.feed_answer.specs.declared.fault.QueryFault.{QueryFault}
 use Rattle.feed_answer.specs.declared.fault.QueryFault.TheVariants.{TooLong, Version, NotJournal, NoIssn, Memory}
 
@@ -23,9 +23,9 @@ asked_by pairs =
 
 -- what a query asks for, or the first reason to refuse it
 unfoldable pub query_of : List ℕ → Result QueryValue QueryFault
-query_of text = if nat_lt QUERY_LIMIT (length text) then Err TooLong else asked_by (form.parse text)
+query_of text = if nat_lt query_limit (length text) then Err TooLong else asked_by (form.parse text)
 
 -- what reading a query may give: want of memory may take the place of any outcome but `TooLong`
 abbrev pub IsReadOf : List ℕ → Result QueryValue QueryFault → Type 0
-IsReadOf text (Err Memory) = length text ≤ QUERY_LIMIT
+IsReadOf text (Err Memory) = length text ≤ query_limit
 IsReadOf text outcome = outcome ≡ query_of text

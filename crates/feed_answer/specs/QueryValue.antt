@@ -1,6 +1,6 @@
 -- What is seen of a query.
 use Rattle.std.specs.Prelude.{ℕ, List, Option}
-use Rattle.feed_kbart.specs.declared.day.DayRange.{DayRange}
+use Rattle.feed_dates.specs.declared.day_range.DayRange.{DayRange}
 
 -- the printed bytes of the ISSNs that are asked for, ascending and each once, and the days and the volume
 pub record QueryValue : Type 0 where

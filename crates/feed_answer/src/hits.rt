@@ -46,7 +46,8 @@ impl<'a> Answer<'a> {
     /// of its record, grade, title, URL, title id, depth, embargo and access, joined by tabs. Each
     /// line ends in LF. The texts are as in the file.
     pub fn write<W: Write>(&self, out: &mut W, name: &ReleaseName) -> Result<(), WriteFault>
-        ensures { OnOk result (Appends (W.contents out.old) (W.contents out.new) (answer_text (text_of name.now) self.now)) }
+        ensures { OnOk result (Appends (W.contents out.old) (W.contents out.new)
+            (answer_text (text_of name.now) self.now)) }
     {
         write_head(out, name, self.hits.len())?;
         for hit in &self.hits {
@@ -72,7 +73,8 @@ fn write_text<W: Write>(out: &mut W, text: &[u8]) -> io::Result<()>
 }
 
 fn write_hit<W: Write>(out: &mut W, row: &Row, grade: Grade) -> io::Result<()>
-    ensures { OnOk result (Appends (W.contents out.old) (W.contents out.new) (hit_line (record { row = row.now; grade = grade }))) }
+    ensures { OnOk result (Appends (W.contents out.old) (W.contents out.new)
+        (hit_line (record { row = row.now; grade = grade }))) }
 {
     let number = row.number();
     write!(out, "{number}\t{grade}")?;

@@ -136,7 +136,8 @@ fn places_with(alloc: Global, entries: &[Entry], issns: &[Issn]) -> Result<Vec<u
 fn places_of(alloc: Global, entries: &[Entry], issns: &[Issn]) -> Result<Vec<usize>, AllocError>
     requires { AscendByIssn entries.now }
     ensures ascending { IfOk result (λ places. IsStrictlyIncreasing places.items) }
-    ensures whole { IfOk result (λ places. (place : ℕ) → Contains (places_with issns.now entries.now) place → Contains places.items place) }
+    ensures whole { IfOk result (λ places. (place : ℕ) → Contains (places_with issns.now entries.now) place
+        → Contains places.items place) }
 {
     let mut places = places_with(alloc, entries, issns)?;
     places.sort_unstable();

@@ -14,8 +14,6 @@ mod laws;
 mod matching;
 mod pair;
 mod query;
-#[cfg(test)]
-mod tests;
 
 pub use crate::fault::{QueryFault, WriteFault};
 pub use crate::grade::Grade;

@@ -1,5 +1,6 @@
 ghost use Rattle.std.specs.Prelude.{◌≡◌};
-ghost use Rattle.feed_answer.specs.Pairs.{days_of_pair, has_key, is_other, is_other_format, is_other_version, issn_of_pair, issn_of_urn, volume_of_pair};
+ghost use Rattle.feed_answer.specs.Pairs.{days_of_pair, has_key, is_other, is_other_format, is_other_version};
+ghost use Rattle.feed_answer.specs.Pairs.{issn_of_pair, issn_of_urn, volume_of_pair};
 
 use feed_kbart::{DayRange, Issn, read_volume, trim_spaces};
 use std::alloc::Global;

@@ -1,5 +1,6 @@
 -- A text and its blocks.
-use Rattle.std.proofs.Common.{◌≡◌, ◌≤◌, ◌<◌, ◌+◌, ◌-◌, drop-drop, take-append-drop, length-take-le, ℕ, List, [], ◌∷◌, ◌++◌, length, take, drop, get_or, zero, suc, refl, sym, ap, arith, ◌∙◌, append_assoc, subst}
+use Rattle.std.proofs.Common.{◌≡◌, ◌≤◌, ◌<◌, ◌+◌, ◌-◌, drop-drop, take-append-drop, length-take-le, ℕ, List, [], ◌∷◌, ◌++◌, length, take, drop, get_or, zero}
+use Rattle.std.proofs.Common.{suc, refl, sym, ap, arith, ◌∙◌, append_assoc, subst}
 use Rattle.std.specs.Prelude.{IsUtf8}
 use Rattle.std.specs.List.{concat}
 use Rattle.std.proofs.lemmas.List.{append-nil, get_or-append-add, get_or-take, length-append, take-append-le}

@@ -3,10 +3,10 @@ use Rattle.std.specs.Prelude.{◌||◌, ◌&&◌, not, nat_lt, ℕ, Bool, true, 
 use Rattle.std.specs.Str.{str_eq_ignore_ascii_case}
 use Rattle.feed_kbart.specs.Text.{trimmed, volume_of}
 use Rattle.feed_kbart.specs.Issn.{issn_of}
-use Rattle.feed_kbart.specs.Days.{days_of}
+use Rattle.feed_dates.specs.DayRanges.{days_of}
 use Rattle.feed_kbart.specs.Columns.{cell}
 use Rattle.feed_kbart.specs.declared.coverage.Coverage.{Coverage}
-use Rattle.feed_kbart.specs.declared.day.DayRange.{DayRange}
+use Rattle.feed_dates.specs.declared.day_range.DayRange.{DayRange}
 use Rattle.feed_kbart.specs.declared.header.Columns.{Columns}
 use Rattle.feed_kbart.specs.declared.fault.Reason.{Reason}
 use Rattle.feed_kbart.specs.declared.fault.Reason.TheVariants.{NotSerial, NoIssn, BadDate, Reversed}

@@ -5,7 +5,7 @@ use Rattle.feed_kbart.specs.Records.{has_two_marks, records_of}
 use Rattle.feed_kbart.specs.Columns.{bad_header, columns_of}
 use Rattle.feed_kbart.specs.Holdings.{holdings_from, nothing}
 use Rattle.feed_kbart.specs.HoldingsValue.{HoldingsValue}
-use Rattle.feed_kbart.specs.declared.file.TheConstants.{FILE_LIMIT}
+use Rattle.feed_kbart.specs.Limits.{file_limit}
 use Rattle.feed_kbart.specs.declared.fault.BadFile.{BadFile}
 use Rattle.feed_kbart.specs.declared.fault.BadFile.TheVariants.{NotUtf8, TwoMarks, NoHeader}
 use Rattle.feed_kbart.specs.declared.fault.KbartFault.{KbartFault}
@@ -42,12 +42,12 @@ IsJudged records (Err Read) = Unit {0}
 
 -- what a fault says of the bytes that a reader gave; want of memory and a failing reader say nothing
 abbrev pub IsFaultOf : List ℕ → KbartFault → Type 0
-IsFaultOf text (Bad why) = (length text ≤ FILE_LIMIT) × (bad_of text ≡ Some why)
-IsFaultOf text TooLong = FILE_LIMIT < length text
+IsFaultOf text (Bad why) = (length text ≤ file_limit) × (bad_of text ≡ Some why)
+IsFaultOf text TooLong = file_limit < length text
 IsFaultOf text Memory = Unit {0}
 IsFaultOf text Read = Unit {0}
 
 -- what reading bytes may give: the holdings of a good text within the limit, or a fault
 abbrev pub IsReadOf : List ℕ → Result HoldingsValue KbartFault → Type 0
-IsReadOf text (Ok holdings) = (length text ≤ FILE_LIMIT) × (bad_of text ≡ None) × (holdings ≡ holdings_of text)
+IsReadOf text (Ok holdings) = (length text ≤ file_limit) × (bad_of text ≡ None) × (holdings ≡ holdings_of text)
 IsReadOf text (Err fault) = IsFaultOf text fault

@@ -3,7 +3,9 @@ use Rattle.std.specs.Prelude.{◌-◌, ◌==◌, if◌then◌else◌, ℕ, Bool,
 use Rattle.std.specs.Str.{str_eq_ignore_ascii_case}
 use Rattle.feed_kbart.specs.Text.{trimmed}
 use Rattle.feed_kbart.specs.declared.label.Label.{Label}
-use Rattle.feed_kbart.specs.declared.label.Label.TheVariants.{PublicationTitle, PrintIdentifier, OnlineIdentifier, DateFirstIssueOnline, NumFirstVolOnline, DateLastIssueOnline, NumLastVolOnline, TitleUrl, TitleId, EmbargoInfo, CoverageDepth, PublicationType, AccessType}
+use Rattle.feed_kbart.specs.declared.label.Label.TheVariants.{PublicationTitle, PrintIdentifier, OnlineIdentifier, DateFirstIssueOnline, NumFirstVolOnline}
+use Rattle.feed_kbart.specs.declared.label.Label.TheVariants.{DateLastIssueOnline, NumLastVolOnline, TitleUrl, TitleId, EmbargoInfo, CoverageDepth}
+use Rattle.feed_kbart.specs.declared.label.Label.TheVariants.{PublicationType, AccessType}
 
 -- how a label is written
 abbrev pub label_text : Label → List ℕ

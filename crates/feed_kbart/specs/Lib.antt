@@ -1,6 +1,8 @@
+pub mod Limits
 pub mod Text
 pub mod Issn
-pub mod Days
+pub use Rattle.feed_dates.specs.Days
+pub use Rattle.feed_dates.specs.DayRanges
 pub mod Labels
 pub mod Records
 pub mod Columns

@@ -1,4 +1,5 @@
-ghost use Rattle.std.specs.Prelude.{◌≡◌, ◌≤◌, ◌<◌, ◌-◌, ◌++◌, ◌↔◌, IfOk, IfSome, IsTrue, IsUtf8, OnOk, [], length, min, slice_index, take};
+ghost use Rattle.std.specs.Prelude.{◌≡◌, ◌≤◌, ◌<◌, ◌-◌, ◌++◌, ◌↔◌, IfOk, IfSome, IsTrue, IsUtf8, OnOk, [], length, min};
+ghost use Rattle.std.specs.Prelude.{slice_index, take};
 ghost use Rattle.feed_kbart.specs.Records.{has_two_marks};
 
 use std::alloc::{AllocError, Global};

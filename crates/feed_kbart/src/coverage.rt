@@ -1,14 +1,15 @@
 ghost use Rattle.std.specs.Prelude.{◌≡◌, true, false, MatchResult};
 ghost use Rattle.csv.specs.Records.{fields_of};
-ghost use Rattle.feed_kbart.specs.Coverage.{coverage_days, coverage_of, coverage_volumes, is_coverage_date, is_reversed, is_serial, reason_of};
+ghost use Rattle.feed_kbart.specs.Coverage.{coverage_days, coverage_of, coverage_volumes};
+ghost use Rattle.feed_kbart.specs.Coverage.{is_coverage_date, is_reversed, is_serial, reason_of};
 ghost use Rattle.feed_kbart.specs.declared.fault.Reason.TheVariants as reason;
 
-use crate::day::DayRange;
 use crate::fault::Reason;
 use crate::header::{Columns, cell_of};
 use crate::issn::Issn;
 use crate::text::{read_volume, trim_spaces};
 use csv::ByteRecord;
+use feed_dates::DayRange;
 
 /// The ISSNs, the days and the volumes of a record.
 #[derive(Clone, Copy, Debug)]

@@ -1,5 +1,6 @@
 ghost use Rattle.std.specs.Prelude.{◌≡◌, ◌≤◌, IfErr, IfOk, IfSome, length};
 ghost use Rattle.feed_kbart.specs.Files.{IsFaultOf, IsReadOf};
+ghost use Rattle.feed_kbart.specs.Limits.{file_limit};
 
 use crate::blocks::{BLOCK, Blocks};
 use crate::fault::{BadFile, KbartFault};
@@ -8,14 +9,14 @@ use crate::records::read_records;
 use std::alloc::Global;
 use std::io::Read;
 
-/// The most bytes that a file may have.
+/// The most bytes that a file may have: 64 MiB.
 pub const FILE_LIMIT: usize = 67_108_864;
 
 // All bytes of a reader, if they are not more than a file may have. Std's `read_to_end` would go on
 // after an `Interrupted`.
 fn read_text<R: Read>(alloc: Global, reader: &mut R) -> Result<Blocks, KbartFault>
     ensures whole { IfOk result (λ blocks. IfSome (R.remaining reader.old) (λ text. blocks ≡ text)) }
-    ensures within { IfOk result (λ blocks. length blocks ≤ FILE_LIMIT) }
+    ensures within { IfOk result (λ blocks. length blocks ≤ file_limit) }
     ensures fault { IfErr result (λ fault. IfSome (R.remaining reader.old) (λ text. IsFaultOf text fault)) }
 {
     let mut text = Blocks::new(alloc);
@@ -40,7 +41,7 @@ fn read_text<R: Read>(alloc: Global, reader: &mut R) -> Result<Blocks, KbartFaul
 
 // The holdings of a whole text, or the first reason why it is bad.
 fn read_whole(alloc: Global, text: Blocks) -> Result<Holdings, KbartFault>
-    requires { length text ≤ FILE_LIMIT }
+    requires { length text ≤ file_limit }
     ensures { IsReadOf text result }
 {
     if !text.is_utf8() {

@@ -6,7 +6,6 @@
 
 mod blocks;
 mod coverage;
-mod day;
 mod fault;
 mod file;
 mod header;
@@ -16,17 +15,15 @@ mod label;
 mod law;
 mod records;
 mod row;
-#[cfg(test)]
-mod tests;
 mod text;
 mod texts;
 
-pub use crate::day::DayRange;
 pub use crate::fault::{BadFile, KbartFault, Reason};
 pub use crate::file::{FILE_LIMIT, read_file};
 pub use crate::holdings::{Aside, Holdings};
 pub use crate::issn::Issn;
 pub use crate::label::Label;
-pub use crate::law::{dates_are_ranges, empty_file_is_bad};
+pub use crate::law::empty_file_is_bad;
 pub use crate::row::Row;
 pub use crate::text::{read_volume, trim_spaces};
+pub use feed_dates::{DayRange, dates_are_ranges};

@@ -1,6 +1,7 @@
 ghost use Rattle.std.specs.Prelude.{IfSome, ◌≡◌, ◌≤◌, ◌⊎◌, length};
 ghost use Rattle.feed_kbart.specs.Records.{records_of};
 ghost use Rattle.feed_kbart.specs.Files.{IsJudged};
+ghost use Rattle.feed_kbart.specs.Limits.{file_limit};
 ghost use Rattle.feed_kbart.specs.declared.fault.KbartFault.TheVariants as fault;
 
 use crate::fault::{BadFile, KbartFault};
@@ -25,7 +26,7 @@ fn fault_of(error: csv::Error) -> KbartFault
 /// byte-order mark, or why its header is bad.
 pub(crate) fn read_records<R: Read + Drop>(alloc: Global, source: R) -> Result<Holdings, KbartFault>
     ensures { IfSome (R.remaining source)
-        (λ text. length text ≤ FILE_LIMIT → IsJudged (records_of text) result) }
+        (λ text. length text ≤ file_limit → IsJudged (records_of text) result) }
 {
     let mut reader = ReaderBuilder::new()
         .has_headers(false)

@@ -1,3 +1,1 @@
-pub mod Dates
-pub mod DateTexts
 pub mod NameLemmas

@@ -1,15 +1,15 @@
 -- A text is taken apart in one way only, since a date has ten bytes.
-use Rattle.std.proofs.Common.{◌≡◌, ◌≤◌, ◌+◌, ◌-◌, ℕ, List, [], ◌∷◌, ◌++◌, length, take, drop, Option, Some, None, refl, sym, ap, arith, ◌∙◌, ℤ, pos, codes, FitsSigned, w32, nat_eq, true}
+use Rattle.std.proofs.Common.{◌≡◌, ◌≤◌, ◌+◌, ◌-◌, ℕ, List, [], ◌∷◌, ◌++◌, length, take, drop, refl, sym, ap, arith, ◌∙◌, ℤ, codes, nat_eq, true}
 use Rattle.std.specs.Cmp.Lexicographic.{pointwise, same_text}
 use Rattle.std.proofs.lemmas.List.{append_cancel_right, length-append, take-append-drop, take-append-le}
 use Rattle.std.proofs.Math.Seq.{take-append_seam, drop-append_seam}
-use Rattle.jiff_core.specs.Calendar.{day_count}
-use Rattle.jiff_core.proofs.CalendarLemmas.{day_count_bounds, days_from_civil-day_count}
-use Rattle.jiff_core.proofs.SignedLemmas.{signed_arith}
-use Rattle.feed_names.specs.Day.{IsDateOf, day_of_date}
+use Rattle.feed_dates.specs.Days.{IsDateOf, OneDayForDate, OneDateForDay}
+use Rattle.feed_dates.proofs.Dates.{one_day}
 use Rattle.feed_names.specs.ReleaseName.{Name, IsStem, IsDated, IsName, EndsInTxt, text_of}
-use Rattle.feed_names.proofs.DateTexts.{date_is_text}
-use Rattle.feed_names.proofs.Dates.{one_date, length-date, date_read, civil}
+
+-- a date has ten bytes
+length-date : (n : ℤ) (text : List ℕ) → IsDateOf n text → length text ≡ 10
+length-date n text h = ap length h.spelled
 
 -- how long the text before `.txt` is
 pub length-dated : (front stem : List ℕ) (n : ℤ) → IsDated front stem n → length front ≡ length stem + 11
@@ -31,30 +31,26 @@ date-drop front stem n h =
 same_name : (m n : Name) → m.stem ≡ n.stem → m.day ≡ n.day → m ≡ n
 same_name m n stem day = ap (λ (s : List ℕ). let name : Name = record { stem = s; day = m.day } in name) stem ∙ ap (λ (d : ℤ). let name : Name = record { stem = n.stem; day = d } in name) day
 
--- a text before `.txt` is the stem and the date of one release
-pub one_split : (front : List ℕ) (m n : Name) → IsDated front m.stem m.day → IsDated front n.stem n.day → m ≡ n
-one_split front m n g h =
+-- a text before `.txt` is the stem and the date of one release, since a date is that of one day
+pub one_name : OneDayForDate → (front : List ℕ) (m n : Name) → IsDated front m.stem m.day → IsDated front n.stem n.day → m ≡ n
+one_name law front m n g h =
     let stems : m.stem ≡ n.stem = sym (stem-take front m.stem m.day g) ∙ stem-take front n.stem n.day h in
     let dated = sym (date-drop front m.stem m.day g) ∙ date-drop front n.stem n.day h in
     let dates : g.date ≡ h.date = cc in
-    let mine = one_date m.day g.date g.is_date in
-    let yours = one_date n.day h.date h.is_date in
-    let days : m.day ≡ n.day = cc in
-    same_name m n stems days
+    same_name m n stems (law g.date m.day n.day g.is_date (rw dates h.is_date))
+
+pub one_split : (front : List ℕ) (m n : Name) → IsDated front m.stem m.day → IsDated front n.stem n.day → m ≡ n
+one_split front m n g h = one_name one_day front m n g h
 
 pub one_front : (text front rest : List ℕ) → EndsInTxt text front → EndsInTxt text rest → front ≡ rest
 one_front text front rest g h = append_cancel_right front rest (codes ".txt") (sym g ∙ h)
 
--- a day's number fits 32 bits
-pub day_fits : (n : ℤ) (text : List ℕ) → IsDateOf n text → FitsSigned w32 n
-day_fits n text h = rw h.numbered
-    (omega (arith, signed_arith, days_from_civil-day_count, day_count_bounds (pos h.year) h.month h.day (civil h.year h.month h.day h.real)))
-
 -- the bytes at a place are an underscore and a date that reads
-pub split_found : (front date : List ℕ) (at : ℕ) (n : ℤ) → 11 ≤ length front → at ≡ length front - 11 → take 1 (drop at front) ≡ 95 ∷ [] → date ≡ drop 1 (drop at front) → day_of_date date ≡ Some n → IsDated front (take at front) n
+pub split_found : (front date : List ℕ) (at : ℕ) (n : ℤ) → 11 ≤ length front → at ≡ length front - 11
+    → take 1 (drop at front) ≡ 95 ∷ [] → date ≡ drop 1 (drop at front) → IsDateOf n date → IsDated front (take at front) n
 split_found front date at n long here mark rest reads =
     let parts : drop at front ≡ 95 ∷ date = sym (take-append-drop 1 (drop at front)) ∙ (rw (mark, sym rest) refl) in
-    record { date = date; is_date = date_read n date reads; spelled = sym (take-append-drop at front) ∙ ap (λ back. take at front ++ back) parts }
+    record { date = date; is_date = reads; spelled = sym (take-append-drop at front) ∙ ap (λ back. take at front ++ back) parts }
 
 -- a text whose last four bytes are `.txt` is what stands before them and `.txt`
 pub ending_cut : (text front : List ℕ) → pointwise nat_eq (drop (length text - 4) text) (codes ".txt") ≡ true → front ≡ take (length text - 4) text → EndsInTxt text front
@@ -70,5 +66,5 @@ name_cut text front stem n ends dated is_stem =
     record { front = front; ends = ends; is_dated = rw cut dated; is_stem = rw cut is_stem }
 
 -- a name's text is spelled by its stem and its day
-pub name_is_text : (text : List ℕ) (name : Name) → IsName text name → text ≡ text_of name
-name_is_text text name h = rw (h.ends, h.is_dated.spelled, date_is_text name.day h.is_dated.date h.is_dated.is_date) refl
+pub name_is_text : OneDateForDay → (text : List ℕ) (name : Name) → IsName text name → text ≡ text_of name
+name_is_text law text name h = rw (h.ends, h.is_dated.spelled, law name.day h.is_dated.date h.is_dated.is_date) refl

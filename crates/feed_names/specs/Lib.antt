@@ -1,2 +1,2 @@
-pub mod Day
+pub use Rattle.feed_dates.specs.Days as Day
 pub mod ReleaseName

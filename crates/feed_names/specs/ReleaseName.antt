@@ -1,9 +1,9 @@
 -- Release names: a package, and the day of the release.
-use Rattle.std.specs.Prelude.{◌≡◌, ◌==◌, ◌&&◌, ◌||◌, ℕ, ◌≤◌, Bool, true, List, [], ◌∷◌, ◌++◌, length, codes, All, ℤ, ◌<ℤ◌, Result, Ok, Err}
+use Rattle.std.specs.Prelude.{◌≡◌, ◌==◌, ◌||◌, ℕ, ◌≤◌, Bool, true, List, [], ◌∷◌, ◌++◌, length, codes, All, ℤ, ◌<ℤ◌}
 use Rattle.std.specs.Cmp.Lexicographic.{pointwise}
 use Rattle.std.specs.Ordering.{int_eq, on, eq_of_both}
 use Rattle.std.specs.Char.{is_ascii_alphanumeric}
-use Rattle.feed_names.specs.Day.{IsDateOf, date_text}
+use Rattle.feed_dates.specs.Days.{IsDateOf, date_text}
 use Rattle.feed_names.specs.declared.name_fault.NameFault.{NameFault}
 use Rattle.feed_names.specs.declared.name_fault.NameFault.TheVariants.{BadStem, BadDate, BadEnding, Memory}
 
@@ -16,6 +16,7 @@ pub record Name : Type 0 where
 abbrev pub is_stem_byte : ℕ → Bool
 is_stem_byte b = is_ascii_alphanumeric b || (b == 45) || (b == 95) || (b == 46)
 
+-- the first byte is a dot
 abbrev pub BeginsWithDot : List ℕ → Type 0
 BeginsWithDot [] = ⊥
 BeginsWithDot (b ∷ bytes) = b ≡ 46
@@ -63,9 +64,10 @@ IsEarlier m n = (m.stem ≡ n.stem) × (m.day <ℤ n.day)
 abbrev pub name_eq : Name → Name → Bool
 name_eq = eq_of_both (on (λ n. n.stem) (pointwise ◌==◌)) (on (λ n. n.day) int_eq)
 
--- no text names two releases, and no release has two names
+-- no text names two releases
 abbrev pub OneReleaseForText : Type 0
 OneReleaseForText = (text : List ℕ) (m n : Name) → IsName text m → IsName text n → m ≡ n
 
+-- no release has two names
 abbrev pub OneTextForRelease : Type 0
 OneTextForRelease = (name : Name) (text : List ℕ) → IsName text name → text ≡ text_of name

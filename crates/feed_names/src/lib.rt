@@ -1,7 +1,6 @@
 //! Names of releases, as `Acme_Global_All_2024-01-01.txt`: a package and the day of a release.
 #![tactic(auto)]
 
-mod day;
 mod laws;
 mod name_fault;
 mod release_name;

@@ -1,8 +1,8 @@
 ghost use Rattle.std.specs.Prelude.{◌≡◌, ◌↔◌, ℕ, ℤ, List, MatchOption, IsTrue, IfOk, IfErr};
 ghost use Rattle.feed_names.specs.ReleaseName.{IsStem, IsDated, IsName, IsRefused, IsEarlier, is_stem_byte, text_of};
 
-use crate::day::read_date;
 use crate::name_fault::NameFault;
+use feed_dates::{day_numbers_fit, one_date_for_day, read_date};
 use std::alloc::{AllocError, Global};
 use std::marker::Model;
 
@@ -29,7 +29,9 @@ impl Model for ReleaseName {
 
     ghost view = { λ r. record { stem = take (length r.text.items - 15) r.text.items; day = r.day } };
 
-    ghost invariant = { λ r. IsName r.text.items (record { stem = take (length r.text.items - 15) r.text.items; day = r.day }) };
+    ghost invariant = { λ r.
+        let stem = take (length r.text.items - 15) r.text.items in
+        IsName r.text.items (record { stem = stem; day = r.day }) };
 }
 
 impl ReleaseName {
@@ -47,6 +49,7 @@ impl ReleaseName {
         if !is_stem(stem) {
             return Err(NameFault::BadStem);
         }
+        day_numbers_fit();
         match Vec::from_slice(alloc, text) {
             Ok(text) => Ok(ReleaseName { text, day }),
             Err(_) => Err(NameFault::Memory),
@@ -73,6 +76,7 @@ impl ReleaseName {
         ensures name { IsName result.now self.now }
         ensures value { result.now ≡ text_of self.now }
     {
+        one_date_for_day();
         &self.text
     }
 
@@ -96,11 +100,14 @@ impl ReleaseName {
 
 // The text before `_` and a date at its end, and the day of that date.
 fn split_date(front: &[u8]) -> Option<(&[u8], i32)>
-    ensures { MatchOption result ((stem : List ℕ) (day : ℤ) → ¬ (IsDated front.now stem day)) (λ split. IsDated front.now split.0.now split.1) }
+    ensures { MatchOption result
+        ((stem : List ℕ) (day : ℤ) → ¬ (IsDated front.now stem day))
+        (λ split. IsDated front.now split.0.now split.1) }
 {
     let at = front.len().checked_sub(DATE_LENGTH)?;
     let (stem, dated) = front.split_at(at);
     let date = dated.strip_prefix(b"_".as_slice())?;
+    day_numbers_fit();
     match read_date(date) {
         Some(day) => Some((stem, day)),
         None => None,
@@ -142,71 +149,4 @@ impl Eq for ReleaseName {
     ghost use Rattle.std.specs.Cmp.Rules.{comparing};
 
     ghost laws = { Prim.search (comparing, rules) };
-}
-
-#[cfg(test)]
-mod tests {
-    use super::*;
-    use std::test::Fail;
-
-    #[test]
-    fn names_are_read(rt: HostRuntime) -> Result<(), Fail> {
-        let rows = [
-            (
-                "JSTOR_Global_AllTitles_2024-02-29.txt",
-                "JSTOR_Global_AllTitles",
-                19782,
-            ),
-            ("X_0001-01-01.txt", "X", -719162),
-            ("A_2024-01-01_2024-02-01.txt", "A_2024-01-01", 19754),
-        ];
-        for (text, package, day) in rows {
-            let name = ReleaseName::parse(rt.alloc(), text.as_bytes())?;
-            assert_eq!(rt; name.package(), package.as_bytes(), "{text}");
-            assert_eq!(rt; name.day(), day, "{text}");
-            assert_eq!(rt; name.text(), text.as_bytes(), "{text}");
-            assert_eq!(rt; name.try_clone()?.text(), text.as_bytes(), "{text}");
-        }
-        Ok(())
-    }
-
-    #[test]
-    fn other_texts_are_refused(rt: HostRuntime) {
-        let rows = [
-            ("JSTOR_Global_AllTitles_2023-02-29.txt", NameFault::BadDate),
-            ("X_0000-01-01.txt", NameFault::BadDate),
-            ("2024-02-29.txt", NameFault::BadDate),
-            ("_2024-02-29.txt", NameFault::BadStem),
-            (".X_2024-02-29.txt", NameFault::BadStem),
-            ("X_2024-02-29.TXT", NameFault::BadEnding),
-            ("", NameFault::BadEnding),
-        ];
-        for (text, fault) in rows {
-            let refused = ReleaseName::parse(rt.alloc(), text.as_bytes()).err();
-            assert_eq!(rt; refused, Some(fault), "{text}");
-        }
-    }
-
-    #[test]
-    fn a_stem_has_at_most_a_hundred_bytes(rt: HostRuntime) -> Result<(), Fail> {
-        for (length, refused) in [(100, None), (101, Some(NameFault::BadStem))] {
-            let mut text = vec![in rt.alloc(); b'a'; length]?;
-            text.extend_from_slice(b"_2024-02-29.txt")?;
-            let fault = ReleaseName::parse(rt.alloc(), &text).err();
-            assert_eq!(rt; fault, refused, "{length}");
-        }
-        Ok(())
-    }
-
-    #[test]
-    fn releases_of_a_package_stand_by_day(rt: HostRuntime) -> Result<(), Fail> {
-        let january = ReleaseName::parse(rt.alloc(), b"P_2024-01-01.txt")?;
-        let february = ReleaseName::parse(rt.alloc(), b"P_2024-02-01.txt")?;
-        let other = ReleaseName::parse(rt.alloc(), b"Q_2024-03-01.txt")?;
-        assert!(rt; january.earlier_than(&february));
-        assert!(rt; !february.earlier_than(&january));
-        assert!(rt; !january.earlier_than(&january));
-        assert!(rt; !january.earlier_than(&other));
-        Ok(())
-    }
 }

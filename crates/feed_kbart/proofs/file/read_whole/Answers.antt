@@ -6,7 +6,7 @@ use Rattle.std.proofs.lemmas.Str.{IsUtf8-from_is_utf8, is_utf8-from_IsUtf8}
 use Rattle.feed_kbart.specs.Records.{has_two_marks, records_of}
 use Rattle.feed_kbart.specs.Files.{IsJudged, IsReadOf, bad_of, bad_records, holdings_of}
 use Rattle.feed_kbart.specs.HoldingsValue.{HoldingsValue}
-use Rattle.feed_kbart.specs.declared.file.TheConstants.{FILE_LIMIT}
+use Rattle.feed_kbart.specs.Limits.{file_limit}
 use Rattle.feed_kbart.specs.declared.fault.KbartFault.{KbartFault}
 use Rattle.feed_kbart.specs.declared.fault.KbartFault.TheVariants as fault
 use Rattle.feed_kbart.specs.declared.fault.BadFile.TheVariants.{NotUtf8, TwoMarks}
@@ -25,7 +25,7 @@ unfolding bad_of
 bad-records text utf8 marks = rw (utf8, marks) refl
 
 -- what is read of the records of a text is read of the text
-read-judged : (text : List ℕ) (result : Result HoldingsValue KbartFault) → length text ≤ FILE_LIMIT → is_utf8 text ≡ true → has_two_marks text ≡ false
+read-judged : (text : List ℕ) (result : Result HoldingsValue KbartFault) → length text ≤ file_limit → is_utf8 text ≡ true → has_two_marks text ≡ false
     → IsJudged (records_of text) result → IsReadOf text result
 unfolding holdings_of
 read-judged text (Ok holdings) small utf8 marks j = (small, bad-records text utf8 marks ∙ j.0, j.1)

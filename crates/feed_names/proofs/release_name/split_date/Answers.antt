@@ -1,9 +1,6 @@
-use Rattle.std.proofs.Common.{◌≡◌, ℕ, List, [], ◌∷◌, Some, None, ◌-◌, length, take, drop, w32, to_z-of_z, sym, ◌∙◌, ap}
+use Rattle.std.proofs.Common.{◌≡◌, [], ◌∷◌, take, drop, to_z-of_z, sym}
 use Rattle.std.specs.Cmp.Lexicographic.{same_text}
-use Rattle.feed_names.specs.Day.{day_of_date}
-use Rattle.feed_names.specs.ReleaseName.{IsDated}
-use Rattle.feed_names.proofs.Dates.{one_date}
-use Rattle.feed_names.proofs.NameLemmas.{date-drop, day_fits, split_found}
+use Rattle.feed_names.proofs.NameLemmas.{date-drop, split_found}
 use Rattle.feed_names.proofs.release_name.split_date.Goals as goal
 
 pub returns-in-Some : goal.returns-in-Some
@@ -11,14 +8,11 @@ returns-in-Some c =
     let parts = c.split_at.ensures in
     let cut = rw (c.as_slice.ensures, parts.back) at c.in_ok-date.ensures.cases in
     let mark : take 1 (drop c.in_ok-at.at c.args.front.now) ≡ 95 ∷ [] = same_text _ _ (sym cut.0) in
-    let reads : day_of_date c.in_ok-date.date.now ≡ Some c.in-Some.day = sym c.read_date.ensures ∙ c.in-Some.is in
-    let found = split_found c.args.front.now c.in_ok-date.date.now c.in_ok-at.at c.in-Some.day c.in_ok-at.ensures.0 c.in_ok-at.ensures.1 mark cut.1 reads in
-    rw (parts.front, to_z-of_z (day_fits c.in-Some.day found.date found.is_date)) found
+    let found = split_found c.args.front.now c.in_ok-date.date.now c.in_ok-at.at c.in-Some.day c.in_ok-at.ensures.0 c.in_ok-at.ensures.1 mark cut.1 c.in-Some.ensures in
+    rw (parts.front, to_z-of_z (c.day_numbers_fit.ensures c.in-Some.day found.date found.is_date)) found
 
 pub returns-in-None : goal.returns-in-None
 returns-in-None c stem day h =
     let cut = rw (c.as_slice.ensures, c.split_at.ensures.back, c.in_ok-at.ensures.1, date-drop c.args.front.now stem day h) at c.in_ok-date.ensures.cases in
     let date : c.in_ok-date.date.now ≡ h.date = cut.1 in
-    let reads = one_date day h.date h.is_date in
-    let fails : day_of_date h.date ≡ None = ap day_of_date (sym date) ∙ sym c.read_date.ensures ∙ c.in-None.is in
-    cc
+    c.in-None.ensures day (rw date h.is_date)

@@ -29,7 +29,8 @@ returns-in-Some-clause-bytes c =
     let given : take n c.copy_front-count-in-Some.new.to ≡ take n block = c.copy_front-count-in-Some.ensures.copied ∙ ap (take n) value in
     let blocks : map (λ v. v.items) (into_iter_items c.self.inside.rest) ≡ block ∷ map (λ v. v.items) (into_iter_items c.next.new.self) =
     ap (map (λ v. v.items)) c.in-Some.ensures.items in
-    let all : c.args.self.now ≡ block ++ rest = sym c.self.view_is ∙ ap (λ l. l ++ concat (map (λ v. v.items) (into_iter_items c.self.inside.rest))) (drop_of_length-le front past) ∙ ap concat blocks in (
+    let all : c.args.self.now ≡ block ++ rest = sym c.self.view_is ∙ ap (λ l. l ++ concat (map (λ v. v.items) (into_iter_items c.self.inside.rest))) (drop_of_length-le front past)
+    ∙ ap concat blocks in (
       all ∙ ap (λ l. l ++ rest) (sym (take-append-drop n block)) ∙ append_assoc (take n block) (drop n block) rest ∙ ap (λ l. l ++ (drop n block ++ rest)) (sym given),
       λ zero room.
           let none : length block ≡ 0 = omega (arith, ap length value) in

@@ -37,6 +37,7 @@ returns c =
     let full = c.self.inside.full.items in
     let last = c.self.inside.last.items in
     let over : length (map (λ v. v.items) full) ≤ c.loop-block.block-index = omega (arith, length-map full (λ v. v.items), ap length c.deref-block-items.ensures.value) in (
-      λ yes. rw (← c.self.view_is) (utf8_blocks (map (λ v. v.items) full) last (λ k h. c.loop-block.invariant k (omega (arith, h, over))) (subst IsUtf8 c.deref-2.ensures.value (c.is_text-2.ensures.0 yes))),
+      λ yes. rw (← c.self.view_is) (utf8_blocks (map (λ v. v.items) full) last (λ k h. c.loop-block.invariant k (omega (arith, h, over)))
+          (subst IsUtf8 c.deref-2.ensures.value (c.is_text-2.ensures.0 yes))),
       λ utf8. c.is_text-2.ensures.1 (subst IsUtf8 (sym c.deref-2.ensures.value) (blocks_utf8 (map (λ v. v.items) full) last c.self.invariant (rw (← c.self.view_is) at utf8)).1),
     )

@@ -20,8 +20,20 @@ holdings_from-aside columns number fields reason e = rw e refl
 
 pub returns-in_ok-push-in-Ok : goal.returns-in_ok-push-in-Ok
 returns-in_ok-push-in-Ok c =
-    rw (← c.self.view_is, holdings_from-row c.args.columns.now c.args.number (fields_of c.args.fields.now) c.in-Ok.ensures.0, c.in_ok-push-in-Ok.ensures.items, c.in_ok-row-in-Ok.ensures, c.in-Ok.ensures.1, append-nil) refl
+    rw (
+      ← c.self.view_is,
+      holdings_from-row c.args.columns.now c.args.number (fields_of c.args.fields.now) c.in-Ok.ensures.0,
+      c.in_ok-push-in-Ok.ensures.items,
+      c.in_ok-row-in-Ok.ensures,
+      c.in-Ok.ensures.1,
+      append-nil,
+    ) refl
 
 pub returns-in_ok-push-in-Err : goal.returns-in_ok-push-in-Err
 returns-in_ok-push-in-Err c =
-    rw (← c.self.view_is, holdings_from-aside c.args.columns.now c.args.number (fields_of c.args.fields.now) c.in-Err.reason c.in-Err.ensures, c.in_ok-push-in-Err.ensures.items, append-nil) refl
+    rw (
+      ← c.self.view_is,
+      holdings_from-aside c.args.columns.now c.args.number (fields_of c.args.fields.now) c.in-Err.reason c.in-Err.ensures,
+      c.in_ok-push-in-Err.ensures.items,
+      append-nil,
+    ) refl

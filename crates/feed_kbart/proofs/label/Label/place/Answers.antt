@@ -3,7 +3,9 @@ use denote.Enum.Declared.{tag_of}
 use Rattle.feed_kbart.specs.Labels.{label_at}
 use Rattle.feed_kbart.specs.contracts.label.Label.{the_type}
 use Rattle.feed_kbart.specs.declared.label.Label.{Label}
-use Rattle.feed_kbart.specs.declared.label.Label.TheVariants.{PublicationTitle, PrintIdentifier, OnlineIdentifier, DateFirstIssueOnline, NumFirstVolOnline, DateLastIssueOnline, NumLastVolOnline, TitleUrl, TitleId, EmbargoInfo, CoverageDepth, PublicationType, AccessType}
+use Rattle.feed_kbart.specs.declared.label.Label.TheVariants.{PublicationTitle, PrintIdentifier, OnlineIdentifier, DateFirstIssueOnline, NumFirstVolOnline}
+use Rattle.feed_kbart.specs.declared.label.Label.TheVariants.{DateLastIssueOnline, NumLastVolOnline, TitleUrl, TitleId, EmbargoInfo, CoverageDepth}
+use Rattle.feed_kbart.specs.declared.label.Label.TheVariants.{PublicationType, AccessType}
 use Rattle.feed_kbart.proofs.label.Label.place.Goals as goal
 
 -- each label stands at its place

@@ -1,8 +1,5 @@
-use Rattle.std.proofs.Common.{◌≡◌, ℕ, ℤ, List, [], ◌∷◌, ◌++◌, length, ◌-◌, take, drop, codes, sym, ◌∙◌, ap, w32, to_z-of_z, true}
-use Rattle.std.proofs.lemmas.List.{take-append-drop}
-use Rattle.std.specs.Cmp.Lexicographic.{same_text}
-use Rattle.feed_names.specs.ReleaseName.{IsStem, IsDated, IsName, EndsInTxt}
-use Rattle.feed_names.proofs.NameLemmas.{day_fits, ending_cut, name_cut}
+use Rattle.std.proofs.Common.{to_z-of_z}
+use Rattle.feed_names.proofs.NameLemmas.{ending_cut, name_cut}
 use Rattle.feed_names.proofs.release_name.ReleaseName.parse.Goals as goal
 
 pub returns-in_default-split_date-clause-refused :
@@ -27,7 +24,7 @@ invariant_of-result c =
     let cut = rw c.as_slice.ensures at c.in-Some.ensures.cases in
     let ends = ending_cut c.args.text.now c.in-Some.front.now cut.0 cut.1 in
     let dated = c.in-Some-split_date.ensures in
-    rw (c.in-Ok.ensures.items, to_z-of_z (day_fits c.in-Some-split_date.day dated.date dated.is_date))
+    rw (c.in-Ok.ensures.items, to_z-of_z (c.day_numbers_fit.ensures c.in-Some-split_date.day dated.date dated.is_date))
     (name_cut c.args.text.now c.in-Some.front.now c.in-Some-split_date.stem.now c.in-Some-split_date.day ends dated (c.is_stem.ensures.0 c.if-not-is_stem.false))
 
 pub returns-in-Ok-clause-named : goal.returns-in-Ok-clause-named
@@ -35,12 +32,17 @@ returns-in-Ok-clause-named c =
     let cut = rw c.as_slice.ensures at c.in-Some.ensures.cases in
     let ends = ending_cut c.args.text.now c.in-Some.front.now cut.0 cut.1 in
     let dated = c.in-Some-split_date.ensures in
-    rw (c.in-Ok.ensures.items, to_z-of_z (day_fits c.in-Some-split_date.day dated.date dated.is_date))
+    rw (c.in-Ok.ensures.items, to_z-of_z (c.day_numbers_fit.ensures c.in-Some-split_date.day dated.date dated.is_date))
     (name_cut c.args.text.now c.in-Some.front.now c.in-Some-split_date.stem.now c.in-Some-split_date.day ends dated (c.is_stem.ensures.0 c.if-not-is_stem.false))
 
 pub returns-in-Err-clause-refused : goal.returns-in-Err-clause-refused
 returns-in-Err-clause-refused c =
     let cut = rw c.as_slice.ensures at c.in-Some.ensures.cases in (
       record { stem = c.in-Some-split_date.stem.now; day = c.in-Some-split_date.day },
-      record { front = c.in-Some.front.now; ends = ending_cut c.args.text.now c.in-Some.front.now cut.0 cut.1; is_dated = c.in-Some-split_date.ensures; is_stem = c.is_stem.ensures.0 c.if-not-is_stem.false },
+      record {
+        front = c.in-Some.front.now;
+        ends = ending_cut c.args.text.now c.in-Some.front.now cut.0 cut.1;
+        is_dated = c.in-Some-split_date.ensures;
+        is_stem = c.is_stem.ensures.0 c.if-not-is_stem.false;
+      },
     )

@@ -1,0 +1,25 @@
+//! Laws of dates, each the contract of a function that does nothing.
+ghost use Rattle.std.specs.Prelude.{ℕ, List};
+ghost use Rattle.feed_dates.specs.Days.{DayNumbersFit, OneDateForDay, OneDayForDate};
+ghost use Rattle.feed_dates.specs.DayRanges.{DatesAreRanges};
+
+/// No text is the date of two days.
+pub fn one_day_for_date()
+    ensures { OneDayForDate }
+{}
+
+/// A day has no other date than the one that its number spells.
+pub fn one_date_for_day()
+    ensures { OneDateForDay }
+{}
+
+/// The number of a day that has a date fits 32 bits.
+pub fn day_numbers_fit()
+    ensures { DayNumbersFit }
+{}
+
+/// The days of a date text are the least and the greatest day whose written date `YYYY-MM-DD` begins with it, and
+/// a text that reads as no date begins no day's.
+pub fn dates_are_ranges()
+    ensures { (text : List ℕ) → DatesAreRanges text }
+{}

@@ -1,0 +1,11 @@
+//! Days of the Gregorian calendar, and the texts that name them: `YYYY-MM-DD`, its fronts `YYYY` and
+//! `YYYY-MM` (ISO 8601), and the dates of a query.
+#![tactic(auto)]
+
+mod day;
+mod day_range;
+mod laws;
+
+pub use crate::day::read_date;
+pub use crate::day_range::DayRange;
+pub use crate::laws::{dates_are_ranges, day_numbers_fit, one_date_for_day, one_day_for_date};

@@ -1,0 +1,19 @@
+//! Tests of release names, dates, holdings lists and journal queries, by their public calls.
+#![tactic(auto)]
+
+#[cfg(test)]
+mod answers;
+#[cfg(test)]
+mod dates;
+#[cfg(test)]
+mod files;
+#[cfg(test)]
+mod holdings;
+#[cfg(test)]
+mod identifiers;
+#[cfg(test)]
+mod names;
+#[cfg(test)]
+mod printed;
+#[cfg(test)]
+mod queries;
