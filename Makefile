@@ -20,5 +20,5 @@ replay: build
 	done
 
 test:
-	@began=$$(date +%s); rt ci; status=$$?; spent=$$(($$(date +%s) - began)); \
+	@began=$$(date +%s); tools/check_pages && rt ci; status=$$?; spent=$$(($$(date +%s) - began)); \
 	echo "the gate took $$((spent / 60)) min $$((spent % 60)) s on $$(nproc) processors"; exit $$status
