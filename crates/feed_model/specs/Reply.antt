@@ -2,6 +2,7 @@
 use Rattle.std.specs.Prelude.{◌≡◌, ◌≢◌, ◌<◌, ◌+◌, ◌⊎◌, ◌↔◌, ℕ, zero, suc, is_none, if◌then◌else◌, List, [], ◌∷◌, length, Option, Some, None, Ok, Err, slice_get, IsSome, IsSomeAnd}
 use Rattle.std.specs.List.{IsDistinct, Contains}
 use Rattle.feed_names.specs.ReleaseName.{Name, name_eq}
+use Rattle.feed_kbart.specs.Limits.{file_limit}
 use Rattle.feed_kbart.specs.declared.fault.BadFile.{BadFile}
 use Rattle.feed_kbart.specs.declared.fault.BadFile.TheVariants.{NoHeader}
 use Rattle.feed_model.specs.declared.reply.Reply.{Reply}
@@ -21,8 +22,9 @@ OrRefused answer right = right ⊎ ((answer ≡ Err refusals.Memory) ⊎ (answer
 abbrev pub Commits : Answer → Reply → Type 0
 Commits answer reply = OrRefused answer (answer ≡ Ok reply)
 
+-- the most bytes that a file may have, and a piece, and the most releases that a feed records
 abbrev pub max_file : ℕ
-max_file = 67108864
+max_file = file_limit
 
 abbrev pub max_piece : ℕ
 max_piece = 1048576

@@ -1,6 +1,6 @@
 //! A piece beside the parts that are kept.
 ghost use Rattle.std.specs.Prelude.{◌≡◌, ◌+◌, ◌-◌, ◌<◌, ◌≤◌, ◌^◌, ◌++◌, ℕ, [], ◌∷◌, false, length, vec_len, All, ◌↔◌, IsSome, IsTrue, IfOk, OnOk};
-ghost use Rattle.feed_model.specs.Reply.{missing_below};
+ghost use Rattle.feed_model.specs.Reply.{max_piece, missing_below};
 ghost use Rattle.feed_model.specs.Content.{byte_in};
 ghost use Rattle.feed_model.specs.Change.{merged};
 ghost use Rattle.feed_parts.specs.Shown.{shown_part, shown_parts};
@@ -94,7 +94,7 @@ pub fn new_parts(
     requires within { AreWithin size (shown_parts parts.now) }
     requires small { size < 2 ^ 63 }
     requires inside { first + length bytes.now ≤ size }
-    requires piece { length bytes.now ≤ 1048576 }
+    requires piece { length bytes.now ≤ max_piece }
     ensures adds { IfOk result (λ new. Adds size (shown_parts parts.now) first bytes.now (shown_parts new.items)) }
     ensures some { IfOk result (λ new. HasNew (shown_parts parts.now) first bytes.now → 0 < length new.items) }
     ensures missing { IfOk result (λ new. missing_below (byte_in (merged (shown_parts parts.now) (shown_parts new.items))) size + total_length (shown_parts new.items) ≡ missing_below (byte_in (shown_parts parts.now)) size) }
