@@ -13,25 +13,43 @@ use std::test::Fail;
 
 // What is told a world, with the names of releases as texts.
 #[derive(Clone, Copy)]
-enum Told<'a> {
-    Publish(&'a str, &'a [u8]),
-    Offer(u64, &'a str),
-    Deliver(u64, &'a str, u64, u64),
-    Lose(u64, &'a str),
+enum Told {
+    Publish(&'static str, File),
+    Offer(u64, &'static str),
+    Deliver(u64, &'static str, u64, u64),
+    Lose(u64, &'static str),
     Restart(u64),
-    StopBeforeOffer(u64, &'a str),
-    StopAfterDelivery(u64, &'a str, u64, u64),
+    StopBeforeOffer(u64, &'static str),
+    StopAfterDelivery(u64, &'static str, u64, u64),
     Report(u64),
-    Ask(u64, &'a [u8]),
+    Ask(u64, &'static [u8]),
 }
 
-impl Told<'_> {
+// A file that is published: one of the good ones, or these bytes.
+#[derive(Clone, Copy)]
+enum File {
+    January,
+    February,
+    Bytes(&'static [u8]),
+}
+
+impl File {
+    fn text(self, alloc: Global) -> Result<Vec<u8>, Fail> {
+        match self {
+            File::January => january_file(alloc),
+            File::February => february_file(alloc),
+            File::Bytes(bytes) => Ok(Vec::from_slice(alloc, bytes)?),
+        }
+    }
+}
+
+impl Told {
     // The event that this tells, of a node or of a file.
     fn event(&self, alloc: Global) -> Result<WorldEvent, Fail> {
         Ok(match *self {
             Told::Publish(name, file) => WorldEvent::Publish {
                 name: name_of(alloc, name)?,
-                bytes: Vec::from_slice(alloc, file)?,
+                bytes: file.text(alloc)?,
             },
             Told::Offer(node, name) => WorldEvent::Offer {
                 node,
@@ -83,7 +101,7 @@ struct Events {
 }
 
 impl Events {
-    fn of(alloc: Global, told: &[Told<'_>]) -> Result<Events, Fail> {
+    fn of(alloc: Global, told: &[Told]) -> Result<Events, Fail> {
         let mut list = Vec::new(alloc);
         for one in told {
             list.push(one.event(alloc)?)?;
@@ -195,15 +213,13 @@ fn a_node_does_not_start_where_the_device_fails(rt: HostRuntime) -> Result<(), F
 #[test]
 fn each_line_is_printed(rt: HostRuntime) -> Result<(), Fail> {
     let alloc = rt.alloc();
-    let january = january_file(alloc)?;
-    let february = february_file(alloc)?;
     let told = [
-        Told::Publish(JANUARY, &january),
-        Told::Publish(JANUARY, &january),
-        Told::Publish(JANUARY, b"x"),
-        Told::Publish(FEBRUARY, &february),
-        Told::Publish(MARCH, HEADER_WITHOUT_URL),
-        Told::Publish("Acme_Global_All_2024-04-01.txt", b""),
+        Told::Publish(JANUARY, File::January),
+        Told::Publish(JANUARY, File::January),
+        Told::Publish(JANUARY, File::Bytes(b"x")),
+        Told::Publish(FEBRUARY, File::February),
+        Told::Publish(MARCH, File::Bytes(HEADER_WITHOUT_URL)),
+        Told::Publish("Acme_Global_All_2024-04-01.txt", File::Bytes(b"")),
         Told::Report(1),
         Told::Ask(1, b"rft.issn=2434561x"),
         Told::Ask(1, b"rft.issn=2434561"),
@@ -274,9 +290,8 @@ refused NoNode
 
 #[test]
 fn a_transcript_has_a_line_for_each_event(rt: HostRuntime) -> Result<(), Fail> {
-    let january = january_file(rt.alloc())?;
     let told = [
-        Told::Publish(JANUARY, &january),
+        Told::Publish(JANUARY, File::January),
         Told::Offer(1, JANUARY),
         Told::Deliver(1, JANUARY, 0, 205),
         Told::Report(1),
@@ -307,9 +322,8 @@ fn a_transcript_has_a_line_for_each_event(rt: HostRuntime) -> Result<(), Fail> {
 
 #[test]
 fn events_that_name_what_is_not_there_are_refused(rt: HostRuntime) -> Result<(), Fail> {
-    let january = january_file(rt.alloc())?;
     let told = [
-        Told::Publish(JANUARY, &january),
+        Told::Publish(JANUARY, File::January),
         Told::Offer(3, JANUARY),
         Told::Deliver(1, JANUARY, 200, 6),
         Told::Deliver(1, JANUARY, 0, 205),
@@ -361,9 +375,9 @@ fn each_node_hands_back_what_it_keeps(rt: HostRuntime) -> Result<(), Fail> {
     let file = january_file(alloc)?;
     let later_file = february_file(alloc)?;
     let told = [
-        Told::Publish(JANUARY, &file),
-        Told::Publish(FEBRUARY, &later_file),
-        Told::Publish(MARCH, HEADER_WITHOUT_URL),
+        Told::Publish(JANUARY, File::January),
+        Told::Publish(FEBRUARY, File::February),
+        Told::Publish(MARCH, File::Bytes(HEADER_WITHOUT_URL)),
         Told::Offer(1, JANUARY),
         Told::Deliver(1, JANUARY, 0, 205),
         Told::Offer(1, FEBRUARY),
@@ -406,9 +420,8 @@ fn each_node_hands_back_what_it_keeps(rt: HostRuntime) -> Result<(), Fail> {
 #[test]
 fn a_failing_device_is_told_and_keeps_nothing(rt: HostRuntime) -> Result<(), Fail> {
     let alloc = rt.alloc();
-    let january = january_file(alloc)?;
     let told = [
-        Told::Publish(JANUARY, &january),
+        Told::Publish(JANUARY, File::January),
         Told::Offer(1, JANUARY),
         Told::Deliver(1, JANUARY, 0, 100),
         Told::Deliver(1, JANUARY, 100, 105),
@@ -442,9 +455,8 @@ refused NoRelease
 
 #[test]
 fn a_node_is_down_until_a_restart_succeeds(rt: HostRuntime) -> Result<(), Fail> {
-    let january = january_file(rt.alloc())?;
     let told = [
-        Told::Publish(JANUARY, &january),
+        Told::Publish(JANUARY, File::January),
         Told::Offer(1, JANUARY),
         Told::Restart(1),
         Told::Report(1),
@@ -472,11 +484,9 @@ known
 #[test]
 fn a_node_that_was_down_has_what_it_kept(rt: HostRuntime) -> Result<(), Fail> {
     let alloc = rt.alloc();
-    let january = january_file(alloc)?;
-    let february = february_file(alloc)?;
     let told = [
-        Told::Publish(JANUARY, &january),
-        Told::Publish(FEBRUARY, &february),
+        Told::Publish(JANUARY, File::January),
+        Told::Publish(FEBRUARY, File::February),
         Told::Offer(1, JANUARY),
         Told::Deliver(1, JANUARY, 0, 205),
         Told::Offer(1, FEBRUARY),
@@ -540,7 +550,7 @@ fn a_node_that_is_down_hands_back_its_keeper(rt: HostRuntime) -> Result<(), Fail
     let alloc = rt.alloc();
     let file = january_file(alloc)?;
     let told = [
-        Told::Publish(JANUARY, &file),
+        Told::Publish(JANUARY, File::January),
         Told::Offer(1, JANUARY),
         Told::Deliver(1, JANUARY, 0, 205),
         Told::StopBeforeOffer(1, JANUARY),
