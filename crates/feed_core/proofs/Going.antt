@@ -48,9 +48,6 @@ pub record Went {S K : Type 0} (law : S → K → Type 0) (all rest : List S) (m
   pub order : done ++ rest ≡ all
   pub each : AreOf law done made
 
-pub went_start : {S K : Type 0} (law : S → K → Type 0) (all rest : List S) (made : List K) → made ≡ [] → rest ≡ all → Went law all rest made
-went_start law all rest made none is = rw (none, is) (record { done = []; order = refl; each = tt })
-
 pub went_next : {S K : Type 0} (law : S → K → Type 0) (all rest more : List S) (made now : List K) (s : S) (k : K) → Went law all rest made → rest ≡ s ∷ more → law s k → now ≡ made ++ k ∷ [] → Went law all more now
 went_next {S} {K} law all rest more made now s k so is holds pushed = record {
   done = so.done ++ s ∷ [];

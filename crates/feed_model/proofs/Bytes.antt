@@ -1,11 +1,10 @@
 -- Bytes at the places of a file.
-use Rattle.std.proofs.Common.{◌≡◌, ◌<◌, ◌≤◌, ◌+◌, ◌-◌, ℕ, zero, suc, Bool, true, false, cond, nat_lt, nat_le, List, [], ◌∷◌, length, Option, Some, None, IsSome, is_none, slice_get, ◌⊎◌, inl, inr, refl, sym, ◌∙◌, ap, subst, arith}
+use Rattle.std.proofs.Common.{◌≡◌, ◌<◌, ◌≤◌, ◌+◌, ◌-◌, ℕ, zero, suc, Bool, true, false, cond, nat_le, List, [], ◌∷◌, length, Option, Some, None, IsSome, slice_get, ◌⊎◌, inl, inr, refl, subst, arith}
 use Rattle.std.proofs.lemmas.Bool.Decides.{nat_tests}
 use Rattle.std.specs.List.{All}
-use Rattle.std.proofs.lemmas.List.Elements.{All-nil, All-cons, All-head, All-tail}
+use Rattle.std.proofs.lemmas.List.Elements.{All-nil, All-cons}
 use Rattle.feed_model.specs.History.{or_else, byte_at}
-use Rattle.feed_model.specs.Reply.{max_piece}
-use Rattle.feed_model.specs.Content.{Part, byte_in, end_of, ArePartsFrom, AreParts}
+use Rattle.feed_model.specs.Content.{Part, byte_in, end_of, ArePartsFrom}
 
 none_or_some : (o : Option ℕ) → (o ≡ None) ⊎ IsSome o
 none_or_some None = inl refl

@@ -1,10 +1,9 @@
 -- The answer to a loss, and where nothing happened yet.
-use Rattle.std.proofs.Common.{◌≡◌, true, false, [], Ok, refl}
-use Rattle.std.specs.List.{IsDistinct}
+use Rattle.std.proofs.Common.{Ok, refl}
 use Rattle.feed_names.specs.ReleaseName.{Name}
 use Rattle.feed_model.specs.declared.reply.Reply.TheVariants as replies
 use Rattle.feed_model.specs.History.{Lost}
-use Rattle.feed_model.specs.Content.{Content, IsContent}
+use Rattle.feed_model.specs.Content.{Content}
 use Rattle.feed_model.specs.Handles.{Handles}
 use Rattle.feed_model.proofs.Idle.{unchanged}
 

@@ -1,19 +1,17 @@
 -- Each answer to a piece that keeps nothing.
-use Rattle.std.proofs.Common.{◌≡◌, ◌≢◌, ◌<◌, ◌≤◌, ◌+◌, ℕ, false, List, length, Option, Some, None, Ok, Err, IsSome, ◌⊎◌, inl, inr, refl, sym, ◌∙◌, ap, subst, arith}
+use Rattle.std.proofs.Common.{◌≡◌, ◌≢◌, ◌<◌, ◌+◌, ℕ, false, List, length, Option, Some, None, Ok, Err, IsSome, ◌⊎◌, inl, inr, refl, sym, ◌∙◌, ap, subst, arith}
 use Rattle.std.specs.Prelude.{IfSome, IsSomeAnd}
 use Rattle.feed_names.specs.ReleaseName.{Name}
-use Rattle.feed_model.specs.declared.state.State.{State}
-use Rattle.feed_model.specs.declared.state.State.TheVariants.{Staged, Broken, Active}
 use Rattle.feed_model.specs.declared.reply.Reply.TheVariants as replies
 use Rattle.feed_model.specs.declared.reply.Refusal.TheVariants as refusals
-use Rattle.feed_model.specs.History.{Piece, History, Answer, is_noted, is_taken, size_of, kept, IsWhole}
+use Rattle.feed_model.specs.History.{Piece, History, Answer, is_noted, is_taken, size_of, kept}
 use Rattle.feed_model.specs.Reply.{Case, IsRight, IsKept, Differs, Stores, max_piece}
-use Rattle.feed_model.specs.Content.{Record, Content, record_of, byte_in, IsState, IsRecord, IsContent}
+use Rattle.feed_model.specs.Content.{Record, Content, record_of, IsContent}
 use Rattle.feed_model.specs.Change.{NoneIsLater}
 use Rattle.feed_model.specs.Parts.{DiffersIn, AgreesIn, HasNew, Covers, IsSmall, Reaches}
 use Rattle.feed_model.specs.Handles.{Handles, HasLaterActive}
 use Rattle.feed_model.proofs.Idle.{unchanged}
-use Rattle.feed_model.proofs.Bytes.{slice_some, byte_at-within, some_none}
+use Rattle.feed_model.proofs.Bytes.{some_none}
 use Rattle.feed_model.proofs.Tests.{of_record, not_held, passed_by, not_passed_by}
 
 no_bad_piece : (bytes : List ℕ) → IsSmall bytes → ¬ ((length bytes ≡ 0) ⊎ (max_piece < length bytes))

@@ -1,14 +1,12 @@
 -- Records and parts by their places in the lists.
-use Rattle.std.proofs.Common.{◌≡◌, ◌≢◌, ◌<◌, ◌≤◌, ℕ, zero, suc, Bool, true, false, cond, nat_lt, List, [], ◌∷◌, length, get_or, set, Some, None, refl, ap, subst, arith}
-use Rattle.std.specs.List.{IsDistinct, AllByRecursion, All, AllWithin, HoldsAt, insert}
+use Rattle.std.proofs.Common.{◌≡◌, ◌<◌, ℕ, zero, suc, Bool, true, false, [], ◌∷◌, length, get_or, Some, refl, arith}
+use Rattle.std.specs.List.{IsDistinct, AllByRecursion}
 use Rattle.std.proofs.lemmas.Map.Keys.{IsDistinct-head, IsDistinct-tail}
-use Rattle.std.proofs.lemmas.Bool.Decides.{nat_tests}
 use Rattle.feed_names.specs.ReleaseName.{Name, name_eq, IsEarlier}
 use Rattle.feed_model.specs.declared.state.State.TheVariants.{Active}
-use Rattle.feed_model.specs.Content.{Part, Record, Content, record_of, names}
-use Rattle.feed_model.specs.Change.{comes_before, insert_record, insert_part, changed, NoneIsLater}
+use Rattle.feed_model.specs.Content.{Record, Content, record_of, names}
 use Rattle.feed_model.specs.Handles.{HasLaterActive}
-use Rattle.feed_model.proofs.Names.{name_self, name_apart}
+use Rattle.feed_model.proofs.Names.{name_self}
 
 -- no record has the name
 

@@ -2,11 +2,10 @@
 use Rattle.std.proofs.Common.{◌≡◌, ◌≢◌, ◌<◌, ℕ, List, length, Some, None, slice_get, sym, ◌∙◌, ap, subst, arith}
 use Rattle.feed_names.specs.ReleaseName.{Name}
 use Rattle.feed_model.specs.declared.state.State.TheVariants.{Active}
-use Rattle.feed_model.specs.File.{fault_of}
 use Rattle.feed_model.specs.History.{History, IsFile, IsGood, IsActive, IsPassed, Reports}
 use Rattle.feed_model.specs.Content.{Record, Content, record_of, byte_in, IsState, IsContent}
 use Rattle.feed_model.proofs.Lookups.{name-record_of, record_of-own}
-use Rattle.feed_model.proofs.Tests.{of_record, record_good, not_passed_active, file_one}
+use Rattle.feed_model.proofs.Tests.{of_record, record_good, not_passed_active}
 
 active_by : (c : Content) (h : History) (r : Record) → IsContent c h → record_of c r.name ≡ Some r → r.state ≡ Active → IsActive h r.name
 active_by c h r is found active = subst (IsState h r.name) active (of_record c h r.name r is found).state

@@ -1,5 +1,5 @@
 -- Answers of a feed that change nothing, and what is known of a piece that brings new bytes.
-use Rattle.std.proofs.Common.{◌≡◌, ◌≢◌, ◌⊎◌, ◌≤◌, ◌<◌, ◌+◌, ℕ, Some, Result, Ok, Err, OnErr, IfSome, IsSomeAnd, inl, inr, refl, sym, ap, subst, arith, List, Option, None, length}
+use Rattle.std.proofs.Common.{◌≡◌, ◌≢◌, ◌⊎◌, ◌≤◌, ◌<◌, ◌+◌, ℕ, Some, Result, Ok, Err, OnErr, IfSome, IsSomeAnd, inl, inr, sym, ap, subst, arith, List, Option, None, length}
 use Rattle.std.proofs.lemmas.Bool.Decides.{eqb_tells}
 use Rattle.feed_names.specs.ReleaseName.{Name}
 use Rattle.feed_model.specs.declared.reply.Refusal.{Refusal}
@@ -42,10 +42,6 @@ taken_in old new event reply clean counted right = record { right = right; refus
 -- an error that is want of memory
 pub only_memory : {T : Type 0} (refusal : Refusal) → (let r : Result T Refusal = Err refusal in r ≡ Err Memory) → refusal ≡ Memory
 only_memory refusal e = cc
-
--- no other answer is the fault of the device
-pub ok_not : (reply : Reply) → (let a : Answer = Ok reply in a ≢ Err Device)
-ok_not reply e = cc
 
 pub memory_not : let a : Answer = Err Memory in a ≢ Err Device
 memory_not e = cc

@@ -1,12 +1,10 @@
 -- What a piece makes of a release: that the commit is allowed, and that the answer is right.
-use Rattle.std.proofs.Common.{◌≡◌, ◌≢◌, ◌<◌, ◌⊎◌, ℕ, List, Option, length, Ok, Err, inl, inr, refl, sym, ◌∙◌, ap, subst, arith}
+use Rattle.std.proofs.Common.{◌≡◌, ◌≢◌, ℕ, List, Option, Ok, refl, sym, ◌∙◌, arith}
 use Rattle.feed_names.specs.ReleaseName.{Name}
 use Rattle.feed_model.specs.declared.reply.Reply.TheVariants.{Activated}
-use Rattle.feed_model.specs.declared.state.State.{State}
-use Rattle.feed_model.specs.declared.state.State.TheVariants.{Staged, Broken, Active}
 use Rattle.feed_model.specs.History.{Piece}
 use Rattle.feed_model.specs.Reply.{missing_below}
-use Rattle.feed_model.specs.Content.{Part, Record, Content, record_of, byte_in}
+use Rattle.feed_model.specs.Content.{Part, Record, Content, byte_in}
 use Rattle.feed_model.specs.Change.{after, changed, grown, merged, without_earlier, IsAllowed, NoneIsLater, TakesParts}
 use Rattle.feed_model.specs.Parts.{Adds, Reaches}
 use Rattle.feed_model.specs.Handles.{Handles}

@@ -1,20 +1,19 @@
 -- A release that grows, in the list of releases.
-use Rattle.std.proofs.Common.{◌≡◌, ◌≢◌, ◌≤◌, ◌<◌, ◌+◌, ◌-◌, ℕ, zero, suc, List, [], ◌∷◌, length, get_or, set, Option, Some, None, refl, sym, ◌∙◌, ap, subst, arith, true}
+use Rattle.std.proofs.Common.{◌≡◌, ◌≤◌, ◌<◌, ℕ, zero, suc, List, [], ◌∷◌, length, get_or, set, Some, None, refl, sym, ◌∙◌, ap, subst, arith, true}
 use Rattle.std.specs.Prelude.{if◌then◌else◌, Bool}
 use Rattle.std.proofs.Math.Dec.{eqb-suc-zero}
 use Rattle.feed_names.specs.ReleaseName.{Name, name_eq}
-use Rattle.feed_kbart.specs.HoldingsValue.{HoldingsValue}
 use Rattle.feed_model.specs.declared.state.State.{State}
 use Rattle.feed_model.specs.declared.state.State.TheVariants.{Staged, Broken}
 use Rattle.feed_model.specs.Reply.{max_file, missing_below}
-use Rattle.feed_model.specs.Content.{Part, Record, Content, record_of, byte_in}
-use Rattle.feed_model.specs.Change.{merged, grown, changed, new_record, TakesParts}
+use Rattle.feed_model.specs.Content.{Part, Record, record_of, byte_in}
+use Rattle.feed_model.specs.Change.{grown, changed, new_record}
 use Rattle.feed_model.proofs.Names.{name_is}
 use Rattle.feed_model.proofs.Faults.{empty_bad}
 use Rattle.feed_parts.specs.declared.part.Part as code_part
 use Rattle.feed_parts.specs.Shown.{shown_parts}
 use Rattle.feed_model.specs.Parts.{AreWithin}
-use Rattle.feed_releases.specs.ReleaseValue.{ReleaseValue, IsRelease, IsKnown, content_of, IsPlaceOf}
+use Rattle.feed_releases.specs.ReleaseValue.{ReleaseValue, IsRelease, content_of, IsPlaceOf}
 use Rattle.feed_releases.proofs.Finding.{found_at, set_at}
 
 -- as many parts are seen as there are
@@ -37,19 +36,6 @@ sound_new n size limit = by size limit
     by zero le = record { within = empty zero; limit = le; counted = refl; staged = λ e. absurd (cc); whole = λ e. refl; known = ([], record { count = refl; bytes = λ place lt. absurd (omega (arith, lt)) }, empty_bad, refl) }
     by (suc k) le = subst (λ (s : State). IsRelease (record { name = n; size = suc k; state = s; parts = [] }) (suc k) None) (sym (ap (λ (b : Bool). if b then Broken else Staged) (eqb-suc-zero k)))
         (record { within = empty (suc k); limit = le; counted = sym (missing_all (suc k)); staged = λ e. omega arith; whole = λ e. absurd (e refl); known = refl })
-
--- a release with its new parts
-pub sound_grown : (r : Record) (missing left : ℕ) (holdings : Option HoldingsValue) (parts : List Part) (state : State) (known : Option HoldingsValue) → IsRelease r missing holdings → AreWithin r.size parts
-    → left ≡ missing_below (byte_in parts) r.size → (state ≡ Staged → 0 < left) → (state ≢ Staged → left ≡ 0)
-    → IsKnown state r.size parts known → IsRelease (record { name = r.name; size = r.size; state = state; parts = parts }) left known
-sound_grown r missing left holdings parts state known sound whole counted lacks full knows = record {
-  within = whole;
-  limit = sound.limit;
-  counted = counted;
-  staged = lacks;
-  whole = full;
-  known = knows;
-}
 
 -- what is at a place of the list is what was read there
 pub kept_at : (rs : List ReleaseValue) (at : ℕ) (r : ReleaseValue) (P : Record → Type 0) → r ≡ get_or rs at r → P (get_or rs at r).kept → P r.kept

@@ -1,4 +1,4 @@
-use Rattle.std.proofs.Common.{◌≡◌, refl, arith}
+use Rattle.std.proofs.Common.{◌≡◌, refl}
 use Rattle.feed_world.specs.World.{Text, Ask, Refused, IsAsked}
 use Rattle.feed_core.proofs.Steps.{away_asked, asks_ready}
 use Rattle.feed_core.proofs.step.ask_at.Goals as goal

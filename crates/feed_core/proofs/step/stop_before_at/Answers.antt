@@ -1,4 +1,4 @@
-use Rattle.std.proofs.Common.{true, false, List, ◌≡◌, ◌∷◌, refl, sym, ◌∙◌, ap, subst, inl, inr, Err}
+use Rattle.std.proofs.Common.{true, false, List, ◌≡◌, refl, sym, ◌∙◌, ap, subst, inl, inr, Err}
 use Rattle.feed_world.specs.World.{Shelf, StopBefore, Stopped, IsDown, Refused, Reopens, arriving}
 use Rattle.feed_core.specs.Nodes.{shown_arrived}
 use Rattle.feed_core.specs.Step.{Goes}

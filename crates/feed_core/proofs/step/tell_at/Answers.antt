@@ -1,4 +1,4 @@
-use Rattle.std.proofs.Common.{true, false, ◌≡◌, ◌∷◌, refl, ◌∙◌, ap, Ok, Err, slice_set}
+use Rattle.std.proofs.Common.{true, ◌≡◌, ◌∷◌, refl, ◌∙◌, ap, Ok, Err, slice_set}
 use Rattle.feed_model.specs.History.{Answer}
 use Rattle.feed_model.specs.Reply.{IsRight}
 use Rattle.feed_world.specs.World.{Shelf, Tell, Replied, Refused, answer_line, arriving, with_node}

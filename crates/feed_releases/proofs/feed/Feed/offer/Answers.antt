@@ -1,4 +1,4 @@
-use Rattle.std.proofs.Common.{◌≡◌, ◌<◌, get_or, length, None, Err, refl, sym, ◌∙◌, ap, subst, arith, true}
+use Rattle.std.proofs.Common.{get_or, refl, sym, ◌∙◌, ap, arith}
 use Rattle.std.proofs.lemmas.Result.{err_from_is_err_and}
 use Rattle.feed_model.proofs.Offers.{offer_older, offer_known, offer_wrong_size, offer_full, offer_refused, offer_noted, offer_noted_empty}
 use Rattle.feed_releases.specs.ReleaseValue.{ReleaseValue, content_of}

@@ -1,4 +1,4 @@
-use Rattle.std.proofs.Common.{◌≡◌, ◌≢◌, ◌<◌, ◌+◌, length, IsSomeAnd, refl, arith}
+use Rattle.std.proofs.Common.{◌≢◌, ◌<◌, ◌+◌, length, IsSomeAnd, refl, arith}
 use Rattle.feed_model.specs.Content.{record_of}
 use Rattle.feed_model.specs.Parts.{Reaches}
 use Rattle.feed_model.proofs.Pieces.{piece_older, piece_unknown, piece_wrong_size, piece_outside, piece_conflict, piece_repeated}

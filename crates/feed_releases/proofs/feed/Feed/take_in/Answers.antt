@@ -1,11 +1,10 @@
-use Rattle.std.proofs.Common.{◌≡◌, ◌≢◌, List, Ok, Err, inl, refl, sym, ◌∙◌, ap, arith, set}
+use Rattle.std.proofs.Common.{inl, refl, sym, ◌∙◌, ap, arith}
 use Rattle.std.proofs.lemmas.Result.{err_from_is_err_and}
-use Rattle.feed_model.specs.declared.reply.Refusal.TheVariants.{Memory}
 use Rattle.feed_model.specs.Change.{after, without_earlier}
 use Rattle.feed_model.proofs.Pieces.{piece_refused}
 use Rattle.feed_keep.proofs.Failed.{told_as}
 use Rattle.feed_releases.specs.ReleaseValue.{ReleaseValue, content_of}
-use Rattle.feed_releases.specs.Growth.{change_of, parts_of, reply_of, state_of}
+use Rattle.feed_releases.specs.Growth.{change_of, parts_of, state_of}
 use Rattle.feed_releases.proofs.Answering.{idle, memory_not, only_memory, refused, refused_with, taken_in}
 use Rattle.feed_releases.proofs.Growth.{found_here, grown_at, length-set, name_at, one_at, set_back}
 use Rattle.feed_releases.proofs.Growing.{growth_right, growth_allowed, after_activated, after_kept}

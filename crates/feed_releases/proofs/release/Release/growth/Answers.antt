@@ -1,4 +1,4 @@
-use Rattle.std.proofs.Common.{◌≡◌, ◌<◌, ◌-◌, ℕ, length, refl, sym, ◌∙◌, ap, arith}
+use Rattle.std.proofs.Common.{◌≡◌, sym, ◌∙◌, arith}
 use Rattle.feed_model.specs.Content.{byte_in}
 use Rattle.feed_model.specs.Change.{merged}
 use Rattle.feed_model.specs.Reply.{missing_below}
