@@ -12,12 +12,22 @@ use Rattle.feed_world.proofs.Over.{reports_one}
 use Rattle.feed_releases.specs.Answered.{IsAnswered}
 
 -- the text of the hits of a whole file
-said : (name : Name) (file items : List ℕ) (query : QueryValue) (hits : List HitValue) → hits ≡ answer_of (holdings_of file) query → items ≡ answer_text (text_of name) hits → Text items ≡ file_says name file (Ok query)
+said : (name : Name) (file items : List ℕ) (query : QueryValue) (hits : List HitValue) → hits ≡ answer_of (holdings_of file) query → items ≡ answer_text (text_of name) hits
+    → Text items ≡ file_says name file (Ok query)
 unfolding text_for
 said name file items query hits found written = ap Text (written ∙ ap (answer_text (text_of name)) found)
 
-pub asked_text : (h : History) (stem text old items : List ℕ) (name : Name) (query : QueryValue) (hits : List HitValue) → Reports h stem (Some name) → Ok query ≡ query_of text → IsAnswered h stem query (Ok hits) → old ≡ [] → items ≡ old ++ answer_text (text_of name) hits → IsAsked h stem text (Text items)
+pub asked_text : (h : History) (stem text old items : List ℕ) (name : Name) (query : QueryValue) (hits : List HitValue) → Reports h stem (Some name) → Ok query ≡ query_of text
+    → IsAnswered h stem query (Ok hits) → old ≡ [] → items ≡ old ++ answer_text (text_of name) hits → IsAsked h stem text (Text items)
 asked_text h stem text old items name query hits reports read answered none written =
     let same : answered.0 ≡ name = (let e = reports_one h stem (Some answered.0) (Some name) answered.2 reports in cc) in
-    let file = answered.1 in
-    (Some name, reports, inl (file, subst (λ (n : Name). IsFile h n file) same answered.3, rw (← read) (said name file items query hits answered.4 (written ∙ ap (λ xs. xs ++ answer_text (text_of name) hits) none))))
+    let file = answered.1 in (
+      Some name,
+      reports,
+      inl (
+        file,
+        subst (λ (n : Name). IsFile h n file) same answered.3,
+        rw (← read)
+            (said name file items query hits answered.4 (written ∙ ap (λ xs. xs ++ answer_text (text_of name) hits) none)),
+      ),
+    )

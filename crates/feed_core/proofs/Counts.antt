@@ -22,13 +22,25 @@ counted_same is_told failed node [] before = tt
 counted_same is_told failed node (x ∷ xs) before = (omega arith, (λ t. absurd (omega (arith, before node t))), counted_same is_told failed (suc node) xs (λ i t. omega (arith, before i t)))
 
 -- one node is told of at most
-pub counted_set : {M : Type 0} (is_told : ℕ → Type 0) (failed : M → ℕ) (node : ℕ) (xs : List M) (at : ℕ) (x z : M) → at < length xs → x ≡ get_or xs at x → failed x ≤ failed z → (is_told (node + at) → HasFailedSince (failed x) (failed z)) → ((i : ℕ) → is_told i → i ≡ node + at) → AreCounted is_told failed failed node xs (slice_set xs at z)
+pub counted_set : {M : Type 0} (is_told : ℕ → Type 0) (failed : M → ℕ) (node : ℕ) (xs : List M) (at : ℕ) (x z : M) → at < length xs → x ≡ get_or xs at x → failed x ≤ failed z
+    → (is_told (node + at) → HasFailedSince (failed x) (failed z)) → ((i : ℕ) → is_told i → i ≡ node + at) → AreCounted is_told failed failed node xs (slice_set xs at z)
 counted_set is_told failed node [] at x z lt is le rise one = absurd (omega arith)
-counted_set {M} is_told failed node (y ∷ ys) zero x z lt is le rise one = (subst (λ (v : M). failed v ≤ failed z) is le, (λ t. subst (λ (v : M). HasFailedSince (failed v) (failed z)) is (rise (subst is_told (omega arith) t))), counted_same is_told failed (suc node) ys (λ i t. omega (arith, one i t)))
-counted_set is_told failed node (y ∷ ys) (suc at) x z lt is le rise one = (omega arith, (λ t. absurd (omega (arith, one node t))), counted_set is_told failed (suc node) ys at x z (omega arith) is le (λ t. rise (subst is_told (omega arith) t)) (λ i t. omega (arith, one i t)))
+counted_set {M} is_told failed node (y ∷ ys) zero x z lt is le rise one = (
+  subst (λ (v : M). failed v ≤ failed z) is le,
+  (λ t. subst (λ (v : M). HasFailedSince (failed v) (failed z)) is (rise (subst is_told (omega arith) t))),
+  counted_same is_told failed
+      (suc node) ys (λ i t. omega (arith, one i t)),
+)
+counted_set is_told failed node (y ∷ ys) (suc at) x z lt is le rise one = (
+  omega arith,
+  (λ t. absurd (omega (arith, one node t))),
+  counted_set is_told failed (suc node) ys at x z (omega arith) is le (λ t. rise (subst is_told (omega arith) t))
+      (λ i t. omega (arith, one i t)),
+)
 
 -- one run after another
-pub counted_then : {X Y Z : Type 0} (P Q : ℕ → Type 0) (f : X → ℕ) (g : Y → ℕ) (h : Z → ℕ) (node : ℕ) (xs : List X) (ys : List Y) (zs : List Z) → AreCounted P f g node xs ys → AreCounted Q g h node ys zs → AreCounted (λ i. P i ⊎ Q i) f h node xs zs
+pub counted_then : {X Y Z : Type 0} (P Q : ℕ → Type 0) (f : X → ℕ) (g : Y → ℕ) (h : Z → ℕ) (node : ℕ) (xs : List X) (ys : List Y) (zs : List Z) → AreCounted P f g node xs ys
+    → AreCounted Q g h node ys zs → AreCounted (λ i. P i ⊎ Q i) f h node xs zs
 counted_then P Q f g h node [] [] [] a b = tt
 counted_then P Q f g h node [] [] (z ∷ zs) a b = absurd b
 counted_then P Q f g h node [] (y ∷ ys) zs a b = absurd a
@@ -82,7 +94,8 @@ pub down_not : ¬ (TellsDevice (Refused Down))
 down_not t = let e = tells_refused Down t in absurd (cc)
 
 -- why nothing happens at a node is no fault of its device, unless that is what arrived
-pub away_not : {M T : Type 0} (stands : M → Bool → History → Type 0) (xs : List M) (node : ℕ) (arrived : Result T Why) (reason : Why) → (arrived ≡ Err (Feed refusals.Device) → ⊥) → IsAway stands xs node arrived reason → ¬ (TellsDevice (Refused reason))
+pub away_not : {M T : Type 0} (stands : M → Bool → History → Type 0) (xs : List M) (node : ℕ) (arrived : Result T Why) (reason : Why) → (arrived ≡ Err (Feed refusals.Device) → ⊥)
+    → IsAway stands xs node arrived reason → ¬ (TellsDevice (Refused reason))
 away_not stands xs node arrived reason sent (inl none) told = no_node_not (subst (λ (r : Why). TellsDevice (Refused r)) none.0 told)
 away_not stands xs node arrived reason sent (inr (inl away)) told = sent (away.told ∙ ap Err (tells_refused reason told))
 away_not stands xs node arrived reason sent (inr (inr down)) told = down_not (subst (λ (r : Why). TellsDevice (Refused r)) down.0 told)
@@ -92,15 +105,19 @@ pub counted_stay : {M : Type 0} (failed : M → ℕ) (xs : List M) (node : ℕ) 
 counted_stay failed xs node line not = counted_same (λ i. (i ≡ node) × TellsDevice line) failed 1 xs (λ i t. absurd (not t.1))
 
 -- one node changes
-pub counted_step : {M : Type 0} (failed : M → ℕ) (xs ys : List M) (at node : ℕ) (x z : M) (line : Line) → at < length xs → x ≡ get_or xs at x → ys ≡ slice_set xs at z → node ≡ at + 1 → failed x ≤ failed z → (TellsDevice line → HasFailed (failed x) (failed z)) → AreCounted (λ i. (i ≡ node) × TellsDevice line) failed failed 1 xs ys
+pub counted_step : {M : Type 0} (failed : M → ℕ) (xs ys : List M) (at node : ℕ) (x z : M) (line : Line) → at < length xs → x ≡ get_or xs at x → ys ≡ slice_set xs at z → node ≡ at + 1
+    → failed x ≤ failed z → (TellsDevice line → HasFailed (failed x) (failed z)) → AreCounted (λ i. (i ≡ node) × TellsDevice line) failed failed 1 xs ys
 counted_step {M} failed xs ys at node x z line lt is now number le rise =
-    subst (λ (zs : List M). AreCounted (λ i. (i ≡ node) × TellsDevice line) failed failed 1 xs zs) (sym now) (counted_set (λ i. (i ≡ node) × TellsDevice line) failed 1 xs at x z lt is le (λ t. failed_since (failed x) (failed z) (rise t.1)) (λ i t. omega (arith, t.0, number)))
+    subst (λ (zs : List M). AreCounted (λ i. (i ≡ node) × TellsDevice line) failed failed 1 xs zs) (sym now)
+    (counted_set (λ i. (i ≡ node) × TellsDevice line) failed 1 xs at x z lt is le (λ t. failed_since (failed x) (failed z) (rise t.1)) (λ i t. omega (arith, t.0, number)))
 
 -- the node of an event
-pub counted_at : {M : Type 0} (failed : M → ℕ) (xs ys : List M) (node : ℕ) (line : Line) → AreCounted (λ i. (i ≡ node) × TellsDevice line) failed failed 1 xs ys → AreCounted (λ i. (Some node ≡ Some i) × TellsDevice line) failed failed 1 xs ys
+pub counted_at : {M : Type 0} (failed : M → ℕ) (xs ys : List M) (node : ℕ) (line : Line) → AreCounted (λ i. (i ≡ node) × TellsDevice line) failed failed 1 xs ys
+    → AreCounted (λ i. (Some node ≡ Some i) × TellsDevice line) failed failed 1 xs ys
 counted_at failed xs ys node line a = counted_as (λ i. (i ≡ node) × TellsDevice line) (λ i. (Some node ≡ Some i) × TellsDevice line) failed failed 1 xs ys (λ i t. (let e = t.0 in (cc, t.1))) a
 
-told_more : (es : List WorldEvent) (ls : List Line) (e : WorldEvent) (l : Line) (node : ℕ) → length es ≡ length ls → IsToldOf (es ++ e ∷ []) (ls ++ l ∷ []) node → IsToldOf es ls node ⊎ ((node_of e ≡ Some node) × TellsDevice l)
+told_more : (es : List WorldEvent) (ls : List Line) (e : WorldEvent) (l : Line) (node : ℕ) → length es ≡ length ls → IsToldOf (es ++ e ∷ []) (ls ++ l ∷ []) node
+    → IsToldOf es ls node ⊎ ((node_of e ≡ Some node) × TellsDevice l)
 told_more [] [] e l node same (inl t) = inr t
 told_more [] [] e l node same (inr t) = absurd t
 told_more [] (y ∷ ys) e l node same t = absurd (omega (arith, same))
@@ -113,10 +130,13 @@ told_more (x ∷ xs) (y ∷ ys) e l node same (inr t) = pick (told_more xs ys e 
     pick (inr u) = inr u
 
 -- one more event and one more line
-pub counted_more : {M E L : Type 0} (failed : M → ℕ) (told : E → WorldEvent) (shown : L → Line) (es : List E) (ls ks : List L) (i : ℕ) (e : E) (l : L) (xs ys zs : List M) → e ≡ get_or es i e → i < length es → length ls ≡ i → ks ≡ ls ++ l ∷ [] → AreCounted (IsToldOf (map told (take i es)) (map shown ls)) failed failed 1 xs ys → AreCounted (λ n. (node_of (told e) ≡ Some n) × TellsDevice (shown l)) failed failed 1 ys zs → AreCounted (IsToldOf (map told (take (i + 1) es)) (map shown ks)) failed failed 1 xs zs
+pub counted_more : {M E L : Type 0} (failed : M → ℕ) (told : E → WorldEvent) (shown : L → Line) (es : List E) (ls ks : List L) (i : ℕ) (e : E) (l : L) (xs ys zs : List M) → e ≡ get_or es i e
+    → i < length es → length ls ≡ i → ks ≡ ls ++ l ∷ [] → AreCounted (IsToldOf (map told (take i es)) (map shown ls)) failed failed 1 xs ys
+    → AreCounted (λ n. (node_of (told e) ≡ Some n) × TellsDevice (shown l)) failed failed 1 ys zs → AreCounted (IsToldOf (map told (take (i + 1) es)) (map shown ks)) failed failed 1 xs zs
 counted_more {M} {E} failed told shown es ls ks i e l xs ys zs at lt same is before step =
     rw (is, take_more es i e lt, map-push told (take i es) (get_or es i e), map-push shown ls l)
     (subst (λ (x : E). AreCounted (IsToldOf (map told (take i es) ++ told x ∷ []) (map shown ls ++ shown l ∷ [])) failed failed 1 xs zs) at
-    (counted_as (λ n. IsToldOf (map told (take i es)) (map shown ls) n ⊎ ((node_of (told e) ≡ Some n) × TellsDevice (shown l))) (IsToldOf (map told (take i es) ++ told e ∷ []) (map shown ls ++ shown l ∷ [])) failed failed 1 xs zs
+    (counted_as (λ n. IsToldOf (map told (take i es)) (map shown ls) n ⊎ ((node_of (told e) ≡ Some n) × TellsDevice (shown l)))
+    (IsToldOf (map told (take i es) ++ told e ∷ []) (map shown ls ++ shown l ∷ [])) failed failed 1 xs zs
     (λ n t. told_more (map told (take i es)) (map shown ls) (told e) (shown l) n (omega (arith, length-map (take i es) told, length-map ls shown, length-take i es, lt, same)) t)
     (counted_then (IsToldOf (map told (take i es)) (map shown ls)) (λ n. (node_of (told e) ≡ Some n) × TellsDevice (shown l)) failed failed failed 1 xs ys zs before step)))

@@ -9,13 +9,16 @@ use Rattle.feed_world.specs.World.{World, Node, WorldEvent, Line, Shelf, Happens
 use Rattle.feed_core.specs.Step.{AllClean, AreNodes, AreKept, Goes, GoesTo, IsShelf}
 
 -- a node goes on, and the published files stay
-pub goes_to : {M : Type 0} (clean : M → Type 0) (stands : M → Bool → History → Type 0) (fits : Shelf → Type 0) (files : List (Bor (List ℕ) × Bor (List ℕ))) (old new : List M) (event : WorldEvent) (line : Line) → ((shelf : Shelf) → IsShelf files shelf → fits shelf) → Goes clean stands fits old new event line → GoesTo clean stands files files old new event line
+pub goes_to : {M : Type 0} (clean : M → Type 0) (stands : M → Bool → History → Type 0) (fits : Shelf
+    → Type 0) (files : List (Bor (List ℕ) × Bor (List ℕ))) (old new : List M) (event : WorldEvent) (line : Line) → ((shelf : Shelf) → IsShelf files shelf → fits shelf)
+    → Goes clean stands fits old new event line → GoesTo clean stands files files old new event line
 goes_to clean stands fits files old new event line fit goes all =
     let r = goes all in
     (r.0, λ w is n. (let t = r.1 w (fit w.shelf is) n in (t.0, t.1, subst (IsShelf files) (sym t.2) is, t.3)))
 
 -- a file is published, and the nodes stay
-pub publishes : {M : Type 0} (clean : M → Type 0) (stands : M → Bool → History → Type 0) (before files : List (Bor (List ℕ) × Bor (List ℕ))) (nodes : List M) (event : WorldEvent) (line : Line) → ((w : World) → IsShelf before w.shelf → (v : World) × Happens w event line v × IsShelf files v.shelf × (v.nodes ≡ w.nodes)) → GoesTo clean stands before files nodes nodes event line
+pub publishes : {M : Type 0} (clean : M → Type 0) (stands : M → Bool → History → Type 0) (before files : List (Bor (List ℕ) × Bor (List ℕ))) (nodes : List M) (event : WorldEvent) (line : Line)
+    → ((w : World) → IsShelf before w.shelf → (v : World) × Happens w event line v × IsShelf files v.shelf × (v.nodes ≡ w.nodes)) → GoesTo clean stands before files nodes nodes event line
 publishes clean stands before files nodes event line publish all =
     (all, λ w is n. (let t = publish w is in (t.0, t.1, t.2, subst (AreNodes stands nodes) (sym t.3) n)))
 
@@ -48,7 +51,8 @@ pub record Went {S K : Type 0} (law : S → K → Type 0) (all rest : List S) (m
   pub order : done ++ rest ≡ all
   pub each : AreOf law done made
 
-pub went_next : {S K : Type 0} (law : S → K → Type 0) (all rest more : List S) (made now : List K) (s : S) (k : K) → Went law all rest made → rest ≡ s ∷ more → law s k → now ≡ made ++ k ∷ [] → Went law all more now
+pub went_next : {S K : Type 0} (law : S → K → Type 0) (all rest more : List S) (made now : List K) (s : S) (k : K) → Went law all rest made → rest ≡ s ∷ more → law s k → now ≡ made ++ k ∷ []
+    → Went law all more now
 went_next {S} {K} law all rest more made now s k so is holds pushed = record {
   done = so.done ++ s ∷ [];
   order = append_snoc so.done s more ∙ ap (λ (xs : List S). so.done ++ xs) (sym is) ∙ so.order;
@@ -63,19 +67,22 @@ went_count law all rest made so = omega (arith, of-length law so.done made so.ea
 
 pub went_at : {S K : Type 0} (law : S → K → Type 0) (all rest more : List S) (made : List K) (s : S) → Went law all rest made → rest ≡ s ∷ more → slice_get all (length made) ≡ Some s
 went_at {S} law all rest more made s so is =
-    ap (slice_get all) (sym (of-length law so.done made so.each)) ∙ ap (λ (xs : List S). slice_get xs (length so.done)) (sym so.order ∙ ap (λ (xs : List S). so.done ++ xs) is) ∙ get-middle so.done s more
+    ap (slice_get all) (sym (of-length law so.done made so.each)) ∙ ap (λ (xs : List S). slice_get xs (length so.done)) (sym so.order ∙ ap (λ (xs : List S). so.done ++ xs) is)
+    ∙ get-middle so.done s more
 
 -- a keeper was clean in its node if it is, and holds a content of the node's history
 abbrev pub IsKeptOf : {M K : Type 0} → (M → Type 0) → (M → Bool → History → Type 0) → (K → Type 0) → (K → Content) → M → K → Type 0
 IsKeptOf node_clean stands clean content s k = (clean k → node_clean s) × (clean k → (up : Bool) (h : History) → stands s up h → IsContent (content k) h)
 
-pub kept_clean : {M K : Type 0} (node_clean : M → Type 0) (stands : M → Bool → History → Type 0) (clean : K → Type 0) (content : K → Content) (ss : List M) (ks : List K) → AreOf (IsKeptOf node_clean stands clean content) ss ks → AllClean clean ks → AllClean node_clean ss
+pub kept_clean : {M K : Type 0} (node_clean : M → Type 0) (stands : M → Bool → History → Type 0) (clean : K → Type 0) (content : K → Content) (ss : List M) (ks : List K)
+    → AreOf (IsKeptOf node_clean stands clean content) ss ks → AllClean clean ks → AllClean node_clean ss
 kept_clean node_clean stands clean content [] [] so all = tt
 kept_clean node_clean stands clean content [] (k ∷ ks) so all = absurd so
 kept_clean node_clean stands clean content (s ∷ ss) [] so all = absurd so
 kept_clean node_clean stands clean content (s ∷ ss) (k ∷ ks) so all = (so.0.0 all.0, kept_clean node_clean stands clean content ss ks so.1 all.1)
 
-pub kept_all : {M K : Type 0} (node_clean : M → Type 0) (stands : M → Bool → History → Type 0) (clean : K → Type 0) (content : K → Content) (ss : List M) (ks : List K) (ys : List Node) → AreOf (IsKeptOf node_clean stands clean content) ss ks → AllClean clean ks → AreNodes stands ss ys → AreKept content ks ys
+pub kept_all : {M K : Type 0} (node_clean : M → Type 0) (stands : M → Bool → History → Type 0) (clean : K → Type 0) (content : K → Content) (ss : List M) (ks : List K) (ys : List Node)
+    → AreOf (IsKeptOf node_clean stands clean content) ss ks → AllClean clean ks → AreNodes stands ss ys → AreKept content ks ys
 kept_all node_clean stands clean content [] [] [] so all n = tt
 kept_all node_clean stands clean content [] [] (y ∷ ys) so all n = absurd n
 kept_all node_clean stands clean content [] (k ∷ ks) ys so all n = absurd so

@@ -25,7 +25,8 @@ key_self : (key other : Bor (List ℕ)) → key.now ≡ other.now → is_key key
 key_self key other e = is_eq-slice_cmp key.now other.now ∙ (bytes_decides key.now other.now).1 e
 
 -- with one more file, which had no name
-pub shelf_more : (old new : List (Bor (List ℕ) × Bor (List ℕ))) (shelf : Shelf) (n : Name) (key file : Bor (List ℕ)) → OneReleaseForText → OneTextForRelease → IsShelf old shelf → IsName key.now n → text_of shelf n ≡ None
+pub shelf_more : (old new : List (Bor (List ℕ) × Bor (List ℕ))) (shelf : Shelf) (n : Name) (key file : Bor (List ℕ)) → OneReleaseForText → OneTextForRelease → IsShelf old shelf → IsName key.now n
+    → text_of shelf n ≡ None
     → ((q : Bor (List ℕ)) → lookup (is_at (λ k. slice_cmp nat_cmp q.now k.now)) new ≡ cond (is_key key q) (Some file) (lookup (is_at (λ k. slice_cmp nat_cmp q.now k.now)) old))
     → IsShelf new (shelf ++ (n, file.now) ∷ [])
 shelf_more old new shelf n key file one_release one_text was named unknown updates m q is = by (name_eq n m) refl (is_key key q) refl
@@ -36,16 +37,20 @@ shelf_more old new shelf n key file one_release one_text was named unknown updat
     by true same false apart =
         absurd (let e : name_text n ≡ name_text m = ap name_text (name_is n m same) in let t = key_self key q (one_text n key.now named ∙ e ∙ sym (one_text m q.now is)) in cc)
     by false apart true key_same =
-        absurd (let e = one_release q.now n m (subst (λ (t : List ℕ). IsName t n) (key_is key q key_same) named) is in let s = name_self n in let f : name_eq n n ≡ false = subst (λ (x : Name). name_eq n x ≡ false) (sym e) apart in cc)
+        absurd (let e = one_release q.now n m (subst (λ (t : List ℕ). IsName t n) (key_is key q key_same) named) is in let s = name_self n in let f : name_eq n n ≡ false = subst
+        (λ (x : Name). name_eq n x ≡ false) (sym e) apart in cc)
     by false apart false key_apart =
         rw (text_of-push shelf n m file.now, apart, updates q, key_apart) (or_none (text_of shelf m) ∙ was m q is)
 
 -- a publication under a name that has a file
-pub published_again : (files : List (Bor (List ℕ) × Bor (List ℕ))) (w : World) (n : Name) (file bytes : List ℕ) → IsShelf files w.shelf → text_of w.shelf n ≡ Some file → file ≡ bytes → (v : World) × Happens w (Publish n bytes) Published v × IsShelf files v.shelf × (v.nodes ≡ w.nodes)
+pub published_again : (files : List (Bor (List ℕ) × Bor (List ℕ))) (w : World) (n : Name) (file bytes : List ℕ) → IsShelf files w.shelf → text_of w.shelf n ≡ Some file → file ≡ bytes
+    → (v : World) × Happens w (Publish n bytes) Published v × IsShelf files v.shelf × (v.nodes ≡ w.nodes)
 published_again files w n file bytes is at same = (w, rw at (inl (same, (refl, refl))), is, refl)
 
-pub republished : (files : List (Bor (List ℕ) × Bor (List ℕ))) (w : World) (n : Name) (file bytes : List ℕ) → IsShelf files w.shelf → text_of w.shelf n ≡ Some file → file ≢ bytes → (v : World) × Happens w (Publish n bytes) (Refused Republished) v × IsShelf files v.shelf × (v.nodes ≡ w.nodes)
+pub republished : (files : List (Bor (List ℕ) × Bor (List ℕ))) (w : World) (n : Name) (file bytes : List ℕ) → IsShelf files w.shelf → text_of w.shelf n ≡ Some file → file ≢ bytes
+    → (v : World) × Happens w (Publish n bytes) (Refused Republished) v × IsShelf files v.shelf × (v.nodes ≡ w.nodes)
 republished files w n file bytes is at apart = (w, rw at (inr (apart, (refl, refl))), is, refl)
 
-pub published_first : (old new : List (Bor (List ℕ) × Bor (List ℕ))) (w : World) (n : Name) (bytes : List ℕ) → IsShelf new (w.shelf ++ (n, bytes) ∷ []) → text_of w.shelf n ≡ None → (v : World) × Happens w (Publish n bytes) Published v × IsShelf new v.shelf × (v.nodes ≡ w.nodes)
+pub published_first : (old new : List (Bor (List ℕ) × Bor (List ℕ))) (w : World) (n : Name) (bytes : List ℕ) → IsShelf new (w.shelf ++ (n, bytes) ∷ []) → text_of w.shelf n ≡ None
+    → (v : World) × Happens w (Publish n bytes) Published v × IsShelf new v.shelf × (v.nodes ≡ w.nodes)
 published_first old new w n bytes is none = (record { shelf = w.shelf ++ (n, bytes) ∷ []; nodes = w.nodes }, rw none (refl, refl), is, refl)

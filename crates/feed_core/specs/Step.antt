@@ -81,7 +81,8 @@ IsShelf files shelf = (n : Name) (key : Bor (List ℕ)) → IsName key.now n →
 -- the same, where more may be published
 abbrev pub GoesTo : {M : Type 0} → (M → Type 0) → (M → Bool → History → Type 0) → List (Bor (List ℕ) × Bor (List ℕ)) → List (Bor (List ℕ) × Bor (List ℕ)) → List M → List M → WorldEvent → Line → Type 0
 GoesTo clean stands before files old new event line =
-    AllClean clean new → AllClean clean old × ((w : World) → IsShelf before w.shelf → AreNodes stands old w.nodes → (v : World) × Happens w event line v × IsShelf files v.shelf × AreNodes stands new v.nodes)
+    AllClean clean new → AllClean clean old × ((w : World) → IsShelf before w.shelf → AreNodes stands old w.nodes → (v : World) × Happens w event line v × IsShelf files v.shelf
+    × AreNodes stands new v.nodes)
 
 -- Where all nodes are clean, the lines so far show the events so far, and the nodes stand where they lead.
 abbrev pub HasShown : {M : Type 0} → (M → Type 0) → (M → Bool → History → Type 0) → ℕ → List WorldEvent → List Line → List (Bor (List ℕ) × Bor (List ℕ)) → List M → Type 0

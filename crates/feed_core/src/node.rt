@@ -28,28 +28,33 @@ pub trait Node {
 
     /// The active release of a package.
     fn report(&self, package: &[u8]) -> Option<&ReleaseName>
-        ensures { (h : History) → stands self.now true h → Reports h «package».now (option_map (λ name. name.now) result) };
+        ensures { (h : History) → stands self.now true h → Reports h «package».now
+            (option_map (λ name. name.now) result) };
 
     /// The text that answers a query about a package, or why there is none.
     fn ask(&self, alloc: Global, package: &[u8], query: &[u8]) -> Result<Vec<u8>, Why>
-        ensures asked { (h : History) → stands self.now true h → IsAsked h «package».now query.now (shown_outcome (λ text. text.items) result) }
+        ensures asked { (h : History) → stands self.now true h
+            → IsAsked h «package».now query.now (shown_outcome (λ text. text.items) result) }
         ensures device { result ≢ Err (Why.Feed Refusal.Device) };
 
     /// Takes an event.
     fn handle(&mut self, event: &Event<'_>) -> Result<Reply, Refusal>
         ensures clean { clean self.new → clean self.old }
-        ensures right { (h : History) → stands self.old true h → IsRight h (told event.now) result × stands self.new true ((told event.now, result) ∷ h) }
+        ensures right { (h : History) → stands self.old true h → IsRight h (told event.now) result
+            × stands self.new true ((told event.now, result) ∷ h) }
         ensures device { IsCounted (result ≡ Err Refusal.Device) (failed self.old) (failed self.new) };
 
     /// Opens the node again, as after a stop between two events or before the commit of one.
     fn restart(self, alloc: Global) -> (Self, Result<(), KeepFault>)
         ensures clean { clean result.0 → clean self }
-        ensures same { (up : Bool) (h : History) → clean result.0 → stands self up h → Comes (stands result.0) h result.1 }
+        ensures same { (up : Bool) (h : History) → clean result.0 → stands self up h
+            → Comes (stands result.0) h result.1 }
         ensures device { IsCounted (result.1 ≡ Err KeepFault.Device) (failed self) (failed result.0) };
 
     /// Stops the node after the commit of an event and before its answer, and opens it again.
     fn stop_after(self, alloc: Global, event: &Event<'_>) -> (Self, Result<(), KeepFault>)
         ensures clean { clean result.0 → clean self }
-        ensures right { (h : History) → clean result.0 → stands self true h → (answer : Answer) × IsRight h (told event.now) answer × Comes (stands result.0) ((told event.now, answer) ∷ h) result.1 }
+        ensures right { (h : History) → clean result.0 → stands self true h → (answer : Answer)
+            × IsRight h (told event.now) answer × Comes (stands result.0) ((told event.now, answer) ∷ h) result.1 }
         ensures device { HasCounted (result.1 ≡ Err KeepFault.Device) (failed self) (failed result.0) };
 }

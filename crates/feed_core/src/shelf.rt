@@ -1,6 +1,7 @@
 //! The published files of a world.
 ghost use Rattle.std.specs.Prelude.{◌≡◌, ◌≢◌, ◌↔◌, [], Err, IfOk, IsTrue, option_map};
-ghost use Rattle.feed_world.specs.World.{World, Shelf as files, Publish, Offer, Deliver, Lose, Happens, arriving, text_of};
+ghost use Rattle.feed_world.specs.World.{World, Shelf as files, Publish, Offer, Deliver, Lose, Happens, arriving};
+ghost use Rattle.feed_world.specs.World.{text_of};
 ghost use Rattle.feed_world.specs.Shown.{shown_line, shown_sent};
 ghost use Rattle.feed_core.specs.Nodes.{shown_arrived};
 ghost use Rattle.feed_core.specs.Step.{IsShelf};
@@ -34,7 +35,9 @@ impl<'a> Shelf<'a> {
         name: &'a ReleaseName,
         bytes: &'a [u8],
     ) -> Result<Line, AllocError>
-        ensures { IfOk result (λ line. (w : World) → IsShelf self.old.files.entries w.shelf → (v : World) × Happens w (Publish name.now bytes.now) (shown_line line) v × IsShelf self.new.files.entries v.shelf × (v.nodes ≡ w.nodes)) }
+        ensures { IfOk result (λ line. (w : World) → IsShelf self.old.files.entries w.shelf → (v : World)
+            × Happens w (Publish name.now bytes.now) (shown_line line) v × IsShelf self.new.files.entries v.shelf
+            × (v.nodes ≡ w.nodes)) }
     {
         one_release_for_text();
         one_text_for_release();
@@ -50,7 +53,8 @@ impl<'a> Shelf<'a> {
 
     // The file that is published under a name.
     fn file_of(&self, name: &'a ReleaseName) -> Option<&'a [u8]>
-        ensures { (shelf : files) → IsShelf self.now.files.entries shelf → text_of shelf name.now ≡ option_map (λ file. file.now) result }
+        ensures { (shelf : files) → IsShelf self.now.files.entries shelf
+            → text_of shelf name.now ≡ option_map (λ file. file.now) result }
     {
         match self.files.get(&name.text()) {
             Some(file) => Some(*file),
@@ -60,7 +64,8 @@ impl<'a> Shelf<'a> {
 
     /// An offer of a published release, as it arrives at a node: with the size of its file.
     pub(crate) fn offer(&self, name: &'a ReleaseName) -> Result<Event<'a>, Why>
-        ensures arrives { (shelf : files) → IsShelf self.now.files.entries shelf → arriving shelf (Offer name.now) ≡ shown_arrived result }
+        ensures arrives { (shelf : files) → IsShelf self.now.files.entries shelf
+            → arriving shelf (Offer name.now) ≡ shown_arrived result }
         ensures unsent { result ≢ Err (Why.Feed Refusal.Device) }
     {
         match self.file_of(name) {
@@ -79,7 +84,8 @@ impl<'a> Shelf<'a> {
         first: u64,
         len: u64,
     ) -> Result<Event<'a>, Why>
-        ensures arrives { (shelf : files) → IsShelf self.now.files.entries shelf → arriving shelf (Deliver name.now first len) ≡ shown_arrived result }
+        ensures arrives { (shelf : files) → IsShelf self.now.files.entries shelf
+            → arriving shelf (Deliver name.now first len) ≡ shown_arrived result }
         ensures unsent { result ≢ Err (Why.Feed Refusal.Device) }
     {
         let Some(file) = self.file_of(name) else {
@@ -102,7 +108,8 @@ impl<'a> Shelf<'a> {
 
     /// A loss as it arrives at a node.
     pub(crate) fn lose(&self, name: &'a ReleaseName) -> Result<Event<'a>, Why>
-        ensures arrives { (shelf : files) → IsShelf self.now.files.entries shelf → arriving shelf (Lose name.now) ≡ shown_arrived result }
+        ensures arrives { (shelf : files) → IsShelf self.now.files.entries shelf
+            → arriving shelf (Lose name.now) ≡ shown_arrived result }
         ensures unsent { result ≢ Err (Why.Feed Refusal.Device) }
     {
         match self.file_of(name) {
@@ -113,7 +120,8 @@ impl<'a> Shelf<'a> {
 
     /// What is on its way to a node as it stops.
     pub(crate) fn sent(&self, what: &'a Sent) -> Result<Event<'a>, Why>
-        ensures arrives { (shelf : files) → IsShelf self.now.files.entries shelf → arriving shelf (shown_sent what.now) ≡ shown_arrived result }
+        ensures arrives { (shelf : files) → IsShelf self.now.files.entries shelf
+            → arriving shelf (shown_sent what.now) ≡ shown_arrived result }
         ensures unsent { result ≢ Err (Why.Feed Refusal.Device) }
     {
         match what {

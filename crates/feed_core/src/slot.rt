@@ -34,7 +34,9 @@ impl<K: Keep + Drop> Slot<K> {
     pub fn start(alloc: Global, keeper: K) -> Result<Slot<K>, OpenFault<K>>
         ensures ok { IfOk result (λ s. SlotStands K.content s true []) }
         ensures counted { IfOk result (λ s. K.failed keeper ≤ slot_failed K.failed s) }
-        ensures err { IfErr result (λ fault. fault.cause ≢ KeepFault.Memory → IsStartRefused (HasFailed (K.failed keeper) (K.failed fault.keeper)) (K.clean fault.keeper) (K.content keeper)) }
+        ensures err { IfErr result (λ fault. fault.cause ≢ KeepFault.Memory
+            → IsStartRefused (HasFailed (K.failed keeper) (K.failed fault.keeper)) (K.clean fault.keeper)
+            (K.content keeper)) }
         ensures kept { IfErr result (λ fault. K.clean fault.keeper → K.content fault.keeper ≡ K.content keeper) }
     {
         match Feed::open(alloc, keeper) {
@@ -55,7 +57,8 @@ impl<K: Keep + Drop> Slot<K> {
     /// The keeper of the node, up or down.
     pub fn into_keeper(self) -> K
         ensures clean { K.clean result → IsSlotClean K.clean self }
-        ensures content { K.clean result → (up : Bool) (h : History) → SlotStands K.content self up h → IsContent (K.content result) h }
+        ensures content { K.clean result → (up : Bool) (h : History) → SlotStands K.content self up h
+            → IsContent (K.content result) h }
         ensures failed { K.failed result ≡ slot_failed K.failed self }
     {
         match self {
@@ -68,7 +71,8 @@ impl<K: Keep + Drop> Slot<K> {
 // Opens a keeper, and says why the node is down if it can't.
 fn opened<K: Keep + Drop>(alloc: Global, keeper: K) -> (Slot<K>, Result<(), KeepFault>)
     ensures clean { IsSlotClean K.clean result.0 → K.clean keeper }
-    ensures same { (h : History) → IsSlotClean K.clean result.0 → IsContent (K.content keeper) h → Comes (SlotStands K.content result.0) h result.1 }
+    ensures same { (h : History) → IsSlotClean K.clean result.0 → IsContent (K.content keeper) h
+        → Comes (SlotStands K.content result.0) h result.1 }
     ensures device { IsCounted (result.1 ≡ Err KeepFault.Device) (K.failed keeper) (slot_failed K.failed result.0) }
 {
     match Feed::open(alloc, keeper) {
@@ -131,7 +135,8 @@ fn asked<K: Keep + Drop>(
     package: &[u8],
     query: &[u8],
 ) -> Result<Vec<u8>, Why>
-    ensures asked { (h : History) → IsContent (recorded feed.now) h → IsAsked h «package».now query.now (shown_outcome (λ text. text.items) result) }
+    ensures asked { (h : History) → IsContent (recorded feed.now) h
+        → IsAsked h «package».now query.now (shown_outcome (λ text. text.items) result) }
     ensures device { result ≢ Err (Why.Feed Refusal.Device) }
 {
     let active = feed.report(package);

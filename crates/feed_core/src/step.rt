@@ -1,5 +1,6 @@
 //! What a world makes of one event at one node.
-ghost use Rattle.std.specs.Prelude.{◌≡◌, ◌≢◌, ◌+◌, ◌<◌, ◌≤◌, ◌⊎◌, ◌∷◌, Bool, true, Ok, Err, IfOk, IfErr, IfSome, IfNone, insert, length, vec_len, vec_capacity};
+ghost use Rattle.std.specs.Prelude.{◌≡◌, ◌≢◌, ◌+◌, ◌<◌, ◌≤◌, ◌⊎◌, ◌∷◌, Bool, true, Ok, Err, IfOk, IfErr, IfSome};
+ghost use Rattle.std.specs.Prelude.{IfNone, insert, length, vec_len, vec_capacity};
 ghost use Rattle.feed_model.specs.History.{History, Answer};
 ghost use Rattle.feed_model.specs.Reply.{IsRight};
 ghost use Rattle.feed_world.specs.World.{Sent as sent, Tell, Restart, StopBefore, StopAfter, Report, Ask, arriving};
@@ -29,8 +30,8 @@ fn place(count: usize, node: u64) -> Option<usize>
     }
 }
 
-// The place of the node of a number that is up, with what arrives at it; or why nothing happens there, the first of these
-// that holds: there is no such node, nothing arrives, the node is down.
+// The place of the node of a number that is up, with what arrives at it; or why nothing happens there, the first of
+// these that holds: there is no such node, nothing arrives, the node is down.
 fn ready_at<N: Node, T: Drop>(
     nodes: &[N],
     node: u64,
@@ -64,7 +65,9 @@ fn put_back<N: Node + Drop>(nodes: &mut Vec<N>, at: usize, node: N)
 // Opens the node at a place again.
 fn reopened<N: Node + Drop>(alloc: Global, nodes: &mut Vec<N>, at: usize) -> Result<(), KeepFault>
     requires within { at < vec_len nodes.old }
-    ensures { Changes N.clean (λ x z. HasCounted (result ≡ Err KeepFault.Device) (N.failed x) (N.failed z) × ((up : Bool) (h : History) → N.clean z → N.stands x up h → Comes (N.stands z) h result)) nodes.old.items nodes.new.items at }
+    ensures { Changes N.clean (λ x z. HasCounted (result ≡ Err KeepFault.Device) (N.failed x) (N.failed z)
+        × ((up : Bool) (h : History) → N.clean z → N.stands x up h
+        → Comes (N.stands z) h result)) nodes.old.items nodes.new.items at }
 {
     let (node, outcome) = nodes.remove(at).restart(alloc);
     put_back(nodes, at, node);
@@ -79,7 +82,9 @@ fn stopped_after<N: Node + Drop>(
     event: &Event<'_>,
 ) -> Result<(), KeepFault>
     requires within { at < vec_len nodes.old }
-    ensures { Changes N.clean (λ x z. HasCounted (result ≡ Err KeepFault.Device) (N.failed x) (N.failed z) × ((h : History) → N.clean z → N.stands x true h → (answer : Answer) × IsRight h (told event.now) answer × Comes (N.stands z) ((told event.now, answer) ∷ h) result)) nodes.old.items nodes.new.items at }
+    ensures { Changes N.clean (λ x z. HasCounted (result ≡ Err KeepFault.Device) (N.failed x) (N.failed z)
+        × ((h : History) → N.clean z → N.stands x true h → (answer : Answer) × IsRight h (told event.now) answer
+        × Comes (N.stands z) ((told event.now, answer) ∷ h) result)) nodes.old.items nodes.new.items at }
 {
     let (node, outcome) = nodes.remove(at).stop_after(alloc, event);
     put_back(nodes, at, node);
@@ -88,9 +93,11 @@ fn stopped_after<N: Node + Drop>(
 
 /// Opens a node again.
 pub(crate) fn restart_at<N: Node + Drop>(alloc: Global, nodes: &mut Vec<N>, node: u64) -> Line
-    ensures step { Goes N.clean N.stands (λ _. Unit {0}) nodes.old.items nodes.new.items (Restart node) (shown_line result) }
+    ensures step { Goes N.clean N.stands (λ _. Unit {0}) nodes.old.items nodes.new.items (Restart node)
+        (shown_line result) }
     ensures count { length nodes.new.items ≡ length nodes.old.items }
-    ensures device { AreCounted (λ i. (i ≡ node) × TellsDevice (shown_line result)) N.failed N.failed 1 nodes.old.items nodes.new.items }
+    ensures device { AreCounted (λ i. (i ≡ node) × TellsDevice
+        (shown_line result)) N.failed N.failed 1 nodes.old.items nodes.new.items }
 {
     let Some(at) = place(nodes.len(), node) else {
         return Line::Refused(Why::NoNode);
@@ -111,7 +118,8 @@ pub(crate) fn tell_at<N: Node>(
         nodes.old.items nodes.new.items (Tell node what) (shown_line result) }
     ensures count { length nodes.new.items ≡ length nodes.old.items }
     ensures device { arrived.entry ≢ Err (Why.Feed Refusal.Device)
-        → AreCounted (λ i. (i ≡ node) × TellsDevice (shown_line result)) N.failed N.failed 1 nodes.old.items nodes.new.items }
+        → AreCounted (λ i. (i ≡ node)
+        × TellsDevice (shown_line result)) N.failed N.failed 1 nodes.old.items nodes.new.items }
 {
     let (at, event) = match ready_at(nodes, node, arrived) {
         Ok(ready) => ready,
@@ -134,7 +142,8 @@ pub(crate) fn stop_before_at<N: Node + Drop>(
         nodes.old.items nodes.new.items (StopBefore node what) (shown_line result) }
     ensures count { length nodes.new.items ≡ length nodes.old.items }
     ensures device { arrived.entry ≢ Err (Why.Feed Refusal.Device)
-        → AreCounted (λ i. (i ≡ node) × TellsDevice (shown_line result)) N.failed N.failed 1 nodes.old.items nodes.new.items }
+        → AreCounted (λ i. (i ≡ node)
+        × TellsDevice (shown_line result)) N.failed N.failed 1 nodes.old.items nodes.new.items }
 {
     let (at, _event) = match ready_at(nodes, node, arrived) {
         Ok(ready) => ready,
@@ -157,7 +166,8 @@ pub(crate) fn stop_after_at<N: Node + Drop>(
         nodes.old.items nodes.new.items (StopAfter node what) (shown_line result) }
     ensures count { length nodes.new.items ≡ length nodes.old.items }
     ensures device { arrived.entry ≢ Err (Why.Feed Refusal.Device)
-        → AreCounted (λ i. (i ≡ node) × TellsDevice (shown_line result)) N.failed N.failed 1 nodes.old.items nodes.new.items }
+        → AreCounted (λ i. (i ≡ node)
+        × TellsDevice (shown_line result)) N.failed N.failed 1 nodes.old.items nodes.new.items }
 {
     let (at, event) = match ready_at(nodes, node, arrived) {
         Ok(ready) => ready,

@@ -32,7 +32,8 @@ impl<K: Drop> Transcript<K> {
 
     /// Writes the lines, each ended by LF. Where the writer fails, nothing is said of how much it took.
     pub fn write<W: Write>(&self, writer: &mut W) -> Result<(), WriteFault>
-        ensures { OnOk result (Appends (W.contents writer.old) (W.contents writer.new) (flat_map printed (lines_of self.now))) }
+        ensures { OnOk result (Appends (W.contents writer.old) (W.contents writer.new)
+            (flat_map printed (lines_of self.now))) }
     {
         for line in &self.lines {
             match line.write(writer) {

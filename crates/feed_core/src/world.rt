@@ -1,4 +1,5 @@
-ghost use Rattle.std.specs.Prelude.{◌≡◌, ◌≢◌, ◌<◌, ◌≤◌, ◌+◌, ◌⊎◌, ◌↔◌, List, [], Bool, length, map, IfOk, IfErr, IsErrOf, vec_len, vec_capacity, slice_get, Some};
+ghost use Rattle.std.specs.Prelude.{◌≡◌, ◌≢◌, ◌<◌, ◌≤◌, ◌+◌, ◌⊎◌, ◌↔◌, List, [], Bool, length, map, IfOk, IfErr};
+ghost use Rattle.std.specs.Prelude.{IsErrOf, vec_len, vec_capacity, slice_get, Some};
 ghost use Rattle.feed_model.specs.History.{History};
 ghost use Rattle.feed_model.specs.Content.{Content};
 ghost use Rattle.feed_world.specs.World.{World, start, Shows};
@@ -42,10 +43,14 @@ pub fn replay<K: Keep + Drop>(
     keepers: Vec<K>,
     events: &[WorldEvent],
 ) -> Result<Transcript<K>, ReplayFault<K>>
-    ensures shown { IfOk result (λ t. AllClean K.clean (keepers_of t) → (w : World) × Shows (start (vec_len keepers)) (map shown_event events.now) (map shown_line (lines_of t)) w × AreKept K.content (keepers_of t) w.nodes) }
-    ensures headline { IfOk result (λ t. AllClean K.clean (keepers_of t) → IsHeadline (map shown_event events.now) (map shown_line (lines_of t))) }
+    ensures shown { IfOk result (λ t. AllClean K.clean (keepers_of t) → (w : World)
+        × Shows (start (vec_len keepers)) (map shown_event events.now) (map shown_line (lines_of t)) w
+        × AreKept K.content (keepers_of t) w.nodes) }
+    ensures headline { IfOk result (λ t. AllClean K.clean (keepers_of t)
+        → IsHeadline (map shown_event events.now) (map shown_line (lines_of t))) }
     ensures count { IfOk result (λ t. length (lines_of t) ≡ length events.now) }
-    ensures device { IfOk result (λ t. AreCounted (IsToldOf (map shown_event events.now) (map shown_line (lines_of t))) K.failed K.failed 1 keepers.items (keepers_of t)) }
+    ensures device { IfOk result (λ t. AreCounted (IsToldOf (map shown_event events.now)
+        (map shown_line (lines_of t))) K.failed K.failed 1 keepers.items (keepers_of t)) }
     ensures nodes { ((vec_len keepers ≡ 0) ⊎ (16 < vec_len keepers)) ↔ IsErrOf result ReplayFault.Nodes }
     ensures start { IfErr result (λ fault. IsStart K.clean K.content K.failed keepers.items fault) }
 {
@@ -65,8 +70,10 @@ pub fn replay<K: Keep + Drop>(
 // Nodes on keepers that hold nothing.
 fn start_all<K: Keep + Drop>(alloc: Global, keepers: Vec<K>) -> Result<Vec<Slot<K>>, ReplayFault<K>>
     ensures count { IfOk result (λ nodes. length nodes.items ≡ vec_len keepers) }
-    ensures started { IfOk result (λ nodes. AreNodes (SlotStands K.content) nodes.items (start (length nodes.items)).nodes) }
-    ensures counted { IfOk result (λ nodes. AreCounted (λ _. ⊥) K.failed (slot_failed K.failed) 1 keepers.items nodes.items) }
+    ensures started { IfOk result (λ nodes. AreNodes (SlotStands K.content) nodes.items
+        (start (length nodes.items)).nodes) }
+    ensures counted { IfOk result (λ nodes. AreCounted (λ _. ⊥) K.failed
+        (slot_failed K.failed) 1 keepers.items nodes.items) }
     ensures nodes { ¬ (IsErrOf result ReplayFault.Nodes) }
     ensures start { IfErr result (λ fault. IsStart K.clean K.content K.failed keepers.items fault) }
 {
@@ -88,7 +95,8 @@ fn start_all<K: Keep + Drop>(alloc: Global, keepers: Vec<K>) -> Result<Vec<Slot<
 
 // Why the node of this number did not start.
 fn not_started<K: Keep + Drop>(fault: OpenFault<K>, node: usize) -> ReplayFault<K>
-    ensures { ((fault.cause ≡ KeepFault.Memory) × (result ≡ ReplayFault.Memory)) ⊎ ((fault.cause ≢ KeepFault.Memory) × (result ≡ ReplayFault.Start node fault.keeper)) }
+    ensures { ((fault.cause ≡ KeepFault.Memory) × (result ≡ ReplayFault.Memory))
+        ⊎ ((fault.cause ≢ KeepFault.Memory) × (result ≡ ReplayFault.Start node fault.keeper)) }
 {
     match fault.cause {
         KeepFault::Memory => ReplayFault::Memory,
@@ -104,7 +112,8 @@ fn keepers_back<K: Keep + Drop>(room: Vec<K>, nodes: Vec<Slot<K>>) -> Vec<K>
     requires empty { room.items ≡ [] }
     requires room { vec_len nodes ≤ vec_capacity room }
     ensures clean { AllClean K.clean result.items → AllClean (IsSlotClean K.clean) nodes.items }
-    ensures kept { AllClean K.clean result.items → (w : World) → AreNodes (SlotStands K.content) nodes.items w.nodes → AreKept K.content result.items w.nodes }
+    ensures kept { AllClean K.clean result.items → (w : World) → AreNodes (SlotStands K.content) nodes.items w.nodes
+        → AreKept K.content result.items w.nodes }
     ensures counted { AreCounted (λ _. ⊥) (slot_failed K.failed) K.failed 1 nodes.items result.items }
 {
     let mut keepers = room;
@@ -121,9 +130,13 @@ fn show_all<N: Node + Drop>(
     events: &[WorldEvent],
 ) -> Result<(Vec<Line>, Vec<N>), AllocError>
     requires { AreNodes N.stands nodes.items (start (vec_len nodes)).nodes }
-    ensures shown { IfOk result (λ t. AllClean N.clean t.1.items → (w : World) × Shows (start (vec_len nodes)) (map shown_event events.now) (map shown_line t.0.items) w × AreNodes N.stands t.1.items w.nodes) }
-    ensures headline { IfOk result (λ t. AllClean N.clean t.1.items → IsHeadline (map shown_event events.now) (map shown_line t.0.items)) }
-    ensures device { IfOk result (λ t. AreCounted (IsToldOf (map shown_event events.now) (map shown_line t.0.items)) N.failed N.failed 1 nodes.items t.1.items) }
+    ensures shown { IfOk result (λ t. AllClean N.clean t.1.items → (w : World)
+        × Shows (start (vec_len nodes)) (map shown_event events.now) (map shown_line t.0.items) w
+        × AreNodes N.stands t.1.items w.nodes) }
+    ensures headline { IfOk result (λ t. AllClean N.clean t.1.items
+        → IsHeadline (map shown_event events.now) (map shown_line t.0.items)) }
+    ensures device { IfOk result (λ t. AreCounted (IsToldOf (map shown_event events.now)
+        (map shown_line t.0.items)) N.failed N.failed 1 nodes.items t.1.items) }
     ensures lines { IfOk result (λ t. vec_len t.0 ≡ length events.now) }
     ensures count { IfOk result (λ t. length t.1.items ≡ vec_len nodes) }
 {
@@ -145,8 +158,11 @@ fn show<'a, N: Node + Drop>(
     nodes: &mut Vec<N>,
     event: &'a WorldEvent,
 ) -> Result<Line, AllocError>
-    ensures step { IfOk result (λ line. GoesTo N.clean N.stands shelf.old.files.entries shelf.new.files.entries nodes.old.items nodes.new.items (shown_event event.now) (shown_line line)) }
-    ensures device { IfOk result (λ line. AreCounted (λ i. (node_of (shown_event event.now) ≡ Some i) × TellsDevice (shown_line line)) N.failed N.failed 1 nodes.old.items nodes.new.items) }
+    ensures step { IfOk result
+        (λ line. GoesTo N.clean N.stands shelf.old.files.entries shelf.new.files.entries nodes.old.items nodes.new.items
+        (shown_event event.now) (shown_line line)) }
+    ensures device { IfOk result (λ line. AreCounted (λ i. (node_of (shown_event event.now) ≡ Some i)
+        × TellsDevice (shown_line line)) N.failed N.failed 1 nodes.old.items nodes.new.items) }
     ensures count { IfOk result (λ _. length nodes.new.items ≡ length nodes.old.items) }
 {
     match event {

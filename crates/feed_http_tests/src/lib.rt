@@ -1,5 +1,5 @@
-//! Tests of `feed_range` and `feed_http`, which call what these make public. They stand in a crate of their own, so that
-//! the crates are proved once.
+//! Tests of `feed_range` and `feed_http`, which call what these make public. They stand in a crate of their own, so
+//! that the crates are proved once.
 #![tactic(auto)]
 
 #[cfg(test)]

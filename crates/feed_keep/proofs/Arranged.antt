@@ -40,7 +40,8 @@ pub insert_ordered : (r : Record) (c : Content) → ordered (insert_record r c) 
 insert_ordered r [] = refl
 insert_ordered r (x ∷ xs) = by (comes_before x.name r.name) (insert_ordered r xs)
   where
-    by : (b : Bool) → ordered (insert_record r xs) ≡ insert_record (ordered_record r) (ordered xs) → ordered (if b then x ∷ insert_record r xs else r ∷ x ∷ xs) ≡ (if b then ordered_record x ∷ insert_record (ordered_record r) (ordered xs) else ordered_record r ∷ ordered_record x ∷ ordered xs)
+    by : (b : Bool) → ordered (insert_record r xs) ≡ insert_record (ordered_record r) (ordered xs)
+        → ordered (if b then x ∷ insert_record r xs else r ∷ x ∷ xs) ≡ (if b then ordered_record x ∷ insert_record (ordered_record r) (ordered xs) else ordered_record r ∷ ordered_record x ∷ ordered xs)
     by true again = ap (λ ys. ordered_record x ∷ ys) again
     by false again = refl
 
@@ -48,7 +49,8 @@ pub changed_ordered : (n : Name) (ps : List Part) (state : State) (c : Content) 
 changed_ordered n ps state [] = refl
 changed_ordered n ps state (r ∷ rs) = by (name_eq r.name n) (changed_ordered n ps state rs)
   where
-    by : (b : Bool) → ordered (changed n (lengthened ps state) rs) ≡ changed n (grown ps state) (ordered rs) → ordered (if b then lengthened ps state r ∷ rs else r ∷ changed n (lengthened ps state) rs) ≡ (if b then grown ps state (ordered_record r) ∷ ordered rs else ordered_record r ∷ changed n (grown ps state) (ordered rs))
+    by : (b : Bool) → ordered (changed n (lengthened ps state) rs) ≡ changed n (grown ps state) (ordered rs)
+        → ordered (if b then lengthened ps state r ∷ rs else r ∷ changed n (lengthened ps state) rs) ≡ (if b then grown ps state (ordered_record r) ∷ ordered rs else ordered_record r ∷ changed n (grown ps state) (ordered rs))
     by true again = ap (λ x. x ∷ ordered rs) (lengthened_ordered ps state r)
     by false again = ap (λ ys. ordered_record r ∷ ys) again
 
@@ -56,10 +58,12 @@ pub without_earlier_ordered : (n : Name) (c : Content) → ordered (without_earl
 without_earlier_ordered n [] = refl
 without_earlier_ordered n (r ∷ rs) = by (not (is_earlier r.name n)) (without_earlier_ordered n rs)
   where
-    by : (b : Bool) → ordered (without_earlier n rs) ≡ without_earlier n (ordered rs) → ordered (cond b (r ∷ without_earlier n rs) (without_earlier n rs)) ≡ cond b (ordered_record r ∷ without_earlier n (ordered rs)) (without_earlier n (ordered rs))
+    by : (b : Bool) → ordered (without_earlier n rs) ≡ without_earlier n (ordered rs)
+        → ordered (cond b (r ∷ without_earlier n rs) (without_earlier n rs)) ≡ cond b (ordered_record r ∷ without_earlier n (ordered rs)) (without_earlier n (ordered rs))
     by true again = ap (λ ys. ordered_record r ∷ ys) again
     by false again = again
 
 -- a release with new parts that becomes active
-pub active_ordered : (n : Name) (ps : List Part) (state : State) (c : Content) → ordered (without_earlier n (changed n (lengthened ps state) c)) ≡ without_earlier n (changed n (grown ps state) (ordered c))
+pub active_ordered : (n : Name) (ps : List Part) (state : State) (c : Content)
+    → ordered (without_earlier n (changed n (lengthened ps state) c)) ≡ without_earlier n (changed n (grown ps state) (ordered c))
 active_ordered n ps state c = without_earlier_ordered n (changed n (lengthened ps state) c) ∙ ap (without_earlier n) (changed_ordered n ps state c)

@@ -11,7 +11,8 @@ none_found [] n out = refl
 none_found (r ∷ rs) n out = rw (out 0 r (omega arith)) (none_found rs n (λ k d lt. out (suc k) d (omega arith)))
 
 -- a record changed at its place is changed under its name
-pub set_at : (rs : List code.Record) (n : Name) (i : ℕ) (d x : code.Record) (f : Record → Record) → IsRecordAt rs n i → shown_record x ≡ f (shown_record (get_or rs i d)) → shown (set rs i x) ≡ changed n f (shown rs)
+pub set_at : (rs : List code.Record) (n : Name) (i : ℕ) (d x : code.Record) (f : Record → Record) → IsRecordAt rs n i → shown_record x ≡ f (shown_record (get_or rs i d))
+    → shown (set rs i x) ≡ changed n f (shown rs)
 set_at [] n i d x f place is = absurd (omega (arith, place.within))
 set_at (r ∷ rs) n zero d x f place is = rw (place.here r) (ap (λ y. y ∷ shown rs) is)
 set_at (r ∷ rs) n (suc i) d x f place is = rw (place.before 0 r (omega arith))
@@ -31,7 +32,8 @@ abbrev pub StopsAt : List code.Record → ℕ → Name → Type 0
 StopsAt rs i n = (y : code.Record) × (y ≡ get_or rs i y) × (comes_before y.name n ≡ false)
 
 -- a new record goes behind those whose names come before its own
-pub insert_at : (rs : List code.Record) (i : ℕ) (r : code.Record) → i ≤ length rs → ((k : ℕ) (d : code.Record) → k < i → comes_before (get_or rs k d).name r.name ≡ true) → (i < length rs → StopsAt rs i r.name) → shown (insert rs i r) ≡ insert_record (shown_record r) (shown rs)
+pub insert_at : (rs : List code.Record) (i : ℕ) (r : code.Record) → i ≤ length rs → ((k : ℕ) (d : code.Record) → k < i → comes_before (get_or rs k d).name r.name ≡ true)
+    → (i < length rs → StopsAt rs i r.name) → shown (insert rs i r) ≡ insert_record (shown_record r) (shown rs)
 insert_at [] zero r le before stops = refl
 insert_at [] (suc i) r le before stops = absurd (omega arith)
 insert_at (x ∷ xs) zero r le before stops =
@@ -52,7 +54,8 @@ pub shown-filter : (test : Name → Bool) (rs : List code.Record) → shown (fil
 shown-filter test [] = refl
 shown-filter test (r ∷ rs) = by (test r.name) refl (shown-filter test rs)
   where
-    by : (b : Bool) → test r.name ≡ b → shown (filter (λ r. test r.name) rs) ≡ filter (λ r. test r.name) (shown rs) → shown (filter (λ r. test r.name) (r ∷ rs)) ≡ filter (λ r. test r.name) (shown (r ∷ rs))
+    by : (b : Bool) → test r.name ≡ b → shown (filter (λ r. test r.name) rs) ≡ filter (λ r. test r.name) (shown rs)
+        → shown (filter (λ r. test r.name) (r ∷ rs)) ≡ filter (λ r. test r.name) (shown (r ∷ rs))
     by true e rest = rw e (ap (λ ys. shown_record r ∷ ys) rest)
     by false e rest = rw e rest
 

@@ -69,7 +69,8 @@ apart_next rs n r apart lt here none i j d less more within = pick (split j n mo
     pick : (j < n) ⊎ (j ≡ n) → name_eq (get_or rs i d).name (get_or rs j d).name ≡ false
     pick (inl l) = apart i j d less l within
     pick (inr e) =
-        let first : name_eq (get_or rs i d).name r.name ≡ false = subst (λ (x : code.Record). name_eq x.name r.name ≡ false) (get-take n rs i d (omega (arith, less, e))) (none-at (take n rs) r.name i d none (omega (arith, less, e, length-take n rs lt))) in
+        let first : name_eq (get_or rs i d).name r.name ≡ false = subst (λ (x : code.Record). name_eq x.name r.name ≡ false) (get-take n rs i d (omega (arith, less, e)))
+        (none-at (take n rs) r.name i d none (omega (arith, less, e, length-take n rs lt))) in
         subst (λ (x : code.Record). name_eq (get_or rs i d).name x.name ≡ false) (here ∙ same-at rs n r d lt ∙ ap (λ k. get_or rs k d) (sym e)) first
 
 -- a name that one before has
@@ -78,5 +79,6 @@ twice_not rs n i r lt here at distinct =
     let less : i < n = omega (arith, at.within, length-take n rs lt) in
     let apart = apart_from_distinct name_eq (names (shown rs)) i n r.name distinct less (omega (arith, lt, length-names rs)) in
     let first : name_eq (get_or rs i r).name r.name ≡ true = subst (λ (x : code.Record). name_eq x.name r.name ≡ true) (get-take n rs i r less) (at.here r) in
-    let second : name_eq (get_or rs i r).name r.name ≡ false = subst (λ (x : code.Record). name_eq (get_or rs i r).name x.name ≡ false) (sym here) (rw (name-at rs i r r.name (omega (arith, less, lt)), name-at rs n r r.name lt) at apart) in
+    let second : name_eq (get_or rs i r).name r.name ≡ false = subst (λ (x : code.Record). name_eq (get_or rs i r).name x.name ≡ false) (sym here)
+    (rw (name-at rs i r r.name (omega (arith, less, lt)), name-at rs n r r.name lt) at apart) in
     (let e : true ≡ false = sym first ∙ second in cc)

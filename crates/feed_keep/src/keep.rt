@@ -80,7 +80,8 @@ pub trait Keep {
     fn load(&mut self, alloc: Global) -> Result<Vec<Record>, KeepFault>
         ensures records { IfOk result (λ records. clean self.new → shown records.items ≡ content self.old) }
         ensures distinct { IfOk result (λ records. IsDistinct name_eq (names (shown records.items))) }
-        ensures damaged { IsErrOf result KeepFault.Damaged → clean self.new → ¬ (IsDistinct name_eq (names (content self.old))) }
+        ensures damaged { IsErrOf result KeepFault.Damaged → clean self.new
+            → ¬ (IsDistinct name_eq (names (content self.old))) }
         ensures same { clean self.new → content self.new ≡ content self.old }
         ensures clean { clean self.new → clean self.old }
         ensures device { IsCounted (result ≡ Err KeepFault.Device) (failed self.old) (failed self.new) };
@@ -88,7 +89,8 @@ pub trait Keep {
     /// Makes the whole change, or refuses and changes nothing. It never answers `Damaged`.
     fn commit(&mut self, change: &Change<'_>) -> Result<(), KeepFault>
         requires allowed { clean self.old → IsAllowed (shown_change change.now) (content self.old) }
-        ensures made { OnOk result (clean self.new → content self.new ≡ after (shown_change change.now) (content self.old)) }
+        ensures made { OnOk result (clean self.new → content self.new
+            ≡ after (shown_change change.now) (content self.old)) }
         ensures refused { OnErr result (clean self.new → content self.new ≡ content self.old) }
         ensures clean { clean self.new → clean self.old }
         ensures undamaged { ¬ (IsErrOf result KeepFault.Damaged) }

@@ -1,4 +1,5 @@
-ghost use Rattle.std.specs.Prelude.{◌≡◌, ◌↔◌, false, ◌≤◌, [], Some, None, IfOk, IfSome, IfNone, OnOk, OnErr, length, insert, not, IsPermutation};
+ghost use Rattle.std.specs.Prelude.{◌≡◌, ◌↔◌, false, ◌≤◌, [], Some, None, IfOk, IfSome, IfNone, OnOk, OnErr, length};
+ghost use Rattle.std.specs.Prelude.{insert, not, IsPermutation};
 ghost use Rattle.std.specs.List.{IsDistinct};
 ghost use Rattle.feed_names.specs.ReleaseName.{name_eq};
 ghost use Rattle.feed_model.specs.Content.{names, record_of};
@@ -92,7 +93,8 @@ fn add(
     name: &ReleaseName,
     size: u64,
 ) -> Result<(), AllocError>
-    ensures ok { OnOk result (shown records.new.items ≡ insert_record (new_record name.now size) (shown records.old.items)) }
+    ensures ok { OnOk result (shown records.new.items ≡ insert_record (new_record name.now size)
+        (shown records.old.items)) }
     ensures err { OnErr result (shown records.new.items ≡ shown records.old.items) }
 {
     let at = place_for(records, name);
@@ -107,7 +109,8 @@ fn grow(
     parts: &[Part],
     state: State,
 ) -> Result<(), AllocError>
-    ensures ok { OnOk result (shown records.new.items ≡ changed name.now (lengthened (shown_parts parts.now) state) (shown records.old.items)) }
+    ensures ok { OnOk result (shown records.new.items ≡ changed name.now (lengthened (shown_parts parts.now) state)
+        (shown records.old.items)) }
     ensures err { OnErr result (shown records.new.items ≡ shown records.old.items) }
 {
     let Some(at) = find_record(records, name) else {
@@ -126,7 +129,8 @@ fn activate(
     name: &ReleaseName,
     parts: &[Part],
 ) -> Result<(), AllocError>
-    ensures ok { OnOk result (shown records.new.items ≡ without_earlier name.now (changed name.now (lengthened (shown_parts parts.now) State.Active) (shown records.old.items))) }
+    ensures ok { OnOk result (shown records.new.items ≡ without_earlier name.now
+        (changed name.now (lengthened (shown_parts parts.now) State.Active) (shown records.old.items))) }
     ensures err { OnErr result (shown records.new.items ≡ shown records.old.items) }
 {
     grow(alloc, records, name, parts, State::Active)?;
@@ -158,7 +162,8 @@ fn find_record(records: &[Record], name: &ReleaseName) -> Option<usize>
 
 fn place_for(records: &[Record], name: &ReleaseName) -> usize
     ensures within { result ≤ length records.now }
-    ensures place { (r : _) → (shown_record r).name ≡ name.now → shown (insert records.now result r) ≡ insert_record (shown_record r) (shown records.now) }
+    ensures place { (r : _) → (shown_record r).name ≡ name.now
+        → shown (insert records.now result r) ≡ insert_record (shown_record r) (shown records.now) }
 {
     for (at, record) in records.iter().enumerate() {
         if !stands_before(&record.name, name) {

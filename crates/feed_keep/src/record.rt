@@ -17,8 +17,8 @@ impl Record {
     ghost use Rattle.feed_model.specs.Change.{new_record};
     ghost use Rattle.feed_keep.specs.Shown.{shown_record};
 
-    /// The record of a release that is offered: nothing of it is kept yet, and a file of size 0 is whole, and bad. It takes
-    /// no memory.
+    /// The record of a release that is offered: nothing of it is kept yet, and a file of size 0 is whole, and bad. It
+    /// takes no memory.
     pub fn new(alloc: Global, name: ReleaseName, size: u64) -> Record
         ensures { shown_record result ≡ new_record name size }
     {

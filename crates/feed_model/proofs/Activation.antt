@@ -122,8 +122,10 @@ activate_moves c h n f t b a r ps keeps taken right good = record {
         let gone : record_of (without_earlier n (changed n (grown ps Active) c)) m ≡ None = record_of-without_earlier n (changed n (grown ps Active) c) m ∙ rw e refl in
         rw gone (λ held. held.1 (n, latest, earlier_is m n e))
     by m false e (inl same) =
-        let found : record_of (without_earlier n (changed n (grown ps Active) c)) m ≡ Some (grown ps Active r) = record_of-without_earlier n (changed n (grown ps Active) c) m ∙ rw e (ap (record_of (changed n (grown ps Active) c)) same ∙ record_of-changed_here n (grown ps Active) (λ x. refl) c r keeps.found) in
+        let found : record_of (without_earlier n (changed n (grown ps Active) c)) m ≡ Some (grown ps Active r) = record_of-without_earlier n (changed n (grown ps Active) c) m ∙ rw e
+        (ap (record_of (changed n (grown ps Active) c)) same ∙ record_of-changed_here n (grown ps Active) (λ x. refl) c r keeps.found) in
         rw found (subst (λ (x : Name). IsRecord k x (grown ps Active r)) (sym same) mine)
     by m false e (inr apart) =
-        let found : record_of (without_earlier n (changed n (grown ps Active) c)) m ≡ record_of c m = record_of-without_earlier n (changed n (grown ps Active) c) m ∙ rw e (record_of-changed n (grown ps Active) (λ x. refl) c m apart) in
+        let found : record_of (without_earlier n (changed n (grown ps Active) c)) m ≡ record_of c m = record_of-without_earlier n (changed n (grown ps Active) c) m ∙ rw e
+        (record_of-changed n (grown ps Active) (λ x. refl) c m apart) in
         rw found (stays m (earlier_not m n e) apart (record_of c m) (keeps.content.each m))

@@ -32,14 +32,18 @@ missing_none f zero all = refl
 missing_none f (suc n) all = rw (missing_none f n (λ place lt. all place (omega arith)), not_none (f n) (all n (omega arith))) refl
 
 -- what is kept with the piece is what the parts have with the new ones
-with_new : (c : Content) (h : History) (n : Name) (first : ℕ) (bytes : List ℕ) (r : Record) (ps : List Part) → IsContent c h → record_of c n ≡ Some r → Adds r.size r.parts first bytes ps → (place : ℕ) → kept_with h n first bytes place ≡ byte_in (merged r.parts ps) place
+with_new : (c : Content) (h : History) (n : Name) (first : ℕ) (bytes : List ℕ) (r : Record) (ps : List Part) → IsContent c h → record_of c n ≡ Some r → Adds r.size r.parts first bytes ps
+    → (place : ℕ) → kept_with h n first bytes place ≡ byte_in (merged r.parts ps) place
 with_new c h n first bytes r ps is found adds place = sym (adds.union place ∙ ap (λ o. or_else o (byte_at first bytes place)) ((of_record c h n r is found).bytes place))
 
-keeps_by : (c : Content) (h : History) (n : Name) (first : ℕ) (bytes : List ℕ) (r : Record) (ps : List Part) → IsContent c h → record_of c n ≡ Some r → r.state ≡ Staged → Adds r.size r.parts first bytes ps → Keeps c h n first bytes r ps
+keeps_by : (c : Content) (h : History) (n : Name) (first : ℕ) (bytes : List ℕ) (r : Record) (ps : List Part) → IsContent c h → record_of c n ≡ Some r → r.state ≡ Staged
+    → Adds r.size r.parts first bytes ps → Keeps c h n first bytes r ps
 keeps_by c h n first bytes r ps is found staged adds = record { content = is; found = found; staged = staged; parts = adds.whole.parts; new = adds.union }
 
-stored_at : (c : Content) (h : History) (n : Name) (first : ℕ) (total : Option ℕ) (bytes : List ℕ) (r : Record) (ps : List Part) (missing : ℕ) → Reaches c n first total bytes r → r.state ≡ Staged → AgreesIn r.parts first bytes → HasNew r.parts first bytes → Adds r.size r.parts first bytes ps
-    → missing ≡ missing_below (byte_in (merged r.parts ps)) r.size → 0 < missing → IsContent c h → IsRight h (Piece n first total bytes) (Ok (replies.Stored missing)) × IsContent (changed n (grown ps Staged) c) ((Piece n first total bytes, Ok (replies.Stored missing)) ∷ h)
+stored_at : (c : Content) (h : History) (n : Name) (first : ℕ) (total : Option ℕ) (bytes : List ℕ) (r : Record) (ps : List Part) (missing : ℕ) → Reaches c n first total bytes r → r.state ≡ Staged
+    → AgreesIn r.parts first bytes → HasNew r.parts first bytes → Adds r.size r.parts first bytes ps
+    → missing ≡ missing_below (byte_in (merged r.parts ps)) r.size → 0 < missing → IsContent c h → IsRight h (Piece n first total bytes) (Ok (replies.Stored missing)) × IsContent
+    (changed n (grown ps Staged) c) ((Piece n first total bytes, Ok (replies.Stored missing)) ∷ h)
 stored_at c h n first total bytes r ps missing reach staged agrees new adds lack some is =
     (right, piece_moves c h n first total bytes a r ps Staged (keeps_by c h n first bytes r ps is reach.found staged adds) refl right (λ g. lacks (g.0, g.1)) lacks)
   where
@@ -58,39 +62,56 @@ stored_at c h n first total bytes r ps missing reach staged agrees new adds lack
     lacks : ¬ (IsWhole ((Piece n first total bytes, a) ∷ h) n)
     lacks w =
         let size : length w.0 ≡ r.size = (let u : Some (length w.0) ≡ Some r.size = sym w.1.0 ∙ was.size in cc) in
-        let none : missing_below (kept_with h n first bytes) r.size ≡ 0 = missing_none (kept_with h n first bytes) r.size (λ place lt. let in' : place < length w.0 = omega arith in subst IsSome (sym (w.1.1 place in') ∙ kept_here h n first total bytes a refl place) (slice_some w.0 place in')) in
+        let none : missing_below (kept_with h n first bytes) r.size ≡ 0 = missing_none (kept_with h n first bytes) r.size
+        (λ place lt. let in' : place < length w.0 = omega arith in subst IsSome (sym (w.1.1 place in') ∙ kept_here h n first total bytes a refl place) (slice_some w.0 place in')) in
         absurd (omega (arith, count))
 
-pub piece_stored : (c : Content) (n : Name) (first : ℕ) (total : Option ℕ) (bytes : List ℕ) (r : Record) (ps : List Part) (missing : ℕ) → Reaches c n first total bytes r → r.state ≡ Staged → AgreesIn r.parts first bytes → HasNew r.parts first bytes → Adds r.size r.parts first bytes ps
+pub piece_stored : (c : Content) (n : Name) (first : ℕ) (total : Option ℕ) (bytes : List ℕ) (r : Record) (ps : List Part) (missing : ℕ) → Reaches c n first total bytes r → r.state ≡ Staged
+    → AgreesIn r.parts first bytes → HasNew r.parts first bytes → Adds r.size r.parts first bytes ps
     → missing ≡ missing_below (byte_in (merged r.parts ps)) r.size → 0 < missing → Handles c (Piece n first total bytes) (Ok (replies.Stored missing)) (changed n (grown ps Staged) c)
 piece_stored c n first total bytes r ps missing reach staged agrees new adds lack some = λ h is. stored_at c h n first total bytes r ps missing reach staged agrees new adds lack some is
 
 -- the whole file
-file_by : (c : Content) (h : History) (n : Name) (first : ℕ) (total : Option ℕ) (bytes : List ℕ) (r : Record) (ps : List Part) (text : List ℕ) (a : Answer) → IsContent c h → record_of c n ≡ Some r → Adds r.size r.parts first bytes ps → is_taken a ≡ true → length text ≡ r.size → ((place : ℕ) → place < r.size → byte_in (merged r.parts ps) place ≡ slice_get text place) → IsFile ((Piece n first total bytes, a) ∷ h) n text
+file_by : (c : Content) (h : History) (n : Name) (first : ℕ) (total : Option ℕ) (bytes : List ℕ) (r : Record) (ps : List Part) (text : List ℕ) (a : Answer) → IsContent c h
+    → record_of c n ≡ Some r → Adds r.size r.parts first bytes ps → is_taken a ≡ true → length text ≡ r.size
+    → ((place : ℕ) → place < r.size → byte_in (merged r.parts ps) place ≡ slice_get text place) → IsFile ((Piece n first total bytes, a) ∷ h) n text
 file_by c h n first total bytes r ps text a is found adds taken len at =
     ((of_record c h n r is found).size ∙ ap Some (sym len), λ place lt. kept_here h n first total bytes a taken place ∙ with_new c h n first bytes r ps is found adds place ∙ at place (omega arith))
 
-whole_right : (c : Content) (h : History) (n : Name) (first : ℕ) (total : Option ℕ) (bytes : List ℕ) (r : Record) (ps : List Part) (text : List ℕ) (a : Answer) → Reaches c n first total bytes r → AgreesIn r.parts first bytes → HasNew r.parts first bytes → Adds r.size r.parts first bytes ps
-    → missing_below (byte_in (merged r.parts ps)) r.size ≡ 0 → length text ≡ r.size → ((place : ℕ) → place < r.size → byte_in (merged r.parts ps) place ≡ slice_get text place) → IsContent c h → a ≡ Ok (verdict (fault_of text)) → IsRight h (Piece n first total bytes) a
+whole_right : (c : Content) (h : History) (n : Name) (first : ℕ) (total : Option ℕ) (bytes : List ℕ) (r : Record) (ps : List Part) (text : List ℕ) (a : Answer) → Reaches c n first total bytes r
+    → AgreesIn r.parts first bytes → HasNew r.parts first bytes → Adds r.size r.parts first bytes ps
+    → missing_below (byte_in (merged r.parts ps)) r.size ≡ 0 → length text ≡ r.size →
+    ((place : ℕ) → place < r.size → byte_in (merged r.parts ps) place ≡ slice_get text place) → IsContent c h → a ≡ Ok (verdict (fault_of text)) → IsRight h (Piece n first total bytes) a
 whole_right c h n first total bytes r ps text a reach agrees new adds none len at is answer =
     let same = with_new c h n first bytes r ps is reach.found adds in
-    let count : missing_below (kept_with h n first bytes) r.size ≡ missing_below (byte_in (merged r.parts ps)) r.size = missing_same (kept_with h n first bytes) (byte_in (merged r.parts ps)) same r.size in
-    stores_right c h n first total bytes r a reach agrees new is (inl (r.size, (of_record c h n r is reach.found).size, inr ((λ lt. absurd (omega (arith, count))), (text, len, (λ place lt. same place ∙ at place lt), answer))))
+    let count : missing_below (kept_with h n first bytes) r.size ≡ missing_below (byte_in (merged r.parts ps)) r.size = missing_same (kept_with h n first bytes)
+    (byte_in (merged r.parts ps)) same r.size in
+    stores_right c h n first total bytes r a reach agrees new is (inl
+    (r.size, (of_record c h n r is reach.found).size, inr ((λ lt. absurd (omega (arith, count))), (text, len, (λ place lt. same place ∙ at place lt), answer))))
 
-pub piece_broken : (c : Content) (n : Name) (first : ℕ) (total : Option ℕ) (bytes : List ℕ) (r : Record) (ps : List Part) (text : List ℕ) (why : BadFile) → Reaches c n first total bytes r → r.state ≡ Staged → AgreesIn r.parts first bytes → HasNew r.parts first bytes → Adds r.size r.parts first bytes ps
-    → missing_below (byte_in (merged r.parts ps)) r.size ≡ 0 → length text ≡ r.size → ((place : ℕ) → place < r.size → byte_in (merged r.parts ps) place ≡ slice_get text place) → fault_of text ≡ Some why
+pub piece_broken : (c : Content) (n : Name) (first : ℕ) (total : Option ℕ) (bytes : List ℕ) (r : Record) (ps : List Part) (text : List ℕ) (why : BadFile) → Reaches c n first total bytes r
+    → r.state ≡ Staged → AgreesIn r.parts first bytes → HasNew r.parts first bytes → Adds r.size r.parts first bytes ps
+    → missing_below (byte_in (merged r.parts ps)) r.size ≡ 0 → length text ≡ r.size →
+    ((place : ℕ) → place < r.size → byte_in (merged r.parts ps) place ≡ slice_get text place) → fault_of text ≡ Some why
     → Handles c (Piece n first total bytes) (Ok (replies.Broken why)) (changed n (grown ps Broken) c)
 piece_broken c n first total bytes r ps text why reach staged agrees new adds none len at bad = λ h is.
     let a : Answer = Ok (replies.Broken why) in
     let right : IsRight h (Piece n first total bytes) a = whole_right c h n first total bytes r ps text a reach agrees new adds none len at is (ap (λ o. Ok (verdict o)) (sym bad)) in
     let file = file_by c h n first total bytes r ps text a is reach.found adds refl len at in
-    let is_bad : IsBad ((Piece n first total bytes, a) ∷ h) n = (text, file, λ e. (let u : Some why ≡ None = sym bad ∙ e in absurd (cc))) in
-    (right, piece_moves c h n first total bytes a r ps Broken (keeps_by c h n first bytes r ps is reach.found staged adds) refl right (λ g. good_not_bad ((Piece n first total bytes, a) ∷ h) n g is_bad) is_bad)
+    let is_bad : IsBad ((Piece n first total bytes, a) ∷ h) n = (text, file, λ e. (let u : Some why ≡ None = sym bad ∙ e in absurd (cc))) in (
+      right,
+      piece_moves c h n first total bytes a r ps Broken (keeps_by c h n first bytes r ps is reach.found staged adds) refl right
+          (λ g. good_not_bad ((Piece n first total bytes, a) ∷ h) n g is_bad) is_bad,
+    )
 
-pub piece_activated : (c : Content) (n : Name) (first : ℕ) (total : Option ℕ) (bytes : List ℕ) (r : Record) (ps : List Part) (text : List ℕ) → Reaches c n first total bytes r → r.state ≡ Staged → AgreesIn r.parts first bytes → HasNew r.parts first bytes → Adds r.size r.parts first bytes ps
+pub piece_activated : (c : Content) (n : Name) (first : ℕ) (total : Option ℕ) (bytes : List ℕ) (r : Record) (ps : List Part) (text : List ℕ) → Reaches c n first total bytes r → r.state ≡ Staged
+    → AgreesIn r.parts first bytes → HasNew r.parts first bytes → Adds r.size r.parts first bytes ps
     → missing_below (byte_in (merged r.parts ps)) r.size ≡ 0 → length text ≡ r.size → ((place : ℕ) → place < r.size → byte_in (merged r.parts ps) place ≡ slice_get text place) → fault_of text ≡ None
     → Handles c (Piece n first total bytes) (Ok replies.Activated) (without_earlier n (changed n (grown ps Active) c))
 piece_activated c n first total bytes r ps text reach staged agrees new adds none len at good = λ h is.
     let a : Answer = Ok replies.Activated in
-    let right : IsRight h (Piece n first total bytes) a = whole_right c h n first total bytes r ps text a reach agrees new adds none len at is (ap (λ o. Ok (verdict o)) (sym good)) in
-    (right, activate_moves c h n first total bytes a r ps (keeps_by c h n first bytes r ps is reach.found staged adds) refl right (text, file_by c h n first total bytes r ps text a is reach.found adds refl len at, good))
+    let right : IsRight h (Piece n first total bytes) a = whole_right c h n first total bytes r ps text a reach agrees new adds none len at is (ap (λ o. Ok (verdict o)) (sym good)) in (
+      right,
+      activate_moves c h n first total bytes a r ps (keeps_by c h n first bytes r ps is reach.found staged adds) refl right
+          (text, file_by c h n first total bytes r ps text a is reach.found adds refl len at, good),
+    )

@@ -49,10 +49,13 @@ or_some_rest None b s = s
 -- parts with no place from a size on end within it
 pub within_by : (k size : ℕ) (qs : List Part) → ArePartsFrom k qs → ((place : ℕ) → IsSome (byte_in qs place) → place < size) → All (λ q. end_of q ≤ size) qs
 within_by k size [] are below = All-nil (λ q. end_of q ≤ size)
-within_by k size (q ∷ qs) are below = All-cons (λ x. end_of x ≤ size) q qs last (within_by (end_of q) size qs are.3 (λ place s. below place (or_some_rest (byte_at q.first q.bytes place) (byte_in qs place) s)))
+within_by k size (q ∷ qs) are below =
+    All-cons (λ x. end_of x ≤ size) q qs last (within_by (end_of q) size qs are.3 (λ place s. below place (or_some_rest (byte_at q.first q.bytes place) (byte_in qs place) s)))
   where
     last : end_of q ≤ size
     last =
         let place : ℕ = q.first + length q.bytes - 1 in
-        let lt : q.first + length q.bytes - 1 < size = below (q.first + length q.bytes - 1) (or_some (byte_at q.first q.bytes (q.first + length q.bytes - 1)) (byte_in qs (q.first + length q.bytes - 1)) (byte_at-some q.first q.bytes (q.first + length q.bytes - 1) (omega (arith, are.1)) (omega (arith, are.1)))) in
+        let lt : q.first + length q.bytes - 1 < size = below (q.first + length q.bytes - 1)
+        (or_some (byte_at q.first q.bytes (q.first + length q.bytes - 1)) (byte_in qs (q.first + length q.bytes - 1))
+        (byte_at-some q.first q.bytes (q.first + length q.bytes - 1) (omega (arith, are.1)) (omega (arith, are.1)))) in
         omega (arith, are.1)

@@ -51,5 +51,7 @@ counted c h is = (names c, is.distinct, λ n. (there n, back n), length_names c)
 -- the number is one
 pub number_one : (h : History) (j k : ℕ) → HoldsNumber h j → HoldsNumber h k → j ≡ k
 number_one h j k a b =
-    let same : length a.0 ≡ length b.0 = length-from_same_keys name_laws a.0 b.0 a.1 b.1 (λ q. same_test (is_member name_eq a.0 q) (is_member name_eq b.0 q) (λ t. list_any-from_Contains name_laws q b.0 ((b.2 q).0 ((a.2 q).1 (Contains-from_any name_is q a.0 t)))) (λ t. list_any-from_Contains name_laws q a.0 ((a.2 q).0 ((b.2 q).1 (Contains-from_any name_is q b.0 t))))) in
+    let same : length a.0 ≡ length b.0 = length-from_same_keys name_laws a.0 b.0 a.1 b.1
+    (λ q. same_test (is_member name_eq a.0 q) (is_member name_eq b.0 q) (λ t. list_any-from_Contains name_laws q b.0 ((b.2 q).0 ((a.2 q).1 (Contains-from_any name_is q a.0 t))))
+    (λ t. list_any-from_Contains name_laws q a.0 ((a.2 q).0 ((b.2 q).1 (Contains-from_any name_is q b.0 t))))) in
     omega (arith, a.3, b.3)

@@ -61,9 +61,12 @@ pub distinct-insert_record : (r : Record) (c : Content) → record_of c r.name �
 distinct-insert_record r [] e d = IsDistinct-cons name_eq r.name [] tt d
 distinct-insert_record r (x ∷ xs) e d = at (comes_before x.name r.name) (behind (name_eq x.name r.name) refl (distinct-insert_record r xs))
   where
-    behind : (b : Bool) → name_eq x.name r.name ≡ b → (record_of xs r.name ≡ None → IsDistinct name_eq (names xs) → IsDistinct name_eq (names (insert_record r xs))) → IsDistinct name_eq (x.name ∷ names (insert_record r xs))
+    behind : (b : Bool) → name_eq x.name r.name ≡ b → (record_of xs r.name ≡ None → IsDistinct name_eq (names xs) → IsDistinct name_eq (names (insert_record r xs)))
+        → IsDistinct name_eq (x.name ∷ names (insert_record r xs))
     behind true t again = absurd (let u : Some x ≡ None = rw t at e in cc)
-    behind false t again = IsDistinct-cons name_eq x.name (names (insert_record r xs)) (apart_insert x.name r xs t (IsDistinct-head name_eq x.name (names xs) d)) (again (rw t at e) (IsDistinct-tail name_eq x.name (names xs) d))
+    behind false t again =
+        IsDistinct-cons name_eq x.name (names (insert_record r xs)) (apart_insert x.name r xs t (IsDistinct-head name_eq x.name (names xs) d))
+        (again (rw t at e) (IsDistinct-tail name_eq x.name (names xs) d))
 
     at : (b : Bool) → IsDistinct name_eq (x.name ∷ names (insert_record r xs)) → IsDistinct name_eq (names (cond b (x ∷ insert_record r xs) (r ∷ x ∷ xs)))
     at true later = later

@@ -36,12 +36,14 @@ not_whole h n first bytes a taken w = taken.new (λ place s. subst IsSome (sym (
     inside place s = omega (arith, most (grind arith), (byte_at-within first bytes place s).1)
 
 -- and is good or not afterwards
-good_or_not : (h : History) (n : Name) (first : ℕ) (total : Option ℕ) (bytes : List ℕ) (a : Answer) → is_taken a ≡ true → Stores h n first bytes a → (IsGood ((Piece n first total bytes, a) ∷ h) n) ⊎ (¬ (IsGood ((Piece n first total bytes, a) ∷ h) n))
+good_or_not : (h : History) (n : Name) (first : ℕ) (total : Option ℕ) (bytes : List ℕ) (a : Answer) → is_taken a ≡ true → Stores h n first bytes a
+    → (IsGood ((Piece n first total bytes, a) ∷ h) n) ⊎ (¬ (IsGood ((Piece n first total bytes, a) ∷ h) n))
 good_or_not h n first total bytes a taken (inr (inl e)) = absurd (let u : is_taken a ≡ false = ap is_taken e in cc)
 good_or_not h n first total bytes a taken (inr (inr e)) = absurd (let u : is_taken a ≡ false = ap is_taken e in cc)
 good_or_not h n first total bytes a taken (inl (size, sized, inl (some, e))) = inr (λ g.
     let same : length g.0 ≡ size = (let u : Some (length g.0) ≡ Some size = sym g.1.0 ∙ sized in cc) in
-    let none : missing_below (kept_with h n first bytes) size ≡ 0 = missing_none (kept_with h n first bytes) size (λ place lt. let in' : place < length g.0 = omega arith in subst IsSome (sym (g.1.1 place in') ∙ kept_here h n first total bytes a taken place) (slice_some g.0 place in')) in
+    let none : missing_below (kept_with h n first bytes) size ≡ 0 = missing_none (kept_with h n first bytes) size
+    (λ place lt. let in' : place < length g.0 = omega arith in subst IsSome (sym (g.1.1 place in') ∙ kept_here h n first total bytes a taken place) (slice_some g.0 place in')) in
     absurd (omega arith))
 good_or_not h n first total bytes a taken (inl (size, sized, inr (none, (text, len, at, e)))) = judge (fault_of text) refl
   where
@@ -95,7 +97,8 @@ passed_on n h k but before good m p = at (stem_cases p.0 n)
     at (inr other) = stays (λ x s g. elsewhere other x s (now x s g))
 
 -- what is held after a piece was held before
-held_before_piece : (h : History) (n : Name) (first : ℕ) (total : Option ℕ) (bytes : List ℕ) (a : Answer) → is_taken a ≡ true → IsTaken h n first bytes a → (m : Name) → IsHeld ((Piece n first total bytes, a) ∷ h) m → IsHeld h m
+held_before_piece : (h : History) (n : Name) (first : ℕ) (total : Option ℕ) (bytes : List ℕ) (a : Answer) → is_taken a ≡ true → IsTaken h n first bytes a → (m : Name)
+    → IsHeld ((Piece n first total bytes, a) ∷ h) m → IsHeld h m
 held_before_piece h n first total bytes a taken is m held = (held.0, λ p. held.1 (by (good_or_not h n first total bytes a taken is.stores) p))
   where
     k : History
@@ -151,7 +154,9 @@ length-others n [] d = omega arith
 length-others n (x ∷ xs) d = by (name_eq n x) refl (length-others n xs (IsDistinct-tail name_eq x xs d))
   where
     by : (b : Bool) → name_eq n x ≡ b → length xs ≤ length (others n xs) + 1 → length (x ∷ xs) ≤ length (cond (not b) (x ∷ others n xs) (others n xs)) + 1
-    by true e again = let rest : length (others n xs) ≡ length xs = others_all n xs (subst (λ (y : Name). AllByRecursion (λ z. name_eq y z ≡ false) xs) (sym (name_is n x e)) (IsDistinct-head name_eq x xs d)) in omega (arith, rest)
+    by true e again =
+        let rest : length (others n xs) ≡ length xs = others_all n xs
+        (subst (λ (y : Name). AllByRecursion (λ z. name_eq y z ≡ false) xs) (sym (name_is n x e)) (IsDistinct-head name_eq x xs d)) in omega (arith, rest)
     by false e again = omega (arith, again)
 
 apart_others : (n x : Name) (ns : List Name) → AllByRecursion (λ y. name_eq x y ≡ false) ns → AllByRecursion (λ y. name_eq x y ≡ false) (others n ns)
@@ -199,7 +204,8 @@ held_in h (x ∷ xs) held m e = by (name_eq m x) refl (held_in h xs held.1 m)
     by false t again = again (rw t at e)
 
 -- as many as may be held are all that are held
-all_held : (h : History) (ns : List Name) → ((ms : List Name) → IsDistinct name_eq ms → AreHeld h ms → length ms ≤ max_held) → IsDistinct name_eq ns → AreHeld h ns → length ns ≡ max_held → HoldsNumber h max_held
+all_held : (h : History) (ns : List Name) → ((ms : List Name) → IsDistinct name_eq ms → AreHeld h ms → length ms ≤ max_held) → IsDistinct name_eq ns → AreHeld h ns → length ns ≡ max_held
+    → HoldsNumber h max_held
 all_held h ns most d held full = (ns, d, λ m. (there m, λ has. held_in h ns held m (list_any-from_Contains name_laws m ns has)), full)
   where
     there : (m : Name) → IsHeld h m → Contains ns m
@@ -220,7 +226,8 @@ held_limit ((Offered n size, a) ∷ h) legal ns d held = by (is_noted a) refl (h
     still : is_noted a ≡ false → IsStill h k
     still out = record { size = λ m. rw out refl; bytes = λ m place. refl }
 
-    room : (is_noted a ≡ true) → ((ms : List Name) → IsDistinct name_eq ms → AreHeld h ms → length ms ≤ max_held) → AreHeld h (others n ns) → (length (others n ns) ≡ max_held) ⊎ (length (others n ns) < max_held) → length ns ≤ max_held
+    room : (is_noted a ≡ true) → ((ms : List Name) → IsDistinct name_eq ms → AreHeld h ms → length ms ≤ max_held) → AreHeld h (others n ns)
+        → (length (others n ns) ≡ max_held) ⊎ (length (others n ns) < max_held) → length ns ≤ max_held
     room noted most before (inl full) = absurd ((noted_by h n size a noted legal.0).room (all_held h (others n ns) most (distinct-others n ns d) before full))
     room noted most before (inr less) = omega (arith, length-others n ns d)
 
@@ -241,4 +248,6 @@ held_limit ((Piece n first total bytes, a) ∷ h) legal ns d held = by (is_taken
     by : (b : Bool) → is_taken a ≡ b → (AreHeld h ns → length ns ≤ max_held) → length ns ≤ max_held
     by true taken most = most (held_back h k (held_before_piece h n first total bytes a taken (taken_by h n first total bytes a taken legal.0)) ns held)
     by false out most = most (held_back h k (λ m is. held_same k h (same_back h k (goods_still h k (still out))) m refl is) ns held)
-held_limit ((Lost n, a) ∷ h) legal ns d held = held_limit h legal.1 ns d (held_back h ((Lost n, a) ∷ h) (λ m is. held_same ((Lost n, a) ∷ h) h (same_back h ((Lost n, a) ∷ h) (goods_still h ((Lost n, a) ∷ h) (record { size = λ x. refl; bytes = λ x place. refl }))) m refl is) ns held)
+held_limit ((Lost n, a) ∷ h) legal ns d held =
+    held_limit h legal.1 ns d (held_back h ((Lost n, a) ∷ h) (λ m is. held_same ((Lost n, a) ∷ h) h
+    (same_back h ((Lost n, a) ∷ h) (goods_still h ((Lost n, a) ∷ h) (record { size = λ x. refl; bytes = λ x place. refl }))) m refl is) ns held)

@@ -110,7 +110,8 @@ kept_inside ((Piece m f t b, a) ∷ h) legal n size place e s = by (is_taken a) 
     by : (u v : Bool) → is_taken a ≡ u → name_eq m n ≡ v → (IsSome (kept h n place) → place < size) → place < size
     by true true taken same again =
         let now : IsSome (or_else (kept h n place) (byte_at f b place)) = rw (taken, same) at s in
-        pick (either (kept h n place) (byte_at f b place) now) again (subst (λ (y : Name). ¬ (IsSomeAnd (size_of h y) (λ x. x < f + length b))) (name_is m n same) (taken_by h m f t b a taken legal.0).within)
+        pick (either (kept h n place) (byte_at f b place) now) again (subst (λ (y : Name). ¬ (IsSomeAnd (size_of h y) (λ x. x < f + length b))) (name_is m n same)
+        (taken_by h m f t b a taken legal.0).within)
     by true false taken same again = again (rw (taken, same) at s)
     by false v taken same again = again (rw taken at s)
 kept_inside ((Lost m, a) ∷ h) legal n size place e s = kept_inside h legal.1 n size place e s

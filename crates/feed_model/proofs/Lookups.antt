@@ -23,14 +23,16 @@ pub record_of-insert_record : (r : Record) (c : Content) (m : Name) → record_o
 record_of-insert_record r [] m e = refl
 record_of-insert_record r (x ∷ xs) m e = at (comes_before x.name r.name) (behind (name_eq x.name r.name) (name_eq x.name m) refl refl (record_of-insert_record r xs m))
   where
-    behind : (a b : Bool) → name_eq x.name r.name ≡ a → name_eq x.name m ≡ b → (record_of xs r.name ≡ None → record_of (insert_record r xs) m ≡ cond (name_eq r.name m) (Some r) (record_of xs m)) → cond (name_eq x.name m) (Some x) (record_of (insert_record r xs) m) ≡ cond (name_eq r.name m) (Some r) (cond (name_eq x.name m) (Some x) (record_of xs m))
+    behind : (a b : Bool) → name_eq x.name r.name ≡ a → name_eq x.name m ≡ b → (record_of xs r.name ≡ None → record_of (insert_record r xs) m ≡ cond (name_eq r.name m) (Some r) (record_of xs m))
+        → cond (name_eq x.name m) (Some x) (record_of (insert_record r xs) m) ≡ cond (name_eq r.name m) (Some r) (cond (name_eq x.name m) (Some x) (record_of xs m))
     behind true b s t again = absurd (let u : Some x ≡ None = rw s at e in cc)
     behind false true s t again =
         let apart : name_eq r.name m ≡ false = name_apart r.name m (λ same. name_not x.name r.name s (name_is x.name m t ∙ sym same)) in
         rw (t, apart) refl
     behind false false s t again = rw t (again (rw s at e))
 
-    at : (d : Bool) → cond (name_eq x.name m) (Some x) (record_of (insert_record r xs) m) ≡ cond (name_eq r.name m) (Some r) (cond (name_eq x.name m) (Some x) (record_of xs m)) → record_of (cond d (x ∷ insert_record r xs) (r ∷ x ∷ xs)) m ≡ cond (name_eq r.name m) (Some r) (record_of (x ∷ xs) m)
+    at : (d : Bool) → cond (name_eq x.name m) (Some x) (record_of (insert_record r xs) m) ≡ cond (name_eq r.name m) (Some r) (cond (name_eq x.name m) (Some x) (record_of xs m))
+        → record_of (cond d (x ∷ insert_record r xs) (r ∷ x ∷ xs)) m ≡ cond (name_eq r.name m) (Some r) (record_of (x ∷ xs) m)
     at true later = later
     at false later = refl
 
@@ -65,7 +67,8 @@ pub record_of-without_earlier : (n : Name) (c : Content) (m : Name) → record_o
 record_of-without_earlier n [] m = cond_none (is_earlier m n)
 record_of-without_earlier n (x ∷ xs) m = by (name_eq x.name m) (is_earlier x.name n) (is_earlier m n) refl refl refl (record_of-without_earlier n xs m)
   where
-    by : (a b d : Bool) → name_eq x.name m ≡ a → is_earlier x.name n ≡ b → is_earlier m n ≡ d → record_of (without_earlier n xs) m ≡ cond (is_earlier m n) None (record_of xs m) → record_of (cond (not (is_earlier x.name n)) (x ∷ without_earlier n xs) (without_earlier n xs)) m ≡ cond (is_earlier m n) None (cond (name_eq x.name m) (Some x) (record_of xs m))
+    by : (a b d : Bool) → name_eq x.name m ≡ a → is_earlier x.name n ≡ b → is_earlier m n ≡ d → record_of (without_earlier n xs) m ≡ cond (is_earlier m n) None (record_of xs m)
+        → record_of (cond (not (is_earlier x.name n)) (x ∷ without_earlier n xs) (without_earlier n xs)) m ≡ cond (is_earlier m n) None (cond (name_eq x.name m) (Some x) (record_of xs m))
     by true true true s t u again = rw (t, u) (again ∙ rw u refl)
     by true true false s t u again = absurd (let v : is_earlier x.name n ≡ is_earlier m n = ap (λ y. is_earlier y n) (name_is x.name m s) in cc)
     by true false true s t u again = absurd (let v : is_earlier x.name n ≡ is_earlier m n = ap (λ y. is_earlier y n) (name_is x.name m s) in cc)

@@ -25,7 +25,8 @@ offer_known c n size r le free found same = unchanged c (Offered n size) (Ok rep
         let x = of_record c h n r is found in
         inr ((λ lt. omega arith), inr (not_passed_by c h n is free, inl (x.held, inl (x.size ∙ ap Some same, refl))))
 
-pub offer_wrong_size : (c : Content) (n : Name) (size : ℕ) (r : Record) → size ≤ max_file → NoneIsLater c n → record_of c n ≡ Some r → r.size ≢ size → Handles c (Offered n size) (Err refusals.WrongSize) c
+pub offer_wrong_size : (c : Content) (n : Name) (size : ℕ) (r : Record) → size ≤ max_file → NoneIsLater c n → record_of c n ≡ Some r → r.size ≢ size
+    → Handles c (Offered n size) (Err refusals.WrongSize) c
 offer_wrong_size c n size r le free found other = unchanged c (Offered n size) (Err refusals.WrongSize) refl refl right
   where
     right : (h : History) → IsContent c h → IsRight h (Offered n size) (Err refusals.WrongSize)
@@ -38,14 +39,23 @@ offer_full c n size le free none all = unchanged c (Offered n size) (Err refusal
     inr ((λ lt. omega arith), inr (not_passed_by c h n is free, inr (not_held c h n is none, inl (subst (HoldsNumber h) all (counted c h is), refl)))))
 
 -- the answer that commits, or a refusal in its place
-added_right : (c : Content) (h : History) (n : Name) (size : ℕ) (a : Answer) → IsContent c h → size ≤ max_file → NoneIsLater c n → record_of c n ≡ None → length c < max_held → ((size ≡ 0) × Commits a (replies.Broken NoHeader)) ⊎ ((size ≢ 0) × Commits a replies.Noted) → IsRight h (Offered n size) a
+added_right : (c : Content) (h : History) (n : Name) (size : ℕ) (a : Answer) → IsContent c h → size ≤ max_file → NoneIsLater c n → record_of c n ≡ None → length c < max_held
+    → ((size ≡ 0) × Commits a (replies.Broken NoHeader)) ⊎ ((size ≢ 0) × Commits a replies.Noted) → IsRight h (Offered n size) a
 added_right c h n size a is le free none room last =
-    inr ((λ lt. omega arith), inr (not_passed_by c h n is free, inr (not_held c h n is none, inr ((λ all. let e : length c ≡ max_held = number_one h (length c) max_held (counted c h is) all in omega arith), last))))
+    inr (
+      (λ lt. omega arith),
+      inr (
+        not_passed_by c h n is free,
+        inr
+            (not_held c h n is none, inr ((λ all. let e : length c ≡ max_held = number_one h (length c) max_held (counted c h is) all in omega arith), last)),
+      ),
+    )
 
 zero_or : (n : ℕ) → (n ≡ 0) ⊎ (n ≢ 0)
 zero_or n = grind arith
 
-pub offer_refused : (c : Content) (n : Name) (size : ℕ) (a : Answer) → size ≤ max_file → NoneIsLater c n → record_of c n ≡ None → length c < max_held → (a ≡ Err refusals.Memory) ⊎ (a ≡ Err refusals.Device) → Handles c (Offered n size) a c
+pub offer_refused : (c : Content) (n : Name) (size : ℕ) (a : Answer) → size ≤ max_file → NoneIsLater c n → record_of c n ≡ None → length c < max_held
+    → (a ≡ Err refusals.Memory) ⊎ (a ≡ Err refusals.Device) → Handles c (Offered n size) a c
 offer_refused c n size a le free none room why =
     unchanged c (Offered n size) a (noted why) (taken why) (λ h is. added_right c h n size a is le free none room (by (zero_or size)))
   where
@@ -61,12 +71,14 @@ offer_refused c n size a le free none room why =
     by (inl e) = inl (e, inr why)
     by (inr e) = inr (e, inr why)
 
-pub offer_noted : (c : Content) (n : Name) (size : ℕ) → size ≤ max_file → NoneIsLater c n → record_of c n ≡ None → length c < max_held → size ≢ 0 → Handles c (Offered n size) (Ok replies.Noted) (insert_record (new_record n size) c)
+pub offer_noted : (c : Content) (n : Name) (size : ℕ) → size ≤ max_file → NoneIsLater c n → record_of c n ≡ None → length c < max_held → size ≢ 0
+    → Handles c (Offered n size) (Ok replies.Noted) (insert_record (new_record n size) c)
 offer_noted c n size le free none room some = λ h is.
     let right : IsRight h (Offered n size) (Ok replies.Noted) = added_right c h n size (Ok replies.Noted) is le free none room (inr (some, inl refl)) in
     (right, add_moves c h n size (Ok replies.Noted) is none (not_passed_by c h n is free) refl right)
 
-pub offer_noted_empty : (c : Content) (n : Name) (size : ℕ) → size ≤ max_file → NoneIsLater c n → record_of c n ≡ None → length c < max_held → size ≡ 0 → Handles c (Offered n size) (Ok (replies.Broken NoHeader)) (insert_record (new_record n size) c)
+pub offer_noted_empty : (c : Content) (n : Name) (size : ℕ) → size ≤ max_file → NoneIsLater c n → record_of c n ≡ None → length c < max_held → size ≡ 0
+    → Handles c (Offered n size) (Ok (replies.Broken NoHeader)) (insert_record (new_record n size) c)
 offer_noted_empty c n size le free none room nothing = λ h is.
     let right : IsRight h (Offered n size) (Ok (replies.Broken NoHeader)) = added_right c h n size (Ok (replies.Broken NoHeader)) is le free none room (inl (nothing, inl refl)) in
     (right, add_moves c h n size (Ok (replies.Broken NoHeader)) is none (not_passed_by c h n is free) refl right)

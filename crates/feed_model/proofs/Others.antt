@@ -62,6 +62,7 @@ none_same : (n m : Name) (h k : History) → SameBut n h k → SameGood h k → 
 none_same n m h k s g apart out = λ held. out (held_same k h (same_back h k g) m (s.size m apart) held)
 
 -- the other names, where the look-ups stay the same
-pub each_same : (n m : Name) (h k : History) → SameBut n h k → SameGood h k → m ≢ n → (o : Option Record) → MatchOption o (¬ (IsHeld h m)) (IsRecord h m) → MatchOption o (¬ (IsHeld k m)) (IsRecord k m)
+pub each_same : (n m : Name) (h k : History) → SameBut n h k → SameGood h k → m ≢ n → (o : Option Record) → MatchOption o (¬ (IsHeld h m)) (IsRecord h m)
+    → MatchOption o (¬ (IsHeld k m)) (IsRecord k m)
 each_same n m h k s g apart None out = none_same n m h k s g apart out
 each_same n m h k s g apart (Some r) is = record_same n m h k s g apart r is

@@ -27,7 +27,8 @@ pub place_of : (c : Content) (n : Name) (r : Record) → record_of c n ≡ Some 
 place_of [] n r e = absurd (cc)
 place_of (x ∷ xs) n r e = by (name_eq x.name n) refl (place_of xs n r)
   where
-    by : (b : Bool) → name_eq x.name n ≡ b → (record_of xs n ≡ Some r → (k : ℕ) × (k < length xs) × ((d : Record) → get_or xs k d ≡ r)) → (k : ℕ) × (k < length (x ∷ xs)) × ((d : Record) → get_or (x ∷ xs) k d ≡ r)
+    by : (b : Bool) → name_eq x.name n ≡ b → (record_of xs n ≡ Some r → (k : ℕ) × (k < length xs) × ((d : Record) → get_or xs k d ≡ r))
+        → (k : ℕ) × (k < length (x ∷ xs)) × ((d : Record) → get_or (x ∷ xs) k d ≡ r)
     by true t again = (0, omega arith, λ d. let u : Some x ≡ Some r = rw t at e in cc)
     by false t again = let g = again (rw t at e) in (suc g.0, (let lt : g.0 < length xs = g.1 in omega arith), g.2)
 

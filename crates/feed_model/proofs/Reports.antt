@@ -24,7 +24,8 @@ report_none c h stem is none = λ m same good. latest m same good (λ p. latest 
         none r.0 (record_of-own c m r.0 r.1) r.2 (ap (λ (x : Name). x.stem) (name-record_of c m r.0 r.1) ∙ same)
 
 -- the bytes of a record that has all of them are its file
-pub file_of_record : (c : Content) (h : History) (r : Record) (text : List ℕ) → IsContent c h → record_of c r.name ≡ Some r → length text ≡ r.size → ((place : ℕ) → place < r.size → byte_in r.parts place ≡ slice_get text place) → IsFile h r.name text
+pub file_of_record : (c : Content) (h : History) (r : Record) (text : List ℕ) → IsContent c h → record_of c r.name ≡ Some r → length text ≡ r.size
+    → ((place : ℕ) → place < r.size → byte_in r.parts place ≡ slice_get text place) → IsFile h r.name text
 file_of_record c h r text is found len at =
     let x = of_record c h r.name r is found in
     (x.size ∙ ap Some (sym len), λ place lt. sym (x.bytes place) ∙ at place (omega arith))

@@ -6,14 +6,16 @@ use Rattle.feed_model.specs.Reply.{gone_on}
 use Rattle.feed_model.specs.Content.{Content, IsContent}
 use Rattle.feed_model.specs.Handles.{Handles, Runs}
 
-pub gone_on-push : (h : History) (events : List Event) (answers : List Answer) (event : Event) (answer : Answer) → length events ≡ length answers → gone_on h (events ++ event ∷ []) (answers ++ answer ∷ []) ≡ (event, answer) ∷ gone_on h events answers
+pub gone_on-push : (h : History) (events : List Event) (answers : List Answer) (event : Event) (answer : Answer) → length events ≡ length answers
+    → gone_on h (events ++ event ∷ []) (answers ++ answer ∷ []) ≡ (event, answer) ∷ gone_on h events answers
 gone_on-push h [] [] event answer same = refl
 gone_on-push h [] (b ∷ bs) event answer same = absurd (omega arith)
 gone_on-push h (x ∷ xs) [] event answer same = absurd (omega arith)
 gone_on-push h (x ∷ xs) (b ∷ bs) event answer same = gone_on-push ((x, b) ∷ h) xs bs event answer (omega arith)
 
 -- one step more
-pub run_push : (c m c' : Content) (events : List Event) (answers : List Answer) (event : Event) (answer : Answer) → Runs c events answers m → Handles m event answer c' → Runs c (events ++ event ∷ []) (answers ++ answer ∷ []) c'
+pub run_push : (c m c' : Content) (events : List Event) (answers : List Answer) (event : Event) (answer : Answer) → Runs c events answers m → Handles m event answer c'
+    → Runs c (events ++ event ∷ []) (answers ++ answer ∷ []) c'
 run_push c m c' events answers event answer runs step = record {
   each = omega (arith, length-append events (event ∷ []), length-append answers (answer ∷ []), runs.each);
   content = λ h is. subst (IsContent c') (sym (gone_on-push h events answers event answer runs.each)) (step (gone_on h events answers) (runs.content h is)).1;
@@ -27,5 +29,6 @@ map-push told (y ∷ ys) x = ap (λ zs. told y ∷ zs) (map-push told ys x)
 pub run_more : {X : Type 0} (told : X → Event) (c m c' : Content) (xs : List X) (i : ℕ) (x : X) (answers more : List Answer) (answer : Answer)
     → i < length xs → x ≡ get_or xs i x → more ≡ answers ++ answer ∷ [] → Runs c (map told (take i xs)) answers m → Handles m (told x) answer c' → Runs c (map told (take (i + 1) xs)) more c'
 run_more told c m c' xs i x answers more answer lt at is runs step =
-    let next : map told (take (i + 1) xs) ≡ map told (take i xs) ++ told x ∷ [] = ap (map told) (take_more xs i x lt) ∙ map-push told (take i xs) (get_or xs i x) ∙ ap (λ (y : _). map told (take i xs) ++ told y ∷ []) (sym at) in
+    let next : map told (take (i + 1) xs) ≡ map told (take i xs) ++ told x ∷ [] = ap (map told) (take_more xs i x lt) ∙ map-push told (take i xs) (get_or xs i x) ∙ ap
+    (λ (y : _). map told (take i xs) ++ told y ∷ []) (sym at) in
     rw (is, next) (run_push c m c' (map told (take i xs)) answers (told x) answer runs step)

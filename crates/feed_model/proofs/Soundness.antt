@@ -46,7 +46,8 @@ whole_text at (suc n) some =
     split : (place m : ℕ) → place < suc m → (place < m) ⊎ (place ≡ m)
     split place m lt = grind arith
 
-    by : (text : List ℕ) (x : ℕ) → length text ≡ n → ((place : ℕ) → place < n → at place ≡ slice_get text place) → at n ≡ Some x → (place : ℕ) → (place < n) ⊎ (place ≡ n) → at place ≡ slice_get (text ++ x ∷ []) place
+    by : (text : List ℕ) (x : ℕ) → length text ≡ n → ((place : ℕ) → place < n → at place ≡ slice_get text place) → at n ≡ Some x → (place : ℕ) → (place < n) ⊎ (place ≡ n)
+        → at place ≡ slice_get (text ++ x ∷ []) place
     by text x len each here place (inl lt) = each place lt ∙ sym (get-push text x place (omega (arith, len)))
     by text x len each here place (inr e) = ap at e ∙ here ∙ sym (get-last text x) ∙ ap (slice_get (text ++ x ∷ [])) (len ∙ sym e)
 
@@ -85,7 +86,12 @@ names_held h (x ∷ xs) held = (held 0 x (omega arith), names_held h xs (λ k d 
 pub sound_content : (c : Content) (h : History) → IsContent c h → IsSound c
 sound_content c h is = record {
   distinct = is.distinct;
-  few = omega (arith, length_names c, held_limit h is.legal (names c) is.distinct (names_held h c (λ k d lt. (of_record c h (get_or c k d).name (get_or c k d) is (record_of-at c k d is.distinct lt)).held)));
+  few = omega (
+    arith,
+    length_names c,
+    held_limit h is.legal (names c) is.distinct
+        (names_held h c (λ k d lt. (of_record c h (get_or c k d).name (get_or c k d) is (record_of-at c k d is.distinct lt)).held)),
+  );
   each = each_sound c h is;
   current = λ k d lt later. (of_record c h (get_or c k d).name (get_or c k d) is (record_of-at c k d is.distinct lt)).held.1 (passed_by c h (get_or c k d).name is later);
 }

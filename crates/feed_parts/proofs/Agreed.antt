@@ -16,7 +16,8 @@ differ_at [] (y ∷ ys) len e = absurd (omega (arith, len))
 differ_at (x ∷ xs) [] len e = absurd (omega (arith, len))
 differ_at (x ∷ xs) (y ∷ ys) len e = by (eqb x y) refl e (differ_at xs ys (omega (arith, len)))
   where
-    by : (b : Bool) → eqb x y ≡ b → (b && pointwise eqb xs ys) ≡ false → (pointwise eqb xs ys ≡ false → (i : ℕ) × (i < length xs) × (get_or xs i 0 ≢ get_or ys i 0)) → (i : ℕ) × (i < suc (length xs)) × (get_or (x ∷ xs) i 0 ≢ get_or (y ∷ ys) i 0)
+    by : (b : Bool) → eqb x y ≡ b → (b && pointwise eqb xs ys) ≡ false → (pointwise eqb xs ys ≡ false → (i : ℕ) × (i < length xs) × (get_or xs i 0 ≢ get_or ys i 0))
+        → (i : ℕ) × (i < suc (length xs)) × (get_or (x ∷ xs) i 0 ≢ get_or (y ∷ ys) i 0)
     by true t f again = let r = again f in (suc r.0, omega (arith, r.1), r.2)
     by false t f again = (0, omega arith, eqb-false x y t)
 
@@ -37,11 +38,14 @@ module _ (p : Part) (first : ℕ) (bytes : List ℕ) (low high : ℕ) (part_low 
       let place : ℕ = low + d.0 in
       let at : place - low ≡ d.0 = omega arith in
       let below : place < low + (high - low) = omega (arith, d.1, part_len) in
-      let x = sym (cut_bytes p.first low (high - low) p.bytes part_low (omega arith) place (omega arith) below) ∙ byte_at_inside low xs place (omega arith) (omega (arith, d.1)) ∙ ap (λ i. Some (get_or xs i 0)) at in
-      let y = sym (cut_bytes first low (high - low) bytes piece_low (omega arith) place (omega arith) below) ∙ byte_at_inside low ys place (omega arith) (omega (arith, d.1, part_len, piece_len)) ∙ ap (λ i. Some (get_or ys i 0)) at in
+      let x = sym (cut_bytes p.first low (high - low) p.bytes part_low (omega arith) place (omega arith) below) ∙ byte_at_inside low xs place (omega arith) (omega (arith, d.1)) ∙ ap
+      (λ i. Some (get_or xs i 0)) at in
+      let y = sym (cut_bytes first low (high - low) bytes piece_low (omega arith) place (omega arith) below) ∙ byte_at_inside low ys place (omega arith) (omega (arith, d.1, part_len, piece_len))
+      ∙ ap (λ i. Some (get_or ys i 0)) at in
       (place, get_or xs d.0 0, get_or ys d.0 0, second_none (byte_at p.first p.bytes place) None refl ∙ x, y, d.2)
 
-  pub cut_agrees : pointwise eqb (cut p.first p.bytes low high).bytes (cut first bytes low high).bytes ≡ true → ((place : ℕ) → p.first ≤ place → place < end_of p → first ≤ place → place < first + length bytes → (low ≤ place) × (place < high)) → AgreesIn (p ∷ []) first bytes
+  pub cut_agrees : pointwise eqb (cut p.first p.bytes low high).bytes (cut first bytes low high).bytes ≡ true
+      → ((place : ℕ) → p.first ≤ place → place < end_of p → first ≤ place → place < first + length bytes → (low ≤ place) × (place < high)) → AgreesIn (p ∷ []) first bytes
   unfolding xs ys
   cut_agrees e covers place x y f g =
       let here = sym (second_none (byte_at p.first p.bytes place) None refl) ∙ f in
@@ -68,7 +72,8 @@ pub record IsAgreed (size : ℕ) (all : List Part) (first : ℕ) (bytes : List �
   pub agrees : (place x y : ℕ) → byte_in rest place ≡ None → byte_in all place ≡ Some x → byte_at first bytes place ≡ Some y → x ≡ y
 
 -- the parts that the piece meets
-pub agreed_start : (size : ℕ) (all : List Part) (first : ℕ) (bytes : List ℕ) (rest : List Part) → AreWithin size rest → ((place : ℕ) → first ≤ place → place < first + length bytes → byte_in rest place ≡ byte_in all place) → IsAgreed size all first bytes rest
+pub agreed_start : (size : ℕ) (all : List Part) (first : ℕ) (bytes : List ℕ) (rest : List Part) → AreWithin size rest
+    → ((place : ℕ) → first ≤ place → place < first + length bytes → byte_in rest place ≡ byte_in all place) → IsAgreed size all first bytes rest
 agreed_start size all first bytes rest order same = record {
   order = order;
   shows = λ place x from to e. sym (same place from to) ∙ e;

@@ -73,7 +73,9 @@ missing_both : (f g : ℕ → Option ℕ) → ((place : ℕ) → (f place ≡ No
 missing_both f g apart zero = refl
 missing_both f g apart (suc n) = by (cases_option (f n)) (cases_option (g n)) (apart n) (missing_both f g apart n)
   where
-    by : (f n ≡ None) ⊎ ((x : ℕ) × (f n ≡ Some x)) → (g n ≡ None) ⊎ ((x : ℕ) × (g n ≡ Some x)) → (f n ≡ None) ⊎ (g n ≡ None) → missing_below f n + missing_below g n ≡ missing_below (λ place. or_else (f place) (g place)) n + n → missing_below f (suc n) + missing_below g (suc n) ≡ missing_below (λ place. or_else (f place) (g place)) (suc n) + suc n
+    by : (f n ≡ None) ⊎ ((x : ℕ) × (f n ≡ Some x)) → (g n ≡ None) ⊎ ((x : ℕ) × (g n ≡ Some x)) → (f n ≡ None) ⊎ (g n ≡ None)
+        → missing_below f n + missing_below g n ≡ missing_below (λ place. or_else (f place) (g place)) n + n
+        → missing_below f (suc n) + missing_below g (suc n) ≡ missing_below (λ place. or_else (f place) (g place)) (suc n) + suc n
     by (inl a) (inl b) c again = omega (arith, again, missing_more f n a, missing_more g n b, missing_more (λ place. or_else (f place) (g place)) n (first_none (f n) (g n) a ∙ b))
     by (inl a) (inr b) c again = omega (arith, again, missing_more f n a, missing_same g n b.0 b.1, missing_same (λ place. or_else (f place) (g place)) n b.0 (first_none (f n) (g n) a ∙ b.1))
     by (inr a) (inl b) c again = omega (arith, again, missing_same f n a.0 a.1, missing_more g n b, missing_same (λ place. or_else (f place) (g place)) n a.0 (first_some (f n) (g n) a.0 a.1))
@@ -89,7 +91,8 @@ missing_one : (first : ℕ) (bytes : List ℕ) (n : ℕ) → missing_below (byte
 missing_one first bytes zero = omega arith
 missing_one first bytes (suc n) = by (cases_lt n first) (cases_lt n (first + length bytes)) (missing_one first bytes n)
   where
-    by : (n < first) ⊎ (first ≤ n) → (n < first + length bytes) ⊎ (first + length bytes ≤ n) → missing_below (byte_at first bytes) n + min (n - first) (length bytes) ≡ n → missing_below (byte_at first bytes) (suc n) + min (suc n - first) (length bytes) ≡ suc n
+    by : (n < first) ⊎ (first ≤ n) → (n < first + length bytes) ⊎ (first + length bytes ≤ n) → missing_below (byte_at first bytes) n + min (n - first) (length bytes) ≡ n
+        → missing_below (byte_at first bytes) (suc n) + min (suc n - first) (length bytes) ≡ suc n
     by (inl before) to again = omega (arith, again, missing_more (byte_at first bytes) n (byte_at_before first bytes n before))
     by (inr from) (inl below) again = omega (arith, again, missing_same (byte_at first bytes) n _ (byte_at_inside first bytes n from below))
     by (inr from) (inr past) again = omega (arith, again, missing_more (byte_at first bytes) n (byte_at_after first bytes n past))
@@ -99,7 +102,8 @@ missing_from at size [] w inside = omega (arith, missing_nothing size)
 missing_from at size (p ∷ ps) w inside =
     let here : end_of p ≤ size = All-head (λ q. end_of q ≤ size) p ps inside in
     let rest = missing_from (end_of p) size ps w.3 (All-tail (λ q. end_of q ≤ size) p ps inside) in
-    let both : missing_below (byte_at p.first p.bytes) size + missing_below (byte_in ps) size ≡ missing_below (byte_in (p ∷ ps)) size + size = missing_both (byte_at p.first p.bytes) (byte_in ps) apart size in
+    let both : missing_below (byte_at p.first p.bytes) size + missing_below (byte_in ps) size ≡ missing_below (byte_in (p ∷ ps)) size + size = missing_both (byte_at p.first p.bytes)
+    (byte_in ps) apart size in
     omega (arith, both, missing_one p.first p.bytes size, rest, total_cons p ps, here)
   where
     apart : (place : ℕ) → (byte_at p.first p.bytes place ≡ None) ⊎ (byte_in ps place ≡ None)
@@ -114,5 +118,6 @@ pub missing_total : (size : ℕ) (ps : List Part) → AreWithin size ps → miss
 missing_total size ps w = missing_from 0 size ps w.parts w.inside
 
 -- With new parts so much less is missing.
-pub missing_merged : (size : ℕ) (ps new : List Part) → AreWithin size ps → AreWithin size (merged ps new) → missing_below (byte_in (merged ps new)) size + total_length new ≡ missing_below (byte_in ps) size
+pub missing_merged : (size : ℕ) (ps new : List Part) → AreWithin size ps → AreWithin size (merged ps new)
+    → missing_below (byte_in (merged ps new)) size + total_length new ≡ missing_below (byte_in ps) size
 missing_merged size ps new before after = omega (arith, missing_total size ps before, missing_total size (merged ps new) after, total_merged ps new)

@@ -41,7 +41,8 @@ fresh_start size first bytes all = record {
   brings = λ at lt. sym (fresh_none (byte_in all at) (byte_at first bytes at) (byte_at_before first bytes at lt));
 }
 
-module _ (size first : ℕ) (bytes : List ℕ) (all : List Part) (inside : first + length bytes ≤ size) (piece : length bytes ≤ max_piece) (place : ℕ) (new : List Part) (so_far : AreFresh size first bytes all place new) where
+module _ (size first : ℕ) (bytes : List ℕ) (all : List Part) (inside : first + length bytes ≤ size) (piece : length bytes ≤ max_piece) (place : ℕ) (new : List Part)
+    (so_far : AreFresh size first bytes all place new) where
   -- past places that are kept
   pub fresh_past : (next : ℕ) → place ≤ next → ((at : ℕ) → place ≤ at → at < next → at < first + length bytes → IsSome (byte_in all at)) → AreFresh size first bytes all next new
   fresh_past next le kept = record {
@@ -57,7 +58,8 @@ module _ (size first : ℕ) (bytes : List ℕ) (all : List Part) (inside : first
       by at lt (inr from) (inr over) = none_after place new so_far.past at from ∙ sym (fresh_none (byte_in all at) (byte_at first bytes at) (byte_at_after first bytes at over))
 
   -- a gap, if there is one
-  fresh_gap : (to : ℕ) → first ≤ place → place < to → to ≤ first + length bytes → ((at : ℕ) → place ≤ at → at < to → byte_in all at ≡ None) → AreFresh size first bytes all to (new ++ cut first bytes place to ∷ [])
+  fresh_gap : (to : ℕ) → first ≤ place → place < to → to ≤ first + length bytes → ((at : ℕ) → place ≤ at → at < to → byte_in all at ≡ None)
+      → AreFresh size first bytes all to (new ++ cut first bytes place to ∷ [])
   fresh_gap to le lt end lacks = record {
     parts = parts_push 0 new part so_far.parts so_far.past (omega arith) (omega (arith, len)) (omega (arith, len));
     inside = All-push (λ p. end_of p ≤ size) new part so_far.inside (omega (arith, len));
@@ -72,14 +74,16 @@ module _ (size first : ℕ) (bytes : List ℕ) (all : List Part) (inside : first
       len = cut_length first place (to - place) bytes le (omega arith)
 
       by : (at : ℕ) → at < to → (at < place) ⊎ (place ≤ at) → or_else (byte_in new at) (byte_in (part ∷ []) at) ≡ fresh (byte_in all at) (byte_at first bytes at)
-      by at below (inl before) = second_none (byte_in new at) (byte_in (part ∷ []) at) (second_none (byte_at place part.bytes at) None refl ∙ byte_at_before place part.bytes at before) ∙ so_far.brings at before
+      by at below (inl before) = second_none (byte_in new at) (byte_in (part ∷ []) at) (second_none (byte_at place part.bytes at) None refl ∙ byte_at_before place part.bytes at before)
+          ∙ so_far.brings at before
       by at below (inr from) =
           first_none (byte_in new at) (byte_in (part ∷ []) at) (none_after place new so_far.past at from)
           ∙ second_none (byte_at place part.bytes at) None refl
           ∙ cut_bytes first place (to - place) bytes le (omega arith) at from (omega arith)
           ∙ sym (fresh_missing (byte_in all at) (byte_at first bytes at) (lacks at from below))
 
-  pub fresh_more : (to : ℕ) → first ≤ place → to ≤ first + length bytes → ((at : ℕ) → place ≤ at → at < to → byte_in all at ≡ None) → AreFresh size first bytes all (max place to) (new ++ cuts first bytes place to)
+  pub fresh_more : (to : ℕ) → first ≤ place → to ≤ first + length bytes → ((at : ℕ) → place ≤ at → at < to → byte_in all at ≡ None)
+      → AreFresh size first bytes all (max place to) (new ++ cuts first bytes place to)
   fresh_more to le end lacks = by (nat_lt place to) refl
     where
       by : (b : Bool) → nat_lt place to ≡ b → AreFresh size first bytes all (max place to) (new ++ (if b then cut first bytes place to ∷ [] else []))
@@ -93,7 +97,8 @@ module _ (size first : ℕ) (bytes : List ℕ) (all : List Part) (inside : first
           subst (λ at. AreFresh size first bytes all at (new ++ [])) same (rw (append-nil new) so_far)
 
 -- At the end of the piece the new parts have all that it brings.
-module _ (size first : ℕ) (bytes : List ℕ) (all : List Part) (place : ℕ) (new : List Part) (kept : AreWithin size all) (so_far : AreFresh size first bytes all place new) (end : first + length bytes ≤ place) where
+module _ (size first : ℕ) (bytes : List ℕ) (all : List Part) (place : ℕ) (new : List Part) (kept : AreWithin size all) (so_far : AreFresh size first bytes all place new)
+    (end : first + length bytes ≤ place) where
   brings : (at : ℕ) → byte_in new at ≡ fresh (byte_in all at) (byte_at first bytes at)
   brings at = by (cases_lt at place)
     where

@@ -17,7 +17,8 @@ record IsTextFrom (size at : ℕ) (ps : List Part) : Type 0 where
   count : length (joined ps) + at ≡ size
   bytes : (place : ℕ) → at ≤ place → place < size → byte_in ps place ≡ slice_get (joined ps) (place - at)
 
-text_from : (size at : ℕ) (ps : List Part) → ArePartsFrom at ps → All (λ p. end_of p ≤ size) ps → at ≤ size → ((place : ℕ) → at ≤ place → place < size → IsSome (byte_in ps place)) → IsTextFrom size at ps
+text_from : (size at : ℕ) (ps : List Part) → ArePartsFrom at ps → All (λ p. end_of p ≤ size) ps → at ≤ size → ((place : ℕ) → at ≤ place → place < size → IsSome (byte_in ps place))
+    → IsTextFrom size at ps
 text_from size at [] w inside le some = by (cases_lt at size)
   where
     by : (at < size) ⊎ (size ≤ at) → IsTextFrom size at []
@@ -37,7 +38,8 @@ text_from size at (p ∷ ps) w inside le some =
     long : length (p.bytes ++ joined ps) ≡ length p.bytes + length (joined ps)
     long = length-append p.bytes (joined ps)
 
-    here : IsTextFrom size (end_of p) ps → p.first ≡ at → (place : ℕ) → at ≤ place → place < size → (place < end_of p) ⊎ (end_of p ≤ place) → byte_in (p ∷ ps) place ≡ slice_get (p.bytes ++ joined ps) (place - at)
+    here : IsTextFrom size (end_of p) ps → p.first ≡ at → (place : ℕ) → at ≤ place → place < size → (place < end_of p) ⊎ (end_of p ≤ place)
+        → byte_in (p ∷ ps) place ≡ slice_get (p.bytes ++ joined ps) (place - at)
     here again e place from to (inl lt) =
         let same : place - p.first ≡ place - at = omega (arith, e) in
         let short : place - at < length p.bytes = omega (arith, e) in
@@ -68,7 +70,8 @@ joined_text size ps within some =
     record { count = omega (arith, text.count); bytes = λ place to. (let index : place - 0 ≡ place = omega arith in text.bytes place (omega arith) to ∙ ap (slice_get (joined ps)) index) }
 
 -- what is read of a part that has bytes is read of what begins with it
-pub read_front : {E : Type 0} (all front rest new buf : List ℕ) (r : Result ℕ E) → all ≡ front ++ rest → 0 < length front → ReadConsumes (Some front) (Some new) r buf → ReadConsumes (Some all) (Some (new ++ rest)) r buf
+pub read_front : {E : Type 0} (all front rest new buf : List ℕ) (r : Result ℕ E) → all ≡ front ++ rest → 0 < length front → ReadConsumes (Some front) (Some new) r buf
+    → ReadConsumes (Some all) (Some (new ++ rest)) r buf
 read_front all front rest new buf (Ok n) is some read = (
   is ∙ ap (λ xs. xs ++ rest) read.0 ∙ append_assoc (take n buf) new rest,
   λ none room.

@@ -22,7 +22,8 @@ all_merged P ps [] f g = f
 all_merged P ps (q ∷ qs) f g = all_merged P (insert_part q ps) qs (all_insert P q ps (All-head P q qs g) f) (All-tail P q qs g)
 
 -- Lists with no place in both.
-insert_bytes : (q : Part) (ps : List Part) (place : ℕ) → (byte_in ps place ≡ None) ⊎ (byte_at q.first q.bytes place ≡ None) → byte_in (insert_part q ps) place ≡ or_else (byte_in ps place) (byte_at q.first q.bytes place)
+insert_bytes : (q : Part) (ps : List Part) (place : ℕ) → (byte_in ps place ≡ None) ⊎ (byte_at q.first q.bytes place ≡ None)
+    → byte_in (insert_part q ps) place ≡ or_else (byte_in ps place) (byte_at q.first q.bytes place)
 insert_bytes q [] place apart = second_none (byte_at q.first q.bytes place) None refl
 insert_bytes q (p ∷ ps) place apart = by (nat_lt q.first p.first) (insert_bytes q ps place (behind apart))
   where
@@ -30,11 +31,13 @@ insert_bytes q (p ∷ ps) place apart = by (nat_lt q.first p.first) (insert_byte
     behind (inl none) = inl (neither (byte_at p.first p.bytes place) (byte_in ps place) none).1
     behind (inr none) = inr none
 
-    by : (b : Bool) → byte_in (insert_part q ps) place ≡ or_else (byte_in ps place) (byte_at q.first q.bytes place) → byte_in (if b then q ∷ p ∷ ps else p ∷ insert_part q ps) place ≡ or_else (byte_in (p ∷ ps) place) (byte_at q.first q.bytes place)
+    by : (b : Bool) → byte_in (insert_part q ps) place ≡ or_else (byte_in ps place) (byte_at q.first q.bytes place)
+        → byte_in (if b then q ∷ p ∷ ps else p ∷ insert_part q ps) place ≡ or_else (byte_in (p ∷ ps) place) (byte_at q.first q.bytes place)
     by true again = sym (either_way (byte_in (p ∷ ps) place) (byte_at q.first q.bytes place) apart)
     by false again = ap (or_else (byte_at p.first p.bytes place)) again ∙ sym (or_else_assoc (byte_at p.first p.bytes place) (byte_in ps place) (byte_at q.first q.bytes place))
 
-still_apart : (at : ℕ) (q : Part) (ps qs : List Part) (place : ℕ) → ArePartsFrom at (q ∷ qs) → (byte_in ps place ≡ None) ⊎ (byte_in (q ∷ qs) place ≡ None) → (byte_in (insert_part q ps) place ≡ None) ⊎ (byte_in qs place ≡ None)
+still_apart : (at : ℕ) (q : Part) (ps qs : List Part) (place : ℕ) → ArePartsFrom at (q ∷ qs) → (byte_in ps place ≡ None) ⊎ (byte_in (q ∷ qs) place ≡ None)
+    → (byte_in (insert_part q ps) place ≡ None) ⊎ (byte_in qs place ≡ None)
 still_apart at q ps qs place w (inr none) = inr (neither (byte_at q.first q.bytes place) (byte_in qs place) none).1
 still_apart at q ps qs place w (inl none) = by (cases_option (byte_at q.first q.bytes place))
   where
@@ -46,14 +49,16 @@ one_apart : (q : Part) (ps qs : List Part) (place : ℕ) → (byte_in ps place �
 one_apart q ps qs place (inl none) = inl none
 one_apart q ps qs place (inr none) = inr (neither (byte_at q.first q.bytes place) (byte_in qs place) none).0
 
-pub merged_bytes : (at : ℕ) (ps qs : List Part) (place : ℕ) → ArePartsFrom at qs → (byte_in ps place ≡ None) ⊎ (byte_in qs place ≡ None) → byte_in (merged ps qs) place ≡ or_else (byte_in ps place) (byte_in qs place)
+pub merged_bytes : (at : ℕ) (ps qs : List Part) (place : ℕ) → ArePartsFrom at qs → (byte_in ps place ≡ None) ⊎ (byte_in qs place ≡ None)
+    → byte_in (merged ps qs) place ≡ or_else (byte_in ps place) (byte_in qs place)
 merged_bytes at ps [] place w apart = sym (second_none (byte_in ps place) None refl)
 merged_bytes at ps (q ∷ qs) place w apart =
     merged_bytes (end_of q) (insert_part q ps) qs place w.3 (still_apart at q ps qs place w apart)
     ∙ ap (λ o. or_else o (byte_in qs place)) (insert_bytes q ps place (one_apart q ps qs place apart))
     ∙ or_else_assoc (byte_in ps place) (byte_at q.first q.bytes place) (byte_in qs place)
 
-insert_parts : (at : ℕ) (q : Part) (ps : List Part) → ArePartsFrom at ps → at ≤ q.first → 0 < length q.bytes → length q.bytes ≤ max_piece → ((place : ℕ) → (byte_in ps place ≡ None) ⊎ (byte_at q.first q.bytes place ≡ None)) → ArePartsFrom at (insert_part q ps)
+insert_parts : (at : ℕ) (q : Part) (ps : List Part) → ArePartsFrom at ps → at ≤ q.first → 0 < length q.bytes → length q.bytes ≤ max_piece
+    → ((place : ℕ) → (byte_in ps place ≡ None) ⊎ (byte_at q.first q.bytes place ≡ None)) → ArePartsFrom at (insert_part q ps)
 insert_parts at q [] w le some few apart = (le, some, few, tt)
 insert_parts at q (p ∷ ps) w le some few apart = by (nat_lt q.first p.first) refl (insert_parts (end_of p) q ps w.3)
   where
@@ -79,7 +84,9 @@ insert_parts at q (p ∷ ps) w le some few apart = by (nat_lt q.first p.first) r
         of (inl none) = inl (neither (byte_at p.first p.bytes place) (byte_in ps place) none).1
         of (inr none) = inr none
 
-    by : (b : Bool) → nat_lt q.first p.first ≡ b → (end_of p ≤ q.first → 0 < length q.bytes → length q.bytes ≤ max_piece → ((place : ℕ) → (byte_in ps place ≡ None) ⊎ (byte_at q.first q.bytes place ≡ None)) → ArePartsFrom (end_of p) (insert_part q ps)) → ArePartsFrom at (if b then q ∷ p ∷ ps else p ∷ insert_part q ps)
+    by : (b : Bool) → nat_lt q.first p.first ≡ b → (end_of p ≤ q.first → 0 < length q.bytes → length q.bytes ≤ max_piece
+        → ((place : ℕ) → (byte_in ps place ≡ None) ⊎ (byte_at q.first q.bytes place ≡ None)) → ArePartsFrom (end_of p) (insert_part q ps))
+        → ArePartsFrom at (if b then q ∷ p ∷ ps else p ∷ insert_part q ps)
     by true t again = (le, some, few, (before (ltb-true q.first p.first t) (cases_lt p.first (end_of q)), w.1, w.2, w.3))
     by false t again = (w.0, w.1, w.2, again (behind (ltb-false q.first p.first t) (cases_lt q.first (end_of p))) some few rest)
 

@@ -22,7 +22,8 @@ starts_after at (p ∷ ps) w zero d lt = w.0
 starts_after at (p ∷ ps) w (suc j) d lt = omega (arith, w.0, starts_after (end_of (shown_part p)) ps w.3 j d (omega arith))
 
 -- none begins before an earlier one ends
-pub ordered : (at : ℕ) (ps : List code_part.Part) → ArePartsFrom at (shown_parts ps) → (i j : ℕ) (d : code_part.Part) → i < j → j < length ps → end_of (shown_part (get_or ps i d)) ≤ (get_or ps j d).first
+pub ordered : (at : ℕ) (ps : List code_part.Part) → ArePartsFrom at (shown_parts ps) → (i j : ℕ) (d : code_part.Part) → i < j → j < length ps
+    → end_of (shown_part (get_or ps i d)) ≤ (get_or ps j d).first
 ordered at [] w i j d lt in' = absurd (omega arith)
 ordered at (p ∷ ps) w i zero d lt in' = absurd (omega arith)
 ordered at (p ∷ ps) w zero (suc j) d lt in' = starts_after (end_of (shown_part p)) ps w.3 j d (omega arith)
@@ -92,10 +93,12 @@ module _ (size first end : ℕ) (ps : List code_part.Part) (within : AreWithin s
 
   pub rest_bytes : (n : ℕ) → AllWithin (λ p. leb (code_end p) first ≡ true) ps 0 n → (place : ℕ) → first ≤ place → byte_in (shown_parts (drop n ps)) place ≡ byte_in (shown_parts ps) place
   rest_bytes n tests place le =
-      let none : byte_in (take n (shown_parts ps)) place ≡ None = none_after first (take n (shown_parts ps)) (subst (All (λ p. end_of p ≤ first)) (sym (take-map shown_part n ps)) (front_ends n tests)) place le in
+      let none : byte_in (take n (shown_parts ps)) place ≡ None = none_after first (take n (shown_parts ps))
+      (subst (All (λ p. end_of p ≤ first)) (sym (take-map shown_part n ps)) (front_ends n tests)) place le in
       subst (λ qs. byte_in qs place ≡ byte_in (shown_parts ps) place) (drop-map shown_part n ps) (byte_in_drop n (shown_parts ps) place none)
 
   pub front_bytes : (n : ℕ) → AllWithin (λ p. ltb p.first end ≡ false) ps n (length ps) → (place : ℕ) → place < end → byte_in (shown_parts (take n ps)) place ≡ byte_in (shown_parts ps) place
   front_bytes n tests place lt =
-      let none : byte_in (drop n (shown_parts ps)) place ≡ None = none_ahead end (drop n (shown_parts ps)) (subst (All (λ p. end ≤ p.first)) (sym (drop-map shown_part n ps)) (rest_starts n tests)) place lt in
+      let none : byte_in (drop n (shown_parts ps)) place ≡ None = none_ahead end (drop n (shown_parts ps))
+      (subst (All (λ p. end ≤ p.first)) (sym (drop-map shown_part n ps)) (rest_starts n tests)) place lt in
       subst (λ qs. byte_in qs place ≡ byte_in (shown_parts ps) place) (take-map shown_part n ps) (byte_in_take n (shown_parts ps) place none)

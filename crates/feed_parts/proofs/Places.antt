@@ -68,11 +68,14 @@ starts_earlier at least (p ∷ ps) le w = (omega (arith, w.0), w.1, w.2, w.3)
 
 pub none_before : (at : ℕ) (ps : List Part) → ArePartsFrom at ps → (place : ℕ) → place < at → byte_in ps place ≡ None
 none_before at [] w place lt = refl
-none_before at (p ∷ ps) w place lt = both_none (byte_at p.first p.bytes place) (byte_in ps place) (byte_at_before p.first p.bytes place (omega (arith, w.0))) (none_before (end_of p) ps w.3 place (omega (arith, w.0)))
+none_before at (p ∷ ps) w place lt =
+    both_none (byte_at p.first p.bytes place) (byte_in ps place) (byte_at_before p.first p.bytes place (omega (arith, w.0))) (none_before (end_of p) ps w.3 place (omega (arith, w.0)))
 
 pub none_after : (at : ℕ) (ps : List Part) → All (λ p. end_of p ≤ at) ps → (place : ℕ) → at ≤ place → byte_in ps place ≡ None
 none_after at [] w place le = refl
-none_after at (p ∷ ps) w place le = both_none (byte_at p.first p.bytes place) (byte_in ps place) (byte_at_after p.first p.bytes place (omega (arith, All-head (λ p. end_of p ≤ at) p ps w))) (none_after at ps (All-tail (λ p. end_of p ≤ at) p ps w) place le)
+none_after at (p ∷ ps) w place le =
+    both_none (byte_at p.first p.bytes place) (byte_in ps place) (byte_at_after p.first p.bytes place (omega (arith, All-head (λ p. end_of p ≤ at) p ps w)))
+    (none_after at ps (All-tail (λ p. end_of p ≤ at) p ps w) place le)
 
 -- the parts after a place inside the first lack it
 pub none_behind : (at : ℕ) (p : Part) (ps : List Part) → ArePartsFrom at (p ∷ ps) → (place x : ℕ) → byte_at p.first p.bytes place ≡ Some x → byte_in ps place ≡ None
@@ -85,7 +88,8 @@ byte_in_append (p ∷ ps) qs place =
     rw again (sym (or_else_assoc (byte_at p.first p.bytes place) (byte_in ps place) (byte_in qs place)))
 
 -- one more part behind the others
-pub parts_push : (at : ℕ) (ps : List Part) (q : Part) → ArePartsFrom at ps → All (λ p. end_of p ≤ q.first) ps → at ≤ q.first → 0 < length q.bytes → length q.bytes ≤ max_piece → ArePartsFrom at (ps ++ q ∷ [])
+pub parts_push : (at : ℕ) (ps : List Part) (q : Part) → ArePartsFrom at ps → All (λ p. end_of p ≤ q.first) ps → at ≤ q.first → 0 < length q.bytes → length q.bytes ≤ max_piece
+    → ArePartsFrom at (ps ++ q ∷ [])
 parts_push at [] q w past le some few = (le, some, few, tt)
 parts_push at (p ∷ ps) q w past le some few =
     (w.0, w.1, w.2, parts_push (end_of p) ps q w.3 (All-tail (λ p. end_of p ≤ q.first) p ps past) (All-head (λ p. end_of p ≤ q.first) p ps past) some few)
@@ -103,21 +107,26 @@ parts_take at (suc n) (p ∷ ps) w = (w.0, w.1, w.2, parts_take (end_of p) n ps 
 
 pub none_ahead : (at : ℕ) (ps : List Part) → All (λ p. at ≤ p.first) ps → (place : ℕ) → place < at → byte_in ps place ≡ None
 none_ahead at [] w place lt = refl
-none_ahead at (p ∷ ps) w place lt = both_none (byte_at p.first p.bytes place) (byte_in ps place) (byte_at_before p.first p.bytes place (omega (arith, All-head (λ q. at ≤ q.first) p ps w))) (none_ahead at ps (All-tail (λ q. at ≤ q.first) p ps w) place lt)
+none_ahead at (p ∷ ps) w place lt =
+    both_none (byte_at p.first p.bytes place) (byte_in ps place) (byte_at_before p.first p.bytes place (omega (arith, All-head (λ q. at ≤ q.first) p ps w)))
+    (none_ahead at ps (All-tail (λ q. at ≤ q.first) p ps w) place lt)
 
 -- what parts that lie elsewhere add
 pub byte_in_take : (n : ℕ) (ps : List Part) (place : ℕ) → byte_in (drop n ps) place ≡ None → byte_in (take n ps) place ≡ byte_in ps place
 byte_in_take n ps place e =
-    let split : byte_in ps place ≡ or_else (byte_in (take n ps) place) (byte_in (drop n ps) place) = subst (λ qs. byte_in qs place ≡ or_else (byte_in (take n ps) place) (byte_in (drop n ps) place)) (take-append-drop n ps) (byte_in_append (take n ps) (drop n ps) place) in
+    let split : byte_in ps place ≡ or_else (byte_in (take n ps) place) (byte_in (drop n ps) place) = subst
+    (λ qs. byte_in qs place ≡ or_else (byte_in (take n ps) place) (byte_in (drop n ps) place)) (take-append-drop n ps) (byte_in_append (take n ps) (drop n ps) place) in
     sym (split ∙ second_none (byte_in (take n ps) place) (byte_in (drop n ps) place) e)
 
 pub byte_in_drop : (n : ℕ) (ps : List Part) (place : ℕ) → byte_in (take n ps) place ≡ None → byte_in (drop n ps) place ≡ byte_in ps place
 byte_in_drop n ps place e =
-    let split : byte_in ps place ≡ or_else (byte_in (take n ps) place) (byte_in (drop n ps) place) = subst (λ qs. byte_in qs place ≡ or_else (byte_in (take n ps) place) (byte_in (drop n ps) place)) (take-append-drop n ps) (byte_in_append (take n ps) (drop n ps) place) in
+    let split : byte_in ps place ≡ or_else (byte_in (take n ps) place) (byte_in (drop n ps) place) = subst
+    (λ qs. byte_in qs place ≡ or_else (byte_in (take n ps) place) (byte_in (drop n ps) place)) (take-append-drop n ps) (byte_in_append (take n ps) (drop n ps) place) in
     sym (split ∙ first_none (byte_in (take n ps) place) (byte_in (drop n ps) place) e)
 
 -- the bytes of a piece from one place on
-pub cut_bytes : (first low n : ℕ) (bytes : List ℕ) → first ≤ low → low + n ≤ first + length bytes → (place : ℕ) → low ≤ place → place < low + n → byte_at low (take n (drop (low - first) bytes)) place ≡ byte_at first bytes place
+pub cut_bytes : (first low n : ℕ) (bytes : List ℕ) → first ≤ low → low + n ≤ first + length bytes → (place : ℕ) → low ≤ place → place < low + n
+    → byte_at low (take n (drop (low - first) bytes)) place ≡ byte_at first bytes place
 cut_bytes first low n bytes le inside place from to =
     let rest = drop (low - first) bytes in
     let len : length (take n rest) ≡ n = omega (arith, length-take n rest, length-drop (low - first) bytes) in

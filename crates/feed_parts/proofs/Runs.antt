@@ -12,7 +12,8 @@ module _ {X : Type 0} (xs ps qs : List X) (joined : xs ≡ ps ++ qs) (begin end 
   pub tail_is : take (length xs - end) (drop end xs) ≡ drop end ps ++ qs
   tail_is = ap (λ ys. take (length ys - end) (drop end ys)) joined ∙ take_rest (ps ++ qs) end ∙ drop-append-le end ps qs inside
 
-  pub turned_is : (count : ℕ) → count ≡ length qs → (turned : List X) → turned ≡ drop (length (take (length xs - end) (drop end xs)) - count) (take (length xs - end) (drop end xs)) ++ take (length (take (length xs - end) (drop end xs)) - count) (take (length xs - end) (drop end xs)) → turned ≡ qs ++ drop end ps
+  pub turned_is : (count : ℕ) → count ≡ length qs → (turned : List X)
+      → turned ≡ drop (length (take (length xs - end) (drop end xs)) - count) (take (length xs - end) (drop end xs)) ++ take (length (take (length xs - end) (drop end xs)) - count) (take (length xs - end) (drop end xs)) → turned ≡ qs ++ drop end ps
   turned_is count of turned is =
       let len : length (take (length xs - end) (drop end xs)) ≡ length (drop end ps) + length qs = ap length tail_is ∙ length-append (drop end ps) qs in
       let k : ℕ = length (take (length xs - end) (drop end xs)) - count in
@@ -31,16 +32,19 @@ module _ {X : Type 0} (xs ps qs : List X) (joined : xs ≡ ps ++ qs) (begin end 
   sorted_part ys is k at =
       let len : length (take end ps) ≡ end = omega (arith, length-take end ps) in
       let part : length (drop begin (take end ps) ++ qs) ≡ k = omega (arith, len, at, length-append (drop begin (take end ps)) qs, length-drop begin (take end ps)) in
-      let split : drop begin ys ≡ (drop begin (take end ps) ++ qs) ++ drop end ps = ap (drop begin) is ∙ drop-append-le begin (take end ps) (qs ++ drop end ps) (omega (arith, len)) ∙ sym (append_assoc (drop begin (take end ps)) qs (drop end ps)) in
+      let split : drop begin ys ≡ (drop begin (take end ps) ++ qs) ++ drop end ps = ap (drop begin) is ∙ drop-append-le begin (take end ps) (qs ++ drop end ps) (omega (arith, len)) ∙ sym
+      (append_assoc (drop begin (take end ps)) qs (drop end ps)) in
       ap (take k) split ∙ take_at (drop begin (take end ps) ++ qs) (drop end ps) k part
 
   -- the list at the end
-  pub after_sort : (ys zs : List X) → ys ≡ take end ps ++ (qs ++ drop end ps) → (k : ℕ) → k ≡ (end + length qs) - begin → take begin ys ++ (zs ++ drop k (drop begin ys)) ≡ take begin ps ++ (zs ++ drop end ps)
+  pub after_sort : (ys zs : List X) → ys ≡ take end ps ++ (qs ++ drop end ps) → (k : ℕ) → k ≡ (end + length qs) - begin
+      → take begin ys ++ (zs ++ drop k (drop begin ys)) ≡ take begin ps ++ (zs ++ drop end ps)
   after_sort ys zs is k at =
       let len : length (take end ps) ≡ end = omega (arith, length-take end ps) in
       let front : take begin ys ≡ take begin ps = ap (take begin) is ∙ take-append-le begin (take end ps) (qs ++ drop end ps) (omega (arith, len)) ∙ take-take begin end ps order in
       let past : length (take end ps ++ qs) ≡ begin + k = omega (arith, len, at, length-append (take end ps) qs) in
-      let back : drop k (drop begin ys) ≡ drop end ps = drop-drop k begin ys ∙ ap (drop (begin + k)) (is ∙ sym (append_assoc (take end ps) qs (drop end ps))) ∙ drop_at (take end ps ++ qs) (drop end ps) (begin + k) past in
+      let back : drop k (drop begin ys) ≡ drop end ps = drop-drop k begin ys ∙ ap (drop (begin + k)) (is ∙ sym (append_assoc (take end ps) qs (drop end ps))) ∙ drop_at (take end ps ++ qs)
+      (drop end ps) (begin + k) past in
       ap₂ ◌++◌ front (ap (λ ws. zs ++ ws) back)
 
 -- numbers that rise in two lists, and from the one to the other
@@ -58,7 +62,8 @@ module _ {X : Type 0} (n : X → ℕ) where
           let lower = low i d a in
           rw (get_or_append_left xs ys d i a, get_or-append_right xs ys (length xs) j d refl b) (omega (arith, upper, lower))
       by (inr a) (inl b) = absurd (omega arith)
-      by (inr a) (inr b) = rw (get_or-append_right xs ys (length xs) i d refl a, get_or-append_right xs ys (length xs) j d refl b) (w (i - length xs) (j - length xs) d (omega arith) (omega (arith, len)))
+      by (inr a) (inr b) = rw (get_or-append_right xs ys (length xs) i d refl a, get_or-append_right xs ys (length xs) j d refl b)
+          (w (i - length xs) (j - length xs) d (omega arith) (omega (arith, len)))
 
   pub rise_take : (k : ℕ) (xs : List X) → IsNonDecreasingBy n xs → IsNonDecreasingBy n (take k xs)
   rise_take k xs w i j d le lt =

@@ -57,7 +57,8 @@ beginning_insert at from q (p ∷ ps) w = by (nat_lt q.first p.first) refl (begi
     behind true xs ys zs e = ap (λ us. p ∷ us) e
     behind false xs ys zs e = e
 
-    by : (b : Bool) → nat_lt q.first p.first ≡ b → beginning at (insert_part q ps) ≡ beginning at ps ++ beginning at (q ∷ []) → beginning at (if b then q ∷ p ∷ ps else p ∷ insert_part q ps) ≡ beginning at (p ∷ ps) ++ beginning at (q ∷ [])
+    by : (b : Bool) → nat_lt q.first p.first ≡ b → beginning at (insert_part q ps) ≡ beginning at ps ++ beginning at (q ∷ [])
+        → beginning at (if b then q ∷ p ∷ ps else p ∷ insert_part q ps) ≡ beginning at (p ∷ ps) ++ beginning at (q ∷ [])
     by true t again = front (ltb-true q.first p.first t) (cases_eq q.first at)
     by false t again = behind (eqb p.first at) (beginning at (insert_part q ps)) (beginning at ps) (beginning at (q ∷ [])) again
 
@@ -124,7 +125,8 @@ all_ties at (x ∷ xs) ys stable = ties_same at x (x ∷ xs) ys stable
 
 sorted_up : (at : ℕ) (ps : List code_part.Part) → IsNonDecreasingBy (λ p. p.first) ps → All (λ p. at ≤ p.first) ps → UpFrom at (shown_parts ps)
 sorted_up at [] w low = tt
-sorted_up at (p ∷ ps) w low = (All-head (λ q. at ≤ q.first) p ps low, sorted_up p.first ps (λ i j d le lt. w (suc i) (suc j) d (omega arith) (omega arith)) (λ k d lt. w 0 (suc k) d (omega arith) (omega arith)))
+sorted_up at (p ∷ ps) w low =
+    (All-head (λ q. at ≤ q.first) p ps low, sorted_up p.first ps (λ i j d le lt. w (suc i) (suc j) d (omega arith) (omega arith)) (λ k d lt. w 0 (suc k) d (omega arith) (omega arith)))
 
 -- parts that are sorted now, and stand as before where they begin at one place
 pub sorted_stably : (xs ys : List code_part.Part) → IsNonDecreasingBy (λ p. p.first) ys → IsStableByKey (λ p. p.first) nat_cmp xs ys → shown_parts ys ≡ merged [] (shown_parts xs)

@@ -60,7 +60,8 @@ none_there at (p ∷ ps) e = by (cases_eq p.first at) (none_there at ps)
     by (inr ne) again = All-cons (λ q. q.first ≡ at → ⊥) p ps ne (again (omega (arith, starting_elsewhere at p ps ne, e)))
 
 -- sorted, and no two at one place
-sorted_rise : (at : ℕ) (ps : List code_part.Part) → IsNonDecreasingBy (λ p. p.first) ps → All (λ p. at ≤ p.first) ps → ((place : ℕ) → starting place (shown_parts ps) ≤ 1) → RiseFrom at (shown_parts ps)
+sorted_rise : (at : ℕ) (ps : List code_part.Part) → IsNonDecreasingBy (λ p. p.first) ps → All (λ p. at ≤ p.first) ps → ((place : ℕ) → starting place (shown_parts ps) ≤ 1)
+    → RiseFrom at (shown_parts ps)
 sorted_rise at [] w low one = tt
 sorted_rise at (p ∷ ps) w low one = (All-head (λ q. at ≤ q.first) p ps low, sorted_rise (suc p.first) ps tail above fewer)
   where
@@ -142,10 +143,12 @@ pub merged_moves : (ps qs : List Part) → IsPermutation (ps ++ qs) (merged ps q
 merged_moves ps [] = subst (λ xs. IsPermutation xs ps) (sym (append-nil ps)) (IsPermutation-refl ps)
 merged_moves ps (q ∷ qs) =
     IsPermutation-trans (ps ++ q ∷ qs) (q ∷ (ps ++ qs)) (merged (insert_part q ps) qs) (IsPermutation-middle ps q qs)
-    (IsPermutation-trans (q ∷ (ps ++ qs)) (insert_part q ps ++ qs) (merged (insert_part q ps) qs) (IsPermutation-append_left qs (q ∷ ps) (insert_part q ps) (insert_moves q ps)) (merged_moves (insert_part q ps) qs))
+    (IsPermutation-trans (q ∷ (ps ++ qs)) (insert_part q ps ++ qs) (merged (insert_part q ps) qs) (IsPermutation-append_left qs (q ∷ ps) (insert_part q ps) (insert_moves q ps))
+    (merged_moves (insert_part q ps) qs))
 
 -- parts that only moved, and are sorted now, are the merged ones
-pub sorted_merged : (old new now : List code_part.Part) → AreParts (merged (shown_parts old) (shown_parts new)) → IsPermutation (old ++ new) now → IsNonDecreasingBy (λ p. p.first) now → shown_parts now ≡ merged (shown_parts old) (shown_parts new)
+pub sorted_merged : (old new now : List code_part.Part) → AreParts (merged (shown_parts old) (shown_parts new)) → IsPermutation (old ++ new) now → IsNonDecreasingBy (λ p. p.first) now
+    → shown_parts now ≡ merged (shown_parts old) (shown_parts new)
 sorted_merged old new now apart moved sorted = same_list 0 0 (shown_parts now) whole rises (parts_rise 0 whole apart) there back
   where
     whole : List Part
@@ -155,17 +158,28 @@ sorted_merged old new now apart moved sorted = same_list 0 0 (shown_parts now) w
     moves =
         let both = shown_parts old ++ shown_parts new in
         let split : shown_parts (old ++ new) ≡ both = map-append shown_part old new in
-        IsPermutation-trans (merged (shown_parts old) (shown_parts new)) both (shown_parts now) (IsPermutation-sym both (merged (shown_parts old) (shown_parts new)) (merged_moves (shown_parts old) (shown_parts new)))
+        IsPermutation-trans (merged (shown_parts old) (shown_parts new)) both (shown_parts now)
+        (IsPermutation-sym both (merged (shown_parts old) (shown_parts new)) (merged_moves (shown_parts old) (shown_parts new)))
         (subst (λ xs. IsPermutation xs (shown_parts now)) split (IsPermutation-map shown_part (old ++ new) now moved))
 
     rises : RiseFrom 0 (shown_parts now)
-    rises = sorted_rise 0 now sorted (λ k d lt. omega arith) (λ place. omega (arith, sum_by-IsPermutation (λ p. cond (eqb p.first place) 1 0) (merged (shown_parts old) (shown_parts new)) (shown_parts now) moves, one_starting place 0 (merged (shown_parts old) (shown_parts new)) (parts_rise 0 (merged (shown_parts old) (shown_parts new)) apart)))
+    rises =
+        sorted_rise 0 now sorted (λ k d lt. omega arith) (λ place. omega (
+          arith,
+          sum_by-IsPermutation (λ p. cond (eqb p.first place) 1 0) (merged (shown_parts old) (shown_parts new)) (shown_parts now) moves,
+          one_starting place 0
+              (merged (shown_parts old) (shown_parts new)) (parts_rise 0 (merged (shown_parts old) (shown_parts new)) apart),
+        ))
 
     back : All (λ p. Has p (shown_parts now)) (merged (shown_parts old) (shown_parts new))
-    back = All-permutation (λ p. Has p (shown_parts now)) (shown_parts now) (merged (shown_parts old) (shown_parts new)) (IsPermutation-sym (merged (shown_parts old) (shown_parts new)) (shown_parts now) moves) (has_each (shown_parts now))
+    back =
+        All-permutation (λ p. Has p (shown_parts now)) (shown_parts now) (merged (shown_parts old) (shown_parts new))
+        (IsPermutation-sym (merged (shown_parts old) (shown_parts new)) (shown_parts now) moves) (has_each (shown_parts now))
 
     there : All (λ p. Has p (merged (shown_parts old) (shown_parts new))) (shown_parts now)
-    there = All-permutation (λ p. Has p (merged (shown_parts old) (shown_parts new))) (merged (shown_parts old) (shown_parts new)) (shown_parts now) moves (has_each (merged (shown_parts old) (shown_parts new)))
+    there =
+        All-permutation (λ p. Has p (merged (shown_parts old) (shown_parts new))) (merged (shown_parts old) (shown_parts new)) (shown_parts now) moves
+        (has_each (merged (shown_parts old) (shown_parts new)))
 
 -- the parts before were in order too
 parts_from_insert : (at : ℕ) (q : Part) (ps : List Part) → ArePartsFrom at (insert_part q ps) → ArePartsFrom at ps

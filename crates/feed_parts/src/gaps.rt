@@ -12,15 +12,19 @@ pub struct Gap {
     pub end: u64,
 }
 
-/// The first gap of a file: the least missing place, and the first place after it that is kept, or the size. It takes no
-/// memory.
+/// The first gap of a file: the least missing place, and the first place after it that is kept, or the size. It takes
+/// no memory.
 pub fn next_gap(parts: &[Part], size: u64) -> Option<Gap>
     requires within { AreWithin size (shown_parts parts.now) }
     requires small { size < 2 ^ 63 }
-    ensures none { MatchOption result ((place : ℕ) → place < size → IsSome (byte_in (shown_parts parts.now) place)) (λ gap. gap.first < gap.end) }
-    ensures before { MatchOption result (Unit {0}) (λ gap. (place : ℕ) → place < gap.first → IsSome (byte_in (shown_parts parts.now) place)) }
-    ensures missing { MatchOption result (Unit {0}) (λ gap. (place : ℕ) → gap.first ≤ place → place < gap.end → byte_in (shown_parts parts.now) place ≡ None) }
-    ensures after { MatchOption result (Unit {0}) (λ gap. (gap.end ≤ size) × (gap.end < size → IsSome (byte_in (shown_parts parts.now) gap.end))) }
+    ensures none { MatchOption result ((place : ℕ) → place < size → IsSome (byte_in (shown_parts parts.now) place))
+        (λ gap. gap.first < gap.end) }
+    ensures before { MatchOption result (Unit {0}) (λ gap. (place : ℕ) → place < gap.first
+        → IsSome (byte_in (shown_parts parts.now) place)) }
+    ensures missing { MatchOption result (Unit {0}) (λ gap. (place : ℕ) → gap.first ≤ place → place < gap.end
+        → byte_in (shown_parts parts.now) place ≡ None) }
+    ensures after { MatchOption result (Unit {0}) (λ gap. (gap.end ≤ size)
+        × (gap.end < size → IsSome (byte_in (shown_parts parts.now) gap.end))) }
 {
     let mut place = 0;
     for part in parts {

@@ -1,5 +1,6 @@
 //! A piece beside the parts that are kept.
-ghost use Rattle.std.specs.Prelude.{◌≡◌, ◌+◌, ◌-◌, ◌<◌, ◌≤◌, ◌^◌, ◌++◌, ℕ, [], ◌∷◌, false, length, vec_len, All, ◌↔◌, IsSome, IsTrue, IfOk, OnOk};
+ghost use Rattle.std.specs.Prelude.{◌≡◌, ◌+◌, ◌-◌, ◌<◌, ◌≤◌, ◌^◌, ◌++◌, ℕ, [], ◌∷◌, false, length, vec_len, All, ◌↔◌};
+ghost use Rattle.std.specs.Prelude.{IsSome, IsTrue, IfOk, OnOk};
 ghost use Rattle.feed_model.specs.Reply.{max_piece, missing_below};
 ghost use Rattle.feed_model.specs.Content.{byte_in};
 ghost use Rattle.feed_model.specs.Change.{merged};
@@ -17,7 +18,8 @@ fn meeting(parts: &[Part], size: u64, first: u64, end: u64) -> &[Part]
     requires small { size < 2 ^ 63 }
     ensures order { AreWithin size (shown_parts result.now) }
     ensures begins { All (λ p. p.first < end) (shown_parts result.now) }
-    ensures same { (place : ℕ) → first ≤ place → place < end → byte_in (shown_parts result.now) place ≡ byte_in (shown_parts parts.now) place }
+    ensures same { (place : ℕ) → first ≤ place → place < end
+        → byte_in (shown_parts result.now) place ≡ byte_in (shown_parts parts.now) place }
 {
     let from = parts.partition_point(|part| end_of(part) <= first);
     let rest = &parts[from..];
@@ -97,8 +99,13 @@ pub fn new_parts(
     requires piece { length bytes.now ≤ max_piece }
     ensures adds { IfOk result (λ new. Adds size (shown_parts parts.now) first bytes.now (shown_parts new.items)) }
     ensures some { IfOk result (λ new. HasNew (shown_parts parts.now) first bytes.now → 0 < length new.items) }
-    ensures missing { IfOk result (λ new. missing_below (byte_in (merged (shown_parts parts.now) (shown_parts new.items))) size + total_length (shown_parts new.items) ≡ missing_below (byte_in (shown_parts parts.now)) size) }
-    ensures whole { IfOk result (λ new. (missing_below (byte_in (merged (shown_parts parts.now) (shown_parts new.items))) size ≡ 0) ↔ ((place : ℕ) → place < size → IsSome (byte_in (merged (shown_parts parts.now) (shown_parts new.items)) place))) }
+    ensures missing { IfOk result (λ new. missing_below
+        (byte_in (merged (shown_parts parts.now) (shown_parts new.items))) size + total_length (shown_parts new.items)
+        ≡ missing_below (byte_in (shown_parts parts.now)) size) }
+    ensures whole { IfOk result (λ new. (missing_below (byte_in
+        (merged (shown_parts parts.now) (shown_parts new.items))) size ≡ 0)
+        ↔ ((place : ℕ) → place < size → IsSome (byte_in (merged (shown_parts parts.now)
+        (shown_parts new.items)) place))) }
 {
     let end = first + bytes.len() as u64;
     let mut new = Vec::new(alloc);

@@ -29,7 +29,8 @@ impl<'a> Model for PartReader<'a> {
 
     ghost view = { λ r. r.front.now ++ joined (merged (shown_parts r.kept.now) (shown_parts r.new.now)) };
 
-    ghost invariant = { λ r. AreParts (shown_parts r.new.now) × AreParts (merged (shown_parts r.kept.now) (shown_parts r.new.now)) };
+    ghost invariant = { λ r. AreParts (shown_parts r.new.now)
+        × AreParts (merged (shown_parts r.kept.now) (shown_parts r.new.now)) };
 }
 
 impl<'a> PartReader<'a> {
@@ -38,7 +39,9 @@ impl<'a> PartReader<'a> {
     pub fn new(kept: &'a [Part], new: &'a [Part]) -> PartReader<'a>
         requires order { AreParts (shown_parts new.now) }
         requires apart { AreParts (merged (shown_parts kept.now) (shown_parts new.now)) }
-        ensures { (size : ℕ) → AreWithin size (merged (shown_parts kept.now) (shown_parts new.now)) → ((place : ℕ) → place < size → IsSome (byte_in (merged (shown_parts kept.now) (shown_parts new.now)) place)) → IsText size (merged (shown_parts kept.now) (shown_parts new.now)) result }
+        ensures { (size : ℕ) → AreWithin size (merged (shown_parts kept.now) (shown_parts new.now))
+            → ((place : ℕ) → place < size → IsSome (byte_in (merged (shown_parts kept.now)
+            (shown_parts new.now)) place)) → IsText size (merged (shown_parts kept.now) (shown_parts new.now)) result }
     {
         PartReader {
             front: &[],
@@ -72,7 +75,8 @@ impl<'a> Read for PartReader<'a> {
 // The part that begins first, and the other kept and new parts.
 fn split_first<'a>(kept: &'a [Part], new: &'a [Part]) -> Option<(&'a Part, &'a [Part], &'a [Part])>
     requires { AreParts (shown_parts new.now) }
-    ensures first { IfSome result (λ split. merged (shown_parts kept.now) (shown_parts new.now) ≡ shown_part split.0.now ∷ merged (shown_parts split.1.now) (shown_parts split.2.now)) }
+    ensures first { IfSome result (λ split. merged (shown_parts kept.now) (shown_parts new.now)
+        ≡ shown_part split.0.now ∷ merged (shown_parts split.1.now) (shown_parts split.2.now)) }
     ensures order { IfSome result (λ split. AreParts (shown_parts split.2.now)) }
     ensures end { IfNone result (merged (shown_parts kept.now) (shown_parts new.now) ≡ []) }
 {

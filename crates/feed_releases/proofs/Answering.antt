@@ -21,7 +21,8 @@ on_err (Ok x) P p = tt
 on_err (Err e) P p = p
 
 -- an answer that changes nothing, and tells no fault of the device
-pub idle : {K : Type 0} {k : Ghosts K} (old new : Feed K k) (event : Event) (answer : Answer) → keeper_of new ≡ keeper_of old → releases_of new ≡ releases_of old → answer ≢ Err Device → Handles (recorded old) event answer (recorded old) → IsAnsweredBy old new event answer
+pub idle : {K : Type 0} {k : Ghosts K} (old new : Feed K k) (event : Event) (answer : Answer) → keeper_of new ≡ keeper_of old → releases_of new ≡ releases_of old → answer ≢ Err Device
+    → Handles (recorded old) event answer (recorded old) → IsAnsweredBy old new event answer
 idle {K} {k} old new event answer keeper same other right = record {
   right = rw same right;
   refused = on_err answer _ same;
@@ -31,12 +32,14 @@ idle {K} {k} old new event answer keeper same other right = record {
 
 -- a refusal of what commits
 pub refused_with : {K : Type 0} {k : Ghosts K} (old new : Feed K k) (event : Event) (refusal : Refusal) → releases_of new ≡ releases_of old → (k.clean (keeper_of new) → k.clean (keeper_of old))
-    → IsCounted (let a : Answer = Err refusal in a ≡ Err Device) (k.failed (keeper_of old)) (k.failed (keeper_of new)) → Handles (recorded old) event (Err refusal) (recorded old) → IsAnsweredBy old new event (Err refusal)
+    → IsCounted (let a : Answer = Err refusal in a ≡ Err Device) (k.failed (keeper_of old)) (k.failed (keeper_of new)) → Handles (recorded old) event (Err refusal)
+    (recorded old) → IsAnsweredBy old new event (Err refusal)
 refused_with old new event refusal same clean counted right = record { right = rw same right; refused = same; clean = clean; device = counted }
 
 -- an answer that commits
 pub taken_in : {K : Type 0} {k : Ghosts K} (old new : Feed K k) (event : Event) (reply : Reply) → (k.clean (keeper_of new) → k.clean (keeper_of old))
-    → IsCounted (let a : Answer = Ok reply in a ≡ Err Device) (k.failed (keeper_of old)) (k.failed (keeper_of new)) → Handles (recorded old) event (Ok reply) (recorded new) → IsAnsweredBy old new event (Ok reply)
+    → IsCounted (let a : Answer = Ok reply in a ≡ Err Device) (k.failed (keeper_of old)) (k.failed (keeper_of new)) → Handles (recorded old) event (Ok reply)
+    (recorded new) → IsAnsweredBy old new event (Ok reply)
 taken_in old new event reply clean counted right = record { right = right; refused = tt; clean = clean; device = counted }
 
 -- an error that is want of memory
@@ -57,7 +60,8 @@ sized None size same = tt
 sized (Some t) size same = elim (eqb_tells t size) [ inl p ↦ p.1 | inr q ↦ absurd (same q.1) ]
 
 -- the piece is one of a recorded release, and inside of its file
-pub reaches : (c : Content) (n : Name) (first : ℕ) (total : Option ℕ) (bytes : List ℕ) (r : Record) → IsSmall bytes → NoneIsLater c n → record_of c n ≡ Some r → ¬ (IsSomeAnd total (λ t. t ≢ r.size)) → ¬ (r.size < first + length bytes) → Reaches c n first total bytes r
+pub reaches : (c : Content) (n : Name) (first : ℕ) (total : Option ℕ) (bytes : List ℕ) (r : Record) → IsSmall bytes → NoneIsLater c n → record_of c n ≡ Some r
+    → ¬ (IsSomeAnd total (λ t. t ≢ r.size)) → ¬ (r.size < first + length bytes) → Reaches c n first total bytes r
 reaches c n first total bytes r small free found same inside = record { small = small; free = free; found = found; sized = sized total r.size same; within = omega (arith, inside) }
 
 -- a record that is found is the one that was found before

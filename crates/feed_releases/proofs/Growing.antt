@@ -19,11 +19,15 @@ use Rattle.feed_releases.specs.ReleaseValue.{LiesOver}
 use Rattle.feed_releases.specs.Growth.{IsGrowth, StandsSo, change_of, parts_of, reply_of, state_of}
 use Rattle.feed_releases.proofs.Growth.{length-shown}
 
-right_so : (c : Content) (n : Name) (first : ℕ) (total : Option ℕ) (bytes : List ℕ) (r : Record) (ps : List Part) (missing : ℕ) (s : Standing) → Reaches c n first total bytes r → LiesOver r first bytes New
-    → Adds r.size r.parts first bytes ps → missing ≡ missing_below (byte_in (merged r.parts ps)) r.size → StandsSo r.size (merged r.parts ps) missing s → Handles c (Piece n first total bytes) (Ok (reply_of missing s)) (after (change_to (state_of s) n ps) c)
+right_so : (c : Content) (n : Name) (first : ℕ) (total : Option ℕ) (bytes : List ℕ) (r : Record) (ps : List Part) (missing : ℕ) (s : Standing) → Reaches c n first total bytes r
+    → LiesOver r first bytes New
+    → Adds r.size r.parts first bytes ps → missing ≡ missing_below (byte_in (merged r.parts ps)) r.size → StandsSo r.size (merged r.parts ps) missing s → Handles c (Piece n first total bytes)
+    (Ok (reply_of missing s)) (after (change_to (state_of s) n ps) c)
 right_so c n first total bytes r ps missing Partial reach lies adds count so = piece_stored c n first total bytes r ps missing reach lies.2 lies.0 lies.1 adds count so
-right_so c n first total bytes r ps missing (Bad why) reach lies adds count so = piece_broken c n first total bytes r ps so.1.0 why reach lies.2 lies.0 lies.1 adds (sym count ∙ so.0) so.1.1.count so.1.1.bytes so.1.2
-right_so c n first total bytes r ps missing (Good holdings) reach lies adds count so = piece_activated c n first total bytes r ps so.1.0 reach lies.2 lies.0 lies.1 adds (sym count ∙ so.0) so.1.1.count so.1.1.bytes so.1.2
+right_so c n first total bytes r ps missing (Bad why) reach lies adds count so =
+    piece_broken c n first total bytes r ps so.1.0 why reach lies.2 lies.0 lies.1 adds (sym count ∙ so.0) so.1.1.count so.1.1.bytes so.1.2
+right_so c n first total bytes r ps missing (Good holdings) reach lies adds count so =
+    piece_activated c n first total bytes r ps so.1.0 reach lies.2 lies.0 lies.1 adds (sym count ∙ so.0) so.1.1.count so.1.1.bytes so.1.2
 
 -- the answer is right
 pub growth_right : (c : Content) (n : Name) (first : ℕ) (total : Option ℕ) (bytes : List ℕ) (r : Record) (growth : Growth) → r.name ≡ n → Reaches c n first total bytes r → LiesOver r first bytes New
@@ -52,7 +56,8 @@ growth_allowed c n first total bytes r growth name reach lies is =
     rw name (allowed_so c n r (parts_of growth) growth.missing growth.standing takes reach.free is.missing is.stands)
 
 -- a release that is activated takes the place of the earlier ones, and only that one
-pub after_activated : (n : Name) (r : Record) (growth : Growth) (c : Content) → r.name ≡ n → reply_of growth.missing growth.standing ≡ Activated → after (change_of r growth) c ≡ without_earlier n (changed n (grown (parts_of growth) (state_of growth.standing)) c)
+pub after_activated : (n : Name) (r : Record) (growth : Growth) (c : Content) → r.name ≡ n → reply_of growth.missing growth.standing ≡ Activated
+    → after (change_of r growth) c ≡ without_earlier n (changed n (grown (parts_of growth) (state_of growth.standing)) c)
 after_activated n r growth c name e = rw name (by growth.standing e)
   where
     by : (s : Standing) → reply_of growth.missing s ≡ Activated → after (change_to (state_of s) n (parts_of growth)) c ≡ without_earlier n (changed n (grown (parts_of growth) (state_of s)) c)
@@ -60,7 +65,8 @@ after_activated n r growth c name e = rw name (by growth.standing e)
     by (Bad why) e = absurd (cc)
     by (Good holdings) e = refl
 
-pub after_kept : (n : Name) (r : Record) (growth : Growth) (c : Content) → r.name ≡ n → reply_of growth.missing growth.standing ≢ Activated → after (change_of r growth) c ≡ changed n (grown (parts_of growth) (state_of growth.standing)) c
+pub after_kept : (n : Name) (r : Record) (growth : Growth) (c : Content) → r.name ≡ n → reply_of growth.missing growth.standing ≢ Activated
+    → after (change_of r growth) c ≡ changed n (grown (parts_of growth) (state_of growth.standing)) c
 after_kept n r growth c name not = rw name (by growth.standing not)
   where
     by : (s : Standing) → reply_of growth.missing s ≢ Activated → after (change_to (state_of s) n (parts_of growth)) c ≡ changed n (grown (parts_of growth) (state_of s)) c

@@ -33,7 +33,16 @@ sound_new n size limit = by size limit
     empty k = record { parts = tt; inside = λ i d lt. absurd (omega (arith, lt)) }
 
     by : (k : ℕ) → k ≤ max_file → IsRelease (new_record n k) k None
-    by zero le = record { within = empty zero; limit = le; counted = refl; staged = λ e. absurd (cc); whole = λ e. refl; known = ([], record { count = refl; bytes = λ place lt. absurd (omega (arith, lt)) }, empty_bad, refl) }
+    by zero le =
+        record {
+          within = empty zero;
+          limit = le;
+          counted = refl;
+          staged = λ e. absurd (cc);
+          whole = λ e. refl;
+          known =
+              ([], record { count = refl; bytes = λ place lt. absurd (omega (arith, lt)) }, empty_bad, refl);
+        }
     by (suc k) le = subst (λ (s : State). IsRelease (record { name = n; size = suc k; state = s; parts = [] }) (suc k) None) (sym (ap (λ (b : Bool). if b then Broken else Staged) (eqb-suc-zero k)))
         (record { within = empty (suc k); limit = le; counted = sym (missing_all (suc k)); staged = λ e. omega arith; whole = λ e. absurd (e refl); known = refl })
 
@@ -65,6 +74,7 @@ set_back (y ∷ ys) zero r x here same = ap (λ z. z ∷ ys) (same ∙ here)
 set_back (y ∷ ys) (suc at) r x here same = ap (λ zs. y ∷ zs) (set_back ys at r x here same)
 
 -- a release grown at its place is its record grown under its name
-pub grown_at : (rs : List ReleaseValue) (n : Name) (at : ℕ) (r x : ReleaseValue) (new : List Part) (state : State) → IsPlaceOf rs n at → r ≡ get_or rs at r → x.kept ≡ grown new state r.kept → content_of (set rs at x) ≡ changed n (grown new state) (content_of rs)
+pub grown_at : (rs : List ReleaseValue) (n : Name) (at : ℕ) (r x : ReleaseValue) (new : List Part) (state : State) → IsPlaceOf rs n at → r ≡ get_or rs at r → x.kept ≡ grown new state r.kept
+    → content_of (set rs at x) ≡ changed n (grown new state) (content_of rs)
 grown_at rs n at r x new state place here is =
     set_at rs n at r x (grown new state) place (is ∙ ap (λ (y : ReleaseValue). grown new state y.kept) here)

@@ -58,7 +58,8 @@ bears_missing Broken size parts some apart b = omega (arith, some, text_whole si
 bears_missing Active size parts some apart b = omega (arith, some, text_whole size parts b.0 b.1)
 
 -- a good file bears out no other state than active
-pub bears_good : (s : State) (size : ℕ) (parts : List Part) (holdings : HoldingsValue) → missing_below (byte_in parts) size ≡ 0 → IsJudged size parts (Ok holdings) → s ≢ Active → BearsOut s size parts → ⊥
+pub bears_good : (s : State) (size : ℕ) (parts : List Part) (holdings : HoldingsValue) → missing_below (byte_in parts) size ≡ 0 → IsJudged size parts (Ok holdings) → s ≢ Active
+    → BearsOut s size parts → ⊥
 bears_good Staged size parts holdings none j apart b = omega (arith, none, b)
 bears_good Broken size parts holdings none j apart b = b.2 (ap fault_of (one_text size parts b.0 j.0 b.1 j.1) ∙ j.2)
 bears_good Active size parts holdings none j apart b = apart refl

@@ -34,12 +34,15 @@ pub record AreReopened (all : List code.Record) (releases : List ReleaseValue) (
 pub reopened_start : (all rest : List code.Record) (releases : List ReleaseValue) → releases ≡ [] → rest ≡ all → AreReopened all releases rest
 reopened_start all rest releases none is = rw (none, is) (record { order = refl; sound = All-nil IsSoundRecord })
 
-pub reopened_next : (all rest more : List code.Record) (releases now : List ReleaseValue) (r : code.Record) (x : ReleaseValue) → AreReopened all releases rest → rest ≡ r ∷ more → x.kept ≡ shown_record r → IsSoundRecord (shown_record r) → now ≡ releases ++ x ∷ [] → AreReopened all now more
+pub reopened_next : (all rest more : List code.Record) (releases now : List ReleaseValue) (r : code.Record) (x : ReleaseValue) → AreReopened all releases rest → rest ≡ r ∷ more
+    → x.kept ≡ shown_record r → IsSoundRecord (shown_record r) → now ≡ releases ++ x ∷ [] → AreReopened all now more
 reopened_next all rest more releases now r x so is kept sound pushed =
     let here = content_of-push releases x ∙ ap (λ (y : Record). content_of releases ++ y ∷ []) kept in
     subst (λ (ys : List ReleaseValue). AreReopened all ys more) (sym pushed) (record {
-      order = ap (λ (ys : Content). ys ++ shown more) here ∙ append_snoc (content_of releases) (shown_record r) (shown more) ∙ ap (λ (ys : List code.Record). content_of releases ++ shown ys) (sym is) ∙ so.order;
-      sound = subst (All IsSoundRecord) (sym here) (All-append IsSoundRecord (content_of releases) (shown_record r ∷ []) so.sound (All-cons IsSoundRecord (shown_record r) [] sound (All-nil IsSoundRecord)));
+      order = ap (λ (ys : Content). ys ++ shown more) here ∙ append_snoc (content_of releases) (shown_record r) (shown more) ∙ ap (λ (ys : List code.Record). content_of releases ++ shown ys)
+          (sym is) ∙ so.order;
+      sound = subst (All IsSoundRecord) (sym here) (All-append IsSoundRecord (content_of releases) (shown_record r ∷ []) so.sound
+          (All-cons IsSoundRecord (shown_record r) [] sound (All-nil IsSoundRecord)));
     })
 
 pub reopened_all : (all rest : List code.Record) (releases : List ReleaseValue) → AreReopened all releases rest → rest ≡ [] → content_of releases ≡ shown all
@@ -47,14 +50,18 @@ reopened_all all rest releases so none = sym (append-nil (content_of releases)) 
 
 -- so many are left
 pub reopened_count : (all rest : List code.Record) (releases : List ReleaseValue) → AreReopened all releases rest → length releases + length rest ≡ length all
-reopened_count all rest releases so = omega (arith, length-content_of releases, length-shown_records rest, length-shown_records all, length-append (content_of releases) (shown rest), ap length so.order)
+reopened_count all rest releases so =
+    omega (arith, length-content_of releases, length-shown_records rest, length-shown_records all, length-append (content_of releases) (shown rest), ap length so.order)
 
 -- an unsound record leaves no sound content
-pub reopened_not : (all rest more : List code.Record) (releases : List ReleaseValue) (r : code.Record) → AreReopened all releases rest → rest ≡ r ∷ more → (IsSoundRecord (shown_record r) → ⊥) → IsSound (shown all) → ⊥
+pub reopened_not : (all rest more : List code.Record) (releases : List ReleaseValue) (r : code.Record) → AreReopened all releases rest → rest ≡ r ∷ more → (IsSoundRecord (shown_record r) → ⊥)
+    → IsSound (shown all) → ⊥
 reopened_not all rest more releases r so is wrong sound =
-    wrong (all-at IsSoundRecord (content_of releases) (shown_record r) (shown more) (subst (All IsSoundRecord) (sym so.order ∙ ap (λ (ys : List code.Record). content_of releases ++ shown ys) is) sound.each))
+    wrong (all-at IsSoundRecord (content_of releases) (shown_record r) (shown more)
+    (subst (All IsSoundRecord) (sym so.order ∙ ap (λ (ys : List code.Record). content_of releases ++ shown ys) is) sound.each))
 
-pub reopened_sound : (all : List code.Record) (releases : List ReleaseValue) → AreReopened all releases [] → IsDistinct name_eq (names (shown all)) → length all ≤ max_held → All (λ r. ¬ (HasLaterActive (content_of releases) r.name)) (content_of releases) → IsSound (shown all)
+pub reopened_sound : (all : List code.Record) (releases : List ReleaseValue) → AreReopened all releases [] → IsDistinct name_eq (names (shown all)) → length all ≤ max_held
+    → All (λ r. ¬ (HasLaterActive (content_of releases) r.name)) (content_of releases) → IsSound (shown all)
 reopened_sound all releases so distinct few current =
     let is = reopened_all all [] releases so refl in
     record {
@@ -64,7 +71,8 @@ reopened_sound all releases so distinct few current =
       current = subst (λ (c : Content). All (λ r. ¬ (HasLaterActive c r.name)) c) is current;
     }
 
-pub reopened_late : (all : List code.Record) (releases : List ReleaseValue) → AreReopened all releases [] → (All (λ r. ¬ (HasLaterActive (content_of releases) r.name)) (content_of releases) → ⊥) → IsSound (shown all) → ⊥
+pub reopened_late : (all : List code.Record) (releases : List ReleaseValue) → AreReopened all releases [] → (All (λ r. ¬ (HasLaterActive (content_of releases) r.name)) (content_of releases) → ⊥)
+    → IsSound (shown all) → ⊥
 reopened_late all releases so late sound = late (subst (λ (c : Content). All (λ r. ¬ (HasLaterActive c r.name)) c) (sym (reopened_all all [] releases so refl)) sound.current)
 
 -- no release so far has a later active one
@@ -98,5 +106,8 @@ content_of-at (r ∷ rs) (suc k) d e lt = content_of-at rs k d e (omega arith)
 pub none_later_all : (rs : List ReleaseValue) (n : ℕ) → NoneLater rs n → length rs ≤ n → All (λ r. ¬ (HasLaterActive (content_of rs) r.name)) (content_of rs)
 none_later_all rs n none le = All-map (λ r. ¬ (HasLaterActive (content_of rs) r.name)) (λ (r : ReleaseValue). r.kept) rs (λ k d lt. none k d (omega (arith, lt, le)))
 
-pub one_later : (rs : List ReleaseValue) (n : ℕ) (r : ReleaseValue) → n < length rs → r ≡ get_or rs n r → HasLaterActive (content_of rs) r.kept.name → All (λ r. ¬ (HasLaterActive (content_of rs) r.name)) (content_of rs) → ⊥
-one_later rs n r lt here later all = all n r.kept (omega (arith, lt, length-content_of rs)) (subst (λ (x : Record). HasLaterActive (content_of rs) x.name) (ap (λ (x : ReleaseValue). x.kept) here ∙ sym (content_of-at rs n r.kept r lt)) later)
+pub one_later : (rs : List ReleaseValue) (n : ℕ) (r : ReleaseValue) → n < length rs → r ≡ get_or rs n r → HasLaterActive (content_of rs) r.kept.name
+    → All (λ r. ¬ (HasLaterActive (content_of rs) r.name)) (content_of rs) → ⊥
+one_later rs n r lt here later all =
+    all n r.kept (omega (arith, lt, length-content_of rs)) (subst (λ (x : Record). HasLaterActive (content_of rs) x.name)
+    (ap (λ (x : ReleaseValue). x.kept) here ∙ sym (content_of-at rs n r.kept r lt)) later)

@@ -21,7 +21,8 @@ releases_of feed = feed.releases.items
 abbrev pub recorded : {K : Type 0} {k : Ghosts K} → Feed K k → Content
 recorded feed = content_of (releases_of feed)
 
--- the answer is right after whatever history the feed stands at, and the feed then stands at the longer one; after a refusal its releases are as before; its keeper was clean if it is; and a fault of the device is told just where it failed
+-- the answer is right after whatever history the feed stands at, and the feed then stands at the longer one; after a refusal its releases are as before; its keeper was clean if it is; and a
+-- fault of the device is told just where it failed
 pub record IsAnsweredBy {K : Type 0} {k : Ghosts K} (old new : Feed K k) (event : Event) (answer : Answer) : Type 0 where
   pub right : Handles (recorded old) event answer (recorded new)
   pub refused : OnErr answer (releases_of new ≡ releases_of old)

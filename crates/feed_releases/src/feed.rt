@@ -77,11 +77,14 @@ impl<K: Keep + Drop> Feed<K> {
         ensures sound { IfOk result (λ feed. IsSound (recorded feed)) }
         ensures clean { IfOk result (λ feed. K.clean (keeper_of feed) → K.clean keeper) }
         ensures counted { IfOk result (λ feed. K.failed (keeper_of feed) ≡ K.failed keeper) }
-        ensures damaged { IfErr result (λ fault. fault.cause ≡ KeepFault.Damaged → K.clean fault.keeper → ¬ (IsSound (K.content keeper))) }
-        ensures legal { IfErr result (λ fault. K.clean fault.keeper → (h : History) → IsContent (K.content keeper) h → fault.cause ≢ KeepFault.Damaged) }
+        ensures damaged { IfErr result (λ fault. fault.cause ≡ KeepFault.Damaged → K.clean fault.keeper
+            → ¬ (IsSound (K.content keeper))) }
+        ensures legal { IfErr result (λ fault. K.clean fault.keeper → (h : History) → IsContent (K.content keeper) h
+            → fault.cause ≢ KeepFault.Damaged) }
         ensures kept { IfErr result (λ fault. K.clean fault.keeper → K.content fault.keeper ≡ K.content keeper) }
         ensures kept_clean { IfErr result (λ fault. K.clean fault.keeper → K.clean keeper) }
-        ensures device { IfErr result (λ fault. IsCounted (fault.cause ≡ KeepFault.Device) (K.failed keeper) (K.failed fault.keeper)) }
+        ensures device { IfErr result (λ fault. IsCounted (fault.cause ≡ KeepFault.Device) (K.failed keeper)
+            (K.failed fault.keeper)) }
     {
         let records = match keeper.load(alloc) {
             Ok(records) => records,
@@ -103,7 +106,8 @@ impl<K: Keep + Drop> Feed<K> {
         ensures right { Handles (recorded self.old) (told event.now) result (recorded self.new) }
         ensures refused { OnErr result (releases_of self.new ≡ releases_of self.old) }
         ensures clean { K.clean (keeper_of self.new) → K.clean (keeper_of self.old) }
-        ensures device { IsCounted (result ≡ Err Refusal.Device) (K.failed (keeper_of self.old)) (K.failed (keeper_of self.new)) }
+        ensures device { IsCounted (result ≡ Err Refusal.Device) (K.failed (keeper_of self.old))
+            (K.failed (keeper_of self.new)) }
     {
         match event {
             Event::Offered { name, size } => self.offer(name, *size),
@@ -120,11 +124,13 @@ impl<K: Keep + Drop> Feed<K> {
     /// Takes the events in order. Each answer is right after the history and the answers before it. Where there is no
     /// memory for the list of answers, no event was taken.
     pub fn run(&mut self, events: &[Event<'_>]) -> Result<Vec<Result<Reply, Refusal>>, AllocError>
-        ensures right { IfOk result (λ answers. (h : History) → IsContent (recorded self.old) h → IsContent (recorded self.new) (gone_on h (map told events.now) answers.items)) }
+        ensures right { IfOk result (λ answers. (h : History) → IsContent (recorded self.old) h
+            → IsContent (recorded self.new) (gone_on h (map told events.now) answers.items)) }
         ensures count { IfOk result (λ answers. length answers.items ≡ length events.now) }
         ensures clean { K.clean (keeper_of self.new) → K.clean (keeper_of self.old) }
         ensures counted { K.failed (keeper_of self.old) ≤ K.failed (keeper_of self.new) }
-        ensures device { IfOk result (λ answers. Contains answers.items (Err Refusal.Device) → HasFailedSince (K.failed (keeper_of self.old)) (K.failed (keeper_of self.new))) }
+        ensures device { IfOk result (λ answers. Contains answers.items (Err Refusal.Device)
+            → HasFailedSince (K.failed (keeper_of self.old)) (K.failed (keeper_of self.new))) }
         ensures err { OnErr result (self.new ≡ self.old) }
     {
         let mut answers = Vec::with_capacity(self.alloc, events.len())?;
@@ -136,7 +142,8 @@ impl<K: Keep + Drop> Feed<K> {
 
     /// The active release of a package: of its whole and good ones, the one with the latest day.
     pub fn report(&self, package: &[u8]) -> Option<&ReleaseName>
-        ensures { (h : History) → IsContent (recorded self.now) h → Reports h «package».now (option_map (λ name. name.now) result) }
+        ensures { (h : History) → IsContent (recorded self.now) h
+            → Reports h «package».now (option_map (λ name. name.now) result) }
     {
         match active_of(&self.releases, package) {
             Some(at) => Some(self.releases[at].name()),
@@ -194,8 +201,11 @@ impl<K: Keep + Drop> Feed<K> {
     /// Stops in the middle of an event: the keeper as it was before the commit, or as it is after it. An event that
     /// commits nothing, or whose commit is refused, leaves it as it was.
     pub fn stop_at(self, event: &Event<'_>, point: Point) -> K
-        ensures before { point ≡ Point.Before → (result ≡ keeper_of self) × (K.clean result → K.content result ≡ recorded self) }
-        ensures after { point ≡ Point.After → K.clean result → (h : History) → IsContent (recorded self) h → (answer : event_answer) × IsRight h (told event.now) answer × IsContent (K.content result) ((told event.now, answer) ∷ h) }
+        ensures before { point ≡ Point.Before → (result ≡ keeper_of self)
+            × (K.clean result → K.content result ≡ recorded self) }
+        ensures after { point ≡ Point.After → K.clean result → (h : History) → IsContent (recorded self) h
+            → (answer : event_answer) × IsRight h (told event.now) answer
+            × IsContent (K.content result) ((told event.now, answer) ∷ h) }
         ensures clean { K.clean result → K.clean (keeper_of self) }
         ensures counted { K.failed (keeper_of self) ≤ K.failed result }
     {

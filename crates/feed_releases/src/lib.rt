@@ -1,5 +1,5 @@
-//! The feed of a node: releases kept in pieces over any keeper, the latest whole and good one of each package reported and
-//! asked.
+//! The feed of a node: releases kept in pieces over any keeper, the latest whole and good one of each package
+//! reported and asked.
 #![tactic(auto)]
 
 mod commit;

@@ -18,8 +18,8 @@ use feed_parts::{conflicts, covers, next_gap};
 use std::alloc::Global;
 use std::marker::Model;
 
-/// A recorded release in memory: what is kept of it, how many places of its file are missing, and what its file holds if
-/// it is active, indexed by ISSN.
+/// A recorded release in memory: what is kept of it, how many places of its file are missing, and what its file holds
+/// if it is active, indexed by ISSN.
 #[derive(Drop)]
 pub(crate) struct Release {
     kept: Record,

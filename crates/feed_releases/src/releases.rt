@@ -1,5 +1,6 @@
 //! What a list of releases says of a name or a package. There are at most 256 of them.
-ghost use Rattle.std.specs.Prelude.{◌≡◌, ◌<◌, ◌≤◌, ℕ, false, None, IsTrue, IfSome, IfNone, MatchOption, length, slice_index_or, insert, not};
+ghost use Rattle.std.specs.Prelude.{◌≡◌, ◌<◌, ◌≤◌, ℕ, false, None, IsTrue, IfSome, IfNone, MatchOption, length};
+ghost use Rattle.std.specs.Prelude.{slice_index_or, insert, not};
 ghost use Rattle.feed_model.specs.Content.{record_of};
 ghost use Rattle.feed_model.specs.Change.{insert_record, is_earlier, without_earlier};
 ghost use Rattle.feed_releases.specs.ReleaseValue.{ReleaseValue, content_of, IsPlaceOf, IsActiveAfter, IsActiveOf};
@@ -24,8 +25,10 @@ pub(crate) fn find(releases: &[Release], name: &ReleaseName) -> Option<usize>
 
 /// Whether the active release of the name's package is of a later day.
 pub(crate) fn is_passed(releases: &[Release], name: &ReleaseName) -> bool
-    ensures later { IsTrue result → (k : ℕ) × (k < length releases.now) × ((d : ReleaseValue) → IsActiveAfter name.now (slice_index_or releases.now k d)) }
-    ensures none { result ≡ false → (k : ℕ) (d : ReleaseValue) → k < length releases.now → IsActiveAfter name.now (slice_index_or releases.now k d) → ⊥ }
+    ensures later { IsTrue result → (k : ℕ) × (k < length releases.now)
+        × ((d : ReleaseValue) → IsActiveAfter name.now (slice_index_or releases.now k d)) }
+    ensures none { result ≡ false → (k : ℕ) (d : ReleaseValue) → k < length releases.now
+        → IsActiveAfter name.now (slice_index_or releases.now k d) → ⊥ }
 {
     for release in releases {
         if release.state() == State::Active && name.earlier_than(release.name()) {
@@ -37,8 +40,10 @@ pub(crate) fn is_passed(releases: &[Release], name: &ReleaseName) -> bool
 
 /// The place of a package's active release.
 pub(crate) fn active_of(releases: &[Release], package: &[u8]) -> Option<usize>
-    ensures found { IfSome result (λ i. (i < length releases.now) × ((d : ReleaseValue) → IsActiveOf «package».now (slice_index_or releases.now i d))) }
-    ensures none { IfNone result ((k : ℕ) (d : ReleaseValue) → k < length releases.now → IsActiveOf «package».now (slice_index_or releases.now k d) → ⊥) }
+    ensures found { IfSome result (λ i. (i < length releases.now)
+        × ((d : ReleaseValue) → IsActiveOf «package».now (slice_index_or releases.now i d))) }
+    ensures none { IfNone result ((k : ℕ) (d : ReleaseValue) → k < length releases.now
+        → IsActiveOf «package».now (slice_index_or releases.now k d) → ⊥) }
 {
     for (at, release) in releases.iter().enumerate() {
         if release.state() == State::Active && release.name().package() == package {
@@ -51,7 +56,8 @@ pub(crate) fn active_of(releases: &[Release], package: &[u8]) -> Option<usize>
 /// Where a new release stands among the others: behind those whose names come before its own.
 pub(crate) fn place_for(releases: &[Release], name: &ReleaseName) -> usize
     ensures within { result ≤ length releases.now }
-    ensures place { (r : ReleaseValue) → r.kept.name ≡ name.now → content_of (insert releases.now result r) ≡ insert_record r.kept (content_of releases.now) }
+    ensures place { (r : ReleaseValue) → r.kept.name ≡ name.now
+        → content_of (insert releases.now result r) ≡ insert_record r.kept (content_of releases.now) }
 {
     for (at, release) in releases.iter().enumerate() {
         if !stands_before(release.name(), name) {

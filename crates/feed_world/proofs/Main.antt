@@ -33,39 +33,62 @@ up_same w v a stem o e u = record { node = u.node; there = e ∙ u.there; up = u
 ask_stays : (w v : World) (a : ℕ) (stem : List ℕ) (query : List ℕ) (x : Line) → Happens w (Ask a stem query) x v → node_at v.nodes a ≡ node_at w.nodes a
 ask_stays w v a stem query x h = quiet_step w (Ask a stem query) v a tt (moves w (Ask a stem query) x v h)
 
-gap_quiet : (count : ℕ) (events : List WorldEvent) (lines : List Line) (j k a : ℕ) (e f : WorldEvent) (l m : Line) (p : AreAt (start count) events lines j k e l f m) → IsOneMoment events a j k → j < k → node_at p.three.nodes a ≡ node_at p.two.nodes a
-gap_quiet count events lines j k a e f l m p together lt = shows_quiet p.two p.three (drop (suc j) (take k events)) (drop (suc j) (take k lines)) a (λ i g is. (let t = gap_event events j k i g is in together (suc j + i) g (omega (arith, lt)) (omega (arith, t.1)) t.0)) p.gap
+gap_quiet : (count : ℕ) (events : List WorldEvent) (lines : List Line) (j k a : ℕ) (e f : WorldEvent) (l m : Line) (p : AreAt (start count) events lines j k e l f m) → IsOneMoment events a j k
+    → j < k → node_at p.three.nodes a ≡ node_at p.two.nodes a
+gap_quiet count events lines j k a e f l m p together lt =
+    shows_quiet p.two p.three (drop (suc j) (take k events)) (drop (suc j) (take k lines)) a
+    (λ i g is. (let t = gap_event events j k i g is in together (suc j + i) g (omega (arith, lt)) (omega (arith, t.1)) t.0)) p.gap
 
-met : (count : ℕ) (events : List WorldEvent) (lines : List Line) (w : World) → Shows (start count) events lines w → (k a : ℕ) (stem : List ℕ) (n : Name) (query : List ℕ) (x : Line) → Answers events lines k a stem n query x → Met count events lines k a stem n query x
+met : (count : ℕ) (events : List WorldEvent) (lines : List Line) (w : World) → Shows (start count) events lines w → (k a : ℕ) (stem : List ℕ) (n : Name) (query : List ℕ) (x : Line)
+    → Answers events lines k a stem n query x → Met count events lines k a stem n query x
 met count events lines w s k a stem n query x t = by (order t.report k)
   where
     by : (t.report < k) ⊎ ((t.report ≡ k) ⊎ (k < t.report)) → Met count events lines k a stem n query x
     by (inl lt) =
         let p = places_of (start count) w events lines t.report k (Report a stem) (Ask a stem query) (Active n) x lt s t.reported.happened t.reported.shown t.asked.happened t.asked.shown in
         let r = active_shown p.one p.two a stem n p.first in
-        record { old = p.three; new = p.four; come = p.reach; step = p.second; reports = up_same p.one p.three a stem (Some n) (gap_quiet count events lines t.report k a (Report a stem) (Ask a stem query) (Active n) x p t.together lt ∙ ap (λ (z : World). node_at z.nodes a) r.0) r.1 }
+        record {
+          old = p.three;
+          new = p.four;
+          come = p.reach;
+          step = p.second;
+          reports = up_same p.one p.three a stem (Some n)
+              (gap_quiet count events lines t.report k a (Report a stem) (Ask a stem query) (Active n) x p t.together lt ∙ ap (λ (z : World). node_at z.nodes a) r.0) r.1;
+        }
     by (inr (inl same)) = absurd (let e : slice_get events t.report ≡ Some (Ask a stem query) = ap (slice_get events) same ∙ t.asked.happened in let f = t.reported.happened in cc)
     by (inr (inr lt)) =
         let p = places_of (start count) w events lines k t.report (Ask a stem query) (Report a stem) x (Active n) lt s t.asked.happened t.asked.shown t.reported.happened t.reported.shown in
         let r = active_shown p.three p.four a stem n p.second in
         let turned : IsOneMoment events a k t.report = λ m e low high. t.together m e (omega (arith, low)) (omega (arith, high)) in
-        record { old = p.one; new = p.two; come = p.come; step = p.first; reports = up_same p.three p.one a stem (Some n) (sym (gap_quiet count events lines k t.report a (Ask a stem query) (Report a stem) x (Active n) p turned lt ∙ ask_stays p.one p.two a stem query x p.first)) r.1 }
+        record {
+          old = p.one;
+          new = p.two;
+          come = p.come;
+          step = p.first;
+          reports = up_same p.three p.one a stem (Some n)
+              (sym (gap_quiet count events lines k t.report a (Ask a stem query) (Report a stem) x (Active n) p turned lt ∙ ask_stays p.one p.two a stem query x p.first)) r.1;
+        }
 
 -- a whole file of a node is what the events so far publish
-published_at : (count : ℕ) (events : List WorldEvent) (lines : List Line) (w : World) (i : ℕ) (x : Node) (n : Name) (file : List ℕ) → Shows (start count) events lines w → node_at w.nodes i ≡ Some x → IsFile x.history n file → file_of events n ≡ Some file
-published_at count events lines w i x n file s at f = sym (shows_files (start count) w events lines n s) ∙ file_published w.shelf x.history n file ((shows_sound (start count) w events lines (sound_start count) s).over i x at) f
+published_at : (count : ℕ) (events : List WorldEvent) (lines : List Line) (w : World) (i : ℕ) (x : Node) (n : Name) (file : List ℕ) → Shows (start count) events lines w
+    → node_at w.nodes i ≡ Some x → IsFile x.history n file → file_of events n ≡ Some file
+published_at count events lines w i x n file s at f =
+    sym (shows_files (start count) w events lines n s) ∙ file_published w.shelf x.history n file ((shows_sound (start count) w events lines (sound_start count) s).over i x at) f
 
-whole : (count : ℕ) (events : List WorldEvent) (lines : List Line) (w : World) → Shows (start count) events lines w → (k a : ℕ) (stem : List ℕ) (n : Name) (query : List ℕ) (x : Line) → Answers events lines k a stem n query x → (file : List ℕ) × (file_of (take k events) n ≡ Some file) × (x ≡ file_says n file (query_of query))
+whole : (count : ℕ) (events : List WorldEvent) (lines : List Line) (w : World) → Shows (start count) events lines w → (k a : ℕ) (stem : List ℕ) (n : Name) (query : List ℕ) (x : Line)
+    → Answers events lines k a stem n query x → (file : List ℕ) × (file_of (take k events) n ≡ Some file) × (x ≡ file_says n file (query_of query))
 whole count events lines w s k a stem n query x t = by (ask_shown p.old p.new a stem n query x p.reports p.step)
   where
     p : Met count events lines k a stem n query x
     p = met count events lines w s k a stem n query x t
 
-    by : OrMemory x ((file : List ℕ) × (y : Node) × (node_at p.old.nodes a ≡ Some y) × IsFile y.history n file × (x ≡ file_says n file (query_of query))) → (file : List ℕ) × (file_of (take k events) n ≡ Some file) × (x ≡ file_says n file (query_of query))
+    by : OrMemory x ((file : List ℕ) × (y : Node) × (node_at p.old.nodes a ≡ Some y) × IsFile y.history n file × (x ≡ file_says n file (query_of query)))
+        → (file : List ℕ) × (file_of (take k events) n ≡ Some file) × (x ≡ file_says n file (query_of query))
     by (inr e) = absurd (t.given e)
     by (inl r) = (r.0, published_at count (take k events) (take k lines) p.old a r.1 n r.0 p.come r.2 r.3, r.4)
 
-same : (count : ℕ) (events : List WorldEvent) (lines : List Line) (w : World) → Shows (start count) events lines w → (j k a b : ℕ) (stem : List ℕ) (n : Name) (query : List ℕ) (x y : Line) → Answers events lines j a stem n query x → Answers events lines k b stem n query y → x ≡ y
+same : (count : ℕ) (events : List WorldEvent) (lines : List Line) (w : World) → Shows (start count) events lines w → (j k a b : ℕ) (stem : List ℕ) (n : Name) (query : List ℕ) (x y : Line)
+    → Answers events lines j a stem n query x → Answers events lines k b stem n query y → x ≡ y
 same count events lines w s j k a b stem n query x y t u =
     let p = whole count events lines w s j a stem n query x t in
     let q = whole count events lines w s k b stem n query y u in
@@ -73,7 +96,8 @@ same count events lines w s j k a b stem n query x y t u =
     p.2 ∙ ap (λ (f : List ℕ). file_says n f (query_of query)) is ∙ sym q.2
 
 -- what a node has at a later world
-grown : (u v : World) (es : List WorldEvent) (ls : List Line) (a : ℕ) (stem : List ℕ) (n : Name) → IsSound u → Shows u es ls v → IsUp u a stem (Some n) → (y : Node) × (node_at v.nodes a ≡ Some y) × ((o : Option Name) → Reports y.history stem o → (m : Name) × (o ≡ Some m) × IsNoOlder n m)
+grown : (u v : World) (es : List WorldEvent) (ls : List Line) (a : ℕ) (stem : List ℕ) (n : Name) → IsSound u → Shows u es ls v → IsUp u a stem (Some n)
+    → (y : Node) × (node_at v.nodes a ≡ Some y) × ((o : Option Name) → Reports y.history stem o → (m : Name) × (o ≡ Some m) × IsNoOlder n m)
 grown u v es ls a stem n sound s r =
     let g = (shows_grows u v es ls sound s).nodes a r.node r.there in
     (g.0, g.1, λ o q. (let t = later_report r.node.history g.0.history stem n o g.2 r.reports q in (t.0, t.1, (t.2 ∙ sym r.reports.0, t.3))))
@@ -82,7 +106,8 @@ grown u v es ls a stem n sound s r =
 sound_after : (count : ℕ) (es : List WorldEvent) (ls : List Line) (w : World) (e : WorldEvent) (l : Line) (v : World) → Shows (start count) es ls w → Happens w e l v → IsSound v
 sound_after count es ls w e l v s h = sound_step w e v (shows_sound (start count) w es ls (sound_start count) s) (moves w e l v h)
 
-later : (count : ℕ) (events : List WorldEvent) (lines : List Line) (w : World) → Shows (start count) events lines w → (j k a : ℕ) (stem : List ℕ) (n : Name) (line : Line) → j < k → Stands events lines j (Report a stem) (Active n) → Stands events lines k (Report a stem) line → (line ≡ Refused whys.Down) ⊎ ((m : Name) × (line ≡ Active m) × IsNoOlder n m)
+later : (count : ℕ) (events : List WorldEvent) (lines : List Line) (w : World) → Shows (start count) events lines w → (j k a : ℕ) (stem : List ℕ) (n : Name) (line : Line) → j < k
+    → Stands events lines j (Report a stem) (Active n) → Stands events lines k (Report a stem) line → (line ≡ Refused whys.Down) ⊎ ((m : Name) × (line ≡ Active m) × IsNoOlder n m)
 later count events lines w s j k a stem n line lt t u = by (report_shown p.three p.four a stem line g.0 g.1 p.second)
   where
     p : AreAt (start count) events lines j k (Report a stem) (Active n) (Report a stem) line
@@ -98,7 +123,8 @@ later count events lines w s j k a stem n line lt t u = by (report_shown p.three
     by (inl e) = inl e
     by (inr r) = let q = g.2 r.0 r.1 in inr (q.0, r.2 ∙ ap report_line q.1, q.2)
 
-from : (count : ℕ) (events : List WorldEvent) (lines : List Line) (w : World) → Shows (start count) events lines w → (k a : ℕ) (stem : List ℕ) (query : List ℕ) (text : List ℕ) → Stands events lines k (Ask a stem query) (Text text) → (n : Name) × IsFrom events lines k a stem query text n
+from : (count : ℕ) (events : List WorldEvent) (lines : List Line) (w : World) → Shows (start count) events lines w → (k a : ℕ) (stem : List ℕ) (query : List ℕ) (text : List ℕ)
+    → Stands events lines k (Ask a stem query) (Text text) → (n : Name) × IsFrom events lines k a stem query text n
 from count events lines w s k a stem query text t = (
   n,
   record {
@@ -140,14 +166,16 @@ from count events lines w s k a stem query text t = (
     after : (j : ℕ) (m : Name) → k < j → Stands events lines j (Report a stem) (Active m) → IsNoOlder n m
     after j m lt r =
         let at : j ≡ suc k + (j - suc k) = omega arith in
-        let q = place_of p.new w (drop (suc k) events) (drop (suc k) lines) (j - suc k) (Report a stem) (Active m) p.go (get-drop (suc k) events (j - suc k) j at ∙ r.happened) (get-drop (suc k) lines (j - suc k) j at ∙ r.shown) in
+        let q = place_of p.new w (drop (suc k) events) (drop (suc k) lines) (j - suc k) (Report a stem) (Active m) p.go (get-drop (suc k) events (j - suc k) j at ∙ r.happened)
+        (get-drop (suc k) lines (j - suc k) j at ∙ r.shown) in
         let x = active_shown q.old q.new a stem m q.step in
         onward p.new q.old (take (j - suc k) (drop (suc k) events)) (take (j - suc k) (drop (suc k) lines)) n m
         (sound_after count (take k events) (take k lines) p.old (Ask a stem query) (Text text) p.new p.come p.step) q.come
         (subst (λ (z : World). IsUp z a stem (Some n)) (sym f.0) f.2) x.1
 
 -- one node is reported in one way
-reports_alike_at : (o : Option Node) (u u' w w' : World) (stem : List ℕ) (x y : Line) → MatchOption o (IsRefused whys.NoNode u x u') (λ n. IfUp n u x u' (Reported u stem x u' n)) → MatchOption o (IsRefused whys.NoNode w y w') (λ n. IfUp n w y w' (Reported w stem y w' n)) → x ≡ y
+reports_alike_at : (o : Option Node) (u u' w w' : World) (stem : List ℕ) (x y : Line) → MatchOption o (IsRefused whys.NoNode u x u') (λ n. IfUp n u x u' (Reported u stem x u' n))
+    → MatchOption o (IsRefused whys.NoNode w y w') (λ n. IfUp n w y w' (Reported w stem y w' n)) → x ≡ y
 reports_alike_at None u u' w w' stem x y r s = r.0 ∙ sym s.0
 reports_alike_at (Some n) u u' w w' stem x y r s = by n.up r s
   where
@@ -158,13 +186,16 @@ reports_alike_at (Some n) u u' w w' stem x y r s = by n.up r s
 report_stays : (w v : World) (a : ℕ) (stem : List ℕ) (x : Line) → Happens w (Report a stem) x v → node_at v.nodes a ≡ node_at w.nodes a
 report_stays w v a stem x h = quiet_step w (Report a stem) v a tt (moves w (Report a stem) x v h)
 
-still_before : (count : ℕ) (events : List WorldEvent) (lines : List Line) (w : World) → Shows (start count) events lines w → (j k a : ℕ) (stem : List ℕ) (x y : Line) → j < k → Stands events lines j (Report a stem) x → Stands events lines k (Report a stem) y → IsOneMoment events a j k → x ≡ y
+still_before : (count : ℕ) (events : List WorldEvent) (lines : List Line) (w : World) → Shows (start count) events lines w → (j k a : ℕ) (stem : List ℕ) (x y : Line) → j < k
+    → Stands events lines j (Report a stem) x → Stands events lines k (Report a stem) y → IsOneMoment events a j k → x ≡ y
 still_before count events lines w s j k a stem x y lt t u together =
     let p = places_of (start count) w events lines j k (Report a stem) (Report a stem) x y lt s t.happened t.shown u.happened u.shown in
     let same : node_at p.three.nodes a ≡ node_at p.one.nodes a = gap_quiet count events lines j k a (Report a stem) (Report a stem) x y p together lt ∙ report_stays p.one p.two a stem x p.first in
-    reports_alike_at (node_at p.one.nodes a) p.one p.two p.three p.four stem x y p.first (subst (λ (o : Option Node). MatchOption o (IsRefused whys.NoNode p.three y p.four) (λ n. IfUp n p.three y p.four (Reported p.three stem y p.four n))) same p.second)
+    reports_alike_at (node_at p.one.nodes a) p.one p.two p.three p.four stem x y p.first
+    (subst (λ (o : Option Node). MatchOption o (IsRefused whys.NoNode p.three y p.four) (λ n. IfUp n p.three y p.four (Reported p.three stem y p.four n))) same p.second)
 
-still : (count : ℕ) (events : List WorldEvent) (lines : List Line) (w : World) → Shows (start count) events lines w → (j k a : ℕ) (stem : List ℕ) (x y : Line) → Stands events lines j (Report a stem) x → Stands events lines k (Report a stem) y → IsOneMoment events a j k → x ≡ y
+still : (count : ℕ) (events : List WorldEvent) (lines : List Line) (w : World) → Shows (start count) events lines w → (j k a : ℕ) (stem : List ℕ) (x y : Line)
+    → Stands events lines j (Report a stem) x → Stands events lines k (Report a stem) y → IsOneMoment events a j k → x ≡ y
 still count events lines w s j k a stem x y t u together = by (order j k)
   where
     by : (j < k) ⊎ ((j ≡ k) ⊎ (k < j)) → x ≡ y
@@ -173,19 +204,24 @@ still count events lines w s j k a stem x y t u together = by (order j k)
     by (inr (inr lt)) = sym (still_before count events lines w s k j a stem y x lt u t (λ m e low high. together m e (omega (arith, low)) (omega (arith, high))))
 
 pub headline : (count : ℕ) (events : List WorldEvent) (lines : List Line) (w : World) → Shows (start count) events lines w → IsHeadline events lines
-headline count events lines w s = record { same = same count events lines w s; whole = whole count events lines w s; later = later count events lines w s; still = still count events lines w s; from = from count events lines w s }
+headline count events lines w s =
+    record { same = same count events lines w s; whole = whole count events lines w s; later = later count events lines w s; still = still count events lines w s; from = from count events lines w s }
 
 -- what a node that is up reports
 up_report : (w v : World) (i : ℕ) (stem : List ℕ) (x : Node) (line : Line) → IsUpAt w i x → Happens w (Report i stem) line v → (o : Option Name) × Reports x.history stem o × (line ≡ report_line o)
-up_report w v i stem x line u h = let r = subst (λ (b : Bool). MatchBool b (Reported w stem line v x) (IsRefused whys.Down w line v)) u.running (MatchOption-at_some (IsRefused whys.NoNode w line v) (λ y. IfUp y w line v (Reported w stem line v y)) x u.there h) in (r.1, r.2, r.3)
+up_report w v i stem x line u h =
+    let r = subst (λ (b : Bool). MatchBool b (Reported w stem line v x) (IsRefused whys.Down w line v)) u.running
+    (MatchOption-at_some (IsRefused whys.NoNode w line v) (λ y. IfUp y w line v (Reported w stem line v y)) x u.there h) in (r.1, r.2, r.3)
 
-pub alike : (w u v : World) (i j : ℕ) (stem : List ℕ) (x y : Node) (l m : Line) → IsUpAt w i x → IsUpAt w j y → HasAlike x.history y.history stem → Happens w (Report i stem) l u → Happens w (Report j stem) m v → l ≡ m
+pub alike : (w u v : World) (i j : ℕ) (stem : List ℕ) (x y : Node) (l m : Line) → IsUpAt w i x → IsUpAt w j y → HasAlike x.history y.history stem → Happens w (Report i stem) l u
+    → Happens w (Report j stem) m v → l ≡ m
 alike w u v i j stem x y l m a b s g h =
     let p = up_report w u i stem x l a g in
     let q = up_report w v j stem y m b h in
     p.2 ∙ ap report_line (reports_alike x.history y.history stem p.0 q.0 s p.1 q.1) ∙ sym q.2
 
-pub latest : (count : ℕ) (events : List WorldEvent) (lines : List Line) (w v : World) (i : ℕ) (x : Node) (n : Name) (line : Line) → Shows (start count) events lines w → IsUpAt w i x → IsWhole x.history n → IsLatest events n → Happens w (Report i n.stem) line v → line ≡ Active n
+pub latest : (count : ℕ) (events : List WorldEvent) (lines : List Line) (w v : World) (i : ℕ) (x : Node) (n : Name) (line : Line) → Shows (start count) events lines w → IsUpAt w i x
+    → IsWhole x.history n → IsLatest events n → Happens w (Report i n.stem) line v → line ≡ Active n
 latest count events lines w v i x n line s u whole late h =
     let r = up_report w v i n.stem x line u h in
     let over = (shows_sound (start count) w events lines (sound_start count) s).over i x u.there in
@@ -194,5 +230,6 @@ latest count events lines w v i x n line s u whole late h =
     r.2 ∙ ap report_line (reports_one x.history n.stem r.0 (Some n) r.1 (refl, is))
 
 -- each node's history is legal, and has of each release what is published
-pub kept_published : (count : ℕ) (events : List WorldEvent) (lines : List Line) (w : World) (i : ℕ) (x : Node) (n : Name) (file : List ℕ) → Shows (start count) events lines w → node_at w.nodes i ≡ Some x → IsLegal x.history × (IsFile x.history n file → file_of events n ≡ Some file)
+pub kept_published : (count : ℕ) (events : List WorldEvent) (lines : List Line) (w : World) (i : ℕ) (x : Node) (n : Name) (file : List ℕ) → Shows (start count) events lines w
+    → node_at w.nodes i ≡ Some x → IsLegal x.history × (IsFile x.history n file → file_of events n ≡ Some file)
 kept_published count events lines w i x n file s at = ((shows_sound (start count) w events lines (sound_start count) s).legal i x at, published_at count events lines w i x n file s at)

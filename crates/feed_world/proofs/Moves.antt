@@ -44,10 +44,12 @@ abbrev pub Moves : World → WorldEvent → World → Type 0
 Moves w event v = (Stays w event v) ⊎ ((ShelfMoves w event v) ⊎ (NodeMoves w event v))
 
 -- the node of the event moves
-move : (w : World) (event : WorldEvent) (v : World) (i : ℕ) (x : Node) (up : Bool) (k : History) → ((node : ℕ) → IsQuiet node event → i ≢ node) → node_at w.nodes i ≡ Some x → v ≡ with_node w i up k → Follows w.shelf x.history k → Moves w event v
+move : (w : World) (event : WorldEvent) (v : World) (i : ℕ) (x : Node) (up : Bool) (k : History) → ((node : ℕ) → IsQuiet node event → i ≢ node) → node_at w.nodes i ≡ Some x
+    → v ≡ with_node w i up k → Follows w.shelf x.history k → Moves w event v
 move w event v i x up k loud at is f = inr (inr (record { number = i; old = x; there = at; up = up; history = k; world = is; follows = f; loud = loud }))
 
-reopen : (w : World) (event : WorldEvent) (v : World) (i : ℕ) (x : Node) (k : History) (done line : Line) → ((node : ℕ) → IsQuiet node event → i ≢ node) → node_at w.nodes i ≡ Some x → Follows w.shelf x.history k → Reopens i k done w line v → Moves w event v
+reopen : (w : World) (event : WorldEvent) (v : World) (i : ℕ) (x : Node) (k : History) (done line : Line) → ((node : ℕ) → IsQuiet node event → i ≢ node) → node_at w.nodes i ≡ Some x
+    → Follows w.shelf x.history k → Reopens i k done w line v → Moves w event v
 reopen w event v i x k done line loud at f (inl r) = move w event v i x true k loud at r.1 f
 reopen w event v i x k done line loud at f (inr r) = move w event v i x false k loud at r.3 f
 
@@ -58,7 +60,8 @@ Reported w stem line v x = (v ≡ w) × (o : Option Name) × Reports x.history s
 abbrev pub Asked : World → List ℕ → List ℕ → Line → World → Node → Type 0
 Asked w stem query line v x = (v ≡ w) × IsAsked x.history stem query line
 
-stays_at : (w : World) (line : Line) (v : World) (i : ℕ) (Here : Node → Type 0) → ((x : Node) → Here x → v ≡ w) → (IsRefused whys.NoNode w line v) ⊎ ((x : Node) × (node_at w.nodes i ≡ Some x) × ((IsRefused whys.Down w line v) ⊎ ((x.up ≡ true) × Here x))) → v ≡ w
+stays_at : (w : World) (line : Line) (v : World) (i : ℕ) (Here : Node → Type 0) → ((x : Node) → Here x → v ≡ w)
+    → (IsRefused whys.NoNode w line v) ⊎ ((x : Node) × (node_at w.nodes i ≡ Some x) × ((IsRefused whys.Down w line v) ⊎ ((x.up ≡ true) × Here x))) → v ≡ w
 stays_at w line v i Here f (inl r) = r.1
 stays_at w line v i Here f (inr r) = up r.2
   where
@@ -73,7 +76,8 @@ moves w (Publish n bytes) line v h = by (text_of w.shelf n) refl h
     same file (inl c) = c.1.1
     same file (inr c) = c.1.1
 
-    by : (o : Option (List ℕ)) → text_of w.shelf n ≡ o → MatchOption o ((line ≡ Published) × (v ≡ record { shelf = w.shelf ++ (n, bytes) ∷ []; nodes = w.nodes })) (λ file. Case (file ≡ bytes) ((line ≡ Published) × (v ≡ w)) (IsRefused whys.Republished w line v)) → Moves w (Publish n bytes) v
+    by : (o : Option (List ℕ)) → text_of w.shelf n ≡ o
+        → MatchOption o ((line ≡ Published) × (v ≡ record { shelf = w.shelf ++ (n, bytes) ∷ []; nodes = w.nodes })) (λ file. Case (file ≡ bytes) ((line ≡ Published) × (v ≡ w)) (IsRefused whys.Republished w line v)) → Moves w (Publish n bytes) v
     by None at c = inr (inl (record { name = n; bytes = bytes; is = refl; unknown = at; world = c.1 }))
     by (Some file) at c = inl (record { world = same file c; known = λ m bs e. (let t : n ≡ m = cc in (file, subst (λ (z : Name). text_of w.shelf z ≡ Some file) t at)) })
 moves w (Tell i sent) line v h = by (sent_to i sent w line v Here h)
@@ -100,7 +104,8 @@ moves w (StopAfter i sent) line v h = by (sent_to i sent w line v (λ x event. (
     by (inl e) = inl (record { world = e; known = λ n bs e. absurd (cc) })
     by (inr r) = reopen w (StopAfter i sent) v i r.0 ((r.2, r.4.0) ∷ r.0.history) Stopped line (λ node quiet. quiet) r.1 (inr (r.2, r.4.0, arriving_true w.shelf sent r.2 r.3, r.4.1, refl)) r.4.2
 moves w (Report i stem) line v h = inl (record { world = stays_at w line v i (Reported w stem line v) (λ x q. q.0) (asked_at i w line v (Reported w stem line v) h); known = λ n bs e. absurd (cc) })
-moves w (Ask i stem query) line v h = inl (record { world = stays_at w line v i (Asked w stem query line v) (λ x q. q.0) (asked_at i w line v (Asked w stem query line v) h); known = λ n bs e. absurd (cc) })
+moves w (Ask i stem query) line v h =
+    inl (record { world = stays_at w line v i (Asked w stem query line v) (λ x q. q.0) (asked_at i w line v (Asked w stem query line v) h); known = λ n bs e. absurd (cc) })
 
 -- ---- what a step keeps
 
@@ -127,7 +132,8 @@ pub text_of-push : (shelf : Shelf) (m n : Name) (bytes : List ℕ) → text_of (
 text_of-push [] m n bytes = refl
 text_of-push (f ∷ fs) m n bytes = by (name_eq f.0 n) refl (text_of-push fs m n bytes)
   where
-    by : (b : Bool) → name_eq f.0 n ≡ b → text_of (fs ++ (m, bytes) ∷ []) n ≡ or_else (text_of fs n) (cond (name_eq m n) (Some bytes) None) → text_of ((f ∷ fs) ++ (m, bytes) ∷ []) n ≡ or_else (text_of (f ∷ fs) n) (cond (name_eq m n) (Some bytes) None)
+    by : (b : Bool) → name_eq f.0 n ≡ b → text_of (fs ++ (m, bytes) ∷ []) n ≡ or_else (text_of fs n) (cond (name_eq m n) (Some bytes) None)
+        → text_of ((f ∷ fs) ++ (m, bytes) ∷ []) n ≡ or_else (text_of (f ∷ fs) n) (cond (name_eq m n) (Some bytes) None)
     by true t again = rw t refl
     by false t again = rw t again
 
@@ -164,12 +170,14 @@ shelf_step w event v n (inl s) = ap (λ (z : World). text_of z.shelf n) s.world 
     by : (o : Option (List ℕ)) → text_of w.shelf n ≡ o → text_of w.shelf n ≡ or_else (text_of w.shelf n) (file_of (event ∷ []) n)
     by None at = rw at (sym (stays_file w event v n s at))
     by (Some file) at = rw at refl
-shelf_step w event v n (inr (inl s)) = ap (λ (z : World). text_of z.shelf n) s.world ∙ text_of-push w.shelf s.name n s.bytes ∙ ap (λ (z : WorldEvent). or_else (text_of w.shelf n) (file_of (z ∷ []) n)) (sym s.is)
+shelf_step w event v n (inr (inl s)) =
+    ap (λ (z : World). text_of z.shelf n) s.world ∙ text_of-push w.shelf s.name n s.bytes ∙ ap (λ (z : WorldEvent). or_else (text_of w.shelf n) (file_of (z ∷ []) n)) (sym s.is)
 shelf_step w event v n (inr (inr s)) = ap (λ (z : World). text_of z.shelf n) s.world ∙ sym (or_none (text_of w.shelf n)) ∙ ap (or_else (text_of w.shelf n)) (sym (loud_file event n s.number s.loud))
 
 pub grows_step : (w : World) (event : WorldEvent) (v : World) → IsSound w → Moves w event v → Grows w v
 grows_step w event v sound (inl s) = subst (Grows w) (sym s.world) (grows_all w)
-grows_step w event v sound (inr (inl s)) = subst (Grows w) (sym s.world) (record { files = λ n file e. rw (text_of-push w.shelf s.name n s.bytes, e) refl; nodes = λ i x e. (x, e, keeps_all x.history) })
+grows_step w event v sound (inr (inl s)) =
+    subst (Grows w) (sym s.world) (record { files = λ n file e. rw (text_of-push w.shelf s.name n s.bytes, e) refl; nodes = λ i x e. (x, e, keeps_all x.history) })
 grows_step w event v sound (inr (inr s)) = subst (Grows w) (sym s.world) (record { files = λ n file e. e; nodes = λ i x e. node i x e (equal_or_not s.number i) })
   where
     more : Follows w.shelf s.old.history s.history → Keeps s.old.history s.history
@@ -180,8 +188,13 @@ grows_step w event v sound (inr (inr s)) = subst (Grows w) (sym s.world) (record
     node i x e (inr apart) = (x, node_at-other w.nodes s.number i (record { up = s.up; history = s.history }) apart ∙ e, keeps_all x.history)
     node i x e (inl same) =
         let at : node_at w.nodes i ≡ Some s.old = subst (λ (j : ℕ). node_at w.nodes j ≡ Some s.old) same s.there in
-        let is : s.old ≡ x = cc in
-        (record { up = s.up; history = s.history }, subst (λ (j : ℕ). node_at (set_node w.nodes s.number (record { up = s.up; history = s.history })) j ≡ Some (record { up = s.up; history = s.history })) same (node_at-here w.nodes s.number s.old (record { up = s.up; history = s.history }) s.there), subst (λ (z : Node). Keeps z.history s.history) is (more s.follows))
+        let is : s.old ≡ x = cc in (
+          record { up = s.up; history = s.history },
+          subst (λ (j : ℕ). node_at (set_node w.nodes s.number (record { up = s.up; history = s.history })) j ≡ Some
+              (record { up = s.up; history = s.history })) same (node_at-here w.nodes s.number s.old (record { up = s.up; history = s.history }) s.there),
+          subst
+              (λ (z : Node). Keeps z.history s.history) is (more s.follows),
+        )
 
 pub sound_start : (count : ℕ) → IsSound (start count)
 sound_start count = record {
@@ -212,7 +225,9 @@ sound_step w event v sound (inr (inr s)) = subst IsSound (sym s.world) (record {
     now = record { up = s.up; history = s.history }
 
     here : (i : ℕ) (x : Node) → s.number ≡ i → node_at (set_node w.nodes s.number now) i ≡ Some x → now ≡ x
-    here i x same e = let at : node_at (set_node w.nodes s.number now) i ≡ Some now = subst (λ (j : ℕ). node_at (set_node w.nodes s.number now) j ≡ Some now) same (node_at-here w.nodes s.number s.old now s.there) in cc
+    here i x same e =
+        let at : node_at (set_node w.nodes s.number now) i ≡ Some now = subst (λ (j : ℕ). node_at (set_node w.nodes s.number now) j ≡ Some now) same
+        (node_at-here w.nodes s.number s.old now s.there) in cc
 
     over : (i : ℕ) (x : Node) → node_at (set_node w.nodes s.number now) i ≡ Some x → (s.number ≡ i) ⊎ (s.number ≢ i) → IsOver w.shelf x.history
     over i x e (inl same) = subst (λ (z : Node). IsOver w.shelf z.history) (here i x same e) (over_more_of s.follows)

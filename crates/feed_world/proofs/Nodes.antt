@@ -63,25 +63,31 @@ if_up x w line v Here h = by x.up refl h
     by false e r = inl r
 
 -- what is sent to a node was refused, or arrives at it
-pub sent_to : (i : ℕ) (sent : Sent) (w : World) (line : Line) (v : World) (Here : Node → Event → Type 0) → AtNode i w line v (λ x. Arrives sent w line v (λ event. IfUp x w line v (Here x event))) → (v ≡ w) ⊎ ((x : Node) × (node_at w.nodes i ≡ Some x) × (e : Event) × (arriving w.shelf sent ≡ Ok e) × Here x e)
+pub sent_to : (i : ℕ) (sent : Sent) (w : World) (line : Line) (v : World) (Here : Node → Event → Type 0) → AtNode i w line v (λ x. Arrives sent w line v (λ event. IfUp x w line v (Here x event)))
+    → (v ≡ w) ⊎ ((x : Node) × (node_at w.nodes i ≡ Some x) × (e : Event) × (arriving w.shelf sent ≡ Ok e) × Here x e)
 sent_to i sent w line v Here h = node (at_node i w line v (λ x. Arrives sent w line v (λ event. IfUp x w line v (Here x event))) h)
   where
-    up : (x : Node) → node_at w.nodes i ≡ Some x → (e : Event) → arriving w.shelf sent ≡ Ok e → (IsRefused whys.Down w line v) ⊎ ((x.up ≡ true) × Here x e) → (v ≡ w) ⊎ ((x : Node) × (node_at w.nodes i ≡ Some x) × (e : Event) × (arriving w.shelf sent ≡ Ok e) × Here x e)
+    up : (x : Node) → node_at w.nodes i ≡ Some x → (e : Event) → arriving w.shelf sent ≡ Ok e → (IsRefused whys.Down w line v) ⊎ ((x.up ≡ true) × Here x e)
+        → (v ≡ w) ⊎ ((x : Node) × (node_at w.nodes i ≡ Some x) × (e : Event) × (arriving w.shelf sent ≡ Ok e) × Here x e)
     up x at e is (inl r) = inl r.1
     up x at e is (inr r) = inr (x, at, e, is, r.1)
 
-    event : (x : Node) → node_at w.nodes i ≡ Some x → (v ≡ w) ⊎ ((e : Event) × (arriving w.shelf sent ≡ Ok e) × IfUp x w line v (Here x e)) → (v ≡ w) ⊎ ((x : Node) × (node_at w.nodes i ≡ Some x) × (e : Event) × (arriving w.shelf sent ≡ Ok e) × Here x e)
+    event : (x : Node) → node_at w.nodes i ≡ Some x → (v ≡ w) ⊎ ((e : Event) × (arriving w.shelf sent ≡ Ok e) × IfUp x w line v (Here x e))
+        → (v ≡ w) ⊎ ((x : Node) × (node_at w.nodes i ≡ Some x) × (e : Event) × (arriving w.shelf sent ≡ Ok e) × Here x e)
     event x at (inl r) = inl r
     event x at (inr r) = up x at r.0 r.1 (if_up x w line v (Here x r.0) r.2)
 
-    node : (IsRefused whys.NoNode w line v) ⊎ ((x : Node) × (node_at w.nodes i ≡ Some x) × Arrives sent w line v (λ event. IfUp x w line v (Here x event))) → (v ≡ w) ⊎ ((x : Node) × (node_at w.nodes i ≡ Some x) × (e : Event) × (arriving w.shelf sent ≡ Ok e) × Here x e)
+    node : (IsRefused whys.NoNode w line v) ⊎ ((x : Node) × (node_at w.nodes i ≡ Some x) × Arrives sent w line v (λ event. IfUp x w line v (Here x event)))
+        → (v ≡ w) ⊎ ((x : Node) × (node_at w.nodes i ≡ Some x) × (e : Event) × (arriving w.shelf sent ≡ Ok e) × Here x e)
     node (inl r) = inl r.1
     node (inr r) = event r.0 r.1 (arrives sent w line v (λ event. IfUp r.0 w line v (Here r.0 event)) r.2)
 
 -- a node that is asked is up, or this was refused
-pub asked_at : (i : ℕ) (w : World) (line : Line) (v : World) (Here : Node → Type 0) → AtNode i w line v (λ x. IfUp x w line v (Here x)) → (IsRefused whys.NoNode w line v) ⊎ ((x : Node) × (node_at w.nodes i ≡ Some x) × ((IsRefused whys.Down w line v) ⊎ ((x.up ≡ true) × Here x)))
+pub asked_at : (i : ℕ) (w : World) (line : Line) (v : World) (Here : Node → Type 0) → AtNode i w line v (λ x. IfUp x w line v (Here x))
+    → (IsRefused whys.NoNode w line v) ⊎ ((x : Node) × (node_at w.nodes i ≡ Some x) × ((IsRefused whys.Down w line v) ⊎ ((x.up ≡ true) × Here x)))
 asked_at i w line v Here h = by (at_node i w line v (λ x. IfUp x w line v (Here x)) h)
   where
-    by : (IsRefused whys.NoNode w line v) ⊎ ((x : Node) × (node_at w.nodes i ≡ Some x) × IfUp x w line v (Here x)) → (IsRefused whys.NoNode w line v) ⊎ ((x : Node) × (node_at w.nodes i ≡ Some x) × ((IsRefused whys.Down w line v) ⊎ ((x.up ≡ true) × Here x)))
+    by : (IsRefused whys.NoNode w line v) ⊎ ((x : Node) × (node_at w.nodes i ≡ Some x) × IfUp x w line v (Here x))
+        → (IsRefused whys.NoNode w line v) ⊎ ((x : Node) × (node_at w.nodes i ≡ Some x) × ((IsRefused whys.Down w line v) ⊎ ((x.up ≡ true) × Here x)))
     by (inl r) = inl r
     by (inr r) = inr (r.0, r.1, if_up r.0 w line v (Here r.0) r.2)

@@ -33,11 +33,14 @@ arriving_true shelf (Offer n) e is = by (text_of shelf n) refl
   where
     by : (o : Option (List ℕ)) → text_of shelf n ≡ o → IsTrueOf shelf e
     by None at = absurd (let u : ◌≡◌ {A = Result Event why.Why} (Err whys.Unpublished) (Ok e) = rw at at is in cc)
-    by (Some file) at = let u : ◌≡◌ {A = Result Event why.Why} (Ok (Offered n (length file))) (Ok e) = rw at at is in let v : Offered n (length file) ≡ e = cc in subst (IsTrueOf shelf) v (file, at, refl)
+    by (Some file) at =
+        let u : ◌≡◌ {A = Result Event why.Why} (Ok (Offered n (length file))) (Ok e) = rw at at is in let v : Offered n (length file) ≡ e = cc in subst (IsTrueOf shelf) v (file, at, refl)
 arriving_true shelf (Deliver n first len) e is = by (text_of shelf n) refl
   where
     slice : (file : List ℕ) → text_of shelf n ≡ Some file → (t : Bool) → nat_le (first + len) (length file) ≡ t → delivered n first len (Some file) ≡ Ok e → IsTrueOf shelf e
-    slice file at true t u = let v : ◌≡◌ {A = Result Event why.Why} (Ok (Piece n first (Some (length file)) (take len (drop first file)))) (Ok e) = rw t at u in let w : Piece n first (Some (length file)) (take len (drop first file)) ≡ e = cc in subst (IsTrueOf shelf) w (file, at, byte-slice file first len)
+    slice file at true t u =
+        let v : ◌≡◌ {A = Result Event why.Why} (Ok (Piece n first (Some (length file)) (take len (drop first file)))) (Ok e) = rw t at u in let w : Piece n first (Some (length file))
+        (take len (drop first file)) ≡ e = cc in subst (IsTrueOf shelf) w (file, at, byte-slice file first len)
     slice file at false t u = absurd (let v : ◌≡◌ {A = Result Event why.Why} (Err whys.NoSlice) (Ok e) = rw t at u in cc)
 
     by : (o : Option (List ℕ)) → text_of shelf n ≡ o → IsTrueOf shelf e
@@ -62,11 +65,13 @@ over_more shelf h (Offered m s) a o t = record { size = λ n q. by n q (is_noted
     by n q false y u v e = o.size n q (rw u at e)
 over_more shelf h (Piece m f total bs) a o t = record { size = o.size; bytes = λ n place b. by n place b (is_taken a) (name_eq m n) refl refl }
   where
-    first : (n : Name) (place b : ℕ) → m ≡ n → (x : Option ℕ) → kept h n place ≡ x → or_else x (byte_at f bs place) ≡ Some b → (file : List ℕ) × (text_of shelf n ≡ Some file) × (slice_get file place ≡ Some b)
+    first : (n : Name) (place b : ℕ) → m ≡ n → (x : Option ℕ) → kept h n place ≡ x → or_else x (byte_at f bs place) ≡ Some b
+        → (file : List ℕ) × (text_of shelf n ≡ Some file) × (slice_get file place ≡ Some b)
     first n place b same None at e = (t.0, subst (λ (z : Name). text_of shelf z ≡ Some t.0) same t.1, t.2 place b e)
     first n place b same (Some x) at e = o.bytes n place b (at ∙ e)
 
-    by : (n : Name) (place b : ℕ) (x y : Bool) → is_taken a ≡ x → name_eq m n ≡ y → kept ((Piece m f total bs, a) ∷ h) n place ≡ Some b → (file : List ℕ) × (text_of shelf n ≡ Some file) × (slice_get file place ≡ Some b)
+    by : (n : Name) (place b : ℕ) (x y : Bool) → is_taken a ≡ x → name_eq m n ≡ y → kept ((Piece m f total bs, a) ∷ h) n place ≡ Some b
+        → (file : List ℕ) × (text_of shelf n ≡ Some file) × (slice_get file place ≡ Some b)
     by n place b true true u v e = first n place b (name_is m n v) (kept h n place) refl (rw (u, v) at e)
     by n place b true false u v e = o.bytes n place b (rw (u, v) at e)
     by n place b false y u v e = o.bytes n place b (rw u at e)
@@ -155,7 +160,8 @@ pub reports_alike : (h k : History) (key : List ℕ) (o p : Option Name) → Has
 reports_alike h k key o p s x y = reports_one k key o p (reports_as h k key o s x) y
 
 -- a whole release that is the latest of the good published files of its package is active
-pub latest_active : (shelf : Shelf) (h : History) (n : Name) (file : List ℕ) → IsOver shelf h → IsWhole h n → text_of shelf n ≡ Some file → fault_of file ≡ None → ((m : Name) (f : List ℕ) → m.stem ≡ n.stem → text_of shelf m ≡ Some f → fault_of f ≡ None → m.day ≤ℤ n.day) → IsActive h n
+pub latest_active : (shelf : Shelf) (h : History) (n : Name) (file : List ℕ) → IsOver shelf h → IsWhole h n → text_of shelf n ≡ Some file → fault_of file ≡ None
+    → ((m : Name) (f : List ℕ) → m.stem ≡ n.stem → text_of shelf m ≡ Some f → fault_of f ≡ None → m.day ≤ℤ n.day) → IsActive h n
 latest_active shelf h n file o w at good latest =
     let same : w.0 ≡ file = same_some (text_of shelf n) w.0 file (file_published shelf h n w.0 o w.1) at in
     ((w.0, w.1, ap fault_of same ∙ good), λ m e g. latest m g.0 e (file_published shelf h m g.0 o g.1) g.2)

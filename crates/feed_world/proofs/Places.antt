@@ -62,7 +62,8 @@ file_of-take (suc k) (x ∷ xs) n file e = file_of-cons x xs n ∙ by (file_of (
     by None t again = again t
     by (Some f) t again = t
 
-pub shows_quiet : (u v : World) (es : List WorldEvent) (ls : List Line) (i : ℕ) → ((m : ℕ) (e : WorldEvent) → slice_get es m ≡ Some e → IsQuiet i e) → Shows u es ls v → node_at v.nodes i ≡ node_at u.nodes i
+pub shows_quiet : (u v : World) (es : List WorldEvent) (ls : List Line) (i : ℕ) → ((m : ℕ) (e : WorldEvent) → slice_get es m ≡ Some e → IsQuiet i e) → Shows u es ls v
+    → node_at v.nodes i ≡ node_at u.nodes i
 shows_quiet u v [] [] i quiet s = ap (λ (z : World). node_at z.nodes i) (sym s)
 shows_quiet u v [] (l ∷ ls) i quiet s = absurd s
 shows_quiet u v (e ∷ es) [] i quiet s = absurd s
@@ -99,7 +100,8 @@ pub record AreAt (u : World) (es : List WorldEvent) (ls : List Line) (j k : ℕ)
   pub reach : Shows u (take k es) (take k ls) three
   pub second : Happens three f m four
 
-pub places_of : (u v : World) (es : List WorldEvent) (ls : List Line) (j k : ℕ) (e f : WorldEvent) (l m : Line) → j < k → Shows u es ls v → slice_get es j ≡ Some e → slice_get ls j ≡ Some l → slice_get es k ≡ Some f → slice_get ls k ≡ Some m → AreAt u es ls j k e l f m
+pub places_of : (u v : World) (es : List WorldEvent) (ls : List Line) (j k : ℕ) (e f : WorldEvent) (l m : Line) → j < k → Shows u es ls v → slice_get es j ≡ Some e → slice_get ls j ≡ Some l
+    → slice_get es k ≡ Some f → slice_get ls k ≡ Some m → AreAt u es ls j k e l f m
 places_of u v es ls j k e f l m lt s a b c d =
     let p = place_of u v es ls k f m s c d in
     let q = place_of u p.old (take k es) (take k ls) j e l p.come (get-take_below k es j lt ∙ a) (get-take_below k ls j lt ∙ b) in

@@ -31,12 +31,14 @@ active_shown w v i stem n h = by (asked_at i w (Active n) v (Reported w stem (Ac
     up x at (inl r) = absurd (let e : Active n ≡ Refused whys.Down = r.0 in cc)
     up x at (inr r) = (r.1.0, named x at r.0 r.1.1 r.1.2 r.1.3)
 
-    by : (IsRefused whys.NoNode w (Active n) v) ⊎ ((x : Node) × (node_at w.nodes i ≡ Some x) × ((IsRefused whys.Down w (Active n) v) ⊎ ((x.up ≡ true) × Reported w stem (Active n) v x))) → (v ≡ w) × IsUp w i stem (Some n)
+    by : (IsRefused whys.NoNode w (Active n) v) ⊎ ((x : Node) × (node_at w.nodes i ≡ Some x) × ((IsRefused whys.Down w (Active n) v) ⊎ ((x.up ≡ true) × Reported w stem (Active n) v x)))
+        → (v ≡ w) × IsUp w i stem (Some n)
     by (inl r) = absurd (let e : Active n ≡ Refused whys.NoNode = r.0 in cc)
     by (inr r) = up r.0 r.1 r.2
 
 -- the report of a node that is there
-pub report_shown : (w v : World) (i : ℕ) (stem : List ℕ) (line : Line) (x : Node) → node_at w.nodes i ≡ Some x → Happens w (Report i stem) line v → (line ≡ Refused whys.Down) ⊎ ((o : Option Name) × Reports x.history stem o × (line ≡ report_line o))
+pub report_shown : (w v : World) (i : ℕ) (stem : List ℕ) (line : Line) (x : Node) → node_at w.nodes i ≡ Some x → Happens w (Report i stem) line v
+    → (line ≡ Refused whys.Down) ⊎ ((o : Option Name) × Reports x.history stem o × (line ≡ report_line o))
 report_shown w v i stem line x at h = by (if_up x w line v (Reported w stem line v x) (MatchOption-at_some (IsRefused whys.NoNode w line v) (λ y. IfUp y w line v (Reported w stem line v y)) x at h))
   where
     by : (IsRefused whys.Down w line v) ⊎ ((x.up ≡ true) × Reported w stem line v x) → (line ≡ Refused whys.Down) ⊎ ((o : Option Name) × Reports x.history stem o × (line ≡ report_line o))
@@ -44,14 +46,22 @@ report_shown w v i stem line x at h = by (if_up x w line v (Reported w stem line
     by (inr r) = inr (r.1.1, r.1.2, r.1.3)
 
 -- an ask of a node that is up and reports a release
-pub ask_shown : (w v : World) (i : ℕ) (stem : List ℕ) (n : Name) (query : List ℕ) (line : Line) → IsUp w i stem (Some n) → Happens w (Ask i stem query) line v → OrMemory line ((file : List ℕ) × (x : Node) × (node_at w.nodes i ≡ Some x) × IsFile x.history n file × (line ≡ file_says n file (query_of query)))
-ask_shown w v i stem n query line u h = by (subst (λ (b : Bool). MatchBool b (Asked w stem query line v u.node) (IsRefused whys.Down w line v)) u.up (MatchOption-at_some (IsRefused whys.NoNode w line v) (λ y. IfUp y w line v (Asked w stem query line v y)) u.node u.there h))
+pub ask_shown : (w v : World) (i : ℕ) (stem : List ℕ) (n : Name) (query : List ℕ) (line : Line) → IsUp w i stem (Some n) → Happens w (Ask i stem query) line v
+    → OrMemory line ((file : List ℕ) × (x : Node) × (node_at w.nodes i ≡ Some x) × IsFile x.history n file × (line ≡ file_says n file (query_of query)))
+ask_shown w v i stem n query line u h =
+    by (subst (λ (b : Bool). MatchBool b (Asked w stem query line v u.node) (IsRefused whys.Down w line v)) u.up
+    (MatchOption-at_some (IsRefused whys.NoNode w line v) (λ y. IfUp y w line v (Asked w stem query line v y)) u.node u.there h))
   where
-    named : (o : Option Name) → o ≡ Some n → MatchOption o (line ≡ none_says (query_of query)) (λ n. (file : List ℕ) × IsFile u.node.history n file × (line ≡ file_says n file (query_of query))) → (file : List ℕ) × (x : Node) × (node_at w.nodes i ≡ Some x) × IsFile x.history n file × (line ≡ file_says n file (query_of query))
+    named : (o : Option Name) → o ≡ Some n → MatchOption o (line ≡ none_says (query_of query)) (λ n. (file : List ℕ) × IsFile u.node.history n file × (line ≡ file_says n file (query_of query)))
+        → (file : List ℕ) × (x : Node) × (node_at w.nodes i ≡ Some x) × IsFile x.history n file × (line ≡ file_says n file (query_of query))
     named None e r = absurd (cc)
-    named (Some m) e r = let same : m ≡ n = cc in let q : (file : List ℕ) × IsFile u.node.history n file × (line ≡ file_says n file (query_of query)) = subst (λ (z : Name). (file : List ℕ) × IsFile u.node.history z file × (line ≡ file_says z file (query_of query))) same r in (q.0, u.node, u.there, q.1, q.2)
+    named (Some m) e r =
+        let same : m ≡ n = cc in let q : (file : List ℕ) × IsFile u.node.history n file × (line ≡ file_says n file (query_of query)) = subst
+        (λ (z : Name). (file : List ℕ) × IsFile u.node.history z file × (line ≡ file_says z file (query_of query))) same r in (q.0, u.node, u.there, q.1, q.2)
 
-    or : (o : Option Name) → o ≡ Some n → OrMemory line (MatchOption o (line ≡ none_says (query_of query)) (λ n. (file : List ℕ) × IsFile u.node.history n file × (line ≡ file_says n file (query_of query)))) → OrMemory line ((file : List ℕ) × (x : Node) × (node_at w.nodes i ≡ Some x) × IsFile x.history n file × (line ≡ file_says n file (query_of query)))
+    or : (o : Option Name) → o ≡ Some n
+        → OrMemory line (MatchOption o (line ≡ none_says (query_of query)) (λ n. (file : List ℕ) × IsFile u.node.history n file × (line ≡ file_says n file (query_of query))))
+        → OrMemory line ((file : List ℕ) × (x : Node) × (node_at w.nodes i ≡ Some x) × IsFile x.history n file × (line ≡ file_says n file (query_of query)))
     or o e (inl r) = inl (named o e r)
     or o e (inr r) = inr r
 
@@ -63,18 +73,23 @@ none_is_no_text text (Ok q) e = cc
 none_is_no_text text (Err f) e = cc
 
 -- a text is the answer of the release that the node would report
-pub text_shown : (w v : World) (i : ℕ) (stem : List ℕ) (query text : List ℕ) → Happens w (Ask i stem query) (Text text) v → (v ≡ w) × (n : Name) × IsUp w i stem (Some n) × ((file : List ℕ) × (x : Node) × (node_at w.nodes i ≡ Some x) × IsFile x.history n file × (Text text ≡ file_says n file (query_of query)))
+pub text_shown : (w v : World) (i : ℕ) (stem : List ℕ) (query text : List ℕ) → Happens w (Ask i stem query) (Text text) v
+    → (v ≡ w) × (n : Name) × IsUp w i stem (Some n) × ((file : List ℕ) × (x : Node) × (node_at w.nodes i ≡ Some x) × IsFile x.history n file × (Text text ≡ file_says n file (query_of query)))
 text_shown w v i stem query text h = by (asked_at i w (Text text) v (Asked w stem query (Text text) v) h)
   where
-    named : (x : Node) → node_at w.nodes i ≡ Some x → x.up ≡ true → v ≡ w → (o : Option Name) → Reports x.history stem o → OrMemory (Text text) (MatchOption o (Text text ≡ none_says (query_of query)) (λ n. (file : List ℕ) × IsFile x.history n file × (Text text ≡ file_says n file (query_of query)))) → (v ≡ w) × (n : Name) × IsUp w i stem (Some n) × ((file : List ℕ) × (x : Node) × (node_at w.nodes i ≡ Some x) × IsFile x.history n file × (Text text ≡ file_says n file (query_of query)))
+    named : (x : Node) → node_at w.nodes i ≡ Some x → x.up ≡ true → v ≡ w → (o : Option Name) → Reports x.history stem o
+        → OrMemory (Text text) (MatchOption o (Text text ≡ none_says (query_of query)) (λ n. (file : List ℕ) × IsFile x.history n file × (Text text ≡ file_says n file (query_of query))))
+        → (v ≡ w) × (n : Name) × IsUp w i stem (Some n) × ((file : List ℕ) × (x : Node) × (node_at w.nodes i ≡ Some x) × IsFile x.history n file × (Text text ≡ file_says n file (query_of query)))
     named x at up same o r (inr e) = absurd (cc)
     named x at up same None r (inl e) = absurd (none_is_no_text text (query_of query) e)
     named x at up same (Some n) r (inl e) = (same, n, record { node = x; there = at; up = up; reports = r }, (e.0, x, at, e.1, e.2))
 
-    up : (x : Node) → node_at w.nodes i ≡ Some x → (IsRefused whys.Down w (Text text) v) ⊎ ((x.up ≡ true) × Asked w stem query (Text text) v x) → (v ≡ w) × (n : Name) × IsUp w i stem (Some n) × ((file : List ℕ) × (x : Node) × (node_at w.nodes i ≡ Some x) × IsFile x.history n file × (Text text ≡ file_says n file (query_of query)))
+    up : (x : Node) → node_at w.nodes i ≡ Some x → (IsRefused whys.Down w (Text text) v) ⊎ ((x.up ≡ true) × Asked w stem query (Text text) v x)
+        → (v ≡ w) × (n : Name) × IsUp w i stem (Some n) × ((file : List ℕ) × (x : Node) × (node_at w.nodes i ≡ Some x) × IsFile x.history n file × (Text text ≡ file_says n file (query_of query)))
     up x at (inl r) = absurd (let e : Text text ≡ Refused whys.Down = r.0 in cc)
     up x at (inr r) = named x at r.0 r.1.0 r.1.1.0 r.1.1.1 r.1.1.2
 
-    by : (IsRefused whys.NoNode w (Text text) v) ⊎ ((x : Node) × (node_at w.nodes i ≡ Some x) × ((IsRefused whys.Down w (Text text) v) ⊎ ((x.up ≡ true) × Asked w stem query (Text text) v x))) → (v ≡ w) × (n : Name) × IsUp w i stem (Some n) × ((file : List ℕ) × (x : Node) × (node_at w.nodes i ≡ Some x) × IsFile x.history n file × (Text text ≡ file_says n file (query_of query)))
+    by : (IsRefused whys.NoNode w (Text text) v) ⊎ ((x : Node) × (node_at w.nodes i ≡ Some x) × ((IsRefused whys.Down w (Text text) v) ⊎ ((x.up ≡ true) × Asked w stem query (Text text) v x)))
+        → (v ≡ w) × (n : Name) × IsUp w i stem (Some n) × ((file : List ℕ) × (x : Node) × (node_at w.nodes i ≡ Some x) × IsFile x.history n file × (Text text ≡ file_says n file (query_of query)))
     by (inl r) = absurd (let e : Text text ≡ Refused whys.NoNode = r.0 in cc)
     by (inr r) = up r.0 r.1 r.2

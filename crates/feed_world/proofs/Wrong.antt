@@ -28,10 +28,17 @@ goes_back m n lt same h = by (h.later 0 2 1 n.stem n (Active m) (omega arith) (r
     by (inr r) = let e = r.1 in let is : m ≡ r.0 = cc in not_before m.day n.day r.0.day lt r.2.1 (ap (λ (z : Name). z.day) is)
 
 -- a text that is not the file's
-lies : (n : Name) (file query text : List ℕ) → Text text ≢ file_says n file (query_of query) → IsHeadline (Publish n file ∷ Report 1 n.stem ∷ Ask 1 n.stem query ∷ []) (Published ∷ Active n ∷ Text text ∷ []) → ⊥
+lies : (n : Name) (file query text : List ℕ) → Text text ≢ file_says n file (query_of query)
+    → IsHeadline (Publish n file ∷ Report 1 n.stem ∷ Ask 1 n.stem query ∷ []) (Published ∷ Active n ∷ Text text ∷ []) → ⊥
 lies n file query text apart h =
     let together : IsOneMoment (Publish n file ∷ Report 1 n.stem ∷ Ask 1 n.stem query ∷ []) 1 1 2 = quiet in
-    let w = h.whole 2 1 n.stem n query (Text text) (record { asked = record { happened = refl; shown = refl }; report = 1; reported = record { happened = refl; shown = refl }; together = together; given = λ e. cc }) in
+    let w = h.whole 2 1 n.stem n query (Text text) (record {
+      asked = record { happened = refl; shown = refl };
+      report = 1;
+      reported = record { happened = refl; shown = refl };
+      together = together;
+      given = λ e. cc;
+    }) in
     let at : Some file ≡ Some w.0 = sym (first n file) ∙ w.1 in
     let is : file ≡ w.0 = cc in
     apart (w.2 ∙ ap (λ (f : List ℕ). file_says n f (query_of query)) (sym is))

@@ -52,12 +52,15 @@ pub record IsFrom (events : List WorldEvent) (lines : List Line) (place node : �
   pub before : (j : ℕ) (n : Name) → j < place → Stands events lines j (Report node stem) (Active n) → IsNoOlder n name
   pub after : (j : ℕ) (n : Name) → place < j → Stands events lines j (Report node stem) (Active n) → IsNoOlder name n
 
--- Any two nodes that report the same release of a package give every query the same answer, the one which that release's published file as a whole defines; and no later report of a node names an older release.
+-- Any two nodes that report the same release of a package give every query the same answer, the one which that release's published file as a whole defines; and no later report of a node
+-- names an older release.
 -- Besides, a report holds until the next event of its node, and each text is the answer of a published release that no report of its node contradicts.
 pub record IsHeadline (events : List WorldEvent) (lines : List Line) : Type 0 where
   pub same : (j k a b : ℕ) (stem : List ℕ) (n : Name) (query : List ℕ) (x y : Line) → Answers events lines j a stem n query x → Answers events lines k b stem n query y → x ≡ y
-  pub whole : (j a : ℕ) (stem : List ℕ) (n : Name) (query : List ℕ) (x : Line) → Answers events lines j a stem n query x → (file : List ℕ) × (file_of (take j events) n ≡ Some file) × (x ≡ file_says n file (query_of query))
-  pub later : (j k a : ℕ) (stem : List ℕ) (n : Name) (line : Line) → j < k → Stands events lines j (Report a stem) (Active n) → Stands events lines k (Report a stem) line → (line ≡ Refused whys.Down) ⊎ ((m : Name) × (line ≡ Active m) × IsNoOlder n m)
+  pub whole : (j a : ℕ) (stem : List ℕ) (n : Name) (query : List ℕ) (x : Line) → Answers events lines j a stem n query x
+      → (file : List ℕ) × (file_of (take j events) n ≡ Some file) × (x ≡ file_says n file (query_of query))
+  pub later : (j k a : ℕ) (stem : List ℕ) (n : Name) (line : Line) → j < k → Stands events lines j (Report a stem) (Active n) → Stands events lines k (Report a stem) line
+      → (line ≡ Refused whys.Down) ⊎ ((m : Name) × (line ≡ Active m) × IsNoOlder n m)
   pub still : (j k a : ℕ) (stem : List ℕ) (x y : Line) → Stands events lines j (Report a stem) x → Stands events lines k (Report a stem) y → IsOneMoment events a j k → x ≡ y
   pub from : (k a : ℕ) (stem : List ℕ) (query : List ℕ) (text : List ℕ) → Stands events lines k (Ask a stem query) (Text text) → (n : Name) × IsFrom events lines k a stem query text n
 

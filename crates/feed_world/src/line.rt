@@ -82,7 +82,8 @@ pub enum Line {
 impl Line {
     /// Writes the line with the LF that ends it.
     pub fn write<W: Write>(&self, writer: &mut W) -> io::Result<()>
-        ensures { OnOk result (Appends (W.contents writer.old) (W.contents writer.new) (line_text (shown_line self.now))) }
+        ensures { OnOk result (Appends (W.contents writer.old) (W.contents writer.new)
+            (line_text (shown_line self.now))) }
     {
         match self {
             Line::Published => writer.write_all(b"published\n"),

@@ -8,8 +8,8 @@ use std::io::{Read, Write};
 
 /// Reads a file under its name and prints what it holds to `out`: `release NAME`, `rows N aside M`, and a line
 /// `aside NUMBER REASON` for each record that is set aside. A bad file prints `broken REASON` in place of the last two.
-/// A fault prints one line to `faults`. The result is the exit status: 1 for a name that is none, a bad file and one that
-/// is too long, 3 for a failing read or print and for want of memory.
+/// A fault prints one line to `faults`. The result is the exit status: 1 for a name that is none, a bad file and one
+/// that is too long, 3 for a failing read or print and for want of memory.
 pub fn check_on<R: Read + Drop, O: Write, F: Write>(
     alloc: Global,
     name: &[u8],

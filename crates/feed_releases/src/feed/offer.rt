@@ -56,7 +56,8 @@ impl<K: Keep + Drop> Feed<K> {
         ensures same { OnErr result (releases_of self.new ≡ releases_of self.old) }
         ensures clean { K.clean (keeper_of self.new) → K.clean (keeper_of self.old) }
         ensures fault { IfErr result (λ fault. (fault ≡ Refusal.Memory) ⊎ (fault ≡ Refusal.Device)) }
-        ensures counted { IsCounted (result ≡ Err Refusal.Device) (K.failed (keeper_of self.old)) (K.failed (keeper_of self.new)) }
+        ensures counted { IsCounted (result ≡ Err Refusal.Device) (K.failed (keeper_of self.old))
+            (K.failed (keeper_of self.new)) }
     {
         let Ok(()) = self.releases.reserve(1) else {
             return Err(Refusal::Memory);

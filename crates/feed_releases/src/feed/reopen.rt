@@ -19,7 +19,8 @@ pub(crate) fn reopened(alloc: Global, records: Vec<Record>) -> Result<Vec<Releas
     requires distinct { IsDistinct name_eq (names (shown records.items)) }
     ensures content { IfOk result (λ releases. content_of releases.items ≡ shown records.items) }
     ensures sound { IfOk result (λ _. IsSound (shown records.items)) }
-    ensures err { IfErr result (λ cause. (cause ≡ KeepFault.Memory) ⊎ ((cause ≡ KeepFault.Damaged) × ¬ (IsSound (shown records.items)))) }
+    ensures err { IfErr result (λ cause. (cause ≡ KeepFault.Memory)
+        ⊎ ((cause ≡ KeepFault.Damaged) × ¬ (IsSound (shown records.items)))) }
 {
     if records.len() > RELEASE_LIMIT {
         return Err(KeepFault::Damaged);

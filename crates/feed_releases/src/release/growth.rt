@@ -78,7 +78,8 @@ impl Release {
           holdings = rows_of growth.standing;
         }) }
         ensures same { OnErr result (self.new ≡ self.old) }
-        ensures committed { IsCommitted K.clean K.content K.failed (change_of self.old.kept growth) keeper.old keeper.new result }
+        ensures committed { IsCommitted K.clean K.content K.failed
+            (change_of self.old.kept growth) keeper.old keeper.new result }
     {
         let Growth {
             parts,

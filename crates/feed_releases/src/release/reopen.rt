@@ -46,9 +46,11 @@ fn found_in(alloc: Global, kept: &Record, missing: u64) -> Result<Option<Holding
     ensures known { IfOk result (λ holdings.
         IsKnown kept.now.state kept.now.size (shown_parts kept.now.parts.items) holdings
         × BearsOut kept.now.state kept.now.size (shown_parts kept.now.parts.items)) }
-    ensures staged { OnOk result ((kept.now.state ≡ State.Staged → 0 < missing) × (kept.now.state ≢ State.Staged → missing ≡ 0)) }
+    ensures staged { OnOk result ((kept.now.state ≡ State.Staged → 0 < missing)
+        × (kept.now.state ≢ State.Staged → missing ≡ 0)) }
     ensures err { IfErr result (λ cause. (cause ≡ KeepFault.Memory)
-        ⊎ ((cause ≡ KeepFault.Damaged) × ¬ (BearsOut kept.now.state kept.now.size (shown_parts kept.now.parts.items)))) }
+        ⊎ ((cause ≡ KeepFault.Damaged) × ¬ (BearsOut kept.now.state kept.now.size
+        (shown_parts kept.now.parts.items)))) }
 {
     if missing > 0 {
         return match kept.state {

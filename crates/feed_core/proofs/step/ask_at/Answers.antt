@@ -11,11 +11,13 @@ returns-in-Err-clause-step g c =
 pub returns-in-Ok-ask-clause-step : goal.returns-in-Ok-ask-clause-step
 returns-in-Ok-ask-clause-step g c =
     let ready = c.in-Ok.ensures.ready in
-    asks_ready g.N.Node.clean g.N.Node.stands c.args.nodes.now c.in-Ok.ready.0 c.index-nodes-at.result c.args.node (Ask c.args.node c.args.«package».now c.args.query.now) (Text c.in-Ok-ask.text.items) ready.0 c.index-nodes-at.is
+    asks_ready g.N.Node.clean g.N.Node.stands c.args.nodes.now c.in-Ok.ready.0 c.index-nodes-at.result c.args.node (Ask c.args.node c.args.«package».now c.args.query.now)
+    (Text c.in-Ok-ask.text.items) ready.0 c.index-nodes-at.is
     (λ w y at up stood. (let asked = rw c.in-Ok-ask.is at (c.ask.ensures.asked y.history stood) in rw (at, up) (refl, asked)))
 
 pub returns-in-Err-ask-clause-step : goal.returns-in-Err-ask-clause-step
 returns-in-Err-ask-clause-step g c =
     let ready = c.in-Ok.ensures.ready in
-    asks_ready g.N.Node.clean g.N.Node.stands c.args.nodes.now c.in-Ok.ready.0 c.index-nodes-at.result c.args.node (Ask c.args.node c.args.«package».now c.args.query.now) (Refused c.in-Err-ask.why) ready.0 c.index-nodes-at.is
+    asks_ready g.N.Node.clean g.N.Node.stands c.args.nodes.now c.in-Ok.ready.0 c.index-nodes-at.result c.args.node (Ask c.args.node c.args.«package».now c.args.query.now)
+    (Refused c.in-Err-ask.why) ready.0 c.index-nodes-at.is
     (λ w y at up stood. (let asked = rw c.in-Err-ask.is at (c.ask.ensures.asked y.history stood) in rw (at, up) (refl, asked)))

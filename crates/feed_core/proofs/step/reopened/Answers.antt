@@ -7,7 +7,8 @@ returns g c = record {
   before = c.remove.result;
   after = c.restart-node.result.0;
   was = c.remove.ensures.value;
-  now = c.put_back.ensures ∙ ap (λ xs. insert xs c.args.at c.restart-node.result.0) c.remove.ensures.items ∙ insert-remove c.args.nodes.now.items c.args.at c.restart-node.result.0 (omega (arith, c.requires.within, c.args.nodes.now.ok.0));
+  now = c.put_back.ensures ∙ ap (λ xs. insert xs c.args.at c.restart-node.result.0) c.remove.ensures.items ∙ insert-remove c.args.nodes.now.items c.args.at c.restart-node.result.0
+      (omega (arith, c.requires.within, c.args.nodes.now.ok.0));
   still = c.restart-node.ensures.clean;
   goes = ((c.restart-node.ensures.device.rises, c.restart-node.ensures.device.failed), λ up h clean stood. c.restart-node.ensures.same up h clean stood);
 }

@@ -13,7 +13,8 @@ returns-in-Err-clause-step g c =
 pub returns-in_ok-try_clone-in-Some-clause-step : goal.returns-in_ok-try_clone-in-Some-clause-step
 returns-in_ok-try_clone-in-Some-clause-step g c =
     let ready = c.in-Ok.ensures.ready in
-    rw c.in_ok-try_clone-in-Some.ensures (asks_ready g.N.Node.clean g.N.Node.stands c.args.nodes.now c.in-Ok.ready.0 c.index-nodes-at.result c.args.node (Report c.args.node c.args.«package».now) (Active c.in-Some.name.now) ready.0 c.index-nodes-at.is
+    rw c.in_ok-try_clone-in-Some.ensures (asks_ready g.N.Node.clean g.N.Node.stands c.args.nodes.now c.in-Ok.ready.0 c.index-nodes-at.result c.args.node (Report c.args.node c.args.«package».now)
+    (Active c.in-Some.name.now) ready.0 c.index-nodes-at.is
     (λ w y at up stood. rw (at, up) (refl, (Some c.in-Some.name.now), c.in-Some.ensures y.history stood, refl)))
 
 pub returns-in-None-clause-step : goal.returns-in-None-clause-step

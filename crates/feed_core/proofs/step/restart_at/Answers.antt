@@ -9,21 +9,26 @@ use Rattle.feed_core.proofs.step.restart_at.Goals as goal
 pub returns-in_default-clause-step : goal.returns-in_default-clause-step
 returns-in_default-clause-step g c =
     let out : (c.args.node ≡ 0) ⊎ (length c.args.nodes.now.items < c.args.node) = search rules in
-    goes_not g.N.Node.clean g.N.Node.stands (λ _. Unit {0}) c.args.nodes.now.items (Restart c.args.node) (Refused NoNode) (λ w s a n. rw (none_at g.N.Node.stands c.args.nodes.now.items w.nodes c.args.node n out) (refl, refl))
+    goes_not g.N.Node.clean g.N.Node.stands (λ _. Unit {0}) c.args.nodes.now.items (Restart c.args.node) (Refused NoNode)
+    (λ w s a n. rw (none_at g.N.Node.stands c.args.nodes.now.items w.nodes c.args.node n out) (refl, refl))
 
 pub returns-in-Ok-clause-step : goal.returns-in-Ok-clause-step
 returns-in-Ok-clause-step g c =
     let lt : c.in-Some.at < length c.args.nodes.now.items = omega (arith, c.in-Some.ensures.found.1, c.len.ensures) in
     let r = c.in-Ok.ensures in
     subst (λ (ys : List _). Goes g.N.Node.clean g.N.Node.stands (λ _. Unit {0}) c.args.nodes.now.items ys (Restart c.args.node) Restarted) (sym r.now)
-    (goes_set g.N.Node.clean g.N.Node.stands (λ _. Unit {0}) c.args.nodes.now.items c.in-Some.at r.before r.after c.args.node (Restart c.args.node) Restarted lt r.was c.in-Some.ensures.found.0 r.still (λ w y s at clean stood. record { up = true; history = y.history; happens = rw at (inl (refl, refl)); stood = r.goes.1 y.up y.history clean stood }))
+    (goes_set g.N.Node.clean g.N.Node.stands (λ _. Unit {0}) c.args.nodes.now.items c.in-Some.at r.before r.after c.args.node
+    (Restart c.args.node) Restarted lt r.was c.in-Some.ensures.found.0 r.still
+    (λ w y s at clean stood. record { up = true; history = y.history; happens = rw at (inl (refl, refl)); stood = r.goes.1 y.up y.history clean stood }))
 
 pub returns-in-Err-clause-step : goal.returns-in-Err-clause-step
 returns-in-Err-clause-step g c =
     let lt : c.in-Some.at < length c.args.nodes.now.items = omega (arith, c.in-Some.ensures.found.1, c.len.ensures) in
     let r = c.in-Err.ensures in
     subst (λ (ys : List _). Goes g.N.Node.clean g.N.Node.stands (λ _. Unit {0}) c.args.nodes.now.items ys (Restart c.args.node) (IsDown c.in-Err.cause)) (sym r.now)
-    (goes_set g.N.Node.clean g.N.Node.stands (λ _. Unit {0}) c.args.nodes.now.items c.in-Some.at r.before r.after c.args.node (Restart c.args.node) (IsDown c.in-Err.cause) lt r.was c.in-Some.ensures.found.0 r.still (λ w y s at clean stood. (let t = r.goes.1 y.up y.history clean stood in record { up = false; history = y.history; happens = rw at (inr (c.in-Err.cause, t.0, refl, refl)); stood = t.1 })))
+    (goes_set g.N.Node.clean g.N.Node.stands (λ _. Unit {0}) c.args.nodes.now.items c.in-Some.at r.before r.after c.args.node (Restart c.args.node)
+    (IsDown c.in-Err.cause) lt r.was c.in-Some.ensures.found.0 r.still
+    (λ w y s at clean stood. (let t = r.goes.1 y.up y.history clean stood in record { up = false; history = y.history; happens = rw at (inr (c.in-Err.cause, t.0, refl, refl)); stood = t.1 })))
 
 pub returns-in_default-clause-device : goal.returns-in_default-clause-device
 returns-in_default-clause-device g c = counted_stay g.N.Node.failed c.args.nodes.now.items c.args.node (Refused NoNode) no_node_not
@@ -32,10 +37,12 @@ pub returns-in-Ok-clause-device : goal.returns-in-Ok-clause-device
 returns-in-Ok-clause-device g c =
     let lt : c.in-Some.at < length c.args.nodes.now.items = omega (arith, c.in-Some.ensures.found.1, c.len.ensures) in
     let r = c.in-Ok.ensures in
-    counted_step g.N.Node.failed c.args.nodes.now.items c.reopened.new.nodes.items c.in-Some.at c.args.node r.before r.after Restarted lt r.was r.now c.in-Some.ensures.found.0 r.goes.0.0 (λ t. absurd (restarted_not t))
+    counted_step g.N.Node.failed c.args.nodes.now.items c.reopened.new.nodes.items c.in-Some.at c.args.node r.before r.after Restarted lt r.was r.now c.in-Some.ensures.found.0 r.goes.0.0
+    (λ t. absurd (restarted_not t))
 
 pub returns-in-Err-clause-device : goal.returns-in-Err-clause-device
 returns-in-Err-clause-device g c =
     let lt : c.in-Some.at < length c.args.nodes.now.items = omega (arith, c.in-Some.ensures.found.1, c.len.ensures) in
     let r = c.in-Err.ensures in
-    counted_step g.N.Node.failed c.args.nodes.now.items c.reopened.new.nodes.items c.in-Some.at c.args.node r.before r.after (IsDown c.in-Err.cause) lt r.was r.now c.in-Some.ensures.found.0 r.goes.0.0 (λ t. r.goes.0.1 (ap Err (tells_down c.in-Err.cause t)))
+    counted_step g.N.Node.failed c.args.nodes.now.items c.reopened.new.nodes.items c.in-Some.at c.args.node r.before r.after
+    (IsDown c.in-Err.cause) lt r.was r.now c.in-Some.ensures.found.0 r.goes.0.0 (λ t. r.goes.0.1 (ap Err (tells_down c.in-Err.cause t)))

@@ -13,33 +13,46 @@ returns-in-Err-clause-step g c = λ sent.
 
 pub returns-in-Err-clause-device : goal.returns-in-Err-clause-device
 returns-in-Err-clause-device g c = λ sent.
-    counted_stay g.N.Node.failed c.args.nodes.now.items c.args.node (Refused c.in-Err.why) (away_not g.N.Node.stands c.args.nodes.now.items c.args.node c.args.arrived c.in-Err.why sent (rw c.deref.ensures.value at c.in-Err.ensures.away))
+    counted_stay g.N.Node.failed c.args.nodes.now.items c.args.node (Refused c.in-Err.why)
+    (away_not g.N.Node.stands c.args.nodes.now.items c.args.node c.args.arrived c.in-Err.why sent (rw c.deref.ensures.value at c.in-Err.ensures.away))
 
 pub returns-in-Ok-reopened-clause-step : goal.returns-in-Ok-reopened-clause-step
 returns-in-Ok-reopened-clause-step g c = λ sent.
     let ready = rw c.deref.ensures.value at c.in-Ok.ensures.ready in
     let r = c.in-Ok-reopened.ensures in
-    subst (λ (ys : List _). Goes g.N.Node.clean g.N.Node.stands (λ (z : Shelf). arriving z sent ≡ shown_arrived c.args.arrived) c.args.nodes.now.items ys (StopBefore c.args.node sent) Stopped) (sym r.now)
-    (goes_ready g.N.Node.clean g.N.Node.stands (λ (z : Shelf). arriving z sent ≡ shown_arrived c.args.arrived) c.args.nodes.now.items c.in-Ok.ready.0 r.before r.after c.args.node (StopBefore c.args.node sent) Stopped ready.0 r.was r.still
+    subst (λ (ys : List _). Goes g.N.Node.clean g.N.Node.stands (λ (z : Shelf). arriving z sent ≡ shown_arrived c.args.arrived) c.args.nodes.now.items ys (StopBefore c.args.node sent) Stopped)
+    (sym r.now)
+    (goes_ready g.N.Node.clean g.N.Node.stands (λ (z : Shelf). arriving z sent ≡ shown_arrived c.args.arrived) c.args.nodes.now.items c.in-Ok.ready.0 r.before r.after c.args.node
+    (StopBefore c.args.node sent) Stopped ready.0 r.was r.still
     (λ w y s at up k stood. record { up = true; history = y.history; happens = rw (at, (s ∙ ap shown_arrived ready.1), up) (inl (refl, refl)); stood = r.goes.1 true y.history k stood }))
 
 pub returns-in-Err-reopened-clause-step : goal.returns-in-Err-reopened-clause-step
 returns-in-Err-reopened-clause-step g c = λ sent.
     let ready = rw c.deref.ensures.value at c.in-Ok.ensures.ready in
     let r = c.in-Err-reopened.ensures in
-    subst (λ (ys : List _). Goes g.N.Node.clean g.N.Node.stands (λ (z : Shelf). arriving z sent ≡ shown_arrived c.args.arrived) c.args.nodes.now.items ys (StopBefore c.args.node sent) (IsDown c.in-Err-reopened.cause)) (sym r.now)
-    (goes_ready g.N.Node.clean g.N.Node.stands (λ (z : Shelf). arriving z sent ≡ shown_arrived c.args.arrived) c.args.nodes.now.items c.in-Ok.ready.0 r.before r.after c.args.node (StopBefore c.args.node sent) (IsDown c.in-Err-reopened.cause) ready.0 r.was r.still
-    (λ w y s at up k stood. (let t = r.goes.1 true y.history k stood in record { up = false; history = y.history; happens = rw (at, (s ∙ ap shown_arrived ready.1), up) (inr (c.in-Err-reopened.cause, t.0, refl, refl)); stood = t.1 })))
+    subst (λ (ys : List _). Goes g.N.Node.clean g.N.Node.stands (λ (z : Shelf). arriving z sent ≡ shown_arrived c.args.arrived) c.args.nodes.now.items ys (StopBefore c.args.node sent)
+    (IsDown c.in-Err-reopened.cause)) (sym r.now)
+    (goes_ready g.N.Node.clean g.N.Node.stands (λ (z : Shelf). arriving z sent ≡ shown_arrived c.args.arrived) c.args.nodes.now.items c.in-Ok.ready.0 r.before r.after c.args.node
+    (StopBefore c.args.node sent) (IsDown c.in-Err-reopened.cause) ready.0 r.was r.still
+    (λ w y s at up k stood. (let t = r.goes.1 true y.history k stood in record {
+      up = false;
+      history = y.history;
+      happens = rw (at, (s ∙ ap shown_arrived ready.1), up)
+          (inr (c.in-Err-reopened.cause, t.0, refl, refl));
+      stood = t.1;
+    })))
 
 pub returns-in-Ok-reopened-clause-device : goal.returns-in-Ok-reopened-clause-device
 returns-in-Ok-reopened-clause-device g c = λ sent.
     let ready = rw c.deref.ensures.value at c.in-Ok.ensures.ready in
     let r = c.in-Ok-reopened.ensures in
-    counted_step g.N.Node.failed c.args.nodes.now.items c.reopened.new.nodes.items c.in-Ok.ready.0 c.args.node r.before r.after Stopped ready.0.within r.was r.now (next ready.0.number) r.goes.0.0 (λ t. absurd (stopped_not t))
+    counted_step g.N.Node.failed c.args.nodes.now.items c.reopened.new.nodes.items c.in-Ok.ready.0 c.args.node r.before r.after Stopped ready.0.within r.was r.now (next ready.0.number) r.goes.0.0
+    (λ t. absurd (stopped_not t))
 
 pub returns-in-Err-reopened-clause-device : goal.returns-in-Err-reopened-clause-device
 returns-in-Err-reopened-clause-device g c = λ sent.
     let ready = rw c.deref.ensures.value at c.in-Ok.ensures.ready in
     let r = c.in-Err-reopened.ensures in
-    counted_step g.N.Node.failed c.args.nodes.now.items c.reopened.new.nodes.items c.in-Ok.ready.0 c.args.node r.before r.after (IsDown c.in-Err-reopened.cause) ready.0.within r.was r.now (next ready.0.number) r.goes.0.0
+    counted_step g.N.Node.failed c.args.nodes.now.items c.reopened.new.nodes.items c.in-Ok.ready.0 c.args.node r.before r.after (IsDown c.in-Err-reopened.cause) ready.0.within r.was r.now
+    (next ready.0.number) r.goes.0.0
     (λ t. r.goes.0.1 (ap Err (tells_down c.in-Err-reopened.cause t)))

@@ -7,7 +7,8 @@ returns g c = record {
   before = c.remove.result;
   after = c.stop_after-node.result.0;
   was = c.remove.ensures.value;
-  now = c.put_back.ensures ∙ ap (λ xs. insert xs c.args.at c.stop_after-node.result.0) c.remove.ensures.items ∙ insert-remove c.args.nodes.now.items c.args.at c.stop_after-node.result.0 (omega (arith, c.requires.within, c.args.nodes.now.ok.0));
+  now = c.put_back.ensures ∙ ap (λ xs. insert xs c.args.at c.stop_after-node.result.0) c.remove.ensures.items ∙ insert-remove c.args.nodes.now.items c.args.at c.stop_after-node.result.0
+      (omega (arith, c.requires.within, c.args.nodes.now.ok.0));
   still = c.stop_after-node.ensures.clean;
   goes = (c.stop_after-node.ensures.device, λ h clean stood. c.stop_after-node.ensures.right h clean stood);
 }

@@ -11,7 +11,12 @@ returns-in-Ok-show_all-clause-shown g c = λ all.
     (let clean = rw c.of.ensures.keepers at all in
     let r = c.in-Ok-show_all.ensures.shown (c.keepers_back.ensures.clean clean) in
     let same = c.in_ok-nodes.nodes.ok.0 ∙ c.in_ok-nodes.ensures.count in
-    rw (c.of.ensures.lines, c.of.ensures.keepers) (r.0, subst (λ (n : ℕ). Shows (start n) (map shown_event c.args.events.now) (map shown_line c.in-Ok-show_all.lines.items) r.0) same r.1, c.keepers_back.ensures.kept clean r.0 r.2))
+    rw (c.of.ensures.lines, c.of.ensures.keepers) (
+      r.0,
+      subst (λ (n : ℕ). Shows (start n) (map shown_event c.args.events.now)
+          (map shown_line c.in-Ok-show_all.lines.items) r.0) same r.1,
+      c.keepers_back.ensures.kept clean r.0 r.2,
+    ))
 
 pub returns-in-Ok-show_all-clause-headline : goal.returns-in-Ok-show_all-clause-headline
 returns-in-Ok-show_all-clause-headline g c = λ all.
@@ -27,5 +32,7 @@ returns-in-Ok-show_all-clause-device g c =
     let told = IsToldOf (map shown_event c.args.events.now) (map shown_line c.in-Ok-show_all.lines.items) in
     let begun = c.in_ok-nodes.ensures.counted in
     let gone = counted_then (λ _. ⊥) told g.K.Keep.failed failed failed 1 c.args.keepers.items c.in_ok-nodes.nodes.items c.in-Ok-show_all.nodes.items begun c.in-Ok-show_all.ensures.device in
-    let ended = counted_then (λ i. ⊥ ⊎ told i) (λ _. ⊥) g.K.Keep.failed failed g.K.Keep.failed 1 c.args.keepers.items c.in-Ok-show_all.nodes.items c.keepers_back.result.items gone c.keepers_back.ensures.counted in
-    rw (c.of.ensures.lines, c.of.ensures.keepers) (counted_as (λ i. (⊥ ⊎ told i) ⊎ ⊥) told g.K.Keep.failed g.K.Keep.failed 1 c.args.keepers.items c.keepers_back.result.items (λ i t. inl (inr t)) ended)
+    let ended = counted_then (λ i. ⊥ ⊎ told i)
+    (λ _. ⊥) g.K.Keep.failed failed g.K.Keep.failed 1 c.args.keepers.items c.in-Ok-show_all.nodes.items c.keepers_back.result.items gone c.keepers_back.ensures.counted in
+    rw (c.of.ensures.lines, c.of.ensures.keepers) (counted_as (λ i. (⊥ ⊎ told i) ⊎ ⊥) told g.K.Keep.failed g.K.Keep.failed 1 c.args.keepers.items c.keepers_back.result.items
+    (λ i t. inl (inr t)) ended)

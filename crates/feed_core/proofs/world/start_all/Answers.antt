@@ -26,7 +26,18 @@ returns-in-Err-clause-start g c = elim c.not_started.ensures [
 ]
 
 pub returns-clause-count : goal.returns-clause-count
-returns-clause-count g c = omega (arith, went_count (λ k s. g.K.Keep.failed k ≤ slot_failed g.K.Keep.failed s) c.args.keepers.items c.loop-keeper.keeper-iterator.rest.items c.loop-keeper.nodes.items c.loop-keeper.invariant.so, c.loop-keeper.keeper-iterator.rest.ok.0, c.in-None.ensures.steps.0, c.args.keepers.ok.0)
+returns-clause-count g c =
+    omega (
+      arith,
+      went_count
+          (λ k s. g.K.Keep.failed k ≤ slot_failed g.K.Keep.failed s) c.args.keepers.items c.loop-keeper.keeper-iterator.rest.items c.loop-keeper.nodes.items c.loop-keeper.invariant.so,
+      c.loop-keeper.keeper-iterator.rest.ok.0,
+      c.in-None.ensures.steps.0,
+      c.args.keepers.ok.0,
+    )
 
 pub returns-clause-counted : goal.returns-clause-counted
-returns-clause-counted g c = counted_of g.K.Keep.failed (slot_failed g.K.Keep.failed) 1 c.args.keepers.items c.loop-keeper.nodes.items (went_all (λ k s. g.K.Keep.failed k ≤ slot_failed g.K.Keep.failed s) c.args.keepers.items c.loop-keeper.keeper-iterator.rest.items c.loop-keeper.nodes.items c.loop-keeper.invariant.so (nil_from_length c.loop-keeper.keeper-iterator.rest.items (omega (arith, c.loop-keeper.keeper-iterator.rest.ok.0, c.in-None.ensures.steps.0))))
+returns-clause-counted g c =
+    counted_of g.K.Keep.failed (slot_failed g.K.Keep.failed) 1 c.args.keepers.items c.loop-keeper.nodes.items
+    (went_all (λ k s. g.K.Keep.failed k ≤ slot_failed g.K.Keep.failed s) c.args.keepers.items c.loop-keeper.keeper-iterator.rest.items c.loop-keeper.nodes.items c.loop-keeper.invariant.so
+    (nil_from_length c.loop-keeper.keeper-iterator.rest.items (omega (arith, c.loop-keeper.keeper-iterator.rest.ok.0, c.in-None.ensures.steps.0))))

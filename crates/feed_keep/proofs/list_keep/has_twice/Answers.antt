@@ -6,7 +6,11 @@ pub loop-at-init : goal.loop-at-init
 loop-at-init c = λ i j d less lt within. absurd (omega (arith, lt))
 
 pub returns-in-Some : goal.returns-in-Some
-returns-in-Some c = (λ e. absurd (cc), λ distinct. absurd (twice_not c.args.records.now c.loop-at.at c.in-Some.field-0 c.index-records-at.result c.loop-at-test.true c.index-records-at.is c.in-Some.ensures.found distinct))
+returns-in-Some c = (
+  λ e. absurd (cc),
+  λ distinct. absurd
+      (twice_not c.args.records.now c.loop-at.at c.in-Some.field-0 c.index-records-at.result c.loop-at-test.true c.index-records-at.is c.in-Some.ensures.found distinct),
+)
 
 pub loop-at-preserved : goal.loop-at-preserved
 loop-at-preserved c = apart_next c.args.records.now c.loop-at.at c.index-records-at.result c.loop-at.invariant c.loop-at-test.true c.index-records-at.is c.in_default.ensures.none

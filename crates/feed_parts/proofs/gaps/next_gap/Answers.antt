@@ -6,8 +6,11 @@ use Rattle.feed_parts.proofs.gaps.next_gap.Goals as goal
 use Rattle.feed_parts.proofs.gaps.next_gap.Goals.{After-part-item}
 
 -- the part of this turn stands first in the rest
-at_part : (c : After-part-item) → IsFilled c.args.size (shown_parts c.args.parts.now) c.loop-part.place (shown_part c.part-item.result ∷ shown_parts (drop (c.loop-part.part-index + 1) c.args.parts.now))
-at_part c = subst (IsFilled c.args.size (shown_parts c.args.parts.now) c.loop-part.place) (next c.args.parts.now c.loop-part.part-index c.part-item.result c.loop-part-test.true c.part-item.is) c.loop-part.invariant
+at_part : (c : After-part-item)
+    → IsFilled c.args.size (shown_parts c.args.parts.now) c.loop-part.place (shown_part c.part-item.result ∷ shown_parts (drop (c.loop-part.part-index + 1) c.args.parts.now))
+at_part c =
+    subst (IsFilled c.args.size (shown_parts c.args.parts.now) c.loop-part.place)
+    (next c.args.parts.now c.loop-part.part-index c.part-item.result c.loop-part-test.true c.part-item.is) c.loop-part.invariant
 
 pub loop-part-init : goal.loop-part-init
 loop-part-init c = filled_start c.args.size (shown_parts c.args.parts.now) c.requires.within

@@ -19,7 +19,8 @@ merge_runs-requires c =
     let len : length old ≡ kept = omega (arith, c.len-kept.ensures, c.args.parts.now.ok.0) in
     record {
       within = omega (arith, ap length is, length-append old new);
-      front = subst (IsNonDecreasingBy (λ p. p.first)) (sym (ap (take kept) is ∙ take_at old new kept len)) (starts_rise 0 old (parts_from_merged 0 (shown_parts old) (shown_parts new) c.requires.apart));
+      front = subst (IsNonDecreasingBy (λ p. p.first)) (sym (ap (take kept) is ∙ take_at old new kept len))
+          (starts_rise 0 old (parts_from_merged 0 (shown_parts old) (shown_parts new) c.requires.apart));
       back = subst (IsNonDecreasingBy (λ p. p.first)) (sym (ap (drop kept) is ∙ drop_at old new kept len)) (starts_rise 0 new c.requires.order);
     }
 

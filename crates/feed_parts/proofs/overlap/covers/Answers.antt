@@ -10,8 +10,11 @@ use Rattle.feed_parts.proofs.Left.{IsLeft, left_starts, left_ends, left_missing,
 use Rattle.feed_parts.proofs.overlap.covers.Goals as goal
 use Rattle.feed_parts.proofs.overlap.covers.Goals.{After-part-item}
 
-at_part : (c : After-part-item) → IsLeft c.args.size (c.args.first + length c.args.bytes.now) (shown_parts c.args.parts.now) c.loop-part.place (shown_part c.part-item.result ∷ shown_parts (drop (c.loop-part.part-index + 1) c.meeting-part-items.result.now))
-at_part c = subst (IsLeft c.args.size (c.args.first + length c.args.bytes.now) (shown_parts c.args.parts.now) c.loop-part.place) (next c.meeting-part-items.result.now c.loop-part.part-index c.part-item.result c.loop-part-test.true c.part-item.is) c.loop-part.invariant.left
+at_part : (c : After-part-item)
+    → IsLeft c.args.size (c.args.first + length c.args.bytes.now) (shown_parts c.args.parts.now) c.loop-part.place (shown_part c.part-item.result ∷ shown_parts (drop (c.loop-part.part-index + 1) c.meeting-part-items.result.now))
+at_part c =
+    subst (IsLeft c.args.size (c.args.first + length c.args.bytes.now) (shown_parts c.args.parts.now) c.loop-part.place)
+    (next c.meeting-part-items.result.now c.loop-part.part-index c.part-item.result c.loop-part-test.true c.part-item.is) c.loop-part.invariant.left
 
 -- a place of the piece that is missing
 lacks : (all : List Part) (first : ℕ) (bytes : List ℕ) (place : ℕ) → first ≤ place → place < first + length bytes → byte_in all place ≡ None → HasNew all first bytes
@@ -54,7 +57,8 @@ returns-then-place-part c =
     let below : c.loop-part.place < end = omega (arith, starts, c.if-place-part.true) in
     record {
       covers = λ t. absurd (cc t);
-      new = λ e. lacks all c.args.first c.args.bytes.now c.loop-part.place c.loop-part.invariant.from below (left_missing c.args.size end all c.loop-part.place part rest left c.loop-part.place (omega arith) below c.if-place-part.true);
+      new = λ e. lacks all c.args.first c.args.bytes.now c.loop-part.place c.loop-part.invariant.from below
+          (left_missing c.args.size end all c.loop-part.place part rest left c.loop-part.place (omega arith) below c.if-place-part.true);
     }
 
 pub returns : goal.returns

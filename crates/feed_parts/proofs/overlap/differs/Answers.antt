@@ -16,7 +16,8 @@ returns-then-low-high c =
     let same = ap (λ bytes. (cut part.first bytes low high).bytes) c.deref.ensures.value in
     let is : c.ne.result ≡ not (pointwise eqb xs ys) = c.ne.ensures ∙ ap₂ (λ us vs. not (pointwise eqb us vs)) (c.slice_at.ensures ∙ same) c.slice_at-then-low-high.ensures in
     record {
-      differs = λ t. cut_differs part c.args.first c.args.bytes.now low high (omega arith) (omega arith) (omega (arith, c.args.part.now.bytes.ok.0)) (omega arith) c.if-low-high.true (not-true _ (sym is ∙ t));
+      differs = λ t. cut_differs part c.args.first c.args.bytes.now low high (omega arith) (omega arith) (omega (arith, c.args.part.now.bytes.ok.0)) (omega arith) c.if-low-high.true
+          (not-true _ (sym is ∙ t));
       agrees = λ e. cut_agrees part c.args.first c.args.bytes.now low high (omega arith) (omega arith) (omega (arith, c.args.part.now.bytes.ok.0)) (omega arith)
           (not-false _ (sym is ∙ e)) (λ place a b f g. (omega arith, omega (arith, c.args.part.now.bytes.ok.0)));
     }

@@ -11,14 +11,17 @@ split_from c = IsPartitionPoint-from_clause (λ p. leb (code_end p) c.args.first
     (IsPartitionedBy-leb code_end c.args.parts.now c.args.first (ends_rise 0 c.args.parts.now c.requires.within.parts))
     (λ a r q k. search rules)
 
-split_to : (c : After-partition_point-to) → IsPartitionPoint (λ p. ltb p.first c.args.end ≡ true) (λ p. ltb p.first c.args.end ≡ false) (drop c.partition_point-from.result c.args.parts.now) c.partition_point-to.result
+split_to : (c : After-partition_point-to)
+    → IsPartitionPoint (λ p. ltb p.first c.args.end ≡ true) (λ p. ltb p.first c.args.end ≡ false) (drop c.partition_point-from.result c.args.parts.now) c.partition_point-to.result
 split_to c =
     let rest = drop c.partition_point-from.result c.args.parts.now in
     let same = take_rest c.args.parts.now c.partition_point-from.result in
     let order = rest_order c.args.size c.args.first c.args.end c.args.parts.now c.requires.within c.requires.small c.partition_point-from.result in
     subst (λ ps. IsPartitionPoint (λ p. ltb p.first c.args.end ≡ true) (λ p. ltb p.first c.args.end ≡ false) ps c.partition_point-to.result) same
-    (IsPartitionPoint-from_clause (λ p. ltb p.first c.args.end) (take (length c.args.parts.now - c.partition_point-from.result) rest) c.partition_point-to.result c.partition_point-to.ensures.partitioned
-    (IsPartitionedBy-ltb (λ p. p.first) (take (length c.args.parts.now - c.partition_point-from.result) rest) c.args.end (starts_rise 0 (take (length c.args.parts.now - c.partition_point-from.result) rest) (rw same order.parts)))
+    (IsPartitionPoint-from_clause (λ p. ltb p.first c.args.end) (take
+    (length c.args.parts.now - c.partition_point-from.result) rest) c.partition_point-to.result c.partition_point-to.ensures.partitioned
+    (IsPartitionedBy-ltb (λ p. p.first) (take (length c.args.parts.now - c.partition_point-from.result) rest) c.args.end
+    (starts_rise 0 (take (length c.args.parts.now - c.partition_point-from.result) rest) (rw same order.parts)))
     (λ a r q k. search rules))
 
 pub returns : goal.returns
@@ -37,5 +40,6 @@ returns c =
     record {
       order = rw same (front_order size first end rest order c.requires.small to);
       begins = rw same (front_starts size first end rest order c.requires.small to high.0);
-      same = λ place le lt. rw same (front_bytes size first end rest order c.requires.small to high.1 place lt ∙ rest_bytes size first end parts c.requires.within c.requires.small from low.0 place le);
+      same = λ place le lt. rw same (front_bytes size first end rest order c.requires.small to high.1 place lt
+          ∙ rest_bytes size first end parts c.requires.within c.requires.small from low.0 place le);
     }

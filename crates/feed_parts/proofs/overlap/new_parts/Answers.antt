@@ -12,8 +12,11 @@ use Rattle.feed_parts.proofs.Counting.{missing_merged, none_missing}
 use Rattle.feed_parts.proofs.overlap.new_parts.Goals as goal
 use Rattle.feed_parts.proofs.overlap.new_parts.Goals.{After-part-item}
 
-at_part : (c : After-part-item) → IsLeft c.args.size (c.args.first + length c.args.bytes.now) (shown_parts c.args.parts.now) c.loop-part.place (shown_part c.part-item.result ∷ shown_parts (drop (c.loop-part.part-index + 1) c.meeting-part-items.result.now))
-at_part c = subst (IsLeft c.args.size (c.args.first + length c.args.bytes.now) (shown_parts c.args.parts.now) c.loop-part.place) (next c.meeting-part-items.result.now c.loop-part.part-index c.part-item.result c.loop-part-test.true c.part-item.is) c.loop-part.invariant.left
+at_part : (c : After-part-item)
+    → IsLeft c.args.size (c.args.first + length c.args.bytes.now) (shown_parts c.args.parts.now) c.loop-part.place (shown_part c.part-item.result ∷ shown_parts (drop (c.loop-part.part-index + 1) c.meeting-part-items.result.now))
+at_part c =
+    subst (IsLeft c.args.size (c.args.first + length c.args.bytes.now) (shown_parts c.args.parts.now) c.loop-part.place)
+    (next c.meeting-part-items.result.now c.loop-part.part-index c.part-item.result c.loop-part-test.true c.part-item.is) c.loop-part.invariant.left
 
 pub loop-part-init : goal.loop-part-init
 loop-part-init c = record {
@@ -30,7 +33,8 @@ pub push_cut-requires-clause-high : goal.push_cut-requires-clause-high
 push_cut-requires-clause-high c =
     let end = c.args.first + length c.args.bytes.now in
     let rest = shown_parts (drop (c.loop-part.part-index + 1) c.meeting-part-items.result.now) in
-    let starts = left_starts c.args.size end (shown_parts c.args.parts.now) c.loop-part.place (shown_part c.part-item.result) rest (at_part (goal.at.push_cut-requires-clause-high c).After-part-item) in
+    let starts = left_starts c.args.size end (shown_parts c.args.parts.now) c.loop-part.place (shown_part c.part-item.result) rest
+    (at_part (goal.at.push_cut-requires-clause-high c).After-part-item) in
     omega (arith, starts)
 
 pub loop-part-preserved : goal.loop-part-preserved
@@ -48,11 +52,13 @@ loop-part-preserved c =
     let starts = left_starts size end all place part rest left in
     let ends = end_is c.part-item.result c.end_of.result size c.end_of.ensures (left_ends size end all place part rest left) c.requires.small in
     let next_place : c.max-place.result ≡ max place (end_of part) = c.max-place.ensures ∙ ap (max place) ends in
-    let more = fresh_more size first bytes all c.requires.inside c.requires.piece place new c.loop-part.invariant.so_far part.first c.loop-part.invariant.from (omega (arith, starts)) (λ at from lt. left_missing size end all place part rest left at from (omega (arith, starts)) lt) in
+    let more = fresh_more size first bytes all c.requires.inside c.requires.piece place new c.loop-part.invariant.so_far part.first c.loop-part.invariant.from (omega (arith, starts))
+    (λ at from lt. left_missing size end all place part rest left at from (omega (arith, starts)) lt) in
     record {
       from = omega (arith, c.loop-part.invariant.from, next_place);
       left = left_next size end all place part rest left c.max-place.result (omega (arith, next_place)) (omega (arith, next_place));
-      so_far = rw c.in_ok-push_cut.ensures (fresh_past size first bytes all c.requires.inside c.requires.piece (max place part.first) (new ++ cuts first bytes place part.first) more c.max-place.result (omega (arith, next_place))
+      so_far = rw c.in_ok-push_cut.ensures (fresh_past size first bytes all c.requires.inside c.requires.piece (max place part.first)
+          (new ++ cuts first bytes place part.first) more c.max-place.result (omega (arith, next_place))
           (λ at from lt below. left_kept size end all place part rest left at (omega arith) below (omega arith) (omega (arith, next_place))));
     }
 
@@ -66,7 +72,8 @@ returns c =
     let place = c.loop-part.place in
     let new = shown_parts c.loop-part.new.items in
     let left = subst (IsLeft size end all place) (finished c.meeting-part-items.result.now c.loop-part.part-index c.loop-part-test.false) c.loop-part.invariant.left in
-    let more = fresh_more size first bytes all c.requires.inside c.requires.piece place new c.loop-part.invariant.so_far end c.loop-part.invariant.from (omega arith) (λ at from lt. left_none size end all place left at from lt) in
+    let more = fresh_more size first bytes all c.requires.inside c.requires.piece place new c.loop-part.invariant.so_far end c.loop-part.invariant.from (omega arith)
+    (λ at from lt. left_none size end all place left at from lt) in
     let longer = new ++ cuts first bytes place end in
     let is : shown_parts c.push_cut-2.new.new.items ≡ longer = c.in_ok-push_cut-2.ensures in
     let adds : Adds size all first bytes (shown_parts c.push_cut-2.new.new.items) = rw is (fresh_adds size first bytes all (max place end) longer c.requires.within more (omega arith)) in

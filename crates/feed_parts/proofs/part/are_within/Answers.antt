@@ -11,8 +11,11 @@ positive zero m e some = absurd (some refl)
 positive (suc n) m e some = omega (arith, e)
 
 -- the part of this turn stands first in the rest
-at_part : (c : After-part-item) → IsChecked c.args.size (shown_parts c.args.parts.now) c.loop-part.place (shown_part c.part-item.result ∷ shown_parts (drop (c.loop-part.part-index + 1) c.args.parts.now))
-at_part c = subst (IsChecked c.args.size (shown_parts c.args.parts.now) c.loop-part.place) (next c.args.parts.now c.loop-part.part-index c.part-item.result c.loop-part-test.true c.part-item.is) c.loop-part.invariant
+at_part : (c : After-part-item)
+    → IsChecked c.args.size (shown_parts c.args.parts.now) c.loop-part.place (shown_part c.part-item.result ∷ shown_parts (drop (c.loop-part.part-index + 1) c.args.parts.now))
+at_part c =
+    subst (IsChecked c.args.size (shown_parts c.args.parts.now) c.loop-part.place)
+    (next c.args.parts.now c.loop-part.part-index c.part-item.result c.loop-part-test.true c.part-item.is) c.loop-part.invariant
 
 pub returns-then-length-saturating_sub : goal.returns-then-length-saturating_sub
 returns-then-length-saturating_sub c =

@@ -3,7 +3,9 @@ use Rattle.feed_core.proofs.Shelves.{shelf_more, published_again, republished, p
 use Rattle.feed_core.proofs.shelf.Shelf.publish.Goals as goal
 
 pub returns-then-not-is_same : goal.returns-then-not-is_same
-returns-then-not-is_same c w is = republished c.args.self.now.files.entries w c.args.name.now c.in-Some.file.now c.args.bytes.now is (c.in-Some.ensures w.shelf is) (λ same. (let t = c.is_same.ensures.1 same in let f = c.if-not-is_same.true in cc))
+returns-then-not-is_same c w is =
+    republished c.args.self.now.files.entries w c.args.name.now c.in-Some.file.now c.args.bytes.now is (c.in-Some.ensures w.shelf is)
+    (λ same. (let t = c.is_same.ensures.1 same in let f = c.if-not-is_same.true in cc))
 
 pub returns-in-Some : goal.returns-in-Some
 returns-in-Some c w is = published_again c.args.self.now.files.entries w c.args.name.now c.in-Some.file.now c.args.bytes.now is (c.in-Some.ensures w.shelf is) (c.is_same.ensures.0 (search rules))

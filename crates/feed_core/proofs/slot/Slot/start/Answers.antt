@@ -7,7 +7,8 @@ use Rattle.feed_model.proofs.Soundness.{sound_empty}
 use Rattle.feed_core.proofs.slot.Slot.start.Goals as goal
 
 -- an empty content is no damaged one
-refused : (cause : KeepFault) (failed clean : Type 0) (content : Content) → (cause ≡ Device → failed) → (cause ≡ Damaged → clean → ¬ (IsSound content)) → cause ≢ Memory → failed ⊎ (clean → content ≢ [])
+refused : (cause : KeepFault) (failed clean : Type 0) (content : Content) → (cause ≡ Device → failed) → (cause ≡ Damaged → clean → ¬ (IsSound content)) → cause ≢ Memory
+    → failed ⊎ (clean → content ≢ [])
 refused Memory failed clean content device damaged other = absurd (other refl)
 refused Device failed clean content device damaged other = inl (device refl)
 refused Damaged failed clean content device damaged other = inr (λ c empty. damaged refl c (subst IsSound (sym empty) sound_empty))

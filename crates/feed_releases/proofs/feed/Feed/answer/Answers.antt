@@ -9,7 +9,8 @@ returns-in_default g c h is = reports_none c.args.self.now.releases.items h c.ar
 pub returns-in_default-holdings : goal.returns-in_default-holdings
 returns-in_default-holdings g c h is =
     let found = rw c.deref.ensures.value at c.in-Some.ensures.found in
-    absurd (has_holdings c.args.self.now.releases.items c.args.«package».now c.in-Some.at c.index.result.now found.1 c.index.ensures c.holdings.ensures.known (sym c.holdings.ensures.value ∙ c.in_default-holdings.is))
+    absurd (has_holdings c.args.self.now.releases.items c.args.«package».now c.in-Some.at c.index.result.now found.1 c.index.ensures c.holdings.ensures.known
+    (sym c.holdings.ensures.value ∙ c.in_default-holdings.is))
 
 pub returns-in-Ok : goal.returns-in-Ok
 returns-in-Ok g c h is =

@@ -26,7 +26,8 @@ returns-else-size-2 g c =
     let rs = c.args.self.now.releases.items in
     let free = none_later rs c.args.name.now (rw c.deref.ensures.value at (c.if-is_passed.ensures.none refl)) in
     let found = found_at rs c.args.name.now c.in-Some.at c.index.result.now (rw c.deref-2.ensures.value at c.in-Some.ensures.found) in
-    idle c.args.self.now c.args.self.now _ _ refl refl (λ e. cc) (offer_wrong_size (content_of rs) c.args.name.now c.args.size (get_or rs c.in-Some.at c.index.result.now).kept c.if-size.false free found
+    idle c.args.self.now c.args.self.now _ _ refl refl (λ e. cc) (offer_wrong_size (content_of rs) c.args.name.now c.args.size
+    (get_or rs c.in-Some.at c.index.result.now).kept c.if-size.false free found
     (λ e. c.if-size-2.false (c.size.ensures.value ∙ ap (λ (r : ReleaseValue). r.kept.size) c.index.ensures ∙ e)))
 
 pub returns-then-len-ge-RELEASE_LIMIT : goal.returns-then-len-ge-RELEASE_LIMIT
@@ -44,7 +45,8 @@ returns-in_err-add g c =
     let none = rw c.deref-2.ensures.value at c.in_default.ensures.none in
     let p = err_from_is_err_and c.from_residual.result c.from_residual.ensures.1 in
     rw (p.1, p.2) (refused_with c.args.self.now c.add.new.self _ c.in_err-add.field-0.0 c.in_err-add.ensures.same c.in_err-add.ensures.clean (told_as c.in_err-add.ensures.counted (λ e. cc) (λ e. cc))
-    (offer_refused (content_of rs) c.args.name.now c.args.size _ c.if-size.false free none (omega (arith, length-content_of rs, c.len.ensures)) (refused c.in_err-add.field-0.0 c.in_err-add.ensures.fault)))
+    (offer_refused (content_of rs) c.args.name.now c.args.size _ c.if-size.false free none (omega (arith, length-content_of rs, c.len.ensures))
+    (refused c.in_err-add.field-0.0 c.in_err-add.ensures.fault)))
 
 pub returns-then-size-eq0 : goal.returns-then-size-eq0
 returns-then-size-eq0 g c =
@@ -52,7 +54,8 @@ returns-then-size-eq0 g c =
     let free = none_later rs c.args.name.now (rw c.deref.ensures.value at (c.if-is_passed.ensures.none refl)) in
     let none = rw c.deref-2.ensures.value at c.in_default.ensures.none in
     record {
-      right = rw c.in_ok-add.ensures.added (offer_noted_empty (content_of rs) c.args.name.now c.args.size c.if-size.false free none (omega (arith, length-content_of rs, c.len.ensures)) c.if-size-eq0.true);
+      right = rw c.in_ok-add.ensures.added (offer_noted_empty (content_of rs) c.args.name.now c.args.size c.if-size.false free none
+          (omega (arith, length-content_of rs, c.len.ensures)) c.if-size-eq0.true);
       refused = tt;
       clean = c.in_ok-add.ensures.clean;
       device = told_as c.in_ok-add.ensures.counted (λ e. cc) (λ e. cc);

@@ -29,7 +29,8 @@ returns-then-is_other g c =
     let r = c.index-release.result.now in
     let found = found_here rs c.args.name.now c.in-Some.at r (rw c.deref-2.ensures.value at c.in-Some.ensures.found) c.index-release.ensures in
     let other = rw c.size-size.ensures.value at (c.if-is_other.ensures.0 refl) in
-    idle c.args.self.now c.args.self.now _ _ refl refl (λ e. cc) (piece_wrong_size (content_of rs) c.args.name.now c.args.first c.args.total c.args.bytes.now r.kept (c.if-not-is_fit.ensures.fit refl) free found other)
+    idle c.args.self.now c.args.self.now _ _ refl refl (λ e. cc) (piece_wrong_size (content_of rs) c.args.name.now c.args.first c.args.total c.args.bytes.now r.kept
+    (c.if-not-is_fit.ensures.fit refl) free found other)
 
 pub returns-then-is_outside : goal.returns-then-is_outside
 returns-then-is_outside g c =
@@ -39,7 +40,8 @@ returns-then-is_outside g c =
     let found = found_here rs c.args.name.now c.in-Some.at r (rw c.deref-2.ensures.value at c.in-Some.ensures.found) c.index-release.ensures in
     let same = rw c.size-size.ensures.value at (sized c.args.total c.size-size.result (λ s. let t = c.if-is_other.ensures.1 s in cc)) in
     let past = c.if-is_outside.ensures.0 refl in
-    idle c.args.self.now c.args.self.now _ _ refl refl (λ e. cc) (piece_outside (content_of rs) c.args.name.now c.args.first c.args.total c.args.bytes.now r.kept (c.if-not-is_fit.ensures.fit refl) free found same
+    idle c.args.self.now c.args.self.now _ _ refl refl (λ e. cc) (piece_outside (content_of rs) c.args.name.now c.args.first c.args.total c.args.bytes.now r.kept
+    (c.if-not-is_fit.ensures.fit refl) free found same
     (omega (arith, past, c.size-size.ensures.value)))
 
 pub take_in-requires-clause-reaches : goal.take_in-requires-clause-reaches
@@ -83,4 +85,5 @@ returns-in-Kept g c =
     let inside : ¬ (c.size-size.result < c.args.first + length c.args.bytes.now) = λ past. (let t = c.if-is_outside.ensures.1 past in cc) in
     let reach = reaches (content_of rs) c.args.name.now c.args.first c.args.total c.args.bytes.now r.kept (c.if-not-is_fit.ensures.fit refl) free found
     (rw c.size-size.ensures.value at other) (rw c.size-size.ensures.value at inside) in
-    idle c.args.self.now c.args.self.now _ _ refl refl (λ e. cc) (piece_repeated (content_of rs) c.args.name.now c.args.first c.args.total c.args.bytes.now r.kept reach c.in-Kept.ensures.0 c.in-Kept.ensures.1)
+    idle c.args.self.now c.args.self.now _ _ refl refl (λ e. cc) (piece_repeated
+    (content_of rs) c.args.name.now c.args.first c.args.total c.args.bytes.now r.kept reach c.in-Kept.ensures.0 c.in-Kept.ensures.1)

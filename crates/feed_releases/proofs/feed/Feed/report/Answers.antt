@@ -9,7 +9,8 @@ returns-in-Some g c h is =
     let rs = c.args.self.now.releases.items in
     let found = rw c.deref.ensures.value at c.in-Some.ensures.found in
     let d = c.index.result.now in
-    rw c.name.ensures (subst (λ (r : ReleaseValue). Reports h c.args.«package».now (Some r.kept.name)) (sym c.index.ensures) (reports_at rs h c.args.«package».now c.in-Some.at d is found.0 (found.1 d)))
+    rw c.name.ensures (subst (λ (r : ReleaseValue). Reports h c.args.«package».now (Some r.kept.name)) (sym c.index.ensures)
+    (reports_at rs h c.args.«package».now c.in-Some.at d is found.0 (found.1 d)))
 
 pub returns-in-None : goal.returns-in-None
 returns-in-None g c h is = reports_none c.args.self.now.releases.items h c.args.«package».now is (rw c.deref.ensures.value at c.in-None.ensures.none)

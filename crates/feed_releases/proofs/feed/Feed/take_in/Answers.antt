@@ -40,7 +40,8 @@ grow-requires-clause-allowed g c =
     let r = c.index_mut.result.now in
     let found = found_here rs n c.args.at r c.requires.place c.index_mut.ensures.value in
     let same = one_at rs c.args.at c.index.result.now r c.requires.place.within c.index.ensures c.index_mut.ensures.value in
-    λ clean. rw (c.args.self.now.mirrors clean) (growth_allowed (content_of rs) n c.args.first c.args.total c.args.bytes.now r.kept c.in_ok-growth.growth (name_at rs n c.args.at r c.requires.place c.index_mut.ensures.value)
+    λ clean. rw (c.args.self.now.mirrors clean) (growth_allowed (content_of rs) n c.args.first c.args.total c.args.bytes.now r.kept c.in_ok-growth.growth
+    (name_at rs n c.args.at r c.requires.place c.index_mut.ensures.value)
     (c.requires.reaches r.kept found) (c.requires.new r.kept found) (rw same at c.in_ok-growth.ensures.growth))
 
 pub returns-in_err-reply : goal.returns-in_err-reply
@@ -62,7 +63,8 @@ invariant_of-self-in-Activated-clause-mirrors g c = λ clean.
     let n = c.args.name.now in
     let r = c.index_mut.result.now in
     let growth = c.in_ok-growth.growth in
-    let grown = grown_at rs n c.args.at r c.grow.new.self (parts_of growth) (state_of growth.standing) c.requires.place c.index_mut.ensures.value (ap (λ (y : ReleaseValue). y.kept) c.in_ok-reply.ensures.taken) in
+    let grown = grown_at rs n c.args.at r c.grow.new.self (parts_of growth) (state_of growth.standing) c.requires.place c.index_mut.ensures.value
+    (ap (λ (y : ReleaseValue). y.kept) c.in_ok-reply.ensures.taken) in
     c.in_ok-reply.ensures.committed.made clean ∙ ap (after (change_of r.kept growth)) (c.args.self.now.mirrors (c.in_ok-reply.ensures.committed.was clean))
     ∙ after_activated n r.kept growth (content_of rs) (name_at rs n c.args.at r c.requires.place c.index_mut.ensures.value) (sym c.in_ok-reply.ensures.reply ∙ c.in-Activated.is)
     ∙ sym (c.drop_earlier.ensures.dropped ∙ ap (without_earlier n) grown)
@@ -77,7 +79,8 @@ invariant_of-self-in_default-clause-mirrors g c = λ clean.
     let n = c.args.name.now in
     let r = c.index_mut.result.now in
     let growth = c.in_ok-growth.growth in
-    let grown = grown_at rs n c.args.at r c.grow.new.self (parts_of growth) (state_of growth.standing) c.requires.place c.index_mut.ensures.value (ap (λ (y : ReleaseValue). y.kept) c.in_ok-reply.ensures.taken) in
+    let grown = grown_at rs n c.args.at r c.grow.new.self (parts_of growth) (state_of growth.standing) c.requires.place c.index_mut.ensures.value
+    (ap (λ (y : ReleaseValue). y.kept) c.in_ok-reply.ensures.taken) in
     c.in_ok-reply.ensures.committed.made clean ∙ ap (after (change_of r.kept growth)) (c.args.self.now.mirrors (c.in_ok-reply.ensures.committed.was clean))
     ∙ after_kept n r.kept growth (content_of rs) (name_at rs n c.args.at r c.requires.place c.index_mut.ensures.value) (λ e. c.in_default.not-Activated (c.in_ok-reply.ensures.reply ∙ e)) ∙ sym grown
 
@@ -93,10 +96,12 @@ returns-in-Activated g c =
     let found = found_here rs n c.args.at r c.requires.place c.index_mut.ensures.value in
     let name = name_at rs n c.args.at r c.requires.place c.index_mut.ensures.value in
     let same = one_at rs c.args.at c.index.result.now r c.requires.place.within c.index.ensures c.index_mut.ensures.value in
-    let grown = grown_at rs n c.args.at r c.grow.new.self (parts_of growth) (state_of growth.standing) c.requires.place c.index_mut.ensures.value (ap (λ (y : ReleaseValue). y.kept) c.in_ok-reply.ensures.taken) in
+    let grown = grown_at rs n c.args.at r c.grow.new.self (parts_of growth) (state_of growth.standing) c.requires.place c.index_mut.ensures.value
+    (ap (λ (y : ReleaseValue). y.kept) c.in_ok-reply.ensures.taken) in
     let content = c.drop_earlier.ensures.dropped ∙ ap (without_earlier n) grown ∙ sym (after_activated n r.kept growth (content_of rs) name (sym c.in_ok-reply.ensures.reply ∙ c.in-Activated.is)) in
     rw c.in_ok-reply.ensures.reply (taken_in c.args.self.now _ _ _ c.in_ok-reply.ensures.committed.was (told_as c.in_ok-reply.ensures.committed.counted (λ e. cc) (λ e. cc))
-    (rw content (growth_right (content_of rs) n c.args.first c.args.total c.args.bytes.now r.kept growth name (c.requires.reaches r.kept found) (c.requires.new r.kept found) (rw same at c.in_ok-growth.ensures.growth))))
+    (rw content (growth_right (content_of rs) n c.args.first c.args.total c.args.bytes.now r.kept growth name (c.requires.reaches r.kept found) (c.requires.new r.kept found)
+    (rw same at c.in_ok-growth.ensures.growth))))
 
 pub returns-in_default : goal.returns-in_default
 returns-in_default g c =
@@ -107,7 +112,9 @@ returns-in_default g c =
     let found = found_here rs n c.args.at r c.requires.place c.index_mut.ensures.value in
     let name = name_at rs n c.args.at r c.requires.place c.index_mut.ensures.value in
     let same = one_at rs c.args.at c.index.result.now r c.requires.place.within c.index.ensures c.index_mut.ensures.value in
-    let grown = grown_at rs n c.args.at r c.grow.new.self (parts_of growth) (state_of growth.standing) c.requires.place c.index_mut.ensures.value (ap (λ (y : ReleaseValue). y.kept) c.in_ok-reply.ensures.taken) in
+    let grown = grown_at rs n c.args.at r c.grow.new.self (parts_of growth) (state_of growth.standing) c.requires.place c.index_mut.ensures.value
+    (ap (λ (y : ReleaseValue). y.kept) c.in_ok-reply.ensures.taken) in
     let content = grown ∙ sym (after_kept n r.kept growth (content_of rs) name (λ e. c.in_default.not-Activated (c.in_ok-reply.ensures.reply ∙ e))) in
     rw c.in_ok-reply.ensures.reply (taken_in c.args.self.now _ _ _ c.in_ok-reply.ensures.committed.was (told_as c.in_ok-reply.ensures.committed.counted (λ e. cc) (λ e. cc))
-    (rw content (growth_right (content_of rs) n c.args.first c.args.total c.args.bytes.now r.kept growth name (c.requires.reaches r.kept found) (c.requires.new r.kept found) (rw same at c.in_ok-growth.ensures.growth))))
+    (rw content (growth_right (content_of rs) n c.args.first c.args.total c.args.bytes.now r.kept growth name (c.requires.reaches r.kept found) (c.requires.new r.kept found)
+    (rw same at c.in_ok-growth.ensures.growth))))

@@ -7,7 +7,9 @@ use Rattle.feed_releases.proofs.feed.reopen.reopened.Goals.{In-None}
 
 -- nothing is left
 all_done : (c : In-None) → AreReopened c.args.records.items c.loop-record.releases.items []
-all_done c = subst (λ (rest : List code.Record). AreReopened c.args.records.items c.loop-record.releases.items rest) (nil_from_length c.loop-record.record-iterator.rest.items (omega (arith, c.loop-record.record-iterator.rest.ok.0, c.in-None.ensures.steps.0))) c.loop-record.invariant.so
+all_done c =
+    subst (λ (rest : List code.Record). AreReopened c.args.records.items c.loop-record.releases.items rest)
+    (nil_from_length c.loop-record.record-iterator.rest.items (omega (arith, c.loop-record.record-iterator.rest.ok.0, c.in-None.ensures.steps.0))) c.loop-record.invariant.so
 
 pub loop-record-init : goal.loop-record-init
 loop-record-init c = record {
@@ -23,7 +25,15 @@ returns-in-Err-clause-err c = elim c.in-Err.ensures.err [
 
 pub push_reserved-requires : goal.push_reserved-requires
 push_reserved-requires c =
-    omega (arith, reopened_count c.args.records.items c.loop-record.record-iterator.rest.items c.loop-record.releases.items c.loop-record.invariant.so, ap (λ xs. length xs) c.in-Some.ensures.steps.0, c.loop-record.invariant.room, c.loop-record.releases.ok.0, c.args.records.ok.0)
+    omega (
+      arith,
+      reopened_count c.args.records.items c.loop-record.record-iterator.rest.items c.loop-record.releases.items c.loop-record.invariant.so,
+      ap
+          (λ xs. length xs) c.in-Some.ensures.steps.0,
+      c.loop-record.invariant.room,
+      c.loop-record.releases.ok.0,
+      c.args.records.ok.0,
+    )
 
 pub loop-record-preserved : goal.loop-record-preserved
 loop-record-preserved c = record {
@@ -32,7 +42,8 @@ loop-record-preserved c = record {
 }
 
 pub are_current-requires : goal.are_current-requires
-are_current-requires c = record { distinct = rw (c.deref.ensures.value, reopened_all c.args.records.items [] c.loop-record.releases.items (all_done (goal.at.are_current-requires c).In-None) refl) c.requires.distinct }
+are_current-requires c =
+    record { distinct = rw (c.deref.ensures.value, reopened_all c.args.records.items [] c.loop-record.releases.items (all_done (goal.at.are_current-requires c).In-None) refl) c.requires.distinct }
 
 pub returns-then-not-are_current-clause-err : goal.returns-then-not-are_current-clause-err
 returns-then-not-are_current-clause-err c =
@@ -47,4 +58,5 @@ pub returns-clause-sound : goal.returns-clause-sound
 returns-clause-sound c =
     let so = all_done (goal.at.returns-clause-sound c).In-None in
     let current = rw c.deref.ensures.value at c.are_current.ensures in
-    reopened_sound c.args.records.items c.loop-record.releases.items so c.requires.distinct (omega (arith, c.len.ensures, c.if-len-gt-RELEASE_LIMIT.false, c.args.records.ok.0)) (current.0 (search rules))
+    reopened_sound c.args.records.items c.loop-record.releases.items so c.requires.distinct (omega (arith, c.len.ensures, c.if-len-gt-RELEASE_LIMIT.false, c.args.records.ok.0))
+    (current.0 (search rules))

@@ -16,7 +16,8 @@ returns-clause-growth c =
     let count = rw c.deref-2.ensures.value at c.byte_count.ensures.value in
     let ps = shown_parts c.self.inside.kept.parts.items in
     let qs = shown_parts c.in-Ok.parts.items in
-    let missing : c.saturating_sub-missing.result ≡ missing_below (byte_in (merged ps qs)) c.self.inside.kept.size = omega (arith, c.saturating_sub-missing.ensures, count, takes, c.self.invariant.counted) in
+    let missing : c.saturating_sub-missing.result ≡ missing_below (byte_in (merged ps qs)) c.self.inside.kept.size = omega
+    (arith, c.saturating_sub-missing.ensures, count, takes, c.self.invariant.counted) in
     rw (← c.self.view_is) (record {
       some = some new.1;
       adds = adds;

@@ -21,35 +21,51 @@ pub returns-in-Broken : goal.returns-in-Broken
 returns-in-Broken c = record {
   known = tt;
   staged = tt;
-  err = inr (refl, bears_missing c.args.kept.now.state c.args.kept.now.size (shown_parts c.args.kept.now.parts.items) (omega (arith, c.requires.counted, c.if-missing-gt0.true)) (other c.args.kept.now.state Broken Active Staged (λ e. cc) (λ e. cc) c.in-Broken.is));
+  err = inr (
+    refl,
+    bears_missing c.args.kept.now.state c.args.kept.now.size (shown_parts c.args.kept.now.parts.items) (omega (arith, c.requires.counted, c.if-missing-gt0.true))
+        (other c.args.kept.now.state Broken Active Staged (λ e. cc) (λ e. cc) c.in-Broken.is),
+  );
 }
 
 -- what the file of a whole release was judged as
 judgement : (c : After-judged) (outcome : Result HoldingsValue KbartFault) → c.judged.result ≡ outcome → IsJudged c.args.kept.now.size (shown_parts c.args.kept.now.parts.items) outcome
 judgement c outcome is =
     let covered = (none_missing (byte_in (shown_parts c.args.kept.now.parts.items)) c.args.kept.now.size).0 (omega (arith, c.requires.counted, c.if-missing-gt0.false)) in
-    subst (IsJudged c.args.kept.now.size (shown_parts c.args.kept.now.parts.items)) is ((rw c.deref.ensures.value at c.judged.ensures) c.args.kept.now.size (record { within = c.requires.within; every = covered }))
+    subst (IsJudged c.args.kept.now.size (shown_parts c.args.kept.now.parts.items)) is
+    ((rw c.deref.ensures.value at c.judged.ensures) c.args.kept.now.size (record { within = c.requires.within; every = covered }))
 
 pub returns-in-Active-clause-known : goal.returns-in-Active-clause-known
 returns-in-Active-clause-known c =
-    let good = known_good c.args.kept.now.size (shown_parts c.args.kept.now.parts.items) c.in-Ok.holdings (judgement (goal.at.returns-in-Active-clause-known c).After-judged (Ok c.in-Ok.holdings) c.in-Ok.is) in
+    let good = known_good c.args.kept.now.size (shown_parts c.args.kept.now.parts.items) c.in-Ok.holdings
+    (judgement (goal.at.returns-in-Active-clause-known c).After-judged (Ok c.in-Ok.holdings) c.in-Ok.is) in
     rw c.in-Active.is (good, known_bears Active c.args.kept.now.size (shown_parts c.args.kept.now.parts.items) (Some c.in-Ok.holdings) (λ e. cc) good)
 
 pub returns-in-Broken-state-clause-known : goal.returns-in-Broken-state-clause-known
 returns-in-Broken-state-clause-known c =
-    let bad = known_bad c.args.kept.now.size (shown_parts c.args.kept.now.parts.items) c.in-Err-Bad.field-0-0 (judgement (goal.at.returns-in-Broken-state-clause-known c).After-judged (Err (Bad c.in-Err-Bad.field-0-0)) (c.in-Err-Bad.is ∙ ap Err c.in-Err-Bad.field-0-is)) in
+    let bad = known_bad c.args.kept.now.size (shown_parts c.args.kept.now.parts.items) c.in-Err-Bad.field-0-0
+    (judgement (goal.at.returns-in-Broken-state-clause-known c).After-judged (Err (Bad c.in-Err-Bad.field-0-0)) (c.in-Err-Bad.is ∙ ap Err c.in-Err-Bad.field-0-is)) in
     rw c.in-Broken-state.is (bad, known_bears Broken c.args.kept.now.size (shown_parts c.args.kept.now.parts.items) None (λ e. cc) bad)
 
 pub returns-in-Staged-state : goal.returns-in-Staged-state
 returns-in-Staged-state c = record {
   known = tt;
   staged = tt;
-  err = inr (refl, bears_good c.args.kept.now.state c.args.kept.now.size (shown_parts c.args.kept.now.parts.items) c.in-Ok.holdings (omega (arith, c.requires.counted, c.if-missing-gt0.false)) (judgement (goal.at.returns-in-Staged-state c).After-judged (Ok c.in-Ok.holdings) c.in-Ok.is) (other c.args.kept.now.state Staged Broken Active (λ e. cc) (λ e. cc) c.in-Staged-state.is));
+  err = inr (
+    refl,
+    bears_good c.args.kept.now.state c.args.kept.now.size (shown_parts c.args.kept.now.parts.items) c.in-Ok.holdings (omega (arith, c.requires.counted, c.if-missing-gt0.false))
+        (judgement (goal.at.returns-in-Staged-state c).After-judged (Ok c.in-Ok.holdings) c.in-Ok.is) (other c.args.kept.now.state Staged Broken Active (λ e. cc) (λ e. cc) c.in-Staged-state.is),
+  );
 }
 
 pub returns-in-Staged-state-2 : goal.returns-in-Staged-state-2
 returns-in-Staged-state-2 c = record {
   known = tt;
   staged = tt;
-  err = inr (refl, bears_bad c.args.kept.now.state c.args.kept.now.size (shown_parts c.args.kept.now.parts.items) c.in-Err-Bad.field-0-0 (omega (arith, c.requires.counted, c.if-missing-gt0.false)) (judgement (goal.at.returns-in-Staged-state-2 c).After-judged (Err (Bad c.in-Err-Bad.field-0-0)) (c.in-Err-Bad.is ∙ ap Err c.in-Err-Bad.field-0-is)) (other c.args.kept.now.state Staged Active Broken (λ e. cc) (λ e. cc) c.in-Staged-state-2.is));
+  err = inr (
+    refl,
+    bears_bad c.args.kept.now.state c.args.kept.now.size (shown_parts c.args.kept.now.parts.items) c.in-Err-Bad.field-0-0
+        (omega (arith, c.requires.counted, c.if-missing-gt0.false)) (judgement (goal.at.returns-in-Staged-state-2 c).After-judged (Err (Bad c.in-Err-Bad.field-0-0))
+        (c.in-Err-Bad.is ∙ ap Err c.in-Err-Bad.field-0-is)) (other c.args.kept.now.state Staged Active Broken (λ e. cc) (λ e. cc) c.in-Staged-state-2.is),
+  );
 }
