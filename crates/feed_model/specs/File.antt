@@ -1,4 +1,4 @@
--- The judgement of a whole file. Nothing above unfolds it.
+-- The judgement of a whole file. Two proofs alone unfold it: that an empty file is bad, and that the reader judges so.
 use Rattle.std.specs.Prelude.{ℕ, List, Option}
 use Rattle.feed_kbart.specs.Files.{bad_of}
 use Rattle.feed_kbart.specs.declared.fault.BadFile.{BadFile}
