@@ -6,8 +6,6 @@ mod command_line;
 mod replay_command;
 mod script;
 mod status;
-#[cfg(test)]
-mod tests;
 
 use clap::error::ErrorKind;
 use command_line::Request;
