@@ -6,7 +6,7 @@ PROGRAM = crates/kbfeed/out/kbfeed
 help:
 	@echo "make build    proves and builds the program, and leaves it at $(PROGRAM)"
 	@echo "make replay   builds the program, runs the scripts of samples/ through it, and compares what it prints"
-	@echo "make test     the gate: every proof from nothing, the edits that must fail, the tests, the program's run"
+	@echo "make test     the gate: every proof from nothing, the edits that must fail, the tests, the program's sessions"
 
 build:
 	@tools/build
@@ -20,5 +20,5 @@ replay: build
 	done
 
 test:
-	@began=$$(date +%s); tools/check_pages && rt ci; status=$$?; spent=$$(($$(date +%s) - began)); \
+	@began=$$(date +%s); tools/check_pages && rt ci && tests/run; status=$$?; spent=$$(($$(date +%s) - began)); \
 	echo "the gate took $$((spent / 60)) min $$((spent % 60)) s on $$(nproc) processors"; exit $$status

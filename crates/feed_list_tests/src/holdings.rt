@@ -1,9 +1,8 @@
 use crate::files::{ACTA, BETA, HEADER, joined};
-use feed_kbart::{Aside, BadFile, Holdings, Issn, KbartFault, Label, Reason, read_file};
+use feed_kbart::{BadFile, Holdings, Issn, KbartFault, read_file};
 use std::alloc::Global;
 use std::io;
 use std::io::Read;
-use std::process::Abort;
 use std::test::Fail;
 
 // Gives at most so many bytes at a call, and fails in place of the end where it is told to.
@@ -50,40 +49,6 @@ fn read_by(
 
 // The steps in which the readers of these tests give their bytes.
 const STEPS: [usize; 4] = [1, 2, 7, usize::MAX];
-
-// What a file's bytes are judged as: the numbers of its rows, and its records that are set aside.
-fn expect_judged(
-    rt: &impl Abort,
-    alloc: Global,
-    parts: &[&[u8]],
-    rows: &[u32],
-    aside: &[Aside],
-) -> Result<(), Fail> {
-    for step in STEPS {
-        let holdings = read_by(alloc, parts, step, false)?;
-        assert_eq!(rt; holdings.rows().len(), rows.len(), "by {step}");
-        for (row, number) in holdings.rows().iter().zip(rows) {
-            assert_eq!(rt; row.number(), *number, "by {step}");
-        }
-        assert_eq!(rt; holdings.aside(), aside, "by {step}");
-    }
-    Ok(())
-}
-
-// The fault of a file's bytes.
-fn expect_fault(
-    rt: &impl Abort,
-    alloc: Global,
-    parts: &[&[u8]],
-    fails: bool,
-    fault: KbartFault,
-) -> Result<(), Fail> {
-    for step in STEPS {
-        let result = read_by(alloc, parts, step, fails);
-        assert_eq!(rt; result.err(), Some(fault), "by {step}");
-    }
-    Ok(())
-}
 
 #[test]
 fn reads_every_text_of_a_row(rt: HostRuntime) -> Result<(), Fail> {
@@ -165,82 +130,11 @@ fn reads_a_quote_as_it_stands(rt: HostRuntime) -> Result<(), Fail> {
 }
 
 #[test]
-fn sets_records_aside(rt: HostRuntime) -> Result<(), Fail> {
-    let aside = |number: u32, reason: Reason| Aside { number, reason };
-    let lines = b"Delta\t2434-5611\nEps\t0317-8471\t\t2001-13\nZeta\t0317-8471\t\t2002\t\t2001\n";
-    expect_judged(
-        &rt,
-        rt.alloc(),
-        &[HEADER, ACTA, lines],
-        &[2],
-        &[
-            aside(3, Reason::NoIssn),
-            aside(4, Reason::BadDate),
-            aside(5, Reason::Reversed),
-        ],
-    )?;
-    let header = &HEADER[..150];
-    let acta = &ACTA[..53];
-    let label = b"\tPublication_Type\n";
-    expect_judged(
-        &rt,
-        rt.alloc(),
-        &[header, label, acta, b"\tSerial\n"],
-        &[2],
-        &[],
-    )?;
-    expect_judged(
-        &rt,
-        rt.alloc(),
-        &[header, label, acta, b"\tmonograph\n"],
-        &[],
-        &[aside(2, Reason::NotSerial)],
-    )?;
-    expect_judged(&rt, rt.alloc(), &[b"\xEF\xBB\xBF", HEADER], &[], &[])
-}
-
-#[test]
-fn tells_why_a_file_is_bad(rt: HostRuntime) -> Result<(), Fail> {
-    let mark = b"\xEF\xBB\xBF";
-    let header = &HEADER[..150];
-    let cases: [(&[&[u8]], BadFile); 10] = [
-        (&[mark, mark, HEADER], BadFile::TwoMarks),
-        (&[HEADER, b"\xFF"], BadFile::NotUtf8),
-        (&[HEADER, b"\xE2\x82"], BadFile::NotUtf8),
-        (&[b"\xEF\xBB"], BadFile::NotUtf8),
-        (&[mark], BadFile::NoHeader),
-        (&[], BadFile::NoHeader),
-        (&[b"\r\n\n"], BadFile::NoHeader),
-        (
-            &[mark, b"\n", mark, HEADER],
-            BadFile::MissingLabel(Label::PublicationTitle),
-        ),
-        (
-            &[&HEADER[..140], b"\n"],
-            BadFile::MissingLabel(Label::TitleUrl),
-        ),
-        (
-            &[header, b"\ttitle_url\n"],
-            BadFile::LabelTwice(Label::TitleUrl),
-        ),
-    ];
-    for (parts, why) in cases {
-        expect_fault(&rt, rt.alloc(), parts, false, KbartFault::Bad(why))?;
+fn a_reader_that_fails_is_told(rt: HostRuntime) -> Result<(), Fail> {
+    for step in STEPS {
+        let result = read_by(rt.alloc(), &[HEADER, ACTA], step, true);
+        assert_eq!(rt; result.err(), Some(KbartFault::Read), "by {step}");
     }
-    expect_fault(&rt, rt.alloc(), &[HEADER], true, KbartFault::Read)
-}
-
-#[test]
-fn reads_long_files(rt: HostRuntime) -> Result<(), Fail> {
-    let lines = vec![in rt.alloc(); b'\n'; 1_000_000]?;
-    let result = read_file(rt.alloc(), lines.as_slice());
-    assert_eq!(rt; result.err(), Some(KbartFault::Bad(BadFile::NoHeader)));
-    let long = vec![in rt.alloc(); b'x'; 67_108_865]?;
-    let result = read_file(rt.alloc(), long.as_slice());
-    assert_eq!(rt; result.err(), Some(KbartFault::TooLong));
-    let result = read_file(rt.alloc(), &long[1..]);
-    let why = BadFile::MissingLabel(Label::PublicationTitle);
-    assert_eq!(rt; result.err(), Some(KbartFault::Bad(why)));
     Ok(())
 }
 

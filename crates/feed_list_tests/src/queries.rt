@@ -1,48 +1,6 @@
 use crate::files::joined;
-use feed_answer::{Query, QueryFault};
+use feed_answer::Query;
 use std::test::Fail;
-
-#[test]
-fn faults_stand_in_their_order(rt: HostRuntime) -> Result<(), Fail> {
-    let rows = [
-        ("", QueryFault::NoIssn),
-        ("rft.issn=2434-5611", QueryFault::NoIssn),
-        ("rft.issn", QueryFault::NoIssn),
-        ("Rft.issn=2434561x", QueryFault::NoIssn),
-        ("rft.issn=2434561x%FF", QueryFault::NoIssn),
-        ("rft.issn%FF=2434561x", QueryFault::NoIssn),
-        ("rft_id=urn:ISSN2434561x", QueryFault::NoIssn),
-        ("rft_id=+urn:ISSN:2434561x", QueryFault::NoIssn),
-        ("ctx_ver=Z39.88-2003&rft.issn=2434561x", QueryFault::Version),
-        ("url_ver=%FF&rft.issn=2434561x", QueryFault::Version),
-        ("url_ver=Z39.88-2004&url_ver=1", QueryFault::Version),
-        (
-            "rft_val_fmt=info:ofi/fmt:kev:mtx:book&ctx_ver=1",
-            QueryFault::Version,
-        ),
-        (
-            "rft_val_fmt=info:ofi/fmt:kev:mtx:book&rft.issn=2434561x",
-            QueryFault::NotJournal,
-        ),
-        ("rft_val_fmt=%FF", QueryFault::NotJournal),
-    ];
-    for (text, fault) in rows {
-        let read = Query::read(rt.alloc(), text.as_bytes());
-        assert_eq!(rt; read.err(), Some(fault), "{text}");
-    }
-    Ok(())
-}
-
-#[test]
-fn a_query_has_at_most_4096_bytes(rt: HostRuntime) -> Result<(), Fail> {
-    for (length, refused) in [(4096, None), (4097, Some(QueryFault::TooLong))] {
-        let mut text = joined(rt.alloc(), &[b"rft.issn=2434561x&rft.au="])?;
-        text.resize(length, b'a')?;
-        let read = Query::read(rt.alloc(), &text);
-        assert_eq!(rt; read.err(), refused, "{length}");
-    }
-    Ok(())
-}
 
 #[test]
 fn issns_ascend_each_once(rt: HostRuntime) -> Result<(), Fail> {
