@@ -1,5 +1,6 @@
 -- How often the devices of nodes failed, over a step and over a run.
-use Rattle.std.proofs.Common.{◌≡◌, ◌<◌, ◌≤◌, ◌+◌, ◌++◌, ℕ, zero, suc, Bool, List, [], ◌∷◌, length, map, take, get_or, slice_set, Some, Result, Err, ◌⊎◌, inl, inr, sym, ◌∙◌, ap, subst, length-take, arith}
+use Rattle.std.proofs.Common.{◌≡◌, ◌<◌, ◌≤◌, ◌+◌, ◌++◌, ℕ, zero, suc, Bool, List, [], ◌∷◌, length, map, take, get_or, slice_set, Some, Result, Err, ◌⊎◌, inl, inr, sym, ◌∙◌, ap, subst}
+use Rattle.std.proofs.Common.{length-take, arith}
 use Rattle.std.proofs.lemmas.List.{take_more, length-map}
 use Rattle.feed_model.specs.declared.keep_fault.KeepFault.{KeepFault}
 use Rattle.feed_model.specs.declared.keep_fault.KeepFault.TheVariants as causes

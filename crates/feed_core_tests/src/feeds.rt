@@ -11,11 +11,11 @@ use std::io::Write;
 use std::test::Fail;
 
 // Texts of KBART files: the line of labels, without its last label, and two titles.
-const HEADER: &[u8] =
-    b"publication_title\tprint_identifier\tonline_identifier\tdate_first_issue_online\tnum_first_vol_online\tdate_last_issue_online\tnum_last_vol_online\ttitle_url\n";
+const HEADER: &[u8] = b"publication_title\tprint_identifier\tonline_identifier\t\
+    date_first_issue_online\tnum_first_vol_online\tdate_last_issue_online\tnum_last_vol_online\ttitle_url\n";
 
-const HEADER_WITHOUT_URL: &[u8] =
-    b"publication_title\tprint_identifier\tonline_identifier\tdate_first_issue_online\tnum_first_vol_online\tdate_last_issue_online\tnum_last_vol_online\n";
+const HEADER_WITHOUT_URL: &[u8] = b"publication_title\tprint_identifier\tonline_identifier\t\
+    date_first_issue_online\tnum_first_vol_online\tdate_last_issue_online\tnum_last_vol_online\n";
 
 const ACTA: &[u8] = b"Acta\t2434-561X\t\t1995\t1\t2001-06-30\t7\thttp://a.example/\n";
 
@@ -23,7 +23,8 @@ const BETA: &[u8] = b"Beta\t\t0317-8471\t\t\t\t\thttp://b.example/\n";
 
 const PACKAGE: &[u8] = b"Acme_Global_All";
 
-// Three releases of the package, by month: the first two are good files of 205 and 243 bytes, the third a bad one of 141.
+// Three releases of the package, by month: the first two are good files of 205 and 243 bytes, the third is a bad one of
+// 141 bytes.
 const JANUARY: &str = "Acme_Global_All_2024-01-01.txt";
 
 const FEBRUARY: &str = "Acme_Global_All_2024-02-01.txt";

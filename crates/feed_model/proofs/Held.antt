@@ -1,5 +1,6 @@
 -- In a legal history no more releases are held than a feed may have.
-use Rattle.std.proofs.Common.{◌≡◌, ◌≢◌, ◌<◌, ◌≤◌, ◌+◌, ◌<ℤ◌, ◌≤ℤ◌, ℕ, Bool, true, false, cond, not, List, [], ◌∷◌, length, filter, Option, Some, None, IsSome, ◌⊎◌, inl, inr, refl, sym, ◌∙◌, ap, subst, arith}
+use Rattle.std.proofs.Common.{◌≡◌, ◌≢◌, ◌<◌, ◌≤◌, ◌+◌, ◌<ℤ◌, ◌≤ℤ◌, ℕ, Bool, true, false, cond, not, List, [], ◌∷◌, length, filter, Option, Some, None, IsSome, ◌⊎◌, inl, inr, refl, sym, ◌∙◌}
+use Rattle.std.proofs.Common.{ap, subst, arith}
 use Rattle.std.specs.Prelude.{IsSomeAnd}
 use Rattle.std.proofs.lemmas.Int.{ints}
 use Rattle.std.specs.List.{IsDistinct, AllByRecursion, Contains, list_any}

@@ -1,5 +1,6 @@
 -- What a piece brings to the parts that are kept.
-use Rattle.std.proofs.Common.{if◌then◌else◌, ◌≡◌, ◌<◌, ◌≤◌, ◌+◌, ◌-◌, ◌++◌, ◌⊎◌, inl, inr, max, Bool, true, false, nat_lt, ℕ, List, [], ◌∷◌, length, append-nil, Option, Some, None, IsSome, All, refl, sym, ◌∙◌, ap, subst, arith}
+use Rattle.std.proofs.Common.{if◌then◌else◌, ◌≡◌, ◌<◌, ◌≤◌, ◌+◌, ◌-◌, ◌++◌, ◌⊎◌, inl, inr, max, Bool, true, false, nat_lt, ℕ, List, [], ◌∷◌, length, append-nil, Option, Some, None, IsSome}
+use Rattle.std.proofs.Common.{All, refl, sym, ◌∙◌, ap, subst, arith}
 use Rattle.std.proofs.lemmas.Bool.{cases_lt, ltb-true, ltb-false}
 use Rattle.std.proofs.lemmas.List.Elements.{All-nil, All-push, All-weaker}
 use Rattle.feed_model.specs.History.{or_else, byte_at}

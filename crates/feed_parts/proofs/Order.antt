@@ -1,5 +1,6 @@
 -- The order of parts, for a search by halves.
-use Rattle.std.proofs.Common.{◌≡◌, ◌<◌, ◌≤◌, ◌+◌, ◌-◌, ◌^◌, ◌⊎◌, inl, inr, min, ℕ, zero, suc, true, false, List, [], ◌∷◌, length, get_or, take, drop, None, All, vec_len, leb, ltb, length-take, length-drop, get_or-take, get_or-drop, sym, subst, arith}
+use Rattle.std.proofs.Common.{◌≡◌, ◌<◌, ◌≤◌, ◌+◌, ◌-◌, ◌^◌, ◌⊎◌, inl, inr, min, ℕ, zero, suc, true, false, List, [], ◌∷◌, length, get_or, take, drop, None, All, vec_len, leb, ltb}
+use Rattle.std.proofs.Common.{length-take, length-drop, get_or-take, get_or-drop, sym, subst, arith}
 use Rattle.std.specs.List.{AllWithin}
 use Rattle.std.specs.List.Sorted.{IsNonDecreasingBy}
 use Rattle.std.proofs.lemmas.Bool.{cases_lt, leb-true, ltb-true, ltb-false}

@@ -1,5 +1,6 @@
 -- Two sorted runs, of which the second is moved to its place in the first and sorted with what it lies among.
-use Rattle.std.proofs.Common.{◌≡◌, ◌<◌, ◌≤◌, ◌+◌, ◌-◌, ◌++◌, ◌⊎◌, inl, inr, max, ℕ, true, false, ltb, List, [], length, get_or, take, drop, All, IsPermutation, append-nil, append_assoc, length-append, length-take, length-drop, get_or-take, get_or-drop, take_at, drop_at, take-take, drop-drop, refl, sym, ◌∙◌, ap, ap₂, subst, arith}
+use Rattle.std.proofs.Common.{◌≡◌, ◌<◌, ◌≤◌, ◌+◌, ◌-◌, ◌++◌, ◌⊎◌, inl, inr, max, ℕ, true, false, ltb, List, [], length, get_or, take, drop, All, IsPermutation, append-nil, append_assoc}
+use Rattle.std.proofs.Common.{length-append, length-take, length-drop, get_or-take, get_or-drop, take_at, drop_at, take-take, drop-drop, refl, sym, ◌∙◌, ap, ap₂, subst, arith}
 use Rattle.std.specs.List.{AllWithin}
 use Rattle.std.specs.List.Sorted.{IsNonDecreasingBy}
 use Rattle.std.proofs.lemmas.Bool.{cases_lt, ltb-true, ltb-false}
@@ -13,7 +14,8 @@ module _ {X : Type 0} (xs ps qs : List X) (joined : xs ≡ ps ++ qs) (begin end 
   tail_is = ap (λ ys. take (length ys - end) (drop end ys)) joined ∙ take_rest (ps ++ qs) end ∙ drop-append-le end ps qs inside
 
   pub turned_is : (count : ℕ) → count ≡ length qs → (turned : List X)
-      → turned ≡ drop (length (take (length xs - end) (drop end xs)) - count) (take (length xs - end) (drop end xs)) ++ take (length (take (length xs - end) (drop end xs)) - count) (take (length xs - end) (drop end xs)) → turned ≡ qs ++ drop end ps
+      → turned ≡ drop (length (take (length xs - end) (drop end xs)) - count) (take (length xs - end) (drop end xs)) ++ take (length (take (length xs - end) (drop end xs)) - count)
+        (take (length xs - end) (drop end xs)) → turned ≡ qs ++ drop end ps
   turned_is count of turned is =
       let len : length (take (length xs - end) (drop end xs)) ≡ length (drop end ps) + length qs = ap length tail_is ∙ length-append (drop end ps) qs in
       let k : ℕ = length (take (length xs - end) (drop end xs)) - count in

@@ -1,5 +1,6 @@
 -- A stable sort by the first places puts parts in order as one after another does.
-use Rattle.std.proofs.Common.{if◌then◌else◌, ◌≡◌, ◌<◌, ◌≤◌, ◌++◌, ◌&&◌, ◌⊎◌, inl, inr, Bool, true, false, not, eqb, cond, nat_lt, ltb-true, ltb-false, eq-eqb, ne_eqb, ℕ, suc, List, [], ◌∷◌, append-nil, append_assoc, All, filter, refl, sym, ◌∙◌, ap, arith}
+use Rattle.std.proofs.Common.{if◌then◌else◌, ◌≡◌, ◌<◌, ◌≤◌, ◌++◌, ◌&&◌, ◌⊎◌, inl, inr, Bool, true, false, not, eqb, cond, nat_lt, ltb-true, ltb-false, eq-eqb, ne_eqb, ℕ, suc, List, [], ◌∷◌}
+use Rattle.std.proofs.Common.{append-nil, append_assoc, All, filter, refl, sym, ◌∙◌, ap, arith}
 use Rattle.std.specs.List.Sorted.{IsNonDecreasingBy, IsStableByKey}
 use Rattle.std.specs.Ordering.{is_lt, nat_cmp}
 use Rattle.std.proofs.lemmas.Bool.{cases_eq, cases_lt}

@@ -1,5 +1,6 @@
 -- The nodes of a world, and the cases of a step.
-use Rattle.std.proofs.Common.{◌≡◌, ◌≢◌, ℕ, zero, suc, Bool, true, false, List, [], ◌∷◌, replicate, Option, Some, None, Result, Ok, Err, MatchOption, MatchResult, slice_get, slice_set, ◌⊎◌, inl, inr, refl, ap, arith}
+use Rattle.std.proofs.Common.{◌≡◌, ◌≢◌, ℕ, zero, suc, Bool, true, false, List, [], ◌∷◌, replicate, Option, Some, None, Result, Ok, Err, MatchOption, MatchResult, slice_get, slice_set, ◌⊎◌}
+use Rattle.std.proofs.Common.{inl, inr, refl, ap, arith}
 use Rattle.std.specs.Prelude.{MatchBool}
 use Rattle.feed_world.specs.declared.line.Why as why
 use Rattle.feed_world.specs.declared.line.Why.TheVariants as whys

@@ -5,7 +5,8 @@ use Rattle.feed_world.specs.declared.event.WorldEvent as code_event
 use Rattle.feed_world.specs.declared.event.WorldEvent.TheVariants as events
 use Rattle.feed_world.specs.declared.line.Line as code_line
 use Rattle.feed_world.specs.declared.line.Line.TheVariants as lines
-use Rattle.feed_world.specs.World.{Sent, Offer, Deliver, Lose, WorldEvent, Publish, Tell, Restart, StopBefore, StopAfter, Report, Ask, Line, Published, Replied, Restarted, Stopped, IsDown, Active, Inactive, Text, Refused}
+use Rattle.feed_world.specs.World.{Sent, Offer, Deliver, Lose, WorldEvent, Publish, Tell, Restart, StopBefore, StopAfter, Report, Ask, Line, Published, Replied, Restarted, Stopped, IsDown}
+use Rattle.feed_world.specs.World.{Active, Inactive, Text, Refused}
 
 -- what is sent, as the world has it
 abbrev pub shown_sent : code_sent.Sent → Sent

@@ -8,14 +8,16 @@ use Rattle.feed_parts.proofs.merging.merge_runs.Goals as goal
 use Rattle.feed_parts.proofs.merging.merge_runs.Goals.{After-partition_point-begin, After-partition_point}
 
 split_begin : (c : After-partition_point-begin)
-    → IsPartitionPoint (λ p. ltb p.first c.index-parts-kept.result.first ≡ true) (λ p. ltb p.first c.index-parts-kept.result.first ≡ false) (take c.args.kept c.args.parts.now) c.partition_point-begin.result
+    → IsPartitionPoint (λ p. ltb p.first c.index-parts-kept.result.first ≡ true) (λ p. ltb p.first c.index-parts-kept.result.first ≡ false)
+      (take c.args.kept c.args.parts.now) c.partition_point-begin.result
 split_begin c =
     IsPartitionPoint-from_clause (λ p. ltb p.first c.index-parts-kept.result.first) (take c.args.kept c.args.parts.now) c.partition_point-begin.result c.partition_point-begin.ensures.partitioned
     (IsPartitionedBy-ltb (λ p. p.first) (take c.args.kept c.args.parts.now) c.index-parts-kept.result.first c.requires.front)
     (λ a r q k. search rules)
 
 split_end : (c : After-partition_point)
-    → IsPartitionPoint (λ p. ltb p.first c.index-parts-kept-2.result.first ≡ true) (λ p. ltb p.first c.index-parts-kept-2.result.first ≡ false) (take c.args.kept c.args.parts.now) c.partition_point.result
+    → IsPartitionPoint (λ p. ltb p.first c.index-parts-kept-2.result.first ≡ true) (λ p. ltb p.first c.index-parts-kept-2.result.first ≡ false)
+      (take c.args.kept c.args.parts.now) c.partition_point.result
 split_end c = IsPartitionPoint-from_clause (λ p. ltb p.first c.index-parts-kept-2.result.first) (take c.args.kept c.args.parts.now) c.partition_point.result c.partition_point.ensures.partitioned
     (IsPartitionedBy-ltb (λ p. p.first) (take c.args.kept c.args.parts.now) c.index-parts-kept-2.result.first c.requires.front)
     (λ a r q k. search rules)
