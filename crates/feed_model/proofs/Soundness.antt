@@ -63,7 +63,7 @@ bears_out h n r x Staged lacks = by (missing_below (byte_in r.parts) r.size) ref
     by : (k : ℕ) → missing_below (byte_in r.parts) r.size ≡ k → 0 < missing_below (byte_in r.parts) r.size
     by (suc k) e = omega (arith, e)
     by zero e =
-        let text = whole_text (byte_in r.parts) r.size (none_missing (byte_in r.parts) r.size e) in
+        let text = whole_text (byte_in r.parts) r.size ((none_missing (byte_in r.parts) r.size).0 e) in
         absurd (lacks (text.0, (x.size ∙ ap Some (sym text.1), λ place lt. sym (x.bytes place) ∙ text.2 place (omega (arith, text.1, lt)))))
 bears_out h n r x Broken bad = (bad.0, text_by h n r bad.0 x bad.1, bad.2)
 bears_out h n r x Active active = (active.0.0, text_by h n r active.0.0 x active.0.1, active.0.2)

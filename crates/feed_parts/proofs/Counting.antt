@@ -1,5 +1,5 @@
 -- How many places of a file are missing.
-use Rattle.std.proofs.Common.{if◌then◌else◌, ◌≡◌, ◌<◌, ◌≤◌, ◌+◌, ◌-◌, ◌⊎◌, ◌↔◌, min, inl, inr, ℕ, zero, suc, Bool, true, false, List, [], ◌∷◌, length, Option, Some, None, IsSome, All}
+use Rattle.std.proofs.Common.{if◌then◌else◌, ◌≡◌, ◌<◌, ◌≤◌, ◌+◌, ◌-◌, ◌⊎◌, min, inl, inr, ℕ, zero, suc, Bool, true, false, List, [], ◌∷◌, length, Option, Some, None, All}
 use Rattle.std.proofs.Common.{nat_lt, refl, sym, ◌∙◌, arith}
 use Rattle.std.proofs.lemmas.Bool.{cases_lt}
 use Rattle.std.proofs.lemmas.List.Elements.{All-head, All-tail}
@@ -10,7 +10,7 @@ use Rattle.feed_model.specs.Content.{Part, byte_in, end_of, ArePartsFrom}
 use Rattle.feed_model.specs.Change.{insert_part, merged}
 use Rattle.feed_model.specs.Parts.{AreWithin}
 use Rattle.feed_parts.specs.Piece.{total_length}
-use Rattle.feed_parts.proofs.Places.{cases_option, some_not_none, first_none, first_some, byte_at_before, byte_at_after, byte_at_inside, none_behind}
+use Rattle.feed_parts.proofs.Places.{cases_option, first_none, first_some, byte_at_before, byte_at_after, byte_at_inside, none_behind}
 
 pub total_cons : (p : Part) (ps : List Part) → total_length (p ∷ ps) ≡ length p.bytes + total_length ps
 total_cons p ps = sum_by-cons (λ q. length q.bytes) p ps
@@ -34,30 +34,6 @@ missing_more f n e = rw e refl
 
 missing_same : (f : ℕ → Option ℕ) (n x : ℕ) → f n ≡ Some x → missing_below f (suc n) ≡ missing_below f n
 missing_same f n x e = let u : missing_below f (suc n) ≡ missing_below f n + 0 = rw e refl in omega (arith, u)
-
--- no place is missing just where each has a byte
-pub none_missing : (f : ℕ → Option ℕ) (n : ℕ) → (missing_below f n ≡ 0) ↔ ((place : ℕ) → place < n → IsSome (f place))
-none_missing f n = (each n, none n)
-  where
-    each : (n : ℕ) → missing_below f n ≡ 0 → (place : ℕ) → place < n → IsSome (f place)
-    each zero e place lt = absurd (omega arith)
-    each (suc n) e place lt = by (cases_option (f n)) (each n)
-      where
-        by : (f n ≡ None) ⊎ ((x : ℕ) × (f n ≡ Some x)) → (missing_below f n ≡ 0 → (place : ℕ) → place < n → IsSome (f place)) → IsSome (f place)
-        by (inl lacks) again = absurd (omega (arith, missing_more f n lacks))
-        by (inr has) again = last (cases_lt place n)
-          where
-            last : (place < n) ⊎ (n ≤ place) → IsSome (f place)
-            last (inl below) = again (omega (arith, missing_same f n has.0 has.1)) place below
-            last (inr le) = let same : place ≡ n = omega arith in rw (same, has.1) refl
-
-    none : (n : ℕ) → ((place : ℕ) → place < n → IsSome (f place)) → missing_below f n ≡ 0
-    none zero all = refl
-    none (suc n) all = by (cases_option (f n)) (none n (λ place lt. all place (omega arith))) (all n (omega arith))
-      where
-        by : (f n ≡ None) ⊎ ((x : ℕ) × (f n ≡ Some x)) → missing_below f n ≡ 0 → IsSome (f n) → missing_below f (suc n) ≡ 0
-        by (inl lacks) again some = absurd (some_not_none (f n) some lacks)
-        by (inr has) again some = missing_same f n has.0 has.1 ∙ again
 
 -- parts inside a file have no more bytes than it
 total_from : (at size : ℕ) (ps : List Part) → at ≤ size → ArePartsFrom at ps → All (λ p. end_of p ≤ size) ps → at + total_length ps ≤ size

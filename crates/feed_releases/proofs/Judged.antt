@@ -12,7 +12,7 @@ use Rattle.feed_model.specs.Reply.{missing_below}
 use Rattle.feed_model.specs.Content.{Part, byte_in}
 use Rattle.feed_model.specs.Sound.{IsText, BearsOut}
 use Rattle.feed_model.proofs.Tests.{same_at}
-use Rattle.feed_parts.proofs.Counting as counting
+use Rattle.feed_model.proofs.Keeps.{none_missing}
 use Rattle.feed_releases.specs.ReleaseValue.{IsJudged, IsKnown}
 
 fault_is : (text : List ℕ) → fault_of text ≡ bad_of text
@@ -46,7 +46,7 @@ get_some (x ∷ xs) (suc i) lt = get_some xs i (omega arith)
 
 -- a text has every place
 text_whole : (size : ℕ) (parts : List Part) (text : List ℕ) → IsText size parts text → missing_below (byte_in parts) size ≡ 0
-text_whole size parts text is = (counting.none_missing (byte_in parts) size).1 (λ place lt. subst IsSome (sym (is.bytes place lt)) (get_some text place (omega (arith, is.count, lt))))
+text_whole size parts text is = (none_missing (byte_in parts) size).1 (λ place lt. subst IsSome (sym (is.bytes place lt)) (get_some text place (omega (arith, is.count, lt))))
 
 pub one_text : (size : ℕ) (parts : List Part) (x y : List ℕ) → IsText size parts x → IsText size parts y → x ≡ y
 one_text size parts x y a b = same_at x y (a.count ∙ sym b.count) (λ place lt. sym (a.bytes place (omega (arith, a.count, lt))) ∙ b.bytes place (omega (arith, a.count, lt)))

@@ -8,7 +8,8 @@ use Rattle.feed_parts.specs.Cut.{cuts}
 use Rattle.feed_parts.proofs.Rest.{next, finished, end_is}
 use Rattle.feed_parts.proofs.Left.{IsLeft, left_starts, left_ends, left_missing, left_kept, left_next, left_none}
 use Rattle.feed_parts.proofs.Fresh.{fresh_start, fresh_more, fresh_past, fresh_adds, fresh_some}
-use Rattle.feed_parts.proofs.Counting.{missing_merged, none_missing}
+use Rattle.feed_model.proofs.Keeps.{none_missing}
+use Rattle.feed_parts.proofs.Counting.{missing_merged}
 use Rattle.feed_parts.proofs.overlap.new_parts.Goals as goal
 use Rattle.feed_parts.proofs.overlap.new_parts.Goals.{After-part-item}
 

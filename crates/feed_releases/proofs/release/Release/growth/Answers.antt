@@ -29,14 +29,14 @@ returns-clause-growth c =
             rw w.standing-is (
               none,
               (rw (w.deref-else-missing-gt0.ensures.value, w.deref-else-missing-gt0-2.ensures.value) at w.in-Ok-judged.ensures) c.self.inside.kept.size
-                  (record { within = adds.whole; every = none_missing (byte_in (merged ps qs)) c.self.inside.kept.size (sym missing ∙ none) }),
+                  (record { within = adds.whole; every = (none_missing (byte_in (merged ps qs)) c.self.inside.kept.size).0 (sym missing ∙ none) }),
             )
         | else-missing-gt0+in-Err-Bad w ↦
             let none : c.saturating_sub-missing.result ≡ 0 = omega (arith, w.if-missing-gt0.false) in
             rw w.standing-is (
               none,
               (rw (w.deref-else-missing-gt0.ensures.value, w.deref-else-missing-gt0-2.ensures.value) at (rw w.in-Err-Bad.field-0-is at w.in-Err-Bad.ensures)) c.self.inside.kept.size
-                  (record { within = adds.whole; every = none_missing (byte_in (merged ps qs)) c.self.inside.kept.size (sym missing ∙ none) }),
+                  (record { within = adds.whole; every = (none_missing (byte_in (merged ps qs)) c.self.inside.kept.size).0 (sym missing ∙ none) }),
             )
       ];
     })

@@ -5,7 +5,7 @@ use Rattle.feed_kbart.specs.declared.fault.KbartFault.TheVariants.{Bad}
 use Rattle.feed_model.specs.declared.state.State.{State}
 use Rattle.feed_model.specs.declared.state.State.TheVariants.{Staged, Broken, Active}
 use Rattle.feed_parts.specs.Shown.{shown_parts}
-use Rattle.feed_parts.proofs.Counting.{none_missing}
+use Rattle.feed_model.proofs.Keeps.{none_missing}
 use Rattle.feed_model.specs.Content.{byte_in}
 use Rattle.feed_releases.proofs.Judged.{known_good, known_bad, known_bears, bears_missing, bears_good, bears_bad}
 use Rattle.feed_releases.specs.ReleaseValue.{IsJudged}
