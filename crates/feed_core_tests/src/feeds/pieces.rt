@@ -1,7 +1,6 @@
 // Offers and pieces that come to a feed.
 use super::{feed_of, name_of, told};
-use feed_answer::Query;
-use feed_core::{AnswerFault, Event, PIECE_LIMIT, Refusal, Reply};
+use feed_core::{Event, PIECE_LIMIT, Refusal, Reply};
 use feed_kbart::{BadFile, Label};
 use std::test::Fail;
 
@@ -159,17 +158,6 @@ fn a_feed_records_256_releases(rt: HostRuntime) -> Result<(), Fail> {
             size: 2
         }),
         Err(Refusal::WrongSize)
-    );
-    Ok(())
-}
-
-#[test]
-fn a_package_without_a_release_has_no_answer(rt: HostRuntime) -> Result<(), Fail> {
-    let feed = feed_of(rt.alloc())?;
-    let query = Query::read(rt.alloc(), b"rft.issn=2434561x")?;
-    assert_eq!(rt;
-        feed.answer(b"X", &query).err(),
-        Some(AnswerFault::NoRelease)
     );
     Ok(())
 }

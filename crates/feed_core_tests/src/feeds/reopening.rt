@@ -16,56 +16,6 @@ fn reopened<K: Keep + Drop>(alloc: Global, feed: Feed<K>) -> Result<Feed<K>, Fai
 }
 
 #[test]
-fn a_piece_is_repeated_before_and_after_a_restart(rt: HostRuntime) -> Result<(), Fail> {
-    let name = name_of(rt.alloc(), JANUARY)?;
-    let file = january_file(rt.alloc())?;
-    let mut feed = feed_of(rt.alloc())?;
-    assert_eq!(rt; offered(&mut feed, &name, 205), Ok(Reply::Noted));
-    let rows = [
-        (200, 5, Reply::Stored { missing: 200 }),
-        (100, 100, Reply::Stored { missing: 100 }),
-        (100, 100, Reply::Repeated),
-        (0, 100, Reply::Activated),
-        (100, 100, Reply::Repeated),
-    ];
-    for (first, count, reply) in rows {
-        let answer = told(&mut feed, &name, first, cut(&file, first, count));
-        assert_eq!(rt; answer, Ok(reply), "{first}");
-    }
-    let mut feed = reopened(rt.alloc(), feed)?;
-    let again = told(&mut feed, &name, 100, cut(&file, 100, 100));
-    assert_eq!(rt; again, Ok(Reply::Repeated));
-    assert_eq!(rt; active_in(&feed), JANUARY.as_bytes());
-    Ok(())
-}
-
-#[test]
-fn a_release_that_was_passed_stays_passed(rt: HostRuntime) -> Result<(), Fail> {
-    let january = name_of(rt.alloc(), JANUARY)?;
-    let february = name_of(rt.alloc(), FEBRUARY)?;
-    let file = january_file(rt.alloc())?;
-    let later_file = february_file(rt.alloc())?;
-    let last = cut(&file, 200, 5);
-    let mut feed = feed_of(rt.alloc())?;
-    assert_eq!(rt; offered(&mut feed, &january, 205), Ok(Reply::Noted));
-    assert_eq!(rt;
-        told(&mut feed, &january, 0, cut(&file, 0, 200)),
-        Ok(Reply::Stored { missing: 5 })
-    );
-    assert_eq!(rt; offered(&mut feed, &february, 243), Ok(Reply::Noted));
-    assert_eq!(rt;
-        told(&mut feed, &february, 0, &later_file),
-        Ok(Reply::Activated)
-    );
-    assert_eq!(rt; told(&mut feed, &january, 200, last), Ok(Reply::Older));
-    let mut feed = reopened(rt.alloc(), feed)?;
-    assert_eq!(rt; told(&mut feed, &january, 200, last), Ok(Reply::Older));
-    assert_eq!(rt; offered(&mut feed, &january, 205), Ok(Reply::Older));
-    assert_eq!(rt; active_in(&feed), FEBRUARY.as_bytes());
-    Ok(())
-}
-
-#[test]
 fn a_keeper_without_records_opens(rt: HostRuntime) -> Result<(), Fail> {
     let none = Vec::new(rt.alloc());
     for keeper in [ListKeep::new(rt.alloc()), ListKeep::of(rt.alloc(), none)] {

@@ -1,10 +1,10 @@
 // Feeds that stop in the middle of an event.
 use super::{
-    FEBRUARY, HEADER, HEADER_WITHOUT_URL, JANUARY, MARCH, active_in, content_of, cut,
-    february_file, feed_over, january_file, listed, name_of, record_of, told,
+    FEBRUARY, HEADER, HEADER_WITHOUT_URL, JANUARY, MARCH, content_of, cut, february_file,
+    feed_over, january_file, listed, name_of, record_of,
 };
 use crate::failing::Failing;
-use feed_core::{Event, Keep, ListKeep, Point, Record, Reply, State};
+use feed_core::{Event, Keep, ListKeep, Point, Record, State};
 use std::alloc::Global;
 use std::test::Fail;
 
@@ -179,32 +179,6 @@ fn a_stop_in_a_loss_keeps_nothing(rt: HostRuntime) -> Result<(), Fail> {
     for point in POINTS {
         let content = stopped(rt.alloc(), &Event::Lost { name: &name }, point)?;
         assert_eq!(rt; content.as_slice(), kept.as_slice(), "{point:?}");
-    }
-    Ok(())
-}
-
-#[test]
-fn a_feed_goes_on_after_a_stop(rt: HostRuntime) -> Result<(), Fail> {
-    let name = name_of(rt.alloc(), FEBRUARY)?;
-    let file = february_file(rt.alloc())?;
-    let end = cut(&file, 200, 43);
-    let event = Event::Piece {
-        name: &name,
-        first: 200,
-        total: None,
-        bytes: end,
-    };
-    let rows = [
-        (Point::Before, JANUARY, Reply::Activated),
-        (Point::After, FEBRUARY, Reply::Repeated),
-    ];
-    for (point, active, reply) in rows {
-        let keeper = ListKeep::of(rt.alloc(), before(rt.alloc())?);
-        let stopped = feed_over(rt.alloc(), keeper)?.stop_at(&event, point);
-        let mut feed = feed_over(rt.alloc(), stopped)?;
-        assert_eq!(rt; active_in(&feed), active.as_bytes(), "{point:?}");
-        assert_eq!(rt; told(&mut feed, &name, 200, end), Ok(reply), "{point:?}");
-        assert_eq!(rt; active_in(&feed), FEBRUARY.as_bytes(), "{point:?}");
     }
     Ok(())
 }
