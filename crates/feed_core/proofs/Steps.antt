@@ -177,7 +177,7 @@ away_asked clean stands xs node reason event Rest happens (inr (inr down)) =
 pub goes_ready : {M : Type 0} (clean : M → Type 0) (stands : M → Bool → History → Type 0) (fits : Shelf → Type 0) (xs : List M) (at : ℕ) (x z : M) (node : ℕ) (event : WorldEvent) (line : Line)
     → IsReady stands xs node at → x ≡ get_or xs at x → (clean z → clean x)
     → ((w : World) (y : Node) → fits w.shelf → node_at w.nodes node ≡ Some y → y.up ≡ true → clean z → stands x true y.history → Acts stands fits node x z event line w y)
-      → Goes clean stands fits xs (slice_set xs at z) event line
+    → Goes clean stands fits xs (slice_set xs at z) event line
 goes_ready clean stands fits xs at x z node event line ready here back act =
     goes_up clean stands fits xs at x x z node event line true refl ready.within here here (next ready.number) back (λ up h k s. sym (ready.up x here up h s)) act
 

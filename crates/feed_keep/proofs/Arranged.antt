@@ -42,7 +42,7 @@ insert_ordered r (x ∷ xs) = by (comes_before x.name r.name) (insert_ordered r 
   where
     by : (b : Bool) → ordered (insert_record r xs) ≡ insert_record (ordered_record r) (ordered xs)
         → ordered (if b then x ∷ insert_record r xs else r ∷ x ∷ xs) ≡
-          (if b then ordered_record x ∷ insert_record (ordered_record r) (ordered xs) else ordered_record r ∷ ordered_record x ∷ ordered xs)
+        (if b then ordered_record x ∷ insert_record (ordered_record r) (ordered xs) else ordered_record r ∷ ordered_record x ∷ ordered xs)
     by true again = ap (λ ys. ordered_record x ∷ ys) again
     by false again = refl
 
@@ -52,7 +52,7 @@ changed_ordered n ps state (r ∷ rs) = by (name_eq r.name n) (changed_ordered n
   where
     by : (b : Bool) → ordered (changed n (lengthened ps state) rs) ≡ changed n (grown ps state) (ordered rs)
         → ordered (if b then lengthened ps state r ∷ rs else r ∷ changed n (lengthened ps state) rs) ≡
-          (if b then grown ps state (ordered_record r) ∷ ordered rs else ordered_record r ∷ changed n (grown ps state) (ordered rs))
+        (if b then grown ps state (ordered_record r) ∷ ordered rs else ordered_record r ∷ changed n (grown ps state) (ordered rs))
     by true again = ap (λ x. x ∷ ordered rs) (lengthened_ordered ps state r)
     by false again = ap (λ ys. ordered_record r ∷ ys) again
 

@@ -112,7 +112,7 @@ later_days_stay : without_earlier january (staged ∷ active ∷ []) ≡ staged 
 later_days_stay = refl
 
 parts_are_added : after (Pieces january (part 2 (50 ∷ 51 ∷ []) ∷ part 6 (54 ∷ 55 ∷ []) ∷ []))
-  (staged ∷ active ∷ []) ≡ record { name = january; size = 10; state = Staged; parts = filled } ∷ active ∷ []
+    (staged ∷ active ∷ []) ≡ record { name = january; size = 10; state = Staged; parts = filled } ∷ active ∷ []
 parts_are_added = refl
 
 -- answers

@@ -15,7 +15,7 @@ module _ {X : Type 0} (xs ps qs : List X) (joined : xs ≡ ps ++ qs) (begin end 
 
   pub turned_is : (count : ℕ) → count ≡ length qs → (turned : List X)
       → turned ≡ drop (length (take (length xs - end) (drop end xs)) - count) (take (length xs - end) (drop end xs)) ++ take (length (take (length xs - end) (drop end xs)) - count)
-        (take (length xs - end) (drop end xs)) → turned ≡ qs ++ drop end ps
+      (take (length xs - end) (drop end xs)) → turned ≡ qs ++ drop end ps
   turned_is count of turned is =
       let len : length (take (length xs - end) (drop end xs)) ≡ length (drop end ps) + length qs = ap length tail_is ∙ length-append (drop end ps) qs in
       let k : ℕ = length (take (length xs - end) (drop end xs)) - count in

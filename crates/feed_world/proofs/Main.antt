@@ -141,7 +141,7 @@ from count events lines w s k a stem query text t = (
     p = place_of (start count) w events lines k (Ask a stem query) (Text text) s t.happened t.shown
 
     f : (p.new ≡ p.old) × (n : Name) × IsUp p.old a stem (Some n) ×
-      ((file : List ℕ) × (x : Node) × (node_at p.old.nodes a ≡ Some x) × IsFile x.history n file × (Text text ≡ file_says n file (query_of query)))
+        ((file : List ℕ) × (x : Node) × (node_at p.old.nodes a ≡ Some x) × IsFile x.history n file × (Text text ≡ file_says n file (query_of query)))
     f = text_shown p.old p.new a stem query text p.step
 
     n : Name

@@ -79,7 +79,7 @@ moves w (Publish n bytes) line v h = by (text_of w.shelf n) refl h
 
     by : (o : Option (List ℕ)) → text_of w.shelf n ≡ o
         → MatchOption o ((line ≡ Published) × (v ≡ record { shelf = w.shelf ++ (n, bytes) ∷ []; nodes = w.nodes }))
-          (λ file. Case (file ≡ bytes) ((line ≡ Published) × (v ≡ w)) (IsRefused whys.Republished w line v)) → Moves w (Publish n bytes) v
+        (λ file. Case (file ≡ bytes) ((line ≡ Published) × (v ≡ w)) (IsRefused whys.Republished w line v)) → Moves w (Publish n bytes) v
     by None at c = inr (inl (record { name = n; bytes = bytes; is = refl; unknown = at; world = c.1 }))
     by (Some file) at c = inl (record { world = same file c; known = λ m bs e. (let t : n ≡ m = cc in (file, subst (λ (z : Name). text_of w.shelf z ≡ Some file) t at)) })
 moves w (Tell i sent) line v h = by (sent_to i sent w line v Here h)
@@ -88,7 +88,7 @@ moves w (Tell i sent) line v h = by (sent_to i sent w line v Here h)
     Here x event = (answer : Answer) × IsRight x.history event answer × (line ≡ answer_line answer) × (v ≡ with_node w i true ((event, answer) ∷ x.history))
 
     by : (v ≡ w) ⊎ ((x : Node) × (node_at w.nodes i ≡ Some x) × (event : Event) × (arriving w.shelf sent ≡ Ok event) ×
-      ((answer : Answer) × IsRight x.history event answer × (line ≡ answer_line answer) × (v ≡ with_node w i true ((event, answer) ∷ x.history)))) → Moves w (Tell i sent) v
+        ((answer : Answer) × IsRight x.history event answer × (line ≡ answer_line answer) × (v ≡ with_node w i true ((event, answer) ∷ x.history)))) → Moves w (Tell i sent) v
     by (inl e) = inl (record { world = e; known = λ n bs e. absurd (cc) })
     by (inr r) = move w (Tell i sent) v i r.0 true ((r.2, r.4.0) ∷ r.0.history) (λ node quiet. quiet) r.1 r.4.3 (inr (r.2, r.4.0, arriving_true w.shelf sent r.2 r.3, r.4.1, refl))
 moves w (Restart i) line v h = by (at_node i w line v (λ x. Reopens i x.history Restarted w line v) h)
@@ -104,7 +104,7 @@ moves w (StopBefore i sent) line v h = by (sent_to i sent w line v (λ x event. 
 moves w (StopAfter i sent) line v h = by (sent_to i sent w line v (λ x event. (answer : Answer) × IsRight x.history event answer × Reopens i ((event, answer) ∷ x.history) Stopped w line v) h)
   where
     by : (v ≡ w) ⊎ ((x : Node) × (node_at w.nodes i ≡ Some x) × (event : Event) × (arriving w.shelf sent ≡ Ok event) ×
-      ((answer : Answer) × IsRight x.history event answer × Reopens i ((event, answer) ∷ x.history) Stopped w line v)) → Moves w (StopAfter i sent) v
+        ((answer : Answer) × IsRight x.history event answer × Reopens i ((event, answer) ∷ x.history) Stopped w line v)) → Moves w (StopAfter i sent) v
     by (inl e) = inl (record { world = e; known = λ n bs e. absurd (cc) })
     by (inr r) = reopen w (StopAfter i sent) v i r.0 ((r.2, r.4.0) ∷ r.0.history) Stopped line (λ node quiet. quiet) r.1 (inr (r.2, r.4.0, arriving_true w.shelf sent r.2 r.3, r.4.1, refl)) r.4.2
 moves w (Report i stem) line v h = inl (record { world = stays_at w line v i (Reported w stem line v) (λ x q. q.0) (asked_at i w line v (Reported w stem line v) h); known = λ n bs e. absurd (cc) })

@@ -22,11 +22,11 @@ pub loop-node-preserved : goal.loop-node-preserved
 loop-node-preserved g c = record {
   so = went_next (IsKeptOf (IsSlotClean g.K.Keep.clean)
       (SlotStands g.K.Keep.content) g.K.Keep.clean g.K.Keep.content) c.args.nodes.items c.loop-node.node-iterator.rest.items c.next.new.self.rest.items c.loop-node.keepers.items
-        c.push_reserved.new.self.items c.in-Some.node c.into_keeper.result c.loop-node.invariant.so c.in-Some.ensures.steps.0
-        (c.into_keeper.ensures.clean, c.into_keeper.ensures.content) c.push_reserved.ensures.items;
+      c.push_reserved.new.self.items c.in-Some.node c.into_keeper.result c.loop-node.invariant.so c.in-Some.ensures.steps.0
+      (c.into_keeper.ensures.clean, c.into_keeper.ensures.content) c.push_reserved.ensures.items;
   counts = went_next (λ s k. slot_failed g.K.Keep.failed s ≤ g.K.Keep.failed k) c.args.nodes.items c.loop-node.node-iterator.rest.items c.next.new.self.rest.items c.loop-node.keepers.items
-    c.push_reserved.new.self.items c.in-Some.node c.into_keeper.result c.loop-node.invariant.counts c.in-Some.ensures.steps.0
-    (omega (arith, c.into_keeper.ensures.failed)) c.push_reserved.ensures.items;
+      c.push_reserved.new.self.items c.in-Some.node c.into_keeper.result c.loop-node.invariant.counts c.in-Some.ensures.steps.0
+      (omega (arith, c.into_keeper.ensures.failed)) c.push_reserved.ensures.items;
   room = omega (arith, c.loop-node.invariant.room, c.push_reserved.ensures.capacity);
 }
 

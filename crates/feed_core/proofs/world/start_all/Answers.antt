@@ -9,7 +9,7 @@ use Rattle.feed_core.proofs.world.start_all.Goals as goal
 pub loop-keeper-preserved : goal.loop-keeper-preserved
 loop-keeper-preserved g c = record {
   so = went_next (λ k s. g.K.Keep.failed k ≤ slot_failed g.K.Keep.failed s) c.args.keepers.items c.loop-keeper.keeper-iterator.rest.items c.next.new.self.rest.items c.loop-keeper.nodes.items
-    c.push.new.self.items c.in-Some.keeper c.in-Ok-start.slot c.loop-keeper.invariant.so c.in-Some.ensures.steps.0 c.in-Ok-start.ensures.counted c.in-Ok-push.ensures.items;
+      c.push.new.self.items c.in-Some.keeper c.in-Ok-start.slot c.loop-keeper.invariant.so c.in-Some.ensures.steps.0 c.in-Ok-start.ensures.counted c.in-Ok-push.ensures.items;
   stood = start_more (SlotStands g.K.Keep.content) c.loop-keeper.nodes.items c.push.new.self.items c.in-Ok-start.slot c.in-Ok-push.ensures.items c.loop-keeper.invariant.stood c.in-Ok-start.ensures.ok;
 }
 
@@ -21,7 +21,7 @@ returns-in-Err-clause-start g c = elim c.not_started.ensures [
     at = length c.loop-keeper.nodes.items;
     number = omega (arith, c.len-in-Err.ensures, c.loop-keeper.nodes.ok.0);
     given = went_at (λ k s. g.K.Keep.failed k ≤ slot_failed g.K.Keep.failed s) c.args.keepers.items c.loop-keeper.keeper-iterator.rest.items c.next.new.self.rest.items
-      c.loop-keeper.nodes.items c.in-Some.keeper c.loop-keeper.invariant.so c.in-Some.ensures.steps.0;
+        c.loop-keeper.nodes.items c.in-Some.keeper c.loop-keeper.invariant.so c.in-Some.ensures.steps.0;
     kept = c.in-Err.ensures.kept;
     refused = c.in-Err.ensures.err other.0;
   })

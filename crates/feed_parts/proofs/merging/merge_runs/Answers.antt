@@ -9,7 +9,7 @@ use Rattle.feed_parts.proofs.merging.merge_runs.Goals.{After-partition_point-beg
 
 split_begin : (c : After-partition_point-begin)
     → IsPartitionPoint (λ p. ltb p.first c.index-parts-kept.result.first ≡ true) (λ p. ltb p.first c.index-parts-kept.result.first ≡ false)
-      (take c.args.kept c.args.parts.now) c.partition_point-begin.result
+    (take c.args.kept c.args.parts.now) c.partition_point-begin.result
 split_begin c =
     IsPartitionPoint-from_clause (λ p. ltb p.first c.index-parts-kept.result.first) (take c.args.kept c.args.parts.now) c.partition_point-begin.result c.partition_point-begin.ensures.partitioned
     (IsPartitionedBy-ltb (λ p. p.first) (take c.args.kept c.args.parts.now) c.index-parts-kept.result.first c.requires.front)
@@ -17,7 +17,7 @@ split_begin c =
 
 split_end : (c : After-partition_point)
     → IsPartitionPoint (λ p. ltb p.first c.index-parts-kept-2.result.first ≡ true) (λ p. ltb p.first c.index-parts-kept-2.result.first ≡ false)
-      (take c.args.kept c.args.parts.now) c.partition_point.result
+    (take c.args.kept c.args.parts.now) c.partition_point.result
 split_end c = IsPartitionPoint-from_clause (λ p. ltb p.first c.index-parts-kept-2.result.first) (take c.args.kept c.args.parts.now) c.partition_point.result c.partition_point.ensures.partitioned
     (IsPartitionedBy-ltb (λ p. p.first) (take c.args.kept c.args.parts.now) c.index-parts-kept-2.result.first c.requires.front)
     (λ a r q k. search rules)

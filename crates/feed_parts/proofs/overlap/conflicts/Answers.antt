@@ -9,7 +9,7 @@ use Rattle.feed_parts.proofs.overlap.conflicts.Goals.{After-part-item}
 
 at_part : (c : After-part-item)
     → IsAgreed c.args.size (shown_parts c.args.parts.now) c.args.first c.args.bytes.now
-      (shown_part c.part-item.result ∷ shown_parts (drop (c.loop-part.part-index + 1) c.meeting-part-items.result.now))
+    (shown_part c.part-item.result ∷ shown_parts (drop (c.loop-part.part-index + 1) c.meeting-part-items.result.now))
 at_part c =
     subst (IsAgreed c.args.size (shown_parts c.args.parts.now) c.args.first c.args.bytes.now)
     (next c.meeting-part-items.result.now c.loop-part.part-index c.part-item.result c.loop-part-test.true c.part-item.is) c.loop-part.invariant

@@ -12,7 +12,7 @@ use Rattle.feed_parts.proofs.overlap.covers.Goals.{After-part-item}
 
 at_part : (c : After-part-item)
     → IsLeft c.args.size (c.args.first + length c.args.bytes.now) (shown_parts c.args.parts.now) c.loop-part.place
-      (shown_part c.part-item.result ∷ shown_parts (drop (c.loop-part.part-index + 1) c.meeting-part-items.result.now))
+    (shown_part c.part-item.result ∷ shown_parts (drop (c.loop-part.part-index + 1) c.meeting-part-items.result.now))
 at_part c =
     subst (IsLeft c.args.size (c.args.first + length c.args.bytes.now) (shown_parts c.args.parts.now) c.loop-part.place)
     (next c.meeting-part-items.result.now c.loop-part.part-index c.part-item.result c.loop-part-test.true c.part-item.is) c.loop-part.invariant.left

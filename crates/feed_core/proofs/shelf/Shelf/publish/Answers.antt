@@ -15,4 +15,4 @@ returns c w is =
     let none = c.in_default.ensures w.shelf is in
     published_first c.args.self.now.files.entries c.insert.new.self.entries w c.args.name.now c.args.bytes.now
     (shelf_more c.args.self.now.files.entries c.insert.new.self.entries w.shelf c.args.name.now c.text.result c.args.bytes c.one_release_for_text.ensures c.one_text_for_release.ensures is
-      c.text.ensures.name none c.in_ok-insert.ensures.updates.0) none
+    c.text.ensures.name none c.in_ok-insert.ensures.updates.0) none

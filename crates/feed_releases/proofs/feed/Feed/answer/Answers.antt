@@ -16,7 +16,7 @@ pub returns-in-Ok : goal.returns-in-Ok
 returns-in-Ok g c h is =
     let found = rw c.deref.ensures.value at c.in-Some.ensures.found in
     answered c.args.self.now.releases.items h c.args.«package».now c.args.query.now c.in-Some.at c.index.result.now c.in-Some-holdings.holdings c.in-Ok.answer is found.0 found.1
-      c.index.ensures c.holdings.ensures.known (sym c.holdings.ensures.value ∙ c.in-Some-holdings.is) c.in-Ok.ensures
+    c.index.ensures c.holdings.ensures.known (sym c.holdings.ensures.value ∙ c.in-Some-holdings.is) c.in-Ok.ensures
 
 pub returns-in-Err : goal.returns-in-Err
 returns-in-Err g c h is =

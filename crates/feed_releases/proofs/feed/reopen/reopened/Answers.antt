@@ -20,8 +20,11 @@ loop-record-init c = record {
 pub returns-in-Err-clause-err : goal.returns-in-Err-clause-err
 returns-in-Err-clause-err c = elim c.in-Err.ensures.err [
   | inl memory ↦ inl memory
-  | inr damaged ↦ inr (damaged.0, reopened_not c.args.records.items c.loop-record.record-iterator.rest.items c.next.new.self.rest.items c.loop-record.releases.items c.in-Some.record
-    c.loop-record.invariant.so c.in-Some.ensures.steps.0 damaged.1)
+  | inr damaged ↦ inr (
+    damaged.0,
+    reopened_not c.args.records.items c.loop-record.record-iterator.rest.items c.next.new.self.rest.items c.loop-record.releases.items c.in-Some.record
+        c.loop-record.invariant.so c.in-Some.ensures.steps.0 damaged.1,
+  )
 ]
 
 pub push_reserved-requires : goal.push_reserved-requires
@@ -39,7 +42,7 @@ push_reserved-requires c =
 pub loop-record-preserved : goal.loop-record-preserved
 loop-record-preserved c = record {
   so = reopened_next c.args.records.items c.loop-record.record-iterator.rest.items c.next.new.self.rest.items c.loop-record.releases.items c.push_reserved.new.self.items c.in-Some.record
-    c.in-Ok-reopened.release c.loop-record.invariant.so c.in-Some.ensures.steps.0 c.in-Ok-reopened.ensures.ok.0 c.in-Ok-reopened.ensures.ok.1 c.push_reserved.ensures.items;
+      c.in-Ok-reopened.release c.loop-record.invariant.so c.in-Some.ensures.steps.0 c.in-Ok-reopened.ensures.ok.0 c.in-Ok-reopened.ensures.ok.1 c.push_reserved.ensures.items;
   room = omega (arith, c.loop-record.invariant.room, c.push_reserved.ensures.capacity);
 }
 
