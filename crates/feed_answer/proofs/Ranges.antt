@@ -26,7 +26,8 @@ module _ {X : Type 0} (f : X → ℕ) (n : ℕ) where
       rw out (none_at y ys (rest_ascends x (y ∷ ys) up) (omega arith))
 
   -- where no element is below the number, those that have it stand at the front
-  front_at : (xs : List X) → IsNonDecreasingBy f xs → ((k : ℕ) (d : X) → k < length xs → ltb (f (get_or xs k d)) n ≡ false) → take_while (λ x. eqb (f x) n) xs ≡ filter (λ x. eqb (f x) n) xs
+  front_at : (xs : List X) → IsNonDecreasingBy f xs → ((k : ℕ) (d : X) → k < length xs → ltb (f (get_or xs k d)) n ≡ false)
+      → take_while (λ x. eqb (f x) n) xs ≡ filter (λ x. eqb (f x) n) xs
   front_at [] up back = refl
   front_at (x ∷ xs) up back = elim (eqb (f x) n) as (λ b. eqb (f x) n ≡ b → take_while (λ x. eqb (f x) n) (x ∷ xs) ≡ filter (λ x. eqb (f x) n) (x ∷ xs)) [
     | true ↦ λ e.
@@ -43,4 +44,7 @@ module _ {X : Type 0} (f : X → ℕ) (n : ℕ) where
   part_at [] (suc i) up within below = absurd (omega arith)
   part_at (x ∷ xs) (suc i) up within below =
       let out : eqb (f x) n ≡ false = below_not_at (f x) n (below.0 0 x (omega arith) (omega arith)) in
-      rw out (part_at xs i (rest_ascends x xs up) (omega arith) ((λ k d h g. below.0 (suc k) d (omega arith) (omega (arith, g))), (λ k d h g. below.1 (suc k) d (omega (arith, h)) (omega (arith, g)))))
+      rw out (part_at xs i (rest_ascends x xs up) (omega arith) (
+        (λ k d h g. below.0 (suc k) d (omega arith) (omega (arith, g))),
+        (λ k d h g. below.1 (suc k) d (omega (arith, h)) (omega (arith, g))),
+      ))

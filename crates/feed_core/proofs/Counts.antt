@@ -1,5 +1,6 @@
 -- How often the devices of nodes failed, over a step and over a run.
-use Rattle.std.proofs.Common.{◌≡◌, ◌<◌, ◌≤◌, ◌+◌, ◌++◌, ℕ, zero, suc, Bool, List, [], ◌∷◌, length, map, take, get_or, slice_set, Some, Result, Err, ◌⊎◌, inl, inr, sym, ◌∙◌, ap, subst}
+use Rattle.std.proofs.Common.{◌≡◌, ◌<◌, ◌≤◌, ◌+◌, ◌++◌, ℕ, zero, suc, Bool, List, [], ◌∷◌, length}
+use Rattle.std.proofs.Common.{map, take, get_or, slice_set, Some, Result, Err, ◌⊎◌, inl, inr, sym, ◌∙◌, ap, subst}
 use Rattle.std.proofs.Common.{length-take, arith}
 use Rattle.std.proofs.lemmas.List.{take_more, length-map}
 use Rattle.feed_model.specs.declared.keep_fault.KeepFault.{KeepFault}
@@ -54,7 +55,8 @@ counted_then P Q f g h node (x ∷ xs) (y ∷ ys) (z ∷ zs) a b = (omega (arith
     pick (inr t) = failed_before (f x) (g y) (h z) a.0 (b.1 t)
 
 -- less is told
-pub counted_as : {X Y : Type 0} (P Q : ℕ → Type 0) (f : X → ℕ) (g : Y → ℕ) (node : ℕ) (xs : List X) (ys : List Y) → ((i : ℕ) → Q i → P i) → AreCounted P f g node xs ys → AreCounted Q f g node xs ys
+pub counted_as : {X Y : Type 0} (P Q : ℕ → Type 0) (f : X → ℕ) (g : Y → ℕ) (node : ℕ) (xs : List X) (ys : List Y) → ((i : ℕ) → Q i → P i) → AreCounted P f g node xs ys
+    → AreCounted Q f g node xs ys
 counted_as P Q f g node [] [] less a = tt
 counted_as P Q f g node [] (y ∷ ys) less a = absurd a
 counted_as P Q f g node (x ∷ xs) [] less a = absurd a
@@ -106,8 +108,8 @@ pub counted_stay : {M : Type 0} (failed : M → ℕ) (xs : List M) (node : ℕ) 
 counted_stay failed xs node line not = counted_same (λ i. (i ≡ node) × TellsDevice line) failed 1 xs (λ i t. absurd (not t.1))
 
 -- one node changes
-pub counted_step : {M : Type 0} (failed : M → ℕ) (xs ys : List M) (at node : ℕ) (x z : M) (line : Line) → at < length xs → x ≡ get_or xs at x → ys ≡ slice_set xs at z → node ≡ at + 1
-    → failed x ≤ failed z → (TellsDevice line → HasFailed (failed x) (failed z)) → AreCounted (λ i. (i ≡ node) × TellsDevice line) failed failed 1 xs ys
+pub counted_step : {M : Type 0} (failed : M → ℕ) (xs ys : List M) (at node : ℕ) (x z : M) (line : Line) → at < length xs → x ≡ get_or xs at x → ys ≡ slice_set xs at z
+    → node ≡ at + 1 → failed x ≤ failed z → (TellsDevice line → HasFailed (failed x) (failed z)) → AreCounted (λ i. (i ≡ node) × TellsDevice line) failed failed 1 xs ys
 counted_step {M} failed xs ys at node x z line lt is now number le rise =
     subst (λ (zs : List M). AreCounted (λ i. (i ≡ node) × TellsDevice line) failed failed 1 xs zs) (sym now)
     (counted_set (λ i. (i ≡ node) × TellsDevice line) failed 1 xs at x z lt is le (λ t. failed_since (failed x) (failed z) (rise t.1)) (λ i t. omega (arith, t.0, number)))
@@ -115,7 +117,8 @@ counted_step {M} failed xs ys at node x z line lt is now number le rise =
 -- the node of an event
 pub counted_at : {M : Type 0} (failed : M → ℕ) (xs ys : List M) (node : ℕ) (line : Line) → AreCounted (λ i. (i ≡ node) × TellsDevice line) failed failed 1 xs ys
     → AreCounted (λ i. (Some node ≡ Some i) × TellsDevice line) failed failed 1 xs ys
-counted_at failed xs ys node line a = counted_as (λ i. (i ≡ node) × TellsDevice line) (λ i. (Some node ≡ Some i) × TellsDevice line) failed failed 1 xs ys (λ i t. (let e = t.0 in (cc, t.1))) a
+counted_at failed xs ys node line a = counted_as (λ i. (i ≡ node) × TellsDevice line) (λ i. (Some node ≡ Some i) × TellsDevice line) failed failed 1 xs ys
+    (λ i t. (let e = t.0 in (cc, t.1))) a
 
 told_more : (es : List WorldEvent) (ls : List Line) (e : WorldEvent) (l : Line) (node : ℕ) → length es ≡ length ls → IsToldOf (es ++ e ∷ []) (ls ++ l ∷ []) node
     → IsToldOf es ls node ⊎ ((node_of e ≡ Some node) × TellsDevice l)
@@ -126,13 +129,14 @@ told_more (x ∷ xs) [] e l node same t = absurd (omega (arith, same))
 told_more (x ∷ xs) (y ∷ ys) e l node same (inl t) = inl (inl t)
 told_more (x ∷ xs) (y ∷ ys) e l node same (inr t) = pick (told_more xs ys e l node (omega (arith, same)) t)
   where
-    pick : IsToldOf xs ys node ⊎ ((node_of e ≡ Some node) × TellsDevice l) → (((node_of x ≡ Some node) × TellsDevice y) ⊎ IsToldOf xs ys node) ⊎ ((node_of e ≡ Some node) × TellsDevice l)
+    pick : IsToldOf xs ys node ⊎ ((node_of e ≡ Some node) × TellsDevice l) → (((node_of x ≡ Some node) × TellsDevice y) ⊎ IsToldOf xs ys node)
+        ⊎ ((node_of e ≡ Some node) × TellsDevice l)
     pick (inl u) = inl (inr u)
     pick (inr u) = inr u
 
 -- one more event and one more line
-pub counted_more : {M E L : Type 0} (failed : M → ℕ) (told : E → WorldEvent) (shown : L → Line) (es : List E) (ls ks : List L) (i : ℕ) (e : E) (l : L) (xs ys zs : List M) → e ≡ get_or es i e
-    → i < length es → length ls ≡ i → ks ≡ ls ++ l ∷ [] → AreCounted (IsToldOf (map told (take i es)) (map shown ls)) failed failed 1 xs ys
+pub counted_more : {M E L : Type 0} (failed : M → ℕ) (told : E → WorldEvent) (shown : L → Line) (es : List E) (ls ks : List L) (i : ℕ) (e : E) (l : L) (xs ys zs : List M)
+    → e ≡ get_or es i e → i < length es → length ls ≡ i → ks ≡ ls ++ l ∷ [] → AreCounted (IsToldOf (map told (take i es)) (map shown ls)) failed failed 1 xs ys
     → AreCounted (λ n. (node_of (told e) ≡ Some n) × TellsDevice (shown l)) failed failed 1 ys zs → AreCounted (IsToldOf (map told (take (i + 1) es)) (map shown ks)) failed failed 1 xs zs
 counted_more {M} {E} failed told shown es ls ks i e l xs ys zs at lt same is before step =
     rw (is, take_more es i e lt, map-push told (take i es) (get_or es i e), map-push shown ls l)

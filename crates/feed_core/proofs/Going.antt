@@ -17,7 +17,8 @@ goes_to clean stands fits files old new event line fit goes all =
     (r.0, λ w is n. (let t = r.1 w (fit w.shelf is) n in (t.0, t.1, subst (IsShelf files) (sym t.2) is, t.3)))
 
 -- a file is published, and the nodes stay
-pub publishes : {M : Type 0} (clean : M → Type 0) (stands : M → Bool → History → Type 0) (before files : List (Bor (List ℕ) × Bor (List ℕ))) (nodes : List M) (event : WorldEvent) (line : Line)
+pub publishes : {M : Type 0} (clean : M → Type 0) (stands : M → Bool → History → Type 0) (before files : List (Bor (List ℕ) × Bor (List ℕ))) (nodes : List M) (event : WorldEvent)
+    (line : Line)
     → ((w : World) → IsShelf before w.shelf → (v : World) × Happens w event line v × IsShelf files v.shelf × (v.nodes ≡ w.nodes)) → GoesTo clean stands before files nodes nodes event line
 publishes clean stands before files nodes event line publish all =
     (all, λ w is n. (let t = publish w is in (t.0, t.1, t.2, subst (AreNodes stands nodes) (sym t.3) n)))
@@ -51,8 +52,8 @@ pub record Went {S K : Type 0} (law : S → K → Type 0) (all rest : List S) (m
   pub order : done ++ rest ≡ all
   pub each : AreOf law done made
 
-pub went_next : {S K : Type 0} (law : S → K → Type 0) (all rest more : List S) (made now : List K) (s : S) (k : K) → Went law all rest made → rest ≡ s ∷ more → law s k → now ≡ made ++ k ∷ []
-    → Went law all more now
+pub went_next : {S K : Type 0} (law : S → K → Type 0) (all rest more : List S) (made now : List K) (s : S) (k : K) → Went law all rest made → rest ≡ s ∷ more → law s k
+    → now ≡ made ++ k ∷ [] → Went law all more now
 went_next {S} {K} law all rest more made now s k so is holds pushed = record {
   done = so.done ++ s ∷ [];
   order = append_snoc so.done s more ∙ ap (λ (xs : List S). so.done ++ xs) (sym is) ∙ so.order;

@@ -25,8 +25,8 @@ key_self : (key other : Bor (List ℕ)) → key.now ≡ other.now → is_key key
 key_self key other e = is_eq-slice_cmp key.now other.now ∙ (bytes_decides key.now other.now).1 e
 
 -- with one more file, which had no name
-pub shelf_more : (old new : List (Bor (List ℕ) × Bor (List ℕ))) (shelf : Shelf) (n : Name) (key file : Bor (List ℕ)) → OneReleaseForText → OneTextForRelease → IsShelf old shelf → IsName key.now n
-    → text_of shelf n ≡ None
+pub shelf_more : (old new : List (Bor (List ℕ) × Bor (List ℕ))) (shelf : Shelf) (n : Name) (key file : Bor (List ℕ)) → OneReleaseForText → OneTextForRelease → IsShelf old shelf
+    → IsName key.now n → text_of shelf n ≡ None
     → ((q : Bor (List ℕ)) → lookup (is_at (λ k. slice_cmp nat_cmp q.now k.now)) new ≡ cond (is_key key q) (Some file) (lookup (is_at (λ k. slice_cmp nat_cmp q.now k.now)) old))
     → IsShelf new (shelf ++ (n, file.now) ∷ [])
 shelf_more old new shelf n key file one_release one_text was named unknown updates m q is = by (name_eq n m) refl (is_key key q) refl

@@ -17,8 +17,8 @@ map-push f (x ∷ xs) e = ap (λ ys. f x ∷ ys) (map-push f xs e)
 
 -- one more event and one more line
 pub has_more : {M E L : Type 0} (clean : M → Type 0) (stands : M → Bool → History → Type 0) (told : E → WorldEvent) (shown : L
-    → Line) (count : ℕ) (es : List E) (ls ks : List L) (i : ℕ) (e : E) (l : L) (before files : List (Bor (List ℕ) × Bor (List ℕ))) (old new : List M) → e ≡ get_or es i e → i < length es
-    → ks ≡ ls ++ l ∷ [] → HasShown clean stands count (map told (take i es)) (map shown ls) before old → GoesTo clean stands before files old new (told e) (shown l)
+    → Line) (count : ℕ) (es : List E) (ls ks : List L) (i : ℕ) (e : E) (l : L) (before files : List (Bor (List ℕ) × Bor (List ℕ))) (old new : List M) → e ≡ get_or es i e
+    → i < length es → ks ≡ ls ++ l ∷ [] → HasShown clean stands count (map told (take i es)) (map shown ls) before old → GoesTo clean stands before files old new (told e) (shown l)
     → HasShown clean stands count (map told (take (i + 1) es)) (map shown ks) files new
 has_more clean stands told shown count es ls ks i e l before shelf old new at lt is s step = λ a.
     let r = step a in

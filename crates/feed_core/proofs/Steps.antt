@@ -1,5 +1,6 @@
 -- Steps of nodes.
-use Rattle.std.proofs.Common.{◌≡◌, ◌<◌, ◌≤◌, ◌+◌, ℕ, zero, suc, Bool, true, false, Result, Ok, List, [], ◌∷◌, length, get_or, Some, None, slice_get, slice_set, insert, remove, ◌⊎◌, inl, inr}
+use Rattle.std.proofs.Common.{◌≡◌, ◌<◌, ◌≤◌, ◌+◌, ℕ, zero, suc, Bool, true, false, Result, Ok, List, [], ◌∷◌}
+use Rattle.std.proofs.Common.{length, get_or, Some, None, slice_get, slice_set, insert, remove, ◌⊎◌, inl, inr}
 use Rattle.std.proofs.Common.{refl, sym, ◌∙◌, ap, subst, arith}
 use Rattle.feed_model.specs.History.{History}
 use Rattle.feed_model.specs.History.{Event}
@@ -18,7 +19,8 @@ none_past stands (x ∷ xs) (y ∷ ys) zero a le = absurd (omega arith)
 none_past stands (x ∷ xs) (y ∷ ys) (suc i) a le = none_past stands xs ys i a.1 (omega arith)
 
 -- there is no node of this number
-pub none_at : {M : Type 0} (stands : M → Bool → History → Type 0) (xs : List M) (ys : List Node) (node : ℕ) → AreNodes stands xs ys → (node ≡ 0) ⊎ (length xs < node) → node_at ys node ≡ None
+pub none_at : {M : Type 0} (stands : M → Bool → History → Type 0) (xs : List M) (ys : List Node) (node : ℕ) → AreNodes stands xs ys → (node ≡ 0) ⊎ (length xs < node)
+    → node_at ys node ≡ None
 none_at stands xs ys zero a out = refl
 none_at stands xs ys (suc i) a (inl e) = absurd (omega (arith, e))
 none_at stands xs ys (suc i) a (inr lt) = none_past stands xs ys i a (omega arith)
@@ -73,8 +75,8 @@ pub record Acts {M : Type 0} (stands : M → Bool → History → Type 0) (fits 
   pub stood : stands z up history
 
 -- one node goes on
-pub goes_set : {M : Type 0} (clean : M → Type 0) (stands : M → Bool → History → Type 0) (fits : Shelf → Type 0) (xs : List M) (at : ℕ) (x z : M) (node : ℕ) (event : WorldEvent) (line : Line)
-    → at < length xs → x ≡ get_or xs at x → node ≡ at + 1 → (clean z → clean x)
+pub goes_set : {M : Type 0} (clean : M → Type 0) (stands : M → Bool → History → Type 0) (fits : Shelf → Type 0) (xs : List M) (at : ℕ) (x z : M) (node : ℕ) (event : WorldEvent)
+    (line : Line) → at < length xs → x ≡ get_or xs at x → node ≡ at + 1 → (clean z → clean x)
     → ((w : World) (y : Node) → fits w.shelf → node_at w.nodes node ≡ Some y → clean z → stands x y.up y.history → Acts stands fits node x z event line w y)
     → Goes clean stands fits xs (slice_set xs at z) event line
 goes_set clean stands fits xs at x z node event line lt e is f act =
@@ -112,8 +114,8 @@ pub next : {node at : ℕ} → node ≡ suc at → node ≡ at + 1
 next is = omega (arith, is)
 
 -- there is one, whatever it is
-pub goes_known : {M : Type 0} (clean : M → Type 0) (stands : M → Bool → History → Type 0) (fits : Shelf → Type 0) (xs : List M) (at node : ℕ) (event : WorldEvent) (line : Line) → at < length xs
-    → node ≡ at + 1 → ((w : World) (y : Node) → fits w.shelf → node_at w.nodes node ≡ Some y → Happens w event line w) → Goes clean stands fits xs xs event line
+pub goes_known : {M : Type 0} (clean : M → Type 0) (stands : M → Bool → History → Type 0) (fits : Shelf → Type 0) (xs : List M) (at node : ℕ) (event : WorldEvent) (line : Line)
+    → at < length xs → node ≡ at + 1 → ((w : World) (y : Node) → fits w.shelf → node_at w.nodes node ≡ Some y → Happens w event line w) → Goes clean stands fits xs xs event line
 goes_known clean stands fits xs at node event line lt is stay =
     goes_not clean stands fits xs event line (λ w s a n. (let x = element xs at lt in let y = some_at stands xs w.nodes node at x.0 n is lt x.1 in stay w y.0 s y.1))
 
@@ -121,7 +123,8 @@ goes_known clean stands fits xs at node event line lt is stay =
 pub goes_stay : {M : Type 0} (clean : M → Type 0) (stands : M → Bool → History → Type 0) (fits : Shelf
     → Type 0) (xs : List M) (at : ℕ) (v : M) (node : ℕ) (event : WorldEvent) (line : Line) (b : Bool) → at < length xs → v ≡ get_or xs at v → node ≡ at + 1
     → ((up : Bool) (h : History) → clean v → stands v up h → b ≡ up)
-    → ((w : World) (y : Node) → fits w.shelf → node_at w.nodes node ≡ Some y → y.up ≡ b → clean v → stands v b y.history → Happens w event line w) → Goes clean stands fits xs xs event line
+    → ((w : World) (y : Node) → fits w.shelf → node_at w.nodes node ≡ Some y → y.up ≡ b → clean v → stands v b y.history → Happens w event line w)
+    → Goes clean stands fits xs xs event line
 goes_stay clean stands fits xs at v node event line b lt e is law stay =
     goes_not clean stands fits xs event line
     (λ w s a n. (let y = some_at stands xs w.nodes node at v n is lt e in let c = clean_at clean xs at v lt e a in let up = law y.0.up y.0.history c y.2 in stay w y.0 s y.1 (sym up) c
@@ -129,8 +132,8 @@ goes_stay clean stands fits xs at v node event line b lt e is law stay =
 
 -- it is up, and goes on
 pub goes_up : {M : Type 0} (clean : M → Type 0) (stands : M → Bool → History → Type 0) (fits : Shelf
-    → Type 0) (xs : List M) (at : ℕ) (v x z : M) (node : ℕ) (event : WorldEvent) (line : Line) (b : Bool) → b ≡ true → at < length xs → v ≡ get_or xs at v → x ≡ get_or xs at x → node ≡ at + 1
-    → (clean z → clean x) → ((up : Bool) (h : History) → clean v → stands v up h → b ≡ up)
+    → Type 0) (xs : List M) (at : ℕ) (v x z : M) (node : ℕ) (event : WorldEvent) (line : Line) (b : Bool) → b ≡ true → at < length xs → v ≡ get_or xs at v → x ≡ get_or xs at x
+    → node ≡ at + 1 → (clean z → clean x) → ((up : Bool) (h : History) → clean v → stands v up h → b ≡ up)
     → ((w : World) (y : Node) → fits w.shelf → node_at w.nodes node ≡ Some y → y.up ≡ true → clean z → stands x true y.history → Acts stands fits node x z event line w y)
     → Goes clean stands fits xs (slice_set xs at z) event line
 goes_up {M} clean stands fits xs at v x z node event line b running lt e f is back law act =
@@ -174,16 +177,16 @@ away_asked clean stands xs node reason event Rest happens (inr (inr down)) =
     (λ w y s at up k stood. happens w (Refused Down) w (rw (at, up) (refl, refl))))
 
 -- a node that is ready goes on
-pub goes_ready : {M : Type 0} (clean : M → Type 0) (stands : M → Bool → History → Type 0) (fits : Shelf → Type 0) (xs : List M) (at : ℕ) (x z : M) (node : ℕ) (event : WorldEvent) (line : Line)
-    → IsReady stands xs node at → x ≡ get_or xs at x → (clean z → clean x)
+pub goes_ready : {M : Type 0} (clean : M → Type 0) (stands : M → Bool → History → Type 0) (fits : Shelf → Type 0) (xs : List M) (at : ℕ) (x z : M) (node : ℕ) (event : WorldEvent)
+    (line : Line) → IsReady stands xs node at → x ≡ get_or xs at x → (clean z → clean x)
     → ((w : World) (y : Node) → fits w.shelf → node_at w.nodes node ≡ Some y → y.up ≡ true → clean z → stands x true y.history → Acts stands fits node x z event line w y)
     → Goes clean stands fits xs (slice_set xs at z) event line
 goes_ready clean stands fits xs at x z node event line ready here back act =
     goes_up clean stands fits xs at x x z node event line true refl ready.within here here (next ready.number) back (λ up h k s. sym (ready.up x here up h s)) act
 
 -- a node that is ready is asked
-pub asks_ready : {M : Type 0} (clean : M → Type 0) (stands : M → Bool → History → Type 0) (xs : List M) (at : ℕ) (x : M) (node : ℕ) (event : WorldEvent) (line : Line) → IsReady stands xs node at
-    → x ≡ get_or xs at x
+pub asks_ready : {M : Type 0} (clean : M → Type 0) (stands : M → Bool → History → Type 0) (xs : List M) (at : ℕ) (x : M) (node : ℕ) (event : WorldEvent) (line : Line)
+    → IsReady stands xs node at → x ≡ get_or xs at x
     → ((w : World) (y : Node) → node_at w.nodes node ≡ Some y → y.up ≡ true → stands x true y.history → Happens w event line w) → Goes clean stands (λ _. Unit {0}) xs xs event line
 asks_ready clean stands xs at x node event line ready here asks =
     goes_stay clean stands (λ _. Unit {0}) xs at x node event line true ready.within here (next ready.number) (λ up h k s. sym (ready.up x here up h s))

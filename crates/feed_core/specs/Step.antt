@@ -68,7 +68,8 @@ IsAway stands nodes node arrived reason =
 -- Where all nodes are clean now, they were clean, and from each world at which they stood, and whose published files fit, the event may be shown by this line, and leave a world at which they stand.
 abbrev pub Goes : {M : Type 0} → (M → Type 0) → (M → Bool → History → Type 0) → (Shelf → Type 0) → List M → List M → WorldEvent → Line → Type 0
 Goes clean stands fits old new event line =
-    AllClean clean new → AllClean clean old × ((w : World) → fits w.shelf → AreNodes stands old w.nodes → (v : World) × Happens w event line v × (v.shelf ≡ w.shelf) × AreNodes stands new v.nodes)
+    AllClean clean new → AllClean clean old × ((w : World) → fits w.shelf → AreNodes stands old w.nodes → (v : World) × Happens w event line v × (v.shelf ≡ w.shelf)
+    × AreNodes stands new v.nodes)
 
 -- the file that is found by the text of a name
 abbrev pub file_at : List (Bor (List ℕ) × Bor (List ℕ)) → Bor (List ℕ) → Option (List ℕ)
@@ -79,13 +80,15 @@ abbrev pub IsShelf : List (Bor (List ℕ) × Bor (List ℕ)) → Shelf → Type 
 IsShelf files shelf = (n : Name) (key : Bor (List ℕ)) → IsName key.now n → text_of shelf n ≡ file_at files key
 
 -- the same, where more may be published
-abbrev pub GoesTo : {M : Type 0} → (M → Type 0) → (M → Bool → History → Type 0) → List (Bor (List ℕ) × Bor (List ℕ)) → List (Bor (List ℕ) × Bor (List ℕ)) → List M → List M → WorldEvent → Line → Type 0
+abbrev pub GoesTo : {M : Type 0} → (M → Type 0) → (M → Bool → History → Type 0) → List (Bor (List ℕ) × Bor (List ℕ)) → List (Bor (List ℕ) × Bor (List ℕ)) → List M
+    → List M → WorldEvent → Line → Type 0
 GoesTo clean stands before files old new event line =
     AllClean clean new → AllClean clean old × ((w : World) → IsShelf before w.shelf → AreNodes stands old w.nodes → (v : World) × Happens w event line v × IsShelf files v.shelf
     × AreNodes stands new v.nodes)
 
 -- Where all nodes are clean, the lines so far show the events so far, and the nodes stand where they lead.
-abbrev pub HasShown : {M : Type 0} → (M → Type 0) → (M → Bool → History → Type 0) → ℕ → List WorldEvent → List Line → List (Bor (List ℕ) × Bor (List ℕ)) → List M → Type 0
+abbrev pub HasShown : {M : Type 0} → (M → Type 0) → (M → Bool → History → Type 0) → ℕ → List WorldEvent → List Line → List (Bor (List ℕ) × Bor (List ℕ)) → List M
+    → Type 0
 HasShown clean stands count events lines files nodes =
     AllClean clean nodes → (w : World) × Shows (start count) events lines w × IsShelf files w.shelf × AreNodes stands nodes w.nodes
 

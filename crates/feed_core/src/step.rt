@@ -1,5 +1,6 @@
 //! What a world makes of one event at one node.
-ghost use Rattle.std.specs.Prelude.{◌≡◌, ◌≢◌, ◌+◌, ◌<◌, ◌≤◌, ◌⊎◌, ◌∷◌, Bool, true, Ok, Err, IfOk, IfErr, IfSome};
+ghost use Rattle.std.specs.Prelude.{◌≡◌, ◌≢◌, ◌+◌, ◌<◌, ◌≤◌, ◌⊎◌, ◌∷◌};
+ghost use Rattle.std.specs.Prelude.{Bool, true, Ok, Err, IfOk, IfErr, IfSome};
 ghost use Rattle.std.specs.Prelude.{IfNone, insert, length, vec_len, vec_capacity};
 ghost use Rattle.feed_model.specs.History.{History, Answer};
 ghost use Rattle.feed_model.specs.Reply.{IsRight};
@@ -114,7 +115,8 @@ pub(crate) fn tell_at<N: Node>(
     node: u64,
     arrived: Result<Event<'_>, Why>,
 ) -> Line
-    ensures step { (what : sent) → Goes N.clean N.stands (λ shelf. arriving shelf what ≡ shown_arrived arrived.entry)
+    ensures step { (what : sent) → Goes N.clean N.stands
+        (λ shelf. arriving shelf what ≡ shown_arrived arrived.entry)
         nodes.old.items nodes.new.items (Tell node what) (shown_line result) }
     ensures count { length nodes.new.items ≡ length nodes.old.items }
     ensures device { arrived.entry ≢ Err (Why.Feed Refusal.Device)
@@ -138,7 +140,8 @@ pub(crate) fn stop_before_at<N: Node + Drop>(
     node: u64,
     arrived: Result<Event<'_>, Why>,
 ) -> Line
-    ensures step { (what : sent) → Goes N.clean N.stands (λ shelf. arriving shelf what ≡ shown_arrived arrived.entry)
+    ensures step { (what : sent) → Goes N.clean N.stands
+        (λ shelf. arriving shelf what ≡ shown_arrived arrived.entry)
         nodes.old.items nodes.new.items (StopBefore node what) (shown_line result) }
     ensures count { length nodes.new.items ≡ length nodes.old.items }
     ensures device { arrived.entry ≢ Err (Why.Feed Refusal.Device)
@@ -162,7 +165,8 @@ pub(crate) fn stop_after_at<N: Node + Drop>(
     node: u64,
     arrived: Result<Event<'_>, Why>,
 ) -> Line
-    ensures step { (what : sent) → Goes N.clean N.stands (λ shelf. arriving shelf what ≡ shown_arrived arrived.entry)
+    ensures step { (what : sent) → Goes N.clean N.stands
+        (λ shelf. arriving shelf what ≡ shown_arrived arrived.entry)
         nodes.old.items nodes.new.items (StopAfter node what) (shown_line result) }
     ensures count { length nodes.new.items ≡ length nodes.old.items }
     ensures device { arrived.entry ≢ Err (Why.Feed Refusal.Device)

@@ -1,5 +1,6 @@
 -- The days of a text are the least and the greatest whose written date begins with it.
-use Rattle.std.proofs.Common.{◌≡◌, ◌≢◌, ◌≤◌, ◌<◌, ◌+◌, ◌/◌, ◌%◌, ◌==◌, ℕ, List, [], ◌∷◌, ◌++◌, length, Option, Some, None, refl, sym, ap, arith, ◌∙◌, Bool, true, false, cond, inl, inr, ℤ, pos, ◌≤ℤ◌}
+use Rattle.std.proofs.Common.{◌≡◌, ◌≢◌, ◌≤◌, ◌<◌, ◌+◌, ◌/◌, ◌%◌, ◌==◌, ℕ, List, [], ◌∷◌, ◌++◌, length}
+use Rattle.std.proofs.Common.{Option, Some, None, refl, sym, ap, arith, ◌∙◌, Bool, true, false, cond, inl, inr, ℤ, pos, ◌≤ℤ◌}
 use Rattle.std.specs.Prelude.{MatchOption, option_map, ◌&&◌}
 use Rattle.std.proofs.lemmas.Bool.{cases_lt, eqb-true}
 use Rattle.jiff_core.specs.Calendar.{days_from_civil, days_in_month, IsCivilDate}
@@ -62,7 +63,8 @@ month-written y m k a b c d g e f rest h w =
     let ef : f ≡ 48 + m % 10 = cc in
     (eg, rw (ee, ef) (two_digits-two m (omega (arith, h.month_in))))
 
-day-written : (y m k a b c d g e f u i j : ℕ) (rest : List ℕ) → IsDay y m k → written y m k ≡ a ∷ b ∷ c ∷ d ∷ g ∷ e ∷ f ∷ u ∷ i ∷ j ∷ rest → (u ≡ 45) × (two_digits i j ≡ Some k)
+day-written : (y m k a b c d g e f u i j : ℕ) (rest : List ℕ) → IsDay y m k → written y m k ≡ a ∷ b ∷ c ∷ d ∷ g ∷ e ∷ f ∷ u ∷ i ∷ j ∷ rest
+    → (u ≡ 45) × (two_digits i j ≡ Some k)
 day-written y m k a b c d g e f u i j rest h w =
     let eu : u ≡ 45 = cc in
     let ei : i ≡ 48 + k / 10 % 10 = cc in
@@ -144,7 +146,8 @@ year-found a b c d days e = go (four_digits a b c d) refl e
         }
 
 -- `YYYY-MM`
-month-reads : (a b c d g e f : ℕ) (n : ℤ) → IsDayOf (a ∷ b ∷ c ∷ d ∷ g ∷ e ∷ f ∷ []) n → (days : DayRange) × (days_of (a ∷ b ∷ c ∷ d ∷ g ∷ e ∷ f ∷ []) ≡ Some days)
+month-reads : (a b c d g e f : ℕ) (n : ℤ) → IsDayOf (a ∷ b ∷ c ∷ d ∷ g ∷ e ∷ f ∷ []) n
+    → (days : DayRange) × (days_of (a ∷ b ∷ c ∷ d ∷ g ∷ e ∷ f ∷ []) ≡ Some days)
 month-reads a b c d g e f n h =
     let y = year-written h.year h.month h.day a b c d (g ∷ e ∷ f ∷ h.rest) h.real h.begins in
     let m = month-written h.year h.month h.day a b c d g e f h.rest h.real h.begins in (
@@ -215,7 +218,8 @@ day-found a b c d e f i j days is = go (four_digits a b c d) (two_digits e f) (t
     go (Some y) (Some m) None r s t is = cc
     go (Some y) (Some m) (Some k) r s t is =
         let both = alone_some (is_day y m k) (days_from_civil (pos y) m k) days is in
-        let begins = begin_month y m k a b c d e f (two-four_digits a b c d y r) (two-two_digits e f m s) ∙ ap (λ back. (a ∷ b ∷ c ∷ d ∷ 45 ∷ e ∷ f ∷ []) ++ (45 ∷ back)) (two-two_digits i j k t) in
+        let begins = begin_month y m k a b c d e f (two-four_digits a b c d y r) (two-two_digits e f m s)
+        ∙ ap (λ back. (a ∷ b ∷ c ∷ d ∷ 45 ∷ e ∷ f ∷ []) ++ (45 ∷ back)) (two-two_digits i j k t) in
         let one = λ (n : ℤ) (h : IsDayOf (a ∷ b ∷ c ∷ d ∷ 45 ∷ e ∷ f ∷ 45 ∷ i ∷ j ∷ []) n).
         only_day h.year h.month h.day y m k
         (some_same h.year y (four_digits a b c d) (year-written h.year h.month h.day a b c d (45 ∷ e ∷ f ∷ 45 ∷ i ∷ j ∷ h.rest) h.real h.begins) r)

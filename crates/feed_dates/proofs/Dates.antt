@@ -93,7 +93,8 @@ parts_written a b c d e f i j None om od n ry rm rd s = cc
 parts_written a b c d e f i j (Some y) None od n ry rm rd s = cc
 parts_written a b c d e f i j (Some y) (Some m) None n ry rm rd s = cc
 
-ten_written : (a b c d h e f k i j : ℕ) (n : ℤ) → day_of_date (a ∷ b ∷ c ∷ d ∷ h ∷ e ∷ f ∷ k ∷ i ∷ j ∷ []) ≡ Some n → IsDateOf n (a ∷ b ∷ c ∷ d ∷ h ∷ e ∷ f ∷ k ∷ i ∷ j ∷ [])
+ten_written : (a b c d h e f k i j : ℕ) (n : ℤ) → day_of_date (a ∷ b ∷ c ∷ d ∷ h ∷ e ∷ f ∷ k ∷ i ∷ j ∷ []) ≡ Some n
+    → IsDateOf n (a ∷ b ∷ c ∷ d ∷ h ∷ e ∷ f ∷ k ∷ i ∷ j ∷ [])
 ten_written a b c d h e f k i j n s = elim (eqb_tells h 45) [
   | inl first ↦ elim (eqb_tells k 45) [
     | inl second ↦ rw (first.1, second.1) (parts_written a b c d e f i j _ _ _ n refl refl refl (rw (first.0, second.0) at s))

@@ -1,5 +1,6 @@
 -- Days of the Gregorian calendar from year 1 to 9999, and their dates as ISO 8601 writes them.
-use Rattle.std.specs.Prelude.{◌≡◌, ◌==◌, ◌&&◌, ℕ, zero, suc, ◌+◌, ◌-◌, ◌*◌, ◌/◌, ◌%◌, nat_le, Bool, if◌then◌else◌, List, [], ◌∷◌, ◌++◌, Option, Some, None, ℤ}
+use Rattle.std.specs.Prelude.{◌≡◌, ◌==◌, ◌&&◌, ℕ, zero, suc, ◌+◌, ◌-◌, ◌*◌, ◌/◌, ◌%◌, nat_le}
+use Rattle.std.specs.Prelude.{Bool, if◌then◌else◌, List, [], ◌∷◌, ◌++◌, Option, Some, None, ℤ}
 use Rattle.std.specs.Prelude.{pos, unsigned_abs, ◌-ℤ◌, int_le, FitsSigned}
 use Rattle.std.specs.Int.{IsInRange, w32}
 use Rattle.std.specs.Char.{is_ascii_digit}

@@ -1,5 +1,6 @@
 -- Chunks that are read one after another.
-use Rattle.std.proofs.Common.{◌≡◌, ◌≤◌, ◌<◌, ◌-◌, ℕ, zero, suc, List, [], ◌∷◌, ◌++◌, length, All, Option, Some, None, IfSome, IfErr, Result, Ok, Err, sym, ap, arith, ◌∙◌, subst, inr, ◌⊎◌}
+use Rattle.std.proofs.Common.{◌≡◌, ◌≤◌, ◌<◌, ◌-◌, ℕ, zero, suc, List, [], ◌∷◌, ◌++◌, length, All, Option}
+use Rattle.std.proofs.Common.{Some, None, IfSome, IfErr, Result, Ok, Err, sym, ap, arith, ◌∙◌, subst, inr, ◌⊎◌}
 use Rattle.std.specs.Prelude.{IsErrAnd, ⊤}
 use Rattle.std.specs.Io.KnownBytes.{Consumes}
 use Rattle.std.proofs.lemmas.List.{append-nil}

@@ -1,5 +1,6 @@
 -- The law over both ends: what is asked for, served and read back.
-use Rattle.std.proofs.Common.{◌≡◌, ◌≤◌, ◌<◌, ◌+◌, ◌-◌, ◌^◌, ℕ, List, [], ◌∷◌, ◌++◌, length, take, All, codes, Some, Result, Ok, Err, true, false, refl, sym, ap, arith, ◌∙◌, append_assoc, subst, inl}
+use Rattle.std.proofs.Common.{◌≡◌, ◌≤◌, ◌<◌, ◌+◌, ◌-◌, ◌^◌, ℕ, List, [], ◌∷◌, ◌++◌, length, take, All}
+use Rattle.std.proofs.Common.{codes, Some, Result, Ok, Err, true, false, refl, sym, ap, arith, ◌∙◌, append_assoc, subst, inl}
 use Rattle.std.proofs.Common.{inr, reverse, lit≤}
 use Rattle.std.specs.List.{list_all, flat_map}
 use Rattle.std.specs.Char.{is_ascii_digit}
@@ -104,7 +105,8 @@ fields_text (p ∷ ps) rest = append_assoc (print_field (field p.0 p.1)) (flat_m
     ∙ ap (λ t. print_field (field p.0 p.1) ++ t) (fields_text ps rest) ∙ field_then p.0 p.1 (lines_of ps rest)
 
 abbrev part_pairs : List ℕ → List ℕ → List (List ℕ × List ℕ)
-part_pairs places count = (codes "Content-Type", codes "application/octet-stream") ∷ (codes "Accept-Ranges", codes "bytes") ∷ (codes "Content-Range", places) ∷ (codes "Content-Length", count) ∷
+part_pairs places count = (codes "Content-Type", codes "application/octet-stream") ∷ (codes "Accept-Ranges", codes "bytes") ∷ (codes "Content-Range", places) ∷
+    (codes "Content-Length", count) ∷
     (codes "Connection", codes "close") ∷ []
 
 part_printed : (places count : List ℕ) → print_response (part_head places count) ≡ head_of (part_lines (codes "Content-Range: " ∷ places ∷ []) count)
@@ -195,7 +197,8 @@ count_trimmed : (n : ℕ) → n < 2 ^ 64 → trim_ows (32 ∷ decimal n) ≡ dec
 count_trimmed n small = trimmed [] (decimal n) (ap skip_ows (sym (append-nil (decimal n))) ∙ visible_front (decimal n) [] (decimal_digits n small) (decimal_some n small)
     ∙ append-nil (decimal n)) (decimal_digits n small) (decimal_some n small)
 
-range_says : (first last size : ℕ) → first ≤ last → last < size → size < 2 ^ 64 → content_range (range_value (decimal first) (decimal last) (decimal size)) ≡ Ok (range.Part first last (Some size))
+range_says : (first last size : ℕ) → first ≤ last → last < size → size < 2 ^ 64
+    → content_range (range_value (decimal first) (decimal last) (decimal size)) ≡ Ok (range.Part first last (Some size))
 range_says first last size ordered inside small =
     content_range-text (range.Part first last (Some size)) (omega arith, omega arith, small)
     ∙ rw (le-ltb last first ordered, lt-leb size last inside) refl
@@ -221,8 +224,8 @@ head_says first last size ordered inside small few =
     ) refl
 
 -- the head is within the limits
-total : (a x b y c z d w e : List ℕ) → length x ≤ 20 → length y ≤ 20 → length z ≤ 20 → length w ≤ 20 → length a ≤ 4000 → length b ≤ 100 → length c ≤ 100 → length d ≤ 100 → length e ≤ 100
-    → length (a ++ (x ++ (b ++ (y ++ (c ++ (z ++ (d ++ (w ++ e)))))))) ≤ 8192
+total : (a x b y c z d w e : List ℕ) → length x ≤ 20 → length y ≤ 20 → length z ≤ 20 → length w ≤ 20 → length a ≤ 4000 → length b ≤ 100 → length c ≤ 100
+    → length d ≤ 100 → length e ≤ 100 → length (a ++ (x ++ (b ++ (y ++ (c ++ (z ++ (d ++ (w ++ e)))))))) ≤ 8192
 total a x b y c z d w e lx ly lz lw la lb lc ld le = simp length-append (omega arith)
 
 pub decimal_short : (n : ℕ) → n < 2 ^ 64 → length (decimal n) ≤ 20
@@ -248,7 +251,8 @@ head_short first last size ordered inside small =
     (lit≤ tt))
 
 -- the reply begins with this head
-reply_reads : (first last size : ℕ) (body : List ℕ) → first ≤ last → last < size → size < 2 ^ 64 → ReadsResponse (reply_text (reply_of (Part first last size) body)) (reply_head first last size) body
+reply_reads : (first last size : ℕ) (body : List ℕ) → first ≤ last → last < size → size < 2 ^ 64
+    → ReadsResponse (reply_text (reply_of (Part first last size) body)) (reply_head first last size) body
 reply_reads first last size body ordered inside small =
     let fits : last - first + 1 < 2 ^ 64 = omega arith in (
       head_valid (range_value (decimal first) (decimal last) (decimal size)) (decimal (last - first + 1)) (range_passes first last size (omega arith) (omega arith) small) (digits_pass
@@ -304,8 +308,8 @@ why_not BadHead bytes text h body reads short few why = let front : List ℕ = t
 why_not _ bytes text h body reads short few why = why
 
 -- the heads of a text that begins with a head within the limits do not fail
-no_failure : (text : List ℕ) (h : ResponseHead) (body : List ℕ) (fault : HttpFault) → ReadsResponse text h body → is_interim h ≡ false → length (print_response h) ≤ 8192 → length h.fields ≤ 64
-    → HasNoReply 8192 64 text fault → ⊥
+no_failure : (text : List ℕ) (h : ResponseHead) (body : List ℕ) (fault : HttpFault) → ReadsResponse text h body → is_interim h ≡ false → length (print_response h) ≤ 8192
+    → length h.fields ≤ 64 → HasNoReply 8192 64 text fault → ⊥
 no_failure text h body fault reads other short few failed =
     let none : failed.interim ≡ [] = no_interim text h body failed.rest failed.interim reads other failed.skipped failed.text_is in
     let rest : text ≡ failed.rest = failed.text_is ∙ ap (λ i. print_heads i ++ failed.rest) none in
@@ -345,7 +349,8 @@ part_reads_back first last size body result ordered inside small few long =
 
 -- the head of the reply to a HEAD
 abbrev size_pairs : List ℕ → List (List ℕ × List ℕ)
-size_pairs count = (codes "Content-Type", codes "application/octet-stream") ∷ (codes "Accept-Ranges", codes "bytes") ∷ (codes "Content-Length", count) ∷ (codes "Connection", codes "close") ∷ []
+size_pairs count = (codes "Content-Type", codes "application/octet-stream") ∷ (codes "Accept-Ranges", codes "bytes") ∷ (codes "Content-Length", count) ∷
+    (codes "Connection", codes "close") ∷ []
 
 size_head : List ℕ → ResponseHead
 size_head count = record { blank = []; minor = 1; digits = codes "200"; reason = Some (codes "OK"); line_end = crlf; fields = fields_of (size_pairs count); last = crlf }

@@ -22,7 +22,8 @@ same_head bytes fields text buffer rest headers spans h head e at begins =
     subst (IsRequestAt buffer headers spans) same at
 
 -- what holds of each head that was read holds of the one that the reader's bytes begin with
-pub by_head : (bytes fields : ℕ) (old new : Option (List ℕ)) (buffer : List ℕ) (headers : List HeaderSpan) (spans : RequestSpans) {Told : Type 0} (told : Option Told) (P : Told → RequestHead → Type 0)
+pub by_head : (bytes fields : ℕ) (old new : Option (List ℕ)) (buffer : List ℕ) (headers : List HeaderSpan) (spans : RequestSpans) {Told : Type 0} (told : Option Told) (P : Told → RequestHead
+    → Type 0)
     → Consumes old new buffer → IsRequestOf buffer headers spans
     → IfSome told (λ files. (head : RequestHead) → IsRequestAt buffer headers spans head → P files head)
     → IfSome old (λ text. IfSome told (λ files. (head : RequestHead) → BeginsWithHead bytes fields text head → P files head))

@@ -1,5 +1,6 @@
 -- Lines and sections that are read byte by byte, and end in LF.
-use Rattle.std.proofs.Common.{◌≡◌, ◌≢◌, ◌≤◌, ◌<◌, ◌+◌, ℕ, List, [], ◌∷◌, ◌++◌, length, take, drop, Option, Some, None, IfSome, refl, sym, ap, arith, ◌∙◌, append_assoc, subst, map, inl, inr}
+use Rattle.std.proofs.Common.{◌≡◌, ◌≢◌, ◌≤◌, ◌<◌, ◌+◌, ℕ, List, [], ◌∷◌, ◌++◌, length, take, drop}
+use Rattle.std.proofs.Common.{Option, Some, None, IfSome, refl, sym, ap, arith, ◌∙◌, append_assoc, subst, map, inl, inr}
 use Rattle.std.specs.Prelude.{nat_le}
 use Rattle.std.specs.Io.KnownBytes.{Consumes}
 use Rattle.std.specs.List.{flat_map}
@@ -155,8 +156,8 @@ line_taken old mid new front items text b len size e same short taken one none f
     }
 
 -- a whole trailer section was taken
-pub trailers_taken : (old mid new : Option (List ℕ)) (front items text : List ℕ) (b : ℕ) (headers : List HeaderSpan) (found : ℕ × ℕ) → items ≡ front ++ b ∷ [] → text ≡ items → length front < 8192
-    → length headers ≡ 64 → IsSectionWithin text headers found.0 found.1
+pub trailers_taken : (old mid new : Option (List ℕ)) (front items text : List ℕ) (b : ℕ) (headers : List HeaderSpan) (found : ℕ × ℕ) → items ≡ front ++ b ∷ [] → text ≡ items
+    → length front < 8192 → length headers ≡ 64 → IsSectionWithin text headers found.0 found.1
     → Consumes old mid front → Consumes mid new (b ∷ []) → HasNoSection front → IsSectionOf text 0 headers found → AreTrailersTaken old new
 trailers_taken old mid new front items text b headers found e same short room within taken one none of =
     let at = rw (same ∙ e) at of.2.reads in

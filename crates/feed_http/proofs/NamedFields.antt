@@ -1,5 +1,6 @@
 -- The values under a name, as the parser's spans and as the fields of a head have them.
-use Rattle.std.proofs.Common.{◌≡◌, ◌<◌, ℕ, List, [], ◌∷◌, ◌++◌, length, take, drop, get_or, true, Option, None, Some, refl, sym, ap, ◌∙◌, inl, inr, arith, map, suc, drop-cons}
+use Rattle.std.proofs.Common.{◌≡◌, ◌<◌, ℕ, List, [], ◌∷◌, ◌++◌, length, take, drop, get_or, true}
+use Rattle.std.proofs.Common.{Option, None, Some, refl, sym, ap, ◌∙◌, inl, inr, arith, map, suc, drop-cons}
 use Rattle.std.specs.Prelude.{if◌then◌else◌, ◌&&◌, Bool}
 use Rattle.std.specs.List.{filter, list_all}
 use Rattle.std.specs.Option.{option_map, option_to_list, is_some}

@@ -1,5 +1,6 @@
 -- From the head of a reply that was read to the bytes of the reader.
-use Rattle.std.proofs.Common.{◌≡◌, ◌≤◌, ◌+◌, ◌-◌, ℕ, List, ◌++◌, length, take, drop, Option, Some, None, IfSome, IfErr, Result, Ok, Err, refl, sym, ap, arith, ◌∙◌, append_assoc, inl}
+use Rattle.std.proofs.Common.{◌≡◌, ◌≤◌, ◌+◌, ◌-◌, ℕ, List, ◌++◌, length, take, drop, Option, Some}
+use Rattle.std.proofs.Common.{None, IfSome, IfErr, Result, Ok, Err, refl, sym, ap, arith, ◌∙◌, append_assoc, inl}
 use Rattle.std.specs.Prelude.{IsErrAnd}
 use Rattle.std.specs.Fmt.{option_append}
 use Rattle.std.specs.Io.KnownBytes.{Consumes}

@@ -1,5 +1,6 @@
 -- What reads of a reply's heads into a buffer keep, and why there is no head.
-use Rattle.std.proofs.Common.{◌≡◌, ◌≤◌, ◌<◌, ◌+◌, ◌-◌, ℕ, List, [], ◌∷◌, ◌++◌, length, take, drop, Option, Some, None, IfSome, IfErr, Result, Ok, Err, true, false, map, refl, sym, ap, arith, ◌∙◌}
+use Rattle.std.proofs.Common.{◌≡◌, ◌≤◌, ◌<◌, ◌+◌, ◌-◌, ℕ, List, [], ◌∷◌, ◌++◌, length, take, drop}
+use Rattle.std.proofs.Common.{Option, Some, None, IfSome, IfErr, Result, Ok, Err, true, false, map, refl, sym, ap, arith, ◌∙◌}
 use Rattle.std.proofs.Common.{append_assoc}
 use Rattle.std.specs.Prelude.{IsErrAnd}
 use Rattle.std.specs.Io.KnownBytes.{Consumes}
@@ -92,7 +93,8 @@ bad limit room (Some text) (Some rest) bytes start interim taken are within few 
   why = refused (limit - length (print_heads interim)) room (drop start bytes) rest (omega (arith, left room bytes start interim within are)) over;
 }
 
-full : (bytes : ℕ) (part rest : List ℕ) → bytes ≡ length part → HasNoResponse part → MayBecomeResponse part → (bytes ≤ length (part ++ rest)) × IsUnfinishedReply (take bytes (part ++ rest))
+full : (bytes : ℕ) (part rest : List ℕ) → bytes ≡ length part → HasNoResponse part → MayBecomeResponse part
+    → (bytes ≤ length (part ++ rest)) × IsUnfinishedReply (take bytes (part ++ rest))
 full bytes part rest same none may =
     let front : take bytes (part ++ rest) ≡ part = ap (λ n. take n (part ++ rest)) same ∙ take-append_seam part rest in
     (omega (arith, length-append part rest), rw front (record { not_whole = none; may_become = may }))

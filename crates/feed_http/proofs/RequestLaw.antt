@@ -1,5 +1,6 @@
 -- The law over both ends: what a node asks is understood.
-use Rattle.std.proofs.Common.{◌≡◌, ◌≤◌, ◌<◌, ◌+◌, ◌-◌, ◌/◌, ◌%◌, ◌^◌, ℕ, List, [], ◌∷◌, ◌++◌, length, All, codes, Some, true, min, refl, sym, ap, arith, ◌∙◌, append_assoc, subst, lit≤, drop}
+use Rattle.std.proofs.Common.{◌≡◌, ◌≤◌, ◌<◌, ◌+◌, ◌-◌, ◌/◌, ◌%◌, ◌^◌, ℕ, List, [], ◌∷◌, ◌++◌}
+use Rattle.std.proofs.Common.{length, All, codes, Some, true, min, refl, sym, ap, arith, ◌∙◌, append_assoc, subst, lit≤, drop}
 use Rattle.std.specs.Prelude.{◌&&◌, IsTrue, slice_range, nat_lt, nat_le}
 use borrow.Author.Tests.{leb-true}
 use Rattle.feed_range.proofs.Digits.{both}
@@ -32,7 +33,8 @@ use Rattle.feed_http.specs.Laws.{FetchGivesSlice, HeadGivesSize}
 request_head : (method host name : List ℕ) (more : List Field) → RequestHead
 request_head method host name more = record { blank = []; method = method; target = 47 ∷ name; minor = 1; line_end = crlf; fields = field (codes "Host") host ∷ more; last = crlf }
 
-request_printed : (method host name : List ℕ) (more : List Field) → print_request (request_head method host name more) ≡ start_then method host name (flat_map print_field more ++ (13 ∷ 10 ∷ []))
+request_printed : (method host name : List ℕ) (more : List Field) → print_request (request_head method host name more) ≡ start_then method host name
+    (flat_map print_field more ++ (13 ∷ 10 ∷ []))
 unfolding print_request request_head field
 request_printed method host name more = simp (append_assoc, cons-append) refl
 
@@ -61,7 +63,8 @@ date_passes : (year month day : ℕ) → All Passes (written year month day)
 date_passes year month day =
     let hyphen : (ds : List ℕ) → All Passes ds → All Passes (45 ∷ ds) = λ ds all. All-cons Passes 45 ds refl all in
     All-append Passes (two (year / 100) ++ two year ++ (45 ∷ two month)) (45 ∷ two day)
-    (All-append Passes (two (year / 100) ++ two year) (45 ∷ two month) (All-append Passes (two (year / 100)) (two year) (two_pass (year / 100)) (two_pass year)) (hyphen (two month) (two_pass month)))
+    (All-append Passes (two (year / 100) ++ two year) (45 ∷ two month) (All-append Passes (two (year / 100)) (two year) (two_pass (year / 100)) (two_pass year))
+    (hyphen (two month) (two_pass month)))
     (hyphen (two day) (two_pass day))
 
 name_passes : (text : List ℕ) (name : Name) → IsName text name → All Passes text
@@ -185,7 +188,8 @@ fetch_gives_slice files host name file first last is_valid is there ordered smal
     let size : ℕ = length file in
     let end : ℕ = min last (length file - 1) in
     let low : first < 2 ^ 64 = omega arith in
-    let asked : ask_of (trim_ows (32 ∷ ask)) size ≡ Part first end = ap (λ v. ask_of v (length file)) (ask_trimmed first last small) ∙ ask_of-ask_text first last (length file) ordered small inside in
+    let asked : ask_of (trim_ows (32 ∷ ask)) size ≡ Part first end = ap (λ v. ask_of v (length file)) (ask_trimmed first last small)
+    ∙ ask_of-ask_text first last (length file) ordered small inside in
     let reply : served files (get_head host text ask) (Some name) ≡ reply_of (head.Part first end size) (slice_range file first (end + 1)) =
     served_get files host text ask file name there ∙ ap (λ a. part_reply a file) asked in
     let after : first ≤ min last (length file - 1) = omega arith in

@@ -1,5 +1,6 @@
 -- What reads of a request's head into a buffer keep, and why there is no head.
-use Rattle.std.proofs.Common.{◌≡◌, ◌≤◌, ◌<◌, ◌+◌, ℕ, List, [], ◌++◌, length, take, drop, Option, Some, None, IfSome, refl, sym, ap, arith, ◌∙◌, append_assoc, suc, zero, codes, inl, get_or}
+use Rattle.std.proofs.Common.{◌≡◌, ◌≤◌, ◌<◌, ◌+◌, ℕ, List, [], ◌++◌, length, take, drop, Option, Some}
+use Rattle.std.proofs.Common.{None, IfSome, refl, sym, ap, arith, ◌∙◌, append_assoc, suc, zero, codes, inl, get_or}
 use Rattle.std.specs.Io.KnownBytes.{Consumes, IsAtEnd}
 use Rattle.std.proofs.lemmas.List.{append-nil, length-append, take_at, take-append-le, take-append-drop}
 use Rattle.std.proofs.lemmas.List.Sums.{AllPass-from_list_all}

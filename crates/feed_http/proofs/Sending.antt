@@ -1,5 +1,6 @@
 -- What is sent of a file, block by block.
-use Rattle.std.proofs.Common.{◌≡◌, ◌≤◌, ◌<◌, inl, inr, ◌+◌, ◌-◌, ℕ, List, ◌++◌, take, drop, length, Option, Some, None, IfSome, Result, Ok, Err, refl, sym, ap, arith, ◌∙◌, zero, suc, [], ◌∷◌}
+use Rattle.std.proofs.Common.{◌≡◌, ◌≤◌, ◌<◌, inl, inr, ◌+◌, ◌-◌, ℕ, List, ◌++◌, take, drop, length, Option}
+use Rattle.std.proofs.Common.{Some, None, IfSome, Result, Ok, Err, refl, sym, ap, arith, ◌∙◌, zero, suc, [], ◌∷◌}
 use Rattle.std.proofs.Common.{zero-add, suc-add, subst}
 use Rattle.std.specs.Prelude.{slice_range, IsErrAnd, min, nat_le}
 use Rattle.std.specs.Io.KnownBytes.{Appends}

@@ -1,5 +1,6 @@
 -- What `csv` reads from a text is the text's records.
-use Rattle.std.proofs.Common.{◌≡◌, ◌≤◌, ◌<◌, ℕ, List, [], ◌∷◌, ◌++◌, length, Option, Some, None, true, false, refl, sym, ap, arith, eq-eqb, inl, inr, ◌∙◌, append_assoc, Bool, ◌||◌}
+use Rattle.std.proofs.Common.{◌≡◌, ◌≤◌, ◌<◌, ℕ, List, [], ◌∷◌, ◌++◌, length, Option, Some, None, true}
+use Rattle.std.proofs.Common.{false, refl, sym, ap, arith, eq-eqb, inl, inr, ◌∙◌, append_assoc, Bool, ◌||◌}
 use Rattle.std.specs.Prelude.{◌==◌, ◌&&◌, if◌then◌else◌, ◌⊎◌}
 use Rattle.std.specs.List.{slice_split, onto_first, filter}
 use Rattle.std.proofs.lemmas.Bool.{cases_Bool, eqb-true, true≢false}

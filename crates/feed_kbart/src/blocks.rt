@@ -1,4 +1,5 @@
-ghost use Rattle.std.specs.Prelude.{◌≡◌, ◌≤◌, ◌<◌, ◌-◌, ◌++◌, ◌↔◌, IfOk, IfSome, IsTrue, IsUtf8, OnOk, [], length, min};
+ghost use Rattle.std.specs.Prelude.{◌≡◌, ◌≤◌, ◌<◌, ◌-◌, ◌++◌, ◌↔◌, []};
+ghost use Rattle.std.specs.Prelude.{IfOk, IfSome, IsTrue, IsUtf8, OnOk, length, min};
 ghost use Rattle.std.specs.Prelude.{slice_index, take};
 ghost use Rattle.feed_kbart.specs.Records.{has_two_marks};
 
@@ -137,7 +138,8 @@ impl Model for BlockReader {
 
     ghost view = { λ r. drop r.at r.front.items ++ concat (map (λ v. v.items) (into_iter_items r.rest)) };
 
-    ghost invariant = { λ r. (r.at ≤ length r.front.items) × AreUnread (map (λ v. v.items) (into_iter_items r.rest)) };
+    ghost invariant = { λ r. (r.at ≤ length r.front.items)
+        × AreUnread (map (λ v. v.items) (into_iter_items r.rest)) };
 }
 
 // Copies as many bytes as both have, and tells how many.

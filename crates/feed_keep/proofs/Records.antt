@@ -1,5 +1,6 @@
 -- Records of the plain keeper.
-use Rattle.std.proofs.Common.{◌≡◌, ◌<◌, ◌≤◌, ℕ, zero, suc, Bool, true, false, List, [], ◌∷◌, length, get_or, set, insert, filter, Some, None, Result, Ok, Err, OnErr, refl, ap, subst, arith}
+use Rattle.std.proofs.Common.{◌≡◌, ◌<◌, ◌≤◌, ℕ, zero, suc, Bool, true, false, List, [], ◌∷◌, length}
+use Rattle.std.proofs.Common.{get_or, set, insert, filter, Some, None, Result, Ok, Err, OnErr, refl, ap, subst, arith}
 use Rattle.feed_names.specs.ReleaseName.{Name, name_eq}
 use Rattle.feed_model.specs.Content.{Record, Content, record_of}
 use Rattle.feed_model.specs.Change.{changed, comes_before, insert_record}

@@ -1,5 +1,6 @@
 -- Names that stand twice in a list of records.
-use Rattle.std.proofs.Common.{◌≡◌, ◌<◌, ◌≤◌, ◌+◌, ℕ, zero, suc, Bool, true, false, List, [], ◌∷◌, length, take, get_or, Some, None, ◌⊎◌, inl, inr, refl, sym, ◌∙◌, ap, subst, arith}
+use Rattle.std.proofs.Common.{◌≡◌, ◌<◌, ◌≤◌, ◌+◌, ℕ, zero, suc, Bool, true, false, List, [], ◌∷◌, length}
+use Rattle.std.proofs.Common.{take, get_or, Some, None, ◌⊎◌, inl, inr, refl, sym, ◌∙◌, ap, subst, arith}
 use Rattle.std.specs.List.{IsDistinct}
 use Rattle.std.proofs.lemmas.Map.Keys.{apart_from_distinct, IsDistinct-from_apart}
 use Rattle.feed_names.specs.ReleaseName.{Name, name_eq}
@@ -60,7 +61,8 @@ same-at (r ∷ rs) zero a b lt = refl
 same-at (r ∷ rs) (suc i) a b lt = same-at rs i a b (omega arith)
 
 -- a name that none before has
-pub apart_next : (rs : List code.Record) (n : ℕ) (r : code.Record) → AreApart rs n → n < length rs → r ≡ get_or rs n r → record_of (shown (take n rs)) r.name ≡ None → AreApart rs (n + 1)
+pub apart_next : (rs : List code.Record) (n : ℕ) (r : code.Record) → AreApart rs n → n < length rs → r ≡ get_or rs n r → record_of (shown (take n rs)) r.name ≡ None
+    → AreApart rs (n + 1)
 apart_next rs n r apart lt here none i j d less more within = pick (split j n more)
   where
     split : (a b : ℕ) → a < b + 1 → (a < b) ⊎ (a ≡ b)

@@ -40,8 +40,8 @@ keeps_by : (c : Content) (h : History) (n : Name) (first : ℕ) (bytes : List �
     → Adds r.size r.parts first bytes ps → Keeps c h n first bytes r ps
 keeps_by c h n first bytes r ps is found staged adds = record { content = is; found = found; staged = staged; parts = adds.whole.parts; new = adds.union }
 
-stored_at : (c : Content) (h : History) (n : Name) (first : ℕ) (total : Option ℕ) (bytes : List ℕ) (r : Record) (ps : List Part) (missing : ℕ) → Reaches c n first total bytes r → r.state ≡ Staged
-    → AgreesIn r.parts first bytes → HasNew r.parts first bytes → Adds r.size r.parts first bytes ps
+stored_at : (c : Content) (h : History) (n : Name) (first : ℕ) (total : Option ℕ) (bytes : List ℕ) (r : Record) (ps : List Part) (missing : ℕ) → Reaches c n first total bytes r
+    → r.state ≡ Staged → AgreesIn r.parts first bytes → HasNew r.parts first bytes → Adds r.size r.parts first bytes ps
     → missing ≡ missing_below (byte_in (merged r.parts ps)) r.size → 0 < missing → IsContent c h → IsRight h (Piece n first total bytes) (Ok (replies.Stored missing)) × IsContent
     (changed n (grown ps Staged) c) ((Piece n first total bytes, Ok (replies.Stored missing)) ∷ h)
 stored_at c h n first total bytes r ps missing reach staged agrees new adds lack some is =
@@ -66,8 +66,8 @@ stored_at c h n first total bytes r ps missing reach staged agrees new adds lack
         (λ place lt. let in' : place < length w.0 = omega arith in subst IsSome (sym (w.1.1 place in') ∙ kept_here h n first total bytes a refl place) (slice_some w.0 place in')) in
         absurd (omega (arith, count))
 
-pub piece_stored : (c : Content) (n : Name) (first : ℕ) (total : Option ℕ) (bytes : List ℕ) (r : Record) (ps : List Part) (missing : ℕ) → Reaches c n first total bytes r → r.state ≡ Staged
-    → AgreesIn r.parts first bytes → HasNew r.parts first bytes → Adds r.size r.parts first bytes ps
+pub piece_stored : (c : Content) (n : Name) (first : ℕ) (total : Option ℕ) (bytes : List ℕ) (r : Record) (ps : List Part) (missing : ℕ) → Reaches c n first total bytes r
+    → r.state ≡ Staged → AgreesIn r.parts first bytes → HasNew r.parts first bytes → Adds r.size r.parts first bytes ps
     → missing ≡ missing_below (byte_in (merged r.parts ps)) r.size → 0 < missing → Handles c (Piece n first total bytes) (Ok (replies.Stored missing)) (changed n (grown ps Staged) c)
 piece_stored c n first total bytes r ps missing reach staged agrees new adds lack some = λ h is. stored_at c h n first total bytes r ps missing reach staged agrees new adds lack some is
 
@@ -75,13 +75,17 @@ piece_stored c n first total bytes r ps missing reach staged agrees new adds lac
 file_by : (c : Content) (h : History) (n : Name) (first : ℕ) (total : Option ℕ) (bytes : List ℕ) (r : Record) (ps : List Part) (text : List ℕ) (a : Answer) → IsContent c h
     → record_of c n ≡ Some r → Adds r.size r.parts first bytes ps → is_taken a ≡ true → length text ≡ r.size
     → ((place : ℕ) → place < r.size → byte_in (merged r.parts ps) place ≡ slice_get text place) → IsFile ((Piece n first total bytes, a) ∷ h) n text
-file_by c h n first total bytes r ps text a is found adds taken len at =
-    ((of_record c h n r is found).size ∙ ap Some (sym len), λ place lt. kept_here h n first total bytes a taken place ∙ with_new c h n first bytes r ps is found adds place ∙ at place (omega arith))
+file_by c h n first total bytes r ps text a is found adds taken len at = (
+  (of_record c h n r is found).size ∙ ap Some (sym len),
+  λ place lt. kept_here h n first total bytes a taken place ∙ with_new c h n first bytes r ps is found adds place
+      ∙ at place (omega arith),
+)
 
-whole_right : (c : Content) (h : History) (n : Name) (first : ℕ) (total : Option ℕ) (bytes : List ℕ) (r : Record) (ps : List Part) (text : List ℕ) (a : Answer) → Reaches c n first total bytes r
-    → AgreesIn r.parts first bytes → HasNew r.parts first bytes → Adds r.size r.parts first bytes ps
+whole_right : (c : Content) (h : History) (n : Name) (first : ℕ) (total : Option ℕ) (bytes : List ℕ) (r : Record) (ps : List Part) (text : List ℕ) (a : Answer)
+    → Reaches c n first total bytes r → AgreesIn r.parts first bytes → HasNew r.parts first bytes → Adds r.size r.parts first bytes ps
     → missing_below (byte_in (merged r.parts ps)) r.size ≡ 0 → length text ≡ r.size →
-    ((place : ℕ) → place < r.size → byte_in (merged r.parts ps) place ≡ slice_get text place) → IsContent c h → a ≡ Ok (verdict (fault_of text)) → IsRight h (Piece n first total bytes) a
+    ((place : ℕ) → place < r.size → byte_in (merged r.parts ps) place ≡ slice_get text place) → IsContent c h → a ≡ Ok (verdict (fault_of text))
+    → IsRight h (Piece n first total bytes) a
 whole_right c h n first total bytes r ps text a reach agrees new adds none len at is answer =
     let same = with_new c h n first bytes r ps is reach.found adds in
     let count : missing_below (kept_with h n first bytes) r.size ≡ missing_below (byte_in (merged r.parts ps)) r.size = missing_same (kept_with h n first bytes)
@@ -104,10 +108,10 @@ piece_broken c n first total bytes r ps text why reach staged agrees new adds no
           (λ g. good_not_bad ((Piece n first total bytes, a) ∷ h) n g is_bad) is_bad,
     )
 
-pub piece_activated : (c : Content) (n : Name) (first : ℕ) (total : Option ℕ) (bytes : List ℕ) (r : Record) (ps : List Part) (text : List ℕ) → Reaches c n first total bytes r → r.state ≡ Staged
-    → AgreesIn r.parts first bytes → HasNew r.parts first bytes → Adds r.size r.parts first bytes ps
-    → missing_below (byte_in (merged r.parts ps)) r.size ≡ 0 → length text ≡ r.size → ((place : ℕ) → place < r.size → byte_in (merged r.parts ps) place ≡ slice_get text place) → fault_of text ≡ None
-    → Handles c (Piece n first total bytes) (Ok replies.Activated) (without_earlier n (changed n (grown ps Active) c))
+pub piece_activated : (c : Content) (n : Name) (first : ℕ) (total : Option ℕ) (bytes : List ℕ) (r : Record) (ps : List Part) (text : List ℕ) → Reaches c n first total bytes r
+    → r.state ≡ Staged → AgreesIn r.parts first bytes → HasNew r.parts first bytes → Adds r.size r.parts first bytes ps
+    → missing_below (byte_in (merged r.parts ps)) r.size ≡ 0 → length text ≡ r.size → ((place : ℕ) → place < r.size → byte_in (merged r.parts ps) place ≡ slice_get text place)
+    → fault_of text ≡ None → Handles c (Piece n first total bytes) (Ok replies.Activated) (without_earlier n (changed n (grown ps Active) c))
 piece_activated c n first total bytes r ps text reach staged agrees new adds none len at good = λ h is.
     let a : Answer = Ok replies.Activated in
     let right : IsRight h (Piece n first total bytes) a = whole_right c h n first total bytes r ps text a reach agrees new adds none len at is (ap (λ o. Ok (verdict o)) (sym good)) in (

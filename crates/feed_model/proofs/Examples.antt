@@ -138,7 +138,8 @@ an_unknown_release = inr (small, inr (nothing_is_passed, inl (nothing_is_held, r
     small (inl e) = absurd (cc)
     small (inr lt) = absurd (omega arith)
 
-newest_event_first : gone_on [] (Offered january 4 ∷ Lost january ∷ []) (Ok replies.Noted ∷ Ok replies.Nothing ∷ []) ≡ (Lost january, Ok replies.Nothing) ∷ (Offered january 4, Ok replies.Noted) ∷ []
+newest_event_first : gone_on [] (Offered january 4 ∷ Lost january ∷ []) (Ok replies.Noted ∷ Ok replies.Nothing ∷ []) ≡ (Lost january, Ok replies.Nothing) ∷
+    (Offered january 4, Ok replies.Noted) ∷ []
 newest_event_first = refl
 
 of_an_earlier_day : IsEarlier january february

@@ -23,7 +23,8 @@ pub record Keeps (c : Content) (h : History) (n : Name) (first : ℕ) (bytes : L
   pub new : (place : ℕ) → byte_in (merged r.parts ps) place ≡ or_else (byte_in r.parts place) (byte_at first bytes place)
 
 -- what is kept of n afterwards
-pub kept_here : (h : History) (n : Name) (f : ℕ) (t : Option ℕ) (b : List ℕ) (a : Answer) → is_taken a ≡ true → (place : ℕ) → kept ((Piece n f t b, a) ∷ h) n place ≡ kept_with h n f b place
+pub kept_here : (h : History) (n : Name) (f : ℕ) (t : Option ℕ) (b : List ℕ) (a : Answer) → is_taken a ≡ true → (place : ℕ)
+    → kept ((Piece n f t b, a) ∷ h) n place ≡ kept_with h n f b place
 kept_here h n f t b a taken place = rw (taken, name_self n) refl
 
 pub keeps_but : (h : History) (n : Name) (f : ℕ) (t : Option ℕ) (b : List ℕ) (a : Answer) → SameBut n h ((Piece n f t b, a) ∷ h)
@@ -39,8 +40,8 @@ keeps_but h n f t b a = record { size = λ m apart. refl; bytes = bytes }
         by true s = rw (s, off) refl
         by false s = rw s refl
 
-pub grown_bytes : (c : Content) (h : History) (n : Name) (f : ℕ) (t : Option ℕ) (b : List ℕ) (a : Answer) (r : Record) (ps : List Part) → Keeps c h n f b r ps → is_taken a ≡ true → (place : ℕ)
-    → byte_in (merged r.parts ps) place ≡ kept ((Piece n f t b, a) ∷ h) n place
+pub grown_bytes : (c : Content) (h : History) (n : Name) (f : ℕ) (t : Option ℕ) (b : List ℕ) (a : Answer) (r : Record) (ps : List Part) → Keeps c h n f b r ps → is_taken a ≡ true
+    → (place : ℕ) → byte_in (merged r.parts ps) place ≡ kept ((Piece n f t b, a) ∷ h) n place
 grown_bytes c h n f t b a r ps k taken place = k.new place ∙ ap (λ o. or_else o (byte_at f b place)) ((of_record c h n r k.content k.found).bytes place) ∙ sym (kept_here h n f t b a taken place)
 
 -- staged, it was not good before

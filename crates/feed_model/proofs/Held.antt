@@ -1,5 +1,6 @@
 -- In a legal history no more releases are held than a feed may have.
-use Rattle.std.proofs.Common.{◌≡◌, ◌≢◌, ◌<◌, ◌≤◌, ◌+◌, ◌<ℤ◌, ◌≤ℤ◌, ℕ, Bool, true, false, cond, not, List, [], ◌∷◌, length, filter, Option, Some, None, IsSome, ◌⊎◌, inl, inr, refl, sym, ◌∙◌}
+use Rattle.std.proofs.Common.{◌≡◌, ◌≢◌, ◌<◌, ◌≤◌, ◌+◌, ◌<ℤ◌, ◌≤ℤ◌, ℕ, Bool, true, false, cond, not}
+use Rattle.std.proofs.Common.{List, [], ◌∷◌, length, filter, Option, Some, None, IsSome, ◌⊎◌, inl, inr, refl, sym, ◌∙◌}
 use Rattle.std.proofs.Common.{ap, subst, arith}
 use Rattle.std.specs.Prelude.{IsSomeAnd}
 use Rattle.std.proofs.lemmas.Int.{ints}
@@ -116,7 +117,8 @@ held_before_piece h n first total bytes a taken is m held = (held.0, λ p. held.
     by (inr bad) p = passed_same h k (goods_but n h k but before bad) m p
 
 -- A release that is recorded: what else is held after it was held before.
-held_before_offer : (h : History) (n : Name) (size : ℕ) (a : Answer) → IsLegal h → is_noted a ≡ true → IsNoted h n size → (m : Name) → m ≢ n → IsHeld ((Offered n size, a) ∷ h) m → IsHeld h m
+held_before_offer : (h : History) (n : Name) (size : ℕ) (a : Answer) → IsLegal h → is_noted a ≡ true → IsNoted h n size → (m : Name) → m ≢ n → IsHeld ((Offered n size, a) ∷ h) m
+    → IsHeld h m
 held_before_offer h n size a legal noted is m apart held = held_same k h (same_back h k goods) m (added_size n m size a h noted apart) held
   where
     k : History
@@ -205,8 +207,8 @@ held_in h (x ∷ xs) held m e = by (name_eq m x) refl (held_in h xs held.1 m)
     by false t again = again (rw t at e)
 
 -- as many as may be held are all that are held
-all_held : (h : History) (ns : List Name) → ((ms : List Name) → IsDistinct name_eq ms → AreHeld h ms → length ms ≤ max_held) → IsDistinct name_eq ns → AreHeld h ns → length ns ≡ max_held
-    → HoldsNumber h max_held
+all_held : (h : History) (ns : List Name) → ((ms : List Name) → IsDistinct name_eq ms → AreHeld h ms → length ms ≤ max_held) → IsDistinct name_eq ns → AreHeld h ns
+    → length ns ≡ max_held → HoldsNumber h max_held
 all_held h ns most d held full = (ns, d, λ m. (there m, λ has. held_in h ns held m (list_any-from_Contains name_laws m ns has)), full)
   where
     there : (m : Name) → IsHeld h m → Contains ns m

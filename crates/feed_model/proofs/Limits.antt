@@ -35,7 +35,8 @@ held_by h n ahead held = (by (size_of h n) refl, ahead)
     by None e = absurd (held (λ x. let u : false ≡ true = subst IsSome e x.0 in absurd (cc)))
     by (Some size) e = refl
 
-pub taken_by : (h : History) (n : Name) (first : ℕ) (total : Option ℕ) (bytes : List ℕ) (a : Answer) → is_taken a ≡ true → IsRight h (Piece n first total bytes) a → IsTaken h n first bytes a
+pub taken_by : (h : History) (n : Name) (first : ℕ) (total : Option ℕ) (bytes : List ℕ) (a : Answer) → is_taken a ≡ true → IsRight h (Piece n first total bytes) a
+    → IsTaken h n first bytes a
 taken_by h n first total bytes a taken (inl x) = untaken a _ taken x.1 refl
 taken_by h n first total bytes a taken (inr (x, inl y)) = untaken a _ taken y.1 refl
 taken_by h n first total bytes a taken (inr (x, inr (y, inl z))) = untaken a _ taken z.1 refl

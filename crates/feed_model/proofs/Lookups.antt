@@ -23,7 +23,8 @@ pub record_of-insert_record : (r : Record) (c : Content) (m : Name) → record_o
 record_of-insert_record r [] m e = refl
 record_of-insert_record r (x ∷ xs) m e = at (comes_before x.name r.name) (behind (name_eq x.name r.name) (name_eq x.name m) refl refl (record_of-insert_record r xs m))
   where
-    behind : (a b : Bool) → name_eq x.name r.name ≡ a → name_eq x.name m ≡ b → (record_of xs r.name ≡ None → record_of (insert_record r xs) m ≡ cond (name_eq r.name m) (Some r) (record_of xs m))
+    behind : (a b : Bool) → name_eq x.name r.name ≡ a → name_eq x.name m ≡ b
+        → (record_of xs r.name ≡ None → record_of (insert_record r xs) m ≡ cond (name_eq r.name m) (Some r) (record_of xs m))
         → cond (name_eq x.name m) (Some x) (record_of (insert_record r xs) m) ≡ cond (name_eq r.name m) (Some r) (cond (name_eq x.name m) (Some x) (record_of xs m))
     behind true b s t again = absurd (let u : Some x ≡ None = rw s at e in cc)
     behind false true s t again =
@@ -41,18 +42,21 @@ pub record_of-changed : (n : Name) (f : Record → Record) → ((r : Record) →
 record_of-changed n f same [] m apart = refl
 record_of-changed n f same (x ∷ xs) m apart = by (name_eq x.name n) refl (record_of-changed n f same xs m apart)
   where
-    by : (b : Bool) → name_eq x.name n ≡ b → record_of (changed n f xs) m ≡ record_of xs m → record_of (cond (name_eq x.name n) (f x ∷ xs) (x ∷ changed n f xs)) m ≡ record_of (x ∷ xs) m
+    by : (b : Bool) → name_eq x.name n ≡ b → record_of (changed n f xs) m ≡ record_of xs m
+        → record_of (cond (name_eq x.name n) (f x ∷ xs) (x ∷ changed n f xs)) m ≡ record_of (x ∷ xs) m
     by true t again =
         let off : name_eq x.name m ≡ false = name_apart x.name m (λ e. apart (sym e ∙ name_is x.name n t)) in
         let off' : name_eq (f x).name m ≡ false = name_apart (f x).name m (λ e. apart (sym e ∙ same x ∙ name_is x.name n t)) in
         rw (t, off, off') refl
     by false t again = rw t (ap (cond (name_eq x.name m) (Some x)) again)
 
-pub record_of-changed_here : (n : Name) (f : Record → Record) → ((r : Record) → (f r).name ≡ r.name) → (c : Content) (r : Record) → record_of c n ≡ Some r → record_of (changed n f c) n ≡ Some (f r)
+pub record_of-changed_here : (n : Name) (f : Record → Record) → ((r : Record) → (f r).name ≡ r.name) → (c : Content) (r : Record) → record_of c n ≡ Some r
+    → record_of (changed n f c) n ≡ Some (f r)
 record_of-changed_here n f same [] r e = absurd cc
 record_of-changed_here n f same (x ∷ xs) r e = by (name_eq x.name n) refl (record_of-changed_here n f same xs r)
   where
-    by : (b : Bool) → name_eq x.name n ≡ b → (record_of xs n ≡ Some r → record_of (changed n f xs) n ≡ Some (f r)) → record_of (cond (name_eq x.name n) (f x ∷ xs) (x ∷ changed n f xs)) n ≡ Some (f r)
+    by : (b : Bool) → name_eq x.name n ≡ b → (record_of xs n ≡ Some r → record_of (changed n f xs) n ≡ Some (f r))
+        → record_of (cond (name_eq x.name n) (f x ∷ xs) (x ∷ changed n f xs)) n ≡ Some (f r)
     by true t again =
         let s : x ≡ r = (let u : Some x ≡ Some r = rw t at e in cc) in
         let here : name_eq (f x).name n ≡ true = subst (λ (y : Name). name_eq y n ≡ true) (sym (same x)) t in

@@ -1,5 +1,6 @@
 -- A release that is recorded.
-use Rattle.std.proofs.Common.{◌≡◌, ◌≢◌, ℕ, zero, suc, true, false, eqb, List, [], ◌∷◌, length, Option, Some, None, IsSome, MatchOption, ◌⊎◌, inl, inr, refl, sym, ◌∙◌, ap, subst, arith}
+use Rattle.std.proofs.Common.{◌≡◌, ◌≢◌, ℕ, zero, suc, true, false, eqb, List, [], ◌∷◌, length, Option, Some}
+use Rattle.std.proofs.Common.{None, IsSome, MatchOption, ◌⊎◌, inl, inr, refl, sym, ◌∙◌, ap, subst, arith}
 use Rattle.std.proofs.lemmas.Bool.Decides.{nat_tests}
 use Rattle.feed_names.specs.ReleaseName.{Name, name_eq}
 use Rattle.feed_model.specs.File.{fault_of}
@@ -27,8 +28,8 @@ pub only_empty : (n : Name) (h : History) → ((place : ℕ) → kept h n place 
 only_empty n h bare [] f = refl
 only_empty n h bare (x ∷ xs) f = absurd (let e : None ≡ Some x = sym (bare 0) ∙ f.1 0 (omega arith) in cc)
 
-pub add_moves : (c : Content) (h : History) (n : Name) (size : ℕ) (r : Answer) → IsContent c h → record_of c n ≡ None → (¬ (IsPassed h n)) → is_noted r ≡ true → IsRight h (Offered n size) r
-    → IsContent (insert_record (new_record n size) c) ((Offered n size, r) ∷ h)
+pub add_moves : (c : Content) (h : History) (n : Name) (size : ℕ) (r : Answer) → IsContent c h → record_of c n ≡ None → (¬ (IsPassed h n)) → is_noted r ≡ true
+    → IsRight h (Offered n size) r → IsContent (insert_record (new_record n size) c) ((Offered n size, r) ∷ h)
 add_moves c h n size r is free ahead noted right = record {
   legal = (right, is.legal);
   distinct = distinct-insert_record (new_record n size) c free is.distinct;
@@ -64,7 +65,8 @@ add_moves c h n size r is free ahead noted right = record {
     state zero e = ([], (added_here n size r h noted ∙ ap Some (sym e), λ place lt. absurd (omega arith)), empty_bad)
     state (suc s) e =
         let off : eqb (suc s) 0 ≡ false = grind (arith, nat_tests) in rw off
-        (λ w. let t = only_empty n k bare w.0 w.1 in let u : Some 0 ≡ Some (suc s) = ap Some (sym (ap length t)) ∙ (sym w.1.0 ∙ (added_here n size r h noted ∙ ap Some (sym e))) in absurd (cc))
+        (λ w. let t = only_empty n k bare w.0 w.1 in let u : Some 0 ≡ Some (suc s) = ap Some (sym (ap length t))
+        ∙ (sym w.1.0 ∙ (added_here n size r h noted ∙ ap Some (sym e))) in absurd (cc))
 
     mine : IsRecord k n (new_record n size)
     mine = record {

@@ -17,7 +17,8 @@ use Rattle.feed_model.proofs.Tests.{of_record, not_held, passed_by, not_passed_b
 pub offer_older : (c : Content) (n : Name) (size : ℕ) → size ≤ max_file → HasLaterActive c n → Handles c (Offered n size) (Ok replies.Older) c
 offer_older c n size le later = unchanged c (Offered n size) (Ok replies.Older) refl refl (λ h is. inr ((λ lt. omega arith), inl (passed_by c h n is later, refl)))
 
-pub offer_known : (c : Content) (n : Name) (size : ℕ) (r : Record) → size ≤ max_file → NoneIsLater c n → record_of c n ≡ Some r → r.size ≡ size → Handles c (Offered n size) (Ok replies.Known) c
+pub offer_known : (c : Content) (n : Name) (size : ℕ) (r : Record) → size ≤ max_file → NoneIsLater c n → record_of c n ≡ Some r → r.size ≡ size
+    → Handles c (Offered n size) (Ok replies.Known) c
 offer_known c n size r le free found same = unchanged c (Offered n size) (Ok replies.Known) refl refl right
   where
     right : (h : History) → IsContent c h → IsRight h (Offered n size) (Ok replies.Known)
@@ -34,7 +35,8 @@ offer_wrong_size c n size r le free found other = unchanged c (Offered n size) (
         let x = of_record c h n r is found in
         inr ((λ lt. omega arith), inr (not_passed_by c h n is free, inl (x.held, inr ((λ e. other (let u : Some r.size ≡ Some size = sym x.size ∙ e in cc)), refl))))
 
-pub offer_full : (c : Content) (n : Name) (size : ℕ) → size ≤ max_file → NoneIsLater c n → record_of c n ≡ None → length c ≡ max_held → Handles c (Offered n size) (Err refusals.Full) c
+pub offer_full : (c : Content) (n : Name) (size : ℕ) → size ≤ max_file → NoneIsLater c n → record_of c n ≡ None → length c ≡ max_held
+    → Handles c (Offered n size) (Err refusals.Full) c
 offer_full c n size le free none all = unchanged c (Offered n size) (Err refusals.Full) refl refl (λ h is.
     inr ((λ lt. omega arith), inr (not_passed_by c h n is free, inr (not_held c h n is none, inl (subst (HoldsNumber h) all (counted c h is), refl)))))
 

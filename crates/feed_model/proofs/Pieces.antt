@@ -89,10 +89,12 @@ reached c h n first total bytes r a reach is rest =
     inside (Some size) e past = let same : size ≡ r.size = cc in absurd (omega (arith, same, past, reach.within))
 
 -- what the record says of the piece's bytes
-differs_by : (c : Content) (h : History) (n : Name) (r : Record) (first : ℕ) (bytes : List ℕ) → IsContent c h → record_of c n ≡ Some r → DiffersIn r.parts first bytes → Differs h n first bytes
+differs_by : (c : Content) (h : History) (n : Name) (r : Record) (first : ℕ) (bytes : List ℕ) → IsContent c h → record_of c n ≡ Some r → DiffersIn r.parts first bytes
+    → Differs h n first bytes
 differs_by c h n r first bytes is found d = (d.0, d.1, d.2, sym ((of_record c h n r is found).bytes d.0) ∙ d.3, d.4, d.5)
 
-agrees_by : (c : Content) (h : History) (n : Name) (r : Record) (first : ℕ) (bytes : List ℕ) → IsContent c h → record_of c n ≡ Some r → AgreesIn r.parts first bytes → ¬ (Differs h n first bytes)
+agrees_by : (c : Content) (h : History) (n : Name) (r : Record) (first : ℕ) (bytes : List ℕ) → IsContent c h → record_of c n ≡ Some r → AgreesIn r.parts first bytes
+    → ¬ (Differs h n first bytes)
 agrees_by c h n r first bytes is found agrees d = d.5 (agrees d.0 d.1 d.2 ((of_record c h n r is found).bytes d.0 ∙ d.3) d.4)
 
 pub piece_conflict : (c : Content) (n : Name) (first : ℕ) (total : Option ℕ) (bytes : List ℕ) (r : Record) → Reaches c n first total bytes r → DiffersIn r.parts first bytes
@@ -112,7 +114,8 @@ piece_repeated c n first total bytes r reach agrees covers =
     unchanged c (Piece n first total bytes) (Ok replies.Repeated) refl refl (λ h is. repeated_right c h n first total bytes r reach agrees covers is)
 
 -- a piece that brings a new byte
-not_kept : (c : Content) (h : History) (n : Name) (r : Record) (first : ℕ) (bytes : List ℕ) → IsContent c h → record_of c n ≡ Some r → HasNew r.parts first bytes → ¬ (IsKept h n first bytes)
+not_kept : (c : Content) (h : History) (n : Name) (r : Record) (first : ℕ) (bytes : List ℕ) → IsContent c h → record_of c n ≡ Some r → HasNew r.parts first bytes
+    → ¬ (IsKept h n first bytes)
 not_kept c h n r first bytes is found new all = some_none (kept h n new.0) (all new.0 new.1) (sym ((of_record c h n r is found).bytes new.0) ∙ new.2)
 
 pub stores_right : (c : Content) (h : History) (n : Name) (first : ℕ) (total : Option ℕ) (bytes : List ℕ) (r : Record) (a : Answer) → Reaches c n first total bytes r

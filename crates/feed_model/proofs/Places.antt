@@ -33,5 +33,6 @@ place_of (x ∷ xs) n r e = by (name_eq x.name n) refl (place_of xs n r)
     by false t again = let g = again (rw t at e) in (suc g.0, (let lt : g.0 < length xs = g.1 in omega arith), g.2)
 
 -- an active record at a place is later
-pub later_at : (c : Content) (n : Name) (k : ℕ) (d : Record) → IsDistinct name_eq (names c) → k < length c → (get_or c k d).state ≡ Active → IsEarlier n (get_or c k d).name → HasLaterActive c n
+pub later_at : (c : Content) (n : Name) (k : ℕ) (d : Record) → IsDistinct name_eq (names c) → k < length c → (get_or c k d).state ≡ Active → IsEarlier n (get_or c k d).name
+    → HasLaterActive c n
 later_at c n k d apart lt active later = (get_or c k d, record_of-at c k d apart lt, active, later)

@@ -11,11 +11,13 @@ active_by : (c : Content) (h : History) (r : Record) → IsContent c h → recor
 active_by c h r is found active = subst (IsState h r.name) active (of_record c h r.name r is found).state
 
 -- an active record of the package
-pub report_some : (c : Content) (h : History) (stem : List ℕ) (r : Record) → IsContent c h → record_of c r.name ≡ Some r → r.state ≡ Active → r.name.stem ≡ stem → Reports h stem (Some r.name)
+pub report_some : (c : Content) (h : History) (stem : List ℕ) (r : Record) → IsContent c h → record_of c r.name ≡ Some r → r.state ≡ Active → r.name.stem ≡ stem
+    → Reports h stem (Some r.name)
 report_some c h stem r is found active same = (same, active_by c h r is found active)
 
 -- no active record of the package
-pub report_none : (c : Content) (h : History) (stem : List ℕ) → IsContent c h → ((a : Record) → record_of c a.name ≡ Some a → a.state ≡ Active → a.name.stem ≢ stem) → Reports h stem None
+pub report_none : (c : Content) (h : History) (stem : List ℕ) → IsContent c h → ((a : Record) → record_of c a.name ≡ Some a → a.state ≡ Active → a.name.stem ≢ stem)
+    → Reports h stem None
 report_none c h stem is none = λ m same good. latest m same good (λ p. latest p.0 (sym p.2.0 ∙ same) p.1.0 (not_passed_active h p.0 p.1))
   where
     latest : (m : Name) → m.stem ≡ stem → IsGood h m → ¬ (¬ (IsPassed h m))

@@ -27,7 +27,8 @@ map-push told (y ∷ ys) x = ap (λ zs. told y ∷ zs) (map-push told ys x)
 
 -- the same in a loop over the elements that tell the events
 pub run_more : {X : Type 0} (told : X → Event) (c m c' : Content) (xs : List X) (i : ℕ) (x : X) (answers more : List Answer) (answer : Answer)
-    → i < length xs → x ≡ get_or xs i x → more ≡ answers ++ answer ∷ [] → Runs c (map told (take i xs)) answers m → Handles m (told x) answer c' → Runs c (map told (take (i + 1) xs)) more c'
+    → i < length xs → x ≡ get_or xs i x → more ≡ answers ++ answer ∷ [] → Runs c (map told (take i xs)) answers m → Handles m (told x) answer c'
+    → Runs c (map told (take (i + 1) xs)) more c'
 run_more told c m c' xs i x answers more answer lt at is runs step =
     let next : map told (take (i + 1) xs) ≡ map told (take i xs) ++ told x ∷ [] = ap (map told) (take_more xs i x lt) ∙ map-push told (take i xs) (get_or xs i x) ∙ ap
     (λ (y : _). map told (take i xs) ++ told y ∷ []) (sym at) in

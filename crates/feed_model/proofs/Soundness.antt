@@ -1,5 +1,6 @@
 -- A content of a history is sound.
-use Rattle.std.proofs.Common.{◌≡◌, ◌<◌, ℕ, zero, suc, List, [], ◌∷◌, ◌++◌, length, get_or, slice_get, Option, Some, None, IsSome, ◌⊎◌, inl, inr, refl, sym, ◌∙◌, ap, subst, arith}
+use Rattle.std.proofs.Common.{◌≡◌, ◌<◌, ℕ, zero, suc, List, [], ◌∷◌, ◌++◌, length, get_or, slice_get}
+use Rattle.std.proofs.Common.{Option, Some, None, IsSome, ◌⊎◌, inl, inr, refl, sym, ◌∙◌, ap, subst, arith}
 use Rattle.std.specs.List.{AllByRecursion, All, IsDistinct}
 use Rattle.std.proofs.lemmas.List.Elements.{All-nil}
 use Rattle.feed_names.specs.ReleaseName.{Name}
@@ -36,7 +37,8 @@ some_is None some = absurd (cc)
 some_is (Some x) some = (x, refl)
 
 -- where no place is missing, the bytes are a text
-whole_text : (at : ℕ → Option ℕ) (size : ℕ) → ((place : ℕ) → place < size → IsSome (at place)) → (text : List ℕ) × (length text ≡ size) × ((place : ℕ) → place < size → at place ≡ slice_get text place)
+whole_text : (at : ℕ → Option ℕ) (size : ℕ) → ((place : ℕ) → place < size → IsSome (at place))
+    → (text : List ℕ) × (length text ≡ size) × ((place : ℕ) → place < size → at place ≡ slice_get text place)
 whole_text at zero some = ([], refl, λ place lt. absurd (omega arith))
 whole_text at (suc n) some =
     let before = whole_text at n (λ place lt. some place (omega arith)) in
@@ -46,8 +48,8 @@ whole_text at (suc n) some =
     split : (place m : ℕ) → place < suc m → (place < m) ⊎ (place ≡ m)
     split place m lt = grind arith
 
-    by : (text : List ℕ) (x : ℕ) → length text ≡ n → ((place : ℕ) → place < n → at place ≡ slice_get text place) → at n ≡ Some x → (place : ℕ) → (place < n) ⊎ (place ≡ n)
-        → at place ≡ slice_get (text ++ x ∷ []) place
+    by : (text : List ℕ) (x : ℕ) → length text ≡ n → ((place : ℕ) → place < n → at place ≡ slice_get text place) → at n ≡ Some x → (place : ℕ)
+        → (place < n) ⊎ (place ≡ n) → at place ≡ slice_get (text ++ x ∷ []) place
     by text x len each here place (inl lt) = each place lt ∙ sym (get-push text x place (omega (arith, len)))
     by text x len each here place (inr e) = ap at e ∙ here ∙ sym (get-last text x) ∙ ap (slice_get (text ++ x ∷ [])) (len ∙ sym e)
 

@@ -1,5 +1,6 @@
 -- What the records say of the history.
-use Rattle.std.proofs.Common.{◌≡◌, ◌<◌, ℕ, suc, ◌<ℤ◌, ◌≤ℤ◌, List, [], ◌∷◌, length, Option, Some, None, IsSome, slice_get, MatchOption, refl, sym, ◌∙◌, subst, arith}
+use Rattle.std.proofs.Common.{◌≡◌, ◌<◌, ℕ, suc, ◌<ℤ◌, ◌≤ℤ◌, List, [], ◌∷◌, length, Option}
+use Rattle.std.proofs.Common.{Some, None, IsSome, slice_get, MatchOption, refl, sym, ◌∙◌, subst, arith}
 use Rattle.std.proofs.lemmas.Int.{ints}
 use Rattle.feed_names.specs.ReleaseName.{Name, IsEarlier}
 use Rattle.feed_model.specs.declared.state.State.{State}
@@ -39,7 +40,8 @@ state_good h n Staged g w = absurd (w (g.0, g.1))
 state_good h n Active g w = refl
 state_good h n Broken g w = absurd (good_not_bad h n g w)
 
-pub record_good : (c : Content) (h : History) → IsContent c h → (n : Name) → IsGood h n → ((IsPassed h n) → ⊥) → (x : Record) × (record_of c n ≡ Some x) × (x.state ≡ Active) × IsActive h n
+pub record_good : (c : Content) (h : History) → IsContent c h → (n : Name) → IsGood h n → ((IsPassed h n) → ⊥) → (x : Record) × (record_of c n ≡ Some x) × (x.state ≡ Active)
+    × IsActive h n
 record_good c h is n g ahead = by (record_of c n) refl (is.each n)
   where
     by : (o : Option Record) → record_of c n ≡ o → MatchOption o (¬ (IsHeld h n)) (IsRecord h n) → (x : Record) × (record_of c n ≡ Some x) × (x.state ≡ Active) × IsActive h n

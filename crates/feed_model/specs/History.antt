@@ -1,5 +1,6 @@
 -- What a feed was told and answered, and what this makes of each release.
-use Rattle.std.specs.Prelude.{◌≡◌, ◌≢◌, ◌<◌, ◌-◌, ℕ, Bool, true, false, ◌&&◌, if◌then◌else◌, nat_le, List, [], ◌∷◌, length, Option, Some, None, Result, Ok, slice_get, IsSome, MatchOption, ◌≤ℤ◌}
+use Rattle.std.specs.Prelude.{◌≡◌, ◌≢◌, ◌<◌, ◌-◌, ℕ, Bool, true, false, ◌&&◌, if◌then◌else◌, nat_le, List}
+use Rattle.std.specs.Prelude.{[], ◌∷◌, length, Option, Some, None, Result, Ok, slice_get, IsSome, MatchOption, ◌≤ℤ◌}
 use Rattle.feed_names.specs.ReleaseName.{Name, name_eq, IsEarlier}
 use Rattle.feed_model.specs.declared.reply.Reply.{Reply}
 use Rattle.feed_model.specs.declared.reply.Reply.TheVariants.{Noted, Stored, Activated, Broken}

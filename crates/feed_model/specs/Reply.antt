@@ -1,5 +1,6 @@
 -- Which answers are right.
-use Rattle.std.specs.Prelude.{◌≡◌, ◌≢◌, ◌<◌, ◌+◌, ◌⊎◌, ◌↔◌, ℕ, zero, suc, is_none, if◌then◌else◌, List, [], ◌∷◌, length, Option, Some, None, Ok, Err, slice_get, IsSome, IsSomeAnd}
+use Rattle.std.specs.Prelude.{◌≡◌, ◌≢◌, ◌<◌, ◌+◌, ◌⊎◌, ◌↔◌, ℕ, zero, suc, is_none, if◌then◌else◌}
+use Rattle.std.specs.Prelude.{List, [], ◌∷◌, length, Option, Some, None, Ok, Err, slice_get, IsSome, IsSomeAnd}
 use Rattle.std.specs.List.{IsDistinct, Contains}
 use Rattle.feed_names.specs.ReleaseName.{Name, name_eq}
 use Rattle.feed_kbart.specs.Limits.{file_limit}

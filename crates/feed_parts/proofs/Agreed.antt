@@ -1,5 +1,6 @@
 -- Parts beside a piece: whether their bytes are the same.
-use Rattle.std.proofs.Common.{◌≡◌, ◌≢◌, ◌<◌, ◌≤◌, ◌+◌, ◌-◌, ◌&&◌, ◌⊎◌, inl, inr, Bool, true, false, eqb, ℕ, suc, List, [], ◌∷◌, length, get_or, Some, None, refl, sym, ◌∙◌, ap, arith}
+use Rattle.std.proofs.Common.{◌≡◌, ◌≢◌, ◌<◌, ◌≤◌, ◌+◌, ◌-◌, ◌&&◌, ◌⊎◌, inl, inr, Bool, true, false}
+use Rattle.std.proofs.Common.{eqb, ℕ, suc, List, [], ◌∷◌, length, get_or, Some, None, refl, sym, ◌∙◌, ap, arith}
 use Rattle.std.proofs.lemmas.Bool.{eqb-false}
 use Rattle.std.proofs.lemmas.List.Elements.{All-tail}
 use Rattle.std.specs.Cmp.Lexicographic.{pointwise, bytes_decides}
@@ -22,7 +23,8 @@ differ_at (x ∷ xs) (y ∷ ys) len e = by (eqb x y) refl e (differ_at xs ys (om
     by false t f again = (0, omega arith, eqb-false x y t)
 
 -- one part, and the piece, cut to the places that both have
-module _ (p : Part) (first : ℕ) (bytes : List ℕ) (low high : ℕ) (part_low : p.first ≤ low) (piece_low : first ≤ low) (part_high : high ≤ end_of p) (piece_high : high ≤ first + length bytes) where
+module _ (p : Part) (first : ℕ) (bytes : List ℕ) (low high : ℕ) (part_low : p.first ≤ low) (piece_low : first ≤ low) (part_high : high ≤ end_of p)
+    (piece_high : high ≤ first + length bytes) where
   xs : List ℕ
   xs = (cut p.first p.bytes low high).bytes
 
@@ -59,7 +61,8 @@ module _ (p : Part) (first : ℕ) (bytes : List ℕ) (low high : ℕ) (part_low 
       cc
 
 -- no place in both
-pub apart_agrees : (p : Part) (first : ℕ) (bytes : List ℕ) → ((place : ℕ) → p.first ≤ place → place < end_of p → first ≤ place → place < first + length bytes → ⊥) → AgreesIn (p ∷ []) first bytes
+pub apart_agrees : (p : Part) (first : ℕ) (bytes : List ℕ) → ((place : ℕ) → p.first ≤ place → place < end_of p → first ≤ place → place < first + length bytes → ⊥)
+    → AgreesIn (p ∷ []) first bytes
 apart_agrees p first bytes apart place x y f g =
     let in_part = byte_at_place p.first p.bytes place x (sym (second_none (byte_at p.first p.bytes place) None refl) ∙ f) in
     let in_piece = byte_at_place first bytes place y g in

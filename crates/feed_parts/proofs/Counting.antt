@@ -1,5 +1,6 @@
 -- How many places of a file are missing.
-use Rattle.std.proofs.Common.{if◌then◌else◌, ◌≡◌, ◌<◌, ◌≤◌, ◌+◌, ◌-◌, ◌⊎◌, min, inl, inr, ℕ, zero, suc, Bool, true, false, List, [], ◌∷◌, length, Option, Some, None, All}
+use Rattle.std.proofs.Common.{if◌then◌else◌, ◌≡◌, ◌<◌, ◌≤◌, ◌+◌, ◌-◌, ◌⊎◌, min, inl, inr}
+use Rattle.std.proofs.Common.{ℕ, zero, suc, Bool, true, false, List, [], ◌∷◌, length, Option, Some, None, All}
 use Rattle.std.proofs.Common.{nat_lt, refl, sym, ◌∙◌, arith}
 use Rattle.std.proofs.lemmas.Bool.{cases_lt}
 use Rattle.std.proofs.lemmas.List.Elements.{All-head, All-tail}
@@ -20,7 +21,8 @@ total_insert : (q : Part) (ps : List Part) → total_length (insert_part q ps) �
 total_insert q [] = omega (arith, total_cons q [])
 total_insert q (p ∷ ps) = by (nat_lt q.first p.first) (total_insert q ps)
   where
-    by : (b : Bool) → total_length (insert_part q ps) ≡ total_length ps + length q.bytes → total_length (if b then q ∷ p ∷ ps else p ∷ insert_part q ps) ≡ total_length (p ∷ ps) + length q.bytes
+    by : (b : Bool) → total_length (insert_part q ps) ≡ total_length ps + length q.bytes
+        → total_length (if b then q ∷ p ∷ ps else p ∷ insert_part q ps) ≡ total_length (p ∷ ps) + length q.bytes
     by true again = omega (arith, total_cons q (p ∷ ps))
     by false again = omega (arith, total_cons p (insert_part q ps), total_cons p ps, again)
 
@@ -46,7 +48,8 @@ pub total_within : (size : ℕ) (ps : List Part) → AreWithin size ps → total
 total_within size ps w = omega (arith, total_from 0 size ps (omega arith) w.parts w.inside)
 
 -- two kinds of bytes with no place in common
-missing_both : (f g : ℕ → Option ℕ) → ((place : ℕ) → (f place ≡ None) ⊎ (g place ≡ None)) → (n : ℕ) → missing_below f n + missing_below g n ≡ missing_below (λ place. or_else (f place) (g place)) n + n
+missing_both : (f g : ℕ → Option ℕ) → ((place : ℕ) → (f place ≡ None) ⊎ (g place ≡ None)) → (n : ℕ)
+    → missing_below f n + missing_below g n ≡ missing_below (λ place. or_else (f place) (g place)) n + n
 missing_both f g apart zero = refl
 missing_both f g apart (suc n) = by (cases_option (f n)) (cases_option (g n)) (apart n) (missing_both f g apart n)
   where

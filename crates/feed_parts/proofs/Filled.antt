@@ -35,7 +35,8 @@ filled_next size all place p rest f le = record {
         some_is (byte_in all at) _ (f.same at from ∙ first_some (byte_at p.first p.bytes at) (byte_in rest at) _ e)
 
 -- a gap in front of the next part
-pub missing_before : (size : ℕ) (all : List Part) (place : ℕ) (p : Part) (rest : List Part) → IsFilled size all place (p ∷ rest) → (at : ℕ) → place ≤ at → at < p.first → byte_in all at ≡ None
+pub missing_before : (size : ℕ) (all : List Part) (place : ℕ) (p : Part) (rest : List Part) → IsFilled size all place (p ∷ rest) → (at : ℕ) → place ≤ at → at < p.first
+    → byte_in all at ≡ None
 missing_before size all place p rest f at le lt =
     f.same at le ∙ none_before p.first (p ∷ rest) (omega arith, f.parts.1, f.parts.2, f.parts.3) at lt
 

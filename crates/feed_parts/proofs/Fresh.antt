@@ -1,5 +1,6 @@
 -- What a piece brings to the parts that are kept.
-use Rattle.std.proofs.Common.{if◌then◌else◌, ◌≡◌, ◌<◌, ◌≤◌, ◌+◌, ◌-◌, ◌++◌, ◌⊎◌, inl, inr, max, Bool, true, false, nat_lt, ℕ, List, [], ◌∷◌, length, append-nil, Option, Some, None, IsSome}
+use Rattle.std.proofs.Common.{if◌then◌else◌, ◌≡◌, ◌<◌, ◌≤◌, ◌+◌, ◌-◌, ◌++◌, ◌⊎◌, inl, inr, max}
+use Rattle.std.proofs.Common.{Bool, true, false, nat_lt, ℕ, List, [], ◌∷◌, length, append-nil, Option, Some, None, IsSome}
 use Rattle.std.proofs.Common.{All, refl, sym, ◌∙◌, ap, subst, arith}
 use Rattle.std.proofs.lemmas.Bool.{cases_lt, ltb-true, ltb-false}
 use Rattle.std.proofs.lemmas.List.Elements.{All-nil, All-push, All-weaker}
@@ -53,7 +54,8 @@ module _ (size first : ℕ) (bytes : List ℕ) (all : List Part) (inside : first
     brings = λ at lt. by at lt (cases_lt at place) (cases_lt at (first + length bytes));
   }
     where
-      by : (at : ℕ) → at < next → (at < place) ⊎ (place ≤ at) → (at < first + length bytes) ⊎ (first + length bytes ≤ at) → byte_in new at ≡ fresh (byte_in all at) (byte_at first bytes at)
+      by : (at : ℕ) → at < next → (at < place) ⊎ (place ≤ at) → (at < first + length bytes) ⊎ (first + length bytes ≤ at)
+          → byte_in new at ≡ fresh (byte_in all at) (byte_at first bytes at)
       by at lt (inl before) end = so_far.brings at before
       by at lt (inr from) (inl below) = none_after place new so_far.past at from ∙ sym (fresh_kept (byte_in all at) (byte_at first bytes at) (kept at from lt below))
       by at lt (inr from) (inr over) = none_after place new so_far.past at from ∙ sym (fresh_none (byte_in all at) (byte_at first bytes at) (byte_at_after first bytes at over))

@@ -1,5 +1,6 @@
 -- The parts of a file of which no place is missing, one behind the other.
-use Rattle.std.proofs.Common.{◌≡◌, ◌<◌, ◌≤◌, ◌+◌, ◌-◌, ◌++◌, ◌⊎◌, inl, inr, ℕ, List, [], ◌∷◌, length, get_or, take, Some, None, IsSome, Result, Ok, Err, All, slice_get, length-append}
+use Rattle.std.proofs.Common.{◌≡◌, ◌<◌, ◌≤◌, ◌+◌, ◌-◌, ◌++◌, ◌⊎◌, inl, inr, ℕ, List, [], ◌∷◌}
+use Rattle.std.proofs.Common.{length, get_or, take, Some, None, IsSome, Result, Ok, Err, All, slice_get, length-append}
 use Rattle.std.proofs.Common.{append_assoc, refl, sym, ◌∙◌, ap, subst, arith}
 use Rattle.std.specs.Io.KnownBytes.{ReadConsumes}
 use Rattle.std.proofs.lemmas.Bool.{cases_lt}
@@ -18,8 +19,8 @@ record IsTextFrom (size at : ℕ) (ps : List Part) : Type 0 where
   count : length (joined ps) + at ≡ size
   bytes : (place : ℕ) → at ≤ place → place < size → byte_in ps place ≡ slice_get (joined ps) (place - at)
 
-text_from : (size at : ℕ) (ps : List Part) → ArePartsFrom at ps → All (λ p. end_of p ≤ size) ps → at ≤ size → ((place : ℕ) → at ≤ place → place < size → IsSome (byte_in ps place))
-    → IsTextFrom size at ps
+text_from : (size at : ℕ) (ps : List Part) → ArePartsFrom at ps → All (λ p. end_of p ≤ size) ps → at ≤ size
+    → ((place : ℕ) → at ≤ place → place < size → IsSome (byte_in ps place)) → IsTextFrom size at ps
 text_from size at [] w inside le some = by (cases_lt at size)
   where
     by : (at < size) ⊎ (size ≤ at) → IsTextFrom size at []

@@ -40,8 +40,8 @@ module _ (size end : ℕ) (all : List Part) (place : ℕ) (p : Part) (rest : Lis
   }
 
   -- no gap in front of the next part
-  pub kept_more : (first next : ℕ) → ((at : ℕ) → first ≤ at → at < place → at < end → IsSome (byte_in all at)) → p.first ≤ place → next ≡ max place (end_of p) → (at : ℕ) → first ≤ at → at < next
-      → at < end → IsSome (byte_in all at)
+  pub kept_more : (first next : ℕ) → ((at : ℕ) → first ≤ at → at < place → at < end → IsSome (byte_in all at)) → p.first ≤ place → next ≡ max place (end_of p) → (at : ℕ)
+      → first ≤ at → at < next → at < end → IsSome (byte_in all at)
   kept_more first next kept le is at from lt below = by (cases_lt at place)
     where
       by : (at < place) ⊎ (place ≤ at) → IsSome (byte_in all at)

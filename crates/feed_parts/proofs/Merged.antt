@@ -1,5 +1,6 @@
 -- Parts put among others.
-use Rattle.std.proofs.Common.{if◌then◌else◌, ◌≡◌, ◌<◌, ◌≤◌, ◌⊎◌, inl, inr, ℕ, Bool, true, false, List, [], ◌∷◌, length, Some, None, All, nat_lt, refl, sym, ◌∙◌, ap, arith}
+use Rattle.std.proofs.Common.{if◌then◌else◌, ◌≡◌, ◌<◌, ◌≤◌, ◌⊎◌, inl, inr, ℕ, Bool, true, false}
+use Rattle.std.proofs.Common.{List, [], ◌∷◌, length, Some, None, All, nat_lt, refl, sym, ◌∙◌, ap, arith}
 use Rattle.std.proofs.lemmas.Bool.{ltb-true, ltb-false, cases_lt}
 use Rattle.std.proofs.lemmas.List.Elements.{All-head, All-tail, All-cons}
 use Rattle.feed_model.specs.History.{or_else, byte_at}
@@ -45,7 +46,8 @@ still_apart at q ps qs place w (inl none) = by (cases_option (byte_at q.first q.
     by (inl lacks) = inl (insert_bytes q ps place (inl none) ∙ first_none (byte_in ps place) (byte_at q.first q.bytes place) none ∙ lacks)
     by (inr some) = inr (none_behind at q qs w place some.0 some.1)
 
-one_apart : (q : Part) (ps qs : List Part) (place : ℕ) → (byte_in ps place ≡ None) ⊎ (byte_in (q ∷ qs) place ≡ None) → (byte_in ps place ≡ None) ⊎ (byte_at q.first q.bytes place ≡ None)
+one_apart : (q : Part) (ps qs : List Part) (place : ℕ) → (byte_in ps place ≡ None) ⊎ (byte_in (q ∷ qs) place ≡ None)
+    → (byte_in ps place ≡ None) ⊎ (byte_at q.first q.bytes place ≡ None)
 one_apart q ps qs place (inl none) = inl none
 one_apart q ps qs place (inr none) = inr (neither (byte_at q.first q.bytes place) (byte_in qs place) none).0
 

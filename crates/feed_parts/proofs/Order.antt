@@ -1,5 +1,6 @@
 -- The order of parts, for a search by halves.
-use Rattle.std.proofs.Common.{◌≡◌, ◌<◌, ◌≤◌, ◌+◌, ◌-◌, ◌^◌, ◌⊎◌, inl, inr, min, ℕ, zero, suc, true, false, List, [], ◌∷◌, length, get_or, take, drop, None, All, vec_len, leb, ltb}
+use Rattle.std.proofs.Common.{◌≡◌, ◌<◌, ◌≤◌, ◌+◌, ◌-◌, ◌^◌, ◌⊎◌, inl, inr, min, ℕ, zero, suc}
+use Rattle.std.proofs.Common.{true, false, List, [], ◌∷◌, length, get_or, take, drop, None, All, vec_len, leb, ltb}
 use Rattle.std.proofs.Common.{length-take, length-drop, get_or-take, get_or-drop, sym, subst, arith}
 use Rattle.std.specs.List.{AllWithin}
 use Rattle.std.specs.List.Sorted.{IsNonDecreasingBy}
@@ -92,13 +93,15 @@ module _ (size first end : ℕ) (ps : List code_part.Part) (within : AreWithin s
       starts : All (λ p. end ≤ p.first) (drop n ps)
       starts k d lt = ltb-false (get_or (drop n ps) k d).first end (all_dropped (λ p. ltb p.first end ≡ false) n ps tests k d lt)
 
-  pub rest_bytes : (n : ℕ) → AllWithin (λ p. leb (code_end p) first ≡ true) ps 0 n → (place : ℕ) → first ≤ place → byte_in (shown_parts (drop n ps)) place ≡ byte_in (shown_parts ps) place
+  pub rest_bytes : (n : ℕ) → AllWithin (λ p. leb (code_end p) first ≡ true) ps 0 n → (place : ℕ) → first ≤ place
+      → byte_in (shown_parts (drop n ps)) place ≡ byte_in (shown_parts ps) place
   rest_bytes n tests place le =
       let none : byte_in (take n (shown_parts ps)) place ≡ None = none_after first (take n (shown_parts ps))
       (subst (All (λ p. end_of p ≤ first)) (sym (take-map shown_part n ps)) (front_ends n tests)) place le in
       subst (λ qs. byte_in qs place ≡ byte_in (shown_parts ps) place) (drop-map shown_part n ps) (byte_in_drop n (shown_parts ps) place none)
 
-  pub front_bytes : (n : ℕ) → AllWithin (λ p. ltb p.first end ≡ false) ps n (length ps) → (place : ℕ) → place < end → byte_in (shown_parts (take n ps)) place ≡ byte_in (shown_parts ps) place
+  pub front_bytes : (n : ℕ) → AllWithin (λ p. ltb p.first end ≡ false) ps n (length ps) → (place : ℕ) → place < end
+      → byte_in (shown_parts (take n ps)) place ≡ byte_in (shown_parts ps) place
   front_bytes n tests place lt =
       let none : byte_in (drop n (shown_parts ps)) place ≡ None = none_ahead end (drop n (shown_parts ps))
       (subst (All (λ p. end ≤ p.first)) (sym (drop-map shown_part n ps)) (rest_starts n tests)) place lt in

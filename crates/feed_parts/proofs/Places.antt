@@ -1,5 +1,6 @@
 -- The bytes of parts, place by place.
-use Rattle.std.proofs.Common.{◌≡◌, ◌<◌, ◌≤◌, ◌+◌, ◌-◌, ◌++◌, ◌⊎◌, inl, inr, ℕ, zero, suc, List, [], ◌∷◌, length, get_or, take, drop, take-append-drop, length-take, length-drop, get_or-take}
+use Rattle.std.proofs.Common.{◌≡◌, ◌<◌, ◌≤◌, ◌+◌, ◌-◌, ◌++◌, ◌⊎◌, inl, inr, ℕ, zero, suc, List}
+use Rattle.std.proofs.Common.{[], ◌∷◌, length, get_or, take, drop, take-append-drop, length-take, length-drop, get_or-take}
 use Rattle.std.proofs.Common.{get_or-drop, ap, subst, Option, Some, None, IsSome, All, slice_get, refl, sym, ◌∙◌, arith}
 use Rattle.std.proofs.lemmas.Bool.{le-leb, lt-leb, cases_lt}
 use Rattle.std.proofs.lemmas.List.Elements.{All-head, All-tail}

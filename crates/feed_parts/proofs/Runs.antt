@@ -1,5 +1,6 @@
 -- Two sorted runs, of which the second is moved to its place in the first and sorted with what it lies among.
-use Rattle.std.proofs.Common.{◌≡◌, ◌<◌, ◌≤◌, ◌+◌, ◌-◌, ◌++◌, ◌⊎◌, inl, inr, max, ℕ, true, false, ltb, List, [], length, get_or, take, drop, All, IsPermutation, append-nil, append_assoc}
+use Rattle.std.proofs.Common.{◌≡◌, ◌<◌, ◌≤◌, ◌+◌, ◌-◌, ◌++◌, ◌⊎◌, inl, inr, max, ℕ, true, false}
+use Rattle.std.proofs.Common.{ltb, List, [], length, get_or, take, drop, All, IsPermutation, append-nil, append_assoc}
 use Rattle.std.proofs.Common.{length-append, length-take, length-drop, get_or-take, get_or-drop, take_at, drop_at, take-take, drop-drop, refl, sym, ◌∙◌, ap, ap₂, subst, arith}
 use Rattle.std.specs.List.{AllWithin}
 use Rattle.std.specs.List.Sorted.{IsNonDecreasingBy}
@@ -131,7 +132,8 @@ module _ {X : Type 0} (n : X → ℕ) where
       let head : get_or (drop kept xs) 0 d ≡ x = get_or-drop kept xs 0 d ∙ ap (λ j. get_or xs j d) at ∙ get_or_default xs kept d x in' ∙ sym is in
       subst (λ y. n y ≤ n (get_or (drop kept xs) i d)) head (rise 0 i d (omega arith) lt)
 
-  pub run_last : (kept last : ℕ) (xs : List X) (x : X) → kept ≤ last → last + 1 ≡ length xs → x ≡ get_or xs last x → IsNonDecreasingBy n (drop kept xs) → All (λ q. n q ≤ n x) (drop kept xs)
+  pub run_last : (kept last : ℕ) (xs : List X) (x : X) → kept ≤ last → last + 1 ≡ length xs → x ≡ get_or xs last x → IsNonDecreasingBy n (drop kept xs)
+      → All (λ q. n q ≤ n x) (drop kept xs)
   run_last kept last xs x le len is rise i d lt =
       let at : kept + (last - kept) ≡ last = omega arith in
       let end : get_or (drop kept xs) (last - kept) d ≡ x = get_or-drop kept xs (last - kept) d ∙ ap (λ j. get_or xs j d) at ∙ get_or_default xs last d x (omega arith) ∙ sym is in

@@ -1,5 +1,6 @@
 -- A stable sort by the first places puts parts in order as one after another does.
-use Rattle.std.proofs.Common.{if◌then◌else◌, ◌≡◌, ◌<◌, ◌≤◌, ◌++◌, ◌&&◌, ◌⊎◌, inl, inr, Bool, true, false, not, eqb, cond, nat_lt, ltb-true, ltb-false, eq-eqb, ne_eqb, ℕ, suc, List, [], ◌∷◌}
+use Rattle.std.proofs.Common.{if◌then◌else◌, ◌≡◌, ◌<◌, ◌≤◌, ◌++◌, ◌&&◌, ◌⊎◌, inl, inr, Bool, true}
+use Rattle.std.proofs.Common.{false, not, eqb, cond, nat_lt, ltb-true, ltb-false, eq-eqb, ne_eqb, ℕ, suc, List, [], ◌∷◌}
 use Rattle.std.proofs.Common.{append-nil, append_assoc, All, filter, refl, sym, ◌∙◌, ap, arith}
 use Rattle.std.specs.List.Sorted.{IsNonDecreasingBy, IsStableByKey}
 use Rattle.std.specs.Ordering.{is_lt, nat_cmp}
@@ -90,7 +91,8 @@ same_up a b (x ∷ xs) (y ∷ ys) v w same = by (cases_lt x.first y.first) (case
             cc
         pick (inr ne) = sym (beginning_elsewhere at x xs ne) ∙ same at ∙ beginning_elsewhere at y ys (λ there. ne (e ∙ there))
 
-    by : (x.first < y.first) ⊎ (y.first ≤ x.first) → (y.first < x.first) ⊎ (x.first ≤ y.first) → (((at : ℕ) → beginning at xs ≡ beginning at ys) → xs ≡ ys) → x ∷ xs ≡ y ∷ ys
+    by : (x.first < y.first) ⊎ (y.first ≤ x.first) → (y.first < x.first) ⊎ (x.first ≤ y.first) → (((at : ℕ) → beginning at xs ≡ beginning at ys) → xs ≡ ys)
+        → x ∷ xs ≡ y ∷ ys
     by (inl lt) other again =
         absurd (let e : x ∷ beginning x.first xs ≡ [] = sym (beginning_here x.first x xs refl) ∙ same x.first ∙ none_beginning x.first y.first (y ∷ ys) (omega arith, w.1) lt in cc)
     by (inr ge) (inl lt) again =
@@ -105,11 +107,13 @@ same_up a b (x ∷ xs) (y ∷ ys) v w same = by (cases_lt x.first y.first) (case
 tie_is : (a at : ℕ) → not (is_lt (nat_cmp at a)) && not (is_lt (nat_cmp a at)) ≡ eqb a at
 tie_is a at = grind (arith, nat_tests)
 
-shown_ties : (at : ℕ) (test : code_part.Part → Bool) → ((p : code_part.Part) → test p ≡ eqb p.first at) → (ps : List code_part.Part) → shown_parts (filter test ps) ≡ beginning at (shown_parts ps)
+shown_ties : (at : ℕ) (test : code_part.Part → Bool) → ((p : code_part.Part) → test p ≡ eqb p.first at) → (ps : List code_part.Part)
+    → shown_parts (filter test ps) ≡ beginning at (shown_parts ps)
 shown_ties at test is [] = refl
 shown_ties at test is (p ∷ ps) = by (test p) refl (shown_ties at test is ps)
   where
-    by : (b : Bool) → test p ≡ b → shown_parts (filter test ps) ≡ beginning at (shown_parts ps) → shown_parts (cond b (p ∷ filter test ps) (filter test ps)) ≡ beginning at (shown_parts (p ∷ ps))
+    by : (b : Bool) → test p ≡ b → shown_parts (filter test ps) ≡ beginning at (shown_parts ps)
+        → shown_parts (cond b (p ∷ filter test ps) (filter test ps)) ≡ beginning at (shown_parts (p ∷ ps))
     by true e again = ap (λ xs. shown_part p ∷ xs) again ∙ ap (λ b. cond b (shown_part p ∷ beginning at (shown_parts ps)) (beginning at (shown_parts ps))) (sym e ∙ is p)
     by false e again = again ∙ ap (λ b. cond b (shown_part p ∷ beginning at (shown_parts ps)) (beginning at (shown_parts ps))) (sym e ∙ is p)
 

@@ -1,5 +1,6 @@
 -- There is one sorted list of parts that begin at different places.
-use Rattle.std.proofs.Common.{if◌then◌else◌, ◌≡◌, ◌<◌, ◌≤◌, ◌+◌, ◌++◌, ◌⊎◌, inl, inr, Bool, true, false, eqb, cond, nat_lt, ℕ, suc, List, [], ◌∷◌, get_or, append-nil, All, sum_by}
+use Rattle.std.proofs.Common.{if◌then◌else◌, ◌≡◌, ◌<◌, ◌≤◌, ◌+◌, ◌++◌, ◌⊎◌, inl, inr, Bool}
+use Rattle.std.proofs.Common.{true, false, eqb, cond, nat_lt, ℕ, suc, List, [], ◌∷◌, get_or, append-nil, All, sum_by}
 use Rattle.std.proofs.Common.{IsPermutation, refl, sym, ◌∙◌, ap, subst, arith}
 use Rattle.std.specs.List.Sorted.{IsNonDecreasingBy}
 use Rattle.std.proofs.lemmas.Bool.{eq-eqb, ne_eqb, cases_eq}
@@ -79,7 +80,8 @@ sorted_rise at (p ∷ ps) w low one = (All-head (λ q. at ≤ q.first) p ps low,
         let other : (get_or ps k d).first ≡ p.first → ⊥ = all_code (λ q. q.first ≡ p.first → ⊥) ps (none_there p.first (shown_parts ps) alone) k d lt in
         by le other (cases_eq (get_or ps k d).first p.first)
       where
-        by : p.first ≤ (get_or ps k d).first → ((get_or ps k d).first ≡ p.first → ⊥) → ((get_or ps k d).first ≡ p.first) ⊎ ((get_or ps k d).first ≡ p.first → ⊥) → suc p.first ≤ (get_or ps k d).first
+        by : p.first ≤ (get_or ps k d).first → ((get_or ps k d).first ≡ p.first → ⊥) → ((get_or ps k d).first ≡ p.first) ⊎ ((get_or ps k d).first ≡ p.first → ⊥)
+            → suc p.first ≤ (get_or ps k d).first
         by le other (inl e) = absurd (other e)
         by le other (inr ne) = omega (arith, ne)
 
@@ -188,7 +190,8 @@ parts_from_insert : (at : ℕ) (q : Part) (ps : List Part) → ArePartsFrom at (
 parts_from_insert at q [] w = tt
 parts_from_insert at q (p ∷ ps) w = by (nat_lt q.first p.first) (parts_from_insert (end_of p) q ps) w
   where
-    by : (b : Bool) → (ArePartsFrom (end_of p) (insert_part q ps) → ArePartsFrom (end_of p) ps) → ArePartsFrom at (if b then q ∷ p ∷ ps else p ∷ insert_part q ps) → ArePartsFrom at (p ∷ ps)
+    by : (b : Bool) → (ArePartsFrom (end_of p) (insert_part q ps) → ArePartsFrom (end_of p) ps) → ArePartsFrom at (if b then q ∷ p ∷ ps else p ∷ insert_part q ps)
+        → ArePartsFrom at (p ∷ ps)
     by true again v = starts_earlier (end_of q) at (p ∷ ps) (omega (arith, v.0)) v.3
     by false again v = (v.0, v.1, v.2, again v.3)
 

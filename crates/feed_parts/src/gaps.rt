@@ -17,7 +17,8 @@ pub struct Gap {
 pub fn next_gap(parts: &[Part], size: u64) -> Option<Gap>
     requires within { AreWithin size (shown_parts parts.now) }
     requires small { size < 2 ^ 63 }
-    ensures none { MatchOption result ((place : ℕ) → place < size → IsSome (byte_in (shown_parts parts.now) place))
+    ensures none { MatchOption result ((place : ℕ) → place < size
+        → IsSome (byte_in (shown_parts parts.now) place))
         (λ gap. gap.first < gap.end) }
     ensures before { MatchOption result (Unit {0}) (λ gap. (place : ℕ) → place < gap.first
         → IsSome (byte_in (shown_parts parts.now) place)) }

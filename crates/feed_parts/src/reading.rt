@@ -41,7 +41,8 @@ impl<'a> PartReader<'a> {
         requires apart { AreParts (merged (shown_parts kept.now) (shown_parts new.now)) }
         ensures { (size : ℕ) → AreWithin size (merged (shown_parts kept.now) (shown_parts new.now))
             → ((place : ℕ) → place < size → IsSome (byte_in (merged (shown_parts kept.now)
-            (shown_parts new.now)) place)) → IsText size (merged (shown_parts kept.now) (shown_parts new.now)) result }
+            (shown_parts new.now)) place)) → IsText size
+            (merged (shown_parts kept.now) (shown_parts new.now)) result }
     {
         PartReader {
             front: &[],

@@ -1,5 +1,6 @@
 -- What a Range value asks for, by its form.
-use Rattle.std.proofs.Common.{◌≡◌, ◌<◌, ◌+◌, ℕ, List, [], ◌∷◌, ◌++◌, length, take, drop, Bool, true, false, Option, Some, None, refl, sym, ap, arith, ◌∙◌, suc, codes, subst, get_or}
+use Rattle.std.proofs.Common.{◌≡◌, ◌<◌, ◌+◌, ℕ, List, [], ◌∷◌, ◌++◌, length, take, drop, Bool, true}
+use Rattle.std.proofs.Common.{false, Option, Some, None, refl, sym, ap, arith, ◌∙◌, suc, codes, subst, get_or}
 use Rattle.std.specs.Prelude.{nat_lt, not, ◌==◌, if◌then◌else◌}
 use Rattle.std.specs.List.{list_all, position_or_len}
 use Rattle.std.specs.Option.{option_and_then, option_map, option_map_or}
@@ -53,7 +54,8 @@ cut_at byte text parts e = by_test (nat_lt place (length text)) refl e
     place = position_or_len (λ other. other == byte) text
 
     by_test : (b : Bool) → nat_lt (position_or_len (λ other. other == byte) text) (length text) ≡ b
-        → option_map (λ place. (take place text, drop (place + 1) text)) (if b then Some (position_or_len (λ other. other == byte) text) else None) ≡ Some parts → text ≡ parts.0 ++ byte ∷ parts.1
+        → option_map (λ place. (take place text, drop (place + 1) text)) (if b then Some (position_or_len (λ other. other == byte) text) else None) ≡ Some parts
+        → text ≡ parts.0 ++ byte ∷ parts.1
     by_test false t e = absurd (cc)
     by_test true t e =
         let at : ℕ = position_or_len (λ other. other == byte) text in
@@ -87,8 +89,8 @@ unit_of value rest e = by_test (str_eq_ignore_ascii_case (take 6 value) (codes "
     by_test true t e = let same : drop 6 value ≡ rest = cc in (t, sym (take-append-drop 6 value) ∙ ap (λ r. take 6 value ++ r) same)
     by_test false t e = absurd (cc)
 
-round_dash : (value rest : List ℕ) (size : ℕ) (parts : Option (List ℕ × List ℕ)) → split_once dash rest ≡ parts → strip_prefix (codes "bytes=") value ≡ Some rest → IsOtherValue value
-    → option_map_or (λ p. places_of p.0 p.1 size) parts Whole ≡ Whole
+round_dash : (value rest : List ℕ) (size : ℕ) (parts : Option (List ℕ × List ℕ)) → split_once dash rest ≡ parts → strip_prefix (codes "bytes=") value ≡ Some rest
+    → IsOtherValue value → option_map_or (λ p. places_of p.0 p.1 size) parts Whole ≡ Whole
 round_dash value rest size None e s other = refl
 round_dash value rest size (Some p) e s other =
     let unit = unit_of value rest s in

@@ -1,5 +1,6 @@
 -- The part of a file that a Range value asks for (RFC 9110, sections 14.1.2 and 14.2).
-use Rattle.std.specs.Prelude.{ℕ, ◌-◌, List, ◌++◌, length, nat_lt, nat_le, ◌==◌, min, codes, if◌then◌else◌, Option, Some, None, ⊤, ◌≡◌, ◌≤◌, ◌<◌, [], ◌∷◌, true}
+use Rattle.std.specs.Prelude.{ℕ, ◌-◌, List, ◌++◌, length, nat_lt, nat_le, ◌==◌, min, codes, if◌then◌else◌}
+use Rattle.std.specs.Prelude.{Option, Some, None, ⊤, ◌≡◌, ◌≤◌, ◌<◌, [], ◌∷◌, true}
 use Rattle.std.specs.Option.{option_and_then, option_map, option_map_or}
 use Rattle.std.specs.Str.{str_eq_ignore_ascii_case}
 use Rattle.std.specs.Fmt.{decimal}

@@ -1,5 +1,6 @@
 -- What a Content-Range value says (RFC 9110, section 14.4).
-use Rattle.std.specs.Prelude.{ℕ, ◌≤◌, ◌<◌, ◌^◌, List, ◌++◌, Bool, true, false, ◌&&◌, ◌||◌, nat_lt, nat_le, codes, if◌then◌else◌, Option, Some, None, Result, Ok, Err, IfSome, ⊤}
+use Rattle.std.specs.Prelude.{ℕ, ◌≤◌, ◌<◌, ◌^◌, List, ◌++◌, Bool, true, false, ◌&&◌, ◌||◌, nat_lt}
+use Rattle.std.specs.Prelude.{nat_le, codes, if◌then◌else◌, Option, Some, None, Result, Ok, Err, IfSome, ⊤}
 use Rattle.std.specs.Option.{option_and_then, option_map, option_map_or}
 use Rattle.std.specs.Str.{bytes_eq}
 use Rattle.std.specs.Fmt.{decimal}

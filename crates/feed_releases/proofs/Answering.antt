@@ -1,5 +1,6 @@
 -- Answers of a feed that change nothing, and what is known of a piece that brings new bytes.
-use Rattle.std.proofs.Common.{◌≡◌, ◌≢◌, ◌⊎◌, ◌≤◌, ◌<◌, ◌+◌, ℕ, Some, Result, Ok, Err, OnErr, IfSome, IsSomeAnd, inl, inr, sym, ap, subst, arith, List, Option, None, length}
+use Rattle.std.proofs.Common.{◌≡◌, ◌≢◌, ◌⊎◌, ◌≤◌, ◌<◌, ◌+◌, ℕ, Some, Result, Ok, Err}
+use Rattle.std.proofs.Common.{OnErr, IfSome, IsSomeAnd, inl, inr, sym, ap, subst, arith, List, Option, None, length}
 use Rattle.std.proofs.lemmas.Bool.Decides.{eqb_tells}
 use Rattle.feed_names.specs.ReleaseName.{Name}
 use Rattle.feed_model.specs.declared.reply.Refusal.{Refusal}
@@ -31,7 +32,8 @@ idle {K} {k} old new event answer keeper same other right = record {
 }
 
 -- a refusal of what commits
-pub refused_with : {K : Type 0} {k : Ghosts K} (old new : Feed K k) (event : Event) (refusal : Refusal) → releases_of new ≡ releases_of old → (k.clean (keeper_of new) → k.clean (keeper_of old))
+pub refused_with : {K : Type 0} {k : Ghosts K} (old new : Feed K k) (event : Event) (refusal : Refusal) → releases_of new ≡ releases_of old
+    → (k.clean (keeper_of new) → k.clean (keeper_of old))
     → IsCounted (let a : Answer = Err refusal in a ≡ Err Device) (k.failed (keeper_of old)) (k.failed (keeper_of new)) → Handles (recorded old) event (Err refusal)
     (recorded old) → IsAnsweredBy old new event (Err refusal)
 refused_with old new event refusal same clean counted right = record { right = rw same right; refused = same; clean = clean; device = counted }

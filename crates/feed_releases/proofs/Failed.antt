@@ -8,8 +8,8 @@ use Rattle.feed_keep.specs.Cause.{HasFailed, HasFailedSince}
 use Rattle.feed_keep.proofs.Failed.{failed_since, failed_before, failed_later}
 
 -- one more answer
-pub answered_more : (answers more : List Answer) (answer : Answer) (a b c : ℕ) → more ≡ answers ++ answer ∷ [] → a ≤ b → b ≤ c → (Contains answers (Err Device) → HasFailedSince a b)
-    → (answer ≡ Err Device → HasFailed b c) → Contains more (Err Device) → HasFailedSince a c
+pub answered_more : (answers more : List Answer) (answer : Answer) (a b c : ℕ) → more ≡ answers ++ answer ∷ [] → a ≤ b → b ≤ c
+    → (Contains answers (Err Device) → HasFailedSince a b) → (answer ≡ Err Device → HasFailed b c) → Contains more (Err Device) → HasFailedSince a c
 answered_more answers more answer a b c is low high before now has = pick (Contains-append_cases answers (answer ∷ []) (Err Device) (subst (λ (xs : List Answer). Contains xs (Err Device)) is has))
   where
     only : (i : ℕ) → i < 1 → get_or (answer ∷ []) i (Err Device) ≡ Err Device → answer ≡ Err Device

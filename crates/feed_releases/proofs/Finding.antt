@@ -1,5 +1,6 @@
 -- Releases, found by name.
-use Rattle.std.proofs.Common.{◌≡◌, ◌<◌, ◌≤◌, ℕ, zero, suc, Bool, true, false, List, [], ◌∷◌, length, get_or, set, insert, filter, Some, None, refl, sym, ◌∙◌, ap, subst, arith}
+use Rattle.std.proofs.Common.{◌≡◌, ◌<◌, ◌≤◌, ℕ, zero, suc, Bool, true, false, List, [], ◌∷◌, length}
+use Rattle.std.proofs.Common.{get_or, set, insert, filter, Some, None, refl, sym, ◌∙◌, ap, subst, arith}
 use Rattle.std.specs.List.{IsDistinct, AllByRecursion}
 use Rattle.std.proofs.lemmas.Map.Keys.{IsDistinct-head, IsDistinct-tail}
 use Rattle.feed_names.specs.ReleaseName.{Name, name_eq, IsEarlier}
@@ -70,7 +71,8 @@ none_later rs n free a found active later =
     let at = place_of rs a.name a found in
     by rs free at.0 at.1 at.2
   where
-    by : (xs : List ReleaseValue) → ((k : ℕ) (d : ReleaseValue) → k < length xs → IsActiveAfter n (get_or xs k d) → ⊥) → (k : ℕ) → k < length xs → ((d : ReleaseValue) → (get_or xs k d).kept ≡ a) → ⊥
+    by : (xs : List ReleaseValue) → ((k : ℕ) (d : ReleaseValue) → k < length xs → IsActiveAfter n (get_or xs k d) → ⊥) → (k : ℕ) → k < length xs
+        → ((d : ReleaseValue) → (get_or xs k d).kept ≡ a) → ⊥
     by [] free k lt same = absurd (omega arith)
     by (y ∷ ys) free k lt same = free k y lt (ap (λ (z : Record). z.state) (same y) ∙ active, subst (λ (m : Name). IsEarlier n m) (sym (ap (λ (z : Record). z.name) (same y))) later)
 
@@ -79,7 +81,8 @@ pub reports_at : (rs : List ReleaseValue) (h : History) (stem : List ℕ) (k : �
     → Reports h stem (Some (get_or rs k d).kept.name)
 reports_at rs h stem k d is lt active = report_some (content_of rs) h stem (get_or rs k d).kept is (own_at rs k d is.distinct lt) active.0 active.1
 
-pub reports_none : (rs : List ReleaseValue) (h : History) (stem : List ℕ) → IsContent (content_of rs) h → ((k : ℕ) (d : ReleaseValue) → k < length rs → IsActiveOf stem (get_or rs k d) → ⊥)
+pub reports_none : (rs : List ReleaseValue) (h : History) (stem : List ℕ) → IsContent (content_of rs) h
+    → ((k : ℕ) (d : ReleaseValue) → k < length rs → IsActiveOf stem (get_or rs k d) → ⊥)
     → Reports h stem None
 reports_none rs h stem is free = report_none (content_of rs) h stem is
     (λ a found active same. let at = place_of rs a.name a found in by rs free at.0 at.1 a at.2 active same)

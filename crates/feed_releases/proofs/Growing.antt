@@ -21,7 +21,8 @@ use Rattle.feed_releases.proofs.Growth.{length-shown}
 
 right_so : (c : Content) (n : Name) (first : ℕ) (total : Option ℕ) (bytes : List ℕ) (r : Record) (ps : List Part) (missing : ℕ) (s : Standing) → Reaches c n first total bytes r
     → LiesOver r first bytes New
-    → Adds r.size r.parts first bytes ps → missing ≡ missing_below (byte_in (merged r.parts ps)) r.size → StandsSo r.size (merged r.parts ps) missing s → Handles c (Piece n first total bytes)
+    → Adds r.size r.parts first bytes ps → missing ≡ missing_below (byte_in (merged r.parts ps)) r.size → StandsSo r.size (merged r.parts ps) missing s
+    → Handles c (Piece n first total bytes)
     (Ok (reply_of missing s)) (after (change_to (state_of s) n ps) c)
 right_so c n first total bytes r ps missing Partial reach lies adds count so = piece_stored c n first total bytes r ps missing reach lies.2 lies.0 lies.1 adds count so
 right_so c n first total bytes r ps missing (Bad why) reach lies adds count so =
@@ -30,20 +31,20 @@ right_so c n first total bytes r ps missing (Good holdings) reach lies adds coun
     piece_activated c n first total bytes r ps so.1.0 reach lies.2 lies.0 lies.1 adds (sym count ∙ so.0) so.1.1.count so.1.1.bytes so.1.2
 
 -- the answer is right
-pub growth_right : (c : Content) (n : Name) (first : ℕ) (total : Option ℕ) (bytes : List ℕ) (r : Record) (growth : Growth) → r.name ≡ n → Reaches c n first total bytes r → LiesOver r first bytes New
-    → IsGrowth r first bytes growth → Handles c (Piece n first total bytes) (Ok (reply_of growth.missing growth.standing)) (after (change_of r growth) c)
+pub growth_right : (c : Content) (n : Name) (first : ℕ) (total : Option ℕ) (bytes : List ℕ) (r : Record) (growth : Growth) → r.name ≡ n → Reaches c n first total bytes r
+    → LiesOver r first bytes New → IsGrowth r first bytes growth → Handles c (Piece n first total bytes) (Ok (reply_of growth.missing growth.standing)) (after (change_of r growth) c)
 growth_right c n first total bytes r growth name reach lies is =
     rw name (right_so c n first total bytes r (parts_of growth) growth.missing growth.standing reach lies is.adds is.missing is.stands)
 
-allowed_so : (c : Content) (n : Name) (r : Record) (ps : List Part) (missing : ℕ) (s : Standing) → TakesParts c n ps r → NoneIsLater c n → missing ≡ missing_below (byte_in (merged r.parts ps)) r.size
-    → StandsSo r.size (merged r.parts ps) missing s → IsAllowed (change_to (state_of s) n ps) c
+allowed_so : (c : Content) (n : Name) (r : Record) (ps : List Part) (missing : ℕ) (s : Standing) → TakesParts c n ps r → NoneIsLater c n
+    → missing ≡ missing_below (byte_in (merged r.parts ps)) r.size → StandsSo r.size (merged r.parts ps) missing s → IsAllowed (change_to (state_of s) n ps) c
 allowed_so c n r ps missing Partial takes free count so = (r, takes)
 allowed_so c n r ps missing (Bad why) takes free count so = (r, takes, completes_by r ps (sym count ∙ so.0))
 allowed_so c n r ps missing (Good holdings) takes free count so = (r, takes, completes_by r ps (sym count ∙ so.0), free)
 
 -- the change is one that the keeper allows
-pub growth_allowed : (c : Content) (n : Name) (first : ℕ) (total : Option ℕ) (bytes : List ℕ) (r : Record) (growth : Growth) → r.name ≡ n → Reaches c n first total bytes r → LiesOver r first bytes New
-    → IsGrowth r first bytes growth → IsAllowed (change_of r growth) c
+pub growth_allowed : (c : Content) (n : Name) (first : ℕ) (total : Option ℕ) (bytes : List ℕ) (r : Record) (growth : Growth) → r.name ≡ n → Reaches c n first total bytes r
+    → LiesOver r first bytes New → IsGrowth r first bytes growth → IsAllowed (change_of r growth) c
 growth_allowed c n first total bytes r growth name reach lies is =
     let takes : TakesParts c n (parts_of growth) r = record {
       found = reach.found;

@@ -74,7 +74,7 @@ set_back (y ∷ ys) zero r x here same = ap (λ z. z ∷ ys) (same ∙ here)
 set_back (y ∷ ys) (suc at) r x here same = ap (λ zs. y ∷ zs) (set_back ys at r x here same)
 
 -- a release grown at its place is its record grown under its name
-pub grown_at : (rs : List ReleaseValue) (n : Name) (at : ℕ) (r x : ReleaseValue) (new : List Part) (state : State) → IsPlaceOf rs n at → r ≡ get_or rs at r → x.kept ≡ grown new state r.kept
-    → content_of (set rs at x) ≡ changed n (grown new state) (content_of rs)
+pub grown_at : (rs : List ReleaseValue) (n : Name) (at : ℕ) (r x : ReleaseValue) (new : List Part) (state : State) → IsPlaceOf rs n at → r ≡ get_or rs at r
+    → x.kept ≡ grown new state r.kept → content_of (set rs at x) ≡ changed n (grown new state) (content_of rs)
 grown_at rs n at r x new state place here is =
     set_at rs n at r x (grown new state) place (is ∙ ap (λ (y : ReleaseValue). grown new state y.kept) here)

@@ -1,5 +1,6 @@
 -- What the reader says of a file, as the feed reads it.
-use Rattle.std.proofs.Common.{◌≡◌, ◌≢◌, ◌<◌, List, [], ◌∷◌, ℕ, zero, suc, Option, Some, None, IsSome, Result, Ok, Err, length, slice_get, refl, sym, ◌∙◌, ap, subst, arith}
+use Rattle.std.proofs.Common.{◌≡◌, ◌≢◌, ◌<◌, List, [], ◌∷◌, ℕ, zero, suc, Option, Some, None}
+use Rattle.std.proofs.Common.{IsSome, Result, Ok, Err, length, slice_get, refl, sym, ◌∙◌, ap, subst, arith}
 use Rattle.feed_kbart.specs.HoldingsValue.{HoldingsValue}
 use Rattle.feed_kbart.specs.Files.{IsReadOf, bad_of}
 use Rattle.feed_kbart.specs.declared.fault.BadFile.{BadFile}
@@ -65,7 +66,8 @@ bears_good Broken size parts holdings none j apart b = b.2 (ap fault_of (one_tex
 bears_good Active size parts holdings none j apart b = apart refl
 
 -- a bad file bears out no other state than broken
-pub bears_bad : (s : State) (size : ℕ) (parts : List Part) (why : BadFile) → missing_below (byte_in parts) size ≡ 0 → IsJudged size parts (Err (Bad why)) → s ≢ Broken → BearsOut s size parts → ⊥
+pub bears_bad : (s : State) (size : ℕ) (parts : List Part) (why : BadFile) → missing_below (byte_in parts) size ≡ 0 → IsJudged size parts (Err (Bad why)) → s ≢ Broken
+    → BearsOut s size parts → ⊥
 bears_bad Staged size parts why none j apart b = omega (arith, none, b)
 bears_bad Broken size parts why none j apart b = apart refl
 bears_bad Active size parts why none j apart b = (let e : fault_of b.0 ≡ Some why = ap fault_of (one_text size parts b.0 j.0 b.1 j.1) ∙ j.2 in let f = b.2 in cc)

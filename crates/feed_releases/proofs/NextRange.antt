@@ -19,8 +19,8 @@ next_same f g same size max (Some range) next = record {
   greatest = λ more inside. subst IsSome (same (suc range.1)) (next.greatest more inside);
 }
 
-pub next_of_record : (c : Content) (h : History) (n : Name) (r : Record) (max : ℕ) (range : Option (ℕ × ℕ)) → IsContent c h → record_of c n ≡ Some r → IsNextOf (byte_in r.parts) r.size max range
-    → IsNextRange h n max range
+pub next_of_record : (c : Content) (h : History) (n : Name) (r : Record) (max : ℕ) (range : Option (ℕ × ℕ)) → IsContent c h → record_of c n ≡ Some r
+    → IsNextOf (byte_in r.parts) r.size max range → IsNextRange h n max range
 next_of_record c h n r max range is found next =
     let there = of_record c h n r is found in
     inr (there.held, r.size, there.size, next_same (byte_in r.parts) (kept h n) there.bytes r.size max range next)

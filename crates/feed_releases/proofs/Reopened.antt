@@ -54,8 +54,8 @@ reopened_count all rest releases so =
     omega (arith, length-content_of releases, length-shown_records rest, length-shown_records all, length-append (content_of releases) (shown rest), ap length so.order)
 
 -- an unsound record leaves no sound content
-pub reopened_not : (all rest more : List code.Record) (releases : List ReleaseValue) (r : code.Record) → AreReopened all releases rest → rest ≡ r ∷ more → (IsSoundRecord (shown_record r) → ⊥)
-    → IsSound (shown all) → ⊥
+pub reopened_not : (all rest more : List code.Record) (releases : List ReleaseValue) (r : code.Record) → AreReopened all releases rest → rest ≡ r ∷ more
+    → (IsSoundRecord (shown_record r) → ⊥) → IsSound (shown all) → ⊥
 reopened_not all rest more releases r so is wrong sound =
     wrong (all-at IsSoundRecord (content_of releases) (shown_record r) (shown more)
     (subst (All IsSoundRecord) (sym so.order ∙ ap (λ (ys : List code.Record). content_of releases ++ shown ys) is) sound.each))
@@ -71,7 +71,8 @@ reopened_sound all releases so distinct few current =
       current = subst (λ (c : Content). All (λ r. ¬ (HasLaterActive c r.name)) c) is current;
     }
 
-pub reopened_late : (all : List code.Record) (releases : List ReleaseValue) → AreReopened all releases [] → (All (λ r. ¬ (HasLaterActive (content_of releases) r.name)) (content_of releases) → ⊥)
+pub reopened_late : (all : List code.Record) (releases : List ReleaseValue) → AreReopened all releases []
+    → (All (λ r. ¬ (HasLaterActive (content_of releases) r.name)) (content_of releases) → ⊥)
     → IsSound (shown all) → ⊥
 reopened_late all releases so late sound = late (subst (λ (c : Content). All (λ r. ¬ (HasLaterActive c r.name)) c) (sym (reopened_all all [] releases so refl)) sound.current)
 
@@ -83,7 +84,8 @@ NoneLater rs n = (k : ℕ) (d : ReleaseValue) → k < n → HasLaterActive (cont
 pub passed_at : (rs : List ReleaseValue) (n : Name) → HasLaterActive (content_of rs) n → ((k : ℕ) (d : ReleaseValue) → k < length rs → IsActiveAfter n (get_or rs k d) → ⊥) → ⊥
 passed_at rs n later none = none_later rs n none later.0 later.1 later.2 later.3
 
-pub none_later_next : (rs : List ReleaseValue) (n : ℕ) (r : ReleaseValue) → NoneLater rs n → n < length rs → r ≡ get_or rs n r → (HasLaterActive (content_of rs) r.kept.name → ⊥) → NoneLater rs (n + 1)
+pub none_later_next : (rs : List ReleaseValue) (n : ℕ) (r : ReleaseValue) → NoneLater rs n → n < length rs → r ≡ get_or rs n r → (HasLaterActive (content_of rs) r.kept.name → ⊥)
+    → NoneLater rs (n + 1)
 none_later_next rs n r before lt here not k d less later = pick (split k n less)
   where
     split : (a b : ℕ) → a < b + 1 → (a < b) ⊎ (a ≡ b)

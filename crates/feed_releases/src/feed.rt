@@ -55,7 +55,8 @@ pub struct Feed<K: Keep + Drop> {
 }
 
 impl<K: Keep + Drop> Feed<K> {
-    ghost use Rattle.std.specs.Prelude.{◌≢◌, ◌↔◌, ◌∷◌, [], Err, map, IfOk, IfErr, OnErr, IsTrue, option_map};
+    ghost use Rattle.std.specs.Prelude.{◌≢◌, ◌↔◌, ◌∷◌, []};
+    ghost use Rattle.std.specs.Prelude.{Err, map, IfOk, IfErr, OnErr, IsTrue, option_map};
     ghost use Rattle.std.specs.List.{Contains};
     ghost use Rattle.feed_model.specs.History.{Answer as event_answer, History, Reports};
     ghost use Rattle.feed_model.specs.Reply.{IsRight, gone_on};
@@ -79,8 +80,8 @@ impl<K: Keep + Drop> Feed<K> {
         ensures counted { IfOk result (λ feed. K.failed (keeper_of feed) ≡ K.failed keeper) }
         ensures damaged { IfErr result (λ fault. fault.cause ≡ KeepFault.Damaged → K.clean fault.keeper
             → ¬ (IsSound (K.content keeper))) }
-        ensures legal { IfErr result (λ fault. K.clean fault.keeper → (h : History) → IsContent (K.content keeper) h
-            → fault.cause ≢ KeepFault.Damaged) }
+        ensures legal { IfErr result (λ fault. K.clean fault.keeper → (h : History)
+            → IsContent (K.content keeper) h → fault.cause ≢ KeepFault.Damaged) }
         ensures kept { IfErr result (λ fault. K.clean fault.keeper → K.content fault.keeper ≡ K.content keeper) }
         ensures kept_clean { IfErr result (λ fault. K.clean fault.keeper → K.clean keeper) }
         ensures device { IfErr result (λ fault. IsCounted (fault.cause ≡ KeepFault.Device) (K.failed keeper)

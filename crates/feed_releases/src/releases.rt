@@ -1,5 +1,6 @@
 //! What a list of releases says of a name or a package. There are at most 256 of them.
-ghost use Rattle.std.specs.Prelude.{◌≡◌, ◌<◌, ◌≤◌, ℕ, false, None, IsTrue, IfSome, IfNone, MatchOption, length};
+ghost use Rattle.std.specs.Prelude.{◌≡◌, ◌<◌, ◌≤◌, ℕ};
+ghost use Rattle.std.specs.Prelude.{false, None, IsTrue, IfSome, IfNone, MatchOption, length};
 ghost use Rattle.std.specs.Prelude.{slice_index_or, insert, not};
 ghost use Rattle.feed_model.specs.Content.{record_of};
 ghost use Rattle.feed_model.specs.Change.{insert_record, is_earlier, without_earlier};

@@ -1,5 +1,6 @@
 -- The headline.
-use Rattle.std.proofs.Common.{◌≡◌, ◌<◌, ◌+◌, ◌-◌, ℕ, suc, Bool, true, false, List, take, drop, Option, Some, None, MatchOption, slice_get, ◌⊎◌, inl, inr, refl, sym, ◌∙◌, ap, subst, arith}
+use Rattle.std.proofs.Common.{◌≡◌, ◌<◌, ◌+◌, ◌-◌, ℕ, suc, Bool, true, false, List, take, drop, Option, Some}
+use Rattle.std.proofs.Common.{None, MatchOption, slice_get, ◌⊎◌, inl, inr, refl, sym, ◌∙◌, ap, subst, arith}
 use Rattle.std.specs.Prelude.{MatchBool}
 use Rattle.std.proofs.lemmas.Option.{MatchOption-at_some}
 use Rattle.feed_model.specs.Reply.{IsLegal}
@@ -119,7 +120,8 @@ later count events lines w s j k a stem n line lt t u = by (report_shown p.three
         (sound_after count (take j events) (take j lines) p.one (Report a stem) (Active n) p.two p.come p.first) p.gap
         (subst (λ (z : World). IsUp z a stem (Some n)) (sym r.0) r.1)
 
-    by : (line ≡ Refused whys.Down) ⊎ ((o : Option Name) × Reports g.0.history stem o × (line ≡ report_line o)) → (line ≡ Refused whys.Down) ⊎ ((m : Name) × (line ≡ Active m) × IsNoOlder n m)
+    by : (line ≡ Refused whys.Down) ⊎ ((o : Option Name) × Reports g.0.history stem o × (line ≡ report_line o))
+        → (line ≡ Refused whys.Down) ⊎ ((m : Name) × (line ≡ Active m) × IsNoOlder n m)
     by (inl e) = inl e
     by (inr r) = let q = g.2 r.0 r.1 in inr (q.0, r.2 ∙ ap report_line q.1, q.2)
 
@@ -158,7 +160,8 @@ from count events lines w s k a stem query text t = (
 
     before : (j : ℕ) (m : Name) → j < k → Stands events lines j (Report a stem) (Active m) → IsNoOlder m n
     before j m lt r =
-        let q = place_of (start count) p.old (take k events) (take k lines) j (Report a stem) (Active m) p.come (get-take_below k events j lt ∙ r.happened) (get-take_below k lines j lt ∙ r.shown) in
+        let q = place_of (start count) p.old (take k events) (take k lines) j (Report a stem) (Active m) p.come (get-take_below k events j lt ∙ r.happened)
+        (get-take_below k lines j lt ∙ r.shown) in
         let x = active_shown q.old q.new a stem m q.step in
         onward q.new p.old (drop (suc j) (take k events)) (drop (suc j) (take k lines)) m n
         (sound_after count (take j (take k events)) (take j (take k lines)) q.old (Report a stem) (Active m) q.new q.come q.step) q.go
@@ -209,7 +212,8 @@ headline count events lines w s =
     record { same = same count events lines w s; whole = whole count events lines w s; later = later count events lines w s; still = still count events lines w s; from = from count events lines w s }
 
 -- what a node that is up reports
-up_report : (w v : World) (i : ℕ) (stem : List ℕ) (x : Node) (line : Line) → IsUpAt w i x → Happens w (Report i stem) line v → (o : Option Name) × Reports x.history stem o × (line ≡ report_line o)
+up_report : (w v : World) (i : ℕ) (stem : List ℕ) (x : Node) (line : Line) → IsUpAt w i x → Happens w (Report i stem) line v → (o : Option Name) × Reports x.history stem o
+    × (line ≡ report_line o)
 up_report w v i stem x line u h =
     let r = subst (λ (b : Bool). MatchBool b (Reported w stem line v x) (IsRefused whys.Down w line v)) u.running
     (MatchOption-at_some (IsRefused whys.NoNode w line v) (λ y. IfUp y w line v (Reported w stem line v y)) x u.there h) in (r.1, r.2, r.3)

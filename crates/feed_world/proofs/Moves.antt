@@ -1,5 +1,6 @@
 -- What a step may change.
-use Rattle.std.proofs.Common.{◌≡◌, ◌≢◌, ◌++◌, ℕ, Bool, true, false, cond, List, [], ◌∷◌, Option, Some, None, Ok, MatchOption, ◌⊎◌, inl, inr, refl, sym, ◌∙◌, ap, subst}
+use Rattle.std.proofs.Common.{◌≡◌, ◌≢◌, ◌++◌, ℕ, Bool, true, false, cond, List, [], ◌∷◌, Option}
+use Rattle.std.proofs.Common.{Some, None, Ok, MatchOption, ◌⊎◌, inl, inr, refl, sym, ◌∙◌, ap, subst}
 use Rattle.feed_names.specs.ReleaseName.{Name}
 use Rattle.feed_world.specs.declared.line.Why.TheVariants as whys
 use Rattle.feed_names.specs.ReleaseName.{name_eq}
@@ -98,7 +99,8 @@ moves w (Restart i) line v h = by (at_node i w line v (λ x. Reopens i x.history
     by (inr r) = reopen w (Restart i) v i r.0 r.0.history Restarted line (λ node quiet. quiet) r.1 (inl refl) r.2
 moves w (StopBefore i sent) line v h = by (sent_to i sent w line v (λ x event. Reopens i x.history Stopped w line v) h)
   where
-    by : (v ≡ w) ⊎ ((x : Node) × (node_at w.nodes i ≡ Some x) × (event : Event) × (arriving w.shelf sent ≡ Ok event) × Reopens i x.history Stopped w line v) → Moves w (StopBefore i sent) v
+    by : (v ≡ w) ⊎ ((x : Node) × (node_at w.nodes i ≡ Some x) × (event : Event) × (arriving w.shelf sent ≡ Ok event) × Reopens i x.history Stopped w line v)
+        → Moves w (StopBefore i sent) v
     by (inl e) = inl (record { world = e; known = λ n bs e. absurd (cc) })
     by (inr r) = reopen w (StopBefore i sent) v i r.0 r.0.history Stopped line (λ node quiet. quiet) r.1 (inl refl) r.4
 moves w (StopAfter i sent) line v h = by (sent_to i sent w line v (λ x event. (answer : Answer) × IsRight x.history event answer × Reopens i ((event, answer) ∷ x.history) Stopped w line v) h)
@@ -176,7 +178,8 @@ shelf_step w event v n (inl s) = ap (λ (z : World). text_of z.shelf n) s.world 
     by (Some file) at = rw at refl
 shelf_step w event v n (inr (inl s)) =
     ap (λ (z : World). text_of z.shelf n) s.world ∙ text_of-push w.shelf s.name n s.bytes ∙ ap (λ (z : WorldEvent). or_else (text_of w.shelf n) (file_of (z ∷ []) n)) (sym s.is)
-shelf_step w event v n (inr (inr s)) = ap (λ (z : World). text_of z.shelf n) s.world ∙ sym (or_none (text_of w.shelf n)) ∙ ap (or_else (text_of w.shelf n)) (sym (loud_file event n s.number s.loud))
+shelf_step w event v n (inr (inr s)) = ap (λ (z : World). text_of z.shelf n) s.world ∙ sym (or_none (text_of w.shelf n))
+    ∙ ap (or_else (text_of w.shelf n)) (sym (loud_file event n s.number s.loud))
 
 pub grows_step : (w : World) (event : WorldEvent) (v : World) → IsSound w → Moves w event v → Grows w v
 grows_step w event v sound (inl s) = subst (Grows w) (sym s.world) (grows_all w)
@@ -188,7 +191,8 @@ grows_step w event v sound (inr (inr s)) = subst (Grows w) (sym s.world) (record
     more (inl e) = subst (Keeps s.old.history) (sym e) (keeps_all s.old.history)
     more (inr f) = subst (Keeps s.old.history) (sym f.4) (keeps_more w.shelf s.old.history f.0 f.1 (sound.over s.number s.old s.there) f.2)
 
-    node : (i : ℕ) (x : Node) → node_at w.nodes i ≡ Some x → (s.number ≡ i) ⊎ (s.number ≢ i) → (y : Node) × (node_at (with_node w s.number s.up s.history).nodes i ≡ Some y) × Keeps x.history y.history
+    node : (i : ℕ) (x : Node) → node_at w.nodes i ≡ Some x → (s.number ≡ i) ⊎ (s.number ≢ i) → (y : Node) × (node_at (with_node w s.number s.up s.history).nodes i ≡ Some y)
+        × Keeps x.history y.history
     node i x e (inr apart) = (x, node_at-other w.nodes s.number i (record { up = s.up; history = s.history }) apart ∙ e, keeps_all x.history)
     node i x e (inl same) =
         let at : node_at w.nodes i ≡ Some s.old = subst (λ (j : ℕ). node_at w.nodes j ≡ Some s.old) same s.there in

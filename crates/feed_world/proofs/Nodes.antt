@@ -1,5 +1,6 @@
 -- The nodes of a world, and the cases of a step.
-use Rattle.std.proofs.Common.{◌≡◌, ◌≢◌, ℕ, zero, suc, Bool, true, false, List, [], ◌∷◌, replicate, Option, Some, None, Result, Ok, Err, MatchOption, MatchResult, slice_get, slice_set, ◌⊎◌}
+use Rattle.std.proofs.Common.{◌≡◌, ◌≢◌, ℕ, zero, suc, Bool, true, false, List, [], ◌∷◌, replicate, Option}
+use Rattle.std.proofs.Common.{Some, None, Result, Ok, Err, MatchOption, MatchResult, slice_get, slice_set, ◌⊎◌}
 use Rattle.std.proofs.Common.{inl, inr, refl, ap, arith}
 use Rattle.std.specs.Prelude.{MatchBool}
 use Rattle.feed_world.specs.declared.line.Why as why
@@ -42,17 +43,20 @@ pub equal_or_not : (i j : ℕ) → (i ≡ j) ⊎ (i ≢ j)
 equal_or_not i j = grind arith
 
 -- the event was refused, or this holds of its node
-pub at_node : (i : ℕ) (w : World) (line : Line) (v : World) (Here : Node → Type 0) → AtNode i w line v Here → (IsRefused whys.NoNode w line v) ⊎ ((x : Node) × (node_at w.nodes i ≡ Some x) × Here x)
+pub at_node : (i : ℕ) (w : World) (line : Line) (v : World) (Here : Node → Type 0) → AtNode i w line v Here
+    → (IsRefused whys.NoNode w line v) ⊎ ((x : Node) × (node_at w.nodes i ≡ Some x) × Here x)
 at_node i w line v Here h = by (node_at w.nodes i) refl h
   where
-    by : (o : Option Node) → node_at w.nodes i ≡ o → MatchOption o (IsRefused whys.NoNode w line v) Here → (IsRefused whys.NoNode w line v) ⊎ ((x : Node) × (node_at w.nodes i ≡ Some x) × Here x)
+    by : (o : Option Node) → node_at w.nodes i ≡ o → MatchOption o (IsRefused whys.NoNode w line v) Here
+        → (IsRefused whys.NoNode w line v) ⊎ ((x : Node) × (node_at w.nodes i ≡ Some x) × Here x)
     by None e r = inl r
     by (Some x) e r = inr (x, e, r)
 
 pub arrives : (sent : Sent) (w : World) (line : Line) (v : World) (Here : Event → Type 0) → Arrives sent w line v Here → (v ≡ w) ⊎ ((e : Event) × (arriving w.shelf sent ≡ Ok e) × Here e)
 arrives sent w line v Here h = by (arriving w.shelf sent) refl h
   where
-    by : (o : Result Event why.Why) → arriving w.shelf sent ≡ o → MatchResult o Here (λ why. IsRefused why w line v) → (v ≡ w) ⊎ ((e : Event) × (arriving w.shelf sent ≡ Ok e) × Here e)
+    by : (o : Result Event why.Why) → arriving w.shelf sent ≡ o → MatchResult o Here (λ why. IsRefused why w line v)
+        → (v ≡ w) ⊎ ((e : Event) × (arriving w.shelf sent ≡ Ok e) × Here e)
     by (Err y) e r = inl r.1
     by (Ok x) e r = inr (x, e, r)
 
@@ -64,7 +68,8 @@ if_up x w line v Here h = by x.up refl h
     by false e r = inl r
 
 -- what is sent to a node was refused, or arrives at it
-pub sent_to : (i : ℕ) (sent : Sent) (w : World) (line : Line) (v : World) (Here : Node → Event → Type 0) → AtNode i w line v (λ x. Arrives sent w line v (λ event. IfUp x w line v (Here x event)))
+pub sent_to : (i : ℕ) (sent : Sent) (w : World) (line : Line) (v : World) (Here : Node → Event → Type 0)
+    → AtNode i w line v (λ x. Arrives sent w line v (λ event. IfUp x w line v (Here x event)))
     → (v ≡ w) ⊎ ((x : Node) × (node_at w.nodes i ≡ Some x) × (e : Event) × (arriving w.shelf sent ≡ Ok e) × Here x e)
 sent_to i sent w line v Here h = node (at_node i w line v (λ x. Arrives sent w line v (λ event. IfUp x w line v (Here x event))) h)
   where

@@ -1,5 +1,6 @@
 -- A history over published files: what it has of a release is what is published.
-use Rattle.std.proofs.Common.{◌≡◌, ◌<◌, ◌+◌, ℕ, ℤ, ◌≤ℤ◌, Bool, true, false, List, [], ◌∷◌, length, take, drop, Option, Some, None, Result, Ok, Err, slice_get, nat_le, refl, sym, ◌∙◌, ap, subst, arith}
+use Rattle.std.proofs.Common.{◌≡◌, ◌<◌, ◌+◌, ℕ, ℤ, ◌≤ℤ◌, Bool, true, false, List, [], ◌∷◌, length, take}
+use Rattle.std.proofs.Common.{drop, Option, Some, None, Result, Ok, Err, slice_get, nat_le, refl, sym, ◌∙◌, ap, subst, arith}
 use Rattle.std.proofs.lemmas.Int.{ints}
 use Rattle.feed_names.specs.ReleaseName.{Name}
 use Rattle.feed_world.specs.declared.line.Why as why
@@ -59,7 +60,8 @@ empty_over shelf = record { size = λ n s e. absurd (cc); bytes = λ n place b e
 pub over_more : (shelf : Shelf) (h : History) (e : Event) (a : Answer) → IsOver shelf h → IsTrueOf shelf e → IsOver shelf ((e, a) ∷ h)
 over_more shelf h (Offered m s) a o t = record { size = λ n q. by n q (is_noted a) (name_eq m n) refl refl; bytes = o.bytes }
   where
-    by : (n : Name) (q : ℕ) (x y : Bool) → is_noted a ≡ x → name_eq m n ≡ y → size_of ((Offered m s, a) ∷ h) n ≡ Some q → (file : List ℕ) × (text_of shelf n ≡ Some file) × (length file ≡ q)
+    by : (n : Name) (q : ℕ) (x y : Bool) → is_noted a ≡ x → name_eq m n ≡ y → size_of ((Offered m s, a) ∷ h) n ≡ Some q → (file : List ℕ) × (text_of shelf n ≡ Some file)
+        × (length file ≡ q)
     by n q true true u v e = let w : Some s ≡ Some q = rw (u, v) at e in (t.0, subst (λ (z : Name). text_of shelf z ≡ Some t.0) (name_is m n v) t.1, t.2 ∙ cc)
     by n q true false u v e = o.size n q (rw (u, v) at e)
     by n q false y u v e = o.size n q (rw u at e)
@@ -141,7 +143,8 @@ reports_one h key (Some m) None x y = absurd (y m x.0 x.1.0)
 reports_one h key (Some m) (Some n) x y = ap Some (active_one h m n (x.0 ∙ sym y.0) x.1 y.1)
 
 -- where a release was active, a later report names it or one of a later day
-pub later_report : (h k : History) (key : List ℕ) (n : Name) (o : Option Name) → Keeps h k → Reports h key (Some n) → Reports k key o → (m : Name) × (o ≡ Some m) × (m.stem ≡ key) × (n.day ≤ℤ m.day)
+pub later_report : (h k : History) (key : List ℕ) (n : Name) (o : Option Name) → Keeps h k → Reports h key (Some n) → Reports k key o → (m : Name) × (o ≡ Some m) × (m.stem ≡ key)
+    × (n.day ≤ℤ m.day)
 later_report h k key n None s x y = absurd (y n x.0 (good_kept h k n s x.1.0))
 later_report h k key n (Some m) s x y = (m, refl, y.0, y.1.1 n (x.0 ∙ sym y.0) (good_kept h k n s x.1.0))
 

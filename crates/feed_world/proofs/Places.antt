@@ -1,5 +1,6 @@
 -- Worlds at places of a run.
-use Rattle.std.proofs.Common.{◌≡◌, ◌<◌, ◌≤◌, ◌+◌, ℕ, zero, suc, Bool, true, false, List, [], ◌∷◌, take, drop, Option, Some, None, slice_get, refl, sym, ◌∙◌, ap, subst, arith}
+use Rattle.std.proofs.Common.{◌≡◌, ◌<◌, ◌≤◌, ◌+◌, ℕ, zero, suc, Bool, true, false, List, [], ◌∷◌}
+use Rattle.std.proofs.Common.{take, drop, Option, Some, None, slice_get, refl, sym, ◌∙◌, ap, subst, arith}
 use Rattle.std.proofs.lemmas.List.{take-take}
 use Rattle.feed_names.specs.ReleaseName.{Name}
 use Rattle.feed_names.specs.ReleaseName.{name_eq}
@@ -77,7 +78,8 @@ pub record IsAt (u v : World) (es : List WorldEvent) (ls : List Line) (k : ℕ) 
   pub step : Happens old e l new
   pub go : Shows new (drop (suc k) es) (drop (suc k) ls) v
 
-pub place_of : (u v : World) (es : List WorldEvent) (ls : List Line) (k : ℕ) (e : WorldEvent) (l : Line) → Shows u es ls v → slice_get es k ≡ Some e → slice_get ls k ≡ Some l → IsAt u v es ls k e l
+pub place_of : (u v : World) (es : List WorldEvent) (ls : List Line) (k : ℕ) (e : WorldEvent) (l : Line) → Shows u es ls v → slice_get es k ≡ Some e → slice_get ls k ≡ Some l
+    → IsAt u v es ls k e l
 place_of u v [] ls k e l s a b = absurd (let t : ◌≡◌ {A = Option WorldEvent} None (Some e) = a in cc)
 place_of u v (x ∷ xs) [] k e l s a b = absurd s
 place_of u v (x ∷ xs) (y ∷ ys) zero e l s a b =
@@ -100,8 +102,8 @@ pub record AreAt (u : World) (es : List WorldEvent) (ls : List Line) (j k : ℕ)
   pub reach : Shows u (take k es) (take k ls) three
   pub second : Happens three f m four
 
-pub places_of : (u v : World) (es : List WorldEvent) (ls : List Line) (j k : ℕ) (e f : WorldEvent) (l m : Line) → j < k → Shows u es ls v → slice_get es j ≡ Some e → slice_get ls j ≡ Some l
-    → slice_get es k ≡ Some f → slice_get ls k ≡ Some m → AreAt u es ls j k e l f m
+pub places_of : (u v : World) (es : List WorldEvent) (ls : List Line) (j k : ℕ) (e f : WorldEvent) (l m : Line) → j < k → Shows u es ls v → slice_get es j ≡ Some e
+    → slice_get ls j ≡ Some l → slice_get es k ≡ Some f → slice_get ls k ≡ Some m → AreAt u es ls j k e l f m
 places_of u v es ls j k e f l m lt s a b c d =
     let p = place_of u v es ls k f m s c d in
     let q = place_of u p.old (take k es) (take k ls) j e l p.come (get-take_below k es j lt ∙ a) (get-take_below k ls j lt ∙ b) in

@@ -41,19 +41,26 @@ pub report_shown : (w v : World) (i : ℕ) (stem : List ℕ) (line : Line) (x : 
     → (line ≡ Refused whys.Down) ⊎ ((o : Option Name) × Reports x.history stem o × (line ≡ report_line o))
 report_shown w v i stem line x at h = by (if_up x w line v (Reported w stem line v x) (MatchOption-at_some (IsRefused whys.NoNode w line v) (λ y. IfUp y w line v (Reported w stem line v y)) x at h))
   where
-    by : (IsRefused whys.Down w line v) ⊎ ((x.up ≡ true) × Reported w stem line v x) → (line ≡ Refused whys.Down) ⊎ ((o : Option Name) × Reports x.history stem o × (line ≡ report_line o))
+    by : (IsRefused whys.Down w line v) ⊎ ((x.up ≡ true) × Reported w stem line v x)
+        → (line ≡ Refused whys.Down) ⊎ ((o : Option Name) × Reports x.history stem o × (line ≡ report_line o))
     by (inl r) = inl r.0
     by (inr r) = inr (r.1.1, r.1.2, r.1.3)
 
+-- a file of this release that came to the node says this to the query
+abbrev pub FileSays : World → ℕ → Name → List ℕ → Line → Type 0
+FileSays w i n query line =
+    (file : List ℕ) × (x : Node) × (node_at w.nodes i ≡ Some x) × IsFile x.history n file × (line ≡ file_says n file (query_of query))
+
 -- an ask of a node that is up and reports a release
 pub ask_shown : (w v : World) (i : ℕ) (stem : List ℕ) (n : Name) (query : List ℕ) (line : Line) → IsUp w i stem (Some n) → Happens w (Ask i stem query) line v
-    → OrMemory line ((file : List ℕ) × (x : Node) × (node_at w.nodes i ≡ Some x) × IsFile x.history n file × (line ≡ file_says n file (query_of query)))
+    → OrMemory line (FileSays w i n query line)
 ask_shown w v i stem n query line u h =
     by (subst (λ (b : Bool). MatchBool b (Asked w stem query line v u.node) (IsRefused whys.Down w line v)) u.up
     (MatchOption-at_some (IsRefused whys.NoNode w line v) (λ y. IfUp y w line v (Asked w stem query line v y)) u.node u.there h))
   where
-    named : (o : Option Name) → o ≡ Some n → MatchOption o (line ≡ none_says (query_of query)) (λ n. (file : List ℕ) × IsFile u.node.history n file × (line ≡ file_says n file (query_of query)))
-        → (file : List ℕ) × (x : Node) × (node_at w.nodes i ≡ Some x) × IsFile x.history n file × (line ≡ file_says n file (query_of query))
+    named : (o : Option Name) → o ≡ Some n → MatchOption o (line ≡ none_says (query_of query)) (λ n. (file : List ℕ) × IsFile u.node.history n file
+        × (line ≡ file_says n file (query_of query)))
+        → FileSays w i n query line
     named None e r = absurd (cc)
     named (Some m) e r =
         let same : m ≡ n = cc in let q : (file : List ℕ) × IsFile u.node.history n file × (line ≡ file_says n file (query_of query)) = subst
@@ -61,11 +68,11 @@ ask_shown w v i stem n query line u h =
 
     or : (o : Option Name) → o ≡ Some n
         → OrMemory line (MatchOption o (line ≡ none_says (query_of query)) (λ n. (file : List ℕ) × IsFile u.node.history n file × (line ≡ file_says n file (query_of query))))
-        → OrMemory line ((file : List ℕ) × (x : Node) × (node_at w.nodes i ≡ Some x) × IsFile x.history n file × (line ≡ file_says n file (query_of query)))
+        → OrMemory line (FileSays w i n query line)
     or o e (inl r) = inl (named o e r)
     or o e (inr r) = inr r
 
-    by : Asked w stem query line v u.node → OrMemory line ((file : List ℕ) × (x : Node) × (node_at w.nodes i ≡ Some x) × IsFile x.history n file × (line ≡ file_says n file (query_of query)))
+    by : Asked w stem query line v u.node → OrMemory line (FileSays w i n query line)
     by r = or r.1.0 (reports_one u.node.history stem r.1.0 (Some n) r.1.1 u.reports) r.1.2
 
 none_is_no_text : (text : List ℕ) (r : Result QueryValue QueryFault) → Text text ≡ none_says r → ⊥
@@ -74,22 +81,23 @@ none_is_no_text text (Err f) e = cc
 
 -- a text is the answer of the release that the node would report
 pub text_shown : (w v : World) (i : ℕ) (stem : List ℕ) (query text : List ℕ) → Happens w (Ask i stem query) (Text text) v
-    → (v ≡ w) × (n : Name) × IsUp w i stem (Some n) × ((file : List ℕ) × (x : Node) × (node_at w.nodes i ≡ Some x) × IsFile x.history n file × (Text text ≡ file_says n file (query_of query)))
+    → (v ≡ w) × (n : Name) × IsUp w i stem (Some n) × FileSays w i n query (Text text)
 text_shown w v i stem query text h = by (asked_at i w (Text text) v (Asked w stem query (Text text) v) h)
   where
     named : (x : Node) → node_at w.nodes i ≡ Some x → x.up ≡ true → v ≡ w → (o : Option Name) → Reports x.history stem o
         → OrMemory (Text text) (MatchOption o (Text text ≡ none_says (query_of query)) (λ n. (file : List ℕ) × IsFile x.history n file × (Text text ≡ file_says n file (query_of query))))
-        → (v ≡ w) × (n : Name) × IsUp w i stem (Some n) × ((file : List ℕ) × (x : Node) × (node_at w.nodes i ≡ Some x) × IsFile x.history n file × (Text text ≡ file_says n file (query_of query)))
+        → (v ≡ w) × (n : Name) × IsUp w i stem (Some n) × FileSays w i n query (Text text)
     named x at up same o r (inr e) = absurd (cc)
     named x at up same None r (inl e) = absurd (none_is_no_text text (query_of query) e)
     named x at up same (Some n) r (inl e) = (same, n, record { node = x; there = at; up = up; reports = r }, (e.0, x, at, e.1, e.2))
 
     up : (x : Node) → node_at w.nodes i ≡ Some x → (IsRefused whys.Down w (Text text) v) ⊎ ((x.up ≡ true) × Asked w stem query (Text text) v x)
-        → (v ≡ w) × (n : Name) × IsUp w i stem (Some n) × ((file : List ℕ) × (x : Node) × (node_at w.nodes i ≡ Some x) × IsFile x.history n file × (Text text ≡ file_says n file (query_of query)))
+        → (v ≡ w) × (n : Name) × IsUp w i stem (Some n) × FileSays w i n query (Text text)
     up x at (inl r) = absurd (let e : Text text ≡ Refused whys.Down = r.0 in cc)
     up x at (inr r) = named x at r.0 r.1.0 r.1.1.0 r.1.1.1 r.1.1.2
 
-    by : (IsRefused whys.NoNode w (Text text) v) ⊎ ((x : Node) × (node_at w.nodes i ≡ Some x) × ((IsRefused whys.Down w (Text text) v) ⊎ ((x.up ≡ true) × Asked w stem query (Text text) v x)))
-        → (v ≡ w) × (n : Name) × IsUp w i stem (Some n) × ((file : List ℕ) × (x : Node) × (node_at w.nodes i ≡ Some x) × IsFile x.history n file × (Text text ≡ file_says n file (query_of query)))
+    by : (IsRefused whys.NoNode w (Text text) v) ⊎ ((x : Node) × (node_at w.nodes i ≡ Some x)
+        × ((IsRefused whys.Down w (Text text) v) ⊎ ((x.up ≡ true) × Asked w stem query (Text text) v x)))
+        → (v ≡ w) × (n : Name) × IsUp w i stem (Some n) × FileSays w i n query (Text text)
     by (inl r) = absurd (let e : Text text ≡ Refused whys.NoNode = r.0 in cc)
     by (inr r) = up r.0 r.1 r.2

@@ -1,5 +1,6 @@
 -- Transcripts that the headline refuses.
-use Rattle.std.proofs.Common.{◌≡◌, ◌≢◌, ◌≤◌, ℕ, ℤ, ◌<ℤ◌, ◌≤ℤ◌, zero, suc, min, max, List, [], ◌∷◌, Some, slice_get, ◌⊎◌, inl, inr, refl, sym, ◌∙◌, ap, subst, arith}
+use Rattle.std.proofs.Common.{◌≡◌, ◌≢◌, ◌≤◌, ℕ, ℤ, ◌<ℤ◌, ◌≤ℤ◌, zero, suc, min, max, List}
+use Rattle.std.proofs.Common.{[], ◌∷◌, Some, slice_get, ◌⊎◌, inl, inr, refl, sym, ◌∙◌, ap, subst, arith}
 use Rattle.std.proofs.lemmas.Int.{ints}
 use Rattle.feed_names.specs.ReleaseName.{Name}
 use Rattle.feed_world.specs.declared.line.Why.TheVariants as whys

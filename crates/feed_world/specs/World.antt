@@ -1,5 +1,6 @@
 -- A world of published files and of nodes that may be up or down: what may happen in it, and how it is shown.
-use Rattle.std.specs.Prelude.{◌≡◌, ◌+◌, ◌⊎◌, ◌++◌, ℕ, zero, suc, Bool, true, false, nat_le, if◌then◌else◌, List, [], ◌∷◌, length, take, drop, replicate, Option, Some, None, Result, Ok, Err}
+use Rattle.std.specs.Prelude.{◌≡◌, ◌+◌, ◌⊎◌, ◌++◌, ℕ, zero, suc, Bool, true, false, nat_le, if◌then◌else◌}
+use Rattle.std.specs.Prelude.{List, [], ◌∷◌, length, take, drop, replicate, Option, Some, None, Result, Ok, Err}
 use Rattle.std.specs.Prelude.{slice_get, slice_set, MatchOption, MatchResult, MatchBool}
 use Rattle.feed_names.specs.ReleaseName.{Name, name_eq, text_of as name_text}
 use Rattle.feed_model.specs.declared.reply.Reply as reply

@@ -23,12 +23,13 @@ pub fn histories()
 /// orders, report the same of it.
 pub fn order_is_free()
     ensures { (w u v : World) (i j : ℕ) (stem : List ℕ) (x y : Node) (l m : Line) → IsUpAt w i x → IsUpAt w j y
-        → HasAlike x.history y.history stem → Happens w (Report i stem) l u → Happens w (Report j stem) m v → l ≡ m }
+        → HasAlike x.history y.history stem → Happens w (Report i stem) l u → Happens w (Report j stem) m v
+        → l ≡ m }
 {}
 
 /// A node that is up, and has every byte of the latest good file that is published of a package, reports its release.
 pub fn latest_is_reported()
     ensures { (count : ℕ) (events : List WorldEvent) (lines : List Line) (w v : World) (i : ℕ) (x : Node) (n : Name)
-        (line : Line) → Shows (start count) events lines w → IsUpAt w i x → IsWhole x.history n → IsLatest events n
-        → Happens w (Report i n.stem) line v → line ≡ Active n }
+        (line : Line) → Shows (start count) events lines w → IsUpAt w i x → IsWhole x.history n
+        → IsLatest events n → Happens w (Report i n.stem) line v → line ≡ Active n }
 {}

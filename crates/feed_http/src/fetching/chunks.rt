@@ -1,5 +1,6 @@
 //! Chunked bodies (RFC 9112, section 7.1).
-ghost use Rattle.std.specs.Prelude.{◌≡◌, ◌≢◌, ◌≤◌, ◌<◌, [], ◌∷◌, length, Some, OnOk, IfOk, IfErr, IfSome, MatchOption};
+ghost use Rattle.std.specs.Prelude.{◌≡◌, ◌≢◌, ◌≤◌, ◌<◌, [], ◌∷◌};
+ghost use Rattle.std.specs.Prelude.{length, Some, OnOk, IfOk, IfErr, IfSome, MatchOption};
 ghost use Rattle.std.specs.Io.KnownBytes.{Consumes};
 ghost use Rattle.httparse.specs.Ascii.{crlf_bytes};
 ghost use Rattle.httparse.specs.Grammar.{HasNoChunkLine, HasNoSection};

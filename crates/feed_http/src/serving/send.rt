@@ -1,5 +1,6 @@
 //! The bodies of replies.
-ghost use Rattle.std.specs.Prelude.{◌≡◌, ◌≤◌, ◌+◌, IfSome, IsSomeAnd, IfErr, IsErrOf, length, take, drop, slice_range};
+ghost use Rattle.std.specs.Prelude.{◌≡◌, ◌≤◌, ◌+◌};
+ghost use Rattle.std.specs.Prelude.{IfSome, IsSomeAnd, IfErr, IsErrOf, length, take, drop, slice_range};
 ghost use Rattle.feed_http.specs.Shelves.{CountsFailure};
 ghost use Rattle.feed_http.specs.Served.{IsSending, IsReplyFault};
 

@@ -52,7 +52,8 @@ impl<K: Keep + Drop> Feed<K> {
         requires absent { record_of (recorded self.old) name.now ≡ None }
         requires room { length (releases_of self.old) < max_held }
         requires limit { size ≤ max_file }
-        ensures added { OnOk result (recorded self.new ≡ insert_record (new_record name.now size) (recorded self.old)) }
+        ensures added { OnOk result (recorded self.new ≡ insert_record (new_record name.now size)
+            (recorded self.old)) }
         ensures same { OnErr result (releases_of self.new ≡ releases_of self.old) }
         ensures clean { K.clean (keeper_of self.new) → K.clean (keeper_of self.old) }
         ensures fault { IfErr result (λ fault. (fault ≡ Refusal.Memory) ⊎ (fault ≡ Refusal.Device)) }

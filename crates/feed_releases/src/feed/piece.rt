@@ -1,5 +1,6 @@
 //! How a feed answers a piece.
-ghost use Rattle.std.specs.Prelude.{◌≡◌, ◌≢◌, ◌<◌, ◌+◌, ◌⊎◌, ◌↔◌, false, IsTrue, IsSomeAnd, length};
+ghost use Rattle.std.specs.Prelude.{◌≡◌, ◌≢◌, ◌<◌, ◌+◌, ◌⊎◌, ◌↔◌};
+ghost use Rattle.std.specs.Prelude.{false, IsTrue, IsSomeAnd, length};
 ghost use Rattle.feed_model.specs.Reply.{max_piece};
 ghost use Rattle.feed_model.specs.Parts.{IsSmall};
 

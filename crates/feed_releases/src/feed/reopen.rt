@@ -43,7 +43,8 @@ pub(crate) fn reopened(alloc: Global, records: Vec<Record>) -> Result<Vec<Releas
 // Whether no release stands beside a later active one of its package.
 fn are_current(releases: &[Release]) -> bool
     requires distinct { IsDistinct name_eq (names (content_of releases.now)) }
-    ensures { IsTrue result ↔ All (λ r. ¬ (HasLaterActive (content_of releases.now) r.name)) (content_of releases.now) }
+    ensures { IsTrue result ↔ All (λ r. ¬ (HasLaterActive (content_of releases.now) r.name))
+        (content_of releases.now) }
 {
     for release in releases {
         if is_passed(releases, release.name()) {

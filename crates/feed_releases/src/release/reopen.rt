@@ -21,7 +21,8 @@ impl Release {
     /// The release that a record is of. `Damaged` where no feed ever keeps such a record; the file of one that is not
     /// staged is read for that.
     pub(crate) fn reopened(alloc: Global, kept: Record) -> Result<Release, KeepFault>
-        ensures ok { IfOk result (λ release. (release.kept ≡ shown_record kept) × IsSoundRecord (shown_record kept)) }
+        ensures ok { IfOk result (λ release. (release.kept ≡ shown_record kept)
+            × IsSoundRecord (shown_record kept)) }
         ensures err { IfErr result (λ cause. (cause ≡ KeepFault.Memory)
             ⊎ ((cause ≡ KeepFault.Damaged) × ¬ (IsSoundRecord (shown_record kept)))) }
     {

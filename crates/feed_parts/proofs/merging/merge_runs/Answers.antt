@@ -1,4 +1,5 @@
-use Rattle.std.proofs.Common.{◌≡◌, ◌≤◌, ◌+◌, ◌-◌, max, ℕ, ltb, true, false, length, take, drop, take-append-drop, length-take, length-drop, IsPermutation, sym, subst, rules, arith}
+use Rattle.std.proofs.Common.{◌≡◌, ◌≤◌, ◌+◌, ◌-◌, max, ℕ, ltb, true, false, length, take, drop}
+use Rattle.std.proofs.Common.{take-append-drop, length-take, length-drop, IsPermutation, sym, subst, rules, arith}
 use Rattle.std.specs.List.Sorted.{IsPartitionPoint, IsNonDecreasingBy}
 use Rattle.std.proofs.lemmas.List.{take_all}
 use Rattle.std.proofs.lemmas.List.Sorted.{IsPermutation-refl, IsPermutation-trans, IsPermutation-put_mid, IsPartitionPoint-from_clause, IsPartitionedBy-ltb, IsNonDecreasingBy-from_sort_by_key}

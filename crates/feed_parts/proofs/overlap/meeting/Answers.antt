@@ -6,7 +6,8 @@ use Rattle.feed_parts.proofs.Order.{code_end, ends_rise, starts_rise, rest_order
 use Rattle.feed_parts.proofs.overlap.meeting.Goals as goal
 use Rattle.feed_parts.proofs.overlap.meeting.Goals.{After-partition_point-from, After-partition_point-to}
 
-split_from : (c : After-partition_point-from) → IsPartitionPoint (λ p. leb (code_end p) c.args.first ≡ true) (λ p. leb (code_end p) c.args.first ≡ false) c.args.parts.now c.partition_point-from.result
+split_from : (c : After-partition_point-from) → IsPartitionPoint (λ p. leb (code_end p) c.args.first ≡ true)
+    (λ p. leb (code_end p) c.args.first ≡ false) c.args.parts.now c.partition_point-from.result
 split_from c = IsPartitionPoint-from_clause (λ p. leb (code_end p) c.args.first) c.args.parts.now c.partition_point-from.result c.partition_point-from.ensures.partitioned
     (IsPartitionedBy-leb code_end c.args.parts.now c.args.first (ends_rise 0 c.args.parts.now c.requires.within.parts))
     (λ a r q k. search rules)

@@ -44,7 +44,8 @@ returns-in_err-add g c =
     let free = none_later rs c.args.name.now (rw c.deref.ensures.value at (c.if-is_passed.ensures.none refl)) in
     let none = rw c.deref-2.ensures.value at c.in_default.ensures.none in
     let p = err_from_is_err_and c.from_residual.result c.from_residual.ensures.1 in
-    rw (p.1, p.2) (refused_with c.args.self.now c.add.new.self _ c.in_err-add.field-0.0 c.in_err-add.ensures.same c.in_err-add.ensures.clean (told_as c.in_err-add.ensures.counted (λ e. cc) (λ e. cc))
+    rw (p.1, p.2) (refused_with c.args.self.now c.add.new.self _ c.in_err-add.field-0.0 c.in_err-add.ensures.same c.in_err-add.ensures.clean
+    (told_as c.in_err-add.ensures.counted (λ e. cc) (λ e. cc))
     (offer_refused (content_of rs) c.args.name.now c.args.size _ c.if-size.false free none (omega (arith, length-content_of rs, c.len.ensures))
     (refused c.in_err-add.field-0.0 c.in_err-add.ensures.fault)))
 

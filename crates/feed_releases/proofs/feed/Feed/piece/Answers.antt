@@ -20,7 +20,8 @@ returns-in_default g c =
     let rs = c.args.self.now.releases.items in
     let free = none_later rs c.args.name.now (rw c.deref.ensures.value at (c.if-is_passed.ensures.none refl)) in
     let none = rw c.deref-2.ensures.value at c.in_default.ensures.none in
-    idle c.args.self.now c.args.self.now _ _ refl refl (λ e. cc) (piece_unknown (content_of rs) c.args.name.now c.args.first c.args.total c.args.bytes.now (c.if-not-is_fit.ensures.fit refl) free none)
+    idle c.args.self.now c.args.self.now _ _ refl refl (λ e. cc) (piece_unknown (content_of rs) c.args.name.now c.args.first c.args.total c.args.bytes.now
+    (c.if-not-is_fit.ensures.fit refl) free none)
 
 pub returns-then-is_other : goal.returns-then-is_other
 returns-then-is_other g c =

@@ -82,7 +82,8 @@ invariant_of-self-in_default-clause-mirrors g c = λ clean.
     let grown = grown_at rs n c.args.at r c.grow.new.self (parts_of growth) (state_of growth.standing) c.requires.place c.index_mut.ensures.value
     (ap (λ (y : ReleaseValue). y.kept) c.in_ok-reply.ensures.taken) in
     c.in_ok-reply.ensures.committed.made clean ∙ ap (after (change_of r.kept growth)) (c.args.self.now.mirrors (c.in_ok-reply.ensures.committed.was clean))
-    ∙ after_kept n r.kept growth (content_of rs) (name_at rs n c.args.at r c.requires.place c.index_mut.ensures.value) (λ e. c.in_default.not-Activated (c.in_ok-reply.ensures.reply ∙ e)) ∙ sym grown
+    ∙ after_kept n r.kept growth (content_of rs) (name_at rs n c.args.at r c.requires.place c.index_mut.ensures.value) (λ e. c.in_default.not-Activated (c.in_ok-reply.ensures.reply ∙ e))
+    ∙ sym grown
 
 pub invariant_of-self-in_default-clause-few : goal.invariant_of-self-in_default-clause-few
 invariant_of-self-in_default-clause-few g c = omega (arith, length-set c.args.self.now.releases.items c.args.at c.grow.new.self, c.args.self.now.few)
@@ -98,7 +99,8 @@ returns-in-Activated g c =
     let same = one_at rs c.args.at c.index.result.now r c.requires.place.within c.index.ensures c.index_mut.ensures.value in
     let grown = grown_at rs n c.args.at r c.grow.new.self (parts_of growth) (state_of growth.standing) c.requires.place c.index_mut.ensures.value
     (ap (λ (y : ReleaseValue). y.kept) c.in_ok-reply.ensures.taken) in
-    let content = c.drop_earlier.ensures.dropped ∙ ap (without_earlier n) grown ∙ sym (after_activated n r.kept growth (content_of rs) name (sym c.in_ok-reply.ensures.reply ∙ c.in-Activated.is)) in
+    let content = c.drop_earlier.ensures.dropped ∙ ap (without_earlier n) grown
+    ∙ sym (after_activated n r.kept growth (content_of rs) name (sym c.in_ok-reply.ensures.reply ∙ c.in-Activated.is)) in
     rw c.in_ok-reply.ensures.reply (taken_in c.args.self.now _ _ _ c.in_ok-reply.ensures.committed.was (told_as c.in_ok-reply.ensures.committed.counted (λ e. cc) (λ e. cc))
     (rw content (growth_right (content_of rs) n c.args.first c.args.total c.args.bytes.now r.kept growth name (c.requires.reaches r.kept found) (c.requires.new r.kept found)
     (rw same at c.in_ok-growth.ensures.growth))))
