@@ -1,10 +1,5 @@
-//! Tests of the parts of a file, of keepers, feeds and worlds, through their public calls: the worked examples, what a
-//! keeper holds after each event, and devices that fail.
+//! Tests of worlds of published files and nodes, by the lines and the keepers that a replay gives.
 #![tactic(auto)]
 
 #[cfg(test)]
-mod failing;
-#[cfg(test)]
-mod feeds;
-#[cfg(test)]
-mod parts;
+mod worlds;

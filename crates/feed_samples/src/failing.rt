@@ -1,9 +1,9 @@
 ghost use Rattle.feed_keep.specs.Arranged.{content_of_list};
 
-use feed_core::{Change, Keep, KeepFault, ListKeep, Record};
+use feed_keep::{Change, Keep, KeepFault, ListKeep, Record};
 use std::alloc::Global;
 
-// A keeper over a list, with a device that fails at one load, or at every commit after so many.
+/// A keeper over a list, with a device that fails at one load, or at every commit after so many.
 #[derive(Drop)]
 pub struct Failing {
     list: ListKeep,
@@ -13,7 +13,7 @@ pub struct Failing {
 }
 
 impl Failing {
-    // The load after so many others fails, and no other one.
+    /// The load after so many others fails, and no other one.
     pub fn at_load(alloc: Global, loads_before: u64) -> Failing {
         Failing {
             list: ListKeep::new(alloc),
@@ -23,7 +23,7 @@ impl Failing {
         }
     }
 
-    // Every commit after so many fails.
+    /// Every commit after so many fails.
     pub fn after_commits(alloc: Global, commits_before: u64) -> Failing {
         Failing {
             list: ListKeep::new(alloc),

@@ -1,7 +1,9 @@
 // Offers and pieces that come to a feed.
-use super::{feed_of, name_of, told};
-use feed_core::{Event, PIECE_LIMIT, Refusal, Reply};
+use crate::feeds::{feed_of, offered, told};
 use feed_kbart::{BadFile, Label};
+use feed_parts::PIECE_LIMIT;
+use feed_releases::{Event, Refusal, Reply};
+use feed_samples::name_of;
 use std::test::Fail;
 
 #[test]
@@ -63,13 +65,7 @@ fn pieces_fill_gaps_in_any_order(rt: HostRuntime) -> Result<(), Fail> {
 fn another_byte_is_a_conflict(rt: HostRuntime) -> Result<(), Fail> {
     let name = name_of(rt.alloc(), "X_2024-01-01.txt")?;
     let mut feed = feed_of(rt.alloc())?;
-    assert_eq!(rt;
-        feed.handle(&Event::Offered {
-            name: &name,
-            size: 10
-        }),
-        Ok(Reply::Noted)
-    );
+    assert_eq!(rt; offered(&mut feed, &name, 10), Ok(Reply::Noted));
     assert_eq!(rt;
         told(&mut feed, &name, 0, b"01234"),
         Ok(Reply::Stored { missing: 5 })
@@ -98,16 +94,10 @@ fn another_byte_is_a_conflict(rt: HostRuntime) -> Result<(), Fail> {
 fn offers_and_pieces_have_limits(rt: HostRuntime) -> Result<(), Fail> {
     let name = name_of(rt.alloc(), "X_2024-01-01.txt")?;
     let mut feed = feed_of(rt.alloc())?;
-    let above = feed.handle(&Event::Offered {
-        name: &name,
-        size: 67_108_865,
-    });
+    let above = offered(&mut feed, &name, 67_108_865);
     assert_eq!(rt; above, Err(Refusal::TooLarge));
     assert_eq!(rt; told(&mut feed, &name, 0, b"0"), Err(Refusal::Unknown));
-    let most = feed.handle(&Event::Offered {
-        name: &name,
-        size: 67_108_864,
-    });
+    let most = offered(&mut feed, &name, 67_108_864);
     assert_eq!(rt; most, Ok(Reply::Noted));
     assert_eq!(rt; told(&mut feed, &name, 0, b""), Err(Refusal::BadPiece));
     let mut long = Vec::new(rt.alloc());
@@ -128,36 +118,12 @@ fn a_feed_records_256_releases(rt: HostRuntime) -> Result<(), Fail> {
     for count in 0..256_u32 {
         let text = format!(in rt.alloc(); "n{count:03}_2024-01-01.txt")?;
         let name = name_of(rt.alloc(), &text)?;
-        assert_eq!(rt;
-            feed.handle(&Event::Offered {
-                name: &name,
-                size: 1
-            }),
-            Ok(Reply::Noted)
-        );
+        assert_eq!(rt; offered(&mut feed, &name, 1), Ok(Reply::Noted));
     }
     let one_more = name_of(rt.alloc(), "n256_2024-01-01.txt")?;
-    assert_eq!(rt;
-        feed.handle(&Event::Offered {
-            name: &one_more,
-            size: 1
-        }),
-        Err(Refusal::Full)
-    );
+    assert_eq!(rt; offered(&mut feed, &one_more, 1), Err(Refusal::Full));
     let first = name_of(rt.alloc(), "n000_2024-01-01.txt")?;
-    assert_eq!(rt;
-        feed.handle(&Event::Offered {
-            name: &first,
-            size: 1
-        }),
-        Ok(Reply::Known)
-    );
-    assert_eq!(rt;
-        feed.handle(&Event::Offered {
-            name: &first,
-            size: 2
-        }),
-        Err(Refusal::WrongSize)
-    );
+    assert_eq!(rt; offered(&mut feed, &first, 1), Ok(Reply::Known));
+    assert_eq!(rt; offered(&mut feed, &first, 2), Err(Refusal::WrongSize));
     Ok(())
 }

@@ -1,10 +1,11 @@
 // Feeds that stop in the middle of an event.
-use super::{
-    FEBRUARY, HEADER, HEADER_WITHOUT_URL, JANUARY, MARCH, content_of, cut, february_file,
-    feed_over, january_file, listed, name_of, record_of,
+use crate::feeds::{cut, feed_over};
+use feed_keep::{Keep, ListKeep, Record, State};
+use feed_releases::{Event, Point};
+use feed_samples::{
+    FEBRUARY, Failing, HEADER, HEADER_WITHOUT_URL, JANUARY, MARCH, content_of, february_file,
+    january_file, listed, name_of, record_of,
 };
-use crate::failing::Failing;
-use feed_core::{Event, Keep, ListKeep, Point, Record, State};
 use std::alloc::Global;
 use std::test::Fail;
 

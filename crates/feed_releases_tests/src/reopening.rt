@@ -1,12 +1,11 @@
 // Feeds that are opened on what a keeper holds.
-use super::{
-    ACTA, BETA, FEBRUARY, HEADER, HEADER_WITHOUT_URL, JANUARY, MARCH, PACKAGE, active_in,
-    answer_of, content_of, cut, february_file, feed_of, feed_over, january_file, listed, name_of,
-    offered, record_of, told,
-};
-use crate::failing::Failing;
-use feed_core::{
-    Feed, Keep, KeepFault, ListKeep, OpenFault, PIECE_LIMIT, Part, Record, Reply, State,
+use crate::feeds::{active_in, answer_of, cut, feed_of, feed_over, offered, told};
+use feed_keep::{Keep, KeepFault, ListKeep, Part, Record, State};
+use feed_parts::PIECE_LIMIT;
+use feed_releases::{Feed, OpenFault, Reply};
+use feed_samples::{
+    ACTA, BETA, FEBRUARY, Failing, HEADER, HEADER_WITHOUT_URL, JANUARY, MARCH, PACKAGE, content_of,
+    february_file, january_file, listed, name_of, record_of,
 };
 use std::alloc::Global;
 use std::test::Fail;
@@ -81,25 +80,24 @@ fn a_feed_is_after_a_restart_what_it_was(rt: HostRuntime) -> Result<(), Fail> {
             ListKeep::of(rt.alloc(), three_records(rt.alloc())?),
         )?,
     ];
+    // Of each release the size, the places that are missing, and bytes that are kept.
+    let rows = [
+        (&january, 205, None, HEADER),
+        (&february, 243, Some((200, 242)), HEADER),
+        (&march, 141, None, HEADER_WITHOUT_URL),
+    ];
     for mut feed in feeds {
         assert_eq!(rt; active_in(&feed), JANUARY.as_bytes());
-        assert_eq!(rt; feed.next_range(&january, 1000), None);
-        assert_eq!(rt; feed.next_range(&february, 1000), Some((200, 242)));
-        assert_eq!(rt; feed.next_range(&february, 10), Some((200, 209)));
-        assert_eq!(rt; feed.next_range(&march, 1000), None);
         assert_eq!(rt;
             answer_of(rt.alloc(), &feed, b"rft.issn=2434561x")?.as_slice(),
             b"release Acme_Global_All_2024-01-01.txt hits 1\n2\tuntested\tActa\thttp://a.example/\t\t\t\t\n".as_slice()
         );
-        assert_eq!(rt; offered(&mut feed, &january, 205), Ok(Reply::Known));
-        assert_eq!(rt; offered(&mut feed, &february, 243), Ok(Reply::Known));
-        assert_eq!(rt; offered(&mut feed, &march, 141), Ok(Reply::Known));
-        assert_eq!(rt; told(&mut feed, &january, 0, HEADER), Ok(Reply::Repeated));
-        assert_eq!(rt; told(&mut feed, &february, 0, HEADER), Ok(Reply::Repeated));
-        assert_eq!(rt;
-            told(&mut feed, &march, 0, HEADER_WITHOUT_URL),
-            Ok(Reply::Repeated)
-        );
+        assert_eq!(rt; feed.next_range(&february, 10), Some((200, 209)));
+        for (name, size, missing, bytes) in rows {
+            assert_eq!(rt; feed.next_range(name, 1000), missing);
+            assert_eq!(rt; offered(&mut feed, name, size), Ok(Reply::Known));
+            assert_eq!(rt; told(&mut feed, name, 0, bytes), Ok(Reply::Repeated));
+        }
         let mut keeper = feed.restart();
         assert_eq!(rt;
             content_of(rt.alloc(), &mut keeper)?.as_slice(),
@@ -163,20 +161,6 @@ fn records_and_parts_are_put_in_order(rt: HostRuntime) -> Result<(), Fail> {
     assert_eq!(rt;
         content_of(rt.alloc(), &mut feed.restart())?.as_slice(),
         expected.as_slice()
-    );
-    Ok(())
-}
-
-#[test]
-fn parts_at_one_place_stay_as_they_stood(rt: HostRuntime) -> Result<(), Fail> {
-    let given: [(u64, &[u8]); 5] = [(2, b"x"), (0, b"0"), (2, b"y"), (0, b"1"), (2, b"x")];
-    let ordered: [(u64, &[u8]); 5] = [(0, b"0"), (0, b"1"), (2, b"x"), (2, b"y"), (2, b"x")];
-    let record = record_of(rt.alloc(), JANUARY, 205, State::Staged, &given)?;
-    let mut keeper = ListKeep::of(rt.alloc(), Vec::from_array(rt.alloc(), [record])?);
-    let expected = [record_of(rt.alloc(), JANUARY, 205, State::Staged, &ordered)?];
-    assert_eq!(rt;
-        content_of(rt.alloc(), &mut keeper)?.as_slice(),
-        listed(rt.alloc(), &expected)?.as_slice()
     );
     Ok(())
 }

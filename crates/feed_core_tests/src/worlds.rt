@@ -1,12 +1,11 @@
 // Worlds of published files and nodes.
-use super::{
-    FEBRUARY, HEADER, HEADER_WITHOUT_URL, JANUARY, MARCH, PACKAGE, content_of, february_file,
-    january_file, listed, name_of, record_of,
-};
-use crate::failing::Failing;
 use feed_core::{
     Keep, Line, ListKeep, ReplayFault, Reply, Sent, State, Transcript, Why, WorldEvent, WriteFault,
     replay,
+};
+use feed_samples::{
+    FEBRUARY, Failing, HEADER, HEADER_WITHOUT_URL, JANUARY, MARCH, PACKAGE, content_of,
+    february_file, january_file, listed, name_of, record_of,
 };
 use std::alloc::Global;
 use std::test::Fail;
@@ -36,8 +35,8 @@ enum File {
 impl File {
     fn text(self, alloc: Global) -> Result<Vec<u8>, Fail> {
         match self {
-            File::January => january_file(alloc),
-            File::February => february_file(alloc),
+            File::January => Ok(january_file(alloc)?),
+            File::February => Ok(february_file(alloc)?),
             File::Bytes(bytes) => Ok(Vec::from_slice(alloc, bytes)?),
         }
     }
