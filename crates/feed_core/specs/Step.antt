@@ -1,5 +1,5 @@
 -- What a step makes of the nodes and files of the code, and what it shows of those of a world.
-use Rattle.std.specs.Prelude.{◌≡◌, ◌<◌, ◌⊎◌, ℕ, Bool, true, false, length, Result, Ok, Err, List, [], ◌∷◌, option_map, slice_get, suc, slice_set, slice_index_or, Option, Some}
+use Rattle.std.specs.Prelude.{◌≡◌, ◌<◌, ◌≤◌, ◌⊎◌, ℕ, Bool, true, false, length, Result, Ok, Err, List, [], ◌∷◌, option_map, slice_get, suc, slice_set, slice_index_or, Option, Some}
 use Rattle.std.specs.Borrow.{Bor}
 use Rattle.std.specs.Map.{lookup}
 use Rattle.std.specs.BTreeMap.{is_at}
@@ -99,13 +99,16 @@ AreKept content (k ∷ ks) (y ∷ ys) = IsContent (content k) y.history × AreKe
 AreKept content [] (y ∷ ys) = ⊥
 AreKept content (k ∷ ks) [] = ⊥
 
--- the node that did not start, counted from 1: its device failed, or its keeper was not empty; the keeper comes back with its content
+-- the node that did not start, counted from 1: its device failed, or its keeper was not empty; the keeper comes back with its content, was clean if it is, and its count of failures did
+-- not fall
 pub record IsNoStart {K : Type 0} (clean : K → Type 0) (content : K → Content) (failed : K → ℕ) (keepers : List K) (node : ℕ) (keeper : K) : Type 0 where
   pub before : K
   pub at : ℕ
   pub number : node ≡ suc at
   pub given : slice_get keepers at ≡ Some before
   pub kept : clean keeper → content keeper ≡ content before
+  pub was_clean : clean keeper → clean before
+  pub rises : failed before ≤ failed keeper
   pub refused : IsStartRefused (HasFailed (failed before) (failed keeper)) (clean keeper) (content before)
 
 -- what a fault of a replay says of the keepers

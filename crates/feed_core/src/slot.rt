@@ -38,6 +38,8 @@ impl<K: Keep + Drop> Slot<K> {
             → IsStartRefused (HasFailed (K.failed keeper) (K.failed fault.keeper)) (K.clean fault.keeper)
             (K.content keeper)) }
         ensures kept { IfErr result (λ fault. K.clean fault.keeper → K.content fault.keeper ≡ K.content keeper) }
+        ensures kept_clean { IfErr result (λ fault. K.clean fault.keeper → K.clean keeper) }
+        ensures rises { IfErr result (λ fault. K.failed keeper ≤ K.failed fault.keeper) }
     {
         match Feed::open(alloc, keeper) {
             Ok(feed) => {

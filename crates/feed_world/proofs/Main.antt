@@ -1,5 +1,5 @@
 -- The headline.
-use Rattle.std.proofs.Common.{◌≡◌, ◌<◌, ◌+◌, ◌-◌, ℕ, suc, Bool, true, false, List, take, drop, Option, Some}
+use Rattle.std.proofs.Common.{◌≡◌, ◌<◌, ◌+◌, ℕ, suc, Bool, true, false, List, take, drop, Option, Some}
 use Rattle.std.proofs.Common.{None, MatchOption, slice_get, ◌⊎◌, inl, inr, refl, sym, ◌∙◌, ap, subst, arith}
 use Rattle.std.specs.Prelude.{MatchBool}
 use Rattle.std.proofs.lemmas.Option.{MatchOption-at_some}
@@ -9,12 +9,13 @@ use Rattle.feed_world.specs.declared.line.Why.TheVariants as whys
 use Rattle.feed_model.specs.History.{IsFile, IsWhole, Reports}
 use Rattle.feed_answer.specs.Queries.{query_of}
 use Rattle.feed_world.specs.World.{World, Node, WorldEvent, Report, Ask, Line, Active, Text, Refused, node_at, start, report_line, file_says, IsRefused, IfUp, OrMemory, Happens, Shows}
-use Rattle.feed_world.specs.Headline.{file_of, IsOneMoment, Stands, Answers, IsNoOlder, IsFrom, IsHeadline, HasAlike, IsLatest, IsUpAt}
+use Rattle.feed_model.specs.File.{fault_of}
+use Rattle.feed_world.specs.Headline.{file_of, IsOneMoment, Stands, Answers, IsNoOlder, IsGoodRelease, IsFrom, IsHeadline, HasAlike, IsLatest, IsUpAt}
 use Rattle.feed_world.proofs.Over.{file_published, later_report, reports_one, reports_alike, latest_active}
-use Rattle.feed_world.proofs.Slices.{same_some, get-take_below, get-drop}
+use Rattle.feed_world.proofs.Slices.{same_some}
 use Rattle.feed_world.proofs.Moves.{Reported, IsSound, sound_start, sound_step, quiet_step, moves}
-use Rattle.feed_world.proofs.Places.{shows_sound, shows_grows, shows_files, shows_quiet, file_of-take, IsAt, place_of, AreAt, places_of, gap_event}
-use Rattle.feed_world.proofs.Shown.{IsUp, active_shown, report_shown, ask_shown, text_shown}
+use Rattle.feed_world.proofs.Places.{shows_sound, shows_grows, shows_files, shows_quiet, file_of-take, IsAt, place_of, between, AreAt, places_of, gap_event}
+use Rattle.feed_world.proofs.Shown.{IsUp, FileSays, active_shown, report_shown, ask_shown, text_shown}
 
 order : (j k : ℕ) → (j < k) ⊎ ((j ≡ k) ⊎ (k < j))
 order j k = grind arith
@@ -125,57 +126,107 @@ later count events lines w s j k a stem n line lt t u = by (report_shown p.three
     by (inl e) = inl e
     by (inr r) = let q = g.2 r.0 r.1 in inr (q.0, r.2 ∙ ap report_line q.1, q.2)
 
-from : (count : ℕ) (events : List WorldEvent) (lines : List Line) (w : World) → Shows (start count) events lines w → (k a : ℕ) (stem : List ℕ) (query : List ℕ) (text : List ℕ)
-    → Stands events lines k (Ask a stem query) (Text text) → (n : Name) × IsFrom events lines k a stem query text n
-from count events lines w s k a stem query text t = (
-  n,
-  record {
-    its_package = f.2.reports.0;
-    its_file = f.3.0;
-    published = published_at count (take k events) (take k lines) p.old a f.3.1 n f.3.0 p.come f.3.2 f.3.3;
-    whole = f.3.4;
-    before = before;
-    after = after;
-  },
-)
+-- a report, or a text, at a place: the release that the node has there
+record Says (count : ℕ) (w : World) (events : List WorldEvent) (lines : List Line) (k a : ℕ) (stem : List ℕ) (e : WorldEvent) (l : Line)
+    (p : IsAt (start count) w events lines k e l) : Type 0 where
+  name : Name
+  stays : p.new ≡ p.old
+  up : IsUp p.old a stem (Some name)
+
+-- it is a good one, which was published before
+says_good : (count : ℕ) (events : List WorldEvent) (lines : List Line) (w : World) (k a : ℕ) (stem : List ℕ) (e : WorldEvent) (l : Line) (p : IsAt (start count) w events lines k e l)
+    → (s : Says count w events lines k a stem e l p) → (file : List ℕ) → IsFile s.up.node.history s.name file → fault_of file ≡ None → IsGoodRelease events k stem s.name
+says_good count events lines w k a stem e l p s file f good = record {
+  its_package = s.up.reports.0;
+  its_file = file;
+  published = published_at count (take k events) (take k lines) p.old a s.up.node s.name file p.come s.up.there f;
+  good = good;
+}
+
+-- a release that the node has further on is no older
+says_on : (count : ℕ) (events : List WorldEvent) (lines : List Line) (w : World) (j k a : ℕ) (stem : List ℕ) (e f : WorldEvent) (l m : Line) → j < k
+    → (s : Shows (start count) events lines w)
+    → (c : slice_get events j ≡ Some e) → (d : slice_get lines j ≡ Some l) → (g : slice_get events k ≡ Some f) → (h : slice_get lines k ≡ Some m)
+    → (x : Says count w events lines j a stem e l (place_of (start count) w events lines j e l s c d))
+    → (y : Says count w events lines k a stem f m (place_of (start count) w events lines k f m s g h)) → IsNoOlder x.name y.name
+says_on count events lines w j k a stem e f l m lt s c d g h x y =
+    let p = place_of (start count) w events lines j e l s c d in
+    let q = place_of (start count) w events lines k f m s g h in
+    let gap = between (start count) w events lines j k e f l m lt s c d g h in
+    let at : IsUp p.new a stem (Some x.name) = subst (λ (z : World). IsUp z a stem (Some x.name)) (sym x.stays) x.up in
+    let r = grown p.new q.old (drop (suc j) (take k events)) (drop (suc j) (take k lines)) a stem x.name
+    (sound_after count (take j events) (take j lines) p.old e l p.new p.come p.step) gap at in
+    let same : y.up.node ≡ r.0 = same_some (node_at q.old.nodes a) y.up.node r.0 y.up.there r.1 in
+    let t = r.2 (Some y.name) (subst (λ (z : Node). Reports z.history stem (Some y.name)) same y.up.reports) in
+    let is : t.0 ≡ y.name = (let u = t.1 in cc) in
+    subst (IsNoOlder x.name) is t.2
+
+report_says : (count : ℕ) (events : List WorldEvent) (lines : List Line) (w : World) (s : Shows (start count) events lines w) (k a : ℕ) (stem : List ℕ) (n : Name)
+    (t : Stands events lines k (Report a stem) (Active n))
+    → Says count w events lines k a stem (Report a stem) (Active n) (place_of (start count) w events lines k (Report a stem) (Active n) s t.happened t.shown)
+report_says count events lines w s k a stem n t =
+    let p = place_of (start count) w events lines k (Report a stem) (Active n) s t.happened t.shown in
+    let r = active_shown p.old p.new a stem n p.step in record { name = n; stays = r.0; up = r.1 }
+
+named : (count : ℕ) (events : List WorldEvent) (lines : List Line) (w : World) → Shows (start count) events lines w → (k a : ℕ) (stem : List ℕ) (n : Name)
+    → Stands events lines k (Report a stem) (Active n) → IsGoodRelease events k stem n
+unfolding report_says
+named count events lines w s k a stem n t =
+    let r = report_says count events lines w s k a stem n t in
+    let good = r.up.reports.1.0 in
+    says_good count events lines w k a stem (Report a stem) (Active n) (place_of (start count) w events lines k (Report a stem) (Active n) s t.happened t.shown) r good.0 good.1 good.2
+
+text_says : (count : ℕ) (events : List WorldEvent) (lines : List Line) (w : World) (s : Shows (start count) events lines w) (k a : ℕ) (stem query text : List ℕ)
+    (t : Stands events lines k (Ask a stem query) (Text text))
+    → Says count w events lines k a stem (Ask a stem query) (Text text) (place_of (start count) w events lines k (Ask a stem query) (Text text) s t.happened t.shown)
+text_says count events lines w s k a stem query text t =
+    let p = place_of (start count) w events lines k (Ask a stem query) (Text text) s t.happened t.shown in
+    let r = text_shown p.old p.new a stem query text p.step in record { name = r.1; stays = r.0; up = r.2 }
+
+from_it : (count : ℕ) (events : List WorldEvent) (lines : List Line) (w : World) (s : Shows (start count) events lines w) (k a : ℕ) (stem query text : List ℕ)
+    (t : Stands events lines k (Ask a stem query) (Text text)) → IsFrom events lines k a stem query text (text_says count events lines w s k a stem query text t).name
+unfolding text_says report_says
+from_it count events lines w s k a stem query text t = record {
+  release = good;
+  whole = f.3.4 ∙ ap (λ (z : List ℕ). file_says f.1 z (query_of query)) same;
+  before = λ j n lt u. says_on count events lines w j k a stem (Report a stem) (Ask a stem query) (Active n) (Text text) lt s u.happened u.shown t.happened t.shown
+      (report_says count events lines w s j a stem n u) r;
+  after = λ j n lt u. says_on count events lines w k j a stem (Ask a stem query) (Report a stem) (Text text) (Active n) lt s t.happened t.shown u.happened u.shown r
+      (report_says count events lines w s j a stem n u);
+}
   where
     p : IsAt (start count) w events lines k (Ask a stem query) (Text text)
     p = place_of (start count) w events lines k (Ask a stem query) (Text text) s t.happened t.shown
 
-    f : (p.new ≡ p.old) × (n : Name) × IsUp p.old a stem (Some n) ×
-        ((file : List ℕ) × (x : Node) × (node_at p.old.nodes a ≡ Some x) × IsFile x.history n file × (Text text ≡ file_says n file (query_of query)))
+    r : Says count w events lines k a stem (Ask a stem query) (Text text) p
+    r = text_says count events lines w s k a stem query text t
+
+    f : (p.new ≡ p.old) × (n : Name) × IsUp p.old a stem (Some n) × FileSays p.old a n query (Text text)
     f = text_shown p.old p.new a stem query text p.step
 
-    n : Name
-    n = f.1
+    good : IsGoodRelease events k stem f.1
+    good = let g = f.2.reports.1.0 in says_good count events lines w k a stem (Ask a stem query) (Text text) p r g.0 g.1 g.2
 
-    -- a report of the node is no later than what it has further on
-    onward : (v u : World) (es : List WorldEvent) (ls : List Line) (m o : Name) → IsSound v → Shows v es ls u → IsUp v a stem (Some m) → IsUp u a stem (Some o) → IsNoOlder m o
-    onward v u es ls m o sound go x y =
-        let g = grown v u es ls a stem m sound go x in
-        let same : y.node ≡ g.0 = same_some (node_at u.nodes a) y.node g.0 y.there g.1 in
-        let q = g.2 (Some o) (subst (λ (z : Node). Reports z.history stem (Some o)) same y.reports) in
-        let is : q.0 ≡ o = (let e = q.1 in cc) in
-        subst (IsNoOlder m) is q.2
+    same : f.3.0 ≡ good.its_file
+    same = same_some (file_of (take k events) f.1) f.3.0 good.its_file
+        (published_at count (take k events) (take k lines) p.old a f.3.1 f.1 f.3.0 p.come f.3.2 f.3.3) good.published
 
-    before : (j : ℕ) (m : Name) → j < k → Stands events lines j (Report a stem) (Active m) → IsNoOlder m n
-    before j m lt r =
-        let q = place_of (start count) p.old (take k events) (take k lines) j (Report a stem) (Active m) p.come (get-take_below k events j lt ∙ r.happened)
-        (get-take_below k lines j lt ∙ r.shown) in
-        let x = active_shown q.old q.new a stem m q.step in
-        onward q.new p.old (drop (suc j) (take k events)) (drop (suc j) (take k lines)) m n
-        (sound_after count (take j (take k events)) (take j (take k lines)) q.old (Report a stem) (Active m) q.new q.come q.step) q.go
-        (subst (λ (z : World). IsUp z a stem (Some m)) (sym x.0) x.1) f.2
+from : (count : ℕ) (events : List WorldEvent) (lines : List Line) (w : World) → Shows (start count) events lines w → (k a : ℕ) (stem : List ℕ) (query : List ℕ) (text : List ℕ)
+    → Stands events lines k (Ask a stem query) (Text text) → (n : Name) × IsFrom events lines k a stem query text n
+from count events lines w s k a stem query text t = ((text_says count events lines w s k a stem query text t).name, from_it count events lines w s k a stem query text t)
 
-    after : (j : ℕ) (m : Name) → k < j → Stands events lines j (Report a stem) (Active m) → IsNoOlder n m
-    after j m lt r =
-        let at : j ≡ suc k + (j - suc k) = omega arith in
-        let q = place_of p.new w (drop (suc k) events) (drop (suc k) lines) (j - suc k) (Report a stem) (Active m) p.go (get-drop (suc k) events (j - suc k) j at ∙ r.happened)
-        (get-drop (suc k) lines (j - suc k) j at ∙ r.shown) in
-        let x = active_shown q.old q.new a stem m q.step in
-        onward p.new q.old (take (j - suc k) (drop (suc k) events)) (take (j - suc k) (drop (suc k) lines)) n m
-        (sound_after count (take k events) (take k lines) p.old (Ask a stem query) (Text text) p.new p.come p.step) q.come
-        (subst (λ (z : World). IsUp z a stem (Some n)) (sym f.0) f.2) x.1
+onward : (count : ℕ) (events : List WorldEvent) (lines : List Line) (w : World) → Shows (start count) events lines w → (j k a : ℕ) (stem : List ℕ) (q r : List ℕ) (text other : List ℕ)
+    → j < k → Stands events lines j (Ask a stem q) (Text text) → Stands events lines k (Ask a stem r) (Text other)
+    → (n : Name) × (m : Name) × IsFrom events lines j a stem q text n × IsFrom events lines k a stem r other m × IsNoOlder n m
+onward count events lines w s j k a stem q r text other lt t u =
+    let x = text_says count events lines w s j a stem q text t in
+    let y = text_says count events lines w s k a stem r other u in (
+      x.name,
+      y.name,
+      from_it count events lines w s j a stem q text t,
+      from_it count events lines w s k a stem r other u,
+      says_on count events lines w j k a stem (Ask a stem q) (Ask a stem r) (Text text) (Text other) lt s t.happened t.shown u.happened u.shown x y,
+    )
 
 -- one node is reported in one way
 reports_alike_at : (o : Option Node) (u u' w w' : World) (stem : List ℕ) (x y : Line) → MatchOption o (IsRefused whys.NoNode u x u') (λ n. IfUp n u x u' (Reported u stem x u' n))
@@ -208,8 +259,15 @@ still count events lines w s j k a stem x y t u together = by (order j k)
     by (inr (inr lt)) = sym (still_before count events lines w s k j a stem y x lt u t (λ m e low high. together m e (omega (arith, low)) (omega (arith, high))))
 
 pub headline : (count : ℕ) (events : List WorldEvent) (lines : List Line) (w : World) → Shows (start count) events lines w → IsHeadline events lines
-headline count events lines w s =
-    record { same = same count events lines w s; whole = whole count events lines w s; later = later count events lines w s; still = still count events lines w s; from = from count events lines w s }
+headline count events lines w s = record {
+  same = same count events lines w s;
+  whole = whole count events lines w s;
+  later = later count events lines w s;
+  named = named count events lines w s;
+  still = still count events lines w s;
+  from = from count events lines w s;
+  onward = onward count events lines w s;
+}
 
 -- what a node that is up reports
 up_report : (w v : World) (i : ℕ) (stem : List ℕ) (x : Node) (line : Line) → IsUpAt w i x → Happens w (Report i stem) line v → (o : Option Name) × Reports x.history stem o

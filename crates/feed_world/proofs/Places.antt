@@ -1,13 +1,12 @@
 -- Worlds at places of a run.
-use Rattle.std.proofs.Common.{◌≡◌, ◌<◌, ◌≤◌, ◌+◌, ℕ, zero, suc, Bool, true, false, List, [], ◌∷◌}
+use Rattle.std.proofs.Common.{◌≡◌, ◌<◌, ◌+◌, ℕ, zero, suc, Bool, true, false, List, [], ◌∷◌}
 use Rattle.std.proofs.Common.{take, drop, Option, Some, None, slice_get, refl, sym, ◌∙◌, ap, subst, arith}
-use Rattle.std.proofs.lemmas.List.{take-take}
 use Rattle.feed_names.specs.ReleaseName.{Name}
 use Rattle.feed_names.specs.ReleaseName.{name_eq}
 use Rattle.feed_model.specs.History.{or_else}
 use Rattle.feed_world.specs.World.{World, WorldEvent, Publish, Tell, Restart, StopBefore, StopAfter, Report, Ask, Line, text_of, node_at, Happens, Shows}
 use Rattle.feed_world.specs.Headline.{file_of, IsQuiet}
-use Rattle.feed_world.proofs.Slices.{get-take, get-take_below, get-drop}
+use Rattle.feed_world.proofs.Slices.{get-take, get-drop}
 use Rattle.feed_world.proofs.Moves.{IsSound, Grows, moves, grows_all, grows_on, grows_step, sound_step, shelf_step, quiet_step}
 
 pub shows_sound : (u v : World) (es : List WorldEvent) (ls : List Line) → IsSound u → Shows u es ls v → IsSound v
@@ -102,22 +101,32 @@ pub record AreAt (u : World) (es : List WorldEvent) (ls : List Line) (j k : ℕ)
   pub reach : Shows u (take k es) (take k ls) three
   pub second : Happens three f m four
 
+-- from the one place to the other
+pub between : (u v : World) (es : List WorldEvent) (ls : List Line) (j k : ℕ) (e f : WorldEvent) (l m : Line) → j < k → (s : Shows u es ls v) → (a : slice_get es j ≡ Some e)
+    → (b : slice_get ls j ≡ Some l) → (c : slice_get es k ≡ Some f) → (d : slice_get ls k ≡ Some m)
+    → Shows (place_of u v es ls j e l s a b).new (drop (suc j) (take k es)) (drop (suc j) (take k ls)) (place_of u v es ls k f m s c d).old
+unfolding place_of
+between u v [] ls j k e f l m lt s a b c d = absurd (let t : ◌≡◌ {A = Option WorldEvent} None (Some e) = a in cc)
+between u v (x ∷ xs) [] j k e f l m lt s a b c d = absurd s
+between u v (x ∷ xs) (y ∷ ys) j zero e f l m lt s a b c d = absurd (omega (arith, lt))
+between u v (x ∷ xs) (y ∷ ys) zero (suc k) e f l m lt s a b c d = (place_of s.0 v xs ys k f m s.2 c d).come
+between u v (x ∷ xs) (y ∷ ys) (suc j) (suc k) e f l m lt s a b c d = between s.0 v xs ys j k e f l m (omega (arith, lt)) s.2 a b c d
+
 pub places_of : (u v : World) (es : List WorldEvent) (ls : List Line) (j k : ℕ) (e f : WorldEvent) (l m : Line) → j < k → Shows u es ls v → slice_get es j ≡ Some e
     → slice_get ls j ≡ Some l → slice_get es k ≡ Some f → slice_get ls k ≡ Some m → AreAt u es ls j k e l f m
 places_of u v es ls j k e f l m lt s a b c d =
-    let p = place_of u v es ls k f m s c d in
-    let q = place_of u p.old (take k es) (take k ls) j e l p.come (get-take_below k es j lt ∙ a) (get-take_below k ls j lt ∙ b) in
-    let le : j ≤ k = omega arith in
+    let p = place_of u v es ls j e l s a b in
+    let q = place_of u v es ls k f m s c d in
     record {
-      one = q.old;
-      two = q.new;
-      three = p.old;
-      four = p.new;
-      come = subst (λ (z : List Line). Shows u (take j es) z q.old) (take-take j k ls le) (subst (λ (z : List WorldEvent). Shows u z (take j (take k ls)) q.old) (take-take j k es le) q.come);
-      first = q.step;
-      gap = q.go;
-      reach = p.come;
-      second = p.step;
+      one = p.old;
+      two = p.new;
+      three = q.old;
+      four = q.new;
+      come = p.come;
+      first = p.step;
+      gap = between u v es ls j k e f l m lt s a b c d;
+      reach = q.come;
+      second = q.step;
     }
 
 get-take_within : {X : Type 0} (n : ℕ) (xs : List X) (i : ℕ) (x : X) → slice_get (take n xs) i ≡ Some x → i < n

@@ -10,12 +10,6 @@ get-take (suc n) [] i x e = absurd (cc)
 get-take (suc n) (y ∷ ys) zero x e = e
 get-take (suc n) (y ∷ ys) (suc i) x e = get-take n ys i x e
 
-pub get-take_below : {X : Type 0} (n : ℕ) (xs : List X) (i : ℕ) → i < n → slice_get (take n xs) i ≡ slice_get xs i
-get-take_below zero xs i lt = absurd (omega arith)
-get-take_below (suc n) [] i lt = refl
-get-take_below (suc n) (y ∷ ys) zero lt = refl
-get-take_below (suc n) (y ∷ ys) (suc i) lt = get-take_below n ys i (omega arith)
-
 pub get-drop : {X : Type 0} (n : ℕ) (xs : List X) (i j : ℕ) → j ≡ n + i → slice_get (drop n xs) i ≡ slice_get xs j
 get-drop zero xs i j e = ap (slice_get xs) (omega (arith, e))
 get-drop (suc n) [] i j e = refl

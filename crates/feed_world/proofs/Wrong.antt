@@ -1,9 +1,10 @@
 -- Transcripts that the headline refuses.
 use Rattle.std.proofs.Common.{◌≡◌, ◌≢◌, ◌≤◌, ℕ, ℤ, ◌<ℤ◌, ◌≤ℤ◌, zero, suc, min, max, List}
-use Rattle.std.proofs.Common.{[], ◌∷◌, Some, slice_get, ◌⊎◌, inl, inr, refl, sym, ◌∙◌, ap, subst, arith}
+use Rattle.std.proofs.Common.{[], ◌∷◌, Some, None, slice_get, ◌⊎◌, inl, inr, refl, sym, ◌∙◌, ap, subst, arith}
 use Rattle.std.proofs.lemmas.Int.{ints}
 use Rattle.feed_names.specs.ReleaseName.{Name}
 use Rattle.feed_world.specs.declared.line.Why.TheVariants as whys
+use Rattle.feed_model.specs.File.{fault_of}
 use Rattle.feed_answer.specs.Queries.{query_of}
 use Rattle.feed_world.specs.World.{WorldEvent, Publish, Restart, Report, Ask, Published, Restarted, Active, Inactive, Text, Refused, file_says}
 use Rattle.feed_model.proofs.Names.{name_self}
@@ -52,3 +53,18 @@ lies n file query text apart h =
     quiet (suc zero) event low high is = let e : Report 1 n.stem ≡ event = cc in subst (IsQuiet 1) e tt
     quiet (suc (suc zero)) event low high is = let e : Ask 1 n.stem query ≡ event = cc in subst (IsQuiet 1) e tt
     quiet (suc (suc (suc m))) event low high is = absurd (omega (arith, high))
+
+-- a report of a release that was never published
+names_nothing : (stem : List ℕ) (n : Name) → IsHeadline (Report 1 stem ∷ []) (Active n ∷ []) → ⊥
+names_nothing stem n h = let r = h.named 0 1 stem n (record { happened = refl; shown = refl }) in let e = r.published in cc
+
+-- a report of a bad file
+names_bad : (n : Name) (file : List ℕ) → fault_of file ≢ None → IsHeadline (Publish n file ∷ Report 1 n.stem ∷ []) (Published ∷ Active n ∷ []) → ⊥
+names_bad n file bad h =
+    let r = h.named 1 1 n.stem n (record { happened = refl; shown = refl }) in
+    let at : Some file ≡ Some r.its_file = sym (first n file) ∙ r.published in
+    let is : file ≡ r.its_file = cc in
+    bad (ap fault_of is ∙ r.good)
+  where
+    first : (n : Name) (file : List ℕ) → file_of (Publish n file ∷ []) n ≡ Some file
+    first n file = rw (name_self n) refl

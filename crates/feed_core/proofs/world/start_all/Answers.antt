@@ -23,6 +23,8 @@ returns-in-Err-clause-start g c = elim c.not_started.ensures [
     given = went_at (λ k s. g.K.Keep.failed k ≤ slot_failed g.K.Keep.failed s) c.args.keepers.items c.loop-keeper.keeper-iterator.rest.items c.next.new.self.rest.items
         c.loop-keeper.nodes.items c.in-Some.keeper c.loop-keeper.invariant.so c.in-Some.ensures.steps.0;
     kept = c.in-Err.ensures.kept;
+    was_clean = c.in-Err.ensures.kept_clean;
+    rises = c.in-Err.ensures.rises;
     refused = c.in-Err.ensures.err other.0;
   })
 ]
