@@ -18,7 +18,7 @@ same_ordered (r ∷ rs) = (record { name = refl; size = refl; state = refl; part
 pub arranged : (given moved : List code.Record) → IsPermutation given moved → IsArranged (shown given) (ordered (shown moved))
 arranged given moved permuted = (shown moved, IsPermutation-map shown_record given moved permuted, same_ordered (shown moved))
 
-names_ordered : (c : Content) → names (ordered c) ≡ names c
+pub names_ordered : (c : Content) → names (ordered c) ≡ names c
 names_ordered [] = refl
 names_ordered (r ∷ rs) = ap (λ ns. r.name ∷ ns) (names_ordered rs)
 

@@ -1,4 +1,5 @@
 mod Records
 mod Twice
 mod Arranged
+mod Order
 pub mod Failed

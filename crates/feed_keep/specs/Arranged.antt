@@ -3,8 +3,6 @@ use Rattle.std.specs.Prelude.{◌≡◌, ◌++◌, List, [], ◌∷◌, map, IsP
 use Rattle.feed_model.specs.declared.state.State.{State}
 use Rattle.feed_model.specs.Content.{Part, Record, Content}
 use Rattle.feed_model.specs.Change.{merged}
-use Rattle.feed_keep.specs.declared.list_keep.ListKeep.{ListKeep}
-use Rattle.feed_keep.specs.Shown.{shown}
 
 -- the record with its parts in order: those that begin at one place stay as they stood
 abbrev pub ordered_record : Record → Record
@@ -13,10 +11,6 @@ ordered_record r = record { name = r.name; size = r.size; state = r.state; parts
 -- the same records, each with its parts in order
 abbrev pub ordered : Content → Content
 ordered rs = map ordered_record rs
-
--- the content of a list in memory
-abbrev pub content_of_list : ListKeep → Content
-content_of_list keeper = ordered (shown keeper.records.items)
 
 -- the record with these parts behind its own, and this state
 abbrev pub lengthened : List Part → State → Record → Record

@@ -4,6 +4,7 @@ ghost use Rattle.feed_names.specs.ReleaseName.{name_eq};
 ghost use Rattle.feed_model.specs.Content.{Content, names};
 ghost use Rattle.feed_model.specs.Change.{after, IsAllowed};
 ghost use Rattle.feed_keep.specs.Shown.{shown, shown_change};
+ghost use Rattle.feed_keep.specs.Order.{IsInOrder};
 ghost use Rattle.feed_keep.specs.Cause.{IsCounted};
 
 use crate::record::Record;
@@ -80,6 +81,7 @@ pub trait Keep {
     fn load(&mut self, alloc: Global) -> Result<Vec<Record>, KeepFault>
         ensures records { IfOk result (λ records. clean self.new → shown records.items ≡ content self.old) }
         ensures distinct { IfOk result (λ records. IsDistinct name_eq (names (shown records.items))) }
+        ensures order { IfOk result (λ records. IsInOrder (shown records.items)) }
         ensures damaged { IsErrOf result KeepFault.Damaged → clean self.new
             → ¬ (IsDistinct name_eq (names (content self.old))) }
         ensures same { clean self.new → content self.new ≡ content self.old }

@@ -2,11 +2,13 @@ ghost use Rattle.std.specs.Prelude.{◌≡◌, ◌↔◌, ◌≤◌, []};
 ghost use Rattle.std.specs.Prelude.{false, Some, None, IfOk, IfSome, IfNone, OnOk, OnErr, length};
 ghost use Rattle.std.specs.Prelude.{insert, not, IsPermutation};
 ghost use Rattle.std.specs.List.{IsDistinct};
+ghost use Rattle.std.specs.Ordering.{is_lt};
 ghost use Rattle.feed_names.specs.ReleaseName.{name_eq};
 ghost use Rattle.feed_model.specs.Content.{names, record_of};
-ghost use Rattle.feed_model.specs.Change.{changed, insert_record, is_earlier, new_record, without_earlier};
+ghost use Rattle.feed_model.specs.Change.{changed, comes_before, insert_record, is_earlier, new_record, without_earlier};
 ghost use Rattle.feed_parts.specs.Shown.{shown_parts};
-ghost use Rattle.feed_keep.specs.Arranged.{IsArranged, content_of_list, lengthened, ordered};
+ghost use Rattle.feed_keep.specs.Arranged.{lengthened, ordered};
+ghost use Rattle.feed_keep.specs.Order.{AreNamesInOrder};
 ghost use Rattle.feed_keep.specs.Shown.{shown, shown_record, IsRecordAt};
 
 use crate::keep::{Change, Keep};
@@ -16,6 +18,7 @@ use feed_model::{KeepFault, State};
 use feed_names::ReleaseName;
 use feed_parts::{Part, copied, copied_in_order};
 use std::alloc::{AllocError, Global};
+use std::cmp::Ordering;
 
 /// The plain keeper: the records in memory, ordered by the texts of their names, each with its parts as they came. They
 /// are put in order as they are loaded. It has no device that fails.
@@ -23,9 +26,13 @@ use std::alloc::{AllocError, Global};
 pub struct ListKeep {
     alloc: Global,
     records: Vec<Record>,
+    ghost order: { AreNamesInOrder (names (shown records.items)) },
 }
 
 impl ListKeep {
+    ghost use Rattle.feed_keep.specs.Arranged.{IsArranged};
+    ghost use Rattle.feed_keep.specs.InMemory.{content_of_list};
+
     /// A keeper of no records. It takes no memory.
     pub fn new(alloc: Global) -> ListKeep
         ensures { content_of_list result ≡ [] }
@@ -48,6 +55,8 @@ impl ListKeep {
 }
 
 impl Keep for ListKeep {
+    ghost use Rattle.feed_keep.specs.InMemory.{content_of_list};
+
     ghost content = { content_of_list };
 
     ghost clean = { λ _. Unit {0} };
@@ -175,9 +184,14 @@ fn place_for(records: &[Record], name: &ReleaseName) -> usize
 }
 
 fn sort_by_name(records: &mut Vec<Record>)
-    ensures { IsPermutation records.old.items records.new.items }
+    ensures permutation { IsPermutation records.old.items records.new.items }
+    ensures order { AreNamesInOrder (names (shown records.new.items)) }
 {
-    records.sort_unstable_by(|one, other| one.name.text().cmp(other.name.text()));
+    records.sort_unstable_by(
+        |one: &Record, other: &Record| -> Ordering
+            ensures { is_lt result ≡ comes_before one.now.name other.now.name }
+        { one.name.text().cmp(&other.name.text()) },
+    );
 }
 
 // Whether a name stands twice.

@@ -1,4 +1,4 @@
-ghost use Rattle.feed_keep.specs.Arranged.{content_of_list};
+ghost use Rattle.feed_keep.specs.InMemory.{content_of_list};
 
 use feed_keep::{Change, Keep, KeepFault, ListKeep, Record};
 use std::alloc::Global;

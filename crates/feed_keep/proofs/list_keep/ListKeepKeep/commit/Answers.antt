@@ -1,10 +1,11 @@
 use Rattle.std.proofs.Common.{sym, ◌∙◌, ap}
 use Rattle.feed_model.specs.declared.state.State.TheVariants.{Staged, Broken, Active}
-use Rattle.feed_model.specs.Change.{new_record}
+use Rattle.feed_model.specs.Change.{changed, new_record}
 use Rattle.feed_parts.specs.Shown.{shown_parts}
-use Rattle.feed_keep.specs.Arranged.{ordered}
+use Rattle.feed_keep.specs.Arranged.{lengthened, ordered}
 use Rattle.feed_keep.specs.Shown.{shown}
 use Rattle.feed_keep.proofs.Arranged.{insert_ordered, changed_ordered, active_ordered}
+use Rattle.feed_keep.proofs.Order.{either_in_order, insert_in_order, lengthened_in_order, without_in_order}
 use Rattle.feed_keep.proofs.list_keep.ListKeepKeep.commit.Goals.{in-Add, in-Pieces, in-Break, in-Activate}
 use Rattle.feed_keep.proofs.list_keep.ListKeepKeep.commit.Goals as goal
 
@@ -25,3 +26,30 @@ returns-in-Ok-clause-made c = λ _.
           let made = rw (sym w.done-is ∙ c.in-Ok.is) at w.activate-done.ensures.ok in
           rw (w.self-is, w.in-Activate.is) (ap ordered made ∙ active_ordered w.in-Activate.name.now (shown_parts w.in-Activate.parts.now) Active old)
     ]
+
+pub invariant_of-self : goal.invariant_of-self
+invariant_of-self c = record {
+  order = either_in_order c.add-done.result _ _ _ c.add-done.ensures.ok c.add-done.ensures.err c.args.self.now.order
+      (insert_in_order (new_record c.in-Add.name.now c.in-Add.size) (shown c.args.self.now.records.items) c.args.self.now.order);
+}
+
+pub invariant_of-self-in-Pieces : goal.invariant_of-self-in-Pieces
+invariant_of-self-in-Pieces c = record {
+  order = either_in_order c.grow-done.result _ _ _ c.grow-done.ensures.ok c.grow-done.ensures.err c.args.self.now.order
+      (lengthened_in_order c.in-Pieces.name.now (shown_parts c.in-Pieces.parts.now) Staged (shown c.args.self.now.records.items) c.args.self.now.order);
+}
+
+pub invariant_of-self-in-Break : goal.invariant_of-self-in-Break
+invariant_of-self-in-Break c = record {
+  order = either_in_order c.grow-done-in-Break.result _ _ _ c.grow-done-in-Break.ensures.ok c.grow-done-in-Break.ensures.err c.args.self.now.order
+      (lengthened_in_order c.in-Break.name.now (shown_parts c.in-Break.parts.now) Broken (shown c.args.self.now.records.items) c.args.self.now.order);
+}
+
+pub invariant_of-self-in-Activate : goal.invariant_of-self-in-Activate
+invariant_of-self-in-Activate c =
+    let old = shown c.args.self.now.records.items in
+    let n = c.in-Activate.name.now in
+    let ps = shown_parts c.in-Activate.parts.now in record {
+      order = either_in_order c.activate-done.result _ _ _ c.activate-done.ensures.ok c.activate-done.ensures.err c.args.self.now.order
+          (without_in_order n (changed n (lengthened ps Active) old) (lengthened_in_order n ps Active old c.args.self.now.order));
+    }

@@ -1,10 +1,13 @@
-use Rattle.std.proofs.Common.{◌≡◌, List, true, false, sym, ◌∙◌, subst}
+use Rattle.std.proofs.Common.{◌≡◌, List, true, false, sym, ◌∙◌, ap, subst}
 use Rattle.std.specs.List.{IsDistinct}
 use Rattle.feed_names.specs.ReleaseName.{name_eq}
 use Rattle.feed_model.specs.Content.{Content, names}
 use Rattle.feed_keep.specs.declared.record.Record as code
 use Rattle.feed_keep.specs.Shown.{shown}
 use Rattle.feed_keep.proofs.Arranged.{distinct_before, distinct_ordered}
+use Rattle.feed_keep.specs.Order.{IsInOrder}
+use Rattle.feed_keep.specs.Arranged.{ordered}
+use Rattle.feed_keep.proofs.Order.{ordered_in_order}
 use Rattle.feed_keep.proofs.list_keep.ListKeepKeep.load.Goals as goal
 
 pub returns-then-has_twice-clause-damaged : goal.returns-then-has_twice-clause-damaged
@@ -16,3 +19,8 @@ pub returns-in-Ok-clause-distinct : goal.returns-in-Ok-clause-distinct
 returns-in-Ok-clause-distinct c =
     let apart = subst (λ (rs : List code.Record). IsDistinct name_eq (names (shown rs))) (c.deref.ensures.value ∙ sym c.deref-2.ensures.value) (c.has_twice.ensures.0 c.if-has_twice.false) in
     subst (λ (content : Content). IsDistinct name_eq (names content)) (sym c.in-Ok.ensures) (distinct_ordered (shown c.deref-2.result.now) apart)
+
+pub returns-in-Ok-clause-order : goal.returns-in-Ok-clause-order
+returns-in-Ok-clause-order c =
+    let copied = c.in-Ok.ensures ∙ ap (λ (rs : List code.Record). ordered (shown rs)) c.deref-2.ensures.value in
+    subst IsInOrder (sym copied) (ordered_in_order (shown c.args.self.now.records.items) c.args.self.now.order)
