@@ -33,3 +33,7 @@ AreCounted is_told before now node [] [] = Unit {0}
 AreCounted is_told before now node (x ∷ xs) (y ∷ ys) = (before x ≤ now y) × (is_told node → HasFailedSince (before x) (now y)) × AreCounted is_told before now (suc node) xs ys
 AreCounted is_told before now node [] (y ∷ ys) = ⊥
 AreCounted is_told before now node (x ∷ xs) [] = ⊥
+
+-- the counts before and after one event, which happens at this node and is shown by this line
+abbrev pub IsCountedAt : {M : Type 0} → (M → ℕ) → ℕ → Line → List M → List M → Type 0
+IsCountedAt failed node line old new = AreCounted (λ i. (i ≡ node) × TellsDevice line) failed failed 1 old new

@@ -9,12 +9,13 @@ use Rattle.feed_names.specs.ReleaseName.{Name, IsName}
 use Rattle.feed_model.specs.History.{History}
 use Rattle.feed_model.specs.Content.{Content, IsContent}
 use Rattle.feed_keep.specs.Cause.{HasFailed}
-use Rattle.feed_core.specs.Nodes.{IsStartRefused}
+use Rattle.feed_core.specs.Nodes.{IsStartRefused, shown_arrived}
+use Rattle.feed_releases.specs.declared.event.Event as code_event
 use Rattle.feed_core.specs.declared.world.ReplayFault.{ReplayFault}
 use Rattle.feed_core.specs.declared.world.ReplayFault.TheVariants as faults
 use Rattle.feed_world.specs.declared.line.Why as why
 use Rattle.feed_world.specs.declared.line.Why.TheVariants as whys
-use Rattle.feed_world.specs.World.{World, Node, WorldEvent, Line, Shelf, Happens, Shows, start, text_of}
+use Rattle.feed_world.specs.World.{World, Node, WorldEvent, Sent, Line, Shelf, Happens, Shows, arriving, start, text_of}
 
 -- the content of each keeper is promised
 abbrev pub AllClean : {M : Type 0} → (M → Type 0) → List M → Type 0
@@ -70,6 +71,11 @@ abbrev pub Goes : {M : Type 0} → (M → Type 0) → (M → Bool → History �
 Goes clean stands fits old new event line =
     AllClean clean new → AllClean clean old × ((w : World) → fits w.shelf → AreNodes stands old w.nodes → (v : World) × Happens w event line v × (v.shelf ≡ w.shelf)
     × AreNodes stands new v.nodes)
+
+-- the same of what is sent to a node, where the files give what arrived
+abbrev pub Takes : {M : Type 0} → (M → Type 0) → (M → Bool → History → Type 0) → Result code_event.Event why.Why → List M → List M → (Sent → WorldEvent) → Line → Type 0
+Takes clean stands arrived old new telling line =
+    (sent : Sent) → Goes clean stands (λ shelf. arriving shelf sent ≡ shown_arrived arrived) old new (telling sent) line
 
 -- the file that is found by the text of a name
 abbrev pub file_at : List (Bor (List ℕ) × Bor (List ℕ)) → Bor (List ℕ) → Option (List ℕ)

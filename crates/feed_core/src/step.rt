@@ -4,13 +4,13 @@ ghost use Rattle.std.specs.Prelude.{Bool, true, Ok, Err, IfOk, IfErr, IfSome};
 ghost use Rattle.std.specs.Prelude.{IfNone, insert, length, vec_len, vec_capacity};
 ghost use Rattle.feed_model.specs.History.{History, Answer};
 ghost use Rattle.feed_model.specs.Reply.{IsRight};
-ghost use Rattle.feed_world.specs.World.{Sent as sent, Tell, Restart, StopBefore, StopAfter, Report, Ask, arriving};
+ghost use Rattle.feed_world.specs.World.{Tell, Restart, StopBefore, StopAfter, Report, Ask};
 ghost use Rattle.feed_world.specs.Shown.{shown_line};
 ghost use Rattle.feed_keep.specs.Cause.{HasCounted};
-ghost use Rattle.feed_core.specs.Counts.{AreCounted, TellsDevice};
+ghost use Rattle.feed_core.specs.Counts.{IsCountedAt, TellsDevice};
 ghost use Rattle.feed_releases.specs.Told.{told};
-ghost use Rattle.feed_core.specs.Nodes.{Comes, shown_arrived};
-ghost use Rattle.feed_core.specs.Step.{Changes, Goes, IsAway, IsReady};
+ghost use Rattle.feed_core.specs.Nodes.{Comes};
+ghost use Rattle.feed_core.specs.Step.{Changes, Goes, IsAway, IsReady, Takes};
 
 use crate::node::Node;
 use feed_model::{KeepFault, Refusal};
@@ -97,8 +97,7 @@ pub(crate) fn restart_at<N: Node + Drop>(alloc: Global, nodes: &mut Vec<N>, node
     ensures step { Goes N.clean N.stands (λ _. Unit {0}) nodes.old.items nodes.new.items (Restart node)
         (shown_line result) }
     ensures count { length nodes.new.items ≡ length nodes.old.items }
-    ensures device { AreCounted (λ i. (i ≡ node) × TellsDevice
-        (shown_line result)) N.failed N.failed 1 nodes.old.items nodes.new.items }
+    ensures device { IsCountedAt N.failed node (shown_line result) nodes.old.items nodes.new.items }
 {
     let Some(at) = place(nodes.len(), node) else {
         return Line::Refused(Why::NoNode);
@@ -115,13 +114,11 @@ pub(crate) fn tell_at<N: Node>(
     node: u64,
     arrived: Result<Event<'_>, Why>,
 ) -> Line
-    ensures step { (what : sent) → Goes N.clean N.stands
-        (λ shelf. arriving shelf what ≡ shown_arrived arrived.entry)
-        nodes.old.items nodes.new.items (Tell node what) (shown_line result) }
+    ensures step { Takes N.clean N.stands arrived.entry nodes.old.items nodes.new.items (Tell node)
+        (shown_line result) }
     ensures count { length nodes.new.items ≡ length nodes.old.items }
     ensures device { arrived.entry ≢ Err (Why.Feed Refusal.Device)
-        → AreCounted (λ i. (i ≡ node)
-        × TellsDevice (shown_line result)) N.failed N.failed 1 nodes.old.items nodes.new.items }
+        → IsCountedAt N.failed node (shown_line result) nodes.old.items nodes.new.items }
 {
     let (at, event) = match ready_at(nodes, node, arrived) {
         Ok(ready) => ready,
@@ -140,13 +137,11 @@ pub(crate) fn stop_before_at<N: Node + Drop>(
     node: u64,
     arrived: Result<Event<'_>, Why>,
 ) -> Line
-    ensures step { (what : sent) → Goes N.clean N.stands
-        (λ shelf. arriving shelf what ≡ shown_arrived arrived.entry)
-        nodes.old.items nodes.new.items (StopBefore node what) (shown_line result) }
+    ensures step { Takes N.clean N.stands arrived.entry nodes.old.items nodes.new.items (StopBefore node)
+        (shown_line result) }
     ensures count { length nodes.new.items ≡ length nodes.old.items }
     ensures device { arrived.entry ≢ Err (Why.Feed Refusal.Device)
-        → AreCounted (λ i. (i ≡ node)
-        × TellsDevice (shown_line result)) N.failed N.failed 1 nodes.old.items nodes.new.items }
+        → IsCountedAt N.failed node (shown_line result) nodes.old.items nodes.new.items }
 {
     let (at, _event) = match ready_at(nodes, node, arrived) {
         Ok(ready) => ready,
@@ -165,13 +160,11 @@ pub(crate) fn stop_after_at<N: Node + Drop>(
     node: u64,
     arrived: Result<Event<'_>, Why>,
 ) -> Line
-    ensures step { (what : sent) → Goes N.clean N.stands
-        (λ shelf. arriving shelf what ≡ shown_arrived arrived.entry)
-        nodes.old.items nodes.new.items (StopAfter node what) (shown_line result) }
+    ensures step { Takes N.clean N.stands arrived.entry nodes.old.items nodes.new.items (StopAfter node)
+        (shown_line result) }
     ensures count { length nodes.new.items ≡ length nodes.old.items }
     ensures device { arrived.entry ≢ Err (Why.Feed Refusal.Device)
-        → AreCounted (λ i. (i ≡ node)
-        × TellsDevice (shown_line result)) N.failed N.failed 1 nodes.old.items nodes.new.items }
+        → IsCountedAt N.failed node (shown_line result) nodes.old.items nodes.new.items }
 {
     let (at, event) = match ready_at(nodes, node, arrived) {
         Ok(ready) => ready,

@@ -9,10 +9,10 @@ use std::test::Fail;
 
 const HOST: &[u8] = b"127.0.0.1:18081";
 
-const NAME: &[u8] = b"Acme_Global_All_2024-01-01.txt";
+const NAME: &str = "Acme_Global_All_2024-01-01.txt";
 
 // A file that is not there.
-const MISSING: &[u8] = b"Acme_Global_None_2024-01-01.txt";
+const MISSING: &str = "Acme_Global_None_2024-01-01.txt";
 
 // What is given of the file and its pieces.
 
@@ -340,87 +340,36 @@ const PYTHON_HEAD_NOT_FOUND: &str = "HTTP/1.0 404 File not found\r\n\
     Content-Type: text/html;charset=utf-8\r\n\
     Content-Length: 335\r\n\r\n";
 
+// What every request ends in.
+const LAST_FIELDS: &str = "Accept-Encoding: identity\r\nConnection: close\r\n\r\n";
+
 // The requests as nginx got them; the others differ in the port.
 #[test]
 fn servers_are_asked(rt: HostRuntime) -> Result<(), Fail> {
-    let name = ReleaseName::parse(rt.alloc(), NAME)?;
-    let missing = ReleaseName::parse(rt.alloc(), MISSING)?;
+    let alloc = rt.alloc();
     let table = [
-        (
-            &name,
-            97,
-            153,
-            "GET /Acme_Global_All_2024-01-01.txt HTTP/1.1\r\n\
-             Host: 127.0.0.1:18081\r\n\
-             Range: bytes=97-153\r\n\
-             Accept-Encoding: identity\r\n\
-             Connection: close\r\n\r\n",
-        ),
-        (
-            &name,
-            200,
-            299,
-            "GET /Acme_Global_All_2024-01-01.txt HTTP/1.1\r\n\
-             Host: 127.0.0.1:18081\r\n\
-             Range: bytes=200-299\r\n\
-             Accept-Encoding: identity\r\n\
-             Connection: close\r\n\r\n",
-        ),
-        (
-            &name,
-            0,
-            224,
-            "GET /Acme_Global_All_2024-01-01.txt HTTP/1.1\r\n\
-             Host: 127.0.0.1:18081\r\n\
-             Range: bytes=0-224\r\n\
-             Accept-Encoding: identity\r\n\
-             Connection: close\r\n\r\n",
-        ),
-        (
-            &name,
-            225,
-            299,
-            "GET /Acme_Global_All_2024-01-01.txt HTTP/1.1\r\n\
-             Host: 127.0.0.1:18081\r\n\
-             Range: bytes=225-299\r\n\
-             Accept-Encoding: identity\r\n\
-             Connection: close\r\n\r\n",
-        ),
-        (
-            &missing,
-            0,
-            224,
-            "GET /Acme_Global_None_2024-01-01.txt HTTP/1.1\r\n\
-             Host: 127.0.0.1:18081\r\n\
-             Range: bytes=0-224\r\n\
-             Accept-Encoding: identity\r\n\
-             Connection: close\r\n\r\n",
-        ),
+        (NAME, 97, 153),
+        (NAME, 200, 299),
+        (NAME, 0, 224),
+        (NAME, 225, 299),
+        (MISSING, 0, 224),
     ];
-    for (asked, first, last, wanted) in table {
-        let mut sink = Sink::new(rt.alloc());
-        assert_eq!(rt; write_request(&mut sink, HOST, asked, first, last), Ok(()));
+    for (text, first, last) in table {
+        let name = ReleaseName::parse(alloc, text.as_bytes())?;
+        let mut sink = Sink::new(alloc);
+        assert_eq!(rt; write_request(&mut sink, HOST, &name, first, last), Ok(()));
+        let wanted = format!(in alloc;
+            "GET /{text} HTTP/1.1\r\nHost: 127.0.0.1:18081\r\nRange: bytes={first}-{last}\r\n{LAST_FIELDS}"
+        )?;
         assert_eq!(rt; sink.bytes.as_slice(), wanted.as_bytes());
     }
-    let table = [
-        (
-            &name,
-            "HEAD /Acme_Global_All_2024-01-01.txt HTTP/1.1\r\n\
-             Host: 127.0.0.1:18081\r\n\
-             Accept-Encoding: identity\r\n\
-             Connection: close\r\n\r\n",
-        ),
-        (
-            &missing,
-            "HEAD /Acme_Global_None_2024-01-01.txt HTTP/1.1\r\n\
-             Host: 127.0.0.1:18081\r\n\
-             Accept-Encoding: identity\r\n\
-             Connection: close\r\n\r\n",
-        ),
-    ];
-    for (asked, wanted) in table {
-        let mut sink = Sink::new(rt.alloc());
-        assert_eq!(rt; write_head_request(&mut sink, HOST, asked), Ok(()));
+    for text in [NAME, MISSING] {
+        let name = ReleaseName::parse(alloc, text.as_bytes())?;
+        let mut sink = Sink::new(alloc);
+        assert_eq!(rt; write_head_request(&mut sink, HOST, &name), Ok(()));
+        let wanted = format!(in alloc;
+            "HEAD /{text} HTTP/1.1\r\nHost: 127.0.0.1:18081\r\n{LAST_FIELDS}"
+        )?;
         assert_eq!(rt; sink.bytes.as_slice(), wanted.as_bytes());
     }
     Ok(())
