@@ -2,4 +2,5 @@ mod Records
 mod Twice
 mod Arranged
 mod Order
+mod Listed
 pub mod Failed

@@ -69,6 +69,10 @@ pub trait Keep {
 
     ghost clean: { Self → Type 0 };
 
+    /// Whether the store holds a list of records, one for each name. In memory a name may stand twice; a table may hold
+    /// what is no record.
+    ghost listed: { Self → Type 0 };
+
     /// How often the device has failed.
     ghost failed: { Self → ℕ };
 
@@ -77,23 +81,27 @@ pub trait Keep {
         ensures { result ≡ failed self.now };
 
     /// All records, ordered by the texts of their names, each with its parts ordered by their first places. `Damaged`
-    /// where the store holds no list of records, one for each name.
+    /// where the store holds no list of records. It stays as it is.
     fn load(&mut self, alloc: Global) -> Result<Vec<Record>, KeepFault>
         ensures records { IfOk result (λ records. clean self.new → shown records.items ≡ content self.old) }
         ensures distinct { IfOk result (λ records. IsDistinct name_eq (names (shown records.items))) }
         ensures order { IfOk result (λ records. IsInOrder (shown records.items)) }
-        ensures damaged { IsErrOf result KeepFault.Damaged → clean self.new
-            → ¬ (IsDistinct name_eq (names (content self.old))) }
+        ensures listed { IfOk result (λ _. clean self.new → ∥ listed self.old ∥₁) }
+        ensures damaged { IsErrOf result KeepFault.Damaged → clean self.new → ¬ ∥ listed self.old ∥₁ }
         ensures same { clean self.new → content self.new ≡ content self.old }
+        ensures stays { clean self.new → ∥ listed self.old ∥₁ → ∥ listed self.new ∥₁ }
         ensures clean { clean self.new → clean self.old }
         ensures device { IsCounted (result ≡ Err KeepFault.Device) (failed self.old) (failed self.new) };
 
-    /// Makes the whole change, or refuses and changes nothing. It never answers `Damaged`.
+    /// Makes the whole change, or refuses and changes nothing. It is asked only of a store that holds a list of
+    /// records, leaves it one, and never answers `Damaged`.
     fn commit(&mut self, change: &Change<'_>) -> Result<(), KeepFault>
+        requires listed { clean self.old → ∥ listed self.old ∥₁ }
         requires allowed { clean self.old → IsAllowed (shown_change change.now) (content self.old) }
         ensures made { OnOk result (clean self.new → content self.new
             ≡ after (shown_change change.now) (content self.old)) }
         ensures refused { OnErr result (clean self.new → content self.new ≡ content self.old) }
+        ensures listed { clean self.new → ∥ listed self.new ∥₁ }
         ensures clean { clean self.new → clean self.old }
         ensures undamaged { ¬ (IsErrOf result KeepFault.Damaged) }
         ensures device { IsCounted (result ≡ Err KeepFault.Device) (failed self.old) (failed self.new) };

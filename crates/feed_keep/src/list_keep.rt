@@ -55,11 +55,13 @@ impl ListKeep {
 }
 
 impl Keep for ListKeep {
-    ghost use Rattle.feed_keep.specs.InMemory.{content_of_list};
+    ghost use Rattle.feed_keep.specs.InMemory.{IsListed, content_of_list};
 
     ghost content = { content_of_list };
 
     ghost clean = { λ _. Unit {0} };
+
+    ghost listed = { IsListed };
 
     ghost failed = { λ _. 0 };
 

@@ -51,6 +51,7 @@ pub struct Feed<K: Keep + Drop> {
     keeper: K,
     releases: Vec<Release>,
     ghost mirrors: { K.clean keeper → K.content keeper ≡ content_of releases.items },
+    ghost listed: { K.clean keeper → ∥ K.listed keeper ∥₁ },
     ghost few: { length releases.items ≤ max_held },
 }
 
@@ -79,10 +80,12 @@ impl<K: Keep + Drop> Feed<K> {
         ensures clean { IfOk result (λ feed. K.clean (keeper_of feed) → K.clean keeper) }
         ensures counted { IfOk result (λ feed. K.failed (keeper_of feed) ≡ K.failed keeper) }
         ensures damaged { IfErr result (λ fault. fault.cause ≡ KeepFault.Damaged → K.clean fault.keeper
-            → ¬ (IsSound (K.content keeper))) }
-        ensures legal { IfErr result (λ fault. K.clean fault.keeper → (h : History)
+            → ∥ K.listed keeper ∥₁ → ¬ (IsSound (K.content keeper))) }
+        ensures legal { IfErr result (λ fault. K.clean fault.keeper → ∥ K.listed keeper ∥₁ → (h : History)
             → IsContent (K.content keeper) h → fault.cause ≢ KeepFault.Damaged) }
         ensures kept { IfErr result (λ fault. K.clean fault.keeper → K.content fault.keeper ≡ K.content keeper) }
+        ensures kept_listed { IfErr result (λ fault. K.clean fault.keeper → ∥ K.listed keeper ∥₁
+            → ∥ K.listed fault.keeper ∥₁) }
         ensures kept_clean { IfErr result (λ fault. K.clean fault.keeper → K.clean keeper) }
         ensures device { IfErr result (λ fault. IsCounted (fault.cause ≡ KeepFault.Device) (K.failed keeper)
             (K.failed fault.keeper)) }
@@ -190,6 +193,7 @@ impl<K: Keep + Drop> Feed<K> {
     pub fn restart(self) -> K
         ensures same { result ≡ keeper_of self }
         ensures content { K.clean result → K.content result ≡ recorded self }
+        ensures listed { K.clean result → ∥ K.listed result ∥₁ }
     {
         let Feed {
             alloc: _,
@@ -207,6 +211,7 @@ impl<K: Keep + Drop> Feed<K> {
         ensures after { point ≡ Point.After → K.clean result → (h : History) → IsContent (recorded self) h
             → (answer : event_answer) × IsRight h (told event.now) answer
             × IsContent (K.content result) ((told event.now, answer) ∷ h) }
+        ensures listed { K.clean result → ∥ K.listed result ∥₁ }
         ensures clean { K.clean result → K.clean (keeper_of self) }
         ensures counted { K.failed (keeper_of self) ≤ K.failed result }
     {

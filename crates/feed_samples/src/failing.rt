@@ -1,4 +1,4 @@
-ghost use Rattle.feed_keep.specs.InMemory.{content_of_list};
+ghost use Rattle.feed_keep.specs.InMemory.{IsListed, content_of_list};
 
 use feed_keep::{Change, Keep, KeepFault, ListKeep, Record};
 use std::alloc::Global;
@@ -38,6 +38,8 @@ impl Keep for Failing {
     ghost content = { λ keeper. content_of_list keeper.list };
 
     ghost clean = { λ _. Unit {0} };
+
+    ghost listed = { λ keeper. IsListed keeper.list };
 
     ghost failed = { λ keeper. keeper.failed };
 

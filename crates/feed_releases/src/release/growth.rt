@@ -71,6 +71,7 @@ impl Release {
     /// Commits what a piece makes of the release, and then takes it in. All memory is taken before the commit.
     pub(crate) fn grow<K: Keep>(&mut self, keeper: &mut K, growth: Growth) -> Result<Reply, Refusal>
         requires growth { (first : ℕ) × (bytes : List ℕ) × IsGrowth self.old.kept first bytes growth }
+        requires listed { K.clean keeper.old → ∥ K.listed keeper.old ∥₁ }
         requires allowed { K.clean keeper.old → IsAllowed (change_of self.old.kept growth) (K.content keeper.old) }
         ensures reply { IfOk result (λ reply. reply ≡ reply_of growth.missing growth.standing) }
         ensures taken { OnOk result (self.new ≡ record {
@@ -78,6 +79,7 @@ impl Release {
           holdings = rows_of growth.standing;
         }) }
         ensures same { OnErr result (self.new ≡ self.old) }
+        ensures listed { K.clean keeper.new → ∥ K.listed keeper.new ∥₁ }
         ensures committed { IsCommitted K.clean K.content K.failed
             (change_of self.old.kept growth) keeper.old keeper.new result }
     {

@@ -1,9 +1,15 @@
-use Rattle.std.proofs.Common.{sym, ◌∙◌, ap}
+use Rattle.std.proofs.Common.{sym, ◌∙◌, ap, subst}
+use Rattle.std.proofs.Math.Logic.{∥∥₁_map}
+use Rattle.std.specs.List.{IsDistinct}
+use Rattle.feed_names.specs.ReleaseName.{name_eq}
+use Rattle.feed_model.specs.Content.{Content, names}
+use Rattle.feed_keep.specs.InMemory.{IsListed, content_of_list}
+use Rattle.feed_keep.proofs.Listed.{distinct_after}
 use Rattle.feed_model.specs.declared.state.State.TheVariants.{Staged, Broken, Active}
 use Rattle.feed_model.specs.Change.{changed, new_record}
 use Rattle.feed_parts.specs.Shown.{shown_parts}
 use Rattle.feed_keep.specs.Arranged.{lengthened, ordered}
-use Rattle.feed_keep.specs.Shown.{shown}
+use Rattle.feed_keep.specs.Shown.{shown, shown_change}
 use Rattle.feed_keep.proofs.Arranged.{insert_ordered, changed_ordered, active_ordered}
 use Rattle.feed_keep.proofs.Order.{either_in_order, insert_in_order, lengthened_in_order, without_in_order}
 use Rattle.feed_keep.proofs.list_keep.ListKeepKeep.commit.Goals.{in-Add, in-Pieces, in-Break, in-Activate}
@@ -26,6 +32,11 @@ returns-in-Ok-clause-made c = λ _.
           let made = rw (sym w.done-is ∙ c.in-Ok.is) at w.activate-done.ensures.ok in
           rw (w.self-is, w.in-Activate.is) (ap ordered made ∙ active_ordered w.in-Activate.name.now (shown_parts w.in-Activate.parts.now) Active old)
     ]
+
+pub returns-in-Ok-clause-listed : goal.returns-in-Ok-clause-listed
+returns-in-Ok-clause-listed c = λ _. ∥∥₁_map (c.requires.listed tt) (λ (distinct : IsListed c.args.self.now).
+    subst (λ (kept : Content). IsDistinct name_eq (names kept)) (sym (returns-in-Ok-clause-made c tt))
+    (distinct_after (shown_change c.args.change.now) (content_of_list c.args.self.now) (c.requires.allowed tt) distinct))
 
 pub invariant_of-self : goal.invariant_of-self
 invariant_of-self c = record {

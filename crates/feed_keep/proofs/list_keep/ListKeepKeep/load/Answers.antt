@@ -1,4 +1,5 @@
 use Rattle.std.proofs.Common.{◌≡◌, List, true, false, sym, ◌∙◌, ap, subst}
+use Rattle.std.proofs.Math.Logic.{∥∥₁_elim}
 use Rattle.std.specs.List.{IsDistinct}
 use Rattle.feed_names.specs.ReleaseName.{name_eq}
 use Rattle.feed_model.specs.Content.{Content, names}
@@ -11,9 +12,15 @@ use Rattle.feed_keep.proofs.Order.{ordered_in_order}
 use Rattle.feed_keep.proofs.list_keep.ListKeepKeep.load.Goals as goal
 
 pub returns-then-has_twice-clause-damaged : goal.returns-then-has_twice-clause-damaged
-returns-then-has_twice-clause-damaged c = λ _ _ distinct.
+returns-then-has_twice-clause-damaged c = λ _ _ listed. ∥∥₁_elim listed (λ x y. absurd x) (λ distinct.
     let apart = subst (λ (rs : List code.Record). IsDistinct name_eq (names (shown rs))) (sym c.deref.ensures.value) (distinct_before (shown c.args.self.now.records.items) distinct) in
-    absurd (let e : true ≡ false = sym c.if-has_twice.true ∙ c.has_twice.ensures.1 apart in cc)
+    absurd (let e : true ≡ false = sym c.if-has_twice.true ∙ c.has_twice.ensures.1 apart in cc))
+
+pub returns-in-Ok-clause-listed : goal.returns-in-Ok-clause-listed
+returns-in-Ok-clause-listed c = λ _.
+    let rs = c.args.self.now.records.items in
+    let apart = subst (λ (rs : List code.Record). IsDistinct name_eq (names (shown rs))) c.deref.ensures.value (c.has_twice.ensures.0 c.if-has_twice.false) in
+    ∣ distinct_ordered (shown rs) apart ∣₁
 
 pub returns-in-Ok-clause-distinct : goal.returns-in-Ok-clause-distinct
 returns-in-Ok-clause-distinct c =
