@@ -24,6 +24,6 @@ abbrev pub shown_arrived : Result code_event.Event why.Why → Result Event why.
 shown_arrived (Ok event) = Ok (told event)
 shown_arrived (Err why) = Err why
 
--- why a node does not start, but for want of memory: its device failed, or its keeper is not empty where it is clean
-abbrev pub IsStartRefused : Type 0 → Type 0 → Content → Type 0
-IsStartRefused failed clean content = failed ⊎ (clean → content ≢ [])
+-- why a node does not start, but for want of memory: its device failed; or, where its keeper is clean and holds a list of records, there are some
+abbrev pub IsStartRefused : Type 0 → Type 0 → Type 0 → Content → Type 0
+IsStartRefused failed clean listed content = failed ⊎ (clean → listed → content ≢ [])

@@ -12,10 +12,10 @@ abbrev pub IsSlotClean : {K : Type 0} {k : Ghosts K} → (K → Type 0) → Slot
 IsSlotClean clean (Up feed) = clean (keeper_of feed)
 IsSlotClean clean (Down keeper) = clean keeper
 
--- a feed is up, and its releases are a content of the history; a keeper is down, and its content is one
-abbrev pub SlotStands : {K : Type 0} {k : Ghosts K} → (K → Content) → Slot K k → Bool → History → Type 0
-SlotStands content (Up feed) up h = (up ≡ true) × IsContent (recorded feed) h
-SlotStands content (Down keeper) up h = (up ≡ false) × IsContent (content keeper) h
+-- a feed is up, and its releases are a content of the history; a keeper is down, its content is one, and it holds a list of records
+abbrev pub SlotStands : {K : Type 0} {k : Ghosts K} → (K → Content) → (K → Type 0) → Slot K k → Bool → History → Type 0
+SlotStands content listed (Up feed) up h = (up ≡ true) × IsContent (recorded feed) h
+SlotStands content listed (Down keeper) up h = (up ≡ false) × IsContent (content keeper) h × ∥ listed keeper ∥₁
 
 -- how often the device of its keeper has failed
 abbrev pub slot_failed : {K : Type 0} {k : Ghosts K} → (K → ℕ) → Slot K k → ℕ

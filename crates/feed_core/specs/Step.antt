@@ -1,5 +1,6 @@
 -- What a step makes of the nodes and files of the code, and what it shows of those of a world.
-use Rattle.std.specs.Prelude.{◌≡◌, ◌<◌, ◌≤◌, ◌⊎◌, ℕ, Bool, true, false, length, Result, Ok, Err, List, [], ◌∷◌, option_map, slice_get, suc, slice_set, slice_index_or, Option, Some}
+use Rattle.std.specs.Prelude.{◌≡◌, ◌<◌, ◌≤◌, ◌⊎◌, ℕ, Bool, true, false, length, Result, Ok, Err, List}
+use Rattle.std.specs.Prelude.{[], ◌∷◌, option_map, slice_get, suc, slice_set, slice_index_or, Option, Some}
 use Rattle.std.specs.Borrow.{Bor}
 use Rattle.std.specs.Map.{lookup}
 use Rattle.std.specs.BTreeMap.{is_at}
@@ -107,7 +108,7 @@ AreKept content (k ∷ ks) [] = ⊥
 
 -- the node that did not start, counted from 1: its device failed, or its keeper was not empty; the keeper comes back with its content, was clean if it is, and its count of failures did
 -- not fall
-pub record IsNoStart {K : Type 0} (clean : K → Type 0) (content : K → Content) (failed : K → ℕ) (keepers : List K) (node : ℕ) (keeper : K) : Type 0 where
+pub record IsNoStart {K : Type 0} (clean : K → Type 0) (content : K → Content) (listed : K → Type 0) (failed : K → ℕ) (keepers : List K) (node : ℕ) (keeper : K) : Type 0 where
   pub before : K
   pub at : ℕ
   pub number : node ≡ suc at
@@ -115,10 +116,10 @@ pub record IsNoStart {K : Type 0} (clean : K → Type 0) (content : K → Conten
   pub kept : clean keeper → content keeper ≡ content before
   pub was_clean : clean keeper → clean before
   pub rises : failed before ≤ failed keeper
-  pub refused : IsStartRefused (HasFailed (failed before) (failed keeper)) (clean keeper) (content before)
+  pub refused : IsStartRefused (HasFailed (failed before) (failed keeper)) (clean keeper) ∥ listed before ∥₁ (content before)
 
 -- what a fault of a replay says of the keepers
-abbrev pub IsStart : {K : Type 0} → (K → Type 0) → (K → Content) → (K → ℕ) → List K → ReplayFault K → Type 0
-IsStart clean content failed keepers (faults.Start node keeper) = IsNoStart clean content failed keepers node keeper
-IsStart clean content failed keepers faults.Memory = Unit {0}
-IsStart clean content failed keepers faults.Nodes = Unit {0}
+abbrev pub IsStart : {K : Type 0} → (K → Type 0) → (K → Content) → (K → Type 0) → (K → ℕ) → List K → ReplayFault K → Type 0
+IsStart clean content listed failed keepers (faults.Start node keeper) = IsNoStart clean content listed failed keepers node keeper
+IsStart clean content listed failed keepers faults.Memory = Unit {0}
+IsStart clean content listed failed keepers faults.Nodes = Unit {0}

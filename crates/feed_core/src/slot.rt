@@ -32,11 +32,11 @@ pub enum Slot<K: Keep + Drop> {
 impl<K: Keep + Drop> Slot<K> {
     /// A node on a keeper that holds nothing. A keeper that holds something is handed back.
     pub fn start(alloc: Global, keeper: K) -> Result<Slot<K>, OpenFault<K>>
-        ensures ok { IfOk result (λ s. SlotStands K.content s true []) }
+        ensures ok { IfOk result (λ s. SlotStands K.content K.listed s true []) }
         ensures counted { IfOk result (λ s. K.failed keeper ≤ slot_failed K.failed s) }
         ensures err { IfErr result (λ fault. fault.cause ≢ KeepFault.Memory
             → IsStartRefused (HasFailed (K.failed keeper) (K.failed fault.keeper)) (K.clean fault.keeper)
-            (K.content keeper)) }
+            ∥ K.listed keeper ∥₁ (K.content keeper)) }
         ensures kept { IfErr result (λ fault. K.clean fault.keeper → K.content fault.keeper ≡ K.content keeper) }
         ensures kept_clean { IfErr result (λ fault. K.clean fault.keeper → K.clean keeper) }
         ensures rises { IfErr result (λ fault. K.failed keeper ≤ K.failed fault.keeper) }
@@ -59,8 +59,8 @@ impl<K: Keep + Drop> Slot<K> {
     /// The keeper of the node, up or down.
     pub fn into_keeper(self) -> K
         ensures clean { K.clean result → IsSlotClean K.clean self }
-        ensures content { K.clean result → (up : Bool) (h : History) → SlotStands K.content self up h
-            → IsContent (K.content result) h }
+        ensures content { K.clean result → (up : Bool) (h : History) → SlotStands K.content K.listed self up h
+            → IsContent (K.content result) h × ∥ K.listed result ∥₁ }
         ensures failed { K.failed result ≡ slot_failed K.failed self }
     {
         match self {
@@ -74,7 +74,7 @@ impl<K: Keep + Drop> Slot<K> {
 fn opened<K: Keep + Drop>(alloc: Global, keeper: K) -> (Slot<K>, Result<(), KeepFault>)
     ensures clean { IsSlotClean K.clean result.0 → K.clean keeper }
     ensures same { (h : History) → IsSlotClean K.clean result.0 → IsContent (K.content keeper) h
-        → Comes (SlotStands K.content result.0) h result.1 }
+        → ∥ K.listed keeper ∥₁ → Comes (SlotStands K.content K.listed result.0) h result.1 }
     ensures device { IsCounted (result.1 ≡ Err KeepFault.Device) (K.failed keeper) (slot_failed K.failed result.0) }
 {
     match Feed::open(alloc, keeper) {
@@ -86,7 +86,7 @@ fn opened<K: Keep + Drop>(alloc: Global, keeper: K) -> (Slot<K>, Result<(), Keep
 impl<K: Keep + Drop> Node for Slot<K> {
     ghost clean = { IsSlotClean K.clean };
 
-    ghost stands = { SlotStands K.content };
+    ghost stands = { SlotStands K.content K.listed };
 
     ghost failed = { slot_failed K.failed };
 

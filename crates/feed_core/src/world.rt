@@ -53,7 +53,7 @@ pub fn replay<K: Keep + Drop>(
     ensures device { IfOk result (λ t. AreCounted (IsToldOf (map shown_event events.now)
         (map shown_line (lines_of t))) K.failed K.failed 1 keepers.items (keepers_of t)) }
     ensures nodes { ((vec_len keepers ≡ 0) ⊎ (16 < vec_len keepers)) ↔ IsErrOf result ReplayFault.Nodes }
-    ensures start { IfErr result (λ fault. IsStart K.clean K.content K.failed keepers.items fault) }
+    ensures start { IfErr result (λ fault. IsStart K.clean K.content K.listed K.failed keepers.items fault) }
 {
     if keepers.is_empty() || keepers.len() > NODE_LIMIT {
         return Err(ReplayFault::Nodes);
@@ -71,12 +71,12 @@ pub fn replay<K: Keep + Drop>(
 // Nodes on keepers that hold nothing.
 fn start_all<K: Keep + Drop>(alloc: Global, keepers: Vec<K>) -> Result<Vec<Slot<K>>, ReplayFault<K>>
     ensures count { IfOk result (λ nodes. length nodes.items ≡ vec_len keepers) }
-    ensures started { IfOk result (λ nodes. AreNodes (SlotStands K.content) nodes.items
+    ensures started { IfOk result (λ nodes. AreNodes (SlotStands K.content K.listed) nodes.items
         (start (length nodes.items)).nodes) }
     ensures counted { IfOk result (λ nodes. AreCounted (λ _. ⊥) K.failed
         (slot_failed K.failed) 1 keepers.items nodes.items) }
     ensures nodes { ¬ (IsErrOf result ReplayFault.Nodes) }
-    ensures start { IfErr result (λ fault. IsStart K.clean K.content K.failed keepers.items fault) }
+    ensures start { IfErr result (λ fault. IsStart K.clean K.content K.listed K.failed keepers.items fault) }
 {
     let Ok(mut nodes) = Vec::with_capacity(alloc, keepers.len()) else {
         return Err(ReplayFault::Memory);
@@ -113,8 +113,8 @@ fn keepers_back<K: Keep + Drop>(room: Vec<K>, nodes: Vec<Slot<K>>) -> Vec<K>
     requires empty { room.items ≡ [] }
     requires room { vec_len nodes ≤ vec_capacity room }
     ensures clean { AllClean K.clean result.items → AllClean (IsSlotClean K.clean) nodes.items }
-    ensures kept { AllClean K.clean result.items → (w : World) → AreNodes (SlotStands K.content) nodes.items w.nodes
-        → AreKept K.content result.items w.nodes }
+    ensures kept { AllClean K.clean result.items → (w : World)
+        → AreNodes (SlotStands K.content K.listed) nodes.items w.nodes → AreKept K.content result.items w.nodes }
     ensures counted { AreCounted (λ _. ⊥) (slot_failed K.failed) K.failed 1 nodes.items result.items }
 {
     let mut keepers = room;
@@ -159,8 +159,8 @@ fn show<'a, N: Node + Drop>(
     nodes: &mut Vec<N>,
     event: &'a WorldEvent,
 ) -> Result<Line, AllocError>
-    ensures step { IfOk result
-        (λ line. GoesTo N.clean N.stands shelf.old.files.entries shelf.new.files.entries nodes.old.items nodes.new.items
+    ensures step { IfOk result (λ line. GoesTo N.clean N.stands
+        shelf.old.files.entries shelf.new.files.entries nodes.old.items nodes.new.items
         (shown_event event.now) (shown_line line)) }
     ensures device { IfOk result (λ line. AreCounted (λ i. (node_of (shown_event event.now) ≡ Some i)
         × TellsDevice (shown_line line)) N.failed N.failed 1 nodes.old.items nodes.new.items) }

@@ -1,5 +1,7 @@
 //! A piece beside the parts that are kept.
-ghost use Rattle.std.specs.Prelude.{◌≡◌, ◌+◌, ◌-◌, ◌<◌, ◌≤◌, ◌^◌, ◌++◌, ℕ, [], ◌∷◌, ◌↔◌};
+ghost use Rattle.std.specs.Prelude.{◌≡◌, ◌+◌, ◌-◌, ◌<◌, ◌≤◌, ◌^◌};
+ghost use Rattle.std.specs.Prelude.{◌++◌, ℕ, [], ◌∷◌, ◌↔◌};
+ghost use Rattle.std.specs.Prelude.{};
 ghost use Rattle.std.specs.Prelude.{false, length, vec_len, All};
 ghost use Rattle.std.specs.Prelude.{IsSome, IsTrue, IfOk, OnOk};
 ghost use Rattle.feed_model.specs.Reply.{max_piece, missing_below};

@@ -10,7 +10,7 @@ push_reserved-requires g c =
     omega (
       arith,
       went_count (IsKeptOf (IsSlotClean g.K.Keep.clean)
-          (SlotStands g.K.Keep.content) g.K.Keep.clean g.K.Keep.content) c.args.nodes.items c.loop-node.node-iterator.rest.items c.loop-node.keepers.items c.loop-node.invariant.so,
+          (SlotStands g.K.Keep.content g.K.Keep.listed) g.K.Keep.clean g.K.Keep.content) c.args.nodes.items c.loop-node.node-iterator.rest.items c.loop-node.keepers.items c.loop-node.invariant.so,
       ap
           (λ xs. length xs) c.in-Some.ensures.steps.0,
       c.loop-node.invariant.room,
@@ -21,9 +21,9 @@ push_reserved-requires g c =
 pub loop-node-preserved : goal.loop-node-preserved
 loop-node-preserved g c = record {
   so = went_next (IsKeptOf (IsSlotClean g.K.Keep.clean)
-      (SlotStands g.K.Keep.content) g.K.Keep.clean g.K.Keep.content) c.args.nodes.items c.loop-node.node-iterator.rest.items c.next.new.self.rest.items c.loop-node.keepers.items
+      (SlotStands g.K.Keep.content g.K.Keep.listed) g.K.Keep.clean g.K.Keep.content) c.args.nodes.items c.loop-node.node-iterator.rest.items c.next.new.self.rest.items c.loop-node.keepers.items
       c.push_reserved.new.self.items c.in-Some.node c.into_keeper.result c.loop-node.invariant.so c.in-Some.ensures.steps.0
-      (c.into_keeper.ensures.clean, c.into_keeper.ensures.content) c.push_reserved.ensures.items;
+      (c.into_keeper.ensures.clean, λ clean up h stood. (c.into_keeper.ensures.content clean up h stood).0) c.push_reserved.ensures.items;
   counts = went_next (λ s k. slot_failed g.K.Keep.failed s ≤ g.K.Keep.failed k) c.args.nodes.items c.loop-node.node-iterator.rest.items c.next.new.self.rest.items c.loop-node.keepers.items
       c.push_reserved.new.self.items c.in-Some.node c.into_keeper.result c.loop-node.invariant.counts c.in-Some.ensures.steps.0
       (omega (arith, c.into_keeper.ensures.failed)) c.push_reserved.ensures.items;
@@ -32,16 +32,16 @@ loop-node-preserved g c = record {
 
 pub returns-clause-clean : goal.returns-clause-clean
 returns-clause-clean g c =
-    λ all. kept_clean (IsSlotClean g.K.Keep.clean) (SlotStands g.K.Keep.content) g.K.Keep.clean g.K.Keep.content c.args.nodes.items c.loop-node.keepers.items
+    λ all. kept_clean (IsSlotClean g.K.Keep.clean) (SlotStands g.K.Keep.content g.K.Keep.listed) g.K.Keep.clean g.K.Keep.content c.args.nodes.items c.loop-node.keepers.items
     (went_all (IsKeptOf (IsSlotClean g.K.Keep.clean)
-    (SlotStands g.K.Keep.content) g.K.Keep.clean g.K.Keep.content) c.args.nodes.items c.loop-node.node-iterator.rest.items c.loop-node.keepers.items c.loop-node.invariant.so
+    (SlotStands g.K.Keep.content g.K.Keep.listed) g.K.Keep.clean g.K.Keep.content) c.args.nodes.items c.loop-node.node-iterator.rest.items c.loop-node.keepers.items c.loop-node.invariant.so
     (nil_from_length c.loop-node.node-iterator.rest.items (omega (arith, c.loop-node.node-iterator.rest.ok.0, c.in-None.ensures.steps.0)))) all
 
 pub returns-clause-kept : goal.returns-clause-kept
 returns-clause-kept g c =
-    λ all w n. kept_all (IsSlotClean g.K.Keep.clean) (SlotStands g.K.Keep.content) g.K.Keep.clean g.K.Keep.content c.args.nodes.items c.loop-node.keepers.items w.nodes
+    λ all w n. kept_all (IsSlotClean g.K.Keep.clean) (SlotStands g.K.Keep.content g.K.Keep.listed) g.K.Keep.clean g.K.Keep.content c.args.nodes.items c.loop-node.keepers.items w.nodes
     (went_all (IsKeptOf (IsSlotClean g.K.Keep.clean)
-    (SlotStands g.K.Keep.content) g.K.Keep.clean g.K.Keep.content) c.args.nodes.items c.loop-node.node-iterator.rest.items c.loop-node.keepers.items c.loop-node.invariant.so
+    (SlotStands g.K.Keep.content g.K.Keep.listed) g.K.Keep.clean g.K.Keep.content) c.args.nodes.items c.loop-node.node-iterator.rest.items c.loop-node.keepers.items c.loop-node.invariant.so
     (nil_from_length c.loop-node.node-iterator.rest.items (omega (arith, c.loop-node.node-iterator.rest.ok.0, c.in-None.ensures.steps.0)))) all n
 
 pub returns-clause-counted : goal.returns-clause-counted

@@ -10,7 +10,9 @@ pub loop-keeper-preserved : goal.loop-keeper-preserved
 loop-keeper-preserved g c = record {
   so = went_next (λ k s. g.K.Keep.failed k ≤ slot_failed g.K.Keep.failed s) c.args.keepers.items c.loop-keeper.keeper-iterator.rest.items c.next.new.self.rest.items c.loop-keeper.nodes.items
       c.push.new.self.items c.in-Some.keeper c.in-Ok-start.slot c.loop-keeper.invariant.so c.in-Some.ensures.steps.0 c.in-Ok-start.ensures.counted c.in-Ok-push.ensures.items;
-  stood = start_more (SlotStands g.K.Keep.content) c.loop-keeper.nodes.items c.push.new.self.items c.in-Ok-start.slot c.in-Ok-push.ensures.items c.loop-keeper.invariant.stood c.in-Ok-start.ensures.ok;
+  stood = start_more
+      (SlotStands g.K.Keep.content g.K.Keep.listed) c.loop-keeper.nodes.items c.push.new.self.items c.in-Ok-start.slot c.in-Ok-push.ensures.items
+      c.loop-keeper.invariant.stood c.in-Ok-start.ensures.ok;
 }
 
 pub returns-in-Err-clause-start : goal.returns-in-Err-clause-start

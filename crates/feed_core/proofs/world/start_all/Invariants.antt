@@ -9,5 +9,5 @@ use Rattle.feed_core.proofs.world.start_all.Given as goal
 abbrev pub invariant-loop-keeper : goal.invariant-loop-keeper
 invariant-loop-keeper g l = record {
   so : Went (λ k s. g.K.Keep.failed k ≤ slot_failed g.K.Keep.failed s) l.fn.keepers.items l.keeper-iterator.rest.items l.nodes.items;
-  stood : AreNodes (SlotStands g.K.Keep.content) l.nodes.items (start (length l.nodes.items)).nodes;
+  stood : AreNodes (SlotStands g.K.Keep.content g.K.Keep.listed) l.nodes.items (start (length l.nodes.items)).nodes;
 }
