@@ -7,13 +7,17 @@ use std::alloc::Global;
 pub enum Request<'a> {
     Replay,
     Check { file: &'a str },
+    Answer { file: &'a str, query: &'a str },
 }
+
+const VERSION: &str = "0.1.0";
 
 const REPLAY_HELP: &str = "Reads a script from standard input and prints its transcript.
 
 A script is a line for each event. The first is `nodes N`, N from 1 to 16. Then, for nodes numbered from 1:
 
   publish NAME TEXT             a file is published; \\t \\n \\r \\\\ and \\xHH in TEXT
+  publish-file NAME PATH        the same with the bytes of a file, as they are
   offer NODE NAME               a node is offered a published release
   deliver NODE NAME FIRST LEN   a node is given bytes of the published file, from place FIRST on
   lose NODE NAME                a piece does not come
@@ -40,6 +44,18 @@ reason. A FILE that begins with - stands behind --, as in `kbfeed check -- -x_20
 The status is 0 for a good file, 1 for a bad one, one that is too long and a name that is none, 2 for a wrong command
 line, and 3 for a failing device or want of memory.";
 
+const ANSWER_HELP: &str =
+    "Reads a holdings list (KBART, NISO RP-9-2014), and prints what a node that has this release answers an OpenURL query.
+
+The last part of FILE is a release name, as Acme_Global_All_2024-01-01.txt. QUERY is the query of an OpenURL 1.0 of at
+most 4,096 bytes, as rft.issn=2434561x&rft.date=1996&rft.volume=3. The first line has the release and the number of
+hits. A line for each row that matches has the number of its record, its grade (inside, overlap or untested), title,
+URL, title id, coverage depth, embargo and access type, with a tab between each two.
+
+The first fault is told of the query, of the file's name, and of the file. The status is 0 for an answer, also one
+without hits, 1 for a query or a name that is none, a bad file and one that is too long, 2 for a wrong command line, and
+3 for a failing device or want of memory.";
+
 /// Reads the words of the command line, the program's name first.
 pub fn read<'a>(alloc: Global, words: &'a [String]) -> Result<Request<'a>, Error> {
     let replay = Command::new(alloc, "replay")
@@ -52,11 +68,24 @@ pub fn read<'a>(alloc: Global, words: &'a [String]) -> Result<Request<'a>, Error
         .about("Checks a holdings list")
         .long_about(CHECK_HELP)
         .arg(file)?;
+    let list = Arg::new(alloc, "FILE")
+        .required(true)
+        .help("The path of the file");
+    let query = Arg::new(alloc, "QUERY")
+        .required(true)
+        .help("The query of an OpenURL, as rft.issn=2434561x");
+    let answer = Command::new(alloc, "answer")
+        .about("Answers a query from a holdings list")
+        .long_about(ANSWER_HELP)
+        .arg(list)?
+        .arg(query)?;
     let command = Command::new(alloc, "kbfeed")
         .about("A feed of journal holdings lists for OpenURL link resolvers")
+        .version(VERSION)
         .subcommand_required(true)
         .subcommand(replay)?
-        .subcommand(check)?;
+        .subcommand(check)?
+        .subcommand(answer)?;
     let matches = command.try_get_matches_from(words)?;
     Ok(request_of(&matches))
 }
@@ -65,6 +94,10 @@ fn request_of<'a>(matches: &ArgMatches<'a>) -> Request<'a> {
     match matches.subcommand() {
         Some(("check", check)) => Request::Check {
             file: check.get_str("FILE").unwrap_or(""),
+        },
+        Some(("answer", answer)) => Request::Answer {
+            file: answer.get_str("FILE").unwrap_or(""),
+            query: answer.get_str("QUERY").unwrap_or(""),
         },
         _ => Request::Replay,
     }

@@ -1,14 +1,18 @@
 //! kbfeed: a feed of journal holdings lists (KBART files) for a fleet of OpenURL link resolvers.
 #![tactic(auto)]
 
+mod answer_command;
 mod check_command;
 mod command_line;
+mod files;
+mod input;
 mod replay_command;
 mod script;
 mod status;
 
 use clap::error::ErrorKind;
 use command_line::Request;
+use files::Disk;
 use status::{FAILED, MISUSED, fault_told, printed};
 use std::fs::File;
 use std::io;
@@ -31,6 +35,7 @@ fn status_of(rt: &HostRuntime) -> u8 {
     match command_line::read(rt.alloc(), words.as_slice()) {
         Ok(Request::Replay) => replay(rt),
         Ok(Request::Check { file }) => check(rt, file),
+        Ok(Request::Answer { file, query }) => answer(rt, file, query),
         Err(error) if error.kind() == ErrorKind::OutOfMemory => memory_told(rt),
         Err(error) => printed(error.print(rt), error.exit_code() as u8),
     }
@@ -50,19 +55,51 @@ fn replay(rt: &HostRuntime) -> u8 {
     let Ok(mut out) = BufWriter::new(alloc, io::writer(rt)) else {
         return memory_told(rt);
     };
-    replay_command::replay_on(alloc, &mut rt.reader(), &mut out, &mut rt.stderr())
+    let mut files = Disk { rt };
+    replay_command::replay_on(
+        alloc,
+        &mut rt.reader(),
+        &mut files,
+        &mut out,
+        &mut rt.stderr(),
+    )
 }
 
 fn check(rt: &HostRuntime, path: &str) -> u8 {
     let alloc = rt.alloc();
-    let file = match File::open(rt, path) {
+    let file = match opened(rt, path) {
         Ok(file) => file,
-        Err(fault) if fault.kind() == io::ErrorKind::OutOfMemory => return memory_told(rt),
-        Err(_) => return fault_told(&mut rt.stderr(), "Read", FAILED),
+        Err(status) => return status,
     };
     let Ok(mut out) = BufWriter::new(alloc, io::writer(rt)) else {
         return memory_told(rt);
     };
     let name = check_command::file_name(path.as_bytes());
     check_command::check_on(alloc, name, file, &mut out, &mut rt.stderr())
+}
+
+fn answer(rt: &HostRuntime, path: &str, query: &str) -> u8 {
+    let alloc = rt.alloc();
+    let name = check_command::file_name(path.as_bytes());
+    let asked = match answer_command::read_asked(alloc, name, query.as_bytes(), &mut rt.stderr()) {
+        Ok(asked) => asked,
+        Err(status) => return status,
+    };
+    let file = match opened(rt, path) {
+        Ok(file) => file,
+        Err(status) => return status,
+    };
+    let Ok(mut out) = BufWriter::new(alloc, io::writer(rt)) else {
+        return memory_told(rt);
+    };
+    answer_command::answer_on(alloc, &asked, file, &mut out, &mut rt.stderr())
+}
+
+// The file at a path, or the exit status where it does not open, which is told.
+fn opened(rt: &HostRuntime, path: &str) -> Result<File, u8> {
+    match File::open(rt, path) {
+        Ok(file) => Ok(file),
+        Err(fault) if fault.kind() == io::ErrorKind::OutOfMemory => Err(memory_told(rt)),
+        Err(_) => Err(fault_told(&mut rt.stderr(), "Read", FAILED)),
+    }
 }

@@ -39,6 +39,9 @@ pub enum LineFault {
     /// A `\` that begins no escape.
     #[error("bad text")]
     BadText,
+    /// A path that does not open, or a file that does not read or is longer than a file may be.
+    #[error("bad file")]
+    BadFile,
     #[error("Memory")]
     Memory,
 }
@@ -75,12 +78,18 @@ fn fault_at(line: usize, fault: LineFault) -> ScriptFault {
     }
 }
 
+/// The files that a script names by their paths.
+pub trait Files {
+    /// The bytes of the file at a path, at most `FILE_LIMIT` of them; else `BadFile`, or `Memory`.
+    fn bytes_of(&mut self, alloc: Global, path: &[u8]) -> Result<Vec<u8>, LineFault>;
+}
+
 /// Reads a script of at most `SCRIPT_LIMIT` bytes and 100,000 lines.
-pub fn read(alloc: Global, script: &[u8]) -> Result<Script, ScriptFault> {
+pub fn read<P: Files>(alloc: Global, script: &[u8], files: &mut P) -> Result<Script, ScriptFault> {
     if script.len() > SCRIPT_LIMIT {
         return Err(ScriptFault::TooLong);
     }
-    match read_lines(alloc, script) {
+    match read_lines(alloc, script, files) {
         Ok(script) => Ok(script),
         // A script of too many lines is too long, whatever stands in the first ones.
         Err(_) if line_count(script) > LINE_LIMIT => Err(ScriptFault::TooLong),
@@ -88,7 +97,11 @@ pub fn read(alloc: Global, script: &[u8]) -> Result<Script, ScriptFault> {
     }
 }
 
-fn read_lines(alloc: Global, script: &[u8]) -> Result<Script, ScriptFault> {
+fn read_lines<P: Files>(
+    alloc: Global,
+    script: &[u8],
+    files: &mut P,
+) -> Result<Script, ScriptFault> {
     let mut nodes = None;
     let mut events = Vec::new(alloc);
     let mut rest = Some(script);
@@ -103,7 +116,7 @@ fn read_lines(alloc: Global, script: &[u8]) -> Result<Script, ScriptFault> {
         }
         let read = match nodes {
             None => read_nodes(line).map(|count| nodes = Some(count)),
-            Some(_) => push_event(alloc, &mut events, line),
+            Some(_) => push_event(alloc, &mut events, line, files),
         };
         if let Err(fault) = read {
             return Err(fault_at(before + 1, fault));
@@ -144,17 +157,27 @@ fn read_nodes(line: &[u8]) -> Result<usize, LineFault> {
     }
 }
 
-fn push_event(alloc: Global, events: &mut Vec<WorldEvent>, line: &[u8]) -> Result<(), LineFault> {
-    let event = read_event(alloc, line)?;
+fn push_event<P: Files>(
+    alloc: Global,
+    events: &mut Vec<WorldEvent>,
+    line: &[u8],
+    files: &mut P,
+) -> Result<(), LineFault> {
+    let event = read_event(alloc, line, files)?;
     events.push(event)?;
     Ok(())
 }
 
-fn read_event(alloc: Global, line: &[u8]) -> Result<WorldEvent, LineFault> {
+fn read_event<P: Files>(
+    alloc: Global,
+    line: &[u8],
+    files: &mut P,
+) -> Result<WorldEvent, LineFault> {
     let (command, rest) = split_word(line);
     let words = Words { rest };
     match command {
         b"publish" => read_publish(alloc, words),
+        b"publish-file" => read_publish_file(alloc, words, files),
         b"offer" => read_offer(alloc, words),
         b"deliver" => read_deliver(alloc, words),
         b"lose" => read_lose(alloc, words),
@@ -173,6 +196,22 @@ fn read_publish(alloc: Global, mut words: Words<'_>) -> Result<WorldEvent, LineF
     let text = words.text();
     let name = read_name(alloc, name)?;
     let bytes = unescaped(alloc, text)?;
+    Ok(WorldEvent::Publish { name, bytes })
+}
+
+// `NAME PATH`
+fn read_publish_file<P: Files>(
+    alloc: Global,
+    mut words: Words<'_>,
+    files: &mut P,
+) -> Result<WorldEvent, LineFault> {
+    let name = words.word()?;
+    let path = words.text();
+    if path.is_empty() {
+        return Err(LineFault::WrongWords);
+    }
+    let name = read_name(alloc, name)?;
+    let bytes = files.bytes_of(alloc, path)?;
     Ok(WorldEvent::Publish { name, bytes })
 }
 

@@ -1,0 +1,32 @@
+//! The bytes of an input.
+use std::alloc::Global;
+use std::io::Read;
+
+/// Why an input gives no bytes.
+#[derive(Clone, Copy, Debug, PartialEq, Eq)]
+pub enum InputFault {
+    Read,
+    Memory,
+}
+
+/// The bytes of an input, up to one past a limit or a few more.
+pub fn read_up_to<R: Read>(
+    alloc: Global,
+    input: &mut R,
+    limit: usize,
+) -> Result<Vec<u8>, InputFault> {
+    let mut bytes = Vec::new(alloc);
+    let mut block = [0u8; 65_536];
+    for _ in 0..=limit {
+        let Ok(count) = input.read(&mut block) else {
+            return Err(InputFault::Read);
+        };
+        if count == 0 || bytes.len() > limit {
+            break;
+        }
+        let Ok(()) = bytes.extend_from_slice(&block[..count]) else {
+            return Err(InputFault::Memory);
+        };
+    }
+    Ok(bytes)
+}
