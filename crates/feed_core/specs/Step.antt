@@ -16,7 +16,7 @@ use Rattle.feed_core.specs.declared.world.ReplayFault.{ReplayFault}
 use Rattle.feed_core.specs.declared.world.ReplayFault.TheVariants as faults
 use Rattle.feed_world.specs.declared.line.Why as why
 use Rattle.feed_world.specs.declared.line.Why.TheVariants as whys
-use Rattle.feed_world.specs.World.{World, Node, WorldEvent, Sent, Line, Shelf, Happens, Shows, arriving, start, text_of}
+use Rattle.feed_world.specs.World.{World, Node, WorldEvent, Sent, Line, Shelf, Happens, Shows, arriving, start, file_on}
 
 -- the content of each keeper is promised
 abbrev pub AllClean : {M : Type 0} → (M → Type 0) → List M → Type 0
@@ -84,7 +84,7 @@ file_at files key = option_map (λ f. f.now) (lookup (is_at (λ k. slice_cmp nat
 
 -- the files of the code are those of the shelf, found by the texts of their names
 abbrev pub IsShelf : List (Bor (List ℕ) × Bor (List ℕ)) → Shelf → Type 0
-IsShelf files shelf = (n : Name) (key : Bor (List ℕ)) → IsName key.now n → text_of shelf n ≡ file_at files key
+IsShelf files shelf = (n : Name) (key : Bor (List ℕ)) → IsName key.now n → file_on shelf n ≡ file_at files key
 
 -- the same, where more may be published
 abbrev pub GoesTo : {M : Type 0} → (M → Type 0) → (M → Bool → History → Type 0) → List (Bor (List ℕ) × Bor (List ℕ)) → List (Bor (List ℕ) × Bor (List ℕ)) → List M

@@ -1,7 +1,7 @@
 //! The published files of a world.
 ghost use Rattle.std.specs.Prelude.{◌≡◌, ◌≢◌, ◌↔◌, [], Err, IfOk, IsTrue, option_map};
 ghost use Rattle.feed_world.specs.World.{World, Shelf as files, Publish, Offer, Deliver, Lose, Happens, arriving};
-ghost use Rattle.feed_world.specs.World.{text_of};
+ghost use Rattle.feed_world.specs.World.{file_on};
 ghost use Rattle.feed_world.specs.Shown.{shown_line, shown_sent};
 ghost use Rattle.feed_core.specs.Nodes.{shown_arrived};
 ghost use Rattle.feed_core.specs.Step.{IsShelf};
@@ -54,7 +54,7 @@ impl<'a> Shelf<'a> {
     // The file that is published under a name.
     fn file_of(&self, name: &'a ReleaseName) -> Option<&'a [u8]>
         ensures { (shelf : files) → IsShelf self.now.files.entries shelf
-            → text_of shelf name.now ≡ option_map (λ file. file.now) result }
+            → file_on shelf name.now ≡ option_map (λ file. file.now) result }
     {
         match self.files.get(&name.text()) {
             Some(file) => Some(*file),

@@ -6,7 +6,7 @@ use Rattle.feed_world.specs.declared.line.Why.TheVariants as whys
 use Rattle.feed_names.specs.ReleaseName.{name_eq}
 use Rattle.feed_model.specs.History.{Event, Answer, History, or_else, Reports}
 use Rattle.feed_model.specs.Reply.{Case, IsRight, IsLegal}
-use Rattle.feed_world.specs.World.{World, Node, WorldEvent, Publish, Tell, Restart, StopBefore, StopAfter, Report, Ask, Line, Published, Stopped, Restarted, Shelf, text_of, node_at}
+use Rattle.feed_world.specs.World.{World, Node, WorldEvent, Publish, Tell, Restart, StopBefore, StopAfter, Report, Ask, Line, Published, Stopped, Restarted, Shelf, file_on, node_at}
 use Rattle.feed_world.specs.World.{set_node, with_node, start, arriving, IsRefused, Reopens, IsAsked, answer_line, report_line, Happens}
 use Rattle.feed_world.specs.Headline.{file_of, IsQuiet}
 use Rattle.feed_world.proofs.Slices.{none_some}
@@ -34,13 +34,13 @@ pub record ShelfMoves (w : World) (event : WorldEvent) (v : World) : Type 0 wher
   pub name : Name
   pub bytes : List ℕ
   pub is : event ≡ Publish name bytes
-  pub unknown : text_of w.shelf name ≡ None
+  pub unknown : file_on w.shelf name ≡ None
   pub world : v ≡ record { shelf = w.shelf ++ (name, bytes) ∷ []; nodes = w.nodes }
 
 -- nothing changes, and what is published was published
 pub record Stays (w : World) (event : WorldEvent) (v : World) : Type 0 where
   pub world : v ≡ w
-  pub known : (n : Name) (bytes : List ℕ) → event ≡ Publish n bytes → (file : List ℕ) × (text_of w.shelf n ≡ Some file)
+  pub known : (n : Name) (bytes : List ℕ) → event ≡ Publish n bytes → (file : List ℕ) × (file_on w.shelf n ≡ Some file)
 
 abbrev pub Moves : World → WorldEvent → World → Type 0
 Moves w event v = (Stays w event v) ⊎ ((ShelfMoves w event v) ⊎ (NodeMoves w event v))
@@ -72,17 +72,17 @@ stays_at w line v i Here f (inr r) = up r.2
     up (inr q) = f r.0 q.1
 
 pub moves : (w : World) (event : WorldEvent) (line : Line) (v : World) → Happens w event line v → Moves w event v
-moves w (Publish n bytes) line v h = by (text_of w.shelf n) refl h
+moves w (Publish n bytes) line v h = by (file_on w.shelf n) refl h
   where
     same : (file : List ℕ) → Case (file ≡ bytes) ((line ≡ Published) × (v ≡ w)) (IsRefused whys.Republished w line v) → v ≡ w
     same file (inl c) = c.1.1
     same file (inr c) = c.1.1
 
-    by : (o : Option (List ℕ)) → text_of w.shelf n ≡ o
+    by : (o : Option (List ℕ)) → file_on w.shelf n ≡ o
         → MatchOption o ((line ≡ Published) × (v ≡ record { shelf = w.shelf ++ (n, bytes) ∷ []; nodes = w.nodes }))
         (λ file. Case (file ≡ bytes) ((line ≡ Published) × (v ≡ w)) (IsRefused whys.Republished w line v)) → Moves w (Publish n bytes) v
     by None at c = inr (inl (record { name = n; bytes = bytes; is = refl; unknown = at; world = c.1 }))
-    by (Some file) at c = inl (record { world = same file c; known = λ m bs e. (let t : n ≡ m = cc in (file, subst (λ (z : Name). text_of w.shelf z ≡ Some file) t at)) })
+    by (Some file) at c = inl (record { world = same file c; known = λ m bs e. (let t : n ≡ m = cc in (file, subst (λ (z : Name). file_on w.shelf z ≡ Some file) t at)) })
 moves w (Tell i sent) line v h = by (sent_to i sent w line v Here h)
   where
     Here : Node → Event → Type 0
@@ -122,7 +122,7 @@ pub record IsSound (w : World) : Type 0 where
 
 -- a later world keeps the files, and what each node has
 pub record Grows (w v : World) : Type 0 where
-  pub files : (n : Name) (file : List ℕ) → text_of w.shelf n ≡ Some file → text_of v.shelf n ≡ Some file
+  pub files : (n : Name) (file : List ℕ) → file_on w.shelf n ≡ Some file → file_on v.shelf n ≡ Some file
   pub nodes : (i : ℕ) (x : Node) → node_at w.nodes i ≡ Some x → (y : Node) × (node_at v.nodes i ≡ Some y) × Keeps x.history y.history
 
 pub grows_all : (w : World) → Grows w w
@@ -134,12 +134,12 @@ grows_on u w v g h = record {
   nodes = λ i x e. (let y = g.nodes i x e in let z = h.nodes i y.0 y.1 in (z.0, z.1, keeps_on x.history y.0.history z.0.history y.2 z.2));
 }
 
-pub text_of-push : (shelf : Shelf) (m n : Name) (bytes : List ℕ) → text_of (shelf ++ (m, bytes) ∷ []) n ≡ or_else (text_of shelf n) (cond (name_eq m n) (Some bytes) None)
-text_of-push [] m n bytes = refl
-text_of-push (f ∷ fs) m n bytes = by (name_eq f.0 n) refl (text_of-push fs m n bytes)
+pub file_on-push : (shelf : Shelf) (m n : Name) (bytes : List ℕ) → file_on (shelf ++ (m, bytes) ∷ []) n ≡ or_else (file_on shelf n) (cond (name_eq m n) (Some bytes) None)
+file_on-push [] m n bytes = refl
+file_on-push (f ∷ fs) m n bytes = by (name_eq f.0 n) refl (file_on-push fs m n bytes)
   where
-    by : (b : Bool) → name_eq f.0 n ≡ b → text_of (fs ++ (m, bytes) ∷ []) n ≡ or_else (text_of fs n) (cond (name_eq m n) (Some bytes) None)
-        → text_of ((f ∷ fs) ++ (m, bytes) ∷ []) n ≡ or_else (text_of (f ∷ fs) n) (cond (name_eq m n) (Some bytes) None)
+    by : (b : Bool) → name_eq f.0 n ≡ b → file_on (fs ++ (m, bytes) ∷ []) n ≡ or_else (file_on fs n) (cond (name_eq m n) (Some bytes) None)
+        → file_on ((f ∷ fs) ++ (m, bytes) ∷ []) n ≡ or_else (file_on (f ∷ fs) n) (cond (name_eq m n) (Some bytes) None)
     by true t again = rw t refl
     by false t again = rw t again
 
@@ -147,11 +147,11 @@ pub or_none : {X : Type 0} (o : Option X) → or_else o None ≡ o
 or_none None = refl
 or_none (Some x) = refl
 
-stays_file : (w : World) (event : WorldEvent) (v : World) (n : Name) → Stays w event v → text_of w.shelf n ≡ None → file_of (event ∷ []) n ≡ None
+stays_file : (w : World) (event : WorldEvent) (v : World) (n : Name) → Stays w event v → file_on w.shelf n ≡ None → file_of (event ∷ []) n ≡ None
 stays_file w (Publish m bytes) v n s none = by (name_eq m n) refl
   where
     by : (b : Bool) → name_eq m n ≡ b → file_of (Publish m bytes ∷ []) n ≡ None
-    by true t = let f = s.known n bytes (ap (λ (z : Name). Publish z bytes) (name_is m n t)) in none_some (text_of w.shelf n) f.0 none f.1
+    by true t = let f = s.known n bytes (ap (λ (z : Name). Publish z bytes) (name_is m n t)) in none_some (file_on w.shelf n) f.0 none f.1
     by false t = rw t refl
 stays_file w (Tell i sent) v n s none = refl
 stays_file w (Restart i) v n s none = refl
@@ -170,21 +170,21 @@ loud_file (Report i stem) n k loud = refl
 loud_file (Ask i stem query) n k loud = refl
 
 -- the files after a step
-pub shelf_step : (w : World) (event : WorldEvent) (v : World) (n : Name) → Moves w event v → text_of v.shelf n ≡ or_else (text_of w.shelf n) (file_of (event ∷ []) n)
-shelf_step w event v n (inl s) = ap (λ (z : World). text_of z.shelf n) s.world ∙ by (text_of w.shelf n) refl
+pub shelf_step : (w : World) (event : WorldEvent) (v : World) (n : Name) → Moves w event v → file_on v.shelf n ≡ or_else (file_on w.shelf n) (file_of (event ∷ []) n)
+shelf_step w event v n (inl s) = ap (λ (z : World). file_on z.shelf n) s.world ∙ by (file_on w.shelf n) refl
   where
-    by : (o : Option (List ℕ)) → text_of w.shelf n ≡ o → text_of w.shelf n ≡ or_else (text_of w.shelf n) (file_of (event ∷ []) n)
+    by : (o : Option (List ℕ)) → file_on w.shelf n ≡ o → file_on w.shelf n ≡ or_else (file_on w.shelf n) (file_of (event ∷ []) n)
     by None at = rw at (sym (stays_file w event v n s at))
     by (Some file) at = rw at refl
 shelf_step w event v n (inr (inl s)) =
-    ap (λ (z : World). text_of z.shelf n) s.world ∙ text_of-push w.shelf s.name n s.bytes ∙ ap (λ (z : WorldEvent). or_else (text_of w.shelf n) (file_of (z ∷ []) n)) (sym s.is)
-shelf_step w event v n (inr (inr s)) = ap (λ (z : World). text_of z.shelf n) s.world ∙ sym (or_none (text_of w.shelf n))
-    ∙ ap (or_else (text_of w.shelf n)) (sym (loud_file event n s.number s.loud))
+    ap (λ (z : World). file_on z.shelf n) s.world ∙ file_on-push w.shelf s.name n s.bytes ∙ ap (λ (z : WorldEvent). or_else (file_on w.shelf n) (file_of (z ∷ []) n)) (sym s.is)
+shelf_step w event v n (inr (inr s)) = ap (λ (z : World). file_on z.shelf n) s.world ∙ sym (or_none (file_on w.shelf n))
+    ∙ ap (or_else (file_on w.shelf n)) (sym (loud_file event n s.number s.loud))
 
 pub grows_step : (w : World) (event : WorldEvent) (v : World) → IsSound w → Moves w event v → Grows w v
 grows_step w event v sound (inl s) = subst (Grows w) (sym s.world) (grows_all w)
 grows_step w event v sound (inr (inl s)) =
-    subst (Grows w) (sym s.world) (record { files = λ n file e. rw (text_of-push w.shelf s.name n s.bytes, e) refl; nodes = λ i x e. (x, e, keeps_all x.history) })
+    subst (Grows w) (sym s.world) (record { files = λ n file e. rw (file_on-push w.shelf s.name n s.bytes, e) refl; nodes = λ i x e. (x, e, keeps_all x.history) })
 grows_step w event v sound (inr (inr s)) = subst (Grows w) (sym s.world) (record { files = λ n file e. e; nodes = λ i x e. node i x e (equal_or_not s.number i) })
   where
     more : Follows w.shelf s.old.history s.history → Keeps s.old.history s.history
@@ -213,7 +213,7 @@ sound_start count = record {
 pub sound_step : (w : World) (event : WorldEvent) (v : World) → IsSound w → Moves w event v → IsSound v
 sound_step w event v sound (inl s) = subst IsSound (sym s.world) sound
 sound_step w event v sound (inr (inl s)) = subst IsSound (sym s.world) (record {
-  over = λ i x e. over_grown w.shelf (w.shelf ++ (s.name, s.bytes) ∷ []) x.history (λ n file at. rw (text_of-push w.shelf s.name n s.bytes, at) refl) (sound.over i x e);
+  over = λ i x e. over_grown w.shelf (w.shelf ++ (s.name, s.bytes) ∷ []) x.history (λ n file at. rw (file_on-push w.shelf s.name n s.bytes, at) refl) (sound.over i x e);
   legal = sound.legal;
 })
 sound_step w event v sound (inr (inr s)) = subst IsSound (sym s.world) (record {

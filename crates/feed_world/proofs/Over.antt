@@ -8,14 +8,14 @@ use Rattle.feed_world.specs.declared.line.Why.TheVariants as whys
 use Rattle.feed_names.specs.ReleaseName.{name_eq}
 use Rattle.feed_model.specs.File.{fault_of}
 use Rattle.feed_model.specs.History.{Event, Offered, Piece, Lost, History, Answer, is_noted, is_taken, or_else, byte_at, size_of, kept, IsFile, IsWhole, IsGood, IsActive, Reports}
-use Rattle.feed_world.specs.World.{Shelf, text_of, Sent, Offer, Deliver, Lose, arriving, delivered}
+use Rattle.feed_world.specs.World.{Shelf, file_on, Sent, Offer, Deliver, Lose, arriving, delivered}
 use Rattle.feed_world.specs.Headline.{HasAlike}
 use Rattle.feed_model.proofs.Names.{name_is, name_by}
 use Rattle.feed_world.proofs.Slices.{byte-slice, same_list, get_some, same_some}
 
 pub record IsOver (shelf : Shelf) (h : History) : Type 0 where
-  pub size : (n : Name) (s : ℕ) → size_of h n ≡ Some s → (file : List ℕ) × (text_of shelf n ≡ Some file) × (length file ≡ s)
-  pub bytes : (n : Name) (place b : ℕ) → kept h n place ≡ Some b → (file : List ℕ) × (text_of shelf n ≡ Some file) × (slice_get file place ≡ Some b)
+  pub size : (n : Name) (s : ℕ) → size_of h n ≡ Some s → (file : List ℕ) × (file_on shelf n ≡ Some file) × (length file ≡ s)
+  pub bytes : (n : Name) (place b : ℕ) → kept h n place ≡ Some b → (file : List ℕ) × (file_on shelf n ≡ Some file) × (slice_get file place ≡ Some b)
 
 -- the later history has all that the earlier one has
 pub record Keeps (h k : History) : Type 0 where
@@ -24,32 +24,32 @@ pub record Keeps (h k : History) : Type 0 where
 
 -- what the event says of a release is published
 abbrev pub IsTrueOf : Shelf → Event → Type 0
-IsTrueOf shelf (Offered n s) = (file : List ℕ) × (text_of shelf n ≡ Some file) × (length file ≡ s)
-IsTrueOf shelf (Piece n first total bytes) = (file : List ℕ) × (text_of shelf n ≡ Some file) × ((place b : ℕ) → byte_at first bytes place ≡ Some b → slice_get file place ≡ Some b)
+IsTrueOf shelf (Offered n s) = (file : List ℕ) × (file_on shelf n ≡ Some file) × (length file ≡ s)
+IsTrueOf shelf (Piece n first total bytes) = (file : List ℕ) × (file_on shelf n ≡ Some file) × ((place b : ℕ) → byte_at first bytes place ≡ Some b → slice_get file place ≡ Some b)
 IsTrueOf shelf (Lost n) = Unit {0}
 
 -- what arrives is published
 pub arriving_true : (shelf : Shelf) (sent : Sent) (e : Event) → arriving shelf sent ≡ Ok e → IsTrueOf shelf e
-arriving_true shelf (Offer n) e is = by (text_of shelf n) refl
+arriving_true shelf (Offer n) e is = by (file_on shelf n) refl
   where
-    by : (o : Option (List ℕ)) → text_of shelf n ≡ o → IsTrueOf shelf e
+    by : (o : Option (List ℕ)) → file_on shelf n ≡ o → IsTrueOf shelf e
     by None at = absurd (let u : ◌≡◌ {A = Result Event why.Why} (Err whys.Unpublished) (Ok e) = rw at at is in cc)
     by (Some file) at =
         let u : ◌≡◌ {A = Result Event why.Why} (Ok (Offered n (length file))) (Ok e) = rw at at is in let v : Offered n (length file) ≡ e = cc in subst (IsTrueOf shelf) v (file, at, refl)
-arriving_true shelf (Deliver n first len) e is = by (text_of shelf n) refl
+arriving_true shelf (Deliver n first len) e is = by (file_on shelf n) refl
   where
-    slice : (file : List ℕ) → text_of shelf n ≡ Some file → (t : Bool) → nat_le (first + len) (length file) ≡ t → delivered n first len (Some file) ≡ Ok e → IsTrueOf shelf e
+    slice : (file : List ℕ) → file_on shelf n ≡ Some file → (t : Bool) → nat_le (first + len) (length file) ≡ t → delivered n first len (Some file) ≡ Ok e → IsTrueOf shelf e
     slice file at true t u =
         let v : ◌≡◌ {A = Result Event why.Why} (Ok (Piece n first (Some (length file)) (take len (drop first file)))) (Ok e) = rw t at u in let w : Piece n first (Some (length file))
         (take len (drop first file)) ≡ e = cc in subst (IsTrueOf shelf) w (file, at, byte-slice file first len)
     slice file at false t u = absurd (let v : ◌≡◌ {A = Result Event why.Why} (Err whys.NoSlice) (Ok e) = rw t at u in cc)
 
-    by : (o : Option (List ℕ)) → text_of shelf n ≡ o → IsTrueOf shelf e
+    by : (o : Option (List ℕ)) → file_on shelf n ≡ o → IsTrueOf shelf e
     by None at = absurd (let u : ◌≡◌ {A = Result Event why.Why} (Err whys.Unpublished) (Ok e) = rw at at is in cc)
     by (Some file) at = slice file at (nat_le (first + len) (length file)) refl (rw at at is)
-arriving_true shelf (Lose n) e is = by (text_of shelf n) refl
+arriving_true shelf (Lose n) e is = by (file_on shelf n) refl
   where
-    by : (o : Option (List ℕ)) → text_of shelf n ≡ o → IsTrueOf shelf e
+    by : (o : Option (List ℕ)) → file_on shelf n ≡ o → IsTrueOf shelf e
     by None at = absurd (let u : ◌≡◌ {A = Result Event why.Why} (Err whys.Unpublished) (Ok e) = rw at at is in cc)
     by (Some file) at = let u : ◌≡◌ {A = Result Event why.Why} (Ok (Lost n)) (Ok e) = rw at at is in let v : Lost n ≡ e = cc in subst (IsTrueOf shelf) v tt
 
@@ -60,27 +60,27 @@ empty_over shelf = record { size = λ n s e. absurd (cc); bytes = λ n place b e
 pub over_more : (shelf : Shelf) (h : History) (e : Event) (a : Answer) → IsOver shelf h → IsTrueOf shelf e → IsOver shelf ((e, a) ∷ h)
 over_more shelf h (Offered m s) a o t = record { size = λ n q. by n q (is_noted a) (name_eq m n) refl refl; bytes = o.bytes }
   where
-    by : (n : Name) (q : ℕ) (x y : Bool) → is_noted a ≡ x → name_eq m n ≡ y → size_of ((Offered m s, a) ∷ h) n ≡ Some q → (file : List ℕ) × (text_of shelf n ≡ Some file)
+    by : (n : Name) (q : ℕ) (x y : Bool) → is_noted a ≡ x → name_eq m n ≡ y → size_of ((Offered m s, a) ∷ h) n ≡ Some q → (file : List ℕ) × (file_on shelf n ≡ Some file)
         × (length file ≡ q)
-    by n q true true u v e = let w : Some s ≡ Some q = rw (u, v) at e in (t.0, subst (λ (z : Name). text_of shelf z ≡ Some t.0) (name_is m n v) t.1, t.2 ∙ cc)
+    by n q true true u v e = let w : Some s ≡ Some q = rw (u, v) at e in (t.0, subst (λ (z : Name). file_on shelf z ≡ Some t.0) (name_is m n v) t.1, t.2 ∙ cc)
     by n q true false u v e = o.size n q (rw (u, v) at e)
     by n q false y u v e = o.size n q (rw u at e)
 over_more shelf h (Piece m f total bs) a o t = record { size = o.size; bytes = λ n place b. by n place b (is_taken a) (name_eq m n) refl refl }
   where
     first : (n : Name) (place b : ℕ) → m ≡ n → (x : Option ℕ) → kept h n place ≡ x → or_else x (byte_at f bs place) ≡ Some b
-        → (file : List ℕ) × (text_of shelf n ≡ Some file) × (slice_get file place ≡ Some b)
-    first n place b same None at e = (t.0, subst (λ (z : Name). text_of shelf z ≡ Some t.0) same t.1, t.2 place b e)
+        → (file : List ℕ) × (file_on shelf n ≡ Some file) × (slice_get file place ≡ Some b)
+    first n place b same None at e = (t.0, subst (λ (z : Name). file_on shelf z ≡ Some t.0) same t.1, t.2 place b e)
     first n place b same (Some x) at e = o.bytes n place b (at ∙ e)
 
     by : (n : Name) (place b : ℕ) (x y : Bool) → is_taken a ≡ x → name_eq m n ≡ y → kept ((Piece m f total bs, a) ∷ h) n place ≡ Some b
-        → (file : List ℕ) × (text_of shelf n ≡ Some file) × (slice_get file place ≡ Some b)
+        → (file : List ℕ) × (file_on shelf n ≡ Some file) × (slice_get file place ≡ Some b)
     by n place b true true u v e = first n place b (name_is m n v) (kept h n place) refl (rw (u, v) at e)
     by n place b true false u v e = o.bytes n place b (rw (u, v) at e)
     by n place b false y u v e = o.bytes n place b (rw u at e)
 over_more shelf h (Lost m) a o t = record { size = o.size; bytes = o.bytes }
 
 -- more files are published
-pub over_grown : (old new : Shelf) (h : History) → ((n : Name) (file : List ℕ) → text_of old n ≡ Some file → text_of new n ≡ Some file) → IsOver old h → IsOver new h
+pub over_grown : (old new : Shelf) (h : History) → ((n : Name) (file : List ℕ) → file_on old n ≡ Some file → file_on new n ≡ Some file) → IsOver old h → IsOver new h
 over_grown old new h grown o = record { size = λ n s e. (let x = o.size n s e in (x.0, grown n x.0 x.1, x.2)); bytes = λ n place b e. (let x = o.bytes n place b e in (x.0, grown n x.0 x.1, x.2)) }
 
 pub keeps_all : (h : History) → Keeps h h
@@ -96,7 +96,7 @@ keeps_more shelf h (Offered m s) a o t = record { size = λ n q. by n q (is_note
     by : (n : Name) (q : ℕ) (x y : Bool) → is_noted a ≡ x → name_eq m n ≡ y → size_of h n ≡ Some q → size_of ((Offered m s, a) ∷ h) n ≡ Some q
     by n q true true u v e =
         let x = o.size n q e in
-        let same : t.0 ≡ x.0 = same_some (text_of shelf n) t.0 x.0 (subst (λ (z : Name). text_of shelf z ≡ Some t.0) (name_is m n v) t.1) x.1 in
+        let same : t.0 ≡ x.0 = same_some (file_on shelf n) t.0 x.0 (subst (λ (z : Name). file_on shelf z ≡ Some t.0) (name_is m n v) t.1) x.1 in
         rw (u, v) (ap Some (sym t.2 ∙ ap length same ∙ x.2))
     by n q true false u v e = rw (u, v) e
     by n q false y u v e = rw u e
@@ -109,17 +109,17 @@ keeps_more shelf h (Piece m f total bs) a o t = record { size = λ n s e. e; byt
 keeps_more shelf h (Lost m) a o t = record { size = λ n s e. e; bytes = λ n place b e. e }
 
 -- a whole file over published files is the published file
-pub file_published : (shelf : Shelf) (h : History) (n : Name) (text : List ℕ) → IsOver shelf h → IsFile h n text → text_of shelf n ≡ Some text
+pub file_published : (shelf : Shelf) (h : History) (n : Name) (text : List ℕ) → IsOver shelf h → IsFile h n text → file_on shelf n ≡ Some text
 file_published shelf h n text o f = x.1 ∙ ap Some (same_list x.0 text x.2 each)
   where
-    x : (file : List ℕ) × (text_of shelf n ≡ Some file) × (length file ≡ length text)
+    x : (file : List ℕ) × (file_on shelf n ≡ Some file) × (length file ≡ length text)
     x = o.size n (length text) f.0
 
     each : (i : ℕ) → i < length x.0 → slice_get x.0 i ≡ slice_get text i
     each i lt =
         let g = get_some text i (omega (arith, x.2)) in
         let k = o.bytes n i g.0 (f.1 i (omega (arith, x.2)) ∙ g.1) in
-        let same : k.0 ≡ x.0 = same_some (text_of shelf n) k.0 x.0 k.1 x.1 in
+        let same : k.0 ≡ x.0 = same_some (file_on shelf n) k.0 x.0 k.1 x.1 in
         ap (λ (z : List ℕ). slice_get z i) (sym same) ∙ k.2 ∙ sym g.1
 
 -- what is whole stays whole, and good
@@ -163,8 +163,8 @@ pub reports_alike : (h k : History) (key : List ℕ) (o p : Option Name) → Has
 reports_alike h k key o p s x y = reports_one k key o p (reports_as h k key o s x) y
 
 -- a whole release that is the latest of the good published files of its package is active
-pub latest_active : (shelf : Shelf) (h : History) (n : Name) (file : List ℕ) → IsOver shelf h → IsWhole h n → text_of shelf n ≡ Some file → fault_of file ≡ None
-    → ((m : Name) (f : List ℕ) → m.stem ≡ n.stem → text_of shelf m ≡ Some f → fault_of f ≡ None → m.day ≤ℤ n.day) → IsActive h n
+pub latest_active : (shelf : Shelf) (h : History) (n : Name) (file : List ℕ) → IsOver shelf h → IsWhole h n → file_on shelf n ≡ Some file → fault_of file ≡ None
+    → ((m : Name) (f : List ℕ) → m.stem ≡ n.stem → file_on shelf m ≡ Some f → fault_of f ≡ None → m.day ≤ℤ n.day) → IsActive h n
 latest_active shelf h n file o w at good latest =
-    let same : w.0 ≡ file = same_some (text_of shelf n) w.0 file (file_published shelf h n w.0 o w.1) at in
+    let same : w.0 ≡ file = same_some (file_on shelf n) w.0 file (file_published shelf h n w.0 o w.1) at in
     ((w.0, w.1, ap fault_of same ∙ good), λ m e g. latest m g.0 e (file_published shelf h m g.0 o g.1) g.2)

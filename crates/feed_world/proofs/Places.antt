@@ -4,7 +4,7 @@ use Rattle.std.proofs.Common.{take, drop, Option, Some, None, slice_get, refl, s
 use Rattle.feed_names.specs.ReleaseName.{Name}
 use Rattle.feed_names.specs.ReleaseName.{name_eq}
 use Rattle.feed_model.specs.History.{or_else}
-use Rattle.feed_world.specs.World.{World, WorldEvent, Publish, Tell, Restart, StopBefore, StopAfter, Report, Ask, Line, text_of, node_at, Happens, Shows}
+use Rattle.feed_world.specs.World.{World, WorldEvent, Publish, Tell, Restart, StopBefore, StopAfter, Report, Ask, Line, file_on, node_at, Happens, Shows}
 use Rattle.feed_world.specs.Headline.{file_of, IsQuiet}
 use Rattle.feed_world.proofs.Slices.{get-take, get-drop}
 use Rattle.feed_world.proofs.Moves.{IsSound, Grows, moves, grows_all, grows_on, grows_step, sound_step, shelf_step, quiet_step}
@@ -39,8 +39,8 @@ file_of-cons (Report i stem) es n = refl
 file_of-cons (Ask i stem query) es n = refl
 
 -- the published files are those of the events
-pub shows_files : (u v : World) (es : List WorldEvent) (ls : List Line) (n : Name) → Shows u es ls v → text_of v.shelf n ≡ or_else (text_of u.shelf n) (file_of es n)
-shows_files u v [] [] n s = ap (λ (z : World). text_of z.shelf n) (sym s) ∙ none (text_of u.shelf n)
+pub shows_files : (u v : World) (es : List WorldEvent) (ls : List Line) (n : Name) → Shows u es ls v → file_on v.shelf n ≡ or_else (file_on u.shelf n) (file_of es n)
+shows_files u v [] [] n s = ap (λ (z : World). file_on z.shelf n) (sym s) ∙ none (file_on u.shelf n)
   where
     none : {X : Type 0} (o : Option X) → o ≡ or_else o None
     none None = refl
@@ -50,8 +50,8 @@ shows_files u v (e ∷ es) [] n s = absurd s
 shows_files u v (e ∷ es) (l ∷ ls) n s =
     shows_files s.0 v es ls n s.2
     ∙ ap (λ o. or_else o (file_of es n)) (shelf_step u e s.0 n (moves u e l s.0 s.1))
-    ∙ or_else-assoc (text_of u.shelf n) (file_of (e ∷ []) n) (file_of es n)
-    ∙ ap (or_else (text_of u.shelf n)) (sym (file_of-cons e es n))
+    ∙ or_else-assoc (file_on u.shelf n) (file_of (e ∷ []) n) (file_of es n)
+    ∙ ap (or_else (file_on u.shelf n)) (sym (file_of-cons e es n))
 
 pub file_of-take : (k : ℕ) (es : List WorldEvent) (n : Name) (file : List ℕ) → file_of (take k es) n ≡ Some file → file_of es n ≡ Some file
 file_of-take zero es n file e = absurd (cc)

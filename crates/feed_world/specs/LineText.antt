@@ -1,6 +1,6 @@
 -- How a line is printed.
 use Rattle.std.specs.Prelude.{◌++◌, ℕ, List, codes}
-use Rattle.feed_names.specs.ReleaseName.{text_of as name_text}
+use Rattle.feed_names.specs.ReleaseName.{text_of}
 use Rattle.feed_answer.specs.Faults.{query_fault_text}
 use Rattle.feed_model.specs.Texts.{reply_text, refusal_text, keep_fault_text}
 use Rattle.feed_world.specs.declared.line.Why.{Why}
@@ -26,7 +26,7 @@ line_text (Replied reply) = reply_text reply ++ codes "\n"
 line_text Restarted = codes "restarted\n"
 line_text Stopped = codes "stopped\n"
 line_text (IsDown cause) = codes "down " ++ keep_fault_text cause ++ codes "\n"
-line_text (Active name) = codes "active " ++ name_text name ++ codes "\n"
+line_text (Active name) = codes "active " ++ text_of name ++ codes "\n"
 line_text Inactive = codes "none\n"
 line_text (Text text) = text
 line_text (Refused why) = codes "refused " ++ why_text why ++ codes "\n"

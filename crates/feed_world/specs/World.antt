@@ -2,7 +2,7 @@
 use Rattle.std.specs.Prelude.{◌≡◌, ◌+◌, ◌⊎◌, ◌++◌, ℕ, zero, suc, Bool, true, false, nat_le, if◌then◌else◌}
 use Rattle.std.specs.Prelude.{List, [], ◌∷◌, length, take, drop, replicate, Option, Some, None, Result, Ok, Err}
 use Rattle.std.specs.Prelude.{slice_get, slice_set, MatchOption, MatchResult, MatchBool}
-use Rattle.feed_names.specs.ReleaseName.{Name, name_eq, text_of as name_text}
+use Rattle.feed_names.specs.ReleaseName.{Name, name_eq, text_of}
 use Rattle.feed_model.specs.declared.reply.Reply as reply
 use Rattle.feed_answer.specs.declared.fault.QueryFault.{QueryFault}
 use Rattle.feed_model.specs.declared.keep_fault.KeepFault as cause
@@ -49,9 +49,9 @@ abbrev pub Shelf : Type 0
 Shelf = List (Name × List ℕ)
 
 -- the file of a name, where it is published
-abbrev pub text_of : Shelf → Name → Option (List ℕ)
-text_of [] n = None
-text_of (f ∷ fs) n = if name_eq f.0 n then Some f.1 else text_of fs n
+abbrev pub file_on : Shelf → Name → Option (List ℕ)
+file_on [] n = None
+file_on (f ∷ fs) n = if name_eq f.0 n then Some f.1 else file_on fs n
 
 -- what a node was told and answered, and whether it is up
 pub record Node : Type 0 where
@@ -98,9 +98,9 @@ lost n (Some file) = Ok (Lost n)
 
 -- what arrives at a node of what is sent, or why nothing does
 abbrev pub arriving : Shelf → Sent → Result Event why.Why
-arriving shelf (Offer n) = offered n (text_of shelf n)
-arriving shelf (Deliver n first len) = delivered n first len (text_of shelf n)
-arriving shelf (Lose n) = lost n (text_of shelf n)
+arriving shelf (Offer n) = offered n (file_on shelf n)
+arriving shelf (Deliver n first len) = delivered n first len (file_on shelf n)
+arriving shelf (Lose n) = lost n (file_on shelf n)
 
 -- the event is refused, and nothing changes
 abbrev pub IsRefused : why.Why → World → Line → World → Type 0
@@ -136,7 +136,7 @@ report_line (Some n) = Active n
 
 -- the text that answers a query from the whole file of a release
 unfoldable pub text_for : Name → List ℕ → QueryValue → List ℕ
-text_for n file query = answer_text (name_text n) (answer_of (holdings_of file) query)
+text_for n file query = answer_text (text_of n) (answer_of (holdings_of file) query)
 
 -- what a query is answered from no release: the query's own fault comes first
 abbrev pub none_says : Result QueryValue QueryFault → Line
@@ -160,7 +160,7 @@ IsAsked h stem query line = (o : Option Name) × Reports h stem o × OrMemory li
 -- the event may be shown by this line, and leave this world
 abbrev pub Happens : World → WorldEvent → Line → World → Type 0
 Happens w (Publish n bytes) line v =
-    MatchOption (text_of w.shelf n)
+    MatchOption (file_on w.shelf n)
     ((line ≡ Published) × (v ≡ record { shelf = w.shelf ++ (n, bytes) ∷ []; nodes = w.nodes }))
     (λ file. Case (file ≡ bytes) ((line ≡ Published) × (v ≡ w)) (IsRefused whys.Republished w line v))
 Happens w (Tell i sent) line v =

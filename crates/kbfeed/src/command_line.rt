@@ -45,7 +45,7 @@ The status is 0 for a good file, 1 for a bad one, one that is too long and a nam
 line, and 3 for a failing device or want of memory.";
 
 const ANSWER_HELP: &str =
-    "Reads a holdings list (KBART, NISO RP-9-2014), and prints what a node that has this release answers an OpenURL query.
+    "Reads a holdings list (KBART, NISO RP-9-2014), and prints what a node with this release answers an OpenURL query.
 
 The last part of FILE is a release name, as Acme_Global_All_2024-01-01.txt. QUERY is the query of an OpenURL 1.0 of at
 most 4,096 bytes, as rft.issn=2434561x&rft.date=1996&rft.volume=3. The first line has the release and the number of
