@@ -1,5 +1,5 @@
 //! `kbfeed answer`: what a node answers a query whose active release is the one of a file.
-use crate::status::{DONE, FAILED, REFUSED, fault_told, printed};
+use crate::status::{DONE, FAILED, REFUSED, fault_told, not_printed, printed};
 use feed_answer::{Query, QueryFault, WriteFault, answer};
 use feed_kbart::{KbartFault, read_file};
 use feed_names::{NameFault, ReleaseName};
@@ -52,7 +52,7 @@ pub fn answer_on<R: Read + Drop, O: Write, F: Write>(
         return fault_told(faults, "Memory", FAILED);
     };
     match answer.write(out, &asked.name) {
-        Ok(()) => printed(out.flush(), DONE),
-        Err(WriteFault::Write) => FAILED,
+        Ok(()) => printed(faults, out.flush(), DONE),
+        Err(WriteFault::Write) => not_printed(out, faults),
     }
 }

@@ -22,12 +22,12 @@ pub fn check_on<R: Read + Drop, O: Write, F: Write>(
         Err(NameFault::Memory) => return fault_told(faults, NameFault::Memory, FAILED),
         Err(fault) => return fault_told(faults, fault, REFUSED),
     };
-    if print_release(out, &name).is_err() {
-        return FAILED;
+    if let Err(fault) = print_release(out, &name) {
+        return printed(faults, Err(fault), FAILED);
     }
     match read_file(alloc, file) {
-        Ok(holdings) => printed(print_holdings(out, &holdings), DONE),
-        Err(KbartFault::Bad(why)) => printed(print_broken(out, why), REFUSED),
+        Ok(holdings) => printed(faults, print_holdings(out, &holdings), DONE),
+        Err(KbartFault::Bad(why)) => printed(faults, print_broken(out, why), REFUSED),
         Err(fault) => {
             let status = if fault == KbartFault::TooLong {
                 REFUSED
@@ -36,7 +36,7 @@ pub fn check_on<R: Read + Drop, O: Write, F: Write>(
             };
             match out.flush() {
                 Ok(()) => fault_told(faults, fault, status),
-                Err(_) => FAILED,
+                Err(fault) => printed(faults, Err(fault), FAILED),
             }
         }
     }

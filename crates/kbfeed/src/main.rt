@@ -37,7 +37,10 @@ fn status_of(rt: &HostRuntime) -> u8 {
         Ok(Request::Check { file }) => check(rt, file),
         Ok(Request::Answer { file, query }) => answer(rt, file, query),
         Err(error) if error.kind() == ErrorKind::OutOfMemory => memory_told(rt),
-        Err(error) => printed(error.print(rt), error.exit_code() as u8),
+        Err(error) => {
+            let status = error.exit_code() as u8;
+            printed(&mut rt.stderr(), error.print(rt), status)
+        }
     }
 }
 

@@ -2,7 +2,7 @@
 use crate::input::{InputFault, read_up_to};
 use crate::script;
 use crate::script::{Files, SCRIPT_LIMIT, Script, ScriptFault};
-use crate::status::{DONE, FAILED, REFUSED, fault_told, printed};
+use crate::status::{DONE, FAILED, REFUSED, fault_told, not_printed, printed};
 use feed_core::{ListKeep, ReplayFault, replay};
 use std::alloc::{AllocError, Global};
 use std::io::{Read, Write};
@@ -29,8 +29,8 @@ pub fn replay_on<R: Read, P: Files, O: Write, F: Write>(
     };
     match replay(alloc, keepers, &events) {
         Ok(transcript) => match transcript.write(out) {
-            Ok(()) => printed(out.flush(), DONE),
-            Err(_) => FAILED,
+            Ok(()) => printed(faults, out.flush(), DONE),
+            Err(_) => not_printed(out, faults),
         },
         Err(ReplayFault::Memory) => fault_told(faults, "Memory", FAILED),
         Err(ReplayFault::Nodes) => fault_told(faults, "Nodes", FAILED),

@@ -1,6 +1,7 @@
 //! Exit statuses, and the line of a fault.
 use std::fmt;
-use std::io::Write;
+use std::io;
+use std::io::{ErrorKind, Write};
 
 /// Done.
 pub const DONE: u8 = 0;
@@ -22,10 +23,19 @@ pub fn fault_told<F: Write, D: fmt::Display + Drop>(faults: &mut F, fault: D, st
     }
 }
 
-/// The status of a run whose output was printed, or not.
-pub fn printed(outcome: std::io::Result<()>, status: u8) -> u8 {
+/// The status of a run whose output was printed, or not. That it was not is told, unless nobody reads it any more.
+pub fn printed<F: Write>(faults: &mut F, outcome: io::Result<()>, status: u8) -> u8 {
     match outcome {
         Ok(()) => status,
-        Err(_) => FAILED,
+        Err(fault) if fault.kind() == ErrorKind::BrokenPipe => FAILED,
+        Err(_) => fault_told(faults, "Write", FAILED),
+    }
+}
+
+/// The status of a run whose output was not printed, where the cause is not known: it comes again with what is left.
+pub fn not_printed<O: Write, F: Write>(out: &mut O, faults: &mut F) -> u8 {
+    match out.flush() {
+        Ok(()) => fault_told(faults, "Write", FAILED),
+        Err(fault) => printed(faults, Err(fault), FAILED),
     }
 }
