@@ -17,7 +17,7 @@ const REPLAY_HELP: &str = "Reads a script from standard input and prints its tra
 A script is a line for each event. The first is `nodes N`, N from 1 to 16. Then, for nodes numbered from 1:
 
   publish NAME TEXT             a file is published; \\t \\n \\r \\\\ and \\xHH in TEXT
-  publish-file NAME PATH        the same with the bytes of a file, as they are
+  publish-file NAME PATH        the same with the bytes of a file, as they are; PATH is UTF-8
   offer NODE NAME               a node is offered a published release
   deliver NODE NAME FIRST LEN   a node is given bytes of the published file, from place FIRST on
   lose NODE NAME                a piece does not come
@@ -39,7 +39,7 @@ const CHECK_HELP: &str = "Reads a holdings list (KBART, NISO RP-9-2014) and prin
 
 The last part of FILE is a release name, as Acme_Global_All_2024-01-01.txt. A good file prints how many rows it has and
 how many records are set aside, and for each of these its number and the reason. A bad file prints `broken` and the
-reason. A FILE that begins with - stands behind --, as in `kbfeed check -- -x_2024-01-01.txt`.
+reason. A FILE that begins with - stands behind --, as in `kbfeed check -- -x_2024-01-01.txt`. FILE is UTF-8.
 
 The status is 0 for a good file, 1 for a bad one, one that is too long and a name that is none, 2 for a wrong command
 line, and 3 for a failing device or want of memory.";
