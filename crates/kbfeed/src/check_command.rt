@@ -1,19 +1,39 @@
 //! `kbfeed check`: what a file holds, or why it is bad.
 use crate::status::{DONE, FAILED, REFUSED, fault_told, printed};
-use feed_kbart::{BadFile, Holdings, KbartFault, read_file};
+use feed_kbart::{BadFile, Holdings, KbartFault, Reason, read_file};
 use feed_names::{NameFault, ReleaseName};
 use std::alloc::Global;
 use std::io;
 use std::io::{Read, Write};
 
+// The reasons, in the order in which they are judged.
+const REASONS: [Reason; 4] = [
+    Reason::NotSerial,
+    Reason::NoIssn,
+    Reason::BadDate,
+    Reason::Reversed,
+];
+
+/// How a list is checked.
+#[derive(Clone, Copy, Debug, PartialEq, Eq)]
+pub struct Manner {
+    /// One line for each file, in place of a line for each record that is set aside.
+    pub summary: bool,
+    /// A record that is set aside is refused, as a bad file is.
+    pub strict: bool,
+}
+
 /// Reads a file under its name and prints what it holds to `out`: `release NAME`, `rows N aside M`, and a line
 /// `aside NUMBER REASON` for each record that is set aside. A bad file prints `broken REASON` in place of the last two.
-/// A fault prints one line to `faults`. The result is the exit status: 1 for a name that is none, a bad file and one
-/// that is too long, 3 for a failing read or print and for want of memory.
+/// A summary is one line: the name, and then the rows, the records set aside and how many for each reason, or
+/// `broken REASON`. A fault prints one line to `faults`. The result is the exit status: 1 for a name that is none, a
+/// bad file, one that is too long, and a strict check that sets a record aside, 3 for a failing read or print and for
+/// want of memory.
 pub fn check_on<R: Read + Drop, O: Write, F: Write>(
     alloc: Global,
     name: &[u8],
     file: R,
+    manner: Manner,
     out: &mut O,
     faults: &mut F,
 ) -> u8 {
@@ -22,24 +42,34 @@ pub fn check_on<R: Read + Drop, O: Write, F: Write>(
         Err(NameFault::Memory) => return fault_told(faults, NameFault::Memory, FAILED),
         Err(fault) => return fault_told(faults, fault, REFUSED),
     };
-    if let Err(fault) = print_release(out, &name) {
-        return printed(faults, Err(fault), FAILED);
+    if !manner.summary {
+        if let Err(fault) = print_release(out, &name) {
+            return printed(faults, Err(fault), FAILED);
+        }
     }
-    match read_file(alloc, file) {
-        Ok(holdings) => printed(faults, print_holdings(out, &holdings), DONE),
-        Err(KbartFault::Bad(why)) => printed(faults, print_broken(out, why), REFUSED),
+    let (outcome, status) = match read_file(alloc, file) {
+        Ok(holdings) => {
+            let status = if manner.strict && !holdings.aside().is_empty() {
+                REFUSED
+            } else {
+                DONE
+            };
+            (print_holdings(out, &name, &holdings, manner), status)
+        }
+        Err(KbartFault::Bad(why)) => (print_broken(out, &name, why, manner), REFUSED),
         Err(fault) => {
             let status = if fault == KbartFault::TooLong {
                 REFUSED
             } else {
                 FAILED
             };
-            match out.flush() {
+            return match out.flush() {
                 Ok(()) => fault_told(faults, fault, status),
                 Err(fault) => printed(faults, Err(fault), FAILED),
-            }
+            };
         }
-    }
+    };
+    printed(faults, outcome, status)
 }
 
 /// The last part of a path, after its last `/`.
@@ -56,19 +86,58 @@ fn print_release<O: Write>(out: &mut O, name: &ReleaseName) -> io::Result<()> {
     out.write_all(b"\n")
 }
 
-fn print_holdings<O: Write>(out: &mut O, holdings: &Holdings) -> io::Result<()> {
+// The beginning of a summary, where one is asked for.
+fn print_name<O: Write>(out: &mut O, name: &ReleaseName, manner: Manner) -> io::Result<()> {
+    if !manner.summary {
+        return Ok(());
+    }
+    out.write_all(name.text())?;
+    out.write_all(b" ")
+}
+
+fn print_holdings<O: Write>(
+    out: &mut O,
+    name: &ReleaseName,
+    holdings: &Holdings,
+    manner: Manner,
+) -> io::Result<()> {
     let rows = holdings.rows().len();
     let aside = holdings.aside().len();
-    writeln!(out, "rows {rows} aside {aside}")?;
-    for record in holdings.aside() {
-        let number = record.number;
-        let reason = record.reason;
-        writeln!(out, "aside {number} {reason}")?;
+    print_name(out, name, manner)?;
+    write!(out, "rows {rows} aside {aside}")?;
+    if manner.summary {
+        print_reasons(out, holdings)?;
+    }
+    out.write_all(b"\n")?;
+    if !manner.summary {
+        for record in holdings.aside() {
+            let number = record.number;
+            let reason = record.reason;
+            writeln!(out, "aside {number} {reason}")?;
+        }
     }
     out.flush()
 }
 
-fn print_broken<O: Write>(out: &mut O, why: BadFile) -> io::Result<()> {
+// For how many records each reason holds, of those that hold for some.
+fn print_reasons<O: Write>(out: &mut O, holdings: &Holdings) -> io::Result<()> {
+    for reason in REASONS {
+        let aside = holdings.aside().iter();
+        let count = aside.filter(|record| record.reason == reason).count();
+        if count > 0 {
+            write!(out, " {reason} {count}")?;
+        }
+    }
+    Ok(())
+}
+
+fn print_broken<O: Write>(
+    out: &mut O,
+    name: &ReleaseName,
+    why: BadFile,
+    manner: Manner,
+) -> io::Result<()> {
+    print_name(out, name, manner)?;
     writeln!(out, "broken {why}")?;
     out.flush()
 }

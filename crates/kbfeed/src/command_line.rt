@@ -1,13 +1,22 @@
 //! What the words of the command line ask for.
-use clap::{Arg, ArgMatches, Command, Error};
-use std::alloc::Global;
+use crate::check_command::Manner;
+use clap::{Arg, ArgAction, ArgMatches, Command, Error};
+use std::alloc::{AllocError, Global};
 
 /// A command of the program.
 #[derive(Drop)]
 pub enum Request<'a> {
     Replay,
-    Check { file: &'a str },
-    Answer { file: &'a str, query: &'a str },
+    /// The name is that of what comes from standard input, where a file is `-`.
+    Check {
+        files: Vec<&'a str>,
+        name: &'a str,
+        manner: Manner,
+    },
+    Answer {
+        file: &'a str,
+        query: &'a str,
+    },
 }
 
 const VERSION: &str = "0.1.0";
@@ -39,10 +48,13 @@ const CHECK_HELP: &str = "Reads a holdings list (KBART, NISO RP-9-2014) and prin
 
 The last part of FILE is a release name, as Acme_Global_All_2024-01-01.txt. A good file prints how many rows it has and
 how many records are set aside, and for each of these its number and the reason. A bad file prints `broken` and the
-reason. A FILE that begins with - stands behind --, as in `kbfeed check -- -x_2024-01-01.txt`. FILE is UTF-8.
+reason.
+
+Several FILEs are checked one after another. FILE - is standard input, under the name that --name gives. A FILE that
+begins with - stands behind --, as in `kbfeed check -- -x_2024-01-01.txt`. FILE is UTF-8.
 
 The status is 0 for a good file, 1 for a bad one, one that is too long and a name that is none, 2 for a wrong command
-line, and 3 for a failing device or want of memory.";
+line, and 3 for a failing device or want of memory. Of several files it is the greatest.";
 
 const ANSWER_HELP: &str =
     "Reads a holdings list (KBART, NISO RP-9-2014), and prints what a node with this release answers an OpenURL query.
@@ -61,13 +73,29 @@ pub fn read<'a>(alloc: Global, words: &'a [String]) -> Result<Request<'a>, Error
     let replay = Command::new(alloc, "replay")
         .about("Replays a script of published files and nodes")
         .long_about(REPLAY_HELP);
-    let file = Arg::new(alloc, "FILE")
+    let files = Arg::new(alloc, "FILE")
         .required(true)
-        .help("The path of the file");
+        .action(ArgAction::Append)
+        .num_args(1..)
+        .help("The paths of the files, or - for standard input");
+    let name = Arg::new(alloc, "NAME")
+        .long("name")
+        .help("The release name of what comes from standard input");
+    let summary = Arg::new(alloc, "summary")
+        .long("summary")
+        .action(ArgAction::SetTrue)
+        .help("Prints one line for each file");
+    let strict = Arg::new(alloc, "strict")
+        .long("strict")
+        .action(ArgAction::SetTrue)
+        .help("Ends with status 1 where a record is set aside");
     let check = Command::new(alloc, "check")
-        .about("Checks a holdings list")
+        .about("Checks holdings lists")
         .long_about(CHECK_HELP)
-        .arg(file)?;
+        .arg(files)?
+        .arg(name)?
+        .arg(summary)?
+        .arg(strict)?;
     let list = Arg::new(alloc, "FILE")
         .required(true)
         .help("The path of the file");
@@ -87,18 +115,23 @@ pub fn read<'a>(alloc: Global, words: &'a [String]) -> Result<Request<'a>, Error
         .subcommand(check)?
         .subcommand(answer)?;
     let matches = command.try_get_matches_from(words)?;
-    Ok(request_of(&matches))
+    Ok(request_of(alloc, &matches)?)
 }
 
-fn request_of<'a>(matches: &ArgMatches<'a>) -> Request<'a> {
-    match matches.subcommand() {
+fn request_of<'a>(alloc: Global, matches: &ArgMatches<'a>) -> Result<Request<'a>, AllocError> {
+    Ok(match matches.subcommand() {
         Some(("check", check)) => Request::Check {
-            file: check.get_str("FILE").unwrap_or(""),
+            files: Vec::from_slice(alloc, check.get_strs("FILE").unwrap_or(&[]))?,
+            name: check.get_str("NAME").unwrap_or(""),
+            manner: Manner {
+                summary: check.get_flag("summary"),
+                strict: check.get_flag("strict"),
+            },
         },
         Some(("answer", answer)) => Request::Answer {
             file: answer.get_str("FILE").unwrap_or(""),
             query: answer.get_str("QUERY").unwrap_or(""),
         },
         _ => Request::Replay,
-    }
+    })
 }

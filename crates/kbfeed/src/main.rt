@@ -10,13 +10,14 @@ mod replay_command;
 mod script;
 mod status;
 
+use check_command::Manner;
 use clap::error::ErrorKind;
 use command_line::Request;
 use files::Disk;
-use status::{FAILED, MISUSED, fault_told, printed};
+use status::{DONE, FAILED, MISUSED, fault_told, printed};
 use std::fs::File;
 use std::io;
-use std::io::BufWriter;
+use std::io::{BufWriter, Write};
 use std::process::ExitCode;
 
 fn main(rt: HostRuntime) -> ExitCode {
@@ -34,7 +35,13 @@ fn status_of(rt: &HostRuntime) -> u8 {
     };
     match command_line::read(rt.alloc(), words.as_slice()) {
         Ok(Request::Replay) => replay(rt),
-        Ok(Request::Check { file }) => check(rt, file),
+        Ok(
+            Request::Check {
+                files,
+                name,
+                manner,
+            },
+        ) => check(rt, &files, name, manner),
         Ok(Request::Answer { file, query }) => answer(rt, file, query),
         Err(error) if error.kind() == ErrorKind::OutOfMemory => memory_told(rt),
         Err(error) => {
@@ -68,17 +75,41 @@ fn replay(rt: &HostRuntime) -> u8 {
     )
 }
 
-fn check(rt: &HostRuntime, path: &str) -> u8 {
-    let alloc = rt.alloc();
-    let file = match opened(rt, path) {
-        Ok(file) => file,
-        Err(status) => return status,
-    };
-    let Ok(mut out) = BufWriter::new(alloc, io::writer(rt)) else {
+// Checks the files one after another. The status is the greatest of theirs.
+fn check(rt: &HostRuntime, files: &[&str], name: &str, manner: Manner) -> u8 {
+    let Ok(mut out) = BufWriter::new(rt.alloc(), io::writer(rt)) else {
         return memory_told(rt);
     };
-    let name = check_command::file_name(path.as_bytes());
-    check_command::check_on(alloc, name, file, &mut out, &mut rt.stderr())
+    let mut status = DONE;
+    for path in files {
+        status = status.max(check_one(rt, path, name, manner, &mut out));
+    }
+    status
+}
+
+// Checks the file at a path, or standard input under a name.
+fn check_one<O: Write>(
+    rt: &HostRuntime,
+    path: &str,
+    name: &str,
+    manner: Manner,
+    out: &mut O,
+) -> u8 {
+    let alloc = rt.alloc();
+    if path == "-" {
+        if name.is_empty() {
+            return fault_told(&mut rt.stderr(), "- needs --name NAME", MISUSED);
+        }
+        let name = name.as_bytes();
+        return check_command::check_on(alloc, name, rt.reader(), manner, out, &mut rt.stderr());
+    }
+    match opened(rt, path) {
+        Ok(file) => {
+            let name = check_command::file_name(path.as_bytes());
+            check_command::check_on(alloc, name, file, manner, out, &mut rt.stderr())
+        }
+        Err(status) => status,
+    }
 }
 
 fn answer(rt: &HostRuntime, path: &str, query: &str) -> u8 {

@@ -1,7 +1,6 @@
 //! Exit statuses, and the line of a fault.
-use std::fmt;
-use std::io;
 use std::io::{ErrorKind, Write};
+use std::{fmt, io};
 
 /// Done.
 pub const DONE: u8 = 0;
