@@ -16,9 +16,11 @@ pub fn read_up_to<R: Read>(
     limit: usize,
 ) -> Result<Vec<u8>, InputFault> {
     let mut bytes = Vec::new(alloc);
-    let mut block = [0u8; 65_536];
+    let Ok(mut block) = vec![in alloc; 0u8; 65_536] else {
+        return Err(InputFault::Memory);
+    };
     for _ in 0..=limit {
-        let Ok(count) = input.read(&mut block) else {
+        let Ok(count) = input.read(block.as_mut_slice()) else {
             return Err(InputFault::Read);
         };
         if count == 0 || bytes.len() > limit {
