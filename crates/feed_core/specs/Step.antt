@@ -106,8 +106,8 @@ AreKept content (k ∷ ks) (y ∷ ys) = IsContent (content k) y.history × AreKe
 AreKept content [] (y ∷ ys) = ⊥
 AreKept content (k ∷ ks) [] = ⊥
 
--- the node that did not start, counted from 1: its device failed, or its keeper was not empty; the keeper comes back with its content, was clean if it is, and its count of failures did
--- not fall
+-- the node that did not start, counted from 1: its device failed, or its keeper held no list of records, or one that was not empty; the keeper comes back with its content, was clean if
+-- it is, and its count of failures did not fall
 pub record IsNoStart {K : Type 0} (clean : K → Type 0) (content : K → Content) (listed : K → Type 0) (failed : K → ℕ) (keepers : List K) (node : ℕ) (keeper : K) : Type 0 where
   pub before : K
   pub at : ℕ
