@@ -1,5 +1,6 @@
 //! `kbfeed check`: what a file holds, or why it is bad.
-use crate::status::{DONE, FAILED, REFUSED, fault_told, printed};
+use crate::causes::{FAILED_READ, LONG_FILE, cause_of_name};
+use crate::status::{DONE, FAILED, Faults, REFUSED};
 use feed_kbart::{BadFile, Holdings, KbartFault, Reason, read_file};
 use feed_names::{NameFault, ReleaseName};
 use std::alloc::Global;
@@ -29,22 +30,22 @@ pub struct Manner {
 /// `broken REASON`. A fault prints one line to `faults`. The result is the exit status: 1 for a name that is none, a
 /// bad file, one that is too long, and a strict check that sets a record aside, 3 for a failing read or print and for
 /// want of memory.
-pub fn check_on<R: Read + Drop, O: Write, F: Write>(
+pub fn check_on<R: Read + Drop, O: Write, F: Write + Drop>(
     alloc: Global,
-    name: &[u8],
+    text: &str,
     file: R,
     manner: Manner,
     out: &mut O,
-    faults: &mut F,
+    faults: &mut Faults<F>,
 ) -> u8 {
-    let name = match ReleaseName::parse(alloc, name) {
+    let name = match ReleaseName::parse(alloc, text.as_bytes()) {
         Ok(name) => name,
-        Err(NameFault::Memory) => return fault_told(faults, NameFault::Memory, FAILED),
-        Err(fault) => return fault_told(faults, fault, REFUSED),
+        Err(NameFault::Memory) => return faults.told(NameFault::Memory, FAILED),
+        Err(fault) => return faults.told_of(fault, text, cause_of_name(fault), REFUSED),
     };
     if !manner.summary {
         if let Err(fault) = print_release(out, &name) {
-            return printed(faults, Err(fault), FAILED);
+            return faults.printed(Err(fault), FAILED);
         }
     }
     let (outcome, status) = match read_file(alloc, file) {
@@ -58,24 +59,29 @@ pub fn check_on<R: Read + Drop, O: Write, F: Write>(
         }
         Err(KbartFault::Bad(why)) => (print_broken(out, &name, why, manner), REFUSED),
         Err(fault) => {
-            let status = if fault == KbartFault::TooLong {
-                REFUSED
-            } else {
-                FAILED
-            };
             return match out.flush() {
-                Ok(()) => fault_told(faults, fault, status),
-                Err(fault) => printed(faults, Err(fault), FAILED),
+                Ok(()) => told_of_file(faults, fault, text),
+                Err(fault) => faults.printed(Err(fault), FAILED),
             };
         }
     };
-    printed(faults, outcome, status)
+    faults.printed(outcome, status)
+}
+
+/// Tells why a file was not read, or is bad, and gives the status.
+pub fn told_of_file<F: Write + Drop>(faults: &mut Faults<F>, fault: KbartFault, text: &str) -> u8 {
+    match fault {
+        KbartFault::Memory => faults.told(fault, FAILED),
+        KbartFault::Read => faults.told_of(fault, text, FAILED_READ, FAILED),
+        KbartFault::TooLong => faults.told_of(fault, text, LONG_FILE, REFUSED),
+        KbartFault::Bad(_) => faults.told_of(fault, text, "the file is bad", REFUSED),
+    }
 }
 
 /// The last part of a path, after its last `/`.
-pub fn file_name(path: &[u8]) -> &[u8] {
-    match path.iter().rposition(|byte| *byte == b'/') {
-        Some(at) => &path[at + 1..],
+pub fn file_name(path: &str) -> &str {
+    match path.rsplit_once('/') {
+        Some((_, name)) => name,
         None => path,
     }
 }

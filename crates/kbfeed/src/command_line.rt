@@ -68,8 +68,15 @@ The first fault is told of the query, of the file's name, and of the file. The s
 without hits, 1 for a query or a name that is none, a bad file and one that is too long, 2 for a wrong command line, and
 3 for a failing device or want of memory.";
 
-/// Reads the words of the command line, the program's name first.
-pub fn read<'a>(alloc: Global, words: &'a [String]) -> Result<Request<'a>, Error> {
+/// Reads the words of the command line, the program's name first: whether more is to be said of a fault, and the
+/// command.
+pub fn read<'a>(alloc: Global, words: &'a [String]) -> Result<(bool, Request<'a>), Error> {
+    let verbose = Arg::new(alloc, "verbose")
+        .short('v')
+        .long("verbose")
+        .global(true)
+        .action(ArgAction::SetTrue)
+        .help("Says on a second line what a fault is about, and its cause");
     let replay = Command::new(alloc, "replay")
         .about("Replays a script of published files and nodes")
         .long_about(REPLAY_HELP);
@@ -111,11 +118,13 @@ pub fn read<'a>(alloc: Global, words: &'a [String]) -> Result<Request<'a>, Error
         .about("A feed of journal holdings lists for OpenURL link resolvers")
         .version(VERSION)
         .subcommand_required(true)
+        .arg(verbose)?
         .subcommand(replay)?
         .subcommand(check)?
         .subcommand(answer)?;
     let matches = command.try_get_matches_from(words)?;
-    Ok(request_of(alloc, &matches)?)
+    let is_verbose = matches.get_flag("verbose");
+    Ok((is_verbose, request_of(alloc, &matches)?))
 }
 
 fn request_of<'a>(alloc: Global, matches: &ArgMatches<'a>) -> Result<Request<'a>, AllocError> {

@@ -1,63 +1,81 @@
 //! `kbfeed replay`: a script is read whole, replayed over keepers in memory, and its transcript printed.
+use crate::causes::{FAILED_READ, LONG_SCRIPT, cause_of_line};
 use crate::input::{InputFault, read_up_to};
 use crate::script;
 use crate::script::{Files, SCRIPT_LIMIT, Script, ScriptFault};
-use crate::status::{DONE, FAILED, REFUSED, fault_told, not_printed, printed};
-use feed_core::{ListKeep, ReplayFault, replay};
+use crate::status::{DONE, FAILED, Faults, REFUSED};
+use feed_core::{KeepFault, Line, ListKeep, Refusal, ReplayFault, Why, replay};
 use std::alloc::{AllocError, Global};
 use std::io::{Read, Write};
+
+// What a script comes from.
+const INPUT: &str = "standard input";
 
 /// Replays the script that `input` gives, over the files that it publishes by their paths, and prints the transcript to
 /// `out`. A fault prints one line to `faults` and nothing to `out`. The result is the exit status: 0 whatever the lines
 /// of the transcript are, 1 for a script that does not read, 3 for a failing read or print and for want of memory.
-pub fn replay_on<R: Read, P: Files, O: Write, F: Write>(
+pub fn replay_on<R: Read, P: Files, O: Write, F: Write + Drop>(
     alloc: Global,
     input: &mut R,
     files: &mut P,
     out: &mut O,
-    faults: &mut F,
+    faults: &mut Faults<F>,
 ) -> u8 {
-    let Script { nodes, events } = match read_script(alloc, input, files) {
-        Ok(script) => script,
-        Err(Unread::Input(InputFault::Read)) => return fault_told(faults, "Read", FAILED),
-        Err(Unread::Input(InputFault::Memory)) => return fault_told(faults, "Memory", FAILED),
-        Err(Unread::Script(ScriptFault::Memory)) => return fault_told(faults, "Memory", FAILED),
-        Err(Unread::Script(fault)) => return fault_told(faults, fault, REFUSED),
+    let bytes = match read_up_to(alloc, input, SCRIPT_LIMIT) {
+        Ok(bytes) => bytes,
+        Err(InputFault::Read) => return faults.told_of("Read", INPUT, FAILED_READ, FAILED),
+        Err(InputFault::Memory) => return faults.told("Memory", FAILED),
     };
+    let Script { nodes, events } = match script::read(alloc, &bytes, files) {
+        Ok(script) => script,
+        Err(ScriptFault::Memory) => return faults.told("Memory", FAILED),
+        Err(fault) => return told_of_script(faults, fault, &bytes),
+    };
+    drop(bytes);
     let Ok(keepers) = keepers_for(alloc, nodes) else {
-        return fault_told(faults, "Memory", FAILED);
+        return faults.told("Memory", FAILED);
     };
     match replay(alloc, keepers, &events) {
-        Ok(transcript) => match transcript.write(out) {
-            Ok(()) => printed(faults, out.flush(), DONE),
-            Err(_) => not_printed(out, faults),
-        },
-        Err(ReplayFault::Memory) => fault_told(faults, "Memory", FAILED),
-        Err(ReplayFault::Nodes) => fault_told(faults, "Nodes", FAILED),
-        Err(ReplayFault::Start { node: _, keeper: _ }) => fault_told(faults, "Start", FAILED),
+        Ok(transcript) => {
+            let wanting = transcript
+                .lines()
+                .iter()
+                .filter(|line| wants_memory(line))
+                .count();
+            let status = match transcript.write(out) {
+                Ok(()) => faults.printed(out.flush(), DONE),
+                Err(_) => faults.not_printed(out),
+            };
+            faults.told_lines(wanting, status)
+        }
+        Err(ReplayFault::Memory) => faults.told("Memory", FAILED),
+        Err(ReplayFault::Nodes) => faults.told("Nodes", FAILED),
+        Err(ReplayFault::Start { node: _, keeper: _ }) => faults.told("Start", FAILED),
     }
 }
 
-// Why there is no script: the fault of the input, or what is wrong with the bytes.
-#[derive(Drop)]
-enum Unread {
-    Input(InputFault),
-    Script(ScriptFault),
+// Whether a line of a transcript tells that there was no memory.
+fn wants_memory(line: &Line) -> bool {
+    matches!(
+        line,
+        Line::Refused(Why::Memory)
+            | Line::Refused(Why::Feed(Refusal::Memory))
+            | Line::Down(KeepFault::Memory)
+    )
 }
 
-// The script that the input gives. Its bytes are let go before it is replayed.
-fn read_script<R: Read, P: Files>(
-    alloc: Global,
-    input: &mut R,
-    files: &mut P,
-) -> Result<Script, Unread> {
-    let bytes = match read_up_to(alloc, input, SCRIPT_LIMIT) {
-        Ok(bytes) => bytes,
-        Err(fault) => return Err(Unread::Input(fault)),
-    };
-    match script::read(alloc, &bytes, files) {
-        Ok(script) => Ok(script),
-        Err(fault) => Err(Unread::Script(fault)),
+// Tells why a script does not read, and shows the beginning of its line.
+fn told_of_script<F: Write + Drop>(
+    faults: &mut Faults<F>,
+    fault: ScriptFault,
+    script: &[u8],
+) -> u8 {
+    match fault {
+        ScriptFault::Line { line, fault: cause } => {
+            let shown = script::line_shown(script, line);
+            faults.told_of(fault, shown, cause_of_line(cause), REFUSED)
+        }
+        _ => faults.told_of(fault, INPUT, LONG_SCRIPT, REFUSED),
     }
 }
 

@@ -5,6 +5,7 @@ use feed_core::{NODE_LIMIT, Sent, WorldEvent};
 use feed_names::{NameFault, ReleaseName};
 use memchr::{memchr, memchr_iter};
 use std::alloc::{AllocError, AllocFailed, Global};
+use std::str;
 use thiserror::Error;
 
 /// A script has at most this many bytes.
@@ -132,6 +133,23 @@ fn read_lines<P: Files>(
             Err(fault_at(behind, LineFault::NodesExpected))
         }
     }
+}
+
+/// The beginning of a line, at most 80 bytes of it, or nothing where that is no text.
+pub fn line_shown(script: &[u8], line: usize) -> &str {
+    let mut rest = script;
+    for _ in 1..line {
+        match split_at(rest, b'\n') {
+            (_, Some(after)) => rest = after,
+            (_, None) => return "",
+        }
+    }
+    let (text, _) = split_at(rest, b'\n');
+    let shown = match text.get(..80) {
+        Some(shown) => shown,
+        None => text,
+    };
+    str::from_utf8(shown).unwrap_or("")
 }
 
 // The last line counts where bytes stand after the last LF.

@@ -1,0 +1,51 @@
+//! What a fault means, for readers who ask for more than its name.
+use crate::script::LineFault;
+use feed_answer::QueryFault;
+use feed_names::NameFault;
+
+/// What a file has that is too long.
+pub const LONG_FILE: &str = "a list has at most 67,108,864 bytes";
+
+/// What a script has that is too long.
+pub const LONG_SCRIPT: &str = "a script has at most 16,777,216 bytes and 100,000 lines";
+
+/// What a read that failed has said.
+pub const FAILED_READ: &str = "a read failed";
+
+/// Why a text is no release's name.
+pub fn cause_of_name(fault: NameFault) -> &'static str {
+    match fault {
+        NameFault::BadEnding => "a release's name ends in .txt",
+        NameFault::BadDate => "before .txt stands _ and the date of a real day, as _2024-01-01",
+        NameFault::BadStem => {
+            "before the date stand 1 to 100 letters, digits, -, _ and ., of which the first is no ."
+        }
+        NameFault::Memory => "there was no memory",
+    }
+}
+
+/// Why a query is none that is answered.
+pub fn cause_of_query(fault: QueryFault) -> &'static str {
+    match fault {
+        QueryFault::TooLong => "a query has at most 4,096 bytes",
+        QueryFault::Version => "url_ver and ctx_ver are Z39.88-2004",
+        QueryFault::NotJournal => "rft_val_fmt is info:ofi/fmt:kev:mtx:journal",
+        QueryFault::NoIssn => "no rft.issn, rft.eissn or rft_id has an ISSN with its check digit",
+        QueryFault::Memory => "there was no memory",
+    }
+}
+
+/// Why a line of a script is wrong.
+pub fn cause_of_line(fault: LineFault) -> &'static str {
+    match fault {
+        LineFault::NodesExpected => "a script begins with nodes N",
+        LineFault::UnknownCommand => "its first word is no event of kbfeed help replay",
+        LineFault::WrongWords => "too few or too many words, or an empty one",
+        LineFault::BadNumber =>
+            "a number is 1 to 20 digits and fits 64 bits, and there are 1 to 16 nodes",
+        LineFault::BadName => "a release's name is as Acme_Global_All_2024-01-01.txt",
+        LineFault::BadText => "a backslash begins \\t, \\n, \\r, \\\\ or \\xHH",
+        LineFault::BadFile => "the file does not open or read, or has more than 67,108,864 bytes",
+        LineFault::Memory => "there was no memory",
+    }
+}
