@@ -39,10 +39,11 @@ A script is a line for each event. The first is `nodes N`, N from 1 to 16. Then,
 WHAT is `offer NAME` or `deliver NAME FIRST LEN`.
 
 Empty lines and lines that begin with # are skipped. NAME is as Acme_Global_All_2024-01-01.txt, and PACKAGE as
-Acme_Global_All. A fault of the script is printed with its line, and nothing is replayed.
+Acme_Global_All. A script has at most 16,777,216 bytes and 100,000 lines, and a list at most 67,108,864 bytes. A fault
+of the script is printed with its line, and nothing is replayed.
 
 The status is 0 whatever the lines of the transcript are, 1 for a fault of the script, 2 for a wrong command line, and 3
-for a failing device or want of memory.";
+for a failing device or want of memory. docs/FAULTS.md has each fault, and -v says more of one.";
 
 const CHECK_HELP: &str = "Reads a holdings list (KBART, NISO RP-9-2014) and prints what it holds.
 
@@ -50,11 +51,13 @@ The last part of FILE is a release name, as Acme_Global_All_2024-01-01.txt. A go
 how many records are set aside, and for each of these its number and the reason. A bad file prints `broken` and the
 reason.
 
-Several FILEs are checked one after another. FILE - is standard input, under the name that --name gives. A FILE that
-begins with - stands behind --, as in `kbfeed check -- -x_2024-01-01.txt`. FILE is UTF-8.
+A list has at most 67,108,864 bytes. Several FILEs are checked one after another. FILE - is standard input, under the
+name that --name gives. A FILE that begins with - stands behind --, as in `kbfeed check -- -x_2024-01-01.txt`. FILE is
+UTF-8.
 
 The status is 0 for a good file, 1 for a bad one, one that is too long and a name that is none, 2 for a wrong command
-line, and 3 for a failing device or want of memory. Of several files it is the greatest.";
+line, and 3 for a failing device or want of memory. Of several files it is the greatest. docs/FAULTS.md has each fault,
+and -v says more of one.";
 
 const ANSWER_HELP: &str =
     "Reads a holdings list (KBART, NISO RP-9-2014), and prints what a node with this release answers an OpenURL query.
@@ -66,7 +69,8 @@ URL, title id, coverage depth, embargo and access type, with a tab between each 
 
 The first fault is told of the query, of the file's name, and of the file. The status is 0 for an answer, also one
 without hits, 1 for a query or a name that is none, a bad file and one that is too long, 2 for a wrong command line, and
-3 for a failing device or want of memory.";
+3 for a failing device or want of memory. A list has at most 67,108,864 bytes. docs/FAULTS.md has each fault, and -v
+says more of one.";
 
 /// Reads the words of the command line, the program's name first: whether more is to be said of a fault, and the
 /// command.
