@@ -11,7 +11,7 @@ use Rattle.std.specs.List.Sorted.{IsSortedBy}
 use Rattle.std.proofs.lemmas.Bool.Decides.{nat_tests}
 use Rattle.std.proofs.lemmas.Cmp.{nat_list_cmp_total}
 use Rattle.std.proofs.lemmas.List.{get_or-map, length-map}
-use Rattle.std.proofs.lemmas.List.Elements.{All-cons, All-head, All-tail}
+use Rattle.std.proofs.lemmas.List.Elements.{All-cons, All-head, All-nil, All-tail}
 use Rattle.std.proofs.lemmas.List.Kept.{AllPairs-cons, AllPairs-filter}
 use Rattle.std.proofs.lemmas.List.MinMax.{ranks_by}
 use Rattle.std.proofs.lemmas.List.Sorted.{sorted_far}
@@ -22,6 +22,7 @@ use Rattle.feed_keep.specs.declared.record.Record as code
 use Rattle.feed_keep.specs.Shown.{shown}
 use Rattle.feed_keep.specs.Arranged.{lengthened, ordered}
 use Rattle.feed_model.specs.declared.state.State.{State}
+use Rattle.feed_model.proofs.Distinct.{names-changed}
 use Rattle.feed_keep.proofs.Arranged.{names_ordered}
 use Rattle.feed_keep.specs.Order.{AreNamesInOrder, ArePartsInOrder, IsInOrder}
 
@@ -38,9 +39,6 @@ module _ {X : Type 0} (R : X → X → Type 0) where
   pub pairs-none : AllPairs R []
   pairs-none i j d lt within = absurd (omega arith)
 
-all-none : {X : Type 0} (P : X → Type 0) → All P []
-all-none P k d lt = absurd (omega arith)
-
 -- a record among others
 all_insert : (P : Name → Type 0) (r : Record) (c : Content) → P r.name → All P (names c) → All P (names (insert_record r c))
 all_insert P r [] one all = All-cons P r.name [] one all
@@ -51,7 +49,7 @@ all_insert P r (x ∷ xs) one all = by (comes_before x.name r.name) (all_insert 
     by false rest = All-cons P r.name (x.name ∷ names xs) one all
 
 pub insert_in_order : (r : Record) (c : Content) → AreNamesInOrder (names c) → AreNamesInOrder (names (insert_record r c))
-insert_in_order r [] up = AllPairs-cons (λ m n. comes_before n m ≡ false) r.name [] (all-none (λ n. comes_before n r.name ≡ false)) up
+insert_in_order r [] up = AllPairs-cons (λ m n. comes_before n m ≡ false) r.name [] (All-nil (λ n. comes_before n r.name ≡ false)) up
 insert_in_order r (x ∷ xs) up =
     by (comes_before x.name r.name) refl (insert_in_order r xs (pairs-tail (λ m n. comes_before n m ≡ false) x.name (names xs) up))
   where
@@ -65,15 +63,6 @@ insert_in_order r (x ∷ xs) up =
     by true e rest = AllPairs-cons R x.name (names (insert_record r xs)) (all_insert (R x.name) r xs (names_compare.one_way x.name r.name e) behind) rest
     by false e rest = AllPairs-cons R r.name (x.name ∷ names xs)
         (All-cons (R r.name) x.name (names xs) e (λ k d lt. names_compare.chain (get_or (names xs) k d) x.name r.name (behind k d lt) e)) up
-
--- a change of a record leaves its name
-names_changed : (n : Name) (f : Record → Record) → ((r : Record) → (f r).name ≡ r.name) → (c : Content) → names (changed n f c) ≡ names c
-names_changed n f same [] = refl
-names_changed n f same (r ∷ rs) = by (name_eq r.name n) (names_changed n f same rs)
-  where
-    by : (b : Bool) → names (changed n f rs) ≡ names rs → names (if b then f r ∷ rs else r ∷ changed n f rs) ≡ r.name ∷ names rs
-    by true again = ap (λ m. m ∷ names rs) (same r)
-    by false again = ap (λ ms. r.name ∷ ms) again
 
 names_without : (n : Name) (c : Content) → names (without_earlier n c) ≡ filter (λ m. not (is_earlier m n)) (names c)
 names_without n [] = refl
@@ -126,7 +115,7 @@ either_in_order (Ok x) old new made is same before after = subst (λ (c : Conten
 either_in_order (Err e) old new made is same before after = subst (λ (c : Content). AreNamesInOrder (names c)) (sym same) before
 
 pub lengthened_in_order : (n : Name) (ps : List Part) (state : State) (c : Content) → AreNamesInOrder (names c) → AreNamesInOrder (names (changed n (lengthened ps state) c))
-lengthened_in_order n ps state c up = subst AreNamesInOrder (sym (names_changed n (lengthened ps state) (λ r. refl) c)) up
+lengthened_in_order n ps state c up = subst AreNamesInOrder (sym (names-changed n (lengthened ps state) (λ r. refl) c)) up
 
 -- a part among others
 all_insert_part : (P : Part → Type 0) (p : Part) (qs : List Part) → P p → All P qs → All P (insert_part p qs)
@@ -138,7 +127,7 @@ all_insert_part P p (q ∷ qs) one all = by (nat_lt p.first q.first) (all_insert
     by false rest = All-cons P q (insert_part p qs) (All-head P q qs all) rest
 
 insert_part_in_order : (p : Part) (qs : List Part) → ArePartsInOrder qs → ArePartsInOrder (insert_part p qs)
-insert_part_in_order p [] up = AllPairs-cons (λ p q. p.first ≤ q.first) p [] (all-none (λ q. p.first ≤ q.first)) up
+insert_part_in_order p [] up = AllPairs-cons (λ p q. p.first ≤ q.first) p [] (All-nil (λ q. p.first ≤ q.first)) up
 insert_part_in_order p (q ∷ qs) up = by (nat_lt p.first q.first) refl (insert_part_in_order p qs (pairs-tail (λ p q. p.first ≤ q.first) q qs up))
   where
     R : Part → Part → Type 0
@@ -160,7 +149,7 @@ merged_in_order ps [] up = up
 merged_in_order ps (q ∷ qs) up = merged_in_order (insert_part q ps) qs (insert_part_in_order q ps up)
 
 parts_in_order : (c : Content) → All (λ r. ArePartsInOrder r.parts) (ordered c)
-parts_in_order [] = all-none (λ r. ArePartsInOrder r.parts)
+parts_in_order [] = All-nil (λ r. ArePartsInOrder r.parts)
 parts_in_order (r ∷ rs) = All-cons (λ r. ArePartsInOrder r.parts) _ (ordered rs) (merged_in_order [] r.parts (pairs-none (λ p q. p.first ≤ q.first))) (parts_in_order rs)
 
 pub ordered_in_order : (c : Content) → AreNamesInOrder (names c) → IsInOrder (ordered c)

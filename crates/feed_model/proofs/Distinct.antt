@@ -10,7 +10,8 @@ use Rattle.feed_model.proofs.Names.{name_laws}
 abbrev HasNot : Name → Content → Type 0
 HasNot n c = AllByRecursion (λ y. name_eq n y ≡ false) (names c)
 
-names-changed : (n : Name) (f : Record → Record) → ((r : Record) → (f r).name ≡ r.name) → (c : Content) → names (changed n f c) ≡ names c
+-- a change of a record leaves its name
+pub names-changed : (n : Name) (f : Record → Record) → ((r : Record) → (f r).name ≡ r.name) → (c : Content) → names (changed n f c) ≡ names c
 names-changed n f same [] = refl
 names-changed n f same (x ∷ xs) = by (name_eq x.name n) (names-changed n f same xs)
   where

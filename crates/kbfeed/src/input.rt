@@ -9,7 +9,7 @@ pub enum InputFault {
     Memory,
 }
 
-/// The bytes of an input, up to one past a limit or a few more.
+/// The bytes of an input: all of them, or more than `limit` where it has more, of which at most 65,536 are past it.
 pub fn read_up_to<R: Read>(
     alloc: Global,
     input: &mut R,
