@@ -1,23 +1,19 @@
 -- What `csv` reads from a text is the text's records.
 use Rattle.std.proofs.Common.{◌≡◌, ◌≤◌, ◌<◌, ℕ, List, [], ◌∷◌, ◌++◌, length, Option, Some, None, true}
 use Rattle.std.proofs.Common.{false, refl, sym, ap, arith, eq-eqb, inl, inr, ◌∙◌, append_assoc, Bool, ◌||◌}
-use Rattle.std.specs.Prelude.{◌==◌, ◌&&◌, if◌then◌else◌, ◌⊎◌}
+use Rattle.std.specs.Prelude.{◌==◌, ◌&&◌, if◌then◌else◌, ◌⊎◌, option_map}
 use Rattle.std.specs.List.{slice_split, onto_first, filter}
 use Rattle.std.proofs.lemmas.Bool.{cases_Bool, eqb-true, true≢false}
 use Rattle.std.proofs.lemmas.List.{append-nil, length-drop}
 use Rattle.csv.specs.Machine.{Read, next_record, step, in_field, after_end, ends_at_end}
 use Rattle.csv.specs.Reading.{strip_bom, source_of, pending_of, NextIs, ReadRecord, ReadsNext}
 use Rattle.csv.specs.declared.reader.Reader.{Reader}
-use Rattle.csv.specs.declared.parser.Config.{Config}
 use Rattle.csv.specs.declared.parser.State.{State}
 use Rattle.csv.specs.declared.parser.State.TheVariants as st
 use Rattle.csv.specs.declared.parser.Action.TheVariants as act
 use Rattle.csv.specs.declared.parser.Terminator.TheVariants as term
+use Rattle.feed_kbart.specs.Reader.{tabs}
 use Rattle.feed_kbart.specs.Records.{has_mark, drop_mark, ends_line, is_tab, is_nonempty, lines_of, records_in}
-
--- tabs, no quotes
-abbrev pub tabs : Config
-tabs = record { delimiter = 9; quote = 34; escape = None; double_quote = true; quoting = false; comment = None; terminator = term.CRLF }
 
 -- a test of equality reads in both directions
 eqb-comm : (a b : ℕ) → (a == b) ≡ (b == a)
@@ -35,7 +31,7 @@ choose-three true true false some other = refl
 choose-three true false r some other = refl
 choose-three false q r some other = refl
 
-pub drop_mark-strip : (text : List ℕ) → strip_bom text ≡ drop_mark text
+drop_mark-strip : (text : List ℕ) → strip_bom text ≡ drop_mark text
 unfolding strip_bom
 drop_mark-strip [] = refl
 drop_mark-strip (a ∷ []) = elim (cases_Bool (0xEF == a)) [ inl e ↦ rw e refl | inr e ↦ rw e refl ]
@@ -45,6 +41,10 @@ drop_mark-strip (a ∷ b ∷ []) = elim (cases_Bool (0xEF == a)) [
 ]
 drop_mark-strip (a ∷ b ∷ c ∷ rest) =
     rw (eqb-comm a 0xEF, eqb-comm b 0xBB, eqb-comm c 0xBF) (choose-three (0xEF == a) (0xBB == b) (0xBF == c) rest (a ∷ b ∷ c ∷ rest))
+
+pub drop_marks : (o : Option (List ℕ)) → option_map strip_bom o ≡ option_map drop_mark o
+drop_marks None = refl
+drop_marks (Some text) = ap Some (drop_mark-strip text)
 
 -- between two records
 abbrev pub IsStart : State → Type 0

@@ -3,6 +3,7 @@ use Rattle.std.proofs.Common.{◌≡◌, ◌≤◌, ◌<◌, ◌+◌, ℕ, List,
 use Rattle.std.proofs.lemmas.List.{append-nil}
 use Rattle.csv.specs.Reading.{source_of, ReadRecord}
 use Rattle.csv.specs.declared.reader.Reader.{Reader}
+use Rattle.feed_kbart.specs.Reader.{tabs}
 use Rattle.feed_kbart.specs.Records.{drop_mark, records_in, records_of}
 use Rattle.feed_kbart.specs.Columns.{bad_header, columns_of}
 use Rattle.feed_kbart.specs.Files.{bad_records, holdings_in}
@@ -12,7 +13,7 @@ use Rattle.feed_kbart.specs.HoldingsValue.{HoldingsValue}
 use Rattle.feed_kbart.specs.declared.fault.Reason.{Reason}
 use Rattle.feed_kbart.specs.declared.header.Columns.{Columns}
 use Rattle.feed_kbart.specs.declared.fault.BadFile.TheVariants.{NoHeader}
-use Rattle.feed_kbart.proofs.Cuts.{IsStart, read_leaves, tabs, length-drop_mark}
+use Rattle.feed_kbart.proofs.Cuts.{IsStart, read_leaves, length-drop_mark}
 
 -- these holdings, and those of the records that are left, are all of the text's
 pub record Stands {R : Type 0} (rem : R → Option (List ℕ)) (rdr : Reader R) (columns : Columns) (number : ℕ) (held : HoldingsValue) (text : List ℕ) : Type 0 where

@@ -5,6 +5,7 @@ pub use Rattle.feed_dates.specs.Days
 pub use Rattle.feed_dates.specs.DayRanges
 pub mod Labels
 pub mod Records
+pub mod Reader
 pub mod Columns
 pub mod Coverage
 pub mod Reasons

@@ -1,4 +1,4 @@
-ghost use Rattle.std.specs.Prelude.{◌≡◌, ◌≤◌, IfErr, IfOk, IfSome, length};
+ghost use Rattle.std.specs.Prelude.{◌≡◌, ◌≤◌, ◌<◌, IfErr, IfOk, IfSome, length};
 ghost use Rattle.feed_kbart.specs.Files.{IsFaultOf, IsReadOf};
 ghost use Rattle.feed_kbart.specs.Limits.{file_limit};
 
@@ -12,19 +12,19 @@ use std::io::Read;
 /// The most bytes that a file may have: 64 MiB.
 pub const FILE_LIMIT: usize = 67_108_864;
 
-// All bytes of a reader, if they are not more than a file may have. Std's `read_to_end` would go on
-// after an `Interrupted`.
-fn read_text<R: Read>(alloc: Global, reader: &mut R) -> Result<Blocks, KbartFault>
+// All bytes of a reader, if they are not more than a file may have, read through a block. Std's `read_to_end` would go
+// on after an `Interrupted`.
+fn read_text<R: Read>(alloc: Global, reader: &mut R, block: &mut [u8]) -> Result<Blocks, KbartFault>
+    requires { 0 < length block.old }
     ensures whole { IfOk result (λ blocks. IfSome (R.remaining reader.old) (λ text. blocks ≡ text)) }
     ensures within { IfOk result (λ blocks. length blocks ≤ file_limit) }
     ensures fault { IfErr result (λ fault. IfSome (R.remaining reader.old) (λ text. IsFaultOf text fault)) }
 {
     let mut text = Blocks::new(alloc);
     let mut total = 0usize;
-    let mut block = [0u8; BLOCK];
     // Each turn but the last takes in a byte at least.
     for _ in 0..FILE_LIMIT + 2 {
-        let Ok(count) = reader.read(&mut block) else {
+        let Ok(count) = reader.read(block) else {
             return Err(KbartFault::Read);
         };
         if count == 0 {
@@ -64,6 +64,7 @@ pub fn read_file<R: Read + Drop>(alloc: Global, reader: R) -> Result<Holdings, K
     ensures { IfSome (R.remaining reader) (λ text. IsReadOf text result) }
 {
     let mut reader = reader;
-    let text = read_text(alloc, &mut reader)?;
+    let mut block = vec![in alloc; 0u8; BLOCK]?;
+    let text = read_text(alloc, &mut reader, block.as_mut_slice())?;
     read_whole(alloc, text)
 }

@@ -4,7 +4,7 @@ ghost use Rattle.feed_kbart.specs.Columns.{bad_header, cell, column, columns_of,
 ghost use Rattle.feed_kbart.specs.Labels.{is_label};
 
 use crate::fault::BadFile;
-use crate::label::{Label, REQUIRED, USED};
+use crate::label::{Label, REQUIRED_LABELS, USED};
 use csv::ByteRecord;
 
 /// The places of the used labels' columns, counted from 0.
@@ -58,7 +58,7 @@ fn count_of(header: &ByteRecord, label: Label) -> usize
 fn missing_label(header: &ByteRecord) -> Option<Label>
     ensures { result ≡ first_missing (fields_of header.now) }
 {
-    REQUIRED
+    REQUIRED_LABELS
         .iter()
         .copied()
         .find(|label| column_of(header, *label).is_none())

@@ -23,7 +23,7 @@ pub enum Label {
 }
 
 /// The labels that every file must have, in order.
-pub(crate) const REQUIRED: [Label; 8] = [
+pub const REQUIRED_LABELS: [Label; 8] = [
     Label::PublicationTitle,
     Label::PrintIdentifier,
     Label::OnlineIdentifier,
@@ -110,8 +110,9 @@ impl Label {
         }
     }
 
-    // Whether a header's field is the label.
-    pub(crate) fn is(self, field: &[u8]) -> bool
+    /// Whether a field of a header is the label: it equals it without the spaces at its ends and without regard to the
+    /// case of ASCII letters.
+    pub fn is(self, field: &[u8]) -> bool
         ensures { result ≡ is_label self field.now }
     {
         trim_spaces(field).eq_ignore_ascii_case(self.text())

@@ -1,4 +1,5 @@
-ghost use Rattle.std.specs.Prelude.{IfSome, ◌≡◌, ◌≤◌, ◌⊎◌, length};
+ghost use Rattle.std.specs.Prelude.{IfOk, IfSome, ◌≡◌, ◌≤◌, ◌⊎◌, length};
+ghost use Rattle.feed_kbart.specs.Reader.{IsRecordReader};
 ghost use Rattle.feed_kbart.specs.Records.{records_of};
 ghost use Rattle.feed_kbart.specs.Files.{IsJudged};
 ghost use Rattle.feed_kbart.specs.Limits.{file_limit};
@@ -8,8 +9,8 @@ use crate::fault::{BadFile, KbartFault};
 use crate::file::FILE_LIMIT;
 use crate::header::read_header;
 use crate::holdings::Holdings;
-use csv::{ByteRecord, ReaderBuilder};
-use std::alloc::Global;
+use csv::{ByteRecord, Reader, ReaderBuilder};
+use std::alloc::{AllocError, Global};
 use std::io::Read;
 
 fn fault_of(error: csv::Error) -> KbartFault
@@ -22,18 +23,30 @@ fn fault_of(error: csv::Error) -> KbartFault
     }
 }
 
+/// A reader of the records of a holdings list, the header among them: lines of fields between tabs, without quoting
+/// (NISO RP-9-2014). It drops empty lines, and a byte-order mark at the front.
+pub fn record_reader<R: Read + Drop>(alloc: Global, source: R) -> Result<Reader<R>, AllocError>
+    ensures { IfOk result (λ reader. IsRecordReader R.remaining source reader) }
+{
+    let mut reader = ReaderBuilder::new()
+        .delimiter(b'\t')
+        .quoting(false)
+        .flexible(true)
+        .from_reader(alloc, source);
+    // The reader would keep two copies of the first record, for callers that ask for a header row.
+    match reader.set_byte_headers(ByteRecord::new(alloc)) {
+        Ok(()) => Ok(reader),
+        Err(_) => Err(AllocError),
+    }
+}
+
 /// The rows and the records set aside of a text whose bytes are UTF-8 and begin with at most one
 /// byte-order mark, or why its header is bad.
 pub(crate) fn read_records<R: Read + Drop>(alloc: Global, source: R) -> Result<Holdings, KbartFault>
     ensures { IfSome (R.remaining source)
         (λ text. length text ≤ file_limit → IsJudged (records_of text) result) }
 {
-    let mut reader = ReaderBuilder::new()
-        .has_headers(false)
-        .delimiter(b'\t')
-        .quoting(false)
-        .flexible(true)
-        .from_reader(alloc, source);
+    let mut reader = record_reader(alloc, source)?;
     let mut fields = ByteRecord::new(alloc);
     match reader.read_byte_record(&mut fields) {
         Ok(true) => {}

@@ -4,7 +4,7 @@ use Rattle.feed_kbart.proofs.file.read_file.Goals as goal
 
 pub returns-in_err-text : goal.returns-in_err-text
 returns-in_err-text g c =
-    let p = err_from_is_err_and c.from_residual.result c.from_residual.ensures.1 in
+    let p = err_from_is_err_and c.from_residual-in_err-text.result c.from_residual-in_err-text.ensures.1 in
     let gave = rw c.in_err-text.was at c.read_text.ensures.fault in
     if_some (g.R.Read.remaining c.args.reader) _ (λ text is. rw (p.1, p.2) (rw is at gave))
 

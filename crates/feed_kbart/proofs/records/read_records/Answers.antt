@@ -1,39 +1,32 @@
-use Rattle.std.proofs.Common.{◌∙◌, refl, inl, inr, arith}
+use Rattle.std.proofs.Common.{◌∙◌, refl, inl, arith}
 use Rattle.std.proofs.lemmas.Result.{err_from_is_err_and}
 use Rattle.csv.specs.Records.{fields_of}
-use Rattle.feed_kbart.proofs.Cuts.{drop_mark-strip}
 use Rattle.feed_kbart.proofs.Steps.{no_header, first_record, stands_first, stands_next, stands_end, stands_full, if_some}
 use Rattle.feed_kbart.proofs.records.read_records.Goals as goal
 use Rattle.feed_kbart.proofs.records.read_records.Goals.{else-loop-number-test, then-loop-number-test+in-Ok-false-read_byte_record}
 
 pub returns-in-Ok-false : goal.returns-in-Ok-false
 returns-in-Ok-false g c =
-    let fr = c.from_reader-reader.ensures in
-    let config = rw (c.flexible.ensures, c.quoting.ensures, c.delimiter.ensures, c.has_headers.ensures, c.new.ensures.config) at fr.config in
-    let trims = rw (c.flexible.ensures, c.quoting.ensures, c.delimiter.ensures, c.has_headers.ensures) at fr.trim ∙ c.new.ensures.trim in
-    let named = rw (c.flexible.ensures, c.quoting.ensures, c.delimiter.ensures, c.has_headers.ensures) at fr.has_headers in
+    let fresh = rw c.in_ok-reader.was at c.record_reader.ensures in
     let reads = rw (c.in-Ok-false.is, c.in-Ok-false.field-0-test) at c.read_byte_record.ensures.reads in
     if_some (g.R.Read.remaining c.args.source) _ (λ text is small.
-    no_header g.R.Read.remaining c.from_reader-reader.result c.read_byte_record.new.self text (fields_of c.read_byte_record.new.row) (inl fr.state)
-    (rw (is, drop_mark-strip text) at fr.source) config (reads trims (inr (inr (named, fr.headers)))))
+    no_header g.R.Read.remaining c.in_ok-reader.reader c.read_byte_record.new.self text (fields_of c.read_byte_record.new.row) (inl fresh.front)
+    (rw is at fresh.left) fresh.config (reads fresh.trims fresh.ready))
 
 pub loop-number-init : goal.loop-number-init
 loop-number-init g c =
-    let fr = c.from_reader-reader.ensures in
-    let config = rw (c.flexible.ensures, c.quoting.ensures, c.delimiter.ensures, c.has_headers.ensures, c.new.ensures.config) at fr.config in
-    let trims = rw (c.flexible.ensures, c.quoting.ensures, c.delimiter.ensures, c.has_headers.ensures) at fr.trim ∙ c.new.ensures.trim in
-    let named = rw (c.flexible.ensures, c.quoting.ensures, c.delimiter.ensures, c.has_headers.ensures) at fr.has_headers in
+    let fresh = rw c.in_ok-reader.was at c.record_reader.ensures in
     let reads = rw (c.in-Ok-true.is, c.in-Ok-true.field-0-test) at c.read_byte_record.ensures.reads in
     let on = rw (c.in-Ok-true.is, c.in-Ok-true.field-0-test) at c.read_byte_record.ensures.reads_on in
     let goes = on refl in
     let header = rw c.in_ok-columns.was at c.read_header.ensures in
     record {
-      trims = goes.1 ∙ trims;
-      ready = (goes.4 (inr (inr (named, fr.headers)))).0;
-      config = goes.0 ∙ config;
+      trims = goes.1 ∙ fresh.trims;
+      ready = (goes.4 fresh.ready).0;
+      config = goes.0 ∙ fresh.config;
       stands = λ text is. rw c.new-holdings.ensures
-          (stands_first g.R.Read.remaining c.from_reader-reader.result c.read_byte_record.new.self c.in_ok-columns.columns text (fields_of c.read_byte_record.new.row) (inl fr.state)
-          (rw (is, drop_mark-strip text) at fr.source) config (reads trims (inr (inr (named, fr.headers)))) header.0 header.1);
+          (stands_first g.R.Read.remaining c.in_ok-reader.reader c.read_byte_record.new.self c.in_ok-columns.columns text (fields_of c.read_byte_record.new.row) (inl fresh.front)
+          (rw is at fresh.left) fresh.config (reads fresh.trims fresh.ready) header.0 header.1);
     }
 
 pub loop-number-preserved : goal.loop-number-preserved
@@ -72,16 +65,13 @@ returns g c =
 
 pub returns-in_err-columns : goal.returns-in_err-columns
 returns-in_err-columns g c =
-    let fr = c.from_reader-reader.ensures in
-    let config = rw (c.flexible.ensures, c.quoting.ensures, c.delimiter.ensures, c.has_headers.ensures, c.new.ensures.config) at fr.config in
-    let trims = rw (c.flexible.ensures, c.quoting.ensures, c.delimiter.ensures, c.has_headers.ensures) at fr.trim ∙ c.new.ensures.trim in
-    let named = rw (c.flexible.ensures, c.quoting.ensures, c.delimiter.ensures, c.has_headers.ensures) at fr.has_headers in
+    let fresh = rw c.in_ok-reader.was at c.record_reader.ensures in
     let reads = rw (c.in-Ok-true.is, c.in-Ok-true.field-0-test) at c.read_byte_record.ensures.reads in
     let header = rw c.in_err-columns.was at c.read_header.ensures in
-    let p = err_from_is_err_and c.from_residual.result c.from_residual.ensures.1 in
+    let p = err_from_is_err_and c.from_residual-in_err-columns.result c.from_residual-in_err-columns.ensures.1 in
     if_some (g.R.Read.remaining c.args.source) _ (λ text is small. rw (p.1, p.2)
-    (first_record g.R.Read.remaining c.from_reader-reader.result c.read_byte_record.new.self text (fields_of c.read_byte_record.new.row) (inl fr.state)
-    (rw (is, drop_mark-strip text) at fr.source) config (reads trims (inr (inr (named, fr.headers)))) ∙ header))
+    (first_record g.R.Read.remaining c.in_ok-reader.reader c.read_byte_record.new.self text (fields_of c.read_byte_record.new.row) (inl fresh.front)
+    (rw is at fresh.left) fresh.config (reads fresh.trims fresh.ready) ∙ header))
 
 pub returns-in_err-add : goal.returns-in_err-add
 returns-in_err-add g c =

@@ -1,7 +1,7 @@
 use Rattle.std.proofs.Common.{◌≡◌, List, ℕ, Some}
 use Rattle.csv.specs.Reading.{Ready}
 use Rattle.csv.specs.declared.reader.Trim.TheVariants as trim
-use Rattle.feed_kbart.proofs.Cuts.{tabs}
+use Rattle.feed_kbart.specs.Reader.{tabs}
 use Rattle.feed_kbart.proofs.Steps.{Stands}
 use Rattle.feed_kbart.proofs.records.read_records.Given as goal
 

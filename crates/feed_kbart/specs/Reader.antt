@@ -1,0 +1,21 @@
+-- A reader of records: how it reads, and where it stands.
+use Rattle.std.specs.Prelude.{◌≡◌, ℕ, List, Option, None, option_map, true, false}
+use Rattle.csv.specs.Reading.{Ready, source_of}
+use Rattle.csv.specs.declared.reader.Reader.{Reader}
+use Rattle.csv.specs.declared.reader.Trim.TheVariants as trim
+use Rattle.csv.specs.declared.parser.Config.{Config}
+use Rattle.csv.specs.declared.parser.State.TheVariants as state
+use Rattle.csv.specs.declared.parser.Terminator.TheVariants as terminator
+use Rattle.feed_kbart.specs.Records.{drop_mark}
+
+-- tabs, no quotes
+abbrev pub tabs : Config
+tabs = record { delimiter = 9; quote = 34; escape = None; double_quote = true; quoting = false; comment = None; terminator = terminator.CRLF }
+
+-- it has left what the source gives, but for one byte-order mark at the front, and reads the first record as the others
+pub record IsRecordReader {R : Type 0} (rem : R → Option (List ℕ)) (source : R) (reader : Reader R) : Type 0 where
+  pub trims : reader.trim ≡ trim.None
+  pub config : reader.config ≡ tabs
+  pub ready : Ready reader
+  pub front : reader.state ≡ state.StartRecord
+  pub left : source_of rem reader ≡ option_map drop_mark (rem source)

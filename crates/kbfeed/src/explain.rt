@@ -1,0 +1,126 @@
+//! The records that a list sets aside, as they stand in it.
+use csv::{ByteRecord, Reader};
+use feed_kbart::{DayRange, Label, REQUIRED_LABELS, Reason, record_reader, trim_spaces};
+use std::alloc::{AllocError, Global};
+
+const LABELS: u8 = 13;
+
+const MARK: [u8; 3] = [0xEF, 0xBB, 0xBF];
+
+/// Goes through the records of a list, from its header on.
+#[derive(Drop)]
+pub struct Records<'a> {
+    text: &'a [u8],
+    reader: Reader<&'a [u8]>,
+    fields: ByteRecord,
+    places: Vec<Option<usize>>,
+    number: u32,
+    line: usize,
+    counted: usize,
+}
+
+impl<'a> Records<'a> {
+    /// The records of a list, which is UTF-8 and begins with at most one byte-order mark. It stands at the header.
+    pub fn of(alloc: Global, text: &'a [u8]) -> Result<Records<'a>, AllocError> {
+        let text = text.strip_prefix(MARK.as_slice()).unwrap_or(text);
+        let mut records = Records {
+            text,
+            reader: record_reader(alloc, text)?,
+            fields: ByteRecord::new(alloc),
+            places: Vec::new(alloc),
+            number: 0,
+            line: 1,
+            counted: 0,
+        };
+        records.go_to(1)?;
+        for place in 1..=LABELS {
+            let column = Label::of_place(place).and_then(|label| column_of(&records.fields, label));
+            records.places.push(column)?;
+        }
+        Ok(records)
+    }
+
+    /// Goes on to the record of a number, which is not less than the one where it stands.
+    pub fn go_to(&mut self, number: u32) -> Result<(), AllocError> {
+        for _ in self.number..number {
+            if self.reader.read_byte_record(&mut self.fields).is_err() {
+                return Err(AllocError);
+            }
+        }
+        self.number = number;
+        let read = match self.fields.position() {
+            Some(position) => position.byte() as usize,
+            None => 0,
+        };
+        let rest = self.text.get(self.counted..).unwrap_or(&[]);
+        let before = read.saturating_sub(self.counted);
+        let skipped = rest.get(before..).unwrap_or(&[]);
+        let empty = skipped.iter().take_while(|byte| ends_line(**byte)).count();
+        let passed = before.saturating_add(empty).min(rest.len());
+        self.line = self.line.saturating_add(line_ends(&rest[..passed]));
+        self.counted = self.counted.saturating_add(passed);
+        Ok(())
+    }
+
+    /// The line of the file on which the record stands, counted from 1.
+    pub fn line(&self) -> usize {
+        self.line
+    }
+
+    /// The record's field under a label, which is empty where there is none.
+    pub fn field(&self, label: Label) -> &[u8] {
+        let at = usize::from(label.place()).saturating_sub(1);
+        match self.places.get(at) {
+            Some(Some(column)) => self.fields.get(*column).unwrap_or(&[]),
+            _ => &[],
+        }
+    }
+
+    /// Whether the field under a label is what a reason is about.
+    pub fn offends(&self, label: Label, reason: Reason) -> bool {
+        match (reason, label) {
+            (Reason::NotSerial, Label::PublicationType) => true,
+            (Reason::NoIssn, Label::PrintIdentifier | Label::OnlineIdentifier) => true,
+            (Reason::BadDate, Label::DateFirstIssueOnline | Label::DateLastIssueOnline) => {
+                let date = trim_spaces(self.field(label));
+                !date.is_empty() && DayRange::of_text(date).is_none()
+            }
+            (Reason::Reversed, Label::DateFirstIssueOnline | Label::DateLastIssueOnline) => true,
+            _ => false,
+        }
+    }
+
+    /// The required labels that the header lacks, in their order.
+    pub fn missing_labels(&self, alloc: Global) -> Result<Vec<Label>, AllocError> {
+        let mut missing = Vec::new(alloc);
+        for label in REQUIRED_LABELS {
+            let at = usize::from(label.place()).saturating_sub(1);
+            if let Some(None) = self.places.get(at) {
+                missing.push(label)?;
+            }
+        }
+        Ok(missing)
+    }
+}
+
+// The place of the first field of a header that is a label.
+fn column_of(header: &ByteRecord, label: Label) -> Option<usize> {
+    header.iter().position(|field| label.is(field))
+}
+
+fn ends_line(byte: u8) -> bool {
+    byte == b'\r' || byte == b'\n'
+}
+
+// How many line ends a text has: CR LF is one.
+fn line_ends(text: &[u8]) -> usize {
+    let mut ends = 0usize;
+    let mut before = 0u8;
+    for byte in text {
+        if ends_line(*byte) && (*byte != b'\n' || before != b'\r') {
+            ends = ends.saturating_add(1);
+        }
+        before = *byte;
+    }
+    ends
+}
