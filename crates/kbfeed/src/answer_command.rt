@@ -1,6 +1,7 @@
 //! `kbfeed answer`: what a node answers a query whose active release is the one of a file.
 use crate::causes::{cause_of_name, cause_of_query};
 use crate::check_command::told_of_file;
+use crate::input::Watched;
 use crate::status::{DONE, FAILED, Faults, REFUSED};
 use feed_answer::{Query, QueryFault, WriteFault, answer};
 use feed_kbart::read_file;
@@ -45,9 +46,10 @@ pub fn answer_on<R: Read + Drop, O: Write, F: Write + Drop>(
     out: &mut O,
     faults: &mut Faults<F>,
 ) -> u8 {
-    let holdings = match read_file(alloc, file) {
+    let mut file = Watched::new(file);
+    let holdings = match read_file(alloc, &mut file) {
         Ok(holdings) => holdings,
-        Err(fault) => return told_of_file(faults, fault, asked.text),
+        Err(fault) => return told_of_file(faults, fault, asked.text, file),
     };
     let Ok(answer) = answer(alloc, &holdings, &asked.query) else {
         return faults.told("Memory", FAILED);

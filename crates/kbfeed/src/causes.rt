@@ -9,9 +9,6 @@ pub const LONG_FILE: &str = "a list has at most 67,108,864 bytes";
 /// What a script has that is too long.
 pub const LONG_SCRIPT: &str = "a script has at most 16,777,216 bytes and 100,000 lines";
 
-/// What a read that failed has said.
-pub const FAILED_READ: &str = "a read failed";
-
 /// Why a text is no release's name.
 pub fn cause_of_name(fault: NameFault) -> &'static str {
     match fault {
@@ -45,7 +42,7 @@ pub fn cause_of_line(fault: LineFault) -> &'static str {
             "a number is 1 to 20 digits and fits 64 bits, and there are 1 to 16 nodes",
         LineFault::BadName => "a release's name is as Acme_Global_All_2024-01-01.txt",
         LineFault::BadText => "a backslash begins \\t, \\n, \\r, \\\\ or \\xHH",
-        LineFault::BadFile => "the file does not open or read, or has more than 67,108,864 bytes",
+        LineFault::BadFile => "the file does not read",
         LineFault::Memory => "there was no memory",
     }
 }

@@ -1,5 +1,6 @@
 //! What the words of the command line ask for.
 use crate::check_command::Manner;
+use crate::report::Form;
 use clap::{Arg, ArgAction, ArgMatches, Command, Error};
 use std::alloc::{AllocError, Global};
 
@@ -51,6 +52,10 @@ The last part of FILE is a release name, as Acme_Global_All_2024-01-01.txt. A go
 how many records are set aside, and for each of these its number and the reason. A bad file prints `broken` and the
 reason.
 
+--explain prints below such a record its line in the file, its title and the fields that it is set aside for, and below
+a bad file all required labels that it lacks. --json prints the same as one object on a line for each file: release and
+rows, and in aside the number, line, reason, title and values of each record; or release, broken and labels.
+
 A list has at most 67,108,864 bytes. Several FILEs are checked one after another. FILE - is standard input, under the
 name that --name gives. A FILE that begins with - stands behind --, as in `kbfeed check -- -x_2024-01-01.txt`. FILE is
 UTF-8.
@@ -81,9 +86,26 @@ pub fn read<'a>(alloc: Global, words: &'a [String]) -> Result<(bool, Request<'a>
         .global(true)
         .action(ArgAction::SetTrue)
         .help("Says on a second line what a fault is about, and its cause");
-    let replay = Command::new(alloc, "replay")
+    let command = Command::new(alloc, "kbfeed")
+        .about("A feed of journal holdings lists for OpenURL link resolvers")
+        .version(VERSION)
+        .subcommand_required(true)
+        .arg(verbose)?
+        .subcommand(replay_command(alloc))?
+        .subcommand(check_command(alloc)?)?
+        .subcommand(answer_command(alloc)?)?;
+    let matches = command.try_get_matches_from(words)?;
+    let is_verbose = matches.get_flag("verbose");
+    Ok((is_verbose, request_of(alloc, &matches)?))
+}
+
+fn replay_command<'a>(alloc: Global) -> Command<'a> {
+    Command::new(alloc, "replay")
         .about("Replays a script of published files and nodes")
-        .long_about(REPLAY_HELP);
+        .long_about(REPLAY_HELP)
+}
+
+fn check_command<'a>(alloc: Global) -> Result<Command<'a>, AllocError> {
     let files = Arg::new(alloc, "FILE")
         .required(true)
         .action(ArgAction::Append)
@@ -92,43 +114,63 @@ pub fn read<'a>(alloc: Global, words: &'a [String]) -> Result<(bool, Request<'a>
     let name = Arg::new(alloc, "NAME")
         .long("name")
         .help("The release name of what comes from standard input");
-    let summary = Arg::new(alloc, "summary")
-        .long("summary")
-        .action(ArgAction::SetTrue)
-        .help("Prints one line for each file");
     let strict = Arg::new(alloc, "strict")
         .long("strict")
         .action(ArgAction::SetTrue)
         .help("Ends with status 1 where a record is set aside");
-    let check = Command::new(alloc, "check")
+    let command = Command::new(alloc, "check")
         .about("Checks holdings lists")
         .long_about(CHECK_HELP)
         .arg(files)?
         .arg(name)?
-        .arg(summary)?
         .arg(strict)?;
-    let list = Arg::new(alloc, "FILE")
+    with_forms(alloc, command)
+}
+
+// The command with the options for the form of its report, of which one may be given.
+fn with_forms<'a>(alloc: Global, command: Command<'a>) -> Result<Command<'a>, AllocError> {
+    let summary = Arg::new(alloc, "summary")
+        .long("summary")
+        .action(ArgAction::SetTrue)
+        .conflicts_with("explain")?
+        .conflicts_with("json")?
+        .help("Prints one line for each file");
+    let explain = Arg::new(alloc, "explain")
+        .long("explain")
+        .action(ArgAction::SetTrue)
+        .conflicts_with("json")?
+        .help("Prints for each record that is set aside its line, its title and why");
+    let json = Arg::new(alloc, "json")
+        .long("json")
+        .action(ArgAction::SetTrue)
+        .help("Prints a JSON object for each file");
+    command.arg(summary)?.arg(explain)?.arg(json)
+}
+
+fn answer_command<'a>(alloc: Global) -> Result<Command<'a>, AllocError> {
+    let file = Arg::new(alloc, "FILE")
         .required(true)
         .help("The path of the file");
     let query = Arg::new(alloc, "QUERY")
         .required(true)
         .help("The query of an OpenURL, as rft.issn=2434561x");
-    let answer = Command::new(alloc, "answer")
+    Command::new(alloc, "answer")
         .about("Answers a query from a holdings list")
         .long_about(ANSWER_HELP)
-        .arg(list)?
-        .arg(query)?;
-    let command = Command::new(alloc, "kbfeed")
-        .about("A feed of journal holdings lists for OpenURL link resolvers")
-        .version(VERSION)
-        .subcommand_required(true)
-        .arg(verbose)?
-        .subcommand(replay)?
-        .subcommand(check)?
-        .subcommand(answer)?;
-    let matches = command.try_get_matches_from(words)?;
-    let is_verbose = matches.get_flag("verbose");
-    Ok((is_verbose, request_of(alloc, &matches)?))
+        .arg(file)?
+        .arg(query)
+}
+
+fn form_of(check: &ArgMatches<'_>) -> Form {
+    if check.get_flag("summary") {
+        Form::Summary
+    } else if check.get_flag("explain") {
+        Form::Explained
+    } else if check.get_flag("json") {
+        Form::Json
+    } else {
+        Form::Lines
+    }
 }
 
 fn request_of<'a>(alloc: Global, matches: &ArgMatches<'a>) -> Result<Request<'a>, AllocError> {
@@ -137,7 +179,7 @@ fn request_of<'a>(alloc: Global, matches: &ArgMatches<'a>) -> Result<Request<'a>
             files: Vec::from_slice(alloc, check.get_strs("FILE").unwrap_or(&[]))?,
             name: check.get_str("NAME").unwrap_or(""),
             manner: Manner {
-                summary: check.get_flag("summary"),
+                form: form_of(check),
                 strict: check.get_flag("strict"),
             },
         },

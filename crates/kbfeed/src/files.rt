@@ -1,33 +1,52 @@
 //! The files that scripts publish by their paths.
-use crate::input::{InputFault, read_up_to};
-use crate::script::{Files, LineFault};
+use crate::input::read_up_to;
+use crate::script::{FileCause, Files, LineFault};
 use feed_kbart::FILE_LIMIT;
 use std::alloc::Global;
 use std::fs::File;
 use std::io::ErrorKind;
-use std::str;
+use std::{io, str};
 
 /// The files of this machine. A path is UTF-8, and stands for a file below the working directory where it begins with
 /// no `/`.
 #[derive(Drop)]
 pub struct Disk<'a> {
-    pub rt: &'a HostRuntime,
+    rt: &'a HostRuntime,
+    cause: Option<FileCause>,
+}
+
+impl<'a> Disk<'a> {
+    pub fn new(rt: &'a HostRuntime) -> Disk<'a> {
+        Disk { rt, cause: None }
+    }
+
+    fn read(&self, alloc: Global, path: &str) -> io::Result<Vec<u8>> {
+        let mut file = File::open(self.rt, path)?;
+        read_up_to(alloc, &mut file, FILE_LIMIT)
+    }
 }
 
 impl Files for Disk<'_> {
     fn bytes_of(&mut self, alloc: Global, path: &[u8]) -> Result<Vec<u8>, LineFault> {
         let Ok(path) = str::from_utf8(path) else {
+            self.cause = Some(FileCause::NotUtf8);
             return Err(LineFault::BadFile);
         };
-        let mut file = match File::open(self.rt, path) {
-            Ok(file) => file,
-            Err(fault) if fault.kind() == ErrorKind::OutOfMemory => return Err(LineFault::Memory),
-            Err(_) => return Err(LineFault::BadFile),
-        };
-        match read_up_to(alloc, &mut file, FILE_LIMIT) {
+        match self.read(alloc, path) {
             Ok(bytes) if bytes.len() <= FILE_LIMIT => Ok(bytes),
-            Ok(_) | Err(InputFault::Read) => Err(LineFault::BadFile),
-            Err(InputFault::Memory) => Err(LineFault::Memory),
+            Ok(_) => {
+                self.cause = Some(FileCause::TooLong);
+                Err(LineFault::BadFile)
+            }
+            Err(fault) if fault.kind() == ErrorKind::OutOfMemory => Err(LineFault::Memory),
+            Err(fault) => {
+                self.cause = Some(FileCause::System(fault));
+                Err(LineFault::BadFile)
+            }
         }
+    }
+
+    fn cause(&self) -> Option<&FileCause> {
+        self.cause.as_ref()
     }
 }

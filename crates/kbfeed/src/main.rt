@@ -5,10 +5,13 @@ mod answer_command;
 mod causes;
 mod check_command;
 mod command_line;
+mod explain;
 mod files;
 mod input;
 mod replay_command;
+mod report;
 mod script;
+mod stack;
 mod status;
 
 use check_command::Manner;
@@ -35,6 +38,9 @@ fn status_of(rt: &HostRuntime) -> u8 {
         }
         Err(_) => return faults.told("Memory", FAILED),
     };
+    if !stack::is_taken(words.len()) {
+        return faults.told("Memory", FAILED);
+    }
     let (is_verbose, request) = match command_line::read(rt.alloc(), words.as_slice()) {
         Ok(read) => read,
         Err(error) if error.kind() == ErrorKind::OutOfMemory => {
@@ -51,7 +57,7 @@ fn status_of(rt: &HostRuntime) -> u8 {
     };
     match request {
         Request::Replay => {
-            let mut files = Disk { rt };
+            let mut files = Disk::new(rt);
             let mut input = rt.reader();
             replay_command::replay_on(rt.alloc(), &mut input, &mut files, &mut out, &mut faults)
         }
@@ -60,6 +66,9 @@ fn status_of(rt: &HostRuntime) -> u8 {
             name,
             manner,
         } => {
+            if !name.is_empty() && !files.iter().any(|path| *path == "-") {
+                return faults.told("--name NAME needs FILE -", MISUSED);
+            }
             let mut status = DONE;
             for path in &files {
                 status = status.max(check(rt, path, name, manner, &mut out, &mut faults));
@@ -125,9 +134,6 @@ fn opened<F: Write + Drop>(
 ) -> Result<File, u8> {
     match File::open(rt, path) {
         Ok(file) => Ok(file),
-        Err(fault) if fault.kind() == io::ErrorKind::OutOfMemory => {
-            Err(faults.told("Memory", FAILED))
-        }
-        Err(fault) => Err(faults.told_of("Read", path, fault, FAILED)),
+        Err(fault) => Err(faults.not_read(path, fault)),
     }
 }

@@ -1,8 +1,8 @@
 //! `kbfeed replay`: a script is read whole, replayed over keepers in memory, and its transcript printed.
-use crate::causes::{FAILED_READ, LONG_SCRIPT, cause_of_line};
-use crate::input::{InputFault, read_up_to};
+use crate::causes::{LONG_SCRIPT, cause_of_line};
+use crate::input::read_up_to;
 use crate::script;
-use crate::script::{Files, SCRIPT_LIMIT, Script, ScriptFault};
+use crate::script::{Files, LineFault, SCRIPT_LIMIT, Script, ScriptFault};
 use crate::status::{DONE, FAILED, Faults, REFUSED};
 use feed_core::{KeepFault, Line, ListKeep, Refusal, ReplayFault, Why, replay};
 use std::alloc::{AllocError, Global};
@@ -23,13 +23,12 @@ pub fn replay_on<R: Read, P: Files, O: Write, F: Write + Drop>(
 ) -> u8 {
     let bytes = match read_up_to(alloc, input, SCRIPT_LIMIT) {
         Ok(bytes) => bytes,
-        Err(InputFault::Read) => return faults.told_of("Read", INPUT, FAILED_READ, FAILED),
-        Err(InputFault::Memory) => return faults.told("Memory", FAILED),
+        Err(fault) => return faults.not_read(INPUT, fault),
     };
     let Script { nodes, events } = match script::read(alloc, &bytes, files) {
         Ok(script) => script,
         Err(ScriptFault::Memory) => return faults.told("Memory", FAILED),
-        Err(fault) => return told_of_script(faults, fault, &bytes),
+        Err(fault) => return told_of_script(faults, fault, &bytes, files),
     };
     drop(bytes);
     let Ok(keepers) = keepers_for(alloc, nodes) else {
@@ -65,15 +64,21 @@ fn wants_memory(line: &Line) -> bool {
 }
 
 // Tells why a script does not read, and shows the beginning of its line.
-fn told_of_script<F: Write + Drop>(
+fn told_of_script<P: Files, F: Write + Drop>(
     faults: &mut Faults<F>,
     fault: ScriptFault,
     script: &[u8],
+    files: &P,
 ) -> u8 {
     match fault {
-        ScriptFault::Line { line, fault: cause } => {
+        ScriptFault::Line { line, fault: why } => {
             let shown = script::line_shown(script, line);
-            faults.told_of(fault, shown, cause_of_line(cause), REFUSED)
+            match (why, files.cause()) {
+                (LineFault::BadFile, Some(cause)) => {
+                    faults.told_of(fault, shown, cause, REFUSED)
+                }
+                _ => faults.told_of(fault, shown, cause_of_line(why), REFUSED),
+            }
         }
         _ => faults.told_of(fault, INPUT, LONG_SCRIPT, REFUSED),
     }

@@ -5,7 +5,7 @@ use feed_core::{NODE_LIMIT, Sent, WorldEvent};
 use feed_names::{NameFault, ReleaseName};
 use memchr::{memchr, memchr_iter};
 use std::alloc::{AllocError, AllocFailed, Global};
-use std::str;
+use std::{io, str};
 use thiserror::Error;
 
 /// A script has at most this many bytes.
@@ -83,6 +83,21 @@ fn fault_at(line: usize, fault: LineFault) -> ScriptFault {
 pub trait Files {
     /// The bytes of the file at a path, at most `FILE_LIMIT` of them; else `BadFile`, or `Memory`.
     fn bytes_of(&mut self, alloc: Global, path: &[u8]) -> Result<Vec<u8>, LineFault>;
+
+    /// Why the last path that was bad gave no bytes.
+    fn cause(&self) -> Option<&FileCause>;
+}
+
+/// Why a path gives no bytes.
+#[derive(Debug, Drop, Error)]
+pub enum FileCause {
+    #[error("the path is not UTF-8")]
+    NotUtf8,
+    #[error("a list has at most 67,108,864 bytes")]
+    TooLong,
+    /// It does not open or read.
+    #[error("{0}")]
+    System(io::Error),
 }
 
 /// Reads a script of at most `SCRIPT_LIMIT` bytes and 100,000 lines.

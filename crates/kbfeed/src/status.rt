@@ -64,12 +64,23 @@ impl<F: Write + Drop> Faults<F> {
         }
     }
 
+    /// Tells that something does not open or read, and what the system said, and gives the status.
+    pub fn not_read(&mut self, about: &str, fault: io::Error) -> u8 {
+        match fault.kind() {
+            ErrorKind::OutOfMemory => self.told("Memory", FAILED),
+            _ => self.told_of("Read", about, fault, FAILED),
+        }
+    }
+
     /// The status of a run whose output was printed, or not. That it was not is told, unless nobody reads it any more.
     pub fn printed(&mut self, outcome: io::Result<()>, status: u8) -> u8 {
         match outcome {
             Ok(()) => status,
-            Err(fault) if fault.kind() == ErrorKind::BrokenPipe => FAILED,
-            Err(fault) => self.told_of("Write", "standard output", fault, FAILED),
+            Err(fault) => match fault.kind() {
+                ErrorKind::BrokenPipe => FAILED,
+                ErrorKind::OutOfMemory => self.told("Memory", FAILED),
+                _ => self.told_of("Write", "standard output", fault, FAILED),
+            },
         }
     }
 

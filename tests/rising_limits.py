@@ -1,0 +1,53 @@
+"""Runs a command under a hundred rising limits of its address space, and prints what its runs came to.
+
+rising_limits.py LEAST STEP INPUT COMMAND ..
+
+The limits are LEAST KiB, and STEP more for each run; standard input is the file INPUT. A run is right where it printed
+what the run without a limit prints, with its status. It is a fault where its status is 3 and the fault is Memory. It is
+counted where a last line says how many of the lines are of want of memory. It is not begun where the system ended it
+before it printed anything. Each run that is none of these is printed with its limit. Then the names of those that were
+met, and at last what the run under the greatest limit was."""
+import resource
+import subprocess
+import sys
+
+
+def run(command, path, limit):
+    def limited():
+        resource.setrlimit(resource.RLIMIT_CORE, (0, 0))
+        if limit is not None:
+            resource.setrlimit(resource.RLIMIT_AS, (limit * 1024, limit * 1024))
+    with open(path, "rb") as given:
+        return subprocess.run(command, stdin=given, capture_output=True, preexec_fn=limited, check=False, timeout=60)
+
+
+def outcome(done, whole):
+    if (done.returncode, done.stdout, done.stderr) == (whole.returncode, whole.stdout, whole.stderr):
+        return "right"
+    faults = done.stderr.decode().splitlines()
+    if done.returncode == 3 and faults == ["kbfeed: Memory"]:
+        return "fault"
+    if done.returncode == whole.returncode and len(faults) == 1 and faults[0].startswith("lines of want of memory: "):
+        return "counted"
+    if done.returncode < 0 and not done.stdout and not done.stderr:
+        return "not begun"
+    if done.returncode == 127 and not done.stdout and "loading shared libraries" in faults[0]:
+        return "not begun"
+    return f"{done.returncode} {done.stdout[:80]!r} {done.stderr[:80]!r}"
+
+
+def main():
+    least, step, path, command = int(sys.argv[1]), int(sys.argv[2]), sys.argv[3], sys.argv[4:]
+    whole = run(command, path, None)
+    known = ["not begun", "fault", "counted", "right"]
+    met = []
+    for turn in range(100):
+        limit = least + turn * step
+        met.append(outcome(run(command, path, limit), whole))
+        if met[-1] not in known:
+            print(limit, met[-1])
+    print(", ".join(name for name in known[1:] if name in met) + "; at last " + met[-1])
+
+
+if __name__ == "__main__":
+    main()
