@@ -1,0 +1,132 @@
+-- What the statement that inserts a release makes of the content.
+use Rattle.std.proofs.Common.{◌≡◌, ◌≤◌, ◌&&◌, ℕ, pos, List, [], ◌∷◌, map, filter, Bool, true, false}
+use Rattle.std.proofs.Common.{refl, sym, ap, subst, ◌∙◌}
+use Rattle.std.specs.List.{AllByRecursion, IsDistinct, list_any}
+use Rattle.std.specs.Cmp.Lexicographic.{bytes_decides}
+use Rattle.std.proofs.lemmas.List.Sorted.{IsPermutation-sym}
+use Rattle.std.proofs.lemmas.Map.Keys.{IsDistinct-IsPermutation, IsDistinct-head}
+use Rattle.sqlite_value.specs.declared.value.Value.TheVariants.{Int, Text}
+use Rattle.sqlite_value.specs.Order.{Row}
+use Rattle.sqlite_value.specs.Keys.{plain}
+use Rattle.sqlite_trees.specs.Tree.{Trees, put_row, rowid}
+use Rattle.sqlite_trees.proofs.TreeLemmas.{all-put_row}
+use Rattle.sqlite_schema.specs.declared.schema.Constraint.TheVariants.{ForeignKey}
+use Rattle.sqlite_schema.specs.Rules.{passes, agree}
+use Rattle.sqlite_rules.specs.Lists.{Has}
+use Rattle.sqlite_rules.specs.Edit.{is_taken, id_in}
+use Rattle.sqlite_rules.proofs.ListLemmas.{all_has, all_from, some_has}
+use Rattle.sqlite_catalog.specs.Listing.{IsSound}
+use Rattle.sqlite.specs.Effect.{Database}
+use Rattle.feed_names.specs.ReleaseName.{Name, IsName, text_of}
+use Rattle.feed_model.specs.declared.state.State.{State}
+use Rattle.feed_model.specs.Reply.{max_file}
+use Rattle.feed_model.specs.Content.{Part, Record}
+use Rattle.feed_model.specs.Change.{insert_record}
+use Rattle.feed_rows.specs.Layout.{feed_schema, piece}
+use Rattle.feed_rows.specs.Tables.{IsReleaseRow, AreRows, IsChanged, IsListed, IsOurs, release_row, number_of, text_in, part_in, is_of}
+use Rattle.feed_rows.specs.Tables.{parts_in, record_in, sorted_parts, content_of}
+use Rattle.feed_rows.specs.Records.{bare}
+use Rattle.feed_rows.proofs.Cascade.{key_is}
+use Rattle.feed_rows.proofs.Gone.{IsTexted, equal_texts}
+use Rattle.feed_rows.proofs.Unique.{same_texts, distinct_texts}
+use Rattle.feed_rows.proofs.Ours.{still_ours}
+use Rattle.feed_rows.proofs.Contents.{keyed_releases, texted_releases, texted_pieces}
+use Rattle.feed_rows.proofs.Inserted.{numbered_row, PutsRelease}
+use Rattle.feed_rows.proofs.Puts.{put_moved, put_distinct, put_content}
+use Rattle.feed_rows.proofs.SetState.{state_back}
+
+-- each part has a release of its text
+owned : (db : Trees) (row : Row) → IsTexted row → passes ForeignKey feed_schema db piece row ≡ true → list_any (λ parent. agree plain (1 ∷ []) parent (1 ∷ []) row) (db 1) ≡ true
+owned db row texted h =
+    last (list_any (λ parent. agree plain (1 ∷ []) parent (1 ∷ []) row) (db 1)) (rw (texted, key_is) at h)
+  where
+    last : (b : Bool) → (b && true) ≡ true → b ≡ true
+    last true e = refl
+    last false e = absurd (let g : false ≡ true = e in cc)
+
+flips : (a b : Row) → same_texts a b ≡ same_texts b a
+flips a b = by (same_texts a b) (same_texts b a) refl refl
+  where
+    by : (x y : Bool) → same_texts a b ≡ x → same_texts b a ≡ y → x ≡ y
+    by true true e f = refl
+    by false false e f = refl
+    by true false e f = absurd (let g : true ≡ false = sym ((bytes_decides (text_in b) (text_in a)).1 (sym ((bytes_decides (text_in a) (text_in b)).0 e))) ∙ f in cc)
+    by false true e f = absurd (let g : true ≡ false = sym ((bytes_decides (text_in a) (text_in b)).1 (sym ((bytes_decides (text_in b) (text_in a)).0 f))) ∙ e in cc)
+
+-- a name without a release has no parts
+no_parts : (old : Database) (new : Row) → IsOurs old → IsListed old → IsTexted new → is_taken (old.trees 1) new ≡ false → IsDistinct same_texts (put_row new (old.trees 1)) → filter (is_of (text_in new)) (old.trees 3) ≡ []
+no_parts old new ours are texted free d = none (old.trees 3) (all_from _ (old.trees 3) (λ x h. out x h (is_of (text_in new) x) refl))
+  where
+    apart : AllByRecursion (λ r. same_texts new r ≡ false) (old.trees 1)
+    apart = IsDistinct-head same_texts new (old.trees 1)
+        (IsDistinct-IsPermutation same_texts flips (put_row new (old.trees 1)) (new ∷ old.trees 1) (IsPermutation-sym _ _ (put_moved new (old.trees 1) free)) d)
+
+    rules : AllByRecursion (λ row. passes ForeignKey feed_schema old.trees piece row ≡ true) (old.trees 3)
+    rules = let is : IsSound feed_schema old.trees = subst (λ s. IsSound s old.trees) ours.schema ours.obeyed in (is.obeys.rules ForeignKey).1.1.0
+
+    out : (x : Row) → Has (old.trees 3) x → (b : Bool) → is_of (text_in new) x ≡ b → b ≡ false
+    out x h false e = refl
+    out x h true e =
+        let tx = all_has IsTexted (old.trees 3) x (texted_pieces _ _ are) h in
+        let it = some_has (λ parent. agree plain (1 ∷ []) parent (1 ∷ []) x) (old.trees 1) (owned old.trees x tx (all_has _ (old.trees 3) x rules h)) in
+        let same : text_in it.0 ≡ text_in x = (bytes_decides (text_in it.0) (text_in x)).0 (sym (equal_texts it.0 x (all_has IsTexted (old.trees 1) it.0 (texted_releases _ _ are) it.1) tx) ∙ it.2) in
+        let tie : same_texts new it.0 ≡ true = (bytes_decides (text_in new) (text_in it.0)).1 (sym ((bytes_decides (text_in x) (text_in new)).0 e) ∙ sym same) in
+        absurd (let g : true ≡ false = sym tie ∙ all_has (λ r. same_texts new r ≡ false) (old.trees 1) it.0 apart it.1 in cc)
+
+    none : (xs : List Row) → AllByRecursion (λ x. is_of (text_in new) x ≡ false) xs → filter (is_of (text_in new)) xs ≡ []
+    none [] all = refl
+    none (x ∷ xs) all = rw (all.0, none xs all.1)
+
+-- the columns of a release's row
+abbrev pub release_columns : Name → ℕ → State → Row
+release_columns n size s = Text (text_of n) ∷ Text n.stem ∷ Int n.day ∷ Int (pos size) ∷ Int (pos (number_of s)) ∷ []
+
+module _ (n : Name) (size : ℕ) (s : State) (old new : Database) (named : IsName (text_of n) n) (limit : size ≤ max_file)
+    (it : PutsRelease (release_columns n size s) old new) (are : IsListed old) where
+  row : Row
+  row = numbered_row (old.trees 1) (release_columns n size s)
+
+  all : AllByRecursion IsReleaseRow (put_row row (old.trees 1))
+  unfolding row
+  all =
+      let is_row : IsReleaseRow row = record {
+        is = ap (λ (st : State). release_row (id_in (rowid row)) n size st) (sym (state_back s));
+        named = named;
+        limit = limit;
+      } in
+      all-put_row IsReleaseRow row (old.trees 1) is_row are.are_releases
+
+  listed : IsListed new
+  unfolding row
+  listed =
+      let now : AreRows (put_row row (old.trees 1)) (old.trees 3) = record {
+        are_releases = all;
+        are_pieces = are.are_pieces;
+        ids = put_distinct row (old.trees 1) it.free are.ids;
+        piece_ids = are.piece_ids;
+      } in
+      rw (it.releases, it.pieces) now
+
+  record_is : IsOurs old → IsDistinct same_texts (put_row row (old.trees 1)) → record_in (old.trees 3) row ≡ bare n size s
+  unfolding row
+  record_is ours apart =
+      let none : parts_in (old.trees 3) (text_of n) ≡ [] = ap (λ l. sorted_parts (map part_in l)) (no_parts old row ours are refl it.free apart) in
+      ap (λ (st : State). let x : Record = record { name = n; size = size; state = st; parts = parts_in (old.trees 3) (text_of n) } in x)
+      (state_back s)
+      ∙ ap (λ (ps : List Part). let x : Record = record { name = n; size = size; state = s; parts = ps } in x) none
+
+  content : IsOurs old → content_of new ≡ insert_record (bare n size s) (content_of old)
+  unfolding row
+  content ours =
+      let apart : IsDistinct same_texts (put_row row (old.trees 1)) = subst (IsDistinct same_texts) it.releases
+      (distinct_texts new it.keeps.schema it.keeps.sound (keyed_releases _ _ listed) (texted_releases _ _ listed) listed.ids) in
+      rw (it.releases, it.pieces)
+      (put_content row (old.trees 1) (old.trees 3) it.free all apart ∙ ap (λ r. insert_record r (content_of old)) (record_is ours apart))
+
+pub adds_release : (n : Name) (size : ℕ) (s : State) (old new : Database) → IsName (text_of n) n → size ≤ max_file → IsOurs old
+    → PutsRelease (release_columns n size s) old new → IsChanged (insert_record (bare n size s)) old new
+adds_release n size s old new named limit ours it = record {
+  ours = still_ours old new ours it.keeps;
+  listed = listed n size s old new named limit it;
+  content = λ are. content n size s old new named limit it are ours;
+}

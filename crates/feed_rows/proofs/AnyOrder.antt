@@ -1,0 +1,39 @@
+-- The content does not depend on the order of the rows.
+use Rattle.std.proofs.Common.{◌≡◌, ℕ, List, map, filter, IsPermutation, sym, ap, ◌∙◌}
+use Rattle.std.proofs.lemmas.List.Sorted.{IsPermutation-map}
+use Rattle.sqlite_value.specs.Order.{Row}
+use Rattle.sqlite_trees.proofs.ListLemmas.{IsPermutation-filter}
+use Rattle.sqlite_rules.proofs.ListLemmas.{all_from}
+use Rattle.sqlite.specs.Effect.{Database}
+use Rattle.feed_model.specs.Content.{Part, Record}
+use Rattle.feed_rows.specs.Tables.{IsListed, IsOurs, content_of, is_of, part_in, parts_in, record_in, sorted, text_in}
+use Rattle.feed_rows.proofs.Insertion.{sort_moved}
+use Rattle.feed_rows.proofs.Order.{same_first, part_stops, part_laws, parts_sort, same_text, record_stops, record_laws, records_sort}
+use Rattle.feed_rows.proofs.Unique.{distinct_texts, distinct_places}
+use Rattle.feed_rows.proofs.Contents.{distinct_records, map_same, keyed_releases, texted_releases, keyed_pieces, texted_pieces}
+use Rattle.feed_rows.proofs.AddedPart.{placed_pieces}
+
+module _ (one other : Database) (ours : IsOurs one) (are : IsListed one) (moved : IsPermutation (one.trees 1) (other.trees 1))
+    (parts_moved : IsPermutation (one.trees 3) (other.trees 3)) where
+  same_parts : (text : List ℕ) → parts_in (one.trees 3) text ≡ parts_in (other.trees 3) text
+  same_parts text =
+      let mine : (pieces : List Row) → List Part = λ pieces. map part_in (filter (is_of text) pieces) in
+      let places = distinct_places one ours.schema ours.obeyed (keyed_pieces _ _ are) (texted_pieces _ _ are) (placed_pieces _ _ are)
+      are.piece_ids text in
+      parts_sort (mine (one.trees 3))
+      ∙ sort_moved same_first part_stops part_laws (mine (one.trees 3)) (mine (other.trees 3))
+      (IsPermutation-map part_in _ _ (IsPermutation-filter (is_of text) (one.trees 3) (other.trees 3) parts_moved)) places
+      ∙ sym (parts_sort (mine (other.trees 3)))
+
+  same_record : (row : Row) → record_in (one.trees 3) row ≡ record_in (other.trees 3) row
+  same_record row = ap (λ (ps : List Part). let x : Record = record (record_in (one.trees 3) row) { parts = ps } in x) (same_parts (text_in row))
+
+  pub any_order : content_of one ≡ content_of other
+  any_order =
+      let texts = distinct_texts one ours.schema ours.obeyed (keyed_releases _ _ are) (texted_releases _ _ are) are.ids in
+      let f = record_in (one.trees 3) in
+      records_sort (map f (one.trees 1))
+      ∙ sort_moved same_text record_stops record_laws (map f (one.trees 1)) (map f (other.trees 1))
+      (IsPermutation-map f (one.trees 1) (other.trees 1) moved) (distinct_records (one.trees 3) (one.trees 1) are.are_releases texts)
+      ∙ sym (records_sort (map f (other.trees 1)))
+      ∙ ap sorted (map_same f (record_in (other.trees 3)) (other.trees 1) (all_from _ (other.trees 1) (λ r h. same_record r)))

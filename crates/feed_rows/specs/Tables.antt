@@ -1,0 +1,129 @@
+-- What the tables hold.
+use Rattle.std.specs.Prelude.{◌≡◌, ◌≤◌, ◌==◌, ℕ, ℤ, pos, Bool, if◌then◌else◌, List, [], ◌∷◌, map, filter}
+use Rattle.std.specs.List.{AllByRecursion, IsDistinct}
+use Rattle.std.specs.Ordering.{is_eq}
+use Rattle.std.specs.Cmp.Lexicographic.{pointwise}
+use Rattle.feed_names.specs.ReleaseName.{Name, IsName, text_of}
+use Rattle.feed_model.specs.declared.state.State.{State}
+use Rattle.feed_model.specs.declared.state.State.TheVariants.{Staged, Broken, Active}
+use Rattle.feed_model.specs.Reply.{max_file}
+use Rattle.feed_model.specs.Content.{Part, Record, Content}
+use Rattle.feed_model.specs.Change.{insert_part, insert_record}
+use Rattle.sqlite_value.specs.declared.value.Value.TheVariants.{Int, Text, Blob}
+use Rattle.sqlite_value.specs.Order.{Row, column, bytes, value_cmp}
+use Rattle.sqlite_trees.specs.Tree.{rowid}
+use Rattle.sqlite_trees.specs.Objects.{number_in}
+use Rattle.sqlite_rules.specs.Edit.{id_in}
+use Rattle.sqlite.specs.Effect.{Database, IsDatabase}
+use Rattle.feed_rows.specs.Layout.{feed_schema}
+
+-- ---- the content, of any rows whatever
+
+-- the state that a number stands for
+abbrev pub state_at : ℕ → State
+state_at n = if n == 0 then Staged else if n == 1 then Broken else Active
+
+-- the number by which a state is stored
+abbrev pub number_of : State → ℕ
+number_of Staged = 0
+number_of Broken = 1
+number_of Active = 2
+
+-- the text in the first column, which is the name's
+abbrev pub text_in : Row → List ℕ
+text_in row = bytes (column row 1)
+
+-- the name that the package and the day make
+abbrev pub name_in : Row → Name
+name_in row = record { stem = bytes (column row 2); day = id_in (column row 3) }
+
+-- the part of a row: its first place and its bytes
+abbrev pub part_in : Row → Part
+part_in row = record { first = number_in (column row 2); bytes = bytes (column row 3) }
+
+-- the row has this text in its first column
+abbrev pub is_of : List ℕ → Row → Bool
+is_of text row = pointwise ◌==◌ (text_in row) text
+
+-- the parts by their first places
+abbrev pub sorted_parts : List Part → List Part
+sorted_parts [] = []
+sorted_parts (p ∷ ps) = insert_part p (sorted_parts ps)
+
+-- the parts of a name, in order
+abbrev pub parts_in : List Row → List ℕ → List Part
+parts_in pieces text = sorted_parts (map part_in (filter (is_of text) pieces))
+
+-- the record of a release's row, with the parts of its name
+abbrev pub record_in : List Row → Row → Record
+record_in pieces row = record {
+  name = name_in row;
+  size = number_in (column row 4);
+  state = state_at (number_in (column row 5));
+  parts = parts_in pieces (text_in row);
+}
+
+-- the records by the texts of their names
+abbrev pub sorted : List Record → Content
+sorted [] = []
+sorted (r ∷ rs) = insert_record r (sorted rs)
+
+-- the content of rows of releases, and of parts
+abbrev pub content_in : List Row → List Row → Content
+content_in releases pieces = sorted (map (record_in pieces) releases)
+
+-- the content of a database: its releases, each with the parts of its name, and nothing else
+abbrev pub content_of : Database → Content
+content_of db = content_in (db.trees 1) (db.trees 3)
+
+-- ---- the rows that this product writes
+
+-- a row of a release; in front of the columns stands the number by which a table knows its row
+abbrev pub release_row : ℤ → Name → ℕ → State → Row
+release_row id n size state =
+    Int id ∷ Text (text_of n) ∷ Text n.stem ∷ Int n.day ∷ Int (pos size) ∷ Int (pos (number_of state)) ∷ []
+
+-- a row of a part
+abbrev pub piece_row : ℤ → List ℕ → Part → Row
+piece_row id text p = Int id ∷ Text text ∷ Int (pos p.first) ∷ Blob p.bytes ∷ []
+
+-- the row of the layout: its number is 1
+abbrev pub version_row : Row
+version_row = Int (pos 1) ∷ []
+
+-- a row of a release: its text is the name that its package and day make, and its size is within the limit
+pub record IsReleaseRow (row : Row) : Type 0 where
+  pub is : row ≡ release_row (id_in (rowid row)) (name_in row) (number_in (column row 4)) (state_at (number_in (column row 5)))
+  pub named : IsName (text_of (name_in row)) (name_in row)
+  pub limit : number_in (column row 4) ≤ max_file
+
+-- a row of a part
+abbrev pub IsPieceRow : Row → Type 0
+IsPieceRow row = row ≡ piece_row (id_in (rowid row)) (text_in row) (part_in row)
+
+-- two rows have one rowid
+abbrev pub same_id : Row → Row → Bool
+same_id a b = is_eq (value_cmp (rowid a) (rowid b))
+
+-- rows that this product writes, each with a number of its own
+pub record AreRows (releases pieces : List Row) : Type 0 where
+  pub are_releases : AllByRecursion IsReleaseRow releases
+  pub are_pieces : AllByRecursion IsPieceRow pieces
+  pub ids : IsDistinct same_id releases
+  pub piece_ids : IsDistinct same_id pieces
+
+-- the tables hold a list of records
+abbrev pub IsListed : Database → Type 0
+IsListed db = AreRows (db.trees 1) (db.trees 3)
+
+-- the database has the tables of layout 1 and no other, its rules hold, and the layout's number is 1
+pub record IsOurs (db : Database) : Type 0 where
+  pub schema : db.schema ≡ feed_schema
+  pub obeyed : IsDatabase db
+  pub version : db.trees 0 ≡ version_row ∷ []
+
+-- what a change makes of a database of ours: it stays ours, and where it held a list of records, that is changed so
+pub record IsChanged (f : Content → Content) (old new : Database) : Type 0 where
+  pub ours : IsOurs new
+  pub listed : IsListed old → IsListed new
+  pub content : IsListed old → content_of new ≡ f (content_of old)
