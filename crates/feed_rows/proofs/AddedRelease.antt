@@ -13,7 +13,7 @@ use Rattle.sqlite_trees.proofs.TreeLemmas.{all-put_row}
 use Rattle.sqlite_schema.specs.declared.schema.Constraint.TheVariants.{ForeignKey}
 use Rattle.sqlite_schema.specs.Rules.{passes, agree}
 use Rattle.sqlite_rules.specs.Lists.{Has}
-use Rattle.sqlite_rules.specs.Edit.{is_taken, id_in}
+use Rattle.sqlite_rules.specs.Edit.{is_taken, id_in, next_rowid}
 use Rattle.sqlite_rules.proofs.ListLemmas.{all_has, all_from, some_has}
 use Rattle.sqlite_catalog.specs.Listing.{IsSound}
 use Rattle.sqlite.specs.Effect.{Database}
@@ -22,16 +22,17 @@ use Rattle.feed_model.specs.declared.state.State.{State}
 use Rattle.feed_model.specs.Reply.{max_file}
 use Rattle.feed_model.specs.Content.{Part, Record}
 use Rattle.feed_model.specs.Change.{insert_record}
-use Rattle.feed_rows.specs.Layout.{feed_schema, piece}
+use Rattle.feed_rows.specs.Layout.{feed_schema, piece, release}
 use Rattle.feed_rows.specs.Tables.{IsReleaseRow, AreRows, IsChanged, IsListed, IsOurs, release_row, number_of, text_in, part_in, is_of}
 use Rattle.feed_rows.specs.Tables.{parts_in, record_in, sorted_parts, content_of}
 use Rattle.feed_rows.specs.Records.{bare}
+use Rattle.feed_rows.proofs.Basics.{three_one, zero_one}
 use Rattle.feed_rows.proofs.Cascade.{key_is}
 use Rattle.feed_rows.proofs.Gone.{IsTexted, equal_texts}
 use Rattle.feed_rows.proofs.Unique.{same_texts, distinct_texts}
 use Rattle.feed_rows.proofs.Ours.{still_ours}
 use Rattle.feed_rows.proofs.Contents.{keyed_releases, texted_releases, texted_pieces}
-use Rattle.feed_rows.proofs.Inserted.{numbered_row, PutsRelease}
+use Rattle.feed_rows.proofs.Inserted.{Puts}
 use Rattle.feed_rows.proofs.Puts.{put_moved, put_distinct, put_content}
 use Rattle.feed_rows.proofs.SetState.{state_back}
 
@@ -77,17 +78,19 @@ no_parts old new ours are texted free d = none (old.trees 3) (all_from _ (old.tr
     none [] all = refl
     none (x ∷ xs) all = rw (all.0, none xs all.1)
 
--- the columns of a release's row
-abbrev pub release_columns : Name → ℕ → State → Row
-release_columns n size s = Text (text_of n) ∷ Text n.stem ∷ Int n.day ∷ Int (pos size) ∷ Int (pos (number_of s)) ∷ []
+-- the row of a release, under the next rowid
+abbrev pub new_row : Name → ℕ → State → Database → Row
+new_row n size s db = release_row (next_rowid (db.trees 1)) n size s
 
 module _ (n : Name) (size : ℕ) (s : State) (old new : Database) (named : IsName (text_of n) n) (limit : size ≤ max_file)
-    (it : PutsRelease (release_columns n size s) old new) (are : IsListed old) where
-  row : Row
-  row = numbered_row (old.trees 1) (release_columns n size s)
+    (it : Puts release (new_row n size s old) old new) (are : IsListed old) where
+  abbrev row : Row
+  row = new_row n size s old
+
+  same_pieces : new.trees 3 ≡ old.trees 3
+  same_pieces = it.others.1.1.0 three_one
 
   all : AllByRecursion IsReleaseRow (put_row row (old.trees 1))
-  unfolding row
   all =
       let is_row : IsReleaseRow row = record {
         is = ap (λ (st : State). release_row (id_in (rowid row)) n size st) (sym (state_back s));
@@ -97,7 +100,6 @@ module _ (n : Name) (size : ℕ) (s : State) (old new : Database) (named : IsNam
       all-put_row IsReleaseRow row (old.trees 1) is_row are.are_releases
 
   listed : IsListed new
-  unfolding row
   listed =
       let now : AreRows (put_row row (old.trees 1)) (old.trees 3) = record {
         are_releases = all;
@@ -105,10 +107,9 @@ module _ (n : Name) (size : ℕ) (s : State) (old new : Database) (named : IsNam
         ids = put_distinct row (old.trees 1) it.free are.ids;
         piece_ids = are.piece_ids;
       } in
-      rw (it.releases, it.pieces) now
+      rw (it.rows, same_pieces) now
 
   record_is : IsOurs old → IsDistinct same_texts (put_row row (old.trees 1)) → record_in (old.trees 3) row ≡ bare n size s
-  unfolding row
   record_is ours apart =
       let none : parts_in (old.trees 3) (text_of n) ≡ [] = ap (λ l. sorted_parts (map part_in l)) (no_parts old row ours are refl it.free apart) in
       ap (λ (st : State). let x : Record = record { name = n; size = size; state = st; parts = parts_in (old.trees 3) (text_of n) } in x)
@@ -116,17 +117,16 @@ module _ (n : Name) (size : ℕ) (s : State) (old new : Database) (named : IsNam
       ∙ ap (λ (ps : List Part). let x : Record = record { name = n; size = size; state = s; parts = ps } in x) none
 
   content : IsOurs old → content_of new ≡ insert_record (bare n size s) (content_of old)
-  unfolding row
   content ours =
-      let apart : IsDistinct same_texts (put_row row (old.trees 1)) = subst (IsDistinct same_texts) it.releases
-      (distinct_texts new it.keeps.schema it.keeps.sound (keyed_releases _ _ listed) (texted_releases _ _ listed) listed.ids) in
-      rw (it.releases, it.pieces)
+      let apart : IsDistinct same_texts (put_row row (old.trees 1)) = subst (IsDistinct same_texts) it.rows
+      (distinct_texts new it.schema it.sound (keyed_releases _ _ listed) (texted_releases _ _ listed) listed.ids) in
+      rw (it.rows, same_pieces)
       (put_content row (old.trees 1) (old.trees 3) it.free all apart ∙ ap (λ r. insert_record r (content_of old)) (record_is ours apart))
 
 pub adds_release : (n : Name) (size : ℕ) (s : State) (old new : Database) → IsName (text_of n) n → size ≤ max_file → IsOurs old
-    → PutsRelease (release_columns n size s) old new → IsChanged (insert_record (bare n size s)) old new
+    → Puts release (new_row n size s old) old new → IsChanged (insert_record (bare n size s)) old new
 adds_release n size s old new named limit ours it = record {
-  ours = still_ours old new ours it.keeps;
+  ours = still_ours old new ours (record { schema = it.schema; sound = it.sound; layout = it.others.0 zero_one });
   listed = listed n size s old new named limit it;
   content = λ are. content n size s old new named limit it are ours;
 }

@@ -1,17 +1,19 @@
--- What the two statements that insert a row make of the tables.
-use Rattle.std.proofs.Common.{◌≡◌, Bool, true, false, ℤ, List, [], ◌∷◌, cond, refl}
+-- What a statement that inserts a row makes of the tables.
+use Rattle.std.proofs.Common.{◌≡◌, ◌≢◌, Bool, true, false, ℤ, List, [], ◌∷◌, cond, refl}
+use Rattle.std.specs.List.{AllByRecursion}
 use Rattle.sqlite_value.specs.declared.value.Value.{Value}
 use Rattle.sqlite_value.specs.declared.value.Value.TheVariants.{Null, Int}
 use Rattle.sqlite_value.specs.Order.{Row}
+use Rattle.sqlite.specs.Table.{Table}
 use Rattle.sqlite.specs.Ops.{unary}
 use Rattle.sqlite.specs.Cast.{cast}
 use Rattle.sqlite.specs.Kind.TheVariants.{Integer}
 use Rattle.sqlite.specs.Edit.{next_rowid}
 use Rattle.sqlite.specs.Tree.{put_row}
-use Rattle.sqlite.specs.Effect.{Database}
+use Rattle.sqlite.specs.Effect.{Database, IsDatabase}
 use Rattle.sqlite_rules.specs.Edit.{is_taken, are_fresh}
 use Rattle.feed_rows.proofs.Basics.{not_broken}
-use Rattle.feed_rows.proofs.Ours.{KeepsLayout}
+use Rattle.feed_rows.specs.Layout.{feed_schema}
 
 either : (b : Bool) (x : Value) → cond b x x ≡ x
 either true x = refl
@@ -29,20 +31,10 @@ cast_int n = either _ (Int n)
 pub free_from : (rows : List Row) (row : Row) → are_fresh rows (row ∷ []) ≡ true → is_taken rows row ≡ false
 free_from rows row h = not_broken (is_taken rows row) h
 
--- the row with the next rowid
-abbrev pub numbered_row : List Row → Row → Row
-numbered_row rows columns = Int (next_rowid rows) ∷ columns
-
--- a row is put into the table of releases
-pub record PutsRelease (columns : Row) (old new : Database) : Type 0 where
-  pub keeps : KeepsLayout old new
-  pub free : is_taken (old.trees 1) (numbered_row (old.trees 1) columns) ≡ false
-  pub releases : new.trees 1 ≡ put_row (numbered_row (old.trees 1) columns) (old.trees 1)
-  pub pieces : new.trees 3 ≡ old.trees 3
-
--- a row is put into the table of parts
-pub record PutsPiece (columns : Row) (old new : Database) : Type 0 where
-  pub keeps : KeepsLayout old new
-  pub free : is_taken (old.trees 3) (numbered_row (old.trees 3) columns) ≡ false
-  pub releases : new.trees 1 ≡ old.trees 1
-  pub pieces : new.trees 3 ≡ put_row (numbered_row (old.trees 3) columns) (old.trees 3)
+-- a row is put into a table, under a rowid that was free, and nothing else
+pub record Puts (table : Table) (row : Row) (old new : Database) : Type 0 where
+  pub schema : new.schema ≡ feed_schema
+  pub sound : IsDatabase new
+  pub free : is_taken (old.trees table.tree) row ≡ false
+  pub rows : new.trees table.tree ≡ put_row row (old.trees table.tree)
+  pub others : AllByRecursion (λ t. t.tree ≢ table.tree → new.trees t.tree ≡ old.trees t.tree) feed_schema.tables

@@ -9,7 +9,7 @@ use Rattle.feed_model.specs.declared.state.State.TheVariants.{Staged, Broken, Ac
 use Rattle.feed_model.specs.Reply.{max_file}
 use Rattle.feed_model.specs.Content.{Part, Record, Content}
 use Rattle.feed_model.specs.Change.{insert_part, insert_record}
-use Rattle.sqlite_value.specs.declared.value.Value.TheVariants.{Int, Text, Blob}
+use Rattle.sqlite_value.specs.declared.value.Value.TheVariants.{Null, Int, Text, Blob}
 use Rattle.sqlite_value.specs.Order.{Row, column, bytes, value_cmp}
 use Rattle.sqlite_trees.specs.Tree.{rowid}
 use Rattle.sqlite_trees.specs.Objects.{number_in}
@@ -87,9 +87,9 @@ release_row id n size state =
 abbrev pub piece_row : ℤ → List ℕ → Part → Row
 piece_row id text p = Int id ∷ Text text ∷ Int (pos p.first) ∷ Blob p.bytes ∷ []
 
--- the row of the layout: its number is 1
+-- the row of the layout, whose number is 1; an integer that is the primary key stands in front, and not in its column
 abbrev pub version_row : Row
-version_row = Int (pos 1) ∷ []
+version_row = Int (pos 1) ∷ Null ∷ []
 
 -- a row of a release: its text is the name that its package and day make, and its size is within the limit
 pub record IsReleaseRow (row : Row) : Type 0 where

@@ -1,0 +1,6 @@
+pub mod Inside
+pub mod Runs
+pub mod Inserts
+pub mod Deletes
+pub mod Sets
+pub mod Tables

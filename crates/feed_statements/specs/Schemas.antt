@@ -1,0 +1,25 @@
+-- The schemas while the tables are made.
+use Rattle.std.specs.Prelude.{List, ℕ, Result, Ok, Err}
+use Rattle.sqlite.specs.Compile.{table_defined_by}
+use Rattle.sqlite.specs.Change.{created}
+use Rattle.sqlite.specs.Schema.{Schema}
+use Rattle.sqlite.specs.Table.{Table}
+use Rattle.feed_rows.specs.Layout.{no_schema, no_table}
+use Rattle.feed_statements.specs.Texts.{layout_text, release_text}
+
+-- the table that a text defines
+abbrev pub table_in : {E : Type 0} → Result Table E → Table
+table_in (Ok t) = t
+table_in (Err e) = no_table
+
+-- the schema with the table that a text defines
+abbrev pub with_text : Schema → List ℕ → Schema
+with_text schema text = created schema (table_in (table_defined_by text))
+
+-- the layout's table alone
+abbrev pub first_schema : Schema
+first_schema = with_text no_schema layout_text
+
+-- the layout's table, and that of the releases
+abbrev pub second_schema : Schema
+second_schema = with_text first_schema release_text

@@ -1,0 +1,30 @@
+-- The statements, as texts.
+use Rattle.std.specs.Prelude.{codes, List, ℕ, ◌++◌}
+
+abbrev pub layout_text : List ℕ
+layout_text = codes "CREATE TABLE feed_layout (version INTEGER PRIMARY KEY) STRICT"
+
+abbrev pub release_text : List ℕ
+release_text =
+    codes "CREATE TABLE feed_release (\n  name TEXT NOT NULL PRIMARY KEY,\n  package TEXT NOT NULL,\n  day INTEGER NOT NULL,\n"
+    ++ codes "  size INTEGER NOT NULL,\n  state INTEGER NOT NULL,\n  CHECK (size >= 0),\n  CHECK (state BETWEEN 0 AND 2)\n) STRICT"
+
+abbrev pub piece_text : List ℕ
+piece_text =
+    codes "CREATE TABLE feed_piece (\n  name TEXT NOT NULL REFERENCES feed_release (name) ON DELETE CASCADE,\n"
+    ++ codes "  place INTEGER NOT NULL,\n  bytes BLOB NOT NULL,\n  PRIMARY KEY (name, place),\n  CHECK (place >= 0)\n) STRICT"
+
+abbrev pub version_text : List ℕ
+version_text = codes "INSERT INTO feed_layout (version) VALUES (1)"
+
+abbrev pub insert_text : List ℕ
+insert_text = codes "INSERT INTO feed_release (name, package, day, size, state) VALUES (?1, ?2, ?3, ?4, ?5)"
+
+abbrev pub part_text : List ℕ
+part_text = codes "INSERT INTO feed_piece (name, place, bytes) VALUES (?1, ?2, ?3)"
+
+abbrev pub set_text : List ℕ
+set_text = codes "UPDATE feed_release SET state = ?2 WHERE name = ?1"
+
+abbrev pub delete_text : List ℕ
+delete_text = codes "DELETE FROM feed_release WHERE package = ?1 AND day < ?2"

@@ -1,0 +1,105 @@
+ghost use Rattle.std.specs.Prelude.{◌≡◌, [], ◌∷◌, false, IsTrue, OnErr, OnOk};
+ghost use Rattle.feed_rows.specs.Layout.{feed_schema, no_schema};
+ghost use Rattle.feed_statements.specs.Effects.{HasEmpty, IsBlank, IsLive, Keeps, Leads, LeavesDisk, Makes};
+ghost use Rattle.feed_statements.specs.Schemas.{first_schema, second_schema};
+ghost use Rattle.sqlite.specs.Held.{state};
+ghost use Rattle.sqlite.specs.State.{HasCleanDisk};
+
+use sqlite::{Alter, Connection, Error, ErrorCode, Transaction};
+
+/// Makes the tables in an empty database, with the number of the layout, in one transaction: all of it, or nothing. It
+/// refuses inside a transaction.
+pub fn lay_out<S: Alter>(conn: &mut Connection<S>) -> Result<(), Error>
+    requires { conn.old.in_transaction ≡ false }
+    ensures idle { conn.new.in_transaction ≡ false }
+    ensures open { HasCleanDisk (state S.Store conn.new) → OnOk result (IsTrue (state S.Store conn.new).is_open) }
+    ensures live { IsLive (state S.Store conn.new) → IsLive (state S.Store conn.old) }
+    ensures whole { IsLive (state S.Store conn.new) → OnOk result (Leads (HasEmpty no_schema []) IsBlank
+        (state S.Store conn.old).now (state S.Store conn.new).now) }
+    ensures neither { IsLive (state S.Store conn.new)
+        → OnErr result ((state S.Store conn.new).now ≡ (state S.Store conn.old).now) }
+{
+    if !conn.is_autocommit() {
+        return Err(Error::SqliteFailure(ErrorCode::TransactionState));
+    }
+    let mut tx = conn.transaction();
+    fill(&mut tx)?;
+    tx.commit()
+}
+
+// The tables, and the row of the layout.
+fn fill<S: Alter>(tx: &mut Transaction<'_, S>) -> Result<(), Error>
+    ensures same_reference { tx.new.conn.ghost_name ≡ tx.old.conn.ghost_name }
+    ensures made { Makes S.Store (Leads (HasEmpty no_schema []) IsBlank) tx.old.conn.now tx.new.conn.now result }
+    ensures kept { Keeps S.Store tx.old.conn.now tx.new.conn.now }
+    ensures survives { LeavesDisk S.Store tx.old.conn.now tx.new.conn.now }
+{
+    create_layout(tx)?;
+    create_release(tx)?;
+    create_piece(tx)?;
+    insert_version(tx)?;
+    Ok(())
+}
+
+fn create_layout<S: Alter>(tx: &mut Transaction<'_, S>) -> Result<usize, Error>
+    ensures same_reference { tx.new.conn.ghost_name ≡ tx.old.conn.ghost_name }
+    ensures made { Makes S.Store (Leads (HasEmpty no_schema []) (HasEmpty first_schema (0 ∷ [])))
+        tx.old.conn.now tx.new.conn.now result }
+    ensures kept { Keeps S.Store tx.old.conn.now tx.new.conn.now }
+    ensures survives { LeavesDisk S.Store tx.old.conn.now tx.new.conn.now }
+{
+    tx.execute(
+        "CREATE TABLE feed_layout (version INTEGER PRIMARY KEY) STRICT",
+        &[],
+    )
+}
+
+fn create_release<S: Alter>(tx: &mut Transaction<'_, S>) -> Result<usize, Error>
+    ensures same_reference { tx.new.conn.ghost_name ≡ tx.old.conn.ghost_name }
+    ensures made { Makes S.Store (Leads (HasEmpty first_schema (0 ∷ [])) (HasEmpty second_schema (0 ∷ 1 ∷ [])))
+        tx.old.conn.now tx.new.conn.now result }
+    ensures kept { Keeps S.Store tx.old.conn.now tx.new.conn.now }
+    ensures survives { LeavesDisk S.Store tx.old.conn.now tx.new.conn.now }
+{
+    tx.execute(
+        "CREATE TABLE feed_release (
+  name TEXT NOT NULL PRIMARY KEY,
+  package TEXT NOT NULL,
+  day INTEGER NOT NULL,
+  size INTEGER NOT NULL,
+  state INTEGER NOT NULL,
+  CHECK (size >= 0),
+  CHECK (state BETWEEN 0 AND 2)
+) STRICT",
+        &[],
+    )
+}
+
+fn create_piece<S: Alter>(tx: &mut Transaction<'_, S>) -> Result<usize, Error>
+    ensures same_reference { tx.new.conn.ghost_name ≡ tx.old.conn.ghost_name }
+    ensures made { Makes S.Store (Leads (HasEmpty second_schema (0 ∷ 1 ∷ [])) (HasEmpty feed_schema (0 ∷ 1 ∷ 3 ∷ [])))
+        tx.old.conn.now tx.new.conn.now result }
+    ensures kept { Keeps S.Store tx.old.conn.now tx.new.conn.now }
+    ensures survives { LeavesDisk S.Store tx.old.conn.now tx.new.conn.now }
+{
+    tx.execute(
+        "CREATE TABLE feed_piece (
+  name TEXT NOT NULL REFERENCES feed_release (name) ON DELETE CASCADE,
+  place INTEGER NOT NULL,
+  bytes BLOB NOT NULL,
+  PRIMARY KEY (name, place),
+  CHECK (place >= 0)
+) STRICT",
+        &[],
+    )
+}
+
+fn insert_version<S: Alter>(tx: &mut Transaction<'_, S>) -> Result<usize, Error>
+    ensures same_reference { tx.new.conn.ghost_name ≡ tx.old.conn.ghost_name }
+    ensures made { Makes S.Store (Leads (HasEmpty feed_schema (0 ∷ 1 ∷ 3 ∷ [])) IsBlank)
+        tx.old.conn.now tx.new.conn.now result }
+    ensures kept { Keeps S.Store tx.old.conn.now tx.new.conn.now }
+    ensures survives { LeavesDisk S.Store tx.old.conn.now tx.new.conn.now }
+{
+    tx.execute("INSERT INTO feed_layout (version) VALUES (1)", &[])
+}

@@ -1,0 +1,11 @@
+//! The statements by which a database of SQL keeps the records of a feed: its tables, and each change of the records as one
+//! transaction.
+#![tactic(auto)]
+
+mod changes;
+mod layout;
+mod statements;
+mod text;
+
+pub use changes::commit_change;
+pub use layout::lay_out;

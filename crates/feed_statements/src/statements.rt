@@ -1,0 +1,119 @@
+ghost use Rattle.std.specs.Prelude.{◌≡◌, ◌≤◌};
+ghost use Rattle.feed_model.specs.Change.{changed, insert_record, without_earlier};
+ghost use Rattle.feed_model.specs.Reply.{max_file};
+ghost use Rattle.feed_parts.specs.Shown.{shown_part, shown_parts};
+ghost use Rattle.feed_rows.specs.Records.{bare, with_part, with_parts, with_state};
+ghost use Rattle.feed_rows.specs.Tables.{number_of};
+ghost use Rattle.feed_statements.specs.Effects.{Changes, Keeps, LeavesDisk, Makes};
+
+use crate::text::as_text;
+use feed_keep::{Part, State};
+use feed_names::ReleaseName;
+use sqlite::{Alter, Error, ErrorCode, Transaction, params};
+
+/// Inserts a release without parts.
+pub fn insert_release<S: Alter>(
+    tx: &mut Transaction<'_, S>,
+    name: &ReleaseName,
+    size: u32,
+    value: State,
+) -> Result<usize, Error>
+    ensures same_reference { tx.new.conn.ghost_name ≡ tx.old.conn.ghost_name }
+    ensures made { size ≤ max_file
+        → Makes S.Store (Changes (insert_record (bare name.now size value))) tx.old.conn.now tx.new.conn.now result }
+    ensures kept { Keeps S.Store tx.old.conn.now tx.new.conn.now }
+    ensures survives { LeavesDisk S.Store tx.old.conn.now tx.new.conn.now }
+{
+    let text = as_text(name.text())?;
+    let stem = as_text(name.package())?;
+    tx.execute(
+        "INSERT INTO feed_release (name, package, day, size, state) VALUES (?1, ?2, ?3, ?4, ?5)",
+        params![text, stem, name.day(), size, number_of(value)],
+    )
+}
+
+/// Inserts a part of a release. It refuses a place beyond 32 bits, which no file has.
+pub fn insert_part<S: Alter>(
+    tx: &mut Transaction<'_, S>,
+    name: &ReleaseName,
+    part: &Part,
+) -> Result<usize, Error>
+    ensures same_reference { tx.new.conn.ghost_name ≡ tx.old.conn.ghost_name }
+    ensures made { Makes S.Store (Changes (changed name.now (with_part (shown_part part.now))))
+        tx.old.conn.now tx.new.conn.now result }
+    ensures kept { Keeps S.Store tx.old.conn.now tx.new.conn.now }
+    ensures survives { LeavesDisk S.Store tx.old.conn.now tx.new.conn.now }
+{
+    let text = as_text(name.text())?;
+    let Ok(place) = u32::try_from(part.first) else {
+        return Err(Error::SqliteFailure(ErrorCode::TooBig));
+    };
+    tx.execute(
+        "INSERT INTO feed_piece (name, place, bytes) VALUES (?1, ?2, ?3)",
+        params![text, place, &part.bytes],
+    )
+}
+
+/// Sets the state of a release.
+pub fn set_state<S: Alter>(
+    tx: &mut Transaction<'_, S>,
+    name: &ReleaseName,
+    value: State,
+) -> Result<usize, Error>
+    ensures same_reference { tx.new.conn.ghost_name ≡ tx.old.conn.ghost_name }
+    ensures made { Makes S.Store (Changes (changed name.now (with_state value))) tx.old.conn.now tx.new.conn.now result }
+    ensures kept { Keeps S.Store tx.old.conn.now tx.new.conn.now }
+    ensures survives { LeavesDisk S.Store tx.old.conn.now tx.new.conn.now }
+{
+    let text = as_text(name.text())?;
+    tx.execute(
+        "UPDATE feed_release SET state = ?2 WHERE name = ?1",
+        params![text, number_of(value)],
+    )
+}
+
+/// Deletes the releases of the name's package that are of earlier days, and with them their parts.
+pub fn drop_earlier<S: Alter>(
+    tx: &mut Transaction<'_, S>,
+    name: &ReleaseName,
+) -> Result<usize, Error>
+    ensures same_reference { tx.new.conn.ghost_name ≡ tx.old.conn.ghost_name }
+    ensures made { Makes S.Store (Changes (without_earlier name.now)) tx.old.conn.now tx.new.conn.now result }
+    ensures kept { Keeps S.Store tx.old.conn.now tx.new.conn.now }
+    ensures survives { LeavesDisk S.Store tx.old.conn.now tx.new.conn.now }
+{
+    let stem = as_text(name.package())?;
+    tx.execute(
+        "DELETE FROM feed_release WHERE package = ?1 AND day < ?2",
+        params![stem, name.day()],
+    )
+}
+
+/// Inserts parts of a release, one after another.
+pub fn insert_parts<S: Alter>(
+    tx: &mut Transaction<'_, S>,
+    name: &ReleaseName,
+    parts: &[Part],
+) -> Result<(), Error>
+    ensures same_reference { tx.new.conn.ghost_name ≡ tx.old.conn.ghost_name }
+    ensures made { Makes S.Store (Changes (changed name.now (with_parts (shown_parts parts.now))))
+        tx.old.conn.now tx.new.conn.now result }
+    ensures kept { Keeps S.Store tx.old.conn.now tx.new.conn.now }
+    ensures survives { LeavesDisk S.Store tx.old.conn.now tx.new.conn.now }
+{
+    for part in parts {
+        insert_part(tx, name, part)?;
+    }
+    Ok(())
+}
+
+// The number by which a state is stored.
+fn number_of(state: State) -> u32
+    ensures { result ≡ number_of state }
+{
+    match state {
+        State::Staged => 0,
+        State::Broken => 1,
+        State::Active => 2,
+    }
+}
