@@ -1,7 +1,6 @@
 -- What the statement that inserts a part makes of the content.
-use Rattle.std.proofs.Common.{◌≡◌, ℕ, pos, List, [], ◌∷◌, map, filter, refl, ap, subst}
+use Rattle.std.proofs.Common.{◌≡◌, ℕ, List, map, filter, refl, ap, subst}
 use Rattle.std.specs.List.{AllByRecursion, IsDistinct}
-use Rattle.sqlite_value.specs.declared.value.Value.TheVariants.{Int, Text, Blob}
 use Rattle.sqlite_value.specs.Order.{Row, column}
 use Rattle.sqlite_trees.specs.Tree.{put_row}
 use Rattle.sqlite_trees.proofs.TreeLemmas.{all-put_row}

@@ -1,11 +1,10 @@
 -- What the statement that inserts a release makes of the content.
-use Rattle.std.proofs.Common.{◌≡◌, ◌≤◌, ◌&&◌, ℕ, pos, List, [], ◌∷◌, map, filter, Bool, true, false}
+use Rattle.std.proofs.Common.{◌≡◌, ◌≤◌, ◌&&◌, ℕ, List, [], ◌∷◌, map, filter, Bool, true, false}
 use Rattle.std.proofs.Common.{refl, sym, ap, subst, ◌∙◌}
 use Rattle.std.specs.List.{AllByRecursion, IsDistinct, list_any}
 use Rattle.std.specs.Cmp.Lexicographic.{bytes_decides}
 use Rattle.std.proofs.lemmas.List.Sorted.{IsPermutation-sym}
 use Rattle.std.proofs.lemmas.Map.Keys.{IsDistinct-IsPermutation, IsDistinct-head}
-use Rattle.sqlite_value.specs.declared.value.Value.TheVariants.{Int, Text}
 use Rattle.sqlite_value.specs.Order.{Row}
 use Rattle.sqlite_value.specs.Keys.{plain}
 use Rattle.sqlite_trees.specs.Tree.{Trees, put_row, rowid}
@@ -23,7 +22,7 @@ use Rattle.feed_model.specs.Reply.{max_file}
 use Rattle.feed_model.specs.Content.{Part, Record}
 use Rattle.feed_model.specs.Change.{insert_record}
 use Rattle.feed_rows.specs.Layout.{feed_schema, piece, release}
-use Rattle.feed_rows.specs.Tables.{IsReleaseRow, AreRows, IsChanged, IsListed, IsOurs, release_row, number_of, text_in, part_in, is_of}
+use Rattle.feed_rows.specs.Tables.{IsReleaseRow, AreRows, IsChanged, IsListed, IsOurs, release_row, text_in, part_in, is_of}
 use Rattle.feed_rows.specs.Tables.{parts_in, record_in, sorted_parts, content_of}
 use Rattle.feed_rows.specs.Records.{bare}
 use Rattle.feed_rows.proofs.Basics.{three_one, zero_one}
@@ -55,7 +54,8 @@ flips a b = by (same_texts a b) (same_texts b a) refl refl
     by false true e f = absurd (let g : true ≡ false = sym ((bytes_decides (text_in a) (text_in b)).1 (sym ((bytes_decides (text_in b) (text_in a)).0 f))) ∙ e in cc)
 
 -- a name without a release has no parts
-no_parts : (old : Database) (new : Row) → IsOurs old → IsListed old → IsTexted new → is_taken (old.trees 1) new ≡ false → IsDistinct same_texts (put_row new (old.trees 1)) → filter (is_of (text_in new)) (old.trees 3) ≡ []
+no_parts : (old : Database) (new : Row) → IsOurs old → IsListed old → IsTexted new → is_taken (old.trees 1) new ≡ false → IsDistinct same_texts (put_row new (old.trees 1))
+    → filter (is_of (text_in new)) (old.trees 3) ≡ []
 no_parts old new ours are texted free d = none (old.trees 3) (all_from _ (old.trees 3) (λ x h. out x h (is_of (text_in new) x) refl))
   where
     apart : AllByRecursion (λ r. same_texts new r ≡ false) (old.trees 1)
@@ -70,7 +70,8 @@ no_parts old new ours are texted free d = none (old.trees 3) (all_from _ (old.tr
     out x h true e =
         let tx = all_has IsTexted (old.trees 3) x (texted_pieces _ _ are) h in
         let it = some_has (λ parent. agree plain (1 ∷ []) parent (1 ∷ []) x) (old.trees 1) (owned old.trees x tx (all_has _ (old.trees 3) x rules h)) in
-        let same : text_in it.0 ≡ text_in x = (bytes_decides (text_in it.0) (text_in x)).0 (sym (equal_texts it.0 x (all_has IsTexted (old.trees 1) it.0 (texted_releases _ _ are) it.1) tx) ∙ it.2) in
+        let same : text_in it.0 ≡ text_in x = (bytes_decides (text_in it.0) (text_in x)).0
+        (sym (equal_texts it.0 x (all_has IsTexted (old.trees 1) it.0 (texted_releases _ _ are) it.1) tx) ∙ it.2) in
         let tie : same_texts new it.0 ≡ true = (bytes_decides (text_in new) (text_in it.0)).1 (sym ((bytes_decides (text_in x) (text_in new)).0 e) ∙ sym same) in
         absurd (let g : true ≡ false = sym tie ∙ all_has (λ r. same_texts new r ≡ false) (old.trees 1) it.0 apart it.1 in cc)
 

@@ -64,7 +64,8 @@ unfolding IsDistinct
 distinct_records pieces [] all d = tt
 distinct_records pieces (r ∷ rows) all d = (others r rows all.0 all.1 d.0, distinct_records pieces rows all.1 d.1)
   where
-    others : (r : Row) (xs : List Row) → IsReleaseRow r → AllByRecursion IsReleaseRow xs → AllByRecursion (λ y. same_texts r y ≡ false) xs → AllByRecursion (λ y. same_text (record_in pieces r) y ≡ false) (map (record_in pieces) xs)
+    others : (r : Row) (xs : List Row) → IsReleaseRow r → AllByRecursion IsReleaseRow xs → AllByRecursion (λ y. same_texts r y ≡ false) xs
+        → AllByRecursion (λ y. same_text (record_in pieces r) y ≡ false) (map (record_in pieces) xs)
     others r [] h all apart = tt
     others r (x ∷ xs) h all apart = (
       is_eq-slice_cmp (text_of (name_in r)) (text_of (name_in x)) ∙ rw (← release_text r h, ← release_text x all.0) apart.0,

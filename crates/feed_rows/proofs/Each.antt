@@ -64,8 +64,10 @@ changed_map : (n : Name) (f : Record → Record) (c : Content) → IsDistinct na
 changed_map n f [] d = refl
 changed_map n f (r ∷ rs) d = by (name_eq r.name n) refl (changed_map n f rs (IsDistinct-tail name_eq r.name (names rs) d))
   where
-    by : (b : Bool) → name_eq r.name n ≡ b → map (each n f) rs ≡ changed n f rs → (if name_eq r.name n then f r else r) ∷ map (each n f) rs ≡ (if b then f r ∷ rs else r ∷ changed n f rs)
-    by true e more = rw e (ap (λ l. f r ∷ l) (none_here n f rs (subst (λ (m : Name). AllByRecursion (λ k. name_eq m k ≡ false) (names rs)) (name_is r.name n e) (IsDistinct-head name_eq r.name (names rs) d))))
+    by : (b : Bool) → name_eq r.name n ≡ b → map (each n f) rs ≡ changed n f rs
+        → (if name_eq r.name n then f r else r) ∷ map (each n f) rs ≡ (if b then f r ∷ rs else r ∷ changed n f rs)
+    by true e more = rw e (ap (λ l. f r ∷ l) (none_here n f rs
+        (subst (λ (m : Name). AllByRecursion (λ k. name_eq m k ≡ false) (names rs)) (name_is r.name n e) (IsDistinct-head name_eq r.name (names rs) d))))
     by false e more = rw e (ap (λ l. r ∷ l) more)
 
 each_name : (n : Name) (f : Record → Record) → ((r : Record) → (f r).name ≡ r.name) → (r : Record) → (each n f r).name ≡ r.name
@@ -76,7 +78,8 @@ each_name n f same r = by (name_eq r.name n)
     by false = refl
 
 -- where each record of a list is the changed one, so it is of the content
-pub each_content : (n : Name) (f : Record → Record) → ((r : Record) → (f r).name ≡ r.name) → (rs : List Record) → IsDistinct same_text rs → sorted (map (each n f) rs) ≡ changed n f (sorted rs)
+pub each_content : (n : Name) (f : Record → Record) → ((r : Record) → (f r).name ≡ r.name) → (rs : List Record) → IsDistinct same_text rs
+    → sorted (map (each n f) rs) ≡ changed n f (sorted rs)
 each_content n f same rs d =
     records_sort (map (each n f) rs)
     ∙ sym (map_sort record_stops (each n f) (λ x y. rw (each_name n f same x, each_name n f same y) refl) rs)
@@ -105,11 +108,13 @@ parts_put new pieces t free d =
     ∙ sort_moved same_first part_stops part_laws _ (map part_in (filter (is_of t) (new ∷ pieces))) (IsPermutation-map part_in _ (filter (is_of t) (new ∷ pieces)) moved) d
     ∙ by (is_of t new)
   where
-    by : (b : Bool) → sort part_stops (map part_in (cond b (new ∷ filter (is_of t) pieces) (filter (is_of t) pieces))) ≡ (if b then insert_part (part_in new) (parts_in pieces t) else parts_in pieces t)
+    by : (b : Bool) → sort part_stops (map part_in (cond b (new ∷ filter (is_of t) pieces) (filter (is_of t) pieces)))
+        ≡ (if b then insert_part (part_in new) (parts_in pieces t) else parts_in pieces t)
     by true = sym (inserted_part (part_in new) (sort part_stops (map part_in (filter (is_of t) pieces)))) ∙ ap (insert_part (part_in new)) (sym (parts_sort (map part_in (filter (is_of t) pieces))))
     by false = sym (parts_sort (map part_in (filter (is_of t) pieces)))
 
-pub part_content : (n : Name) (new : Row) (rows pieces : List Row) → IsName (text_of n) n → text_in new ≡ text_of n → AllByRecursion IsReleaseRow rows → IsDistinct same_texts rows → is_taken pieces new ≡ false
+pub part_content : (n : Name) (new : Row) (rows pieces : List Row) → IsName (text_of n) n → text_in new ≡ text_of n → AllByRecursion IsReleaseRow rows → IsDistinct same_texts rows
+    → is_taken pieces new ≡ false
     → ((t : List ℕ) → IsDistinct same_first (map part_in (filter (is_of t) (put_row new pieces))))
     → content_in rows (put_row new pieces) ≡ changed n (with_part (part_in new)) (content_in rows pieces)
 part_content n new rows pieces named texted are apart free places =
@@ -123,7 +128,8 @@ part_content n new rows pieces named texted are apart free places =
         ap (λ (ps : List Part). let x : Record = record (record_in pieces r) { parts = ps } in x) (parts_put new pieces (text_in r) free (places (text_in r)))
         ∙ by (is_of (text_in r) new) (name_eq (name_in r) n) (is_named n r new named row texted)
       where
-        by : (a b : Bool) → a ≡ b → (let x : Record = record (record_in pieces r) { parts = if a then insert_part (part_in new) (parts_in pieces (text_in r)) else parts_in pieces (text_in r) } in x)
+        by : (a b : Bool) → a ≡ b → (let x : Record = record
+            (record_in pieces r) { parts = if a then insert_part (part_in new) (parts_in pieces (text_in r)) else parts_in pieces (text_in r) } in x)
             ≡ (if b then with_part (part_in new) (record_in pieces r) else record_in pieces r)
         by true true e = refl
         by false false e = refl

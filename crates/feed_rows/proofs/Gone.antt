@@ -1,5 +1,6 @@
 -- The rows that a removal leaves, of the releases and of their parts.
-use Rattle.std.proofs.Common.{◌≡◌, ◌⊎◌, inl, inr, ◌==◌, ◌||◌, ◌&&◌, ℤ, List, [], ◌∷◌, map, filter, Bool, true, false, cond, not, IsPermutation, refl, sym, ap, subst, ◌∙◌}
+use Rattle.std.proofs.Common.{◌≡◌, ◌⊎◌, inl, inr, ◌==◌, ◌||◌, ◌&&◌, ℤ, List, [], ◌∷◌, map, filter, Bool, true, false}
+use Rattle.std.proofs.Common.{cond, not, IsPermutation, refl, sym, ap, subst, ◌∙◌}
 use Rattle.std.specs.List.{AllByRecursion, IsDistinct, list_any}
 use Rattle.std.specs.Ordering.{is_eq}
 use Rattle.std.specs.Cmp.Lexicographic.{pointwise, bytes_decides}
@@ -94,7 +95,8 @@ unfolding everything
 first_plain = refl
 
 pub equal_texts : (a b : Row) → IsTexted a → IsTexted b → agree plain (1 ∷ []) a (1 ∷ []) b ≡ pointwise ◌==◌ (text_in a) (text_in b)
-equal_texts a b s t = rw (s, t) (ap (λ how. equal how (Text (text_in a)) (Text (text_in b)) && true) first_plain ∙ and_true (equal Binary (Text (text_in a)) (Text (text_in b))) ∙ text_equal (text_in a) (text_in b))
+equal_texts a b s t = rw (s, t) (ap (λ how. equal how (Text (text_in a)) (Text (text_in b)) && true) first_plain ∙ and_true (equal Binary (Text (text_in a)) (Text (text_in b)))
+    ∙ text_equal (text_in a) (text_in b))
 
 lost : (o : Row) → IsTexted o → loses plain (1 ∷ []) (o, []) ≡ true
 unfolding binary
@@ -134,7 +136,8 @@ module _ (p : Row → Bool) (rows : List Row) (ids : List ℤ) (keyed : AllByRec
   children_are row t =
       pairs_any (is_child_of (work (map (row_at rows) ids)) row) (map (row_at rows) ids)
       ∙ any_taken (λ o. is_child_of (work (map (row_at rows) ids)) row (o, []))
-      ∙ any_same _ (λ o. is_of (text_in o) row) (filter p rows) (all_from _ (filter p rows) (λ o h. child_of (map (row_at rows) ids) row o t (all_has IsTexted rows o texted (has_filtered p rows o h).0)))
+      ∙ any_same _ (λ o. is_of (text_in o) row) (filter p rows)
+      (all_from _ (filter p rows) (λ o h. child_of (map (row_at rows) ids) row o t (all_has IsTexted rows o texted (has_filtered p rows o h).0)))
     where
       any_same : (f g : Row → Bool) (xs : List Row) → AllByRecursion (λ r. f r ≡ g r) xs → list_any f xs ≡ list_any g xs
       any_same f g [] all = refl

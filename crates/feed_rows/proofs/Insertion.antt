@@ -53,11 +53,13 @@ module _ {X : Type 0} (e stops : X → X → Bool) (laws : IsOrderly e stops) wh
       both true s t u = pass x y (z ∷ zs) (laws.one_way x y apart ∙ ap not u) ∙ ap (λ l. y ∷ l) (stop x z zs s) ∙ sym (stop y x (z ∷ zs) u)
       both false s t u = stop x y (z ∷ zs) (laws.one_way x y apart ∙ ap not u) ∙ sym (pass y x (z ∷ zs) u ∙ ap (λ l. x ∷ l) (stop y z zs t))
 
-      by : (a b : Bool) → stops x z ≡ a → stops y z ≡ b → ins stops x (ins stops y zs) ≡ ins stops y (ins stops x zs) → ins stops x (ins stops y (z ∷ zs)) ≡ ins stops y (ins stops x (z ∷ zs))
+      by : (a b : Bool) → stops x z ≡ a → stops y z ≡ b → ins stops x (ins stops y zs) ≡ ins stops y (ins stops x zs)
+          → ins stops x (ins stops y (z ∷ zs)) ≡ ins stops y (ins stops x (z ∷ zs))
       by true true s t more = ap (ins stops x) (stop y z zs t) ∙ both (stops y x) s t refl ∙ sym (ap (ins stops y) (stop x z zs s))
       by true false s t more = crossed x y z zs s t apart
       by false true s t more = sym (crossed y x z zs t s (laws.flips y x ∙ apart))
-      by false false s t more = (ap (ins stops x) (pass y z zs t) ∙ pass x z (ins stops y zs) s) ∙ ap (λ l. z ∷ l) more ∙ sym (ap (ins stops y) (pass x z zs s) ∙ pass y z (ins stops x zs) t)
+      by false false s t more = (ap (ins stops x) (pass y z zs t) ∙ pass x z (ins stops y zs) s) ∙ ap (λ l. z ∷ l) more
+          ∙ sym (ap (ins stops y) (pass x z zs s) ∙ pass y z (ins stops x zs) t)
 
   abbrev Same : List X → List X → Type 0
   Same xs ys = IsPermutation xs ys × (IsDistinct e xs → sort stops xs ≡ sort stops ys)
@@ -146,7 +148,8 @@ module _ {X : Type 0} (e stops : X → X → Bool) (laws : IsOrderly e stops) wh
       first true s = sym (stops_first x (filter p (y ∷ ys)) (all_filter (λ z. stops x z ≡ true) p (y ∷ ys) (s, all_weaker _ (λ z. stops x z ≡ true) (λ z t. laws.chain x y z s t) ys up.0)))
       first false s = refl
 
-      by : (b : Bool) → stops x y ≡ b → filter p (ins stops x ys) ≡ cond (p x) (ins stops x (filter p ys)) (filter p ys) → filter p (ins stops x (y ∷ ys)) ≡ cond (p x) (ins stops x (filter p (y ∷ ys))) (filter p (y ∷ ys))
+      by : (b : Bool) → stops x y ≡ b → filter p (ins stops x ys) ≡ cond (p x) (ins stops x (filter p ys)) (filter p ys)
+          → filter p (ins stops x (y ∷ ys)) ≡ cond (p x) (ins stops x (filter p (y ∷ ys))) (filter p (y ∷ ys))
       by true s more = rw s (first (p x) s)
       by false s more = rw s (kept (p x) (p y) refl refl s more)
 
@@ -156,7 +159,8 @@ module _ {X : Type 0} (e stops : X → X → Bool) (laws : IsOrderly e stops) wh
   filter_sort p (x ∷ xs) d =
       filter_ins p x (sort stops xs) (sort_up xs (IsDistinct-tail e x xs d)) ∙ by (p x) (filter_sort p xs (IsDistinct-tail e x xs d))
     where
-      by : (b : Bool) → filter p (sort stops xs) ≡ sort stops (filter p xs) → cond b (ins stops x (filter p (sort stops xs))) (filter p (sort stops xs)) ≡ sort stops (cond b (x ∷ filter p xs) (filter p xs))
+      by : (b : Bool) → filter p (sort stops xs) ≡ sort stops (filter p xs)
+          → cond b (ins stops x (filter p (sort stops xs))) (filter p (sort stops xs)) ≡ sort stops (cond b (x ∷ filter p xs) (filter p xs))
       by true same = ap (ins stops x) same
       by false same = same
 
@@ -165,7 +169,8 @@ pub map_ins : {X : Type 0} (stops : X → X → Bool) (f : X → X) → ((x y : 
 map_ins stops f same x [] = refl
 map_ins stops f same x (y ∷ ys) = by (stops x y) refl (map_ins stops f same x ys)
   where
-    by : (b : Bool) → stops x y ≡ b → map f (ins stops x ys) ≡ ins stops (f x) (map f ys) → map f (if b then x ∷ y ∷ ys else y ∷ ins stops x ys) ≡ (if stops (f x) (f y) then f x ∷ f y ∷ map f ys else f y ∷ ins stops (f x) (map f ys))
+    by : (b : Bool) → stops x y ≡ b → map f (ins stops x ys) ≡ ins stops (f x) (map f ys)
+        → map f (if b then x ∷ y ∷ ys else y ∷ ins stops x ys) ≡ (if stops (f x) (f y) then f x ∷ f y ∷ map f ys else f y ∷ ins stops (f x) (map f ys))
     by true s more = rw (same x y, s)
     by false s more = rw (same x y, s) (ap (λ l. f y ∷ l) more)
 

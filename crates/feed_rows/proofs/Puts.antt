@@ -47,7 +47,8 @@ none_taken : (new : Row) (rows : List Row) → is_taken rows new ≡ false → A
 none_taken new [] free = tt
 none_taken new (r ∷ rows) free = by (same_id r new) refl free (none_taken new rows)
   where
-    by : (b : Bool) → same_id r new ≡ b → (b || is_taken rows new) ≡ false → (is_taken rows new ≡ false → AllByRecursion (λ r. same_id new r ≡ false) rows) → AllByRecursion (λ r. same_id new r ≡ false) (r ∷ rows)
+    by : (b : Bool) → same_id r new ≡ b → (b || is_taken rows new) ≡ false → (is_taken rows new ≡ false → AllByRecursion (λ r. same_id new r ≡ false) rows)
+        → AllByRecursion (λ r. same_id new r ≡ false) (r ∷ rows)
     by true e f more = absurd (let g : true ≡ false = f in cc)
     by false e f more = (flips new r ∙ e, more f)
 

@@ -1,5 +1,6 @@
 -- Rows that a condition picks, and rows that their rowids take out.
-use Rattle.std.proofs.Common.{◌≡◌, ◌==◌, ◌||◌, ℕ, ℤ, pos, negsuc, List, [], ◌∷◌, ◌++◌, map, filter, flat_map, Bool, true, false, cond, not, None, IsPermutation, refl, sym, ap, subst, ◌∙◌, if◌then◌else◌}
+use Rattle.std.proofs.Common.{◌≡◌, ◌==◌, ◌||◌, ℕ, ℤ, pos, negsuc, List, [], ◌∷◌, ◌++◌, map, filter, flat_map, Bool, true}
+use Rattle.std.proofs.Common.{false, cond, not, None, IsPermutation, refl, sym, ap, subst, ◌∙◌, if◌then◌else◌}
 use Rattle.std.specs.List.{AllByRecursion, list_any, list_all}
 use Rattle.std.specs.Ordering.{is_eq, is_lt, int_cmp}
 use Rattle.std.specs.Cmp.Lexicographic.{pointwise}
@@ -66,7 +67,8 @@ module _ (tree : ℕ) (conditions shown : List Term) (order : List (Term × Key)
   shown_of (r ∷ rows) = by (passes conditions params r) (shown_of rows)
     where
       by : (b : Bool) → map second (map (output q) (flat_map env_if rows)) ≡ map (λ r. eval_all shown (params ∷ r ∷ [])) (filter (passes conditions params) rows)
-          → map second (map (output q) ((if b then (params ∷ r ∷ []) ∷ [] else []) ++ flat_map env_if rows)) ≡ map (λ r. eval_all shown (params ∷ r ∷ [])) (cond b (r ∷ filter (passes conditions params) rows) (filter (passes conditions params) rows))
+          → map second (map (output q) ((if b then (params ∷ r ∷ []) ∷ [] else []) ++ flat_map env_if rows))
+          ≡ map (λ r. eval_all shown (params ∷ r ∷ [])) (cond b (r ∷ filter (passes conditions params) rows) (filter (passes conditions params) rows))
       by true same = ap (λ more. eval_all shown (params ∷ r ∷ []) ∷ more) same
       by false same = same
 
@@ -87,7 +89,8 @@ either_way false true c = refl
 either_way false false c = refl
 
 pub any_moved : {X : Type 0} (p : X → Bool) (xs ys : List X) → IsPermutation xs ys → list_any p xs ≡ list_any p ys
-any_moved {X} p = along_permutation (λ xs ys. list_any p xs ≡ list_any p ys) (λ xs. refl) (λ x xs ys same. ap (λ b. p x || b) same) (λ x y xs. either_way (p x) (p y) (list_any p xs)) (λ xs ys zs a b. a ∙ b)
+any_moved {X} p = along_permutation (λ xs ys. list_any p xs ≡ list_any p ys) (λ xs. refl) (λ x xs ys same. ap (λ b. p x || b) same) (λ x y xs. either_way (p x) (p y) (list_any p xs))
+    (λ xs ys zs a b. a ∙ b)
 
 pub any_map : {X Y : Type 0} (p : Y → Bool) (f : X → Y) (xs : List X) → list_any p (map f xs) ≡ list_any (λ x. p (f x)) xs
 any_map p f [] = refl
@@ -97,14 +100,16 @@ left_of : (r : Row) (rows : List Row) (ids : List ℤ) → without_all (r ∷ ro
 left_of r rows [] = refl
 left_of r rows (id ∷ ids) = by (has_rowid id r) (left_of r (without_rowid id rows) ids)
   where
-    by : (b : Bool) → without_all (r ∷ without_rowid id rows) ids ≡ cond (list_any (λ id. has_rowid id r) ids) (without_all (without_rowid id rows) ids) (r ∷ without_all (without_rowid id rows) ids)
+    by : (b : Bool) → without_all (r ∷ without_rowid id rows) ids
+        ≡ cond (list_any (λ id. has_rowid id r) ids) (without_all (without_rowid id rows) ids) (r ∷ without_all (without_rowid id rows) ids)
         → without_all (cond (not b) (r ∷ without_rowid id rows) (without_rowid id rows)) ids
         ≡ cond (b || list_any (λ id. has_rowid id r) ids) (without_all (without_rowid id rows) ids) (r ∷ without_all (without_rowid id rows) ids)
     by true same = refl
     by false same = same
 
 -- where just the rows of a test have one of the rowids, the others are left
-pub taken_out : (p : Row → Bool) (ids : List ℤ) (rows : List Row) → AllByRecursion (λ r. list_any (λ id. has_rowid id r) ids ≡ p r) rows → without_all rows ids ≡ filter (λ r. not (p r)) rows
+pub taken_out : (p : Row → Bool) (ids : List ℤ) (rows : List Row) → AllByRecursion (λ r. list_any (λ id. has_rowid id r) ids ≡ p r) rows
+    → without_all rows ids ≡ filter (λ r. not (p r)) rows
 taken_out p [] [] all = refl
 taken_out p (id ∷ ids) [] all = taken_out p ids [] tt
 taken_out p ids (r ∷ rows) all = left_of r rows ids ∙ by (p r) all.0 (taken_out p ids rows all.1)

@@ -133,7 +133,8 @@ module _ (n : Name) (s : State) (named : IsName (text_of n) n) where
       ap (λ (st : State). let x : Record = record { name = name_in r; size = number_in (column r 4); state = st; parts = parts_in pieces (text_of (name_in r)) } in x) (state_back s)
       ∙ ap (λ (u : List ℕ). let x : Record = record { name = name_in r; size = number_in (column r 4); state = s; parts = parts_in pieces u } in x) (sym (release_text r h))
 
-  others_same : (pieces xs : List Row) → AllByRecursion IsReleaseRow xs → AllByRecursion (λ r. is_of t r ≡ false) xs → map (λ r. each n (with_state s) (record_in pieces r)) xs ≡ map (record_in pieces) xs
+  others_same : (pieces xs : List Row) → AllByRecursion IsReleaseRow xs → AllByRecursion (λ r. is_of t r ≡ false) xs
+      → map (λ r. each n (with_state s) (record_in pieces r)) xs ≡ map (record_in pieces) xs
   others_same pieces xs are out = map_same _ _ xs (all_from _ xs (λ r h.
       let other : name_eq (name_in r) n ≡ false = sym (named_is n r named (all_has IsReleaseRow xs r are h)) ∙ all_has (λ r. is_of t r ≡ false) xs r out h in
       rw other refl))
@@ -142,7 +143,8 @@ module _ (n : Name) (s : State) (named : IsName (text_of n) n) where
   none_out [] e = tt
   none_out (x ∷ xs) e = by (is_of t x) refl e (none_out xs)
     where
-      by : (b : Bool) → is_of t x ≡ b → cond b (x ∷ filter (is_of t) xs) (filter (is_of t) xs) ≡ [] → (filter (is_of t) xs ≡ [] → AllByRecursion (λ r. is_of t r ≡ false) xs) → AllByRecursion (λ r. is_of t r ≡ false) (x ∷ xs)
+      by : (b : Bool) → is_of t x ≡ b → cond b (x ∷ filter (is_of t) xs) (filter (is_of t) xs) ≡ [] → (filter (is_of t) xs ≡ [] → AllByRecursion (λ r. is_of t r ≡ false) xs)
+          → AllByRecursion (λ r. is_of t r ≡ false) (x ∷ xs)
       by true f g more = absurd (let u = g in cc)
       by false f g more = (f, more g)
 
@@ -204,7 +206,8 @@ answer_none shows rows xs none moved = empty rows (length_permutation [] rows (s
     empty (y ∷ ys) e = absurd (omega arith)
 
 -- the rows that the statement leaves
-renewed_rows : (n : Name) (s : State) (named : IsName (text_of n) n) (old new : Database) → AreRows (old.trees 1) (old.trees 3) → IsDistinct same_texts (old.trees 1) → Sets (text_of n) (pos (number_of s)) old new
+renewed_rows : (n : Name) (s : State) (named : IsName (text_of n) n) (old new : Database) → AreRows (old.trees 1) (old.trees 3) → IsDistinct same_texts (old.trees 1)
+    → Sets (text_of n) (pos (number_of s)) old new
     → AreRenewed n s named (old.trees 1) (old.trees 3) (new.trees 1)
 renewed_rows n s named old new are apart it = by (single t rows apart)
   where
@@ -219,7 +222,8 @@ renewed_rows n s named old new are apart it = by (single t rows apart)
 
     picked : IsPermutation (map show (filter (is_of t) rows)) it.rows
     picked = subst (λ l. IsPermutation (map show l) it.rows)
-        (same_filter (passes with_new_state.filter (Text (text_of n) ∷ Int (pos (number_of s)) ∷ [])) (is_of t) rows (all_from _ rows (λ r h. picks_is t (pos (number_of s)) r (all_has IsReleaseRow rows r are.are_releases h))))
+        (same_filter (passes with_new_state.filter (Text (text_of n) ∷ Int (pos (number_of s)) ∷ [])) (is_of t) rows
+        (all_from _ rows (λ r h. picks_is t (pos (number_of s)) r (all_has IsReleaseRow rows r are.are_releases h))))
         (answered 1 with_new_state.filter with_new_state.project [] (Text (text_of n) ∷ Int (pos (number_of s)) ∷ []) old.trees it.rows refl it.picked)
 
     by : (filter (is_of t) rows ≡ []) ⊎ ((r : Row) × (filter (is_of t) rows ≡ r ∷ [])) → AreRenewed n s named (old.trees 1) (old.trees 3) (new.trees 1)

@@ -115,23 +115,28 @@ module _ (rows : List Row) (keyed : AllByRecursion IsKeyed rows) (texted : AllBy
   firsts_apart (x ∷ xs) among d =
       (others x (among x (inl refl)) xs (λ y h. among y (inr h)) d.0, firsts_apart xs (λ y h. among y (inr h)) d.1)
     where
-      others : (x : Row) → Has rows x × (is_of t x ≡ true) → (ys : List Row) → ((y : Row) → Has ys y → Has rows y × (is_of t y ≡ true)) → AllByRecursion (λ y. same_id x y ≡ false) ys
+      others : (x : Row) → Has rows x × (is_of t x ≡ true) → (ys : List Row) → ((y : Row) → Has ys y → Has rows y × (is_of t y ≡ true))
+          → AllByRecursion (λ y. same_id x y ≡ false) ys
           → AllByRecursion (λ p. same_first (part_in x) p ≡ false) (map part_in ys)
       others x here [] among apart = tt
       others x here (y ∷ ys) among apart = (places_apart_from x y here.0 (among y (inl refl)).0 apart.0 here.1 (among y (inl refl)).1, others x here ys (λ z h. among z (inr h)) apart.1)
 
 -- no two parts of a name have one place
-pub distinct_places : (db : Database) → db.schema ≡ feed_schema → IsDatabase db → AllByRecursion IsKeyed (db.trees 3) → AllByRecursion IsTexted (db.trees 3) → AllByRecursion IsPlaced (db.trees 3) → IsDistinct same_id (db.trees 3)
+pub distinct_places : (db : Database) → db.schema ≡ feed_schema → IsDatabase db → AllByRecursion IsKeyed (db.trees 3) → AllByRecursion IsTexted (db.trees 3)
+    → AllByRecursion IsPlaced (db.trees 3) → IsDistinct same_id (db.trees 3)
     → (t : List ℕ) → IsDistinct same_first (map part_in (filter (is_of t) (db.trees 3)))
 distinct_places db has sound keyed texted placed d t =
     let is : IsSound feed_schema db.trees = subst (λ s. IsSound s db.trees) has sound in
     let rules = (is.obeys.rules Unique).1.1.0 in
-    firsts_apart (db.trees 3) keyed texted placed (all_from _ (db.trees 3) (λ r h. piece_free db.trees r (all_has (λ row. passes Unique feed_schema db.trees piece row ≡ true) (db.trees 3) r rules h))) t
+    firsts_apart (db.trees 3) keyed texted placed (all_from _ (db.trees 3)
+    (λ r h. piece_free db.trees r (all_has (λ row. passes Unique feed_schema db.trees piece row ≡ true) (db.trees 3) r rules h))) t
     (filter (is_of t) (db.trees 3)) (λ x h. has_filtered (is_of t) (db.trees 3) x h) (distinct_some (is_of t) (db.trees 3) d)
 
 -- no two releases have one text
-pub distinct_texts : (db : Database) → db.schema ≡ feed_schema → IsDatabase db → AllByRecursion IsKeyed (db.trees 1) → AllByRecursion IsTexted (db.trees 1) → IsDistinct same_id (db.trees 1) → IsDistinct same_texts (db.trees 1)
+pub distinct_texts : (db : Database) → db.schema ≡ feed_schema → IsDatabase db → AllByRecursion IsKeyed (db.trees 1) → AllByRecursion IsTexted (db.trees 1)
+    → IsDistinct same_id (db.trees 1) → IsDistinct same_texts (db.trees 1)
 distinct_texts db has sound keyed texted d =
     let is : IsSound feed_schema db.trees = subst (λ s. IsSound s db.trees) has sound in
     let rules = (is.obeys.rules Unique).1.0 in
-    texts_apart (db.trees 1) keyed texted (all_from _ (db.trees 1) (λ r h. clash_free db.trees r (all_has (λ row. passes Unique feed_schema db.trees release row ≡ true) (db.trees 1) r rules h))) (db.trees 1) (λ x h. h) d
+    texts_apart (db.trees 1) keyed texted (all_from _ (db.trees 1)
+    (λ r h. clash_free db.trees r (all_has (λ row. passes Unique feed_schema db.trees release row ≡ true) (db.trees 1) r rules h))) (db.trees 1) (λ x h. h) d

@@ -1,17 +1,17 @@
 -- What the statements that insert a row make of the tables.
-use Rattle.std.proofs.Common.{◌≡◌, Bool, MatchBool, Option, Result, ℕ, ℤ, pos, List, [], ◌∷◌, true, false, None, Some, Ok, slice_get, length, ◌/◌, if◌then◌else◌, refl, sym, ap, subst, ◌∙◌}
+use Rattle.std.proofs.Common.{◌≡◌, Bool, MatchBool, Option, Result, ℕ, pos, List, [], ◌∷◌, true, false, None, Some, Ok, slice_get}
+use Rattle.std.proofs.Common.{length, ◌/◌, if◌then◌else◌, refl, sym, ap, subst, ◌∙◌}
 use Rattle.sqlite_value.specs.declared.value.Value.TheVariants.{Null, Int, Text, Blob}
 use Rattle.sqlite_value.specs.Order.{Row}
 use Rattle.sqlite_schema.specs.declared.schema.Keys.TheVariants.{Enforced}
-use Rattle.sqlite_rules.specs.Edit.{are_fresh, taken_by, put_all, next_rowid}
+use Rattle.sqlite_rules.specs.Edit.{are_fresh, taken_by, put_all}
 use Rattle.sqlite_rules.specs.Action.{Writes, works}
 use Rattle.sqlite.specs.Term.{Term, lit, col}
-
 use Rattle.sqlite.specs.Table.{Table}
 use Rattle.sqlite.specs.Source.TheVariants.{Values}
 use Rattle.sqlite.specs.Command.{Command}
 use Rattle.sqlite.specs.Command.TheVariants.{Insert}
-use Rattle.sqlite.specs.Edit.{Edit, edit_of}
+use Rattle.sqlite.specs.Edit.{edit_of}
 use Rattle.sqlite.specs.Rowids.TheVariants.{Above, Chosen}
 use Rattle.sqlite.specs.Does.{Tally, Does}
 use Rattle.sqlite.specs.Rows.{Written, count_of, stamped}
@@ -62,7 +62,8 @@ module _ (text : List ℕ) (params : Row) (old new : State) (count at : ℕ) (ta
       → Puts table row old.now new.now
   puts news none =
       let w = runs_as text params old new feed_schema has command is plain count h in
-      let does = subst (λ s. Does old.step_limit (mode_of old) params (record old.now { schema = s }) (statement_of text (understood feed_schema text)) None command (Ok (w.tally, new.now))) has w.changed in
+      let does = subst (λ s. Does old.step_limit (mode_of old) params (record old.now { schema = s }) (statement_of text (understood feed_schema text)) None command
+      (Ok (w.tally, new.now))) has w.changed in
       let done = went (rw there at does) in
       let now = ap (λ (p : Tally × Database). p.1) (same_value (went (went done.2).2).2) in
       let given = went done.1 in
@@ -75,7 +76,8 @@ module _ (text : List ℕ) (params : Row) (old new : State) (count at : ℕ) (ta
       let writes : Writes feed_schema Enforced old.now.trees edit (Ok new.now.trees) =
       subst (λ t. Writes feed_schema Enforced old.now.trees edit (Ok t)) (sym all)
       (subst (λ sources. Writes feed_schema Enforced old.now.trees (edit_of old.now.trees table [] Chosen 0 sources) (Ok written.0)) given.1.1
-      (subst (λ b. Writes feed_schema Enforced old.now.trees (edit_of old.now.trees table [] (if b then Above (count_of (went given.2).0) else Chosen) 0 given.0) (Ok written.0)) uncounted written.1)) in
+      (subst (λ b. Writes feed_schema Enforced old.now.trees (edit_of old.now.trees table [] (if b then Above (count_of (went given.2).0) else Chosen) 0 given.0)
+      (Ok written.0)) uncounted written.1)) in
       let step = one_step feed_schema Enforced old.now.trees new.now.trees edit none writes in
       let rows = old.now.trees table.tree in record {
         schema = ap (λ (d : Database). d.schema) now;

@@ -1,10 +1,9 @@
--- A statement inside a transaction, and a transaction that ends.
-use Rattle.std.proofs.Common.{◌≡◌, ◌⊎◌, inl, inr, ℕ, List, Bool, true, false, Ok, Err, Result, IfErr, IsErr, IsTrue, OnErr, OnOk, refl, sym, ap, ◌∙◌}
+-- A statement inside a transaction.
+use Rattle.std.proofs.Common.{◌≡◌, ℕ, List, Bool, true, false, Ok, Err, Result, IsErr, OnOk, refl}
 use Rattle.sqlite_value.specs.Order.{Row}
 use Rattle.sqlite.specs.declared.error.Error.{Error}
 use Rattle.sqlite.specs.Effect.{Database}
 use Rattle.sqlite.specs.State.{State, Executes, ExecutesInside, KeepsCommit}
-use Rattle.sqlite.specs.Steps.{FailsToCommit}
 use Rattle.sqlite.proofs.InsideLemmas.{inside_keeps}
 use Rattle.feed_statements.specs.Effects.{IsMade}
 
@@ -31,11 +30,3 @@ module _ (text : List ℕ) (params : Row) (old new : State) where
       by : (b : Bool) → old.in_transaction ≡ b → KeepsCommit old new
       by false is = let e = ended is in rw e (record { was_open = λ is_on. is_on; committed = λ is_on. refl })
       by true is = inside_keeps old new 0 false text params result (runs is)
-
--- a commit that fails leaves what was committed before
-pub undone : {X : Type 0} (old : Database) (begun mid new : State) (r : Result X Error) → IfErr r (FailsToCommit mid new) → IsTrue mid.in_transaction → IsTrue new.is_open
-    → KeepsCommit begun mid → (IsTrue begun.is_open → begun.committed ≡ old) → OnErr r (new.now ≡ old)
-undone old begun mid new (Ok x) failed on live kept settled = tt
-undone old begun mid new (Err e) (inl failed) on live kept settled =
-    let was = failed.3.was_open live in (failed.3.undone live).0 ∙ kept.committed was ∙ settled (kept.was_open was)
-undone old begun mid new (Err e) (inr late) on live kept settled = absurd (let f = late.1 in cc)

@@ -4,3 +4,4 @@ pub mod Inserts
 pub mod Deletes
 pub mod Sets
 pub mod Tables
+pub mod Sequence

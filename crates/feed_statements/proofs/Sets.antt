@@ -1,23 +1,18 @@
 -- What the statement that sets a state makes of the tables.
-use Rattle.std.proofs.Common.{◌≡◌, ◌≢◌, ◌⊎◌, inl, inr, ℕ, ℤ, pos, negsuc, List, [], ◌∷◌, Bool, true, false, Some, None, Ok, Err, Result, refl, ◌==◌, length, suc, sym, ap, subst, ◌∙◌, arith}
+use Rattle.std.proofs.Common.{◌≡◌, ℕ, ℤ, List, [], ◌∷◌, Bool, true, false, None}
+use Rattle.std.proofs.Common.{Ok, refl, ◌==◌, length, suc, ap, subst, ◌∙◌}
 use Rattle.sqlite_value.specs.declared.value.Value.TheVariants.{Null, Int, Text}
 use Rattle.sqlite_value.specs.Order.{Row}
 use Rattle.sqlite_schema.specs.declared.schema.Keys.TheVariants.{Enforced}
 use Rattle.sqlite_rules.specs.declared.error.Rowids.TheVariants.{Given}
-use Rattle.sqlite_rules.specs.Edit.{edit_of, edited, taken_by, are_fresh, left_by}
+use Rattle.sqlite_rules.specs.Edit.{edit_of, taken_by}
 use Rattle.sqlite_rules.specs.Action.{works}
 use Rattle.sqlite_rules.specs.Calls.{ids_of}
-use Rattle.sqlite_sql.specs.declared.ops.BinaryOp.TheVariants.{Compare}
-use Rattle.sqlite_sql.specs.declared.ops.CompareOp.TheVariants.{Eq}
-use Rattle.sqlite.specs.Collation.TheVariants.{Binary}
-use Rattle.sqlite.specs.Query.{Query, inner, end, IsAnswer}
-use Rattle.sqlite.specs.Program.{overlay}
-use Rattle.sqlite.specs.Term.{lit, col, op2}
 use Rattle.sqlite.specs.Command.TheVariants as command
 use Rattle.sqlite.specs.Tree.{Trees}
 use Rattle.sqlite.specs.Does.{Tally, Does}
 use Rattle.sqlite.specs.Rows.{Written}
-use Rattle.sqlite.specs.Effect.{Database, IsDatabase}
+use Rattle.sqlite.specs.Effect.{Database}
 use Rattle.sqlite_tied.specs.Compute.{everything}
 use Rattle.sqlite.specs.Listing.{understood}
 use Rattle.sqlite.specs.State.{State, mode_of, Executes}
@@ -30,7 +25,6 @@ use Rattle.feed_rows.proofs.Basics.{zero_one, three_one}
 use Rattle.feed_rows.proofs.Cascade.{key_is}
 use Rattle.feed_rows.proofs.Conditions.{with_new_state}
 use Rattle.feed_rows.proofs.SetState.{Sets}
-
 
 set_is : command_of (understood feed_schema set_text) ≡ command.Update 1 (record { lets = []; body = with_new_state })
 unfolding understood everything
@@ -49,7 +43,8 @@ no_work_by olds news true h none = rw (h, key_is, none refl) refl
 
 no_work : (db : Trees) (rows : List Row) → works feed_schema Enforced 0 1 (taken_by db (edit_of db release (ids_of rows) Given 1 rows)) (edit_of db release (ids_of rows) Given 1 rows).news ≡ []
 no_work db [] = no_work_by _ (edit_of db release (ids_of []) Given 1 []).news true refl (λ _. refl)
-no_work db (row ∷ rows) = no_work_by (taken_by db (edit_of db release (ids_of (row ∷ rows)) Given 1 (row ∷ rows))) (edit_of db release (ids_of (row ∷ rows)) Given 1 (row ∷ rows)).news false (nonzero _) (λ e. absurd (let f = e in cc))
+no_work db (row ∷ rows) = no_work_by (taken_by db (edit_of db release (ids_of (row ∷ rows)) Given 1 (row ∷ rows)))
+    (edit_of db release (ids_of (row ∷ rows)) Given 1 (row ∷ rows)).news false (nonzero _) (λ e. absurd (let f = e in cc))
 
 pub sets : (old new : State) (name : List ℕ) (status : ℤ) (count : ℕ) → old.now.schema ≡ feed_schema → Executes set_text (Text name ∷ Int status ∷ []) old new (Ok count)
     → Sets name status old.now new.now

@@ -1,22 +1,20 @@
 -- What the statements that make a table make of a database.
-use Rattle.std.proofs.Common.{◌≡◌, ◌∷◌, ◌⊎◌, inl, inr, List, ℕ, [], Ok, Err, Result, OnOk, None, false, refl, codes, sym, ap, subst, ◌∙◌}
+use Rattle.std.proofs.Common.{◌≡◌, ◌∷◌, List, ℕ, [], Ok, None, false, refl, sym, ap, subst, ◌∙◌}
 use Rattle.sqlite.specs.Compile.{table_defined_by}
 use Rattle.sqlite_tied.specs.Compute.{everything}
 use Rattle.sqlite.specs.Listing.{understood}
 use Rattle.sqlite.specs.Command.TheVariants.{CreateTable}
-use Rattle.sqlite.specs.Table.{Table}
 use Rattle.sqlite.specs.Schema.{Schema}
 use Rattle.sqlite.specs.Tree.{put_row}
 use Rattle.sqlite.specs.Change.{created, next_tree, KeepsRows}
 use Rattle.sqlite.specs.Does.{Tally, lacks_sequence}
 use Rattle.sqlite.specs.Effect.{Database, IsDatabase}
-use Rattle.sqlite.specs.declared.error.Error.{Error}
-use Rattle.sqlite.specs.State.{State, Writes, Executes, ExecutesInside}
-use Rattle.sqlite.proofs.Callers.{IsPlain, command_of, statement_of, runs_as, through}
+use Rattle.sqlite.specs.State.{State, Writes, Executes}
+use Rattle.sqlite.proofs.Callers.{IsPlain, command_of, statement_of, runs_as}
 use Rattle.feed_rows.specs.Layout.{no_schema, feed_schema, layout, release}
 use Rattle.feed_statements.specs.Texts.{layout_text, release_text, piece_text}
-use Rattle.feed_statements.specs.Schemas.{table_in, with_text, first_schema, second_schema}
-use Rattle.feed_statements.specs.Effects.{HasEmpty, IsBlank}
+use Rattle.feed_statements.specs.Schemas.{table_in, with_text, first_schema, second_schema, HasNoTable, HasLayoutTable, HasReleaseTable, HasAllTables}
+use Rattle.feed_statements.specs.Effects.{IsBlank}
 use Rattle.feed_rows.specs.Tables.{version_row}
 use Rattle.feed_rows.proofs.Basics.{one_zero, three_zero}
 use Rattle.feed_rows.proofs.Inserted.{Puts}
@@ -37,7 +35,8 @@ pub record Creates (schema : Schema) (text : List ℕ) (old new : Database) : Ty
   pub empty : new.trees (next_tree schema) ≡ []
   pub others : KeepsRows schema.tables old.trees new.trees
 
-pub creates : (text : List ℕ) (schema : Schema) (m : Makes schema text) (old new : State) (count : ℕ) → old.now.schema ≡ schema → Executes text [] old new (Ok count) → Creates schema text old.now new.now
+pub creates : (text : List ℕ) (schema : Schema) (m : Makes schema text) (old new : State) (count : ℕ) → old.now.schema ≡ schema → Executes text [] old new (Ok count)
+    → Creates schema text old.now new.now
 creates text schema m old new count has h =
     let w = subst (λ t. Writes old new None CreateTable t [] count) m.whole (runs_as text [] old new schema has CreateTable m.command m.plain count h) in
     let all = went w.changed in
@@ -82,20 +81,20 @@ second_tables : second_schema.tables ≡ layout ∷ release ∷ []
 unfolding understood everything
 second_tables = refl
 
-pub creates_layout : (old new : State) (count : ℕ) → HasEmpty no_schema [] old.now → Executes layout_text [] old new (Ok count) → HasEmpty first_schema (0 ∷ []) new.now
+pub creates_layout : (old new : State) (count : ℕ) → HasNoTable old.now → Executes layout_text [] old new (Ok count) → HasLayoutTable new.now
 creates_layout old new count has h =
     let it = creates layout_text no_schema makes_layout old new count has.schema_is h in
     record { schema_is = it.schema_is; empty = (subst (λ n. new.now.trees n ≡ []) next_trees.0 it.empty, tt) }
 
-pub creates_release : (old new : State) (count : ℕ) → HasEmpty first_schema (0 ∷ []) old.now → Executes release_text [] old new (Ok count)
-    → HasEmpty second_schema (0 ∷ 1 ∷ []) new.now
+pub creates_release : (old new : State) (count : ℕ) → HasLayoutTable old.now → Executes release_text [] old new (Ok count)
+    → HasReleaseTable new.now
 creates_release old new count has h =
     let it = creates release_text first_schema makes_release old new count has.schema_is h in
     let kept = subst (λ ts. KeepsRows ts old.now.trees new.now.trees) first_tables it.others in
     record { schema_is = it.schema_is; empty = (kept.0 ∙ has.empty.0, (subst (λ n. new.now.trees n ≡ []) next_trees.1 it.empty, tt)) }
 
-pub creates_piece : (old new : State) (count : ℕ) → HasEmpty second_schema (0 ∷ 1 ∷ []) old.now → Executes piece_text [] old new (Ok count)
-    → HasEmpty feed_schema (0 ∷ 1 ∷ 3 ∷ []) new.now
+pub creates_piece : (old new : State) (count : ℕ) → HasReleaseTable old.now → Executes piece_text [] old new (Ok count)
+    → HasAllTables new.now
 creates_piece old new count has h =
     let it = creates piece_text second_schema makes_piece old new count has.schema_is h in
     let kept = subst (λ ts. KeepsRows ts old.now.trees new.now.trees) second_tables it.others in
@@ -105,7 +104,7 @@ creates_piece old new count has h =
     }
 
 -- the layout's number makes of empty tables those of a keeper of nothing
-pub numbered : (old new : Database) → HasEmpty feed_schema (0 ∷ 1 ∷ 3 ∷ []) old → Puts layout version_row old new → IsBlank new
+pub numbered : (old new : Database) → HasAllTables old → Puts layout version_row old new → IsBlank new
 numbered old new has it =
     let one : new.trees 1 ≡ [] = it.others.1.0 one_zero ∙ has.empty.1.0 in
     let three : new.trees 3 ≡ [] = it.others.1.1.0 three_zero ∙ has.empty.1.1.0 in record {

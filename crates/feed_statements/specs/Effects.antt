@@ -1,11 +1,9 @@
 -- What calls make of a database.
-use Rattle.std.specs.Prelude.{◌≡◌, IsTrue, List, ℕ, [], OnOk, Result}
-use Rattle.std.specs.List.{AllByRecursion}
+use Rattle.std.specs.Prelude.{◌≡◌, IsTrue, [], OnOk, Result}
 use Rattle.feed_model.specs.Change.{Change, IsAllowed, after}
 use Rattle.feed_model.specs.Content.{Content}
 use Rattle.sqlite.specs.Effect.{Database}
 use Rattle.sqlite.specs.Held.{Held, state}
-use Rattle.sqlite.specs.Schema.{Schema}
 use Rattle.sqlite.specs.State.{State, HasCleanDisk, KeepsCommit, Survives}
 use Rattle.sqlite_trees.specs.declared.store.Store.{Ghosts}
 use Rattle.feed_rows.specs.Tables.{IsChanged, IsListed, IsOurs, content_of}
@@ -36,6 +34,10 @@ LeavesDisk store old new = Survives (state store old) (state store new) (λ _. �
 abbrev pub Changes : (Content → Content) → Database → Database → Type 0
 Changes f old new = IsOurs old → IsChanged f old new
 
+-- under a condition, a database of ours has its content changed so
+abbrev pub ChangesIf : Type 0 → (Content → Content) → Database → Database → Type 0
+ChangesIf Condition f old new = Condition → Changes f old new
+
 -- where the change of the records is allowed, a database of ours has its content changed so
 abbrev pub AllowedChanges : Change → Database → Database → Type 0
 AllowedChanges change old new = IsAllowed change (content_of old) → Changes (after change) old new
@@ -43,11 +45,6 @@ AllowedChanges change old new = IsAllowed change (content_of old) → Changes (a
 -- one kind of database becomes another one
 abbrev pub Leads : (Database → Type 0) → (Database → Type 0) → Database → Database → Type 0
 Leads From To old new = From old → To new
-
--- the database has this schema, and these of its tables are empty
-pub record HasEmpty (schema : Schema) (tables : List ℕ) (db : Database) : Type 0 where
-  pub schema_is : db.schema ≡ schema
-  pub empty : AllByRecursion (λ table. db.trees table ≡ []) tables
 
 -- the tables are there, the layout's number is 1, and nothing is recorded
 pub record IsBlank (db : Database) : Type 0 where

@@ -1,10 +1,12 @@
--- The schemas while the tables are made.
-use Rattle.std.specs.Prelude.{List, ℕ, Result, Ok, Err}
+-- A database while its tables are made.
+use Rattle.std.specs.Prelude.{◌≡◌, List, [], ◌∷◌, ℕ, Result, Ok, Err}
+use Rattle.std.specs.List.{AllByRecursion}
 use Rattle.sqlite.specs.Compile.{table_defined_by}
 use Rattle.sqlite.specs.Change.{created}
+use Rattle.sqlite.specs.Effect.{Database}
 use Rattle.sqlite.specs.Schema.{Schema}
 use Rattle.sqlite.specs.Table.{Table}
-use Rattle.feed_rows.specs.Layout.{no_schema, no_table}
+use Rattle.feed_rows.specs.Layout.{feed_schema, no_schema, no_table}
 use Rattle.feed_statements.specs.Texts.{layout_text, release_text}
 
 -- the table that a text defines
@@ -23,3 +25,24 @@ first_schema = with_text no_schema layout_text
 -- the layout's table, and that of the releases
 abbrev pub second_schema : Schema
 second_schema = with_text first_schema release_text
+
+-- the database has this schema, and these of its tables are empty
+pub record HasEmpty (schema : Schema) (tables : List ℕ) (db : Database) : Type 0 where
+  pub schema_is : db.schema ≡ schema
+  pub empty : AllByRecursion (λ table. db.trees table ≡ []) tables
+
+-- the database has no table
+abbrev pub HasNoTable : Database → Type 0
+HasNoTable = HasEmpty no_schema []
+
+-- the layout's table is there
+abbrev pub HasLayoutTable : Database → Type 0
+HasLayoutTable = HasEmpty first_schema (0 ∷ [])
+
+-- that of the releases too
+abbrev pub HasReleaseTable : Database → Type 0
+HasReleaseTable = HasEmpty second_schema (0 ∷ 1 ∷ [])
+
+-- all three are there
+abbrev pub HasAllTables : Database → Type 0
+HasAllTables = HasEmpty feed_schema (0 ∷ 1 ∷ 3 ∷ [])

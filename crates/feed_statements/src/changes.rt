@@ -3,7 +3,7 @@ ghost use Rattle.feed_model.specs.Change.{after, changed, grown, insert_record, 
 ghost use Rattle.feed_model.specs.Reply.{max_file};
 ghost use Rattle.feed_parts.specs.Shown.{shown_parts};
 ghost use Rattle.feed_keep.specs.Shown.{shown_change};
-ghost use Rattle.feed_statements.specs.Effects.{AllowedChanges, Changes, IsLive, Keeps, LeavesDisk, Makes};
+ghost use Rattle.feed_statements.specs.Effects.{AllowedChanges, Changes, ChangesIf, IsLive, Keeps, LeavesDisk, Makes};
 ghost use Rattle.sqlite.specs.Held.{state};
 
 use crate::statements::{drop_earlier, insert_parts, insert_release, set_state};
@@ -47,8 +47,8 @@ fn make<S: Alter>(tx: &mut Transaction<'_, S>, change: &Change<'_>) -> Result<()
 // Adds the record of a release. It refuses a size beyond 32 bits, which no file has.
 fn add<S: Alter>(tx: &mut Transaction<'_, S>, name: &ReleaseName, size: u64) -> Result<(), Error>
     ensures same_reference { tx.new.conn.ghost_name ≡ tx.old.conn.ghost_name }
-    ensures made { size ≤ max_file
-        → Makes S.Store (Changes (insert_record (new_record name.now size))) tx.old.conn.now tx.new.conn.now result }
+    ensures made { Makes S.Store (ChangesIf (size ≤ max_file) (insert_record (new_record name.now size)))
+        tx.old.conn.now tx.new.conn.now result }
     ensures kept { Keeps S.Store tx.old.conn.now tx.new.conn.now }
     ensures survives { LeavesDisk S.Store tx.old.conn.now tx.new.conn.now }
 {

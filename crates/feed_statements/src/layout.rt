@@ -1,7 +1,6 @@
-ghost use Rattle.std.specs.Prelude.{◌≡◌, [], ◌∷◌, false, IsTrue, OnErr, OnOk};
-ghost use Rattle.feed_rows.specs.Layout.{feed_schema, no_schema};
-ghost use Rattle.feed_statements.specs.Effects.{HasEmpty, IsBlank, IsLive, Keeps, Leads, LeavesDisk, Makes};
-ghost use Rattle.feed_statements.specs.Schemas.{first_schema, second_schema};
+ghost use Rattle.std.specs.Prelude.{◌≡◌, false, IsTrue, OnErr, OnOk};
+ghost use Rattle.feed_statements.specs.Effects.{IsBlank, IsLive, Keeps, Leads, LeavesDisk, Makes};
+ghost use Rattle.feed_statements.specs.Schemas.{HasAllTables, HasLayoutTable, HasNoTable, HasReleaseTable};
 ghost use Rattle.sqlite.specs.Held.{state};
 ghost use Rattle.sqlite.specs.State.{HasCleanDisk};
 
@@ -14,7 +13,7 @@ pub fn lay_out<S: Alter>(conn: &mut Connection<S>) -> Result<(), Error>
     ensures idle { conn.new.in_transaction ≡ false }
     ensures open { HasCleanDisk (state S.Store conn.new) → OnOk result (IsTrue (state S.Store conn.new).is_open) }
     ensures live { IsLive (state S.Store conn.new) → IsLive (state S.Store conn.old) }
-    ensures whole { IsLive (state S.Store conn.new) → OnOk result (Leads (HasEmpty no_schema []) IsBlank
+    ensures whole { IsLive (state S.Store conn.new) → OnOk result (Leads HasNoTable IsBlank
         (state S.Store conn.old).now (state S.Store conn.new).now) }
     ensures neither { IsLive (state S.Store conn.new)
         → OnErr result ((state S.Store conn.new).now ≡ (state S.Store conn.old).now) }
@@ -30,7 +29,7 @@ pub fn lay_out<S: Alter>(conn: &mut Connection<S>) -> Result<(), Error>
 // The tables, and the row of the layout.
 fn fill<S: Alter>(tx: &mut Transaction<'_, S>) -> Result<(), Error>
     ensures same_reference { tx.new.conn.ghost_name ≡ tx.old.conn.ghost_name }
-    ensures made { Makes S.Store (Leads (HasEmpty no_schema []) IsBlank) tx.old.conn.now tx.new.conn.now result }
+    ensures made { Makes S.Store (Leads HasNoTable IsBlank) tx.old.conn.now tx.new.conn.now result }
     ensures kept { Keeps S.Store tx.old.conn.now tx.new.conn.now }
     ensures survives { LeavesDisk S.Store tx.old.conn.now tx.new.conn.now }
 {
@@ -43,7 +42,7 @@ fn fill<S: Alter>(tx: &mut Transaction<'_, S>) -> Result<(), Error>
 
 fn create_layout<S: Alter>(tx: &mut Transaction<'_, S>) -> Result<usize, Error>
     ensures same_reference { tx.new.conn.ghost_name ≡ tx.old.conn.ghost_name }
-    ensures made { Makes S.Store (Leads (HasEmpty no_schema []) (HasEmpty first_schema (0 ∷ [])))
+    ensures made { Makes S.Store (Leads HasNoTable HasLayoutTable)
         tx.old.conn.now tx.new.conn.now result }
     ensures kept { Keeps S.Store tx.old.conn.now tx.new.conn.now }
     ensures survives { LeavesDisk S.Store tx.old.conn.now tx.new.conn.now }
@@ -56,7 +55,7 @@ fn create_layout<S: Alter>(tx: &mut Transaction<'_, S>) -> Result<usize, Error>
 
 fn create_release<S: Alter>(tx: &mut Transaction<'_, S>) -> Result<usize, Error>
     ensures same_reference { tx.new.conn.ghost_name ≡ tx.old.conn.ghost_name }
-    ensures made { Makes S.Store (Leads (HasEmpty first_schema (0 ∷ [])) (HasEmpty second_schema (0 ∷ 1 ∷ [])))
+    ensures made { Makes S.Store (Leads HasLayoutTable HasReleaseTable)
         tx.old.conn.now tx.new.conn.now result }
     ensures kept { Keeps S.Store tx.old.conn.now tx.new.conn.now }
     ensures survives { LeavesDisk S.Store tx.old.conn.now tx.new.conn.now }
@@ -77,7 +76,7 @@ fn create_release<S: Alter>(tx: &mut Transaction<'_, S>) -> Result<usize, Error>
 
 fn create_piece<S: Alter>(tx: &mut Transaction<'_, S>) -> Result<usize, Error>
     ensures same_reference { tx.new.conn.ghost_name ≡ tx.old.conn.ghost_name }
-    ensures made { Makes S.Store (Leads (HasEmpty second_schema (0 ∷ 1 ∷ [])) (HasEmpty feed_schema (0 ∷ 1 ∷ 3 ∷ [])))
+    ensures made { Makes S.Store (Leads HasReleaseTable HasAllTables)
         tx.old.conn.now tx.new.conn.now result }
     ensures kept { Keeps S.Store tx.old.conn.now tx.new.conn.now }
     ensures survives { LeavesDisk S.Store tx.old.conn.now tx.new.conn.now }
@@ -96,7 +95,7 @@ fn create_piece<S: Alter>(tx: &mut Transaction<'_, S>) -> Result<usize, Error>
 
 fn insert_version<S: Alter>(tx: &mut Transaction<'_, S>) -> Result<usize, Error>
     ensures same_reference { tx.new.conn.ghost_name ≡ tx.old.conn.ghost_name }
-    ensures made { Makes S.Store (Leads (HasEmpty feed_schema (0 ∷ 1 ∷ 3 ∷ [])) IsBlank)
+    ensures made { Makes S.Store (Leads HasAllTables IsBlank)
         tx.old.conn.now tx.new.conn.now result }
     ensures kept { Keeps S.Store tx.old.conn.now tx.new.conn.now }
     ensures survives { LeavesDisk S.Store tx.old.conn.now tx.new.conn.now }

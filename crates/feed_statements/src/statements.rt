@@ -4,7 +4,7 @@ ghost use Rattle.feed_model.specs.Reply.{max_file};
 ghost use Rattle.feed_parts.specs.Shown.{shown_part, shown_parts};
 ghost use Rattle.feed_rows.specs.Records.{bare, with_part, with_parts, with_state};
 ghost use Rattle.feed_rows.specs.Tables.{number_of};
-ghost use Rattle.feed_statements.specs.Effects.{Changes, Keeps, LeavesDisk, Makes};
+ghost use Rattle.feed_statements.specs.Effects.{Changes, ChangesIf, Keeps, LeavesDisk, Makes};
 
 use crate::text::as_text;
 use feed_keep::{Part, State};
@@ -19,8 +19,8 @@ pub fn insert_release<S: Alter>(
     value: State,
 ) -> Result<usize, Error>
     ensures same_reference { tx.new.conn.ghost_name ≡ tx.old.conn.ghost_name }
-    ensures made { size ≤ max_file
-        → Makes S.Store (Changes (insert_record (bare name.now size value))) tx.old.conn.now tx.new.conn.now result }
+    ensures made { Makes S.Store (ChangesIf (size ≤ max_file) (insert_record (bare name.now size value)))
+        tx.old.conn.now tx.new.conn.now result }
     ensures kept { Keeps S.Store tx.old.conn.now tx.new.conn.now }
     ensures survives { LeavesDisk S.Store tx.old.conn.now tx.new.conn.now }
 {
@@ -61,7 +61,8 @@ pub fn set_state<S: Alter>(
     value: State,
 ) -> Result<usize, Error>
     ensures same_reference { tx.new.conn.ghost_name ≡ tx.old.conn.ghost_name }
-    ensures made { Makes S.Store (Changes (changed name.now (with_state value))) tx.old.conn.now tx.new.conn.now result }
+    ensures made { Makes S.Store (Changes (changed name.now (with_state value)))
+        tx.old.conn.now tx.new.conn.now result }
     ensures kept { Keeps S.Store tx.old.conn.now tx.new.conn.now }
     ensures survives { LeavesDisk S.Store tx.old.conn.now tx.new.conn.now }
 {

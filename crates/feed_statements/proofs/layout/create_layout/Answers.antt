@@ -1,8 +1,7 @@
-use Rattle.std.proofs.Common.{ap, refl, [], ◌∷◌}
+use Rattle.std.proofs.Common.{ap, refl, []}
 use Rattle.sqlite.specs.Held.{state}
-use Rattle.feed_rows.specs.Layout.{feed_schema, no_schema}
-use Rattle.feed_statements.specs.Effects.{HasEmpty, Leads}
-use Rattle.feed_statements.specs.Schemas.{first_schema, second_schema}
+use Rattle.feed_statements.specs.Effects.{Leads}
+use Rattle.feed_statements.specs.Schemas.{HasLayoutTable, HasNoTable}
 use Rattle.feed_statements.specs.Texts.{layout_text}
 use Rattle.feed_statements.proofs.Inside.{kept_inside, made_inside}
 use Rattle.feed_statements.proofs.Tables.{creates_layout}
@@ -12,7 +11,7 @@ pub returns-clause-made : goal.returns-clause-made
 returns-clause-made g c clean =
     let old = state g.S.Store c.args.tx.now.conn.now in
     let new = state g.S.Store c.execute.new.self.conn.now in
-    made_inside layout_text [] old new (Leads (HasEmpty no_schema []) (HasEmpty first_schema (0 ∷ []))) c.execute.result
+    made_inside layout_text [] old new (Leads HasNoTable HasLayoutTable) c.execute.result
     (λ count ran has. creates_layout old new count has ran)
     (λ off. rw (c.execute.ensures.ended off).0 refl) (λ live. c.execute.ensures.runs clean live)
 

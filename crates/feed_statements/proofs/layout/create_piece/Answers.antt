@@ -1,8 +1,7 @@
-use Rattle.std.proofs.Common.{ap, refl, [], ◌∷◌}
+use Rattle.std.proofs.Common.{ap, refl, []}
 use Rattle.sqlite.specs.Held.{state}
-use Rattle.feed_rows.specs.Layout.{feed_schema, no_schema}
-use Rattle.feed_statements.specs.Effects.{HasEmpty, Leads}
-use Rattle.feed_statements.specs.Schemas.{first_schema, second_schema}
+use Rattle.feed_statements.specs.Effects.{Leads}
+use Rattle.feed_statements.specs.Schemas.{HasAllTables, HasReleaseTable}
 use Rattle.feed_statements.specs.Texts.{piece_text}
 use Rattle.feed_statements.proofs.Inside.{kept_inside, made_inside}
 use Rattle.feed_statements.proofs.Tables.{creates_piece}
@@ -12,7 +11,7 @@ pub returns-clause-made : goal.returns-clause-made
 returns-clause-made g c clean =
     let old = state g.S.Store c.args.tx.now.conn.now in
     let new = state g.S.Store c.execute.new.self.conn.now in
-    made_inside piece_text [] old new (Leads (HasEmpty second_schema (0 ∷ 1 ∷ [])) (HasEmpty feed_schema (0 ∷ 1 ∷ 3 ∷ []))) c.execute.result
+    made_inside piece_text [] old new (Leads HasReleaseTable HasAllTables) c.execute.result
     (λ count ran has. creates_piece old new count has ran)
     (λ off. rw (c.execute.ensures.ended off).0 refl) (λ live. c.execute.ensures.runs clean live)
 

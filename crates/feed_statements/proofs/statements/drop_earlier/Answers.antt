@@ -1,4 +1,4 @@
-use Rattle.std.proofs.Common.{◌≡◌, [], ◌∷◌, refl, ◌∙◌, w32, to_z, of_z, ℤ, List, ℕ, FitsSigned, rules}
+use Rattle.std.proofs.Common.{◌≡◌, [], ◌∷◌, refl, ◌∙◌, w32, to_z, of_z, FitsSigned, rules}
 use Rattle.std.proofs.Math.Facts.{to_z-of_z}
 use Rattle.sqlite.specs.Held.{state}
 use Rattle.sqlite_value.specs.declared.value.Value.TheVariants.{Int, Text}

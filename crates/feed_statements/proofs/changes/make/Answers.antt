@@ -1,0 +1,27 @@
+use Rattle.std.proofs.Common.{◌≤◌}
+use Rattle.std.proofs.lemmas.Result.{on_ok_weaker}
+use Rattle.sqlite.specs.Held.{state}
+use Rattle.feed_model.specs.Change.{Add, insert_record, new_record}
+use Rattle.feed_model.specs.Reply.{max_file}
+use Rattle.feed_parts.specs.Shown.{shown_parts}
+use Rattle.feed_statements.specs.Effects.{AllowedChanges, ChangesIf}
+use Rattle.feed_statements.proofs.Sequence.{made_as, pieces_made}
+use Rattle.feed_statements.proofs.changes.make.Goals as goal
+
+pub returns-in-Add-clause-made : goal.returns-in-Add-clause-made
+returns-in-Add-clause-made g c clean =
+    let n = c.in-Add.name.now in
+    let size = c.in-Add.size in
+    rw c.in-Add.is
+    (on_ok_weaker c.add.result
+    (made_as (ChangesIf (size ≤ max_file) (insert_record (new_record n size))) (AllowedChanges (Add n size))
+    (state g.S.Store c.args.tx.now.conn.now) (state g.S.Store c.add.new.tx.conn.now) (λ change allowed ours. change allowed.2 ours))
+    (c.add.ensures.made clean))
+
+pub returns-in-Pieces-clause-made : goal.returns-in-Pieces-clause-made
+returns-in-Pieces-clause-made g c clean =
+    rw c.in-Pieces.is
+    (on_ok_weaker c.insert_parts.result
+    (pieces_made c.in-Pieces.name.now (shown_parts c.in-Pieces.parts.now) (state g.S.Store c.args.tx.now.conn.now)
+    (state g.S.Store c.insert_parts.new.tx.conn.now))
+    (c.insert_parts.ensures.made clean))
