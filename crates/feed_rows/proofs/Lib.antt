@@ -16,3 +16,4 @@ pub mod SetState
 pub mod AddedPart
 pub mod AddedRelease
 pub mod AnyOrder
+pub mod ContentSet
