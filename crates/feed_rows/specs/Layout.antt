@@ -37,11 +37,11 @@ no_table = record {
 }
 
 -- a column that holds this kind of value, and no NULL
-abbrev column_of : Kind → List ℕ → Column
+abbrev pub column_of : Kind → List ℕ → Column
 column_of kind name = record { name = name; kind = kind; is_strict = true; not_null = true; default = Null; collation = Binary }
 
 -- the column at this place compares so with a number
-abbrev bound_by : CompareOp → ℕ → ℕ → Term
+abbrev pub bound_by : CompareOp → ℕ → ℕ → Term
 bound_by how place n = op2 (Compare how Binary) (col 1 place) (lit (Int (pos n)))
 
 -- the number of the layout

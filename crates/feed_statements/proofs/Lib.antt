@@ -5,3 +5,5 @@ pub mod Deletes
 pub mod Sets
 pub mod Tables
 pub mod Sequence
+mod Terms
+mod Recognised

@@ -1,11 +1,12 @@
 -- A database while its tables are made.
-use Rattle.std.specs.Prelude.{◌≡◌, List, [], ◌∷◌, ℕ, Result, Ok, Err}
+use Rattle.std.specs.Prelude.{◌≡◌, List, [], ◌∷◌, ℕ, Result, Ok, Err, codes, false, true}
 use Rattle.std.specs.List.{AllByRecursion}
 use Rattle.sqlite.specs.Compile.{table_defined_by}
 use Rattle.sqlite.specs.Change.{created}
 use Rattle.sqlite.specs.Effect.{Database}
 use Rattle.sqlite.specs.Schema.{Schema}
 use Rattle.sqlite.specs.Table.{Table}
+use Rattle.sqlite_schema.specs.declared.schema.Index.{Index}
 use Rattle.feed_rows.specs.Layout.{feed_schema, no_schema, no_table}
 use Rattle.feed_statements.specs.Texts.{layout_text, release_text}
 
@@ -46,3 +47,17 @@ HasReleaseTable = HasEmpty second_schema (0 ∷ 1 ∷ [])
 -- all three are there
 abbrev pub HasAllTables : Database → Type 0
 HasAllTables = HasEmpty feed_schema (0 ∷ 1 ∷ 3 ∷ [])
+
+-- no default of the table is computed, and its rows have no running number
+abbrev pub IsPlain : Table → Type 0
+IsPlain table = (table.computed ≡ []) × (table.stamps ≡ no_table.stamps) × (table.is_counted ≡ false)
+
+-- the index that a table has for a unique key
+abbrev pub automatic : List ℕ → ℕ → ℕ → List ℕ → Index
+automatic name tree table places =
+    record { name = name; tree = tree; table = table; columns = places; order = record { digits = 0 }; is_unique = true }
+
+-- the indexes of the releases' names, and of the places of parts
+abbrev pub key_indexes : List Index
+key_indexes =
+    automatic (codes "sqlite_autoindex_feed_release_1") 2 1 (1 ∷ []) ∷ automatic (codes "sqlite_autoindex_feed_piece_1") 4 3 (1 ∷ 2 ∷ []) ∷ []

@@ -4,8 +4,10 @@
 
 mod changes;
 mod layout;
+mod schema;
 mod statements;
 mod text;
 
 pub use changes::commit_change;
 pub use layout::lay_out;
+pub use schema::is_laid_out;
