@@ -1,7 +1,8 @@
 -- Databases of ours.
-use Rattle.std.proofs.Common.{◌≡◌, [], refl, ◌∙◌}
+use Rattle.std.proofs.Common.{◌≡◌, [], map, refl, ap, ◌∙◌}
 use Rattle.std.specs.List.{IsDistinct}
 use Rattle.sqlite.specs.Effect.{Database, IsDatabase}
+use Rattle.sqlite_trees.specs.Tree.{rowid}
 use Rattle.feed_rows.specs.Layout.{feed_schema}
 use Rattle.feed_rows.specs.Tables.{AreRows, IsListed, IsOurs, content_of}
 
@@ -12,7 +13,7 @@ pub record KeepsLayout (old new : Database) : Type 0 where
   pub layout : new.trees 0 ≡ old.trees 0
 
 pub still_ours : (old new : Database) → IsOurs old → KeepsLayout old new → IsOurs new
-still_ours old new ours keeps = record { schema = keeps.schema; obeyed = keeps.sound; version = keeps.layout ∙ ours.version }
+still_ours old new ours keeps = record { schema = keeps.schema; obeyed = keeps.sound; version = ap (map rowid) keeps.layout ∙ ours.version }
 
 no_rows : AreRows [] []
 unfolding IsDistinct

@@ -120,7 +120,7 @@ IsListed db = AreRows (db.trees 1) (db.trees 3)
 pub record IsOurs (db : Database) : Type 0 where
   pub schema : db.schema ≡ feed_schema
   pub obeyed : IsDatabase db
-  pub version : db.trees 0 ≡ version_row ∷ []
+  pub version : map rowid (db.trees 0) ≡ Int (pos 1) ∷ []
 
 -- what a change makes of a database of ours: it stays ours, and where it held a list of records, that is changed so
 pub record IsChanged (f : Content → Content) (old new : Database) : Type 0 where

@@ -7,3 +7,4 @@ pub mod Tables
 pub mod Sequence
 mod Terms
 mod Recognised
+mod LayoutNumber

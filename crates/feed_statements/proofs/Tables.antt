@@ -1,11 +1,11 @@
 -- What the statements that make a table make of a database.
-use Rattle.std.proofs.Common.{◌≡◌, ◌∷◌, List, ℕ, [], Ok, None, false, refl, sym, ap, subst, ◌∙◌}
+use Rattle.std.proofs.Common.{◌≡◌, ◌∷◌, List, ℕ, [], map, Ok, None, false, refl, sym, ap, subst, ◌∙◌}
 use Rattle.sqlite.specs.Compile.{table_defined_by}
 use Rattle.sqlite_tied.specs.Compute.{everything}
 use Rattle.sqlite.specs.Listing.{understood}
 use Rattle.sqlite.specs.Command.TheVariants.{CreateTable}
 use Rattle.sqlite.specs.Schema.{Schema}
-use Rattle.sqlite.specs.Tree.{put_row}
+use Rattle.sqlite.specs.Tree.{put_row, rowid}
 use Rattle.sqlite.specs.Change.{created, next_tree, KeepsRows}
 use Rattle.sqlite.specs.Does.{Tally, lacks_sequence}
 use Rattle.sqlite.specs.Effect.{Database, IsDatabase}
@@ -108,7 +108,7 @@ pub numbered : (old new : Database) → HasAllTables old → Puts layout version
 numbered old new has it =
     let one : new.trees 1 ≡ [] = it.others.1.0 one_zero ∙ has.empty.1.0 in
     let three : new.trees 3 ≡ [] = it.others.1.1.0 three_zero ∙ has.empty.1.1.0 in record {
-      ours = record { schema = it.schema; obeyed = it.sound; version = it.rows ∙ ap (put_row version_row) has.empty.0 };
+      ours = record { schema = it.schema; obeyed = it.sound; version = ap (map rowid) (it.rows ∙ ap (put_row version_row) has.empty.0) };
       listed = empty_listed new one three;
       content = empty_content new one;
     }

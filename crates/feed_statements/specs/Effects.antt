@@ -1,11 +1,14 @@
 -- What calls make of a database.
-use Rattle.std.specs.Prelude.{◌≡◌, IsTrue, [], OnOk, Result}
+use Rattle.std.specs.Prelude.{◌≡◌, ◌↔◌, ◌∷◌, Bool, IsTrue, [], map, OnOk, pos, Result}
 use Rattle.feed_model.specs.Change.{Change, IsAllowed, after}
 use Rattle.feed_model.specs.Content.{Content}
 use Rattle.sqlite.specs.Effect.{Database}
 use Rattle.sqlite.specs.Held.{Held, state}
-use Rattle.sqlite.specs.State.{State, HasCleanDisk, KeepsCommit, Survives}
+use Rattle.sqlite.specs.State.{State, HasCleanDisk, IsUnchanged, KeepsCommit, Survives}
 use Rattle.sqlite_trees.specs.declared.store.Store.{Ghosts}
+use Rattle.sqlite_trees.specs.Tree.{rowid}
+use Rattle.sqlite_value.specs.declared.value.Value.TheVariants.{Int}
+use Rattle.feed_rows.specs.Layout.{feed_schema}
 use Rattle.feed_rows.specs.Tables.{IsChanged, IsListed, IsOurs, content_of}
 
 -- the disk has returned what was written, and nothing has shut the connection
@@ -51,3 +54,7 @@ pub record IsBlank (db : Database) : Type 0 where
   pub ours : IsOurs db
   pub listed : IsListed db
   pub content : content_of db ≡ []
+
+-- where the tables are those of the layout, the database is as it was, and it is told whether the layout has the number 1 and no other
+abbrev pub TellsNumber : State → State → Bool → Type 0
+TellsNumber old new is = old.now.schema ≡ feed_schema → IsUnchanged old new × (IsTrue is ↔ (map rowid (old.now.trees 0) ≡ Int (pos 1) ∷ []))

@@ -17,6 +17,9 @@ piece_text =
 abbrev pub version_text : List ℕ
 version_text = codes "INSERT INTO feed_layout (version) VALUES (1)"
 
+abbrev pub number_text : List ℕ
+number_text = codes "SELECT version FROM feed_layout"
+
 abbrev pub insert_text : List ℕ
 insert_text = codes "INSERT INTO feed_release (name, package, day, size, state) VALUES (?1, ?2, ?3, ?4, ?5)"
 

@@ -4,10 +4,12 @@
 
 mod changes;
 mod layout;
+mod number;
 mod schema;
 mod statements;
 mod text;
 
 pub use changes::commit_change;
 pub use layout::lay_out;
+pub use number::has_number_1;
 pub use schema::is_laid_out;

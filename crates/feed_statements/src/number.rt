@@ -1,0 +1,33 @@
+ghost use Rattle.std.specs.Prelude.{◌≡◌, ◌∷◌, ◌↔◌, [], false, pos, IfOk, IsTrue};
+ghost use Rattle.feed_statements.specs.Effects.{TellsNumber};
+ghost use Rattle.sqlite.specs.Held.{state};
+ghost use Rattle.sqlite.specs.State.{HasCleanDisk};
+ghost use Rattle.sqlite_value.specs.declared.value.Value.TheVariants.{Int};
+
+use sqlite::{Alter, Connection, Error, Row};
+use sqlite_value::value::ValueRef;
+
+/// Whether the layout of a database with these tables has the number 1, and no other.
+pub fn has_number_1<S: Alter>(conn: &mut Connection<S>) -> Result<bool, Error>
+    ensures idle { conn.old.in_transaction ≡ false → conn.new.in_transaction ≡ false }
+    ensures told { HasCleanDisk (state S.Store conn.new) → IfOk result (λ is.
+        TellsNumber (state S.Store conn.old) (state S.Store conn.new) is) }
+{
+    let rows = conn.query_all("SELECT version FROM feed_layout", &[])?;
+    Ok(are_number_1(rows.as_slice()))
+}
+
+fn are_number_1(rows: &[Row]) -> bool
+    ensures { IsTrue result ↔ (rows.now ≡ (Int (pos 1) ∷ []) ∷ []) }
+{
+    match rows {
+        [row] => is_number_1(row),
+        _ => false,
+    }
+}
+
+fn is_number_1(row: &Row) -> bool
+    ensures { IsTrue result ↔ (row.now ≡ Int (pos 1) ∷ []) }
+{
+    row.column_count() == 1 && matches!(row.get_ref(0), Ok(ValueRef::Int(1)))
+}
