@@ -12,4 +12,4 @@ mod text;
 pub use changes::commit_change;
 pub use layout::lay_out;
 pub use number::has_number_1;
-pub use schema::is_laid_out;
+pub use schema::{is_blank, is_laid_out};

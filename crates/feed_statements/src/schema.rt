@@ -1,6 +1,6 @@
 ghost use Rattle.std.specs.Prelude.{◌≡◌, ◌≤◌, ◌↔◌, IsTrue, [], ◌∷◌, ℕ, codes, false, length, pos, suc};
 ghost use Rattle.sqlite_schema.specs.declared.schema.Kind.TheVariants.{Integer};
-ghost use Rattle.feed_rows.specs.Layout.{bound_by, column_of, feed_schema, layout, owner, piece, release};
+ghost use Rattle.feed_rows.specs.Layout.{bound_by, column_of, feed_schema, layout, no_schema, owner, piece, release};
 ghost use Rattle.feed_statements.specs.Schemas.{IsPlain, automatic, key_indexes};
 ghost use Rattle.sqlite_schema.specs.Code.{term_in, term_to};
 ghost use Rattle.sqlite_sql.specs.Term.{col, lit, op2};
@@ -313,4 +313,11 @@ pub fn is_laid_out(schema: &Schema) -> bool
     ensures { IsTrue result ↔ (schema.now ≡ feed_schema) }
 {
     are_tables(&schema.tables) & are_indexes(&schema.indexes) & schema.views.is_empty()
+}
+
+/// Whether a database has no table.
+pub fn is_blank(schema: &Schema) -> bool
+    ensures { IsTrue result ↔ (schema.now ≡ no_schema) }
+{
+    schema.tables.is_empty() & schema.indexes.is_empty() & schema.views.is_empty()
 }

@@ -1,0 +1,9 @@
+//! The keeper over SQL: a connection whose tables hold the records of a feed. It does not load them yet.
+#![tactic(auto)]
+
+mod adopt;
+mod fault;
+mod sql_keep;
+
+pub use fault::{AdoptFault, StoreFault};
+pub use sql_keep::SqlKeep;

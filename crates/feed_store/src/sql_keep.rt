@@ -1,0 +1,93 @@
+ghost use Rattle.std.specs.Prelude.{◌≡◌, false, IfErr, IfOk};
+
+use crate::adopt::made_ready;
+use crate::fault::{AdoptFault, StoreFault};
+use sqlite::{Alter, Connection, MemStore};
+use std::alloc::Global;
+use std::marker::Model;
+
+/// A keeper over SQL, which contracts see as its connection, the count of its failures, and whether its database has the
+/// tables of a keeper and nothing beside them. What is said of the records is said where it has.
+pub struct SqlKeep<S: Alter> {
+    conn: Connection<S>,
+    failures: u64,
+    alone: bool,
+}
+
+impl<S: Alter> Model for SqlKeep<S> {
+    ghost use Rattle.std.specs.Prelude.{ℕ, Bool, false, ◌≡◌, IsTrue};
+    ghost use Rattle.std.specs.Coded.{coded×, coded_ℕ, coded_bool};
+    ghost use Rattle.sqlite.specs.Held.{Held, held_code, state};
+    ghost use Rattle.feed_rows.specs.Tables.{IsOurs};
+    ghost use Rattle.feed_statements.specs.Effects.{IsLive};
+
+    ghost Value = { Held S × (ℕ × Bool) };
+
+    ghost coded = { coded× (held_code S.code) (coded× coded_ℕ coded_bool) };
+
+    ghost view = { λ k. (k.conn, (k.failures, k.alone)) };
+
+    ghost invariant = { λ k. (k.conn.in_transaction ≡ false)
+        × (IsTrue k.alone → IsLive (state S.Store k.conn) → IsOurs (state S.Store k.conn).now) };
+}
+
+impl<S: Alter> SqlKeep<S> {
+    ghost use Rattle.sqlite.specs.Held.{state};
+    ghost use Rattle.feed_store.specs.Adopted.{IsAdopted};
+
+    /// Takes over a connection that is in no transaction, and lifts its limit of steps. A database that has none of the
+    /// tables gets them; other tables beside them are left alone. A connection that is refused is handed back.
+    pub fn adopt(conn: Connection<S>) -> Result<SqlKeep<S>, AdoptFault<S>>
+        requires { conn.in_transaction ≡ false }
+        ensures adopted { IfOk result (λ keep.
+            IsAdopted (state S.Store conn) (state S.Store keep.0) keep.1.1) }
+        ensures refused { IfErr result (λ fault. fault.connection.in_transaction ≡ false) }
+    {
+        let mut conn = conn;
+        conn.set_step_limit(None);
+        match made_ready(&mut conn) {
+            Ok(alone) => Ok(SqlKeep {
+                conn,
+                failures: 0,
+                alone,
+            }),
+            Err(cause) => Err(AdoptFault {
+                cause,
+                connection: conn,
+            }),
+        }
+    }
+
+    /// The connection, which is in no transaction.
+    pub fn into_connection(self) -> Connection<S>
+        ensures same { result ≡ self.0 }
+        ensures idle { result.in_transaction ≡ false }
+    {
+        let SqlKeep {
+            conn,
+            failures: _,
+            alone: _,
+        } = self;
+        conn
+    }
+}
+
+impl SqlKeep<MemStore> {
+    ghost use Rattle.std.specs.Prelude.{IsTrue};
+    ghost use Rattle.sqlite.specs.Held.{state};
+    ghost use Rattle.sqlite.specs.Steps.{over_memory};
+    ghost use Rattle.feed_statements.specs.Effects.{IsBlank, IsLive};
+
+    /// An empty keeper in memory.
+    pub fn open_memory(alloc: Global) -> Result<SqlKeep<MemStore>, StoreFault>
+        ensures { IfOk result (λ keep. IsLive (state over_memory keep.0) → IsTrue keep.1.1 × IsBlank (state over_memory keep.0).now) }
+    {
+        let Ok(conn) = Connection::open_in_memory(alloc) else {
+            return Err(StoreFault::Memory);
+        };
+        match SqlKeep::adopt(conn) {
+            Ok(keep) => Ok(keep),
+            Err(fault) => Err(fault.cause),
+        }
+    }
+}
