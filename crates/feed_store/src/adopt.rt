@@ -70,16 +70,17 @@ fn beside_others<S: Alter>(conn: &mut Connection<S>) -> Result<bool, StoreFault>
         numbered(conn)?;
         return Ok(false);
     }
-    if is_taken(schema, b"feed_layout") || is_taken(schema, b"feed_release") || is_taken(schema, b"feed_piece") {
+    if is_taken(schema, b"feed_layout")
+        || is_taken(schema, b"feed_release")
+        || is_taken(schema, b"feed_piece")
+    {
         return Err(StoreFault::NotOurs);
     }
     laid_out(conn)?;
     Ok(false)
 }
 
-// The columns of a table, by their names and kinds.
-type Shape = [(&'static [u8], Kind)];
-
+// The columns of the tables, by their names and kinds.
 const LAYOUT: [(&[u8], Kind); 1] = [(b"version", Kind::Integer)];
 
 const RELEASE: [(&[u8], Kind); 5] = [
@@ -97,7 +98,7 @@ const PIECE: [(&[u8], Kind); 3] = [
 ];
 
 // Whether a table of this name has these columns.
-fn has_table(schema: &Schema, name: &[u8], shape: &Shape) -> bool {
+fn has_table(schema: &Schema, name: &[u8], shape: &[(&[u8], Kind)]) -> bool {
     let mut named = schema.tables.as_slice().iter();
     match named.find(|table| same_name(table.name.as_slice(), name)) {
         Some(table) => has_shape(table, shape),
@@ -105,9 +106,13 @@ fn has_table(schema: &Schema, name: &[u8], shape: &Shape) -> bool {
     }
 }
 
-fn has_shape(table: &Table, shape: &Shape) -> bool {
+fn has_shape(table: &Table, shape: &[(&[u8], Kind)]) -> bool {
     let columns = table.columns.as_slice();
-    columns.len() == shape.len() && columns.iter().zip(shape).all(|(column, (name, kind))| is_column(column, name, *kind))
+    columns.len() == shape.len()
+        && columns
+            .iter()
+            .zip(shape)
+            .all(|(column, (name, kind))| is_column(column, name, *kind))
 }
 
 fn is_column(column: &Column, name: &[u8], kind: Kind) -> bool {
@@ -116,6 +121,14 @@ fn is_column(column: &Column, name: &[u8], kind: Kind) -> bool {
 
 // Whether a table or a view has this name.
 fn is_taken(schema: &Schema, name: &[u8]) -> bool {
-    schema.tables.as_slice().iter().any(|table| same_name(table.name.as_slice(), name))
-        || schema.views.as_slice().iter().any(|view| same_name(view.name.as_slice(), name))
+    schema
+        .tables
+        .as_slice()
+        .iter()
+        .any(|table| same_name(table.name.as_slice(), name))
+        || schema
+            .views
+            .as_slice()
+            .iter()
+            .any(|view| same_name(view.name.as_slice(), name))
 }

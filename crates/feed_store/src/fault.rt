@@ -16,6 +16,7 @@ pub enum StoreFault {
 }
 
 /// A connection that was not taken as a keeper, and why.
+#[derive(Drop)]
 pub struct AdoptFault<S: Alter> {
     pub cause: StoreFault,
     pub connection: Connection<S>,

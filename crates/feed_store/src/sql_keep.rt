@@ -8,6 +8,7 @@ use std::marker::Model;
 
 /// A keeper over SQL, which contracts see as its connection, the count of its failures, and whether its database has the
 /// tables of a keeper and nothing beside them. What is said of the records is said where it has.
+#[derive(Drop)]
 pub struct SqlKeep<S: Alter> {
     conn: Connection<S>,
     failures: u64,
