@@ -1,4 +1,5 @@
-ghost use Rattle.std.specs.Prelude.{◌≡◌, ◌≤◌, ◌↔◌, IsTrue, [], ◌∷◌, ℕ, codes, false, length, pos, suc};
+ghost use Rattle.std.specs.Prelude.{◌≡◌, ◌≤◌, ◌↔◌, IsTrue, [], ◌∷◌, ℕ, codes};
+ghost use Rattle.std.specs.Prelude.{false, length, pos, suc};
 ghost use Rattle.sqlite_schema.specs.declared.schema.Kind.TheVariants.{Integer};
 ghost use Rattle.feed_rows.specs.Layout.{bound_by, column_of, feed_schema, layout, no_schema, owner, piece, release};
 ghost use Rattle.feed_statements.specs.Schemas.{IsPlain, automatic, key_indexes};

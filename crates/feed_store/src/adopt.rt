@@ -1,7 +1,6 @@
 ghost use Rattle.std.specs.Prelude.{◌≡◌, false, IfOk, IsTrue};
-ghost use Rattle.feed_statements.specs.Effects.{IsBlank, IsLive, Leads, TellsNumber};
-ghost use Rattle.feed_statements.specs.Schemas.{HasNoTable};
-ghost use Rattle.feed_store.specs.Adopted.{IsAdopted};
+ghost use Rattle.feed_statements.specs.Effects.{TellsNumber};
+ghost use Rattle.feed_store.specs.Adopted.{IsAdopted, IsLaidOut};
 ghost use Rattle.sqlite.specs.Held.{state};
 ghost use Rattle.sqlite.specs.State.{HasCleanDisk};
 
@@ -11,8 +10,8 @@ use sqlite::{Alter, Connection};
 use sqlite_schema::names::same_name;
 use sqlite_schema::schema::{Column, Kind, Schema, Table};
 
-/// Makes the tables in a database that has none of them, and looks at those of another one. It tells whether the database
-/// has the tables and nothing beside them.
+/// Makes the tables in a database that has none of them, and looks at those of another one. It tells whether the
+/// database has the tables and nothing beside them.
 pub fn made_ready<S: Alter>(conn: &mut Connection<S>) -> Result<bool, StoreFault>
     requires { conn.old.in_transaction ≡ false }
     ensures idle { conn.new.in_transaction ≡ false }
@@ -32,9 +31,8 @@ pub fn made_ready<S: Alter>(conn: &mut Connection<S>) -> Result<bool, StoreFault
 fn laid_out<S: Alter>(conn: &mut Connection<S>) -> Result<bool, StoreFault>
     requires { conn.old.in_transaction ≡ false }
     ensures idle { conn.new.in_transaction ≡ false }
-    ensures made { IfOk result (λ alone. IsTrue alone
-        × (IsLive (state S.Store conn.new) → IsLive (state S.Store conn.old))
-        × (IsLive (state S.Store conn.new) → Leads HasNoTable IsBlank (state S.Store conn.old).now (state S.Store conn.new).now)) }
+    ensures made { IfOk result (λ alone.
+        IsTrue alone × IsLaidOut (state S.Store conn.old) (state S.Store conn.new)) }
 {
     match lay_out(conn) {
         Ok(()) => Ok(true),
@@ -46,8 +44,8 @@ fn laid_out<S: Alter>(conn: &mut Connection<S>) -> Result<bool, StoreFault>
 fn numbered<S: Alter>(conn: &mut Connection<S>) -> Result<bool, StoreFault>
     requires { conn.old.in_transaction ≡ false }
     ensures idle { conn.new.in_transaction ≡ false }
-    ensures told { IfOk result (λ alone. IsTrue alone
-        × (HasCleanDisk (state S.Store conn.new) → TellsNumber (state S.Store conn.old) (state S.Store conn.new) alone)) }
+    ensures told { IfOk result (λ alone. IsTrue alone × (HasCleanDisk (state S.Store conn.new)
+        → TellsNumber (state S.Store conn.old) (state S.Store conn.new) alone)) }
 {
     match has_number_1(conn) {
         Ok(true) => Ok(true),

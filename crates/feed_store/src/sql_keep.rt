@@ -6,8 +6,8 @@ use sqlite::{Alter, Connection, MemStore};
 use std::alloc::Global;
 use std::marker::Model;
 
-/// A keeper over SQL, which contracts see as its connection, the count of its failures, and whether its database has the
-/// tables of a keeper and nothing beside them. What is said of the records is said where it has.
+/// A keeper over SQL, which contracts see as its connection, the count of its failures, and whether its database has
+/// the tables of a keeper and nothing beside them. What is said of the records is said where it has.
 #[derive(Drop)]
 pub struct SqlKeep<S: Alter> {
     conn: Connection<S>,
@@ -81,7 +81,8 @@ impl SqlKeep<MemStore> {
 
     /// An empty keeper in memory.
     pub fn open_memory(alloc: Global) -> Result<SqlKeep<MemStore>, StoreFault>
-        ensures { IfOk result (λ keep. IsLive (state over_memory keep.0) → IsTrue keep.1.1 × IsBlank (state over_memory keep.0).now) }
+        ensures { IfOk result (λ keep. IsLive (state over_memory keep.0)
+            → IsTrue keep.1.1 × IsBlank (state over_memory keep.0).now) }
     {
         let Ok(conn) = Connection::open_in_memory(alloc) else {
             return Err(StoreFault::Memory);

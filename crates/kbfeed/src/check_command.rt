@@ -18,8 +18,8 @@ pub struct Manner {
 
 /// Reads a file under its name and prints what it holds to `out`, in a form: `release NAME`, `rows N aside M`, and a
 /// line `aside NUMBER REASON` for each record that is set aside, or what `Form` says in place of it. A bad file prints
-/// `broken REASON` in place of the last two. A fault prints one line to `faults`. The result is the exit status: 1 for a
-/// name that is none, a bad file, one that is too long, and a strict check that sets a record aside, 3 for a failing
+/// `broken REASON` in place of the last two. A fault prints one line to `faults`. The result is the exit status: 1 for
+/// a name that is none, a bad file, one that is too long, and a strict check that sets a record aside, 3 for a failing
 /// read or print and for want of memory.
 pub fn check_on<R: Read + Drop, O: Write, F: Write + Drop>(
     alloc: Global,
