@@ -1,0 +1,5 @@
+//! How a database of SQL gives back the records of a feed.
+#![tactic(auto)]
+
+mod columns;
+mod release_row;
