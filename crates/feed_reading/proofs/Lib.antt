@@ -1,2 +1,4 @@
 pub mod Names
 pub mod ReleaseRows
+pub mod Widths
+pub mod Answers

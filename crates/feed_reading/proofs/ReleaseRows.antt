@@ -1,14 +1,11 @@
 -- What a row of a release is read as.
-use Rattle.std.proofs.Common.{◌≡◌, ◌≤◌, ℕ, ℤ, pos, List, [], ◌∷◌, refl, sym, ap, subst, ◌∙◌, arith}
+use Rattle.std.proofs.Common.{◌≡◌, ◌≤◌, ℕ, ℤ, pos, List, [], ◌∷◌, refl, sym, ap, subst}
 use Rattle.sqlite_value.specs.declared.value.Value.TheVariants.{Int, Text}
 use Rattle.sqlite_value.specs.Order.{Row, column, bytes}
-use Rattle.sqlite_trees.specs.Objects.{number_in}
-use Rattle.sqlite_trees.specs.Tree.{rowid}
 use Rattle.feed_names.specs.ReleaseName.{Name, IsName, text_of}
-use Rattle.feed_model.specs.declared.state.State as model
 use Rattle.feed_model.specs.Reply.{max_file}
 use Rattle.feed_keep.specs.declared.record.Record.{Record}
-use Rattle.feed_rows.specs.Tables.{IsReleaseRow, release_row, number_of, state_at}
+use Rattle.feed_rows.specs.Tables.{IsReleaseRow, release_row}
 use Rattle.feed_rows.proofs.SetState.{state_back}
 use Rattle.feed_reading.specs.Reading.{IsReleaseOf}
 

@@ -9,11 +9,8 @@ use Rattle.sqlite_trees.specs.declared.store.Store.{Ghosts}
 use Rattle.sqlite_trees.specs.Tree.{rowid}
 use Rattle.sqlite_value.specs.declared.value.Value.TheVariants.{Int}
 use Rattle.feed_rows.specs.Layout.{feed_schema}
+pub use Rattle.feed_rows.specs.Live.{IsLive}
 use Rattle.feed_rows.specs.Tables.{IsChanged, IsListed, IsOurs, content_of}
-
--- the disk has returned what was written, and nothing has shut the connection
-abbrev pub IsLive : State → Type 0
-IsLive s = HasCleanDisk s × IsTrue s.is_open
 
 -- the change is made inside the transaction, which goes on
 pub record IsMade (Change : Database → Database → Type 0) (old new : State) : Type 0 where

@@ -1,4 +1,3 @@
-use Rattle.std.proofs.Common.{rules}
 use Rattle.feed_reading.proofs.Names.{no_date, no_stem}
 use Rattle.feed_reading.proofs.release_row.name_of.Goals as goal
 

@@ -1,10 +1,8 @@
-use Rattle.std.proofs.Common.{◌≡◌, ◌≤◌, ◌∷◌, [], ◌∙◌, true, ap, sym, rules, arith, subst, refl, pos, ℕ, ℤ, List, w64, to_z, of_z, FitsSigned}
+use Rattle.std.proofs.Common.{◌≡◌, ◌∷◌, [], ◌∙◌, ap, sym, rules, subst, pos, ℕ, List, w64, to_z, of_z, FitsSigned}
 use Rattle.std.proofs.Math.Facts.{to_z-of_z}
-use Rattle.sqlite_value.specs.Order.{Row}
 use Rattle.sqlite_value.specs.declared.value.Value.TheVariants.{Int, Text}
 use Rattle.feed_names.specs.ReleaseName.{Name, IsName, text_of}
 use Rattle.feed_rows.specs.Tables.{release_row, number_of}
-use Rattle.feed_reading.specs.Reading.{IsReleaseOf}
 use Rattle.feed_reading.proofs.ReleaseRows.{as_release, release_says}
 use Rattle.feed_reading.proofs.release_row.release_in.Goals as goal
 
