@@ -1,12 +1,13 @@
 -- What the answers of the selections are.
 use Rattle.std.proofs.Common.{◌≡◌, ℕ, List, [], ◌∷◌, map, filter, length, false, IsPermutation, refl, ap, subst, ◌∙◌, codes, arith}
 use Rattle.std.specs.List.{AllByRecursion}
+use Rattle.std.specs.List.Sorted.{IsSorted}
+use Rattle.std.specs.Ordering.{on}
 use Rattle.sqlite_value.specs.declared.value.Value.TheVariants.{Null}
-use Rattle.sqlite_value.specs.declared.keys.Collation.TheVariants.{Binary}
 use Rattle.sqlite_value.specs.declared.keys.Key.{Key}
 use Rattle.sqlite_value.specs.Order.{Row}
 use Rattle.sqlite_tied.specs.Compute.{everything}
-use Rattle.sqlite_sql.specs.Query.{IsAnswer}
+use Rattle.sqlite_sql.specs.Query.{IsAnswer, key_cmp}
 use Rattle.sqlite_sql.specs.Program.{overlay}
 use Rattle.sqlite_sql.specs.Term.{Term, col, eval_all}
 use Rattle.sqlite_schema.specs.declared.command.Command.TheVariants.{Select}
@@ -17,6 +18,7 @@ use Rattle.sqlite.proofs.Callers.{IsPlain, command_of, reads_as}
 use Rattle.feed_rows.specs.Layout.{feed_schema}
 use Rattle.feed_rows.proofs.Rows.{table_query, passes, answered}
 use Rattle.feed_reading.specs.Texts.{releases_text, pieces_text}
+use Rattle.feed_reading.proofs.InOrder.{in_order, key, name_key}
 use Rattle.feed_reading.proofs.Widths.{release_widths, piece_widths}
 
 pub releases_plain : IsPlain (understood feed_schema releases_text)
@@ -27,33 +29,30 @@ pub pieces_plain : IsPlain (understood feed_schema pieces_text)
 unfolding understood everything
 pieces_plain = (refl, refl)
 
-abbrev key : Key
-key = record { collation = Binary; descending = false }
-
-abbrev release_terms : List Term
+abbrev pub release_terms : List Term
 release_terms = col 1 0 ∷ col 1 1 ∷ col 1 2 ∷ col 1 3 ∷ col 1 4 ∷ col 1 5 ∷ []
 
-abbrev by_name : List (Term × Key)
+abbrev pub by_name : List (Term × Key)
 by_name = (col 1 1, key) ∷ []
 
-abbrev release_heads : List (List ℕ)
+abbrev pub release_heads : List (List ℕ)
 release_heads = codes "rowid" ∷ codes "name" ∷ codes "package" ∷ codes "day" ∷ codes "size" ∷ codes "state" ∷ []
 
-releases_select : (command_of (understood feed_schema releases_text) ≡ Select (record { lets = []; body = table_query 1 [] release_terms by_name }) release_heads)
+pub releases_select : (command_of (understood feed_schema releases_text) ≡ Select (record { lets = []; body = table_query 1 [] release_terms by_name }) release_heads)
     × (reads_listing feed_schema releases_text ≡ false)
 unfolding understood everything
 releases_select = (refl, refl)
 
-abbrev piece_terms : List Term
+abbrev pub piece_terms : List Term
 piece_terms = col 1 0 ∷ col 1 1 ∷ col 1 2 ∷ col 1 3 ∷ []
 
-abbrev by_place : List (Term × Key)
+abbrev pub by_place : List (Term × Key)
 by_place = (col 1 1, key) ∷ (col 1 2, key) ∷ []
 
-abbrev piece_heads : List (List ℕ)
+abbrev pub piece_heads : List (List ℕ)
 piece_heads = codes "rowid" ∷ codes "name" ∷ codes "place" ∷ codes "bytes" ∷ []
 
-pieces_select : (command_of (understood feed_schema pieces_text) ≡ Select (record { lets = []; body = table_query 3 [] piece_terms by_place }) piece_heads)
+pub pieces_select : (command_of (understood feed_schema pieces_text) ≡ Select (record { lets = []; body = table_query 3 [] piece_terms by_place }) piece_heads)
     × (reads_listing feed_schema pieces_text ≡ false)
 unfolding understood everything
 pieces_select = (refl, refl)
@@ -95,6 +94,12 @@ releases_shown old new rows has sound h =
     let moved = answered 1 [] release_terms by_name [] old.now.trees rows refl a in
     let show : Row → Row = λ r. eval_all release_terms ([] ∷ r ∷ []) in
     subst (λ l. IsPermutation l rows) (ap (map show) (all_kept (old.now.trees 1)) ∙ all_same show 6 six (old.now.trees 1) (release_widths old.now has sound)) moved
+
+-- and they stand in the order of their names
+pub releases_order : (old new : State) (rows : List Row) → old.now.schema ≡ feed_schema → Shown releases_text [] old new rows → IsSorted (on name_key (key_cmp 0 (key ∷ []))) rows
+releases_order old new rows has h =
+    let got = reads_as releases_text [] old new feed_schema has _ releases_select.0 releases_plain releases_select.1 rows h in
+    in_order 1 release_terms by_name name_key (λ r. refl) old.now.trees rows (got.answer Null)
 
 pub pieces_shown : (old new : State) (rows : List Row) → old.now.schema ≡ feed_schema → IsDatabase old.now → Shown pieces_text [] old new rows → IsPermutation (old.now.trees 3) rows
 pieces_shown old new rows has sound h =

@@ -3,3 +3,4 @@
 
 mod columns;
 mod release_row;
+mod releases;

@@ -1,0 +1,51 @@
+-- What the whole selection of the releases says of the table, and what the first of its rows do.
+use Rattle.std.proofs.Common.{◌≡◌, List, [], ◌∷◌, ◌++◌, IsPermutation, refl, sym, subst}
+use Rattle.std.specs.List.{AllByRecursion}
+use Rattle.sqlite_value.specs.Order.{Row}
+use Rattle.sqlite_trees.specs.declared.store.Store as store
+use Rattle.sqlite_trees.proofs.ListLemmas.{all-permutation}
+use Rattle.sqlite.specs.Effect.{Database}
+use Rattle.sqlite.specs.Given.{HasGiven}
+use Rattle.sqlite.specs.Held.{Held, state}
+use Rattle.sqlite.specs.State.{State, IsUnchanged, Shown}
+use Rattle.feed_rows.specs.Tables.{IsListed, IsOurs, IsReleaseRow}
+use Rattle.feed_reading.specs.declared.releases.Releases.{Releases}
+use Rattle.feed_reading.specs.Releases.{AreReleases, ShowReleases}
+use Rattle.feed_reading.specs.Texts.{releases_text}
+use Rattle.feed_reading.proofs.Answers.{releases_order, releases_shown, releases_select}
+use Rattle.feed_reading.proofs.InOrder.{texts_in_order}
+use Rattle.feed_reading.proofs.Streams.{whole_given}
+use Rattle.feed_rows.proofs.Contents.{release_texted}
+use Rattle.feed_rows.proofs.Gone.{IsTexted}
+use Rattle.std.specs.List.{All}
+use Rattle.std.proofs.lemmas.List.Elements.{All-cons, All-nil}
+
+all_texted : (rows : List Row) → AllByRecursion IsReleaseRow rows → All IsTexted rows
+all_texted [] all = All-nil IsTexted
+all_texted (r ∷ rows) all = All-cons IsTexted r rows (release_texted r all.0) (all_texted rows all.1)
+
+pub are_releases : (old mid new : State) (rows : List Row) (found : Releases) → IsOurs old.now → IsUnchanged old mid → Shown releases_text [] mid new rows → ShowReleases rows found
+    → AreReleases old.now found
+are_releases old mid new rows found ours same h show =
+    let now : mid.now ≡ old.now = same.0.now_is in
+    let mine : IsOurs mid.now = subst IsOurs (sym now) ours in record {
+      rows = rows;
+      moved = subst (λ (db : Database). IsPermutation (db.trees 1) rows) now (releases_shown mid new rows mine.schema mine.obeyed h);
+      order = texts_in_order rows (all_texted rows show.proper) (releases_order mid new rows mine.schema h);
+      show = show;
+    }
+
+all_middle : (P : Row → Type 0) (xs : List Row) (x : Row) (ys : List Row) → AllByRecursion P ((xs ++ x ∷ []) ++ ys) → P x
+all_middle P [] x ys all = all.0
+all_middle P (z ∷ xs) x ys all = all_middle P xs x ys all.1
+
+-- each row that is given is one of the table
+pub given_listed : {S : Type 0} (g : store.Ghosts S) (old now : Held S) (rows : List Row) (row : Row) → IsOurs (state g old).now → IsUnchanged (state g old) (state g now)
+    → HasGiven g releases_text [] now (rows ++ row ∷ []) → IsListed (state g old).now → IsReleaseRow row
+given_listed g old now rows row ours same given are =
+    let is : (state g now).now ≡ (state g old).now = same.0.now_is in
+    let mine : IsOurs (state g now).now = subst IsOurs (sym is) ours in
+    let listed : IsListed (state g now).now = subst IsListed (sym is) are in
+    let whole = whole_given g releases_text now (rows ++ row ∷ []) _ _ mine.schema refl releases_select.0 same.0.is_open given in
+    let moved = releases_shown (state g now) (state g now) ((rows ++ row ∷ []) ++ whole.0) mine.schema mine.obeyed whole.1 in
+    all_middle IsReleaseRow rows row whole.0 (all-permutation IsReleaseRow _ _ moved listed.are_releases)

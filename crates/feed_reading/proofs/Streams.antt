@@ -1,0 +1,82 @@
+-- Rows that are read one by one.
+use Rattle.std.proofs.Common.{◌≡◌, ◌⊎◌, inl, inr, ℕ, List, [], ◌++◌, None, Some, Err, Option, Result, IsTrue, IfErr, OnErr, refl, sym, ap, subst, ◌∙◌, arith}
+use Rattle.sqlite_value.specs.Order.{Row}
+use Rattle.sqlite_schema.specs.declared.command.Returning.{Returning}
+use Rattle.sqlite_schema.specs.declared.command.Command.{Command}
+use Rattle.sqlite_schema.specs.declared.command.Command.TheVariants.{Select}
+use Rattle.sqlite_schema.specs.declared.program.Program.{Program}
+use Rattle.sqlite_trees.specs.declared.store.Store as store
+use Rattle.sqlite.specs.declared.error.Error.{Error}
+use Rattle.sqlite.specs.Clock.{timed}
+use Rattle.sqlite.specs.Effect.{Database}
+use Rattle.sqlite.specs.Listing.{understood}
+use Rattle.sqlite.specs.Given.{HasGiven, HasBegun, IsRefused}
+use Rattle.sqlite.specs.Held.{Held, state}
+use Rattle.sqlite.specs.State.{State, HasCleanDisk, IsUnchanged, IsRolledBack, FailsToQuery, FailsToShow, IsNotRun, Shown, ShowsRows}
+use Rattle.sqlite.proofs.Callers.{EndsIn, begins_shown, command_of, given_begin}
+use Rattle.feed_rows.specs.Layout.{feed_schema}
+use Rattle.feed_reading.specs.Releases.{Leaves}
+
+-- rows of a query were given, of which this is known, and nothing was changed
+pub record HasRead {S : Type 0} (g : store.Ghosts S) (sql : List ℕ) (Known : List Row → Type 0) (old now : Held S) : Type 0 where
+  pub rows : List Row
+  pub given : HasGiven g sql [] now rows
+  pub same : IsUnchanged (state g old) (state g now)
+  pub known : Known rows
+
+-- nothing is changed, or what was not committed is undone
+abbrev pub LeavesAlone : State → State → Type 0
+LeavesAlone old new = IsUnchanged old new ⊎ IsRolledBack old new
+
+pub was_open : (old new : State) → LeavesAlone old new → IsTrue new.is_open → IsTrue old.is_open
+was_open old new (inl same) is = same.0.was_open
+was_open old new (inr undone) is = undone.was_open is
+
+not_shown : (sql : List ℕ) (old new : State) (e : Error) (c : _) (params : Row) (o : Option Returning) → FailsToShow old new sql c params e o → LeavesAlone old new
+not_shown sql old new e c params None h = inl h.3
+not_shown sql old new e c params (Some what) (inl refused) = inl refused.1
+not_shown sql old new e c params (Some what) (inr fails) = inr fails.3
+
+-- a query that fails leaves the database alone
+pub failed_leaves : (sql : List ℕ) (old new : State) (e : Error) → FailsToQuery sql [] old new e → LeavesAlone old new
+unfolding FailsToQuery IsNotRun
+failed_leaves sql old new e (inl (inl none)) = inl none.1
+failed_leaves sql old new e (inl (inr fails)) = inr fails.3
+failed_leaves sql old new e (inr it) = not_shown sql old new e it.0 (timed [] it.0.formats it.1.now) it.0.returning it.2
+
+shown_open : (sql : List ℕ) (old new : State) (c : _) (params : Row) (rows : List Row) (o : Option Returning) → ShowsRows old new sql c params rows o → IsTrue old.is_open
+shown_open sql old new c params rows None h = h.3.0.was_open
+shown_open sql old new c params rows (Some what) h = h.1.shown.was_open
+
+-- a connection on which a query begins was open
+pub begun_open : {S : Type 0} (g : store.Ghosts S) (sql : List ℕ) (old new : Held S) → HasBegun g sql [] old new → IsTrue (state g old).is_open
+unfolding Shown
+begun_open g sql old new (inl h) = h.1.0.was_open
+begun_open g sql old new (inr h) = shown_open sql (state g old) (state g new) h.1.0 (timed [] h.1.0.formats h.1.1.now) _ h.1.0.returning h.1.2
+
+-- the rows that were given begin a whole answer
+pub whole_given : {S : Type 0} (g : store.Ghosts S) (sql : List ℕ) (now : Held S) (rows : List Row) (p : Program) (names : List (List ℕ)) → now.schema ≡ feed_schema
+    → p.lets ≡ [] → command_of (understood feed_schema sql) ≡ Select p names → IsTrue (state g now).is_open → HasGiven g sql [] now rows
+    → (tail : List Row) × Shown sql [] (state g now) (state g now) (rows ++ tail)
+whole_given g sql now rows p names has none is open_now given =
+    let s = state g now in
+    let same : IsUnchanged s s =
+    (record { was_open = open_now; is_open = open_now; now_is = refl; committed_is = refl; mode = refl }, record { changes = refl; last_rowid = refl }, refl) in
+    begins_shown sql [] s s rows (given_begin g sql [] now rows given) same (λ c db it source.
+    let plain : c.command ≡ Select p names = ap command_of (sym it.is ∙ ap (λ k. understood k sql) has) ∙ is in
+    subst (λ (k : Command). EndsIn k db (timed [] c.formats it.now)) (sym plain) (ends p names db (timed [] c.formats it.now) none))
+  where
+    ends : (p : Program) (names : List (List ℕ)) (db : Database) (params : Row) → p.lets ≡ [] → EndsIn (Select p names) db params
+    ends p names db params none = rw none tt
+
+-- a query that does not begin leaves the database alone
+pub refused_leaves : {S X : Type 0} (g : store.Ghosts S) (sql : List ℕ) (old new : Held S) (r : Result X Error) (e : Error) → r ≡ Err e → OnErr r (IsRefused g sql [] old r new)
+    → Leaves (state g old) (state g new)
+refused_leaves {X = X} g sql old new r e is held =
+    let it : IsRefused g sql [] old r new = subst (λ x. OnErr x (IsRefused g sql [] old r new)) is held in
+    let left : HasCleanDisk (state g new) → LeavesAlone (state g old) (state g new) =
+    λ clean. failed_leaves sql (state g old) (state g new) e (subst (λ (x : Result X Error). IfErr x (FailsToQuery sql [] (state g old) (state g new))) is (it.err clean)) in
+    record {
+      live = λ live. (omega (arith, it.survives.clean, live.0), was_open (state g old) (state g new) (left live.0) live.1);
+      kept = λ live has. left live.0;
+    }
