@@ -6,3 +6,4 @@ pub mod Answers
 pub mod More
 pub mod Streams
 pub mod Selected
+pub mod Ascending

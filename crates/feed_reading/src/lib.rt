@@ -2,5 +2,7 @@
 #![tactic(auto)]
 
 mod columns;
+mod giving;
+mod piece_row;
 mod release_row;
 mod releases;
