@@ -18,7 +18,7 @@ use Rattle.sqlite.proofs.Callers.{IsPlain, command_of, reads_as}
 use Rattle.feed_rows.specs.Layout.{feed_schema}
 use Rattle.feed_rows.proofs.Rows.{table_query, passes, answered}
 use Rattle.feed_reading.specs.Texts.{releases_text, pieces_text}
-use Rattle.feed_reading.proofs.InOrder.{in_order, key, name_key}
+use Rattle.feed_reading.proofs.InOrder.{in_order, key, name_key, place_key}
 use Rattle.feed_reading.proofs.Widths.{release_widths, piece_widths}
 
 pub releases_plain : IsPlain (understood feed_schema releases_text)
@@ -108,3 +108,9 @@ pieces_shown old new rows has sound h =
     let moved = answered 3 [] piece_terms by_place [] old.now.trees rows refl a in
     let show : Row → Row = λ r. eval_all piece_terms ([] ∷ r ∷ []) in
     subst (λ l. IsPermutation l rows) (ap (map show) (all_kept (old.now.trees 3)) ∙ all_same show 4 four (old.now.trees 3) (piece_widths old.now has sound)) moved
+
+-- and they stand in the order of their names and places
+pub pieces_order : (old new : State) (rows : List Row) → old.now.schema ≡ feed_schema → Shown pieces_text [] old new rows → IsSorted (on place_key (key_cmp 0 (key ∷ key ∷ []))) rows
+pieces_order old new rows has h =
+    let got = reads_as pieces_text [] old new feed_schema has _ pieces_select.0 pieces_plain pieces_select.1 rows h in
+    in_order 3 piece_terms by_place place_key (λ r. refl) old.now.trees rows (got.answer Null)

@@ -1,11 +1,13 @@
 -- The answer of a selection stands in the order that it asks for.
-use Rattle.std.proofs.Common.{◌≡◌, ◌+◌, ℕ, List, [], ◌∷◌, map, flat_map, length, get_or, false, refl, sym, ap, subst, ◌∙◌, arith}
+use Rattle.std.proofs.Common.{pos, ◌<◌, true, subst, inl, inr, nat_lt, ◌==◌, ◌≤◌, ◌≡◌, ◌+◌, ℕ, List, [], ◌∷◌, map, flat_map, length, get_or, false, refl, sym, ap, ◌∙◌, arith}
 use Rattle.std.specs.List.{All}
 use Rattle.std.specs.List.Sorted.{IsSorted}
-use Rattle.std.specs.Ordering.{is_lt, nat_cmp, on, ordering_then}
+use Rattle.std.specs.Ordering.{int_cmp, is_lt, nat_cmp, on, ordering_then}
 use Rattle.std.specs.declared.cmp.Ordering.{Ordering}
 use Rattle.std.specs.declared.cmp.Ordering.TheVariants.{Less, Equal, Greater}
 use Rattle.std.specs.Cmp.Lexicographic.{slice_cmp}
+use Rattle.std.proofs.lemmas.Bool.{cases_order}
+use Rattle.std.proofs.lemmas.Bool.Decides.{nat_tests}
 use Rattle.std.proofs.lemmas.List.{get_or-map, length-map}
 use Rattle.std.proofs.lemmas.List.Elements.{All-cons, All-nil}
 use Rattle.std.proofs.lemmas.List.Sorted.{All-permutation}
@@ -13,14 +15,16 @@ use Rattle.sqlite_value.specs.declared.value.Value.TheVariants.{Text}
 use Rattle.sqlite_value.specs.declared.keys.Collation.TheVariants.{Binary}
 use Rattle.sqlite_value.specs.declared.keys.Key.{Key}
 use Rattle.sqlite_value.specs.Order.{Row, column, value_cmp}
-use Rattle.sqlite_value.proofs.OrderLemmas.{value_cmp-Text}
+use Rattle.sqlite_value.proofs.OrderLemmas.{value_cmp-Text, value_cmp-Int}
 use Rattle.sqlite_trees.specs.Tree.{Trees}
 use Rattle.sqlite_sql.specs.Term.{Term, Env, eval_all}
 use Rattle.sqlite_sql.specs.Query.{IsAnswer, Output, output, key_cmp}
 use Rattle.sqlite_sql.specs.Program.{overlay}
-use Rattle.feed_rows.specs.Tables.{text_in}
+use Rattle.feed_rows.specs.Tables.{part_in, text_in}
 use Rattle.feed_rows.proofs.Rows.{table_query}
 use Rattle.feed_rows.proofs.Gone.{IsTexted}
+use Rattle.feed_rows.proofs.Unique.{IsPlaced}
+use Rattle.feed_reading.specs.Pieces.{ArePlacesInOrder}
 use Rattle.feed_reading.specs.Releases.{AreTextsInOrder}
 
 module _ (tree : ℕ) (shown : List Term) (order : List (Term × Key)) (keys : Row → Row)
@@ -72,3 +76,48 @@ texts_in_order rows texted up k d low high =
     let two : column b 1 ≡ Text (text_in b) = texted k d (omega arith) in
     let cmp : value_cmp (column a 1) (column b 1) ≡ slice_cmp nat_cmp (text_in a) (text_in b) = rw (one, two, value_cmp-Text (text_in a) (text_in b)) in
     sym (last_equal (value_cmp (column a 1) (column b 1)) ∙ ap is_lt cmp) ∙ up k d low high
+
+-- ---- by the first column, and then by the second
+
+abbrev pub place_key : Row → Row
+place_key row = column row 1 ∷ column row 2 ∷ []
+
+last_two : (o p : Ordering) → is_lt (ordering_then o (ordering_then p Equal)) ≡ is_lt (ordering_then o p)
+last_two Less p = refl
+last_two Equal p = last_equal p
+last_two Greater p = refl
+
+-- a row with a text and a place
+abbrev pub IsPlacedText : Row → Type 0
+IsPlacedText row = IsTexted row × IsPlaced row
+
+is_less : (m n : ℕ) → m < n → nat_lt m n ≡ true
+is_less m n lt = grind (arith, nat_tests)
+
+is_not_less : (m n : ℕ) → m ≤ n → nat_lt n m ≡ false
+is_not_less m n le = grind (arith, nat_tests)
+
+is_other : (m n : ℕ) → n < m → (m == n) ≡ false
+is_other m n lt = grind (arith, nat_tests)
+
+is_same : (n : ℕ) → (n == n) ≡ true
+is_same n = grind (arith, nat_tests)
+
+nat_pos : (m n : ℕ) → int_cmp (pos m) (pos n) ≡ nat_cmp m n
+nat_pos m n = elim (cases_order m n) [
+  | inl same ↦ subst (λ k. int_cmp (pos m) (pos k) ≡ nat_cmp m k) same (rw (is_not_less m m (omega arith), is_same m))
+  | inr (inl less) ↦ rw (is_less m n less)
+  | inr (inr more) ↦ rw (is_not_less n m (omega arith), is_less n m more, is_other m n more)
+]
+
+pub places_in_order : (rows : List Row) → All IsPlacedText rows → IsSorted (on place_key (key_cmp 0 (key ∷ key ∷ []))) rows → ArePlacesInOrder rows
+places_in_order rows placed up k d low high =
+    let a = get_or rows (k + 1) d in
+    let b = get_or rows k d in
+    let one = placed (k + 1) d high in
+    let two = placed k d (omega arith) in
+    let texts : value_cmp (column a 1) (column b 1) ≡ slice_cmp nat_cmp (text_in a) (text_in b) = rw (one.0, two.0, value_cmp-Text (text_in a) (text_in b)) in
+    let m = (part_in a).first in
+    let n = (part_in b).first in
+    let places : value_cmp (column a 2) (column b 2) ≡ nat_cmp m n = (λ i. value_cmp (one.1 i) (two.1 i)) ∙ value_cmp-Int (pos m) (pos n) ∙ nat_pos m n in
+    sym (last_two (value_cmp (column a 1) (column b 1)) (value_cmp (column a 2) (column b 2)) ∙ (λ i. is_lt (ordering_then (texts i) (places i)))) ∙ up k d low high

@@ -7,3 +7,5 @@ pub mod More
 pub mod Streams
 pub mod Selected
 pub mod Ascending
+pub mod GivenRows
+pub mod Parents

@@ -1,21 +1,25 @@
--- What the whole selection of the releases says of the table, and what the first of its rows do.
-use Rattle.std.proofs.Common.{◌≡◌, List, [], ◌∷◌, ◌++◌, IsPermutation, refl, sym, subst}
+-- What a whole selection says of its table, and what the first of its rows do.
+use Rattle.std.proofs.Common.{ap, inl, inr, ℤ, ◌≡◌, List, [], ◌∷◌, ◌++◌, IsPermutation, refl, sym, subst}
 use Rattle.std.specs.List.{AllByRecursion}
-use Rattle.sqlite_value.specs.Order.{Row}
+use Rattle.sqlite_value.specs.Order.{Row, column}
 use Rattle.sqlite_trees.specs.declared.store.Store as store
 use Rattle.sqlite_trees.proofs.ListLemmas.{all-permutation}
 use Rattle.sqlite.specs.Effect.{Database}
 use Rattle.sqlite.specs.Given.{HasGiven}
 use Rattle.sqlite.specs.Held.{Held, state}
 use Rattle.sqlite.specs.State.{State, IsUnchanged, Shown}
-use Rattle.feed_rows.specs.Tables.{IsListed, IsOurs, IsReleaseRow}
+use Rattle.feed_rows.specs.Tables.{IsListed, IsOurs, IsPieceRow, IsReleaseRow}
 use Rattle.feed_reading.specs.declared.releases.Releases.{Releases}
+use Rattle.sqlite_rules.specs.Lists.{Has}
+use Rattle.sqlite_rules.proofs.ListLemmas.{all_has, all_from}
+use Rattle.feed_model.specs.Content.{Content}
+use Rattle.feed_reading.specs.Pieces.{ArePieces, ShowPieces}
 use Rattle.feed_reading.specs.Releases.{AreReleases, ShowReleases}
-use Rattle.feed_reading.specs.Texts.{releases_text}
-use Rattle.feed_reading.proofs.Answers.{releases_order, releases_shown, releases_select}
-use Rattle.feed_reading.proofs.InOrder.{texts_in_order}
+use Rattle.feed_reading.specs.Texts.{pieces_text, releases_text}
+use Rattle.feed_reading.proofs.Answers.{pieces_order, pieces_select, pieces_shown, releases_order, releases_shown, releases_select}
+use Rattle.feed_reading.proofs.InOrder.{IsPlacedText, places_in_order, texts_in_order}
 use Rattle.feed_reading.proofs.Streams.{whole_given}
-use Rattle.feed_rows.proofs.Contents.{release_texted}
+use Rattle.feed_rows.proofs.Contents.{piece_texted, release_texted}
 use Rattle.feed_rows.proofs.Gone.{IsTexted}
 use Rattle.std.specs.List.{All}
 use Rattle.std.proofs.lemmas.List.Elements.{All-cons, All-nil}
@@ -49,3 +53,37 @@ given_listed g old now rows row ours same given are =
     let whole = whole_given g releases_text now (rows ++ row ∷ []) _ _ mine.schema refl releases_select.0 same.0.is_open given in
     let moved = releases_shown (state g now) (state g now) ((rows ++ row ∷ []) ++ whole.0) mine.schema mine.obeyed whole.1 in
     all_middle IsReleaseRow rows row whole.0 (all-permutation IsReleaseRow _ _ moved listed.are_releases)
+
+all_placed : (rows : List Row) → AllByRecursion IsPieceRow rows → All IsPlacedText rows
+all_placed [] all = All-nil IsPlacedText
+all_placed (r ∷ rows) all = All-cons IsPlacedText r rows (piece_texted r all.0, ap (λ (row : Row). column row 2) all.0) (all_placed rows all.1)
+
+pub are_pieces : (old mid new : State) (rows : List Row) (ids : List ℤ) (start now : Content) → IsOurs old.now → IsUnchanged old mid → Shown pieces_text [] mid new rows
+    → ShowPieces rows ids start now → ArePieces old.now ids start now
+are_pieces old mid new rows ids start now ours same h show =
+    let is : mid.now ≡ old.now = same.0.now_is in
+    let mine : IsOurs mid.now = subst IsOurs (sym is) ours in record {
+      rows = rows;
+      moved = subst (λ (db : Database). IsPermutation (db.trees 3) rows) is (pieces_shown mid new rows mine.schema mine.obeyed h);
+      order = places_in_order rows (all_placed rows show.proper) (pieces_order mid new rows mine.schema h);
+      show = show;
+    }
+
+has_moved : (xs ys : List Row) (x : Row) → IsPermutation ys xs → Has xs x → Has ys x
+has_moved xs ys x moved here =
+    all_has (Has ys) xs x (all-permutation (Has ys) ys xs moved (all_from (Has ys) ys (λ y h. h))) here
+
+has_middle : (xs : List Row) (x : Row) (ys : List Row) → Has ((xs ++ x ∷ []) ++ ys) x
+has_middle [] x ys = inl refl
+has_middle (z ∷ xs) x ys = inr (has_middle xs x ys)
+
+-- each row that is given is one of the table
+pub given_stands : {S : Type 0} (g : store.Ghosts S) (old now : Held S) (rows : List Row) (row : Row) → IsOurs (state g old).now → IsUnchanged (state g old) (state g now)
+    → HasGiven g pieces_text [] now (rows ++ row ∷ []) → Has ((state g old).now.trees 3) row
+given_stands g old now rows row ours same given =
+    let is : (state g now).now ≡ (state g old).now = same.0.now_is in
+    let mine : IsOurs (state g now).now = subst IsOurs (sym is) ours in
+    let whole = whole_given g pieces_text now (rows ++ row ∷ []) _ _ mine.schema refl pieces_select.0 same.0.is_open given in
+    let all = (rows ++ row ∷ []) ++ whole.0 in
+    let moved = pieces_shown (state g now) (state g now) all mine.schema mine.obeyed whole.1 in
+    subst (λ (db : Database). Has (db.trees 3) row) is (has_moved all ((state g now).now.trees 3) row moved (has_middle rows row whole.0))

@@ -4,5 +4,6 @@
 mod columns;
 mod giving;
 mod piece_row;
+mod pieces;
 mod release_row;
 mod releases;
