@@ -9,3 +9,4 @@ pub mod Selected
 pub mod Ascending
 pub mod GivenRows
 pub mod Parents
+pub mod Strict

@@ -1,6 +1,7 @@
 //! How a database of SQL gives back the records of a feed.
 #![tactic(auto)]
 
+mod checks;
 mod columns;
 mod giving;
 mod piece_row;
