@@ -1,11 +1,11 @@
 -- What was read of the parts, with one more row.
-use Rattle.std.proofs.Common.{◌≡◌, ◌≢◌, ◌==◌, ◌++◌, ℤ, ℕ, Bool, true, false, cond, List, [], ◌∷◌, map, filter, MatchBool, All, refl, sym, ap, subst, ◌∙◌, append-nil, append_assoc, if◌then◌else◌}
+use Rattle.std.proofs.Common.{◌≡◌, ◌++◌, ℤ, ℕ, Bool, true, false, List, [], ◌∷◌, map, filter, MatchBool, refl, sym, ap, subst, ◌∙◌, append-nil, append_assoc}
 use Rattle.std.proofs.lemmas.List.{map-append}
 use Rattle.std.proofs.lemmas.List.Elements.{filter-append}
 use Rattle.sqlite_value.specs.declared.value.Value.TheVariants.{Int}
 use Rattle.sqlite_value.specs.Order.{Row}
 use Rattle.sqlite_trees.specs.Tree.{rowid}
-use Rattle.sqlite_trees.proofs.ListLemmas.{all-append, map-map}
+use Rattle.sqlite_trees.proofs.ListLemmas.{all-append}
 use Rattle.feed_names.specs.ReleaseName.{text_of}
 use Rattle.feed_model.specs.Content.{Content, Part, Record}
 use Rattle.feed_rows.specs.Tables.{IsPieceRow, is_of, part_in, piece_row, text_in}

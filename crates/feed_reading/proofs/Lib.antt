@@ -10,3 +10,5 @@ pub mod Ascending
 pub mod GivenRows
 pub mod Parents
 pub mod Strict
+pub mod Joined
+pub mod Orders

@@ -1,9 +1,9 @@
 -- Each part has a release.
-use Rattle.std.proofs.Common.{◌≡◌, ◌≢◌, ◌==◌, ◌&&◌, ◌||◌, ℕ, Bool, true, false, List, [], ◌∷◌, map, length, get_or, All, IsPermutation, Some, refl, sym, ap, subst, ◌∙◌, arith, suc}
+use Rattle.std.proofs.Common.{◌≡◌, ◌≢◌, ◌&&◌, ◌||◌, ℕ, Bool, true, false, List, [], ◌∷◌, map, All, refl, sym, ap, subst, ◌∙◌, arith, suc}
 use Rattle.std.specs.List.{AllByRecursion, list_any}
-use Rattle.std.specs.Cmp.Lexicographic.{pointwise, bytes_decides}
+use Rattle.std.specs.Cmp.Lexicographic.{bytes_decides}
 use Rattle.std.proofs.lemmas.List.Sorted.{IsPermutation-sym}
-use Rattle.sqlite_value.specs.Order.{Row, column}
+use Rattle.sqlite_value.specs.Order.{Row}
 use Rattle.sqlite_value.specs.Keys.{plain}
 use Rattle.sqlite_trees.proofs.ListLemmas.{all-permutation}
 use Rattle.sqlite_schema.specs.declared.schema.Constraint.TheVariants.{ForeignKey}
@@ -11,8 +11,8 @@ use Rattle.sqlite_schema.specs.Rules.{agree, has_null, is_held, parent_key, pass
 use Rattle.sqlite_rules.specs.Lists.{Has}
 use Rattle.sqlite_rules.proofs.ListLemmas.{all_has, some_has}
 use Rattle.sqlite.specs.Effect.{Database, IsDatabase}
-use Rattle.feed_names.specs.ReleaseName.{Name, text_of}
-use Rattle.feed_model.specs.Content.{Content, Record, names}
+use Rattle.feed_names.specs.ReleaseName.{text_of}
+use Rattle.feed_model.specs.Content.{names}
 use Rattle.feed_keep.specs.declared.record.Record as code
 use Rattle.feed_keep.specs.Shown.{shown}
 use Rattle.feed_rows.specs.Layout.{feed_schema, owner, piece}

@@ -1,5 +1,5 @@
 -- Lists of which each element is below those behind it.
-use Rattle.std.proofs.Common.{◌≡◌, ◌↔◌, ◌<◌, ◌+◌, ℕ, suc, Bool, true, false, List, [], ◌∷◌, map, length, get_or, All, IsPermutation, IsTrue, MatchBool, refl, sym, ap, subst, ◌∙◌, arith}
+use Rattle.std.proofs.Common.{◌≡◌, ◌↔◌, ◌<◌, ◌+◌, suc, Bool, true, false, List, [], ◌∷◌, map, length, get_or, All, IsPermutation, IsTrue, refl, ap, subst, ◌∙◌, arith}
 use Rattle.std.specs.List.{AllAdjacentBelow, AllByRecursion, AllPairs, IsAllAdjacentAnswer, IsDistinct}
 use Rattle.std.specs.List.Sorted.{IsSorted, IsStrictlySortedBy}
 use Rattle.std.specs.Cmp.{IsTotalOrder}
@@ -19,7 +19,7 @@ below Greater e = absurd (let g : true ≡ false = e in cc)
 pub not_below : (o : Ordering) → false ≡ is_lt o → ¬ (o ≡ Less)
 not_below o e less = let g : false ≡ true = e ∙ ap is_lt less in absurd cc
 
-all_by : {X : Type 0} (P : X → Type 0) (xs : List X) → AllByRecursion P xs → All P xs
+pub all_by : {X : Type 0} (P : X → Type 0) (xs : List X) → AllByRecursion P xs → All P xs
 all_by P [] all = All-nil P
 all_by P (x ∷ xs) all = All-cons P x xs all.0 (all_by P xs all.1)
 

@@ -6,5 +6,8 @@ mod columns;
 mod giving;
 mod piece_row;
 mod pieces;
+mod reading;
 mod release_row;
 mod releases;
+
+pub use reading::read_records;

@@ -27,6 +27,7 @@ pub fn select_pieces<S: Alter>(
 ) -> Result<Option<Vec<i64>>, Error>
     requires up { AreNamesUp (names (shown found.old.records.items)) }
     ensures names { names (shown found.new.records.items) ≡ names (shown found.old.records.items) }
+    ensures ids { found.new.ids ≡ found.old.ids }
     ensures idle { conn.old.in_transaction ≡ false → conn.new.in_transaction ≡ false }
     ensures leaves { Leaves (state S.Store conn.old) (state S.Store conn.new) }
     ensures read { IsLive (state S.Store conn.new) → IsOurs (state S.Store conn.old).now → IfOk result

@@ -1,4 +1,4 @@
-use Rattle.std.proofs.Common.{◌≡◌, ◌<◌, ◌≤◌, ◌⊎◌, inl, inr, arith, rules}
+use Rattle.std.proofs.Common.{inl, inr, arith, rules}
 use Rattle.std.proofs.lemmas.Fn.{always_returns_same}
 use Rattle.feed_reading.proofs.Ascending.{either_side, found_by, greater_differs, less_differs, same_texts, searchable}
 use Rattle.feed_reading.proofs.giving.find.Goals as goal

@@ -1,4 +1,4 @@
-use Rattle.std.proofs.Common.{◌≡◌, ◌≢◌, ◌++◌, ◌∷◌, rules, refl, sym, subst, arith, [], All, List, ℕ}
+use Rattle.std.proofs.Common.{◌≢◌, rules, refl, sym, subst, arith, [], All}
 use Rattle.sqlite.specs.Given.{IsPlain}
 use Rattle.sqlite.specs.Held.{state}
 use Rattle.sqlite.specs.Listing.{understood}
@@ -31,6 +31,7 @@ rows-init g c =
       lent = refl;
       idle = made.mode;
       live = λ live. (omega (arith, made.survives.clean, live.0), begun_open g.S.Store pieces_text old new (made.begun live.0));
+      ids = refl;
       names = refl;
       read = λ has clean.
           let plain : IsPlain (understood old.schema pieces_text) = subst (λ k. IsPlain (understood k pieces_text)) (sym has) pieces_plain in

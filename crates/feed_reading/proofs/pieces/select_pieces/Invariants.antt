@@ -18,6 +18,7 @@ invariant-rows g l =
       lent : l.rows.conn.ghost_name ≡ l.initial.rows.conn.ghost_name;
       idle : l.fn.conn.in_transaction ≡ false → l.rows.conn.now.in_transaction ≡ false;
       live : IsLive now → IsLive old;
+      ids : l.found.ids ≡ l.fn.found.ids;
       names : names (shown l.found.records.items) ≡ names start;
       read : old.now.schema ≡ feed_schema → HasCleanDisk now
           → HasRead g.S.Store pieces_text (λ rows. ShowPieces rows l.ids.items start (shown l.found.records.items)) l.fn.conn l.rows.conn.now;

@@ -1,4 +1,4 @@
-use Rattle.std.proofs.Common.{◌≡◌, ◌≢◌, ◌∷◌, ◌++◌, [], ◌∙◌, sym, ap, subst, rules, arith, All, w64, to_z, of_z, FitsSigned, ℤ, ℕ, List}
+use Rattle.std.proofs.Common.{◌≡◌, ◌≢◌, ◌∷◌, ◌++◌, [], ◌∙◌, sym, ap, subst, rules, All, w64, to_z, of_z, FitsSigned, ℤ, ℕ, List}
 use Rattle.std.proofs.Math.Facts.{to_z-of_z}
 use Rattle.feed_names.specs.ReleaseName.{text_of}
 use Rattle.feed_keep.specs.declared.record.Record.{Record}
