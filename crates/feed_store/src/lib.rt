@@ -1,4 +1,4 @@
-//! The keeper over SQL: a connection whose tables hold the records of a feed. It does not load them yet.
+//! The keeper over SQL: a connection whose tables hold the records of a feed, and nothing beside them.
 #![tactic(auto)]
 
 mod adopt;

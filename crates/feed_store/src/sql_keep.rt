@@ -2,7 +2,10 @@ ghost use Rattle.std.specs.Prelude.{◌≡◌, false, IfErr, IfOk};
 
 use crate::adopt::made_ready;
 use crate::fault::{AdoptFault, StoreFault};
-use sqlite::{Alter, Connection, MemStore};
+use feed_keep::{Change, Keep, KeepFault, Record};
+use feed_reading::read_records;
+use feed_statements::commit_change;
+use sqlite::{Alter, Connection, Error, ErrorCode, MemStore};
 use std::alloc::Global;
 use std::marker::Model;
 
@@ -70,6 +73,48 @@ impl<S: Alter> SqlKeep<S> {
             alone: _,
         } = self;
         conn
+    }
+}
+
+impl<S: Alter> Keep for SqlKeep<S> {
+    ghost use Rattle.std.specs.Prelude.{IsTrue};
+    ghost use Rattle.sqlite.specs.Held.{state};
+    ghost use Rattle.feed_rows.specs.Live.{IsLive};
+    ghost use Rattle.feed_rows.specs.Tables.{IsListed, content_of};
+
+    ghost content = { λ k. content_of (state S.Store k.0).now };
+
+    ghost clean = { λ k. IsTrue k.1.1 × IsLive (state S.Store k.0) };
+
+    ghost listed = { λ k. IsListed (state S.Store k.0).now };
+
+    ghost failed = { λ k. k.1.0 };
+
+    fn failures(&self) -> u64 {
+        self.failures
+    }
+
+    fn load(&mut self, alloc: Global) -> Result<Vec<Record>, KeepFault> {
+        match read_records(alloc, &mut self.conn) {
+            Ok(Some(records)) => Ok(records),
+            Ok(None) => Err(KeepFault::Damaged),
+            Err(Error::SqliteFailure(ErrorCode::OutOfMemory)) => Err(KeepFault::Memory),
+            Err(_) => {
+                self.failures = self.failures.saturating_add(1);
+                Err(KeepFault::Device)
+            }
+        }
+    }
+
+    fn commit(&mut self, change: &Change<'_>) -> Result<(), KeepFault> {
+        match commit_change(&mut self.conn, change) {
+            Ok(()) => Ok(()),
+            Err(Error::SqliteFailure(ErrorCode::OutOfMemory)) => Err(KeepFault::Memory),
+            Err(_) => {
+                self.failures = self.failures.saturating_add(1);
+                Err(KeepFault::Device)
+            }
+        }
     }
 }
 
