@@ -1,5 +1,6 @@
 -- The answer of a selection stands in the order that it asks for.
-use Rattle.std.proofs.Common.{pos, ◌<◌, true, subst, inl, inr, nat_lt, ◌==◌, ◌≤◌, ◌≡◌, ◌+◌, ℕ, List, [], ◌∷◌, map, flat_map, length, get_or, false, refl, sym, ap, ◌∙◌, arith}
+use Rattle.std.proofs.Common.{pos, ◌<◌, true, subst, inl, inr, nat_lt, ◌==◌, ◌≤◌, ◌≡◌, ◌+◌, ℕ, List, [], ◌∷◌, map, flat_map, length, get_or, false, refl, sym, ap}
+use Rattle.std.proofs.Common.{◌∙◌, arith}
 use Rattle.std.specs.List.{All}
 use Rattle.std.specs.List.Sorted.{IsSorted}
 use Rattle.std.specs.Ordering.{int_cmp, is_lt, nat_cmp, on, ordering_then}

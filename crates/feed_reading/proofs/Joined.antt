@@ -1,5 +1,6 @@
 -- The content of a database, from what the selections show.
-use Rattle.std.proofs.Common.{◌≡◌, ◌==◌, ◌+◌, ℕ, ℤ, Bool, true, false, cond, not, List, [], ◌∷◌, map, filter, get_or, All, IsPermutation, nat_lt, refl, sym, ap, subst, ◌∙◌, arith}
+use Rattle.std.proofs.Common.{◌≡◌, ◌==◌, ◌+◌, ℕ, ℤ, Bool, true, false, cond, not, List, [], ◌∷◌, map, filter, get_or, All, IsPermutation, nat_lt, refl, sym, ap, subst}
+use Rattle.std.proofs.Common.{◌∙◌, arith}
 use Rattle.std.specs.List.{AllByRecursion, IsDistinct}
 use Rattle.std.specs.List.Sorted.{IsSorted, IsStrictlySortedBy}
 use Rattle.std.specs.Cmp.{IsTotalOrder}
@@ -169,7 +170,8 @@ places_up db rows text ours are moved order =
     let placed = apart_moved (on first nat_cmp) (on_total first nat_cmp_total) _ (map part_in mine) parts_moved tied in
     strict_map part_in (on first nat_cmp) mine (strict_of (on place_of nat_cmp) (on_total place_of nat_cmp_total) mine up (distinct_unmap part_in (eq_by_cmp (on first nat_cmp)) mine placed))
 
-each_up : (rows releases : List Row) → ((text : List ℕ) → ArePartsUp (map part_in (filter (is_of text) rows))) → AllByRecursion (λ r. ArePartsUp r.parts) (map (with_rows rows) (map (record_in []) releases))
+each_up : (rows releases : List Row) → ((text : List ℕ) → ArePartsUp (map part_in (filter (is_of text) rows)))
+    → AllByRecursion (λ r. ArePartsUp r.parts) (map (with_rows rows) (map (record_in []) releases))
 each_up rows [] up = tt
 each_up rows (r ∷ rs) up = (up (text_of (name_in r)), each_up rows rs up)
 
@@ -225,7 +227,8 @@ each_joined rows (r ∷ rs) all up = λ i. (let x : Record = record (record_in [
     mine text = map part_in (filter (is_of text) rows)
 
     parts : mine (text_of (name_in r)) ≡ parts_in rows (text_in r)
-    parts = ap mine (sym (release_text r all.0)) ∙ sym (parts_sort (mine (text_in r)) ∙ sort_same same_first part_stops part_laws (mine (text_in r)) (parts_are_up (mine (text_in r)) (up (text_in r))))
+    parts = ap mine (sym (release_text r all.0))
+        ∙ sym (parts_sort (mine (text_in r)) ∙ sort_same same_first part_stops part_laws (mine (text_in r)) (parts_are_up (mine (text_in r)) (up (text_in r))))
 
 -- the records that were read, with their parts, are the content
 pub joined : (db : Database) (found : Releases) (ids : List ℤ) → IsOurs db → IsListed db → AreSelected db found ids → AreNamesUp (names (shown found.records.items))

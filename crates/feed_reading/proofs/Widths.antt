@@ -1,5 +1,6 @@
 -- How many values the rows of the tables have.
-use Rattle.std.proofs.Common.{◌≡◌, ◌<◌, ◌≤◌, ◌+◌, ◌⊎◌, inl, inr, ◌&&◌, ◌||◌, not, ℕ, zero, suc, None, [], ◌∷◌, List, length, drop, length-drop, Bool, true, false, refl, sym, ap, ◌∙◌, subst, arith}
+use Rattle.std.proofs.Common.{◌≡◌, ◌<◌, ◌≤◌, ◌+◌, ◌⊎◌, inl, inr, ◌&&◌, ◌||◌, not, ℕ, zero, suc, None, [], ◌∷◌, List, length, drop, length-drop, Bool, true}
+use Rattle.std.proofs.Common.{false, refl, sym, ap, ◌∙◌, subst, arith}
 use Rattle.std.specs.List.{AllByRecursion}
 use Rattle.sqlite_value.specs.Order.{Row, column}
 use Rattle.sqlite_trees.specs.Tree.{Trees}
@@ -57,7 +58,8 @@ width table row none some all typed full =
 
 release_width : (db : Trees) (row : Row) → passes Datatype feed_schema db release row ≡ true → passes NotNull feed_schema db release row ≡ true → length row ≡ 6
 release_width db row typed full =
-    width release row refl (λ e. omega (arith, ap length e)) (refl, (refl, (refl, (refl, (refl, tt))))) (first_of (are_typed release.key 0 release.columns (drop 1 row)) (has_computed release row) typed) full
+    width release row refl (λ e. omega (arith, ap length e)) (refl, (refl, (refl, (refl, (refl, tt)))))
+    (first_of (are_typed release.key 0 release.columns (drop 1 row)) (has_computed release row) typed) full
 
 piece_width : (db : Trees) (row : Row) → passes Datatype feed_schema db piece row ≡ true → passes NotNull feed_schema db piece row ≡ true → length row ≡ 4
 piece_width db row typed full =

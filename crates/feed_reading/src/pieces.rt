@@ -1,4 +1,5 @@
-ghost use Rattle.std.specs.Prelude.{◌≡◌, ◌≢◌, ◌++◌, ◌∷◌, [], false, All, IfOk, List, MatchBool, MatchOption};
+ghost use Rattle.std.specs.Prelude.{◌≡◌, ◌≢◌, ◌++◌, ◌∷◌, [], false, All, IfOk, List, MatchBool};
+ghost use Rattle.std.specs.Prelude.{MatchOption};
 ghost use Rattle.sqlite.specs.Held.{state};
 ghost use Rattle.sqlite.specs.State.{IsUnchanged};
 ghost use Rattle.sqlite_value.specs.Order.{Row as Values};

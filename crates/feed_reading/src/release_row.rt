@@ -1,4 +1,5 @@
-ghost use Rattle.std.specs.Prelude.{◌≡◌, ◌↔◌, ◌<◌, ◌≤◌, ◌∷◌, [], pos, IfOk, IsTrue, MatchOption};
+ghost use Rattle.std.specs.Prelude.{◌≡◌, ◌↔◌, ◌<◌, ◌≤◌, ◌∷◌, [], pos, IfOk, IsTrue};
+ghost use Rattle.std.specs.Prelude.{MatchOption};
 ghost use Rattle.sqlite_value.specs.declared.value.Value.TheVariants.{Int, Text};
 ghost use Rattle.feed_names.specs.ReleaseName.{IsName, Name};
 ghost use Rattle.feed_model.specs.Reply.{max_file};
@@ -84,7 +85,8 @@ fn state_of(number: u64) -> Option<State>
 
 // The name that a text is.
 fn name_of(alloc: Global, text: &[u8]) -> Result<Option<ReleaseName>, Error>
-    ensures { IfOk result (λ found. MatchOption found ((name : Name) → ¬ (IsName text.now name)) (IsName text.now)) }
+    ensures { IfOk result (λ found. MatchOption found
+        ((name : Name) → ¬ (IsName text.now name)) (IsName text.now)) }
 {
     match ReleaseName::parse(alloc, text) {
         Ok(name) => Ok(Some(name)),
