@@ -1,4 +1,4 @@
-use Rattle.std.proofs.Common.{◌≡◌, Ok, Err, Result, OnOk, OnErr, sym, subst}
+use Rattle.std.proofs.Common.{Ok, Err, Result, OnOk, OnErr, sym, subst}
 use Rattle.std.proofs.Math.Logic.{∥∥₁_map, ∥∥₁_elim}
 use Rattle.sqlite.specs.Held.{state}
 use Rattle.feed_rows.specs.Tables.{IsOurs}
