@@ -2,4 +2,8 @@
 #![tactic(auto)]
 
 #[cfg(test)]
+mod stores;
+#[cfg(test)]
+mod told;
+#[cfg(test)]
 mod worlds;

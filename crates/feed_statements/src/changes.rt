@@ -11,7 +11,8 @@ use feed_keep::{Change, Part, State};
 use feed_names::ReleaseName;
 use sqlite::{Alter, Connection, Error, ErrorCode, Transaction};
 
-/// Makes a change of the records in one transaction: the whole of it, or nothing. It refuses inside a transaction.
+/// Makes a change of the records in one transaction: the whole of it, or nothing. It refuses inside a transaction. The
+/// error is what SQLite says of the statement that failed, and `TooBig` for a size or a place beyond 32 bits.
 pub fn commit_change<S: Alter>(conn: &mut Connection<S>, change: &Change<'_>) -> Result<(), Error>
     requires { conn.old.in_transaction ≡ false }
     ensures idle { conn.new.in_transaction ≡ false }

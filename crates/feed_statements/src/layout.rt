@@ -7,7 +7,7 @@ ghost use Rattle.sqlite.specs.State.{HasCleanDisk};
 use sqlite::{Alter, Connection, Error, ErrorCode, Transaction};
 
 /// Makes the tables in an empty database, with the number of the layout, in one transaction: all of it, or nothing. It
-/// refuses inside a transaction.
+/// refuses inside a transaction. The error is what SQLite says of the statement that failed.
 pub fn lay_out<S: Alter>(conn: &mut Connection<S>) -> Result<(), Error>
     requires { conn.old.in_transaction ≡ false }
     ensures idle { conn.new.in_transaction ≡ false }

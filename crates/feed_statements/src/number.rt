@@ -7,7 +7,7 @@ ghost use Rattle.sqlite_value.specs.declared.value.Value.TheVariants.{Int};
 use sqlite::{Alter, Connection, Error, Row};
 use sqlite_value::value::ValueRef;
 
-/// Whether the layout of a database with these tables has the number 1, and no other.
+/// Whether the layout of a database with these tables has the number 1, and no other. The error is SQLite's.
 pub fn has_number_1<S: Alter>(conn: &mut Connection<S>) -> Result<bool, Error>
     ensures idle { conn.old.in_transaction ≡ false → conn.new.in_transaction ≡ false }
     ensures told { HasCleanDisk (state S.Store conn.new) → IfOk result (λ is.

@@ -2,7 +2,7 @@ ghost use Rattle.std.specs.Prelude.{◌≡◌, IfOk};
 
 use sqlite::Error;
 
-/// The bytes as a text; those of a name always are one.
+/// The bytes as a text; those of a name always are one, and others are an `InvalidQuery`.
 pub fn as_text(bytes: &[u8]) -> Result<&str, Error>
     ensures { IfOk result (λ text. text.now ≡ bytes.now) }
 {

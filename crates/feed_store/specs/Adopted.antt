@@ -1,6 +1,15 @@
 -- What an adoption makes of a database.
-use Rattle.std.specs.Prelude.{◌≡◌, Bool, IsTrue}
-use Rattle.sqlite.specs.State.{State}
+use Rattle.std.specs.List.{AllByRecursion, list_any}
+use Rattle.std.specs.Prelude.{◌≡◌, ◌⊎◌, ◌||◌, ◌∷◌, [], Bool, IsTrue, List, codes, false, true, ℕ}
+use Rattle.sqlite.specs.Files.{file_state}
+use Rattle.sqlite.specs.Held.{Held}
+use Rattle.sqlite.specs.Schema.{Schema}
+use Rattle.sqlite.specs.Start.{FindsIn}
+use Rattle.sqlite.specs.State.{State, HasCleanDisk}
+use Rattle.sqlite_disk.specs.declared.Disk.{Ghosts}
+use Rattle.sqlite_schema.specs.Names.{same_name}
+use Rattle.sqlite_store.specs.declared.store.FileStore.{FileStore}
+use Rattle.sqlite_wal.specs.Recovery.{Image}
 use Rattle.feed_rows.specs.Tables.{IsOurs}
 use Rattle.feed_statements.specs.Effects.{IsBlank, IsLive, Leads}
 use Rattle.feed_statements.specs.Schemas.{HasNoTable}
@@ -14,3 +23,24 @@ pub record IsAdopted (old new : State) (alone : Bool) : Type 0 where
   pub ours : IsTrue alone → IsLive new → IsOurs new.now × IsLive old
   pub found : IsLive new → IsOurs old.now → IsTrue alone × (new.now ≡ old.now)
   pub blank : IsLive new → HasNoTable old.now → IsTrue alone × IsBlank new.now
+
+-- a table or a view has this name, in letters of either case
+abbrev pub is_taken : Schema → List ℕ → Bool
+is_taken schema name = list_any (λ table. same_name table.name name) schema.tables || list_any (λ view. same_name view.name name) schema.views
+
+-- the names of the tables of a keeper
+abbrev pub our_names : List (List ℕ)
+our_names = codes "feed_layout" ∷ codes "feed_release" ∷ codes "feed_piece" ∷ []
+
+-- whether it is taken is the same for each of these names
+abbrev pub AreTaken : Bool → Schema → Type 0
+AreTaken taken schema = AllByRecursion (λ name. is_taken schema name ≡ taken) our_names
+
+-- each of them is taken, or none of them is
+abbrev pub TakesAllOrNone : Schema → Type 0
+TakesAllOrNone schema = AreTaken true schema ⊎ AreTaken false schema
+
+-- the connection has adopted the database that an open found in the files
+abbrev pub IsOpenedAs : {D : Type 0} {g : Ghosts D} → Image → Held (FileStore D g) → Bool → Type 0
+IsOpenedAs {D} {g} image new alone =
+    (found : Held (FileStore D g)) × (HasCleanDisk (file_state found) → FindsIn image (file_state found)) × IsAdopted (file_state found) (file_state new) alone

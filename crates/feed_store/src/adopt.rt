@@ -1,14 +1,16 @@
 ghost use Rattle.std.specs.Prelude.{◌≡◌, false, IfOk, IsTrue};
+ghost use Rattle.std.specs.List.{list_any};
 ghost use Rattle.feed_statements.specs.Effects.{TellsNumber};
-ghost use Rattle.feed_store.specs.Adopted.{IsAdopted, IsLaidOut};
+ghost use Rattle.feed_store.specs.Adopted.{AreTaken, IsAdopted, IsLaidOut, TakesAllOrNone, is_taken};
 ghost use Rattle.sqlite.specs.Held.{state};
 ghost use Rattle.sqlite.specs.State.{HasCleanDisk};
+ghost use Rattle.sqlite_schema.specs.Names.{same_name};
 
 use crate::fault::{StoreFault, fault_of};
 use feed_statements::{has_number_1, is_blank, is_laid_out, lay_out};
 use sqlite::{Alter, Connection};
 use sqlite_schema::names::same_name;
-use sqlite_schema::schema::{Column, Kind, Schema, Table};
+use sqlite_schema::schema::{Column, Kind, Schema, Table, View};
 
 /// Makes the tables in a database that has none of them, and looks at those of another one. It tells whether the
 /// database has the tables and nothing beside them.
@@ -17,6 +19,7 @@ pub fn made_ready<S: Alter>(conn: &mut Connection<S>) -> Result<bool, StoreFault
     ensures idle { conn.new.in_transaction ≡ false }
     ensures adopted { IfOk result (λ alone.
         IsAdopted (state S.Store conn.old) (state S.Store conn.new) alone) }
+    ensures together { IfOk result (λ _. TakesAllOrNone (state S.Store conn.old).now.schema) }
 {
     if is_blank(conn.schema()) {
         return laid_out(conn);
@@ -59,23 +62,18 @@ fn beside_others<S: Alter>(conn: &mut Connection<S>) -> Result<bool, StoreFault>
     requires { conn.old.in_transaction ≡ false }
     ensures idle { conn.new.in_transaction ≡ false }
     ensures beside { IfOk result (λ alone. alone ≡ false) }
+    ensures together { IfOk result (λ _. TakesAllOrNone (state S.Store conn.old).now.schema) }
 {
     let schema = conn.schema();
-    if has_table(schema, b"feed_layout", &LAYOUT)
-        && has_table(schema, b"feed_release", &RELEASE)
-        && has_table(schema, b"feed_piece", &PIECE)
-    {
+    if are_taken(schema, false) {
+        laid_out(conn)?;
+        return Ok(false);
+    }
+    if are_taken(schema, true) && have_columns(schema) {
         numbered(conn)?;
         return Ok(false);
     }
-    if is_taken(schema, b"feed_layout")
-        || is_taken(schema, b"feed_release")
-        || is_taken(schema, b"feed_piece")
-    {
-        return Err(StoreFault::NotOurs);
-    }
-    laid_out(conn)?;
-    Ok(false)
+    Err(StoreFault::NotOurs)
 }
 
 // The columns of the tables, by their names and kinds.
@@ -94,6 +92,13 @@ const PIECE: [(&[u8], Kind); 3] = [
     (b"place", Kind::Integer),
     (b"bytes", Kind::Blob),
 ];
+
+// Whether all three tables have their columns.
+fn have_columns(schema: &Schema) -> bool {
+    has_table(schema, b"feed_layout", &LAYOUT)
+        && has_table(schema, b"feed_release", &RELEASE)
+        && has_table(schema, b"feed_piece", &PIECE)
+}
 
 // Whether a table of this name has these columns.
 fn has_table(schema: &Schema, name: &[u8], shape: &[(&[u8], Kind)]) -> bool {
@@ -117,16 +122,34 @@ fn is_column(column: &Column, name: &[u8], kind: Kind) -> bool {
     column.is_strict && column.kind == kind && same_name(column.name.as_slice(), name)
 }
 
+// Whether each of the names of the tables is taken, or none of them is.
+fn are_taken(schema: &Schema, taken: bool) -> bool
+    ensures { IsTrue result → AreTaken taken schema.now }
+{
+    is_taken(schema, b"feed_layout") == taken
+        && is_taken(schema, b"feed_release") == taken
+        && is_taken(schema, b"feed_piece") == taken
+}
+
 // Whether a table or a view has this name.
-fn is_taken(schema: &Schema, name: &[u8]) -> bool {
-    schema
-        .tables
-        .as_slice()
+fn is_taken(schema: &Schema, name: &[u8]) -> bool
+    ensures { result ≡ is_taken schema.now name.now }
+{
+    is_table(schema.tables.as_slice(), name) || is_view(schema.views.as_slice(), name)
+}
+
+fn is_table(tables: &[Table], name: &[u8]) -> bool
+    ensures { result ≡ list_any (λ table. same_name table.name name.now) tables.now }
+{
+    tables
         .iter()
         .any(|table| same_name(table.name.as_slice(), name))
-        || schema
-            .views
-            .as_slice()
-            .iter()
-            .any(|view| same_name(view.name.as_slice(), name))
+}
+
+fn is_view(views: &[View], name: &[u8]) -> bool
+    ensures { result ≡ list_any (λ view. same_name view.name name.now) views.now }
+{
+    views
+        .iter()
+        .any(|view| same_name(view.name.as_slice(), name))
 }

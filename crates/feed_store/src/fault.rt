@@ -1,3 +1,5 @@
+ghost use Rattle.std.specs.Prelude.{◌≢◌};
+
 use sqlite::{Alter, Connection, Error, ErrorCode};
 use thiserror::Error as Fault;
 
@@ -22,10 +24,22 @@ pub struct AdoptFault<S: Alter> {
     pub connection: Connection<S>,
 }
 
-/// The fault that an error of the database is.
-pub(crate) fn fault_of(error: Error) -> StoreFault {
+/// The fault that an error of an open database is.
+pub(crate) fn fault_of(error: Error) -> StoreFault
+    ensures { result ≢ StoreFault.NotOurs }
+{
     match error {
         Error::SqliteFailure(ErrorCode::OutOfMemory) => StoreFault::Memory,
         _ => StoreFault::Device,
+    }
+}
+
+/// The fault that an error of an open is.
+pub(crate) fn open_fault_of(error: Error) -> StoreFault {
+    match error {
+        Error::SqliteFailure(
+            ErrorCode::NotADatabase | ErrorCode::DatabaseCorrupt | ErrorCode::CannotOpen,
+        ) => StoreFault::NotOurs,
+        _ => fault_of(error),
     }
 }

@@ -3,6 +3,7 @@
 
 mod adopt;
 mod fault;
+mod file;
 mod sql_keep;
 
 pub use fault::{AdoptFault, StoreFault};

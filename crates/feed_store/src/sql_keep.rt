@@ -37,7 +37,7 @@ impl<S: Alter> Model for SqlKeep<S> {
 
 impl<S: Alter> SqlKeep<S> {
     ghost use Rattle.sqlite.specs.Held.{state};
-    ghost use Rattle.feed_store.specs.Adopted.{IsAdopted};
+    ghost use Rattle.feed_store.specs.Adopted.{IsAdopted, TakesAllOrNone};
 
     /// Takes over a connection that is in no transaction, and lifts its limit of steps. A database that has none of the
     /// tables gets them; other tables beside them are left alone. A connection that is refused is handed back.
@@ -45,6 +45,7 @@ impl<S: Alter> SqlKeep<S> {
         requires { conn.in_transaction ≡ false }
         ensures adopted { IfOk result (λ keep.
             IsAdopted (state S.Store conn) (state S.Store keep.0) keep.1.1) }
+        ensures together { IfOk result (λ _. TakesAllOrNone (state S.Store conn).now.schema) }
         ensures refused { IfErr result (λ fault. fault.connection.in_transaction ≡ false) }
     {
         let mut conn = conn;

@@ -1,0 +1,228 @@
+// Databases that are taken as keepers, or refused.
+ghost use Rattle.std.specs.Prelude.{◌≡◌, false, IfOk};
+
+use feed_keep::{Keep, KeepFault, State};
+use feed_releases::{Event, Feed, OpenFault};
+use feed_samples::{content_of, listed, name_of, record_of};
+use feed_store::{AdoptFault, SqlKeep, StoreFault};
+use sqlite::{Alter, Connection, MemStore};
+use sqlite_disk::{Files, Memory};
+use sqlite_pager::Options;
+use std::alloc::Global;
+use std::test::Fail;
+
+const LAYOUT: &str = "CREATE TABLE feed_layout (version INTEGER PRIMARY KEY) STRICT;";
+
+const RELEASE: &str = "CREATE TABLE feed_release (
+  name TEXT NOT NULL PRIMARY KEY,
+  package TEXT NOT NULL,
+  day INTEGER NOT NULL,
+  size INTEGER NOT NULL,
+  state INTEGER NOT NULL,
+  CHECK (size >= 0),
+  CHECK (state BETWEEN 0 AND 2)
+) STRICT;";
+
+const PIECE: &str = "CREATE TABLE feed_piece (
+  name TEXT NOT NULL REFERENCES feed_release (name) ON DELETE CASCADE,
+  place INTEGER NOT NULL,
+  bytes BLOB NOT NULL,
+  PRIMARY KEY (name, place),
+  CHECK (place >= 0)
+) STRICT;";
+
+const NUMBER: &str = "INSERT INTO feed_layout VALUES (1);";
+
+// A database in memory over which these texts ran.
+fn database_of(alloc: Global, texts: &[&str]) -> Result<Connection<MemStore>, Fail>
+    ensures { IfOk result (λ conn. conn.in_transaction ≡ false) }
+{
+    let mut conn = Connection::open_in_memory(alloc)?;
+    for text in texts {
+        conn.execute_batch(text)?;
+    }
+    if !conn.is_autocommit() {
+        return Err(Fail::new("a transaction is open"));
+    }
+    Ok(conn)
+}
+
+fn adopted<S: Alter + Drop>(conn: Connection<S>) -> Result<SqlKeep<S>, Fail>
+    requires { conn.in_transaction ≡ false }
+{
+    SqlKeep::adopt(conn).map_err(|fault| Fail::new(fault.cause))
+}
+
+// The keeper, after a release of this size was offered to a feed over it.
+fn with_release<S: Alter + Drop>(
+    alloc: Global,
+    keeper: SqlKeep<S>,
+    size: u64,
+) -> Result<SqlKeep<S>, Fail> {
+    let name = name_of(alloc, "X_2024-01-01.txt")?;
+    let mut feed = Feed::open(alloc, keeper).map_err(|fault| Fail::new(fault.cause))?;
+    feed.handle(&Event::Offered { name: &name, size })?;
+    Ok(feed.restart())
+}
+
+// The texts of the tables of a database, and the rows of its layout.
+fn seen_in<S: Alter>(alloc: Global, conn: &mut Connection<S>) -> Result<Vec<u8>, Fail> {
+    let mut seen = Vec::new(alloc);
+    for row in conn.query_all("SELECT sql FROM sqlite_schema ORDER BY name", &[])? {
+        if let Some(text) = row.get::<Option<String>>(0)? {
+            seen.extend_from_slice(text.as_bytes())?;
+            seen.push(b'\n')?;
+        }
+    }
+    Ok(seen)
+}
+
+#[test]
+fn a_foreign_database_is_refused_and_stays_as_it_was(rt: HostRuntime) -> Result<(), Fail> {
+    let alloc = rt.alloc();
+    let rows: [&[&str]; 9] = [
+        &["CREATE TABLE feed_layout (v TEXT)"],
+        &["CREATE TABLE feed_release (name TEXT)"],
+        &["CREATE VIEW Feed_Piece AS SELECT 1"],
+        &[LAYOUT, NUMBER],
+        &[LAYOUT, RELEASE, NUMBER],
+        &[LAYOUT, RELEASE, PIECE],
+        &[
+            LAYOUT,
+            RELEASE,
+            PIECE,
+            NUMBER,
+            "INSERT INTO feed_layout VALUES (2)",
+        ],
+        &[LAYOUT, RELEASE, PIECE, "INSERT INTO feed_layout VALUES (2)"],
+        &[
+            "CREATE TABLE note (t TEXT)",
+            LAYOUT,
+            RELEASE,
+            "CREATE TABLE feed_piece (name TEXT NOT NULL, place INTEGER NOT NULL) STRICT",
+            NUMBER,
+        ],
+    ];
+    for texts in rows {
+        let mut conn = database_of(alloc, texts)?;
+        let before = seen_in(alloc, &mut conn)?;
+        let Err(
+            AdoptFault {
+                cause,
+                connection: mut conn,
+            },
+        ) = SqlKeep::adopt(conn)
+        else {
+            return Err(Fail::new("it is taken"));
+        };
+        assert_eq!(rt; cause, StoreFault::NotOurs);
+        assert_eq!(rt; seen_in(alloc, &mut conn)?.as_slice(), before.as_slice());
+    }
+    Ok(())
+}
+
+#[test]
+fn an_empty_database_of_pages_is_taken_and_keeps_a_record(rt: HostRuntime) -> Result<(), Fail> {
+    let alloc = rt.alloc();
+    let files = Files {
+        log: Memory::new(alloc),
+        db: Memory::new(alloc),
+    };
+    let Ok(conn) = Connection::open_files(alloc, files, Options::new(1)) else {
+        return Err(Fail::new("it does not open"));
+    };
+    let mut keeper = with_release(alloc, adopted(conn)?, 10)?;
+    let expected = b"X_2024-01-01.txt 10 Staged\n".as_slice();
+    assert_eq!(rt; content_of(alloc, &mut keeper)?.as_slice(), expected);
+    // The files that are closed hold it, for the next one that opens them.
+    let Ok(files) = keeper.into_connection().close_files() else {
+        return Err(Fail::new("it does not close"));
+    };
+    let Ok(conn) = Connection::open_files(alloc, files, Options::new(2)) else {
+        return Err(Fail::new("it does not open again"));
+    };
+    let mut keeper = adopted(conn)?;
+    assert_eq!(rt; content_of(alloc, &mut keeper)?.as_slice(), expected);
+    assert_eq!(rt; keeper.failures(), 0);
+    Ok(())
+}
+
+#[test]
+fn other_tables_are_left_alone(rt: HostRuntime) -> Result<(), Fail> {
+    let alloc = rt.alloc();
+    let others = [
+        "CREATE TABLE note (t TEXT)",
+        "INSERT INTO note VALUES ('one'), ('two')",
+        "CREATE VIEW notes AS SELECT t FROM note",
+    ];
+    let keeper = with_release(alloc, adopted(database_of(alloc, &others)?)?, 0)?;
+    let mut conn = keeper.into_connection();
+    let notes = conn.query_all("SELECT t FROM notes ORDER BY t", &[])?;
+    assert_eq!(rt; notes.len(), 2);
+    // It is taken again with all that it holds.
+    let mut keeper = adopted(conn)?;
+    assert_eq!(rt;
+        content_of(alloc, &mut keeper)?.as_slice(),
+        b"X_2024-01-01.txt 0 Broken\n".as_slice()
+    );
+    Ok(())
+}
+
+#[test]
+fn a_table_that_no_keeper_wrote_is_damaged(rt: HostRuntime) -> Result<(), Fail> {
+    let alloc = rt.alloc();
+    let rows = [
+        // No name of a release; another package; another day; a size above the limit.
+        "INSERT INTO feed_release VALUES ('x', 'x', 0, 1, 0)",
+        "INSERT INTO feed_release VALUES ('X_2024-01-01.txt', 'Y', 19723, 1, 0)",
+        "INSERT INTO feed_release VALUES ('X_2024-01-01.txt', 'X', 19724, 1, 0)",
+        "INSERT INTO feed_release VALUES ('X_2024-01-01.txt', 'X', 19723, 67108865, 0)",
+    ];
+    for row in rows {
+        let conn = database_of(alloc, &[LAYOUT, RELEASE, PIECE, NUMBER, row])?;
+        let mut keeper = adopted(conn)?;
+        let damaged = matches!(keeper.load(alloc), Err(KeepFault::Damaged));
+        assert!(rt; damaged, "{row}");
+        let Err(
+            OpenFault {
+                cause,
+                keeper: mut handed_back,
+            },
+        ) = Feed::open(alloc, keeper)
+        else {
+            return Err(Fail::new("a feed opens"));
+        };
+        assert_eq!(rt; cause, KeepFault::Damaged);
+        let damaged = matches!(handed_back.load(alloc), Err(KeepFault::Damaged));
+        assert!(rt; damaged, "{row}");
+        assert_eq!(rt; handed_back.failures(), 0);
+    }
+    Ok(())
+}
+
+#[test]
+fn a_row_as_a_keeper_writes_it_is_a_record(rt: HostRuntime) -> Result<(), Fail> {
+    let alloc = rt.alloc();
+    let texts = [
+        LAYOUT,
+        RELEASE,
+        PIECE,
+        NUMBER,
+        "INSERT INTO feed_release VALUES ('X_2024-01-01.txt', 'X', 19723, 10, 0)",
+        "INSERT INTO feed_piece VALUES ('X_2024-01-01.txt', 4, x'3435')",
+        "INSERT INTO feed_piece VALUES ('X_2024-01-01.txt', 0, x'3031')",
+    ];
+    let mut keeper = adopted(database_of(alloc, &texts)?)?;
+    let record = record_of(
+        alloc,
+        "X_2024-01-01.txt",
+        10,
+        State::Staged,
+        &[(0, b"01"), (4, b"45")],
+    )?;
+    assert_eq!(rt;
+        content_of(alloc, &mut keeper)?.as_slice(),
+        listed(alloc, &[record])?.as_slice()
+    );
+    Ok(())
+}
