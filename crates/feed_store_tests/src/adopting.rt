@@ -1,5 +1,6 @@
 // Databases that are taken as keepers, or refused.
-ghost use Rattle.std.specs.Prelude.{◌≡◌, false, IfOk};
+ghost use Rattle.std.specs.Prelude.{◌≡◌, false, IfOk, IsTrue};
+ghost use Rattle.sqlite_disk.specs.Memory.{memory_is_usable};
 
 use feed_keep::{Keep, KeepFault, State};
 use feed_releases::{Event, Feed, OpenFault};
@@ -8,6 +9,7 @@ use feed_store::{AdoptFault, SqlKeep, StoreFault};
 use sqlite::{Alter, Connection, MemStore};
 use sqlite_disk::{Files, Memory};
 use sqlite_pager::Options;
+use sqlite_store::FileStore;
 use std::alloc::Global;
 use std::test::Fail;
 
@@ -66,7 +68,10 @@ fn with_release<S: Alter + Drop>(
 }
 
 // The texts of the tables of a database, and the rows of its layout.
-fn seen_in<S: Alter>(alloc: Global, conn: &mut Connection<S>) -> Result<Vec<u8>, Fail> {
+fn seen_in<S: Alter>(alloc: Global, conn: &mut Connection<S>) -> Result<Vec<u8>, Fail>
+    requires { conn.old.in_transaction ≡ false }
+    ensures { conn.new.in_transaction ≡ false }
+{
     let mut seen = Vec::new(alloc);
     for row in conn.query_all("SELECT sql FROM sqlite_schema ORDER BY name", &[])? {
         if let Some(text) = row.get::<Option<String>>(0)? {
@@ -75,6 +80,24 @@ fn seen_in<S: Alter>(alloc: Global, conn: &mut Connection<S>) -> Result<Vec<u8>,
         }
     }
     Ok(seen)
+}
+
+// What is seen in a database before and after it is refused, and why it is.
+fn seen_and_refused(
+    alloc: Global,
+    texts: &[&str],
+) -> Result<((Vec<u8>, Vec<u8>), StoreFault), Fail> {
+    let mut conn = database_of(alloc, texts)?;
+    let before = seen_in(alloc, &mut conn)?;
+    match SqlKeep::adopt(conn) {
+        Ok(_) => Err(Fail::new("it is taken")),
+        Err(
+            AdoptFault {
+                cause,
+                mut connection,
+            },
+        ) => Ok(((before, seen_in(alloc, &mut connection)?), cause)),
+    }
 }
 
 #[test]
@@ -104,21 +127,31 @@ fn a_foreign_database_is_refused_and_stays_as_it_was(rt: HostRuntime) -> Result<
         ],
     ];
     for texts in rows {
-        let mut conn = database_of(alloc, texts)?;
-        let before = seen_in(alloc, &mut conn)?;
-        let Err(
-            AdoptFault {
-                cause,
-                connection: mut conn,
-            },
-        ) = SqlKeep::adopt(conn)
-        else {
-            return Err(Fail::new("it is taken"));
-        };
+        let (seen, cause) = seen_and_refused(alloc, texts)?;
+        let (before, after) = seen;
         assert_eq!(rt; cause, StoreFault::NotOurs);
-        assert_eq!(rt; seen_in(alloc, &mut conn)?.as_slice(), before.as_slice());
+        assert_eq!(rt; after.as_slice(), before.as_slice());
     }
     Ok(())
+}
+
+type Pages = FileStore<Memory>;
+
+fn opened(alloc: Global, files: Files<Memory>) -> Result<Connection<Pages>, Fail>
+    requires { IsTrue (memory_is_usable files.log) × IsTrue (memory_is_usable files.db) }
+    ensures { IfOk result (λ conn. conn.in_transaction ≡ false) }
+{
+    match Connection::open_files(alloc, files, Options::new(1)) {
+        Ok(conn) => Ok(conn),
+        Err((error, _)) => Err(Fail::new(error)),
+    }
+}
+
+fn opened_again(alloc: Global, keeper: SqlKeep<Pages>) -> Result<SqlKeep<Pages>, Fail> {
+    match keeper.into_connection().close_files() {
+        Ok(files) => adopted(opened(alloc, files)?),
+        Err((error, _)) => Err(Fail::new(error)),
+    }
 }
 
 #[test]
@@ -128,20 +161,11 @@ fn an_empty_database_of_pages_is_taken_and_keeps_a_record(rt: HostRuntime) -> Re
         log: Memory::new(alloc),
         db: Memory::new(alloc),
     };
-    let Ok(conn) = Connection::open_files(alloc, files, Options::new(1)) else {
-        return Err(Fail::new("it does not open"));
-    };
-    let mut keeper = with_release(alloc, adopted(conn)?, 10)?;
+    let mut keeper = with_release(alloc, adopted(opened(alloc, files)?)?, 10)?;
     let expected = b"X_2024-01-01.txt 10 Staged\n".as_slice();
     assert_eq!(rt; content_of(alloc, &mut keeper)?.as_slice(), expected);
     // The files that are closed hold it, for the next one that opens them.
-    let Ok(files) = keeper.into_connection().close_files() else {
-        return Err(Fail::new("it does not close"));
-    };
-    let Ok(conn) = Connection::open_files(alloc, files, Options::new(2)) else {
-        return Err(Fail::new("it does not open again"));
-    };
-    let mut keeper = adopted(conn)?;
+    let mut keeper = opened_again(alloc, keeper)?;
     assert_eq!(rt; content_of(alloc, &mut keeper)?.as_slice(), expected);
     assert_eq!(rt; keeper.failures(), 0);
     Ok(())

@@ -22,12 +22,19 @@ mod steps;
 
 use std::env;
 use std::test::Fail;
-use steps::take_steps;
+use steps::{DatabaseFile, take_steps};
 
 fn main(rt: HostRuntime) -> Result<(), Fail> {
     let mut words = Vec::new(rt.alloc());
     for word in env::args(&rt)? {
         words.push(word)?;
     }
-    take_steps(&rt, &words)
+    let [_, path, steps @ ..] = words.as_slice() else {
+        return Err(Fail::new("feed_store_tests DATABASE STEP.."));
+    };
+    let database = DatabaseFile {
+        rt: &rt,
+        path: path.as_str(),
+    };
+    take_steps(&rt, &database, steps)
 }

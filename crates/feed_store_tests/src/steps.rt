@@ -9,7 +9,33 @@ use sqlite_store::FileStore;
 use std::test::Fail;
 use std::{fs, slice};
 
-type Store = FileStore<File>;
+/// Where a keeper is, between its openings.
+pub trait Database {
+    type Keeper: Keep + Drop;
+
+    fn opened(&self) -> Result<Self::Keeper, Fail>;
+
+    fn close(&self, keeper: Self::Keeper) -> Result<(), Fail>;
+}
+
+/// The database in a file.
+#[derive(Drop)]
+pub struct DatabaseFile<'a> {
+    pub rt: &'a HostRuntime,
+    pub path: &'a str,
+}
+
+impl Database for DatabaseFile<'_> {
+    type Keeper = SqlKeep<FileStore<File>>;
+
+    fn opened(&self) -> Result<SqlKeep<FileStore<File>>, Fail> {
+        SqlKeep::open_file(self.rt, self.path).map_err(|fault| Fail::new(fault))
+    }
+
+    fn close(&self, keeper: SqlKeep<FileStore<File>>) -> Result<(), Fail> {
+        Ok(keeper.close()?)
+    }
+}
 
 // The words that are left of the command line.
 #[derive(Drop)]
@@ -30,77 +56,66 @@ impl<'a> Words<'a> {
     }
 }
 
-/// Opens the database that the second word names, and takes the steps that the further ones tell.
-pub fn take_steps(rt: &HostRuntime, words: &[String]) -> Result<(), Fail> {
+/// Takes the steps that the words tell, with a feed over the database.
+pub fn take_steps<D: Database>(
+    rt: &HostRuntime,
+    database: &D,
+    words: &[String],
+) -> Result<(), Fail> {
     let mut words = Words { left: words.iter() };
-    words.next_word()?;
-    let path = words.next_word()?;
-    let mut feed = opened(rt, open_file(rt, path)?)?;
+    let mut feed = over(rt, database.opened()?)?;
     for _ in 0..words.left.len() {
         let Some(step) = words.left.next() else {
             break;
         };
-        feed = taken(rt, path, feed, step.as_str(), &mut words)?;
+        feed = taken(rt, database, feed, step.as_str(), &mut words)?;
     }
-    Ok(feed.restart().close()?)
+    database.close(feed.restart())
 }
 
-fn open_file(rt: &HostRuntime, path: &str) -> Result<SqlKeep<Store>, Fail> {
-    SqlKeep::open_file(rt, path).map_err(|fault| Fail::new(fault))
-}
-
-fn opened<K: Keep + Drop>(rt: &HostRuntime, keeper: K) -> Result<Feed<K>, Fail> {
+fn over<K: Keep + Drop>(rt: &HostRuntime, keeper: K) -> Result<Feed<K>, Fail> {
     Feed::open(rt.alloc(), keeper).map_err(|fault| Fail::new(fault.cause))
 }
 
-fn taken(
+fn taken<D: Database>(
     rt: &HostRuntime,
-    path: &str,
-    mut feed: Feed<SqlKeep<Store>>,
+    database: &D,
+    feed: Feed<D::Keeper>,
     step: &str,
     words: &mut Words<'_>,
-) -> Result<Feed<SqlKeep<Store>>, Fail> {
+) -> Result<Feed<D::Keeper>, Fail> {
     match step {
-        "restart" => opened(rt, feed.restart()),
-        "close" => closed(rt, path, feed),
-        "records" => listed(rt, feed),
-        _ => {
-            told(rt, &mut feed, step, words)?;
-            Ok(feed)
+        "restart" => over(rt, feed.restart()),
+        "close" => {
+            database.close(feed.restart())?;
+            over(rt, database.opened()?)
         }
+        "records" => listed(rt, feed),
+        _ => told(rt, feed, step, words),
     }
-}
-
-// The keeper is closed, and the file opened again.
-fn closed(
-    rt: &HostRuntime,
-    path: &str,
-    feed: Feed<SqlKeep<Store>>,
-) -> Result<Feed<SqlKeep<Store>>, Fail> {
-    feed.restart().close()?;
-    opened(rt, open_file(rt, path)?)
 }
 
 fn listed<K: Keep + Drop>(rt: &HostRuntime, feed: Feed<K>) -> Result<Feed<K>, Fail> {
     let mut keeper = feed.restart();
     let text = content_of(rt.alloc(), &mut keeper)?;
     print!(rt; "{}", str::from_utf8(&text)?)?;
-    opened(rt, keeper)
+    over(rt, keeper)
 }
 
 fn told<K: Keep + Drop>(
     rt: &HostRuntime,
-    feed: &mut Feed<K>,
+    mut feed: Feed<K>,
     step: &str,
     words: &mut Words<'_>,
-) -> Result<(), Fail> {
+) -> Result<Feed<K>, Fail> {
     match step {
-        "offer" => offer(rt, feed, words),
-        "piece" => piece(rt, feed, words),
-        "pieces" => pieces(rt, feed, words),
-        "report" => report(rt, feed, words),
-        _ => Err(Fail::new("no such step")),
+        "offer" => offer(rt, &mut feed, words)?,
+        "piece" => piece(rt, &mut feed, words)?,
+        "pieces" => pieces(rt, &mut feed, words)?,
+        "report" => report(rt, &feed, words)?,
+        _ => return Err(Fail::new("no such step")),
     }
+    Ok(feed)
 }
 
 fn offer<K: Keep + Drop>(

@@ -1,8 +1,10 @@
 //! What the words of the command line ask for.
 use crate::check_command::Manner;
 use crate::report::Form;
-use clap::{Arg, ArgAction, ArgMatches, Command, Error};
+use crate::serve_command::Serving;
+use clap::{Arg, ArgAction, ArgMatches, Command, Error, value_parser};
 use std::alloc::{AllocError, Global};
+use std::time::Duration;
 
 /// A command of the program.
 #[derive(Drop)]
@@ -17,6 +19,11 @@ pub enum Request<'a> {
     Answer {
         file: &'a str,
         query: &'a str,
+    },
+    Serve {
+        dir: &'a str,
+        addr: &'a str,
+        serving: Serving,
     },
 }
 
@@ -77,6 +84,25 @@ without hits, 1 for a query or a name that is none, a bad file and one that is t
 3 for a failing device or want of memory. A list has at most 67,108,864 bytes. docs/FAULTS.md has each fault, and -v
 says more of one.";
 
+const SERVE_HELP: &str =
+    "Serves the releases of a folder to any HTTP/1.1 client, whole or by byte ranges (RFC 9110).
+
+DIR is a folder of lists under their release names, as Acme_Global_All_2024-01-01.txt. A plain file with such a name, or
+a symbolic link to one, is served as /NAME, and all else is answered by 404. A list comes and goes as its file does.
+ADDR is an IP address or a host, and a port: 127.0.0.1:8080, [::1]:8080, localhost:8080.
+
+  $ kbfeed serve lists 127.0.0.1:8080 &
+  listening
+  $ curl -r 0-99 http://127.0.0.1:8080/Acme_Global_All_2024-01-01.txt
+
+Connections are served one after another, one request each. A line is printed for each: `served` and the status of the
+reply, or `fault` and why there was none. A client has --timeout seconds to send its request, or its line is `fault
+Read`. It may not stand still for as long while it takes the reply, nor take more than these seconds and one for each
+65,536 bytes, or its line is `fault Write`.
+
+The status is 0 once --count connections were served, 2 for a wrong command line, and 3 where ADDR does not bind (Bind),
+no connection is taken (Accept) or a print fails. docs/FAULTS.md has each fault, and -v says more of one.";
+
 /// Reads the words of the command line, the program's name first: whether more is to be said of a fault, and the
 /// command.
 pub fn read<'a>(alloc: Global, words: &'a [String]) -> Result<(bool, Request<'a>), Error> {
@@ -93,7 +119,8 @@ pub fn read<'a>(alloc: Global, words: &'a [String]) -> Result<(bool, Request<'a>
         .arg(verbose)?
         .subcommand(replay_command(alloc))?
         .subcommand(check_command(alloc)?)?
-        .subcommand(answer_command(alloc)?)?;
+        .subcommand(answer_command(alloc)?)?
+        .subcommand(serve_command(alloc)?)?;
     let matches = command.try_get_matches_from(words)?;
     let is_verbose = matches.get_flag("verbose");
     Ok((is_verbose, request_of(alloc, &matches)?))
@@ -161,6 +188,39 @@ fn answer_command<'a>(alloc: Global) -> Result<Command<'a>, AllocError> {
         .arg(query)
 }
 
+fn serve_command<'a>(alloc: Global) -> Result<Command<'a>, AllocError> {
+    let dir = Arg::new(alloc, "DIR")
+        .required(true)
+        .help("The folder of the lists");
+    let addr = Arg::new(alloc, "ADDR")
+        .required(true)
+        .help("Where it listens, as 127.0.0.1:8080");
+    let count = Arg::new(alloc, "count")
+        .long("count")
+        .value_name("N")
+        .value_parser(value_parser!(u64).range(1..=1_000_000))
+        .help("How many connections are served, 1 to 1000000 [default: 1000000]");
+    let timeout = Arg::new(alloc, "timeout")
+        .long("timeout")
+        .value_name("SECONDS")
+        .value_parser(value_parser!(u64).range(1..=3_600))
+        .help("How long a client may take, 1 to 3600 [default: 30]");
+    Command::new(alloc, "serve")
+        .about("Serves a folder of releases over HTTP")
+        .long_about(SERVE_HELP)
+        .arg(dir)?
+        .arg(addr)?
+        .arg(count)?
+        .arg(timeout)
+}
+
+fn serving_of(serve: &ArgMatches<'_>) -> Serving {
+    Serving {
+        count: serve.get_one::<u64>("count").unwrap_or(1_000_000),
+        time: Duration::from_secs(serve.get_one::<u64>("timeout").unwrap_or(30)),
+    }
+}
+
 fn form_of(check: &ArgMatches<'_>) -> Form {
     if check.get_flag("summary") {
         Form::Summary
@@ -186,6 +246,11 @@ fn request_of<'a>(alloc: Global, matches: &ArgMatches<'a>) -> Result<Request<'a>
         Some(("answer", answer)) => Request::Answer {
             file: answer.get_str("FILE").unwrap_or(""),
             query: answer.get_str("QUERY").unwrap_or(""),
+        },
+        Some(("serve", serve)) => Request::Serve {
+            dir: serve.get_str("DIR").unwrap_or(""),
+            addr: serve.get_str("ADDR").unwrap_or(""),
+            serving: serving_of(serve),
         },
         _ => Request::Replay,
     })

@@ -7,21 +7,27 @@ mod check_command;
 mod command_line;
 mod explain;
 mod files;
+mod folder;
 mod input;
 mod replay_command;
 mod report;
 mod script;
+mod serve_command;
 mod stack;
 mod status;
+mod timed;
 
 use check_command::Manner;
 use clap::error::ErrorKind;
 use command_line::Request;
 use files::Disk;
+use folder::Folder;
+use serve_command::Serving;
 use status::{DONE, FAILED, Faults, MISUSED};
 use std::fs::File;
 use std::io;
 use std::io::{BufWriter, Write};
+use std::net::TcpListener;
 use std::process::ExitCode;
 
 fn main(rt: HostRuntime) -> ExitCode {
@@ -76,6 +82,9 @@ fn status_of(rt: &HostRuntime) -> u8 {
             status
         }
         Request::Answer { file, query } => answer(rt, file, query, &mut out, &mut faults),
+        Request::Serve { dir, addr, serving } => {
+            serve(rt, dir, addr, serving, &mut out, &mut faults)
+        }
     }
 }
 
@@ -124,6 +133,33 @@ fn answer<O: Write, F: Write + Drop>(
         Ok(file) => answer_command::answer_on(rt.alloc(), &asked, file, out, faults),
         Err(status) => status,
     }
+}
+
+// Serves the releases of a folder.
+fn serve<O: Write, F: Write + Drop>(
+    rt: &HostRuntime,
+    dir: &str,
+    addr: &str,
+    serving: Serving,
+    out: &mut O,
+    faults: &mut Faults<F>,
+) -> u8 {
+    let listener = match TcpListener::bind(rt, addr) {
+        Ok(listener) => listener,
+        Err(fault) => return faults.told_of("Bind", addr, fault, FAILED),
+    };
+    let mut folder = Folder::new(rt, dir);
+    if !folder.is_there() {
+        faults.noted(
+            dir,
+            "no folder is there, so that each name is answered by 404",
+        );
+    }
+    let announced = writeln!(out, "listening").and_then(|()| out.flush());
+    if let Err(fault) = announced {
+        return faults.printed(Err(fault), FAILED);
+    }
+    serve_command::serve_on(rt, &listener, &mut folder, serving, out, faults)
 }
 
 // The file at a path, or the exit status where it does not open, which is told.

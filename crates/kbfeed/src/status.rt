@@ -53,6 +53,13 @@ impl<F: Write + Drop> Faults<F> {
         }
     }
 
+    /// Says of something what is no fault, where more is asked for.
+    pub fn noted(&mut self, about: &str, what: &str) {
+        if self.is_verbose {
+            let _ = writeln!(&mut self.out, "{about}: {what}");
+        }
+    }
+
     /// Tells how many lines of a transcript are of want of memory, where more is asked for and there are some.
     pub fn told_lines(&mut self, lines: usize, status: u8) -> u8 {
         if !self.is_verbose || lines == 0 {

@@ -1,0 +1,129 @@
+//! The two directions of a connection whose exchange has to end in time.
+use std::io;
+use std::io::{ErrorKind, Read, Write};
+use std::net::TcpStream;
+use std::time::{Duration, Instant};
+
+/// How many bytes a peer has to take in a second, on the average, once its time is over.
+pub const PACE: u64 = 65_536;
+
+// When an exchange has to end, how long one call may wait, and when the time-out of the socket was set last.
+#[derive(Clone, Copy)]
+struct Limit {
+    ends: Instant,
+    time: Duration,
+    set: Instant,
+}
+
+impl Limit {
+    fn of(rt: &HostRuntime, time: Duration) -> io::Result<Limit> {
+        let now = Instant::now(rt)?;
+        let Some(ends) = now.checked_add(time) else {
+            return Err(io::Error::from(ErrorKind::InvalidInput));
+        };
+        Ok(Limit {
+            ends,
+            time,
+            set: now,
+        })
+    }
+
+    // How long the next call may wait, where the socket has to be told it: it is, at most once in a second.
+    fn left(&mut self, rt: &HostRuntime) -> io::Result<Option<Duration>> {
+        let now = Instant::now(rt)?;
+        let left = self.ends.saturating_duration_since(now);
+        if left.is_zero() {
+            return Err(io::Error::from(ErrorKind::TimedOut));
+        }
+        if now.saturating_duration_since(self.set).as_secs() == 0 {
+            return Ok(None);
+        }
+        self.set = now;
+        Ok(Some(left.min(self.time)))
+    }
+}
+
+/// What comes over a connection. All of it has to come within the time.
+#[derive(Drop)]
+pub struct TimedReader<'a> {
+    rt: &'a HostRuntime,
+    stream: &'a TcpStream,
+    limit: Limit,
+}
+
+impl<'a> TimedReader<'a> {
+    pub fn new(
+        rt: &'a HostRuntime,
+        stream: &'a TcpStream,
+        time: Duration,
+    ) -> io::Result<TimedReader<'a>> {
+        stream.set_read_timeout(Some(time))?;
+        let limit = Limit::of(rt, time)?;
+        Ok(TimedReader { rt, stream, limit })
+    }
+}
+
+impl Read for TimedReader<'_> {
+    ghost use Rattle.std.specs.Prelude.{None};
+
+    ghost remaining = { λ _. None };
+
+    fn read(&mut self, buf: &mut [u8]) -> io::Result<usize> {
+        if let Some(left) = self.limit.left(self.rt)? {
+            self.stream.set_read_timeout(Some(left))?;
+        }
+        self.stream.read(buf)
+    }
+}
+
+/// What goes over a connection. No write waits longer than the time, and all of it has to go within the time and a
+/// second for each `PACE` bytes that went.
+#[derive(Drop)]
+pub struct TimedWriter<'a> {
+    rt: &'a HostRuntime,
+    stream: &'a TcpStream,
+    limit: Limit,
+    gone: u64,
+}
+
+impl<'a> TimedWriter<'a> {
+    pub fn new(
+        rt: &'a HostRuntime,
+        stream: &'a TcpStream,
+        time: Duration,
+    ) -> io::Result<TimedWriter<'a>> {
+        stream.set_write_timeout(Some(time))?;
+        let limit = Limit::of(rt, time)?;
+        Ok(TimedWriter {
+            rt,
+            stream,
+            limit,
+            gone: 0,
+        })
+    }
+}
+
+impl Write for TimedWriter<'_> {
+    fn write(&mut self, buf: &[u8]) -> io::Result<usize> {
+        if let Some(left) = self.limit.left(self.rt)? {
+            self.stream.set_write_timeout(Some(left))?;
+        }
+        let count = self.stream.write(buf)?;
+        self.gone = self.gone.saturating_add(count as u64);
+        if self.gone >= PACE {
+            if let Some(ends) = self
+                .limit
+                .ends
+                .checked_add(Duration::from_secs(self.gone / PACE))
+            {
+                self.limit.ends = ends;
+            }
+            self.gone %= PACE;
+        }
+        Ok(count)
+    }
+
+    fn flush(&mut self) -> io::Result<()> {
+        self.stream.flush()
+    }
+}

@@ -1,0 +1,53 @@
+#!/usr/bin/env python3
+"""raw_client.py ADDR: sends the bytes of standard input over one connection, ends its side, and prints what comes back.
+
+raw_client.py ADDR --hold SECONDS LEN: sends the first LEN bytes, and then nothing, and waits at most so long.
+raw_client.py ADDR --stall SECONDS: sends them all, reads nothing for so long, and prints how much came then.
+raw_client.py ADDR --drip SECONDS: sends one byte every so often, until the peer has closed or all was sent."""
+import socket
+import sys
+import time
+
+
+def received(peer):
+    """All that comes until the end, or until the connection is reset."""
+    parts = []
+    try:
+        while part := peer.recv(65_536):
+            parts.append(part)
+    except ConnectionError:
+        pass
+    return b"".join(parts)
+
+
+def main():
+    host, port = sys.argv[1].rsplit(":", 1)
+    text = sys.stdin.buffer.read()
+    with socket.create_connection((host, int(port)), timeout=60) as peer:
+        if "--drip" in sys.argv:
+            pause = float(sys.argv[3])
+            try:
+                for at in range(len(text)):
+                    peer.sendall(text[at:at + 1])
+                    time.sleep(pause)
+            except ConnectionError:
+                pass
+        elif "--hold" in sys.argv:
+            peer.settimeout(float(sys.argv[3]))
+            peer.sendall(text[:int(sys.argv[4])])
+        elif "--stall" in sys.argv:
+            peer.sendall(text)
+            time.sleep(float(sys.argv[3]))
+            print("all" if received(peer).endswith(b"end") else "cut off")
+            return
+        else:
+            peer.sendall(text)
+            peer.shutdown(socket.SHUT_WR)
+        try:
+            sys.stdout.buffer.write(received(peer))
+        except TimeoutError:
+            print("held")
+
+
+if __name__ == "__main__":
+    main()
