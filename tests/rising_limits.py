@@ -12,6 +12,10 @@ import subprocess
 import sys
 
 
+# What the loader of programs says where it has no memory.
+LOADER = ["loading shared libraries", "data structures for initial thread"]
+
+
 def run(command, path, limit):
     def limited():
         resource.setrlimit(resource.RLIMIT_CORE, (0, 0))
@@ -31,7 +35,7 @@ def outcome(done, whole):
         return "counted"
     if done.returncode < 0 and not done.stdout and not done.stderr:
         return "not begun"
-    if done.returncode == 127 and not done.stdout and "loading shared libraries" in faults[0]:
+    if done.returncode == 127 and not done.stdout and any(said in faults[0] for said in LOADER):
         return "not begun"
     return f"{done.returncode} {done.stdout[:80]!r} {done.stderr[:80]!r}"
 
