@@ -17,6 +17,19 @@ pub struct Asked<'a> {
     text: &'a str,
 }
 
+/// Reads a query. A fault is told. The error is the exit status: 1 for a query that is none, 3 for want of memory.
+pub fn read_query<F: Write + Drop>(
+    alloc: Global,
+    text: &str,
+    faults: &mut Faults<F>,
+) -> Result<Query, u8> {
+    match Query::read(alloc, text.as_bytes()) {
+        Ok(query) => Ok(query),
+        Err(QueryFault::Memory) => Err(faults.told(QueryFault::Memory, FAILED)),
+        Err(fault) => Err(faults.told_of(fault, text, cause_of_query(fault), REFUSED)),
+    }
+}
+
 /// Reads the query, and then the name of the file. A fault is told. The error is the exit status: 1 for a query or a
 /// name that is none, 3 for want of memory.
 pub fn read_asked<'a, F: Write + Drop>(
@@ -25,11 +38,7 @@ pub fn read_asked<'a, F: Write + Drop>(
     query: &str,
     faults: &mut Faults<F>,
 ) -> Result<Asked<'a>, u8> {
-    let query = match Query::read(alloc, query.as_bytes()) {
-        Ok(query) => query,
-        Err(QueryFault::Memory) => return Err(faults.told(QueryFault::Memory, FAILED)),
-        Err(fault) => return Err(faults.told_of(fault, query, cause_of_query(fault), REFUSED)),
-    };
+    let query = read_query(alloc, query, faults)?;
     match ReleaseName::parse(alloc, text.as_bytes()) {
         Ok(name) => Ok(Asked { query, name, text }),
         Err(NameFault::Memory) => Err(faults.told(NameFault::Memory, FAILED)),

@@ -1,7 +1,7 @@
 //! What a fault means, for readers who ask for more than its name.
-use crate::script::LineFault;
 use feed_answer::QueryFault;
 use feed_names::NameFault;
+use feed_script::LineFault;
 
 /// What a file has that is too long.
 pub const LONG_FILE: &str = "a list has at most 67,108,864 bytes";

@@ -1,10 +1,10 @@
 //! `kbfeed check`: what a file holds, or why it is bad.
 use crate::causes::{LONG_FILE, cause_of_name};
 use crate::input::{Watched, read_up_to};
-use crate::report::{Form, Report};
 use crate::status::{DONE, FAILED, Faults, REFUSED};
 use feed_kbart::{FILE_LIMIT, Holdings, KbartFault, read_file};
 use feed_names::{NameFault, ReleaseName};
+use feed_report::{Form, Report};
 use std::alloc::Global;
 use std::io::{ErrorKind, Read, Write};
 

@@ -1,8 +1,9 @@
 //! What the words of the command line ask for.
 use crate::check_command::Manner;
-use crate::report::Form;
+use crate::fetch_command::Fetching;
 use crate::serve_command::Serving;
 use clap::{Arg, ArgAction, ArgMatches, Command, Error, value_parser};
+use feed_report::Form;
 use std::alloc::{AllocError, Global};
 use std::time::Duration;
 
@@ -24,6 +25,20 @@ pub enum Request<'a> {
         dir: &'a str,
         addr: &'a str,
         serving: Serving,
+    },
+    Fetch {
+        db: &'a str,
+        addr: &'a str,
+        name: &'a str,
+        fetching: Fetching,
+    },
+    Ask {
+        db: &'a str,
+        package: &'a str,
+        query: &'a str,
+    },
+    Status {
+        db: &'a str,
     },
 }
 
@@ -103,6 +118,66 @@ Read`. It may not stand still for as long while it takes the reply, nor take mor
 The status is 0 once --count connections were served, 2 for a wrong command line, and 3 where ADDR does not bind (Bind),
 no connection is taken (Accept) or a print fails. docs/FAULTS.md has each fault, and -v says more of one.";
 
+const FETCH_HELP: &str =
+    "Fetches a release over HTTP/1.1 into the database of a node, which then answers from it (kbfeed ask).
+
+DB is a file, which is made where there is none; its log stands beside it as DB-wal. ADDR is a host and a port, as
+127.0.0.1:8080. NAME is a release name, as Acme_Global_All_2024-01-01.txt: the file is asked for as /NAME.
+
+  $ kbfeed fetch node.db 127.0.0.1:8080 Acme_Global_All_2024-01-01.txt
+  size 205
+  noted
+  activated
+
+The length is asked for, and then each range that is missing, with --piece bytes at most in one request. What comes is
+kept at once. A fetch that was stopped, at whatever moment, goes on where it was: run it again. The node answers from
+the release that it had until the new one is whole and good, and then from the new one. A line is printed for what
+happens:
+
+  size N              the length of the file
+  noted, known        the release was recorded, or it had been
+  stored missing N    bytes were kept, and N are missing
+  repeated            nothing new came
+  activated           the file is whole and good, and answers
+  broken REASON       it is whole and bad
+  older               a later release of the package answers
+  refused REASON      it was not taken: docs/FAULTS.md has the reasons
+  nothing             a reply did not come, or not whole
+  missing             the server does not have it
+  unsatisfied         the server's file is shorter
+
+Where standard error is a terminal, a line there shows how far it is. A connection may wait for --timeout seconds, and
+take as long and a second for each 65,536 bytes.
+
+The status is 0 where the release is reported then, or a later one; 1 where the server or the file is to blame, 2 for a
+wrong command line, 3 for a connection or device that fails and for want of memory: then run it again. A NAME that
+begins with - stands behind --. docs/FAULTS.md has each fault, and -v says more of one.";
+
+const ASK_HELP: &str =
+    "Prints what a node answers an OpenURL query: from the active release of a package in its database.
+
+DB is the file that `kbfeed fetch` fills. PACKAGE is a name without its date, as Acme_Global_All. QUERY is the query of
+an OpenURL 1.0 of at most 4,096 bytes, as rft.issn=2434561x&rft.date=1996&rft.volume=3. The answer is as that of `kbfeed
+answer` on the release's file, byte for byte. A PACKAGE or QUERY that begins with - stands behind --.
+
+The first fault is told of the query, of the database, and of the package (NoRelease: it has no active release). The
+status is 0 for an answer, also one without hits, 1 for a query that is none, a package without a release, and a
+database that is not ours or damaged, 2 for a wrong command line, and 3 for a failing device or want of memory.
+docs/FAULTS.md has each fault, and -v says more of one.";
+
+const STATUS_HELP: &str =
+    "Prints the releases that a node has recorded, ordered by name: a line for each, with a tab between each two of
+
+  name      as Acme_Global_All_2024-01-01.txt
+  state     staged: bytes are missing; active: it answers; broken: its file is bad
+  size      of the file, in bytes
+  missing   how many of them are missing
+
+DB is the file that `kbfeed fetch` fills. An empty database prints nothing.
+
+The status is 0, 1 for a database that is not ours or damaged, 2 for a wrong command line, and 3 for a failing device or
+want of memory. docs/FAULTS.md has each fault, and -v says more of one.";
+
 /// Reads the words of the command line, the program's name first: whether more is to be said of a fault, and the
 /// command.
 pub fn read<'a>(alloc: Global, words: &'a [String]) -> Result<(bool, Request<'a>), Error> {
@@ -120,7 +195,10 @@ pub fn read<'a>(alloc: Global, words: &'a [String]) -> Result<(bool, Request<'a>
         .subcommand(replay_command(alloc))?
         .subcommand(check_command(alloc)?)?
         .subcommand(answer_command(alloc)?)?
-        .subcommand(serve_command(alloc)?)?;
+        .subcommand(serve_command(alloc)?)?
+        .subcommand(fetch_command(alloc)?)?
+        .subcommand(ask_command(alloc)?)?
+        .subcommand(status_command(alloc)?)?;
     let matches = command.try_get_matches_from(words)?;
     let is_verbose = matches.get_flag("verbose");
     Ok((is_verbose, request_of(alloc, &matches)?))
@@ -200,11 +278,7 @@ fn serve_command<'a>(alloc: Global) -> Result<Command<'a>, AllocError> {
         .value_name("N")
         .value_parser(value_parser!(u64).range(1..=1_000_000))
         .help("How many connections are served, 1 to 1000000 [default: 1000000]");
-    let timeout = Arg::new(alloc, "timeout")
-        .long("timeout")
-        .value_name("SECONDS")
-        .value_parser(value_parser!(u64).range(1..=3_600))
-        .help("How long a client may take, 1 to 3600 [default: 30]");
+    let timeout = timeout(alloc, "How long a client may take, 1 to 3600 [default: 30]");
     Command::new(alloc, "serve")
         .about("Serves a folder of releases over HTTP")
         .long_about(SERVE_HELP)
@@ -214,10 +288,76 @@ fn serve_command<'a>(alloc: Global) -> Result<Command<'a>, AllocError> {
         .arg(timeout)
 }
 
+fn timeout<'a>(alloc: Global, help: &'a str) -> Arg<'a> {
+    Arg::new(alloc, "timeout")
+        .long("timeout")
+        .value_name("SECONDS")
+        .value_parser(value_parser!(u64).range(1..=3_600))
+        .help(help)
+}
+
+fn time_of(matches: &ArgMatches<'_>) -> Duration {
+    Duration::from_secs(matches.get_one::<u64>("timeout").unwrap_or(30))
+}
+
+fn database<'a>(alloc: Global) -> Arg<'a> {
+    Arg::new(alloc, "DB")
+        .required(true)
+        .help("The path of the node's database")
+}
+
+fn fetch_command<'a>(alloc: Global) -> Result<Command<'a>, AllocError> {
+    let addr = Arg::new(alloc, "ADDR")
+        .required(true)
+        .help("Where the server listens, as 127.0.0.1:8080");
+    let name = Arg::new(alloc, "NAME").required(true).help(
+        "The name of the release, as Acme_Global_All_2024-01-01.txt",
+    );
+    let piece = Arg::new(alloc, "piece")
+        .long("piece")
+        .value_name("N")
+        .value_parser(value_parser!(u64).range(1..=1_048_576))
+        .help("How many bytes a request asks for, 1 to 1048576 [default: 262144]");
+    let timeout = timeout(
+        alloc,
+        "How long a connection may wait, 1 to 3600 [default: 30]",
+    );
+    Command::new(alloc, "fetch")
+        .about("Fetches a release into the database of a node")
+        .long_about(FETCH_HELP)
+        .arg(database(alloc))?
+        .arg(addr)?
+        .arg(name)?
+        .arg(piece)?
+        .arg(timeout)
+}
+
+fn ask_command<'a>(alloc: Global) -> Result<Command<'a>, AllocError> {
+    let package = Arg::new(alloc, "PACKAGE")
+        .required(true)
+        .help("The package, as Acme_Global_All");
+    let query = Arg::new(alloc, "QUERY")
+        .required(true)
+        .help("The query of an OpenURL, as rft.issn=2434561x");
+    Command::new(alloc, "ask")
+        .about("Answers a query from the database of a node")
+        .long_about(ASK_HELP)
+        .arg(database(alloc))?
+        .arg(package)?
+        .arg(query)
+}
+
+fn status_command<'a>(alloc: Global) -> Result<Command<'a>, AllocError> {
+    Command::new(alloc, "status")
+        .about("Prints the releases that a node has recorded")
+        .long_about(STATUS_HELP)
+        .arg(database(alloc))
+}
+
 fn serving_of(serve: &ArgMatches<'_>) -> Serving {
     Serving {
         count: serve.get_one::<u64>("count").unwrap_or(1_000_000),
-        time: Duration::from_secs(serve.get_one::<u64>("timeout").unwrap_or(30)),
+        time: time_of(serve),
     }
 }
 
@@ -251,6 +391,23 @@ fn request_of<'a>(alloc: Global, matches: &ArgMatches<'a>) -> Result<Request<'a>
             dir: serve.get_str("DIR").unwrap_or(""),
             addr: serve.get_str("ADDR").unwrap_or(""),
             serving: serving_of(serve),
+        },
+        Some(("fetch", fetch)) => Request::Fetch {
+            db: fetch.get_str("DB").unwrap_or(""),
+            addr: fetch.get_str("ADDR").unwrap_or(""),
+            name: fetch.get_str("NAME").unwrap_or(""),
+            fetching: Fetching {
+                piece: fetch.get_one::<u64>("piece").unwrap_or(262_144),
+                time: time_of(fetch),
+            },
+        },
+        Some(("ask", ask)) => Request::Ask {
+            db: ask.get_str("DB").unwrap_or(""),
+            package: ask.get_str("PACKAGE").unwrap_or(""),
+            query: ask.get_str("QUERY").unwrap_or(""),
+        },
+        Some(("status", status)) => Request::Status {
+            db: status.get_str("DB").unwrap_or(""),
         },
         _ => Request::Replay,
     })

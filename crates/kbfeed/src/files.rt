@@ -1,7 +1,7 @@
 //! The files that scripts publish by their paths.
 use crate::input::read_up_to;
-use crate::script::{FileCause, Files, LineFault};
 use feed_kbart::FILE_LIMIT;
+use feed_script::{FileCause, Files, LineFault};
 use std::alloc::Global;
 use std::fs::File;
 use std::io::ErrorKind;

@@ -2,24 +2,28 @@
 #![tactic(auto)]
 
 mod answer_command;
+mod ask_command;
 mod causes;
 mod check_command;
 mod command_line;
-mod explain;
+mod database;
+mod fetch_command;
 mod files;
 mod folder;
 mod input;
+mod progress;
 mod replay_command;
-mod report;
-mod script;
 mod serve_command;
 mod stack;
 mod status;
+mod status_command;
+mod tcp_dial;
 mod timed;
 
 use check_command::Manner;
 use clap::error::ErrorKind;
 use command_line::Request;
+use database::DatabaseFile;
 use files::Disk;
 use folder::Folder;
 use serve_command::Serving;
@@ -84,6 +88,28 @@ fn status_of(rt: &HostRuntime) -> u8 {
         Request::Answer { file, query } => answer(rt, file, query, &mut out, &mut faults),
         Request::Serve { dir, addr, serving } => {
             serve(rt, dir, addr, serving, &mut out, &mut faults)
+        }
+        Request::Fetch {
+            db: path,
+            addr,
+            name,
+            fetching,
+        } => {
+            let database = DatabaseFile { rt, path };
+            fetch_command::fetch_on(rt, &database, addr, name, fetching, &mut out, &mut faults)
+        }
+        Request::Ask {
+            db: path,
+            package,
+            query,
+        } => {
+            let database = DatabaseFile { rt, path };
+            let alloc = rt.alloc();
+            ask_command::ask_on(alloc, &database, package, query, &mut out, &mut faults)
+        }
+        Request::Status { db: path } => {
+            let database = DatabaseFile { rt, path };
+            status_command::status_on(rt.alloc(), &database, &mut out, &mut faults)
         }
     }
 }

@@ -1,18 +1,20 @@
-//! The two directions of a connection whose exchange has to end in time.
+//! Connections whose exchanges have to end in time.
 use std::io;
 use std::io::{ErrorKind, Read, Write};
 use std::net::TcpStream;
 use std::time::{Duration, Instant};
 
-/// How many bytes a peer has to take in a second, on the average, once its time is over.
-pub const PACE: u64 = 65_536;
+// How many bytes have to move in a second, on the average, once the time is over.
+const PACE: u64 = 65_536;
 
-// When an exchange has to end, how long one call may wait, and when the time-out of the socket was set last.
+// When an exchange has to end, how long one call may wait, when the time-out of the socket was set last, and how many
+// bytes moved since the end was last put off.
 #[derive(Clone, Copy)]
 struct Limit {
     ends: Instant,
     time: Duration,
     set: Instant,
+    moved: u64,
 }
 
 impl Limit {
@@ -25,6 +27,7 @@ impl Limit {
             ends,
             time,
             set: now,
+            moved: 0,
         })
     }
 
@@ -40,6 +43,18 @@ impl Limit {
         }
         self.set = now;
         Ok(Some(left.min(self.time)))
+    }
+
+    // So many bytes moved: the exchange may take a second more for each `PACE` of them.
+    fn put_off(&mut self, count: usize) {
+        self.moved = self.moved.saturating_add(count as u64);
+        if self.moved >= PACE {
+            let more = Duration::from_secs(self.moved / PACE);
+            if let Some(ends) = self.ends.checked_add(more) {
+                self.ends = ends;
+            }
+            self.moved %= PACE;
+        }
     }
 }
 
@@ -77,13 +92,12 @@ impl Read for TimedReader<'_> {
 }
 
 /// What goes over a connection. No write waits longer than the time, and all of it has to go within the time and a
-/// second for each `PACE` bytes that went.
+/// second for each 65,536 bytes that went.
 #[derive(Drop)]
 pub struct TimedWriter<'a> {
     rt: &'a HostRuntime,
     stream: &'a TcpStream,
     limit: Limit,
-    gone: u64,
 }
 
 impl<'a> TimedWriter<'a> {
@@ -94,12 +108,7 @@ impl<'a> TimedWriter<'a> {
     ) -> io::Result<TimedWriter<'a>> {
         stream.set_write_timeout(Some(time))?;
         let limit = Limit::of(rt, time)?;
-        Ok(TimedWriter {
-            rt,
-            stream,
-            limit,
-            gone: 0,
-        })
+        Ok(TimedWriter { rt, stream, limit })
     }
 }
 
@@ -109,17 +118,59 @@ impl Write for TimedWriter<'_> {
             self.stream.set_write_timeout(Some(left))?;
         }
         let count = self.stream.write(buf)?;
-        self.gone = self.gone.saturating_add(count as u64);
-        if self.gone >= PACE {
-            if let Some(ends) = self
-                .limit
-                .ends
-                .checked_add(Duration::from_secs(self.gone / PACE))
-            {
-                self.limit.ends = ends;
-            }
-            self.gone %= PACE;
+        self.limit.put_off(count);
+        Ok(count)
+    }
+
+    fn flush(&mut self) -> io::Result<()> {
+        self.stream.flush()
+    }
+}
+
+/// A connection, and what comes and goes over it: neither a read nor a write waits longer than the time, and the
+/// exchange has to end within the time and a second for each 65,536 bytes that moved.
+#[derive(Drop)]
+pub struct TimedStream<'a> {
+    rt: &'a HostRuntime,
+    stream: TcpStream,
+    limit: Limit,
+}
+
+impl<'a> TimedStream<'a> {
+    pub fn new(
+        rt: &'a HostRuntime,
+        stream: TcpStream,
+        time: Duration,
+    ) -> io::Result<TimedStream<'a>> {
+        stream.set_read_timeout(Some(time))?;
+        stream.set_write_timeout(Some(time))?;
+        let limit = Limit::of(rt, time)?;
+        Ok(TimedStream { rt, stream, limit })
+    }
+}
+
+impl Read for TimedStream<'_> {
+    ghost use Rattle.std.specs.Prelude.{None};
+
+    ghost remaining = { λ _. None };
+
+    fn read(&mut self, buf: &mut [u8]) -> io::Result<usize> {
+        if let Some(left) = self.limit.left(self.rt)? {
+            self.stream.set_read_timeout(Some(left))?;
         }
+        let count = self.stream.read(buf)?;
+        self.limit.put_off(count);
+        Ok(count)
+    }
+}
+
+impl Write for TimedStream<'_> {
+    fn write(&mut self, buf: &[u8]) -> io::Result<usize> {
+        if let Some(left) = self.limit.left(self.rt)? {
+            self.stream.set_write_timeout(Some(left))?;
+        }
+        let count = self.stream.write(buf)?;
+        self.limit.put_off(count);
         Ok(count)
     }
 

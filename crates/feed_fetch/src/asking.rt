@@ -1,0 +1,61 @@
+//! One request on a connection of its own, and what its reply gives.
+ghost use Rattle.std.specs.Prelude.{IsTrue};
+ghost use Rattle.feed_names.specs.ReleaseName.{text_of};
+ghost use Rattle.feed_http.specs.RequestTexts.{is_host, get_text, head_request_text};
+ghost use Rattle.feed_fetch.specs.Servers.{IfKnown, IsReadOf};
+
+use crate::dial::Dial;
+use crate::stop::Unasked;
+use feed_http::{Got, HttpFault, Method, read_reply, write_head_request, write_request};
+use feed_names::ReleaseName;
+use std::alloc::Global;
+
+/// Asks for the length of the file.
+pub fn ask_size<D: Dial>(
+    alloc: Global,
+    dial: &mut D,
+    host: &[u8],
+    name: &ReleaseName,
+) -> Result<Got, Unasked>
+    requires { IsTrue (is_host host.now) }
+    ensures { IfKnown D.replies (λ IsReplyTo.
+        IsReadOf IsReplyTo Method.Head (head_request_text host.now (text_of name.now)) result) }
+{
+    let mut conn = match dial.dial() {
+        Ok(conn) => conn,
+        Err(fault) => return Err(Unasked::Dial(fault)),
+    };
+    let Ok(()) = write_head_request(&mut conn, host, name) else {
+        return Err(Unasked::Http(HttpFault::Write));
+    };
+    match read_reply(alloc, &mut conn, Method::Head) {
+        Ok(got) => Ok(got),
+        Err(fault) => Err(Unasked::Http(fault)),
+    }
+}
+
+/// Asks for the places from the first to the last of the file, both included.
+pub fn ask_places<D: Dial>(
+    alloc: Global,
+    dial: &mut D,
+    host: &[u8],
+    name: &ReleaseName,
+    first: u64,
+    last: u64,
+) -> Result<Got, Unasked>
+    requires { IsTrue (is_host host.now) }
+    ensures { IfKnown D.replies (λ IsReplyTo.
+        IsReadOf IsReplyTo Method.Get (get_text host.now (text_of name.now) first last) result) }
+{
+    let mut conn = match dial.dial() {
+        Ok(conn) => conn,
+        Err(fault) => return Err(Unasked::Dial(fault)),
+    };
+    let Ok(()) = write_request(&mut conn, host, name, first, last) else {
+        return Err(Unasked::Http(HttpFault::Write));
+    };
+    match read_reply(alloc, &mut conn, Method::Get) {
+        Ok(got) => Ok(got),
+        Err(fault) => Err(Unasked::Http(fault)),
+    }
+}

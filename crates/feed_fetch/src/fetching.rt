@@ -1,0 +1,269 @@
+//! The loop of a fetch.
+ghost use Rattle.std.specs.Prelude.{ℕ, List, ◌≡◌, ◌≤◌, ◌⊎◌, IsTrue, Some, Ok, Err, IfOk, IfErr};
+ghost use Rattle.feed_names.specs.ReleaseName.{text_of};
+ghost use Rattle.feed_model.specs.History.{History, Lost, Offered, IsGood, IsPassed, Reports};
+ghost use Rattle.feed_model.specs.Content.{IsContent};
+ghost use Rattle.feed_releases.specs.Feeds.{recorded};
+ghost use Rattle.feed_fetch.specs.Answers.{
+  Tells,
+  goes_on,
+  is_done,
+  is_settled,
+  status_of,
+  IsExcused,
+  IsStoppedAt,
+};
+ghost use Rattle.feed_fetch.specs.Fetched.{
+  GoesOn,
+  IsTold,
+  EndsWith,
+  Serves,
+  IsFetchable,
+  IsOpenTo,
+  Opened,
+  Filled,
+  Gets,
+};
+ghost use Rattle.feed_http.specs.RequestTexts.{is_host};
+
+use crate::asking::{ask_places, ask_size};
+use crate::dial::{Dial, DialFault};
+use crate::stop::{Stop, Unasked};
+use crate::taking::{take, tell};
+use feed_http::{Got, HttpFault};
+use feed_keep::Keep;
+use feed_names::ReleaseName;
+use feed_releases::{Event, Feed, Refusal};
+use std::alloc::Global;
+use std::fmt;
+use std::io::Write;
+
+// A file has at most so many places, of which each round fills one.
+const FILE_LIMIT: u64 = 67_108_864;
+
+// Tells the feed that a request came to nothing, unless there was no connection.
+fn lose<K: Keep + Drop, O: Write>(
+    feed: &mut Feed<K>,
+    name: &ReleaseName,
+    why: Unasked,
+    out: &mut O,
+) -> Stop
+    ensures lost { GoesOn (λ e. e ≡ Lost name.now)
+        (λ k. ((result ≡ Stop.Unasked why) ⊎ (result ≡ Stop.Print)) × IsStoppedAt name.now result k)
+        (recorded feed.old) (recorded feed.new) }
+    ensures kept { (fault : DialFault) → why ≡ Unasked.Dial fault → recorded feed.new ≡ recorded feed.old }
+{
+    match why {
+        Unasked::Dial(_) => Stop::Unasked(why),
+        Unasked::Http(_) => match tell(feed, &Event::Lost { name }, out) {
+            Ok(_) => Stop::Unasked(why),
+            Err(stop) => stop,
+        },
+    }
+}
+
+// Offers the release to the feed.
+fn offer_size<K: Keep + Drop, O: Write>(
+    feed: &mut Feed<K>,
+    name: &ReleaseName,
+    size: u64,
+    out: &mut O,
+) -> Result<(), Stop>
+    ensures { Tells (λ answer. (result ≡ is_done (goes_on answer)) ⊎ (result ≡ Err Stop.Print))
+        (recorded feed.old) (Offered name.now size) (recorded feed.new) }
+{
+    let _reply = tell(feed, &Event::Offered { name, size }, out)?;
+    Ok(())
+}
+
+// A round that brought nothing new stops the fetch.
+fn settled(taken: Result<bool, Stop>) -> Result<(), Stop>
+    ensures { result ≡ is_settled taken }
+{
+    match taken {
+        Ok(true) => Ok(()),
+        Ok(false) => Err(Stop::NoProgress),
+        Err(stop) => Err(stop),
+    }
+}
+
+// Prints the length that a reply to a HEAD gave.
+fn told_size<O: Write>(got: &Got, out: &mut O) -> Result<u64, Stop>
+    ensures printed { (size : ℕ) → got.now ≡ Got.Size size
+        → (result ≡ Ok size) ⊎ (result ≡ Err Stop.Print) }
+    ensures given { IfOk result (λ size. got.now ≡ Got.Size size) }
+    ensures stops { IfErr result (λ stop.
+        (stop ≡ Stop.Missing) ⊎ ((stop ≡ Stop.NoProgress) ⊎ (stop ≡ Stop.Print))) }
+{
+    match got {
+        Got::Size(size) => match writeln!(out, "size {size}") {
+            Ok(()) => Ok(*size),
+            Err(_) => Err(Stop::Print),
+        },
+        Got::Missing => match out.write_all(b"missing\n") {
+            Ok(()) => Err(Stop::Missing),
+            Err(_) => Err(Stop::Print),
+        },
+        _ => Err(Stop::NoProgress),
+    }
+}
+
+// Asks for the length of the file and offers the release to the feed.
+fn offer<D: Dial, K: Keep + Drop, O: Write>(
+    alloc: Global,
+    dial: &mut D,
+    feed: &mut Feed<K>,
+    host: &[u8],
+    name: &ReleaseName,
+    out: &mut O,
+) -> Result<(), Stop>
+    requires { IsTrue (is_host host.now) }
+    ensures goes { GoesOn (IsTold D.replies host.now name.now)
+        (λ k. IfErr result (λ stop. IsStoppedAt name.now stop k)) (recorded feed.old) (recorded feed.new) }
+    ensures opens { (file : List ℕ) → Serves D.replies name.now file → IsFetchable file
+        → Opened name.now file result (recorded feed.old) (recorded feed.new) }
+{
+    match ask_size(alloc, dial, host, name) {
+        Ok(got) => match told_size(&got, out) {
+            Ok(size) => offer_size(feed, name, size, out),
+            Err(stop) => Err(stop),
+        },
+        Err(why) => Err(lose(feed, name, why, out)),
+    }
+}
+
+// Asks for places of the file and tells the feed what came.
+fn round<D: Dial, K: Keep + Drop, O: Write>(
+    alloc: Global,
+    dial: &mut D,
+    feed: &mut Feed<K>,
+    host: &[u8],
+    name: &ReleaseName,
+    first: u64,
+    last: u64,
+    out: &mut O,
+) -> Result<(), Stop>
+    requires { IsTrue (is_host host.now) }
+    ensures goes { GoesOn (IsTold D.replies host.now name.now)
+        (λ k. IfErr result (λ stop. IsStoppedAt name.now stop k)) (recorded feed.old) (recorded feed.new) }
+    ensures fills { (file : List ℕ) → Serves D.replies name.now file → IsFetchable file
+        → Filled name.now file first last result (recorded feed.old) (recorded feed.new) }
+{
+    match ask_places(alloc, dial, host, name, first, last) {
+        Ok(got) => settled(take(feed, name, &got, out)),
+        Err(why) => Err(lose(feed, name, why, out)),
+    }
+}
+
+/// Fetches the file of a release: asks for its length, offers it to the feed, and then asks for the next missing range,
+/// of `piece` places at most, until none is missing. A connection has one request. Each answer of the feed is printed
+/// to `out`, as a line.
+pub fn fetch<D: Dial, K: Keep + Drop, O: Write>(
+    alloc: Global,
+    dial: &mut D,
+    feed: &mut Feed<K>,
+    host: &[u8],
+    name: &ReleaseName,
+    piece: u64,
+    out: &mut O,
+) -> Result<(), Stop>
+    requires host { IsTrue (is_host host.now) }
+    requires least { 1 ≤ piece }
+    requires most { piece ≤ 1048576 }
+    ensures goes { GoesOn (IsTold D.replies host.now name.now)
+        (λ k. IfErr result (λ stop. IsStoppedAt name.now stop k)) (recorded feed.old) (recorded feed.new) }
+    ensures gets { (file : List ℕ) → Serves D.replies name.now file → IsFetchable file
+        → Gets name.now file result (recorded feed.old) (recorded feed.new) }
+{
+    if let Err(stop) = offer(alloc, dial, feed, host, name, out) {
+        return Err(stop);
+    }
+    'rounds: for _ in 0..FILE_LIMIT {
+        let Some((first, last)) = feed.next_range(name, piece) else {
+            return Ok(());
+        };
+        if let Err(stop) = round(alloc, dial, feed, host, name, first, last, out) {
+            return Err(stop);
+        }
+    }
+    Ok(())
+}
+
+// Whether the release is the active one of its package.
+fn is_reported<K: Keep + Drop>(feed: &Feed<K>, name: &ReleaseName) -> bool
+    ensures reported { (h : History) → IsContent (recorded feed.now) h → IsTrue result
+        → Reports h name.now.stem (Some name.now) }
+    ensures good { (h : History) → IsContent (recorded feed.now) h → ¬ (IsPassed h name.now)
+        → IsGood h name.now → IsTrue result }
+{
+    match feed.report(name.package()) {
+        Some(active) => active.day() == name.day(),
+        None => false,
+    }
+}
+
+fn fault_told<F: Write, T: fmt::Display + Drop>(faults: &mut F, fault: T, status: u8) -> u8
+    requires { 1 ≤ status }
+    ensures { (result ≡ status) ⊎ (result ≡ 3) }
+{
+    match writeln!(faults, "kbfeed: {fault}") {
+        Ok(()) => status,
+        Err(_) => 3,
+    }
+}
+
+fn stopped<F: Write>(stop: Stop, faults: &mut F) -> u8
+    ensures status { (result ≡ status_of stop) ⊎ (result ≡ 3) }
+    ensures older { result ≡ 0 → stop ≡ Stop.Older }
+    ensures excused { IsExcused stop → result ≡ 3 }
+{
+    match stop {
+        Stop::Older => 0,
+        Stop::Broken | Stop::Missing | Stop::Unsatisfied => 1,
+        Stop::Refused(Refusal::Memory | Refusal::Device) => 3,
+        Stop::Refused(_) => 1,
+        Stop::NoProgress => fault_told(faults, "NoProgress", 1),
+        Stop::Unasked(Unasked::Dial(fault)) => fault_told(faults, fault, 3),
+        Stop::Unasked(Unasked::Http(fault)) => {
+            let status = match fault {
+                HttpFault::Read | HttpFault::Write | HttpFault::Short | HttpFault::Memory => 3,
+                _ => 1,
+            };
+            fault_told(faults, fault, status)
+        }
+        Stop::Print => 3,
+    }
+}
+
+/// Fetches the file of a release as `fetch` does, from a host, 1 to 255 bytes of `is_host`, by requests of 1 to
+/// 1,048,576 places. What the feed answers is printed to `out`, and a fault to `faults`, as `kbfeed: ` and its name.
+/// The result is the exit status: 0 where the release is reported then, or a later one; 1 where the peer or the file is
+/// to blame; 3 for a failing connection, device or print, and for want of memory. What came is kept: a further fetch
+/// goes on from there.
+pub fn fetch_with<D: Dial, K: Keep + Drop, O: Write, F: Write>(
+    alloc: Global,
+    dial: &mut D,
+    feed: &mut Feed<K>,
+    host: &[u8],
+    name: &ReleaseName,
+    piece: u64,
+    out: &mut O,
+    faults: &mut F,
+) -> u8
+    requires host { IsTrue (is_host host.now) }
+    requires least { 1 ≤ piece }
+    requires most { piece ≤ 1048576 }
+    ensures goes { GoesOn (IsTold D.replies host.now name.now) (EndsWith name.now result)
+        (recorded feed.old) (recorded feed.new) }
+    ensures gets { (file : List ℕ) → Serves D.replies name.now file → IsFetchable file → (h : History)
+        → IsContent (recorded feed.old) h → IsOpenTo name.now file h → (result ≡ 0) ⊎ (result ≡ 3) }
+{
+    let outcome = fetch(alloc, dial, feed, host, name, piece, out);
+    let Ok(()) = out.flush() else {
+        return 3;
+    };
+    match outcome {
+        Ok(()) => { if is_reported(feed, name) { 0 } else { 1 } }
+        Err(stop) => stopped(stop, faults),
+    }
+}

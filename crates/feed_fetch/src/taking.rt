@@ -1,0 +1,140 @@
+//! What the feed is told of a reply, and what this prints.
+ghost use Rattle.std.specs.Prelude.{ℕ, List, Option, ◌≡◌, ◌⊎◌, Err, IfErr};
+ghost use Rattle.feed_model.specs.History.{Piece};
+ghost use Rattle.feed_releases.specs.Feeds.{recorded};
+ghost use Rattle.feed_releases.specs.Told.{told};
+ghost use Rattle.feed_fetch.specs.Answers.{Tells, brings_new, goes_on, is_news, IsStoppedAt};
+ghost use Rattle.feed_fetch.specs.Fetched.{GoesOn, IsTakenFrom};
+
+use crate::stop::Stop;
+use feed_http::Got;
+use feed_keep::Keep;
+use feed_names::ReleaseName;
+use feed_parts::PIECE_LIMIT;
+use feed_releases::{Event, Feed, Reply};
+use std::io::Write;
+
+/// Tells the feed an event, and prints its answer.
+pub fn tell<K: Keep + Drop, O: Write>(
+    feed: &mut Feed<K>,
+    event: &Event<'_>,
+    out: &mut O,
+) -> Result<Reply, Stop>
+    ensures { Tells (λ answer. (result ≡ goes_on answer) ⊎ (result ≡ Err Stop.Print))
+        (recorded feed.old) (told event.now) (recorded feed.new) }
+{
+    match feed.handle(event) {
+        Ok(reply) => {
+            let Ok(()) = writeln!(out, "{reply}") else {
+                return Err(Stop::Print);
+            };
+            match reply {
+                Reply::Older => Err(Stop::Older),
+                Reply::Broken(_) => Err(Stop::Broken),
+                _ => Ok(reply),
+            }
+        }
+        Err(refusal) => {
+            let Ok(()) = writeln!(out, "refused {refusal}") else {
+                return Err(Stop::Print);
+            };
+            Err(Stop::Refused(refusal))
+        }
+    }
+}
+
+// Whether the feed says that something new was kept.
+fn brings_new(reply: Reply) -> bool
+    ensures { result ≡ brings_new reply }
+{
+    match reply {
+        Reply::Stored { missing: _ } | Reply::Activated => true,
+        _ => false,
+    }
+}
+
+// Tells the feed a piece, and whether it brought something new.
+fn take_piece<K: Keep + Drop, O: Write>(
+    feed: &mut Feed<K>,
+    name: &ReleaseName,
+    first: u64,
+    total: Option<u64>,
+    bytes: &[u8],
+    out: &mut O,
+) -> Result<bool, Stop>
+    ensures { Tells (λ answer. (result ≡ is_news (goes_on answer)) ⊎ (result ≡ Err Stop.Print))
+        (recorded feed.old) (Piece name.now first total bytes.now) (recorded feed.new) }
+{
+    let event = Event::Piece {
+        name,
+        first,
+        total,
+        bytes,
+    };
+    let reply = tell(feed, &event, out)?;
+    Ok(brings_new(reply))
+}
+
+// Tells the feed the whole file in pieces, in order, up to the first answer that is neither `stored` nor `repeated`.
+fn take_whole<K: Keep + Drop, O: Write>(
+    feed: &mut Feed<K>,
+    name: &ReleaseName,
+    bytes: &[u8],
+    out: &mut O,
+) -> Result<bool, Stop>
+    ensures { GoesOn (IsTakenFrom name.now (Got.Whole bytes.now))
+        (λ k. IfErr result (λ stop. IsStoppedAt name.now stop k)) (recorded feed.old) (recorded feed.new) }
+{
+    let total = bytes.len();
+    let mut first = 0;
+    let mut is_new = false;
+    'pieces: while first < total {
+        let end = first + (total - first).min(PIECE_LIMIT);
+        let event = Event::Piece {
+            name,
+            first: first as u64,
+            total: Some(total as u64),
+            bytes: &bytes[first..end],
+        };
+        match tell(feed, &event, out) {
+            Ok(Reply::Stored { missing: _ }) => is_new = true,
+            Ok(Reply::Repeated) => {}
+            Ok(reply) => return Ok(is_new || brings_new(reply)),
+            Err(stop) => return Err(stop),
+        }
+        first = end;
+    }
+    Ok(is_new)
+}
+
+/// Tells the feed what a reply to a GET gave, and whether it brought something new.
+pub fn take<K: Keep + Drop, O: Write>(
+    feed: &mut Feed<K>,
+    name: &ReleaseName,
+    got: &Got,
+    out: &mut O,
+) -> Result<bool, Stop>
+    ensures goes { GoesOn (IsTakenFrom name.now got.now)
+        (λ k. IfErr result (λ stop. IsStoppedAt name.now stop k)) (recorded feed.old) (recorded feed.new) }
+    ensures piece { (first : ℕ) (total : Option ℕ) (bytes : List ℕ) → got.now ≡ Got.Piece first total bytes
+        → Tells (λ answer. (result ≡ is_news (goes_on answer)) ⊎ (result ≡ Err Stop.Print))
+        (recorded feed.old) (Piece name.now first total bytes) (recorded feed.new) }
+{
+    match got {
+        Got::Piece {
+            first,
+            total,
+            bytes,
+        } => take_piece(feed, name, *first, *total, bytes.as_slice(), out),
+        Got::Whole { bytes } => take_whole(feed, name, bytes.as_slice(), out),
+        Got::Missing => match out.write_all(b"missing\n") {
+            Ok(()) => Err(Stop::Missing),
+            Err(_) => Err(Stop::Print),
+        },
+        Got::Unsatisfied { total: _ } => match out.write_all(b"unsatisfied\n") {
+            Ok(()) => Err(Stop::Unsatisfied),
+            Err(_) => Err(Stop::Print),
+        },
+        Got::Size(_) => Ok(false),
+    }
+}

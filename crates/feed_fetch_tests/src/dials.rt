@@ -1,0 +1,175 @@
+//! A server in memory, and the connections to it.
+ghost use Rattle.std.specs.Prelude.{None};
+ghost use Rattle.feed_fetch.specs.Servers.{Unknown};
+
+use feed_fetch::{Dial, DialFault};
+use feed_http::{MemoryShelf, NamedFile, serve_one};
+use std::alloc::Global;
+use std::cell::RefCell;
+use std::io;
+use std::io::{Cursor, ErrorKind, Read, Write};
+
+// A read or a write moves at most so many bytes.
+const STEP: usize = 64;
+
+/// How the server treats one connection.
+#[derive(Clone, Copy)]
+pub enum Turn<'a> {
+    /// It serves these files.
+    Serves(&'a [NamedFile]),
+    /// It serves them as if a request's line `Range: ..` were this text.
+    Reranges(&'a [NamedFile], &'a [u8]),
+    /// Its reply lacks the last so many bytes.
+    Lacks(&'a [NamedFile], usize),
+    /// It replies with `HTTP/1.1 ` and this text.
+    Says(&'a [u8]),
+    /// The read of that number fails, counted from 1.
+    FailsAtRead(&'a [NamedFile], usize),
+    /// The write of that number fails, counted from 1.
+    FailsAtWrite(usize),
+    /// There is no connection.
+    Refuses(DialFault),
+}
+
+impl Turn<'_> {
+    fn reply(self, alloc: Global, request: &[u8]) -> io::Result<Vec<u8>> {
+        let mut reply = Vec::new(alloc);
+        match self {
+            Turn::Serves(files) | Turn::FailsAtRead(files, _) => {
+                serve(alloc, files, request, &mut reply)?;
+            }
+            Turn::Reranges(files, range) => {
+                serve(alloc, files, &reranged(alloc, request, range)?, &mut reply)?;
+            }
+            Turn::Lacks(files, count) => {
+                serve(alloc, files, request, &mut reply)?;
+                reply.truncate(reply.len().saturating_sub(count));
+            }
+            Turn::Says(text) => {
+                reply.extend_from_slice(b"HTTP/1.1 ")?;
+                reply.extend_from_slice(text)?;
+            }
+            Turn::FailsAtWrite(_) | Turn::Refuses(_) => {}
+        }
+        Ok(reply)
+    }
+}
+
+fn serve(
+    alloc: Global,
+    files: &[NamedFile],
+    mut request: &[u8],
+    reply: &mut Vec<u8>,
+) -> io::Result<()> {
+    match serve_one(alloc, &mut request, reply, &mut MemoryShelf { files }) {
+        Ok(_) => Ok(()),
+        Err(_) => Err(io::Error::from(ErrorKind::Other)),
+    }
+}
+
+// The request with another line in the place of its `Range: ..`.
+fn reranged(alloc: Global, request: &[u8], range: &[u8]) -> io::Result<Vec<u8>> {
+    let mut text = Vec::new(alloc);
+    for line in request.split_inclusive(|byte| *byte == b'\n') {
+        let is_range = line.starts_with(b"Range:");
+        text.extend_from_slice(if is_range { range } else { line })?;
+    }
+    Ok(text)
+}
+
+/// A connection to the server, which notes the request and replies at the first read.
+#[derive(Drop)]
+pub struct Conn<'a> {
+    alloc: Global,
+    turn: Turn<'a>,
+    requests: &'a RefCell<Vec<u8>>,
+    request: Vec<u8>,
+    reply: Cursor<Vec<u8>>,
+    writes: usize,
+    reads: usize,
+}
+
+impl Conn<'_> {
+    fn note_request(&self) -> io::Result<()> {
+        let Ok(mut requests) = self.requests.try_borrow_mut() else {
+            return Err(io::Error::from(ErrorKind::Other));
+        };
+        requests.extend_from_slice(b"connection\n")?;
+        Ok(requests.extend_from_slice(&self.request)?)
+    }
+}
+
+impl Read for Conn<'_> {
+    ghost remaining = { λ _. None };
+
+    fn read(&mut self, buf: &mut [u8]) -> io::Result<usize> {
+        self.reads = self.reads.saturating_add(1);
+        if let Turn::FailsAtRead(_, number) = self.turn
+            && number == self.reads
+        {
+            return Err(io::Error::from(ErrorKind::ConnectionReset));
+        }
+        if self.reads == 1 {
+            self.note_request()?;
+            self.reply = Cursor::new(self.turn.reply(self.alloc, &self.request)?);
+        }
+        let count = STEP.min(buf.len());
+        self.reply.read(&mut buf[..count])
+    }
+}
+
+impl Write for Conn<'_> {
+    fn write(&mut self, buf: &[u8]) -> io::Result<usize> {
+        self.writes = self.writes.saturating_add(1);
+        if let Turn::FailsAtWrite(number) = self.turn
+            && number == self.writes
+        {
+            return Err(io::Error::from(ErrorKind::BrokenPipe));
+        }
+        let count = STEP.min(buf.len());
+        self.request.extend_from_slice(&buf[..count])?;
+        Ok(count)
+    }
+
+    fn flush(&mut self) -> io::Result<()> {
+        Ok(())
+    }
+}
+
+/// A server that treats each connection by the turn of its number, and those after them by the last turn. It notes the
+/// requests to which it replies, each after the line `connection`.
+#[derive(Drop)]
+pub struct Server<'a> {
+    pub alloc: Global,
+    pub turns: &'a [Turn<'a>],
+    pub requests: &'a RefCell<Vec<u8>>,
+}
+
+impl<'a> Dial for Server<'a> {
+    type Conn = Conn<'a>;
+
+    ghost replies = { Unknown };
+
+    ghost answers = { λ _ _. tt };
+
+    fn dial(&mut self) -> Result<Conn<'a>, DialFault> {
+        let Some((turn, later)) = self.turns.split_first() else {
+            return Err(DialFault::Connect);
+        };
+        if !later.is_empty() {
+            self.turns = later;
+        }
+        if let Turn::Refuses(fault) = turn {
+            return Err(*fault);
+        }
+        Ok(Conn {
+            alloc: self.alloc,
+            turn: *turn,
+            requests: self.requests,
+            request: Vec::new(self.alloc),
+            reply: Cursor::new(Vec::new(self.alloc)),
+            writes: 0,
+            reads: 0,
+        })
+    }
+}

@@ -1,0 +1,63 @@
+//! What is wrong with a script.
+use std::alloc::{AllocError, AllocFailed};
+use thiserror::Error;
+
+/// What is wrong with a line of a script, in the order of judging.
+#[derive(Clone, Copy, Debug, PartialEq, Eq, Error)]
+pub enum LineFault {
+    #[error("nodes expected")]
+    NodesExpected,
+    #[error("unknown command")]
+    UnknownCommand,
+    /// Too few or too many words, an empty one, or a stop of neither an offer nor a delivery.
+    #[error("wrong words")]
+    WrongWords,
+    /// A number is not 1 to 20 digits that fit 64 bits, or there are not 1 to 16 nodes.
+    #[error("bad number")]
+    BadNumber,
+    #[error("bad name")]
+    BadName,
+    /// A `\` that begins no escape.
+    #[error("bad text")]
+    BadText,
+    /// A path that does not open, or a file that does not read or is longer than a file may be.
+    #[error("bad file")]
+    BadFile,
+    #[error("Memory")]
+    Memory,
+}
+
+impl From<AllocError> for LineFault {
+    fn from(_error: AllocError) -> LineFault {
+        LineFault::Memory
+    }
+}
+
+impl<T: Drop> From<AllocFailed<T>> for LineFault {
+    fn from(_error: AllocFailed<T>) -> LineFault {
+        LineFault::Memory
+    }
+}
+
+/// Why a script was not read.
+#[derive(Clone, Copy, Debug, PartialEq, Eq, Error)]
+pub enum ScriptFault {
+    /// More bytes or lines than a script may have.
+    #[error("script too long")]
+    TooLong,
+    /// The first line that is wrong, counted from 1.
+    #[error("line {line}: {fault}")]
+    Line { line: usize, fault: LineFault },
+    #[error("Memory")]
+    Memory,
+}
+
+impl ScriptFault {
+    // What a fault of a line is of the script.
+    pub(crate) fn at(line: usize, fault: LineFault) -> ScriptFault {
+        match fault {
+            LineFault::Memory => ScriptFault::Memory,
+            _ => ScriptFault::Line { line, fault },
+        }
+    }
+}

@@ -1,0 +1,61 @@
+//! The words of a line.
+ghost use Rattle.std.specs.Prelude.{◌<◌, length, IfSome};
+
+use crate::faults::LineFault;
+use memchr::memchr;
+
+/// The words of a line, each separated from the next by one space.
+#[derive(Drop)]
+pub struct Words<'a> {
+    pub rest: Option<&'a [u8]>,
+}
+
+impl<'a> Words<'a> {
+    pub fn of(line: &'a [u8]) -> Words<'a> {
+        Words { rest: Some(line) }
+    }
+
+    /// The next word, which has to be there.
+    pub fn word(&mut self) -> Result<&'a [u8], LineFault> {
+        let Some(line) = self.rest else {
+            return Err(LineFault::WrongWords);
+        };
+        let (word, rest) = split_word(line);
+        self.rest = rest;
+        if word.is_empty() {
+            return Err(LineFault::WrongWords);
+        }
+        Ok(word)
+    }
+
+    /// No more words are there.
+    pub fn end(self) -> Result<(), LineFault> {
+        match self.rest {
+            None => Ok(()),
+            Some(_) => Err(LineFault::WrongWords),
+        }
+    }
+
+    /// The rest of the line, whatever it is.
+    pub fn text(self) -> &'a [u8] {
+        match self.rest {
+            Some(rest) => rest,
+            None => &[],
+        }
+    }
+}
+
+/// What stands before the first space, and what stands after it.
+pub fn split_word(line: &[u8]) -> (&[u8], Option<&[u8]>) {
+    split_at(line, b' ')
+}
+
+/// What stands before the first of these bytes, and what stands after it.
+pub fn split_at(text: &[u8], byte: u8) -> (&[u8], Option<&[u8]>)
+    ensures { IfSome result.1 (λ rest. length rest.now < length text.now) }
+{
+    match memchr(byte, text) {
+        Some(at) => (&text[..at], Some(&text[at + 1..])),
+        None => (text, None),
+    }
+}

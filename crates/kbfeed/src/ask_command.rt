@@ -1,0 +1,64 @@
+//! `kbfeed ask`: what a node answers a query.
+use crate::answer_command::read_query;
+use crate::database::{Database, close_keeper, open_feed};
+use crate::status::{DONE, FAILED, Faults, REFUSED};
+use feed_answer::{Query, WriteFault};
+use feed_keep::Keep;
+use feed_releases::{AnswerFault, Feed};
+use std::alloc::Global;
+use std::io::Write;
+
+/// Reads the query, then opens the database and its feed, and prints what this answers for the package to `out`. The
+/// first fault is told, and then nothing is printed to `out`. The result is the exit status: 1 for a query that is
+/// none, a package without an active release (`NoRelease`), and a database that is not ours or damaged, 3 for a failing
+/// device or print and for want of memory.
+pub fn ask_on<D: Database, O: Write, F: Write + Drop>(
+    alloc: Global,
+    database: &D,
+    package: &str,
+    query: &str,
+    out: &mut O,
+    faults: &mut Faults<F>,
+) -> u8 {
+    let query = match read_query(alloc, query, faults) {
+        Ok(query) => query,
+        Err(status) => return status,
+    };
+    if !database.is_there() {
+        return faults.told_of(
+            AnswerFault::NoRelease,
+            database.name(),
+            "it is not there",
+            REFUSED,
+        );
+    }
+    let feed = match open_feed(alloc, database, faults) {
+        Ok(feed) => feed,
+        Err(status) => return status,
+    };
+    let status = answered(&feed, package, &query, out, faults);
+    close_keeper(database, feed.restart(), faults);
+    status
+}
+
+fn answered<K: Keep + Drop, O: Write, F: Write + Drop>(
+    feed: &Feed<K>,
+    package: &str,
+    query: &Query,
+    out: &mut O,
+    faults: &mut Faults<F>,
+) -> u8 {
+    let package = package.as_bytes();
+    let answer = match feed.answer(package, query) {
+        Ok(answer) => answer,
+        Err(AnswerFault::Memory) => return faults.told(AnswerFault::Memory, FAILED),
+        Err(fault) => return faults.told(fault, REFUSED),
+    };
+    let Some(name) = feed.report(package) else {
+        return faults.told(AnswerFault::NoRelease, REFUSED);
+    };
+    match answer.write(out, name) {
+        Ok(()) => faults.printed(out.flush(), DONE),
+        Err(WriteFault::Write) => faults.not_printed(out),
+    }
+}

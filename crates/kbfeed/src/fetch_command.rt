@@ -1,0 +1,74 @@
+//! `kbfeed fetch`: a node fetches a release, resumes, and switches to it.
+use crate::causes::cause_of_name;
+use crate::database::{Database, close_keeper, open_feed};
+use crate::progress::Progress;
+use crate::status::{FAILED, Faults, MISUSED};
+use crate::tcp_dial::TcpDial;
+use feed_fetch::fetch_with;
+use feed_http::is_host;
+use feed_names::{NameFault, ReleaseName};
+use std::io::{IsTerminal, Write};
+use std::time::Duration;
+
+// What one request may ask for.
+const MOST_PLACES: u64 = 1_048_576;
+
+/// How many bytes a request asks for, 1 to 1,048,576, and how long a connection may take.
+#[derive(Clone, Copy)]
+pub struct Fetching {
+    pub piece: u64,
+    pub time: Duration,
+}
+
+/// Fetches the release of a name from a host and port, as `fetch_with` does, into a database. What happens is printed
+/// to `out`, each line at once; where standard error is a terminal, a line there shows how far it is. The first fault is
+/// told: of the host (`Host`) and of the name, status 2, and then of the database and of the fetch.
+pub fn fetch_on<D: Database, O: Write, F: Write + Drop>(
+    rt: &HostRuntime,
+    database: &D,
+    addr: &str,
+    name: &str,
+    fetching: Fetching,
+    out: &mut O,
+    faults: &mut Faults<F>,
+) -> u8 {
+    if !is_host(addr.as_bytes()) {
+        return faults.told_of(
+            "Host",
+            addr,
+            "it is no host and port, as 127.0.0.1:8080",
+            MISUSED,
+        );
+    }
+    let name = match ReleaseName::parse(rt.alloc(), name.as_bytes()) {
+        Ok(name) => name,
+        Err(NameFault::Memory) => return faults.told(NameFault::Memory, FAILED),
+        Err(fault) => return faults.told_of(fault, name, cause_of_name(fault), MISUSED),
+    };
+    let mut feed = match open_feed(rt.alloc(), database, faults) {
+        Ok(feed) => feed,
+        Err(status) => return status,
+    };
+    let mut dial = TcpDial::new(rt, addr, fetching.time);
+    let screen = if rt.stderr().is_terminal() {
+        Some(rt.stderr())
+    } else {
+        None
+    };
+    let mut out = Progress::new(rt, out, screen);
+    let status = fetch_with(
+        rt.alloc(),
+        &mut dial,
+        &mut feed,
+        addr.as_bytes(),
+        &name,
+        fetching.piece.max(1).min(MOST_PLACES),
+        &mut out,
+        faults.out(),
+    );
+    if let Some(cause) = dial.cause() {
+        faults.noted(addr, cause);
+    }
+    close_keeper(database, feed.restart(), faults);
+    status
+}

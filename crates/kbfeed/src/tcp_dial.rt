@@ -1,0 +1,65 @@
+//! Connections of TCP.
+use crate::timed::TimedStream;
+use feed_fetch::{Dial, DialFault};
+use std::io;
+use std::io::ErrorKind;
+use std::net::{TcpStream, ToSocketAddrs};
+use std::time::Duration;
+
+/// Makes a connection for each request to the first address of a host and port that takes one. It may wait for so long,
+/// and its exchange has to end in time.
+#[derive(Drop)]
+pub struct TcpDial<'a> {
+    rt: &'a HostRuntime,
+    addr: &'a str,
+    time: Duration,
+    cause: Option<io::Error>,
+}
+
+impl<'a> TcpDial<'a> {
+    pub fn new(rt: &'a HostRuntime, addr: &'a str, time: Duration) -> TcpDial<'a> {
+        TcpDial {
+            rt,
+            addr,
+            time,
+            cause: None,
+        }
+    }
+
+    /// What the system said of the last connection that was not made.
+    pub fn cause(&self) -> Option<&io::Error> {
+        self.cause.as_ref()
+    }
+
+    fn connected(&self) -> io::Result<TimedStream<'a>> {
+        let mut last = io::Error::from(ErrorKind::NotFound);
+        for addr in self.addr.to_socket_addrs(self.rt)? {
+            match TcpStream::connect_timeout(self.rt, &addr, self.time) {
+                Ok(stream) => return TimedStream::new(self.rt, stream, self.time),
+                Err(fault) => last = fault,
+            }
+        }
+        Err(last)
+    }
+}
+
+impl<'a> Dial for TcpDial<'a> {
+    ghost use Rattle.feed_fetch.specs.Servers.{Unknown};
+
+    type Conn = TimedStream<'a>;
+
+    ghost replies = { Unknown };
+
+    fn dial(&mut self) -> Result<TimedStream<'a>, DialFault> {
+        match self.connected() {
+            Ok(stream) => Ok(stream),
+            Err(fault) if fault.kind() == ErrorKind::OutOfMemory => Err(DialFault::Memory),
+            Err(fault) => {
+                self.cause = Some(fault);
+                Err(DialFault::Connect)
+            }
+        }
+    }
+
+    ghost answers = { λ _ _. tt };
+}
