@@ -3,10 +3,11 @@
 rising_limits.py LEAST STEP INPUT COMMAND ..
 
 The limits are LEAST KiB, and STEP more for each run; standard input is the file INPUT. A run is right where it printed
-what the run without a limit prints, with its status. It is a fault where its status is 3 and the fault is Memory. It is
-counted where a last line says how many of the lines are of want of memory. It is not begun where the system ended it
-before it printed anything. Each run that is none of these is printed with its limit. Then the names of those that were
-met, and at last what the run under the greatest limit was."""
+what the run without a limit prints, with its status. It is a fault where its status is 3 and the fault is Memory, and
+refused where it is 3 and the last line is a refusal for want of memory. It is counted where a last line says how many
+of the lines are of want of memory. It is not begun where the system ended it before it printed anything. Each run that
+is none of these is printed with its limit. Then the names of those that were met, and at last what the run under the
+greatest limit was."""
 import resource
 import subprocess
 import sys
@@ -33,6 +34,8 @@ def outcome(done, whole):
         return "fault"
     if done.returncode == whole.returncode and len(faults) == 1 and faults[0].startswith("lines of want of memory: "):
         return "counted"
+    if done.returncode == 3 and not faults and done.stdout.endswith(b"refused Memory\n"):
+        return "refused"
     if done.returncode < 0 and not done.stdout and not done.stderr:
         return "not begun"
     if done.returncode == 127 and not done.stdout and any(said in faults[0] for said in LOADER):
@@ -43,7 +46,7 @@ def outcome(done, whole):
 def main():
     least, step, path, command = int(sys.argv[1]), int(sys.argv[2]), sys.argv[3], sys.argv[4:]
     whole = run(command, path, None)
-    known = ["not begun", "fault", "counted", "right"]
+    known = ["not begun", "fault", "refused", "counted", "right"]
     met = []
     for turn in range(100):
         limit = least + turn * step

@@ -140,9 +140,25 @@ impl Write for Conn<'_> {
 /// requests to which it replies, each after the line `connection`.
 #[derive(Drop)]
 pub struct Server<'a> {
-    pub alloc: Global,
-    pub turns: &'a [Turn<'a>],
-    pub requests: &'a RefCell<Vec<u8>>,
+    alloc: Global,
+    turns: &'a [Turn<'a>],
+    requests: &'a RefCell<Vec<u8>>,
+    before: usize,
+}
+
+impl<'a> Server<'a> {
+    pub fn new(
+        alloc: Global,
+        turns: &'a [Turn<'a>],
+        requests: &'a RefCell<Vec<u8>>,
+    ) -> Server<'a> {
+        Server {
+            alloc,
+            turns,
+            requests,
+            before: 0,
+        }
+    }
 }
 
 impl<'a> Dial for Server<'a> {
@@ -153,18 +169,18 @@ impl<'a> Dial for Server<'a> {
     ghost answers = { λ _ _. tt };
 
     fn dial(&mut self) -> Result<Conn<'a>, DialFault> {
-        let Some((turn, later)) = self.turns.split_first() else {
+        let last = self.turns.len().saturating_sub(1);
+        let Some(turn) = self.turns.get(self.before.min(last)) else {
             return Err(DialFault::Connect);
         };
-        if !later.is_empty() {
-            self.turns = later;
-        }
+        let turn = *turn;
+        self.before = self.before.saturating_add(1);
         if let Turn::Refuses(fault) = turn {
-            return Err(*fault);
+            return Err(fault);
         }
         Ok(Conn {
             alloc: self.alloc,
-            turn: *turn,
+            turn,
             requests: self.requests,
             request: Vec::new(self.alloc),
             reply: Cursor::new(Vec::new(self.alloc)),

@@ -71,11 +71,7 @@ pub fn fetch_to<K: Keep + Drop, O: Write, F: Write>(
         return Err(Fail::new("no such fetch"));
     }
     let requests = RefCell::new(Vec::new(alloc));
-    let mut server = Server {
-        alloc,
-        turns,
-        requests: &requests,
-    };
+    let mut server = Server::new(alloc, turns, &requests);
     let status = fetch_with(alloc, &mut server, feed, host, &name, piece, out, faults);
     Ok((status, String::from_utf8(requests.into_inner())?))
 }

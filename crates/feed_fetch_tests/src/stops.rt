@@ -228,11 +228,12 @@ fn a_print_may_fail(rt: HostRuntime) -> Result<(), Fail> {
         ([served, Turn::Says(RANGELESS)], 1, 1),
     ];
     for (turns, wanted, steps) in table {
-        let (status, _, calls) = printed(alloc, &turns, &mut feed_of(alloc)?, usize::MAX)?;
+        let turns = turns.as_slice();
+        let (status, _, calls) = printed(alloc, turns, &mut feed_of(alloc)?, usize::MAX)?;
         assert_eq!(rt; status, wanted, "after {steps}");
         for fails_at in 1..=calls {
             let mut feed = feed_of(alloc)?;
-            let (status, lines, _) = printed(alloc, &turns, &mut feed, fails_at)?;
+            let (status, lines, _) = printed(alloc, turns, &mut feed, fails_at)?;
             assert_eq!(rt; status, 3, "after {steps} at {fails_at}");
             // An answer is printed once the feed took its step, and before it there is the size.
             check_rest(&rt, &files, &mut feed, lines.min(steps))?;

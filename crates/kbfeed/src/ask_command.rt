@@ -41,6 +41,15 @@ pub fn ask_on<D: Database, O: Write, F: Write + Drop>(
     status
 }
 
+fn no_release<F: Write + Drop>(faults: &mut Faults<F>, fault: AnswerFault, package: &str) -> u8 {
+    faults.told_of(
+        fault,
+        package,
+        "no release of it is whole and good",
+        REFUSED,
+    )
+}
+
 fn answered<K: Keep + Drop, O: Write, F: Write + Drop>(
     feed: &Feed<K>,
     package: &str,
@@ -48,14 +57,13 @@ fn answered<K: Keep + Drop, O: Write, F: Write + Drop>(
     out: &mut O,
     faults: &mut Faults<F>,
 ) -> u8 {
-    let package = package.as_bytes();
-    let answer = match feed.answer(package, query) {
+    let answer = match feed.answer(package.as_bytes(), query) {
         Ok(answer) => answer,
         Err(AnswerFault::Memory) => return faults.told(AnswerFault::Memory, FAILED),
-        Err(fault) => return faults.told(fault, REFUSED),
+        Err(fault) => return no_release(faults, fault, package),
     };
-    let Some(name) = feed.report(package) else {
-        return faults.told(AnswerFault::NoRelease, REFUSED);
+    let Some(name) = feed.report(package.as_bytes()) else {
+        return no_release(faults, AnswerFault::NoRelease, package);
     };
     match answer.write(out, name) {
         Ok(()) => faults.printed(out.flush(), DONE),

@@ -96,9 +96,12 @@ fn told_of_store<F: Write + Drop>(faults: &mut Faults<F>, fault: StoreFault, pat
             "it does not read or write, or another process has it open",
             FAILED,
         ),
-        StoreFault::NotOurs => {
-            faults.told_of(fault, path, "it is no database of kbfeed", REFUSED)
-        }
+        StoreFault::NotOurs => faults.told_of(
+            fault,
+            path,
+            "it is no database of kbfeed, or no file can be made there",
+            REFUSED,
+        ),
     }
 }
 

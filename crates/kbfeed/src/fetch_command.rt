@@ -4,6 +4,7 @@ use crate::database::{Database, close_keeper, open_feed};
 use crate::progress::Progress;
 use crate::status::{FAILED, Faults, MISUSED};
 use crate::tcp_dial::TcpDial;
+use crate::timed::Cause;
 use feed_fetch::fetch_with;
 use feed_http::is_host;
 use feed_names::{NameFault, ReleaseName};
@@ -49,14 +50,15 @@ pub fn fetch_on<D: Database, O: Write, F: Write + Drop>(
         Ok(feed) => feed,
         Err(status) => return status,
     };
-    let mut dial = TcpDial::new(rt, addr, fetching.time);
+    let cause = Cause::new();
+    let mut dial = TcpDial::new(rt, addr, fetching.time, &cause);
     let screen = if rt.stderr().is_terminal() {
         Some(rt.stderr())
     } else {
         None
     };
     let mut out = Progress::new(rt, out, screen);
-    let status = fetch_with(
+    let mut status = fetch_with(
         rt.alloc(),
         &mut dial,
         &mut feed,
@@ -66,8 +68,10 @@ pub fn fetch_on<D: Database, O: Write, F: Write + Drop>(
         &mut out,
         faults.out(),
     );
-    if let Some(cause) = dial.cause() {
-        faults.noted(addr, cause);
+    match (out.into_fault(), cause.into_inner()) {
+        (Some(fault), _) => status = faults.printed(Err(fault), FAILED),
+        (None, Some(cause)) if status == FAILED => faults.noted(addr, cause),
+        _ => {}
     }
     close_keeper(database, feed.restart(), faults);
     status

@@ -1,6 +1,6 @@
 //! How far a fetch is, for who looks at it.
 use std::io;
-use std::io::Write;
+use std::io::{ErrorKind, Write};
 use std::time::Instant;
 
 /// Passes the lines of a fetch on, each at once. Where there is a screen, a line on it that is rewritten shows how many
@@ -16,6 +16,7 @@ pub struct Progress<'a, O: Write, S: Write + Drop> {
     number: u64,
     size: u64,
     began: Option<(Instant, u64)>,
+    fault: Option<io::Error>,
 }
 
 impl<'a, O: Write, S: Write + Drop> Progress<'a, O, S> {
@@ -30,7 +31,22 @@ impl<'a, O: Write, S: Write + Drop> Progress<'a, O, S> {
             number: 0,
             size: 0,
             began: None,
+            fault: None,
         }
+    }
+
+    /// What the system said where a line did not go out.
+    pub fn into_fault(self) -> Option<io::Error> {
+        self.fault
+    }
+
+    // Keeps an error, unless the call is made again, and gives another of its kind.
+    fn failed(&mut self, fault: io::Error) -> io::Error {
+        let kind = fault.kind();
+        if kind != ErrorKind::Interrupted {
+            self.fault = Some(fault);
+        }
+        io::Error::from(kind)
     }
 
     // Reads the next byte of a line: its first two, and the last number in it.
@@ -100,10 +116,15 @@ impl<'a, O: Write, S: Write + Drop> Progress<'a, O, S> {
 impl<O: Write, S: Write + Drop> Write for Progress<'_, O, S> {
     fn write(&mut self, buf: &[u8]) -> io::Result<usize> {
         self.clear();
-        let count = self.out.write(buf)?;
+        let count = match self.out.write(buf) {
+            Ok(count) => count,
+            Err(fault) => return Err(self.failed(fault)),
+        };
         let gone = &buf[..count];
-        if gone.contains(&b'\n') {
-            self.out.flush()?;
+        if gone.contains(&b'\n')
+            && let Err(fault) = self.out.flush()
+        {
+            return Err(self.failed(fault));
         }
         for byte in gone {
             self.take(*byte);
@@ -113,6 +134,9 @@ impl<O: Write, S: Write + Drop> Write for Progress<'_, O, S> {
 
     fn flush(&mut self) -> io::Result<()> {
         self.clear();
-        self.out.flush()
+        match self.out.flush() {
+            Ok(()) => Ok(()),
+            Err(fault) => Err(self.failed(fault)),
+        }
     }
 }

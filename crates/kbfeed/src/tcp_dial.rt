@@ -1,5 +1,5 @@
 //! Connections of TCP.
-use crate::timed::TimedStream;
+use crate::timed::{Cause, TimedStream};
 use feed_fetch::{Dial, DialFault};
 use std::io;
 use std::io::ErrorKind;
@@ -7,35 +7,35 @@ use std::net::{TcpStream, ToSocketAddrs};
 use std::time::Duration;
 
 /// Makes a connection for each request to the first address of a host and port that takes one. It may wait for so long,
-/// and its exchange has to end in time.
+/// and its exchange has to end in time. What the system says where one fails is kept.
 #[derive(Drop)]
 pub struct TcpDial<'a> {
     rt: &'a HostRuntime,
     addr: &'a str,
     time: Duration,
-    cause: Option<io::Error>,
+    cause: &'a Cause,
 }
 
 impl<'a> TcpDial<'a> {
-    pub fn new(rt: &'a HostRuntime, addr: &'a str, time: Duration) -> TcpDial<'a> {
+    pub fn new(
+        rt: &'a HostRuntime,
+        addr: &'a str,
+        time: Duration,
+        cause: &'a Cause,
+    ) -> TcpDial<'a> {
         TcpDial {
             rt,
             addr,
             time,
-            cause: None,
+            cause,
         }
-    }
-
-    /// What the system said of the last connection that was not made.
-    pub fn cause(&self) -> Option<&io::Error> {
-        self.cause.as_ref()
     }
 
     fn connected(&self) -> io::Result<TimedStream<'a>> {
         let mut last = io::Error::from(ErrorKind::NotFound);
         for addr in self.addr.to_socket_addrs(self.rt)? {
             match TcpStream::connect_timeout(self.rt, &addr, self.time) {
-                Ok(stream) => return TimedStream::new(self.rt, stream, self.time),
+                Ok(stream) => return TimedStream::new(self.rt, stream, self.time, self.cause),
                 Err(fault) => last = fault,
             }
         }
@@ -55,7 +55,7 @@ impl<'a> Dial for TcpDial<'a> {
             Ok(stream) => Ok(stream),
             Err(fault) if fault.kind() == ErrorKind::OutOfMemory => Err(DialFault::Memory),
             Err(fault) => {
-                self.cause = Some(fault);
+                let _ = self.cause.keep(fault);
                 Err(DialFault::Connect)
             }
         }

@@ -1,4 +1,5 @@
 //! Connections whose exchanges have to end in time.
+use std::cell::RefCell;
 use std::io;
 use std::io::{ErrorKind, Read, Write};
 use std::net::TcpStream;
@@ -127,13 +128,41 @@ impl Write for TimedWriter<'_> {
     }
 }
 
+/// What the system said last of a connection.
+#[derive(Drop)]
+pub struct Cause {
+    kept: RefCell<Option<io::Error>>,
+}
+
+impl Cause {
+    pub fn new() -> Cause {
+        Cause {
+            kept: RefCell::new(None),
+        }
+    }
+
+    /// Keeps an error, and gives another of its kind.
+    pub fn keep(&self, fault: io::Error) -> io::Error {
+        let kind = fault.kind();
+        if let Ok(mut kept) = self.kept.try_borrow_mut() {
+            *kept = Some(fault);
+        }
+        io::Error::from(kind)
+    }
+
+    pub fn into_inner(self) -> Option<io::Error> {
+        self.kept.into_inner()
+    }
+}
+
 /// A connection, and what comes and goes over it: neither a read nor a write waits longer than the time, and the
-/// exchange has to end within the time and a second for each 65,536 bytes that moved.
+/// exchange has to end within the time and a second for each 65,536 bytes that moved. Why a call failed is kept.
 #[derive(Drop)]
 pub struct TimedStream<'a> {
     rt: &'a HostRuntime,
     stream: TcpStream,
     limit: Limit,
+    cause: &'a Cause,
 }
 
 impl<'a> TimedStream<'a> {
@@ -141,11 +170,39 @@ impl<'a> TimedStream<'a> {
         rt: &'a HostRuntime,
         stream: TcpStream,
         time: Duration,
+        cause: &'a Cause,
     ) -> io::Result<TimedStream<'a>> {
         stream.set_read_timeout(Some(time))?;
         stream.set_write_timeout(Some(time))?;
         let limit = Limit::of(rt, time)?;
-        Ok(TimedStream { rt, stream, limit })
+        Ok(TimedStream {
+            rt,
+            stream,
+            limit,
+            cause,
+        })
+    }
+
+    fn limit_read(&mut self) -> io::Result<()> {
+        match self.limit.left(self.rt)? {
+            Some(left) => self.stream.set_read_timeout(Some(left)),
+            None => Ok(()),
+        }
+    }
+
+    fn limit_write(&mut self) -> io::Result<()> {
+        match self.limit.left(self.rt)? {
+            Some(left) => self.stream.set_write_timeout(Some(left)),
+            None => Ok(()),
+        }
+    }
+
+    // A call that waited too long is told as that.
+    fn failed(&self, fault: io::Error) -> io::Error {
+        match fault.kind() {
+            ErrorKind::WouldBlock => self.cause.keep(io::Error::from(ErrorKind::TimedOut)),
+            _ => self.cause.keep(fault),
+        }
     }
 }
 
@@ -155,23 +212,31 @@ impl Read for TimedStream<'_> {
     ghost remaining = { λ _. None };
 
     fn read(&mut self, buf: &mut [u8]) -> io::Result<usize> {
-        if let Some(left) = self.limit.left(self.rt)? {
-            self.stream.set_read_timeout(Some(left))?;
+        if let Err(fault) = self.limit_read() {
+            return Err(self.failed(fault));
         }
-        let count = self.stream.read(buf)?;
-        self.limit.put_off(count);
-        Ok(count)
+        match self.stream.read(buf) {
+            Ok(count) => {
+                self.limit.put_off(count);
+                Ok(count)
+            }
+            Err(fault) => Err(self.failed(fault)),
+        }
     }
 }
 
 impl Write for TimedStream<'_> {
     fn write(&mut self, buf: &[u8]) -> io::Result<usize> {
-        if let Some(left) = self.limit.left(self.rt)? {
-            self.stream.set_write_timeout(Some(left))?;
+        if let Err(fault) = self.limit_write() {
+            return Err(self.failed(fault));
         }
-        let count = self.stream.write(buf)?;
-        self.limit.put_off(count);
-        Ok(count)
+        match self.stream.write(buf) {
+            Ok(count) => {
+                self.limit.put_off(count);
+                Ok(count)
+            }
+            Err(fault) => Err(self.failed(fault)),
+        }
     }
 
     fn flush(&mut self) -> io::Result<()> {
