@@ -147,11 +147,7 @@ pub struct Server<'a> {
 }
 
 impl<'a> Server<'a> {
-    pub fn new(
-        alloc: Global,
-        turns: &'a [Turn<'a>],
-        requests: &'a RefCell<Vec<u8>>,
-    ) -> Server<'a> {
+    pub fn new(alloc: Global, turns: &'a [Turn<'a>], requests: &'a RefCell<Vec<u8>>) -> Server<'a> {
         Server {
             alloc,
             turns,

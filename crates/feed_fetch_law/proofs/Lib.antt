@@ -1,0 +1,3 @@
+pub mod GoodFile
+pub mod Opening
+pub mod Serving

@@ -1,0 +1,2 @@
+pub mod GoodFiles
+pub mod MemoryConns

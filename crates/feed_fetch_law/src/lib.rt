@@ -1,0 +1,10 @@
+//! What `feed_fetch` says of a peer that is known, of one that there is: a server over files in memory.
+#![tactic(auto)]
+
+mod answering;
+mod law;
+mod memory_dial;
+mod memory_fetch;
+
+pub use law::header_is_fetchable;
+pub use memory_fetch::fetch_from_memory;

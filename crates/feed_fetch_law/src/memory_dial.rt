@@ -1,0 +1,112 @@
+//! A dial whose peer is a server over files in memory.
+ghost use Rattle.std.specs.Prelude.{◌≡◌, false};
+ghost use Rattle.feed_http.specs.MemoryShelves.{file_named};
+ghost use Rattle.feed_http.specs.Shelves.{Files};
+ghost use Rattle.feed_fetch.specs.Servers.{IsServed};
+
+use crate::answering::{joined, reply_to};
+use feed_fetch::{Dial, DialFault};
+use feed_http::NamedFile;
+use std::alloc::Global;
+use std::collections::VecDeque;
+use std::io;
+use std::io::{Read, Write};
+use std::marker::{Brand, PhantomData};
+
+/// Stands for a list of files among the types, so that what a dial replies is a constant of its type.
+pub(crate) trait Archive: Drop {
+    // The file of each release, if there is one.
+    ghost files: { Files };
+}
+
+impl Archive for Brand {
+    ghost use Rattle.std.specs.Prelude.{None};
+
+    ghost files = { λ _. None };
+}
+
+/// Makes connections to a server over the files of the archive.
+#[derive(Drop)]
+pub(crate) struct MemoryDial<'a, A: Archive> {
+    alloc: Global,
+    files: &'a [NamedFile],
+    archive: PhantomData<A>,
+    ghost archived: { file_named files.now ≡ A.files },
+}
+
+impl<'a, A: Archive> MemoryDial<'a, A> {
+    pub(crate) fn new(alloc: Global, files: &'a [NamedFile]) -> Self
+        requires { file_named files.now ≡ A.files }
+    {
+        MemoryDial {
+            alloc,
+            files,
+            archive: PhantomData,
+        }
+    }
+}
+
+/// A connection to the server. What is written is replied to at once, and the reply is left to be read.
+#[derive(Drop)]
+pub(crate) struct MemoryConn<'a, A: Archive> {
+    alloc: Global,
+    files: &'a [NamedFile],
+    archive: PhantomData<A>,
+    written: Vec<u8>,
+    reply: VecDeque<u8>,
+    is_read: bool,
+    ghost archived: { file_named files.now ≡ A.files },
+    ghost replied: { is_read ≡ false → IsServed A.files written.items reply.items },
+}
+
+impl<A: Archive> Read for MemoryConn<'_, A> {
+    ghost use Rattle.std.specs.Prelude.{Some};
+
+    ghost remaining = { λ conn. Some conn.reply.items };
+
+    fn read(&mut self, buf: &mut [u8]) -> io::Result<usize> {
+        self.is_read = true;
+        self.reply.read(buf)
+    }
+}
+
+/// It tells what was written until something is read. After a write that failed it is as before.
+impl<A: Archive> Write for MemoryConn<'_, A> {
+    ghost use Rattle.feed_fetch_law.specs.MemoryConns.{unless_read};
+
+    ghost contents = { λ conn. unless_read conn.is_read conn.written.items };
+
+    fn write(&mut self, buf: &[u8]) -> io::Result<usize> {
+        let written = joined(self.alloc, &self.written, buf)?;
+        self.reply = reply_to(self.alloc, self.files, &written)?;
+        self.written = written;
+        Ok(buf.len())
+    }
+
+    fn flush(&mut self) -> io::Result<()> {
+        Ok(())
+    }
+}
+
+impl<'a, A: Archive> Dial for MemoryDial<'a, A> {
+    ghost use Rattle.feed_fetch.specs.Servers.{Known, IsServed};
+    ghost use Rattle.feed_fetch_law.specs.MemoryConns.{IsSomeAnd-unless_read};
+
+    type Conn = MemoryConn<'a, A>;
+
+    ghost replies = { Known (IsServed A.files) };
+
+    fn dial(&mut self) -> Result<MemoryConn<'a, A>, DialFault> {
+        Ok(MemoryConn {
+            alloc: self.alloc,
+            files: self.files,
+            archive: PhantomData,
+            written: Vec::new(self.alloc),
+            reply: VecDeque::new(self.alloc),
+            is_read: false,
+        })
+    }
+
+    ghost answers = { λ conn text told.
+        IsSomeAnd-unless_read conn.is_read conn.written.items conn.reply.items text A.files conn.replied told };
+}

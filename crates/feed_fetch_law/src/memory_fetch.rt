@@ -1,0 +1,74 @@
+//! A fetch from a server over files in memory.
+ghost use Rattle.std.specs.Prelude.{ℕ, List, [], ◌≡◌, ◌≤◌, ◌⊎◌, IsTrue, Some};
+ghost use Rattle.feed_http.specs.MemoryShelves.{file_named};
+ghost use Rattle.feed_http.specs.RequestTexts.{is_host};
+ghost use Rattle.feed_model.specs.Content.{IsContent};
+ghost use Rattle.feed_model.specs.History.{History};
+ghost use Rattle.feed_releases.specs.Feeds.{recorded};
+ghost use Rattle.feed_fetch.specs.Servers.{Known, IsServed};
+ghost use Rattle.feed_fetch.specs.Fetched.{GoesOn, IsTold, EndsWith, IsFetchable, IsOpenTo};
+
+use crate::memory_dial::{Archive, MemoryDial};
+use feed_fetch::fetch_with;
+use feed_http::NamedFile;
+use feed_keep::Keep;
+use feed_names::ReleaseName;
+use feed_releases::Feed;
+use std::alloc::Global;
+use std::io::Write;
+use std::marker::Brand;
+
+fn fetch_from<A: Archive, K: Keep + Drop, O: Write, F: Write>(
+    alloc: Global,
+    files: &[NamedFile],
+    feed: &mut Feed<K>,
+    host: &[u8],
+    name: &ReleaseName,
+    piece: u64,
+    out: &mut O,
+    faults: &mut F,
+) -> u8
+    requires archive { file_named files.now ≡ A.files }
+    requires host { IsTrue (is_host host.now) }
+    requires least { 1 ≤ piece }
+    requires most { piece ≤ 1048576 }
+    ensures goes { GoesOn (IsTold (Known (IsServed A.files)) host.now name.now) (EndsWith name.now result)
+        (recorded feed.old) (recorded feed.new) }
+    ensures gets { (file : List ℕ) → A.files name.now ≡ Some file → IsFetchable file → (h : History)
+        → IsContent (recorded feed.old) h → IsOpenTo name.now file h → (result ≡ 0) ⊎ (result ≡ 3) }
+{
+    // The requests ask for this text, and it names the release.
+    let _text = name.text();
+    let mut dial = MemoryDial::<A>::new(alloc, files);
+    fetch_with(alloc, &mut dial, feed, host, name, piece, out, faults)
+}
+
+/// Fetches the file of a release by `fetch_with` from a server over these files, of which the first of a name counts.
+/// Its contract is that of `fetch_with` where what the peer replies is known: that of such a peer asks for no premise
+/// of the peer.
+pub fn fetch_from_memory<K: Keep + Drop, O: Write, F: Write>(
+    alloc: Global,
+    files: &[NamedFile],
+    feed: &mut Feed<K>,
+    host: &[u8],
+    name: &ReleaseName,
+    piece: u64,
+    out: &mut O,
+    faults: &mut F,
+) -> u8
+    requires host { IsTrue (is_host host.now) }
+    requires least { 1 ≤ piece }
+    requires most { piece ≤ 1048576 }
+    ensures goes { GoesOn (IsTold (Known (IsServed (file_named files.now))) host.now name.now)
+        (EndsWith name.now result) (recorded feed.old) (recorded feed.new) }
+
+    // Where the file is there and good and the feed is open to it, the fetch ends with 0, or with 3 for a failure.
+    ensures gets { (file : List ℕ) → file_named files.now name.now ≡ Some file → IsFetchable file → (h : History)
+        → IsContent (recorded feed.old) h → IsOpenTo name.now file h → (result ≡ 0) ⊎ (result ≡ 3) }
+
+    // An empty feed is open to each good file.
+    ensures first { (file : List ℕ) → file_named files.now name.now ≡ Some file → IsFetchable file
+        → recorded feed.old ≡ [] → (result ≡ 0) ⊎ (result ≡ 3) }
+{
+    fetch_from::<Brand, K, O, F>(alloc, files, feed, host, name, piece, out, faults)
+}
