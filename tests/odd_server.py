@@ -53,6 +53,7 @@ REPLIES = {
     "past-limit": lambda first, last, file: message("200 OK", "Content-Length: 67108865"),
     "other-total": lambda first, last, file: part(first, last, len(file) + 1, file[first:last + 1]),
     "outside": lambda first, last, file: part(len(file) - 5, len(file) + 4, "*", b"x" * 10),
+    "long-part": lambda first, last, file: part(0, 1_048_576, "*", b"x" * 1_048_577),
     "other-bytes": lambda first, last, file: part(0, 199, len(file), b"x" * 200),
     "shrunk": lambda first, last, file: message("416 Range Not Satisfiable", "Content-Range: bytes */100"),
 }
