@@ -2,11 +2,13 @@
 """command_words.py SOURCE WHAT: what may stand behind kbfeed, or what it ends with, in sorted lines. SOURCE is `help`,
 which asks the kbfeed on the path, or the file of its manual page. WHAT is
 
-  options    the commands, as `kbfeed check`, and each option behind its command, as `kbfeed fetch --piece N`
+  options    the commands, as `kbfeed check`, and each option behind its command, as `kbfeed fetch --piece N`; an option
+             of the program itself is not said again of each command
+  offers     the same for completions: without values, and with all options of each command
   statuses   the exit statuses, as `kbfeed 1`, and those of each command, as `kbfeed check 1`
 
-An option of the program itself is not said again of each command. Of the page those options count that a list explains;
-one that stands elsewhere only is printed as `kbfeed check --other is not explained`."""
+Of the page those options count that a list explains; one that stands elsewhere only is printed as `kbfeed check --other
+is not explained`."""
 import pathlib
 import re
 import subprocess
@@ -26,12 +28,11 @@ def help_of(*command):
 def read_help():
     """The options and the statuses of each command by its name. That of the program itself is empty."""
     texts = {"": help_of()}
-    texts |= {name: help_of(name) for name in re.findall(r"^  ([a-z]+) ", texts[""], re.M)}
+    texts.update((name, help_of(name)) for name in re.findall(r"^  ([a-z]+) ", texts[""], re.M))
     options = {}
     for name, text in texts.items():
         found = re.findall(r"^ +(?:(-\w), )?(--[a-z]+)(?: <(\w+)>)?", text[text.rindex("Usage:"):], re.M)
-        said = {f"{option} {value}".strip() for short, long, value in found for option in (short, long) if option}
-        options[name] = said - options.get("", set())
+        options[name] = {f"{it} {value}".strip() for short, long, value in found for it in (short, long) if it}
     statuses = {name: statuses_of(text) for name, text in texts.items()}
     statuses[""] = set().union(*statuses.values())
     return options, statuses
@@ -75,11 +76,15 @@ def main():
         unexplained = set()
     else:
         options, statuses, unexplained = read_page(pathlib.Path(source).read_text(encoding="utf-8"))
+    names = [name for name in options if name]
     if what == "statuses":
         lines = [f"{name} {status}" for name, found in statuses.items() for status in found]
+    elif what == "offers":
+        lines = names + [f"{name} {option.split()[0]}" for name, found in options.items() for option in found]
     else:
-        lines = [name for name in options if name]
-        lines += [f"{name} {option}" for name, found in options.items() for option in found]
+        for name in names:
+            options[name] -= options[""]
+        lines = names + [f"{name} {option}" for name, found in options.items() for option in found]
         lines += [f"{name} {option} is not explained" for name, option in unexplained]
     print("\n".join(sorted("kbfeed " + line.strip() for line in lines)))
 

@@ -1,0 +1,38 @@
+# Completion of kbfeed for bash. Paths are left to readline, which knows of quotes, spaces and ~.
+_kbfeed() {
+  local commands='replay check answer serve fetch ask status help'
+  local word=${COMP_WORDS[COMP_CWORD]} has_options=yes command= places=0 options= index
+  COMPREPLY=()
+  case ${COMP_WORDS[COMP_CWORD - 1]} in '<' | '>' | '>>') compopt -o default; return ;; esac
+
+  # The command, and how many words stand behind it before the cursor. Bash splits --name=VALUE at its =.
+  for ((index = 1; index < COMP_CWORD; index++)); do
+    case $has_options${COMP_WORDS[index]} in
+      yes--) has_options= ;;
+      yes--name | yes--count | yes--timeout | yes--piece)
+        [[ ${COMP_WORDS[index + 1]} == = ]] && ((index++))
+        ((index++)) ;;
+      yes-?*) ;;
+      *) if [[ $command ]]; then ((places++)); else command=${COMP_WORDS[index]}; fi ;;
+    esac
+  done
+  ((index > COMP_CWORD)) && return
+
+  case $command in
+    '') options='-h --help -V --version -v --verbose' ;;
+    check) options='-h --help -v --verbose --name --strict --summary --explain --json' ;;
+    serve) options='-h --help -v --verbose --count --timeout' ;;
+    fetch) options='-h --help -v --verbose --piece --timeout' ;;
+    replay | answer | ask | status) options='-h --help -v --verbose' ;;
+  esac
+  if [[ $has_options && $word == -* ]]; then
+    COMPREPLY=($(compgen -W "$options" -- "$word"))
+  else
+    case $command/$places in
+      /0 | help/0) COMPREPLY=($(compgen -W "$commands" -- "$word")) ;;
+      check/* | answer/0 | fetch/0 | ask/0 | status/0) compopt -o default ;;
+      serve/0) compopt -o dirnames ;;
+    esac
+  fi
+}
+complete -F _kbfeed kbfeed

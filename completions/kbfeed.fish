@@ -1,0 +1,63 @@
+# Completion of kbfeed for fish.
+
+# The command of the line, and how many words stand behind it before the cursor, as fetch/1.
+function __kbfeed_place
+    set -l words
+    set -l has_options yes
+    set -l is_value no
+    for word in (commandline -opc)[2..]
+        if test $is_value = yes
+            set is_value no
+        else if test $has_options = no
+            set -a words $word
+        else
+            switch $word
+                case --
+                    set has_options no
+                case --name --count --timeout --piece
+                    set is_value yes
+                case '-?*'
+                case '*'
+                    set -a words $word
+            end
+        end
+    end
+    echo "$words[1]/"(count $words[2..])
+end
+
+function __kbfeed_at
+    for place in $argv
+        string match -q -- $place (__kbfeed_place); and return
+    end
+    return 1
+end
+
+complete -c kbfeed -f
+set -l is_command '__kbfeed_at /0 help/0'
+complete -c kbfeed -n $is_command -a replay -d 'Replays a script of published files and nodes'
+complete -c kbfeed -n $is_command -a check -d 'Checks holdings lists'
+complete -c kbfeed -n $is_command -a answer -d 'Answers a query from a holdings list'
+complete -c kbfeed -n $is_command -a serve -d 'Serves a folder of releases over HTTP'
+complete -c kbfeed -n $is_command -a fetch -d 'Fetches a release into the database of a node'
+complete -c kbfeed -n $is_command -a ask -d 'Answers a query from the database of a node'
+complete -c kbfeed -n $is_command -a status -d 'Prints the releases that a node has recorded'
+complete -c kbfeed -n $is_command -a help -d 'Prints the help of a command'
+
+set -l has_options 'not __kbfeed_at "help/*"'
+complete -c kbfeed -n $has_options -s h -l help -d 'Prints help'
+complete -c kbfeed -n $has_options -s v -l verbose -d 'Says what a fault is about, and its cause'
+complete -c kbfeed -n '__kbfeed_at /0' -s V -l version -d 'Prints version'
+
+set -l check '__kbfeed_at "check/*"'
+complete -c kbfeed -n $check -F
+complete -c kbfeed -n $check -x -l name -d 'The release name of what comes from standard input'
+complete -c kbfeed -n $check -l strict -d 'Ends with status 1 where a record is set aside'
+complete -c kbfeed -n $check -l summary -d 'Prints one line for each file'
+complete -c kbfeed -n $check -l explain -d 'Prints for each record that is set aside its line, its title and why'
+complete -c kbfeed -n $check -l json -d 'Prints a JSON object for each file'
+
+complete -c kbfeed -n '__kbfeed_at answer/0 fetch/0 ask/0 status/0' -F
+complete -c kbfeed -n '__kbfeed_at serve/0' -a '(__fish_complete_directories)'
+complete -c kbfeed -n '__kbfeed_at "serve/*"' -x -l count -d 'How many connections are served'
+complete -c kbfeed -n '__kbfeed_at "fetch/*"' -x -l piece -d 'How many bytes a request asks for'
+complete -c kbfeed -n '__kbfeed_at "serve/*" "fetch/*"' -x -l timeout -d 'Seconds that a connection may take'
