@@ -46,7 +46,7 @@ Leads Before After c c' = (h : History) → IsContent c h → Before h → (k : 
 abbrev pub IsCurrent : Name → History → Type 0
 IsCurrent n h = Reports h n.stem (Some n) ⊎ IsPassed h n
 
--- a fetch ends with this status: 0 only where the release is reported, or a later one, and any other for a reason
+-- a fetch ends with this status: 0 only where the release is reported, or a later one; and the stop that it ended by, if any, is borne out and has its status
 abbrev pub EndsWith : Name → ℕ → History → Type 0
 EndsWith n status k = (status ≡ 0 → IsCurrent n k) × ((outcome : Result (Unit {0}) Stop) × IfErr outcome (λ stop. IsStoppedAt n stop k) × IsStatusOf outcome status)
 

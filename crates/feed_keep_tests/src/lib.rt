@@ -4,4 +4,4 @@
 #[cfg(test)]
 mod keepers;
 #[cfg(test)]
-mod parts;
+mod segments;

@@ -99,6 +99,16 @@ module _ (size first : ℕ) (bytes : List ℕ) (all : List Part) (inside : first
           let same : place ≡ max place to = omega arith in
           subst (λ at. AreFresh size first bytes all at (new ++ [])) same (rw (append-nil new) so_far)
 
+-- parts inside a file are inside a longer one
+pub fresh_wider : (size wide first : ℕ) (bytes : List ℕ) (all : List Part) (place : ℕ) (new : List Part) → size ≤ wide → AreFresh size first bytes all place new
+    → AreFresh wide first bytes all place new
+fresh_wider size wide first bytes all place new le fresh_parts = record {
+  parts = fresh_parts.parts;
+  inside = All-weaker (λ p. end_of p ≤ size) (λ p. end_of p ≤ wide) (λ p e. omega arith) new fresh_parts.inside;
+  past = fresh_parts.past;
+  brings = fresh_parts.brings;
+}
+
 -- At the end of the piece the new parts have all that it brings.
 module _ (size first : ℕ) (bytes : List ℕ) (all : List Part) (place : ℕ) (new : List Part) (kept : AreWithin size all) (so_far : AreFresh size first bytes all place new)
     (end : first + length bytes ≤ place) where

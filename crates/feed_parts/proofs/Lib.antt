@@ -13,3 +13,4 @@ pub mod Checked
 pub mod Stable
 pub mod Joined
 pub mod Leading
+mod Search

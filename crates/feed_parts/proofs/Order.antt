@@ -54,7 +54,7 @@ all_dropped : (P : code_part.Part → Type 0) (n : ℕ) (ps : List code_part.Par
 all_dropped P n ps w k d lt = subst P (sym (get_or-drop n ps k d)) (w (n + k) d (omega arith) (omega (arith, length-drop n ps)))
 
 -- The parts from the first that ends behind a place, up to the first that begins at an end or behind it, have what all have between.
-module _ (size first end : ℕ) (ps : List code_part.Part) (within : AreWithin size (shown_parts ps)) (small : size < 2 ^ 63) where
+module _ (size first end : ℕ) (ps : List code_part.Part) (within : AreWithin size (shown_parts ps)) (small : size < 2 ^ 64) where
   pub rest_order : (n : ℕ) → AreWithin size (shown_parts (drop n ps))
   rest_order n = record {
     parts = subst (ArePartsFrom 0) (drop-map shown_part n ps) (parts_drop 0 n (shown_parts ps) within.parts);

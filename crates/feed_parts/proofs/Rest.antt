@@ -13,7 +13,7 @@ pub finished : (ps : List code_part.Part) (i : ℕ) → length ps ≤ i → show
 finished ps i le = ap shown_parts (drop_all i ps le)
 
 -- the end of a part inside a file
-pub end_is : (p : code_part.Part) (end size : ℕ) → end ≡ min (p.first + vec_len p.bytes) (2 ^ 64 - 1) → end_of (shown_part p) ≤ size → size < 2 ^ 63 → end ≡ end_of (shown_part p)
+pub end_is : (p : code_part.Part) (end size : ℕ) → end ≡ min (p.first + vec_len p.bytes) (2 ^ 64 - 1) → end_of (shown_part p) ≤ size → size < 2 ^ 64 → end ≡ end_of (shown_part p)
 end_is p end size is inside small = omega (arith, p.bytes.ok.0)
 
 -- what holds of each part, seen from the code

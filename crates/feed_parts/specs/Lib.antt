@@ -1,3 +1,4 @@
 pub mod Shown
 pub mod Piece
 pub mod Cut
+pub mod Segments

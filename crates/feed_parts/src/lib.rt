@@ -1,4 +1,4 @@
-//! Parts of a file that is not whole yet: what a piece brings to them, and what is missing.
+//! What is kept of a file that is not whole yet: what a piece brings to it, and what is missing.
 #![tactic(auto)]
 
 mod gaps;
@@ -6,9 +6,10 @@ mod merging;
 mod overlap;
 mod part;
 mod reading;
+mod segments;
 
-pub use gaps::{Gap, next_gap};
-pub use merging::{copied_in_order, merge};
-pub use overlap::{byte_count, conflicts, covers, new_parts};
-pub use part::{PIECE_LIMIT, Part, are_within, copied};
-pub use reading::PartReader;
+pub use gaps::Gap;
+pub use merging::copied_in_order;
+pub use part::{PIECE_LIMIT, Part, copied};
+pub use reading::SegmentReader;
+pub use segments::Segments;

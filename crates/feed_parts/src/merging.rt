@@ -8,9 +8,9 @@ ghost use Rattle.feed_parts.specs.Shown.{shown_parts};
 use crate::part::{Part, copied};
 use std::alloc::{AllocError, Global};
 
-/// Puts new parts, which are in order, among the kept ones. There is room for them, so this takes no memory. What
-/// follows the new parts is moved once, and no more is sorted than they lie among.
-pub fn merge(parts: &mut Vec<Part>, mut new: Vec<Part>)
+// Puts new parts, which are in order, among the kept ones. There is room for them, so this takes no memory. What
+// follows the new parts is moved once, and no more is sorted than they lie among.
+pub(crate) fn merge(parts: &mut Vec<Part>, mut new: Vec<Part>)
     requires room { vec_len parts.old + vec_len new ≤ vec_capacity parts.old }
     requires order { AreParts (shown_parts new.items) }
     requires apart { AreParts (merged (shown_parts parts.old.items) (shown_parts new.items)) }

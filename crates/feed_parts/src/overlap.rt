@@ -1,25 +1,22 @@
 //! A piece beside the parts that are kept.
 ghost use Rattle.std.specs.Prelude.{◌≡◌, ◌+◌, ◌-◌, ◌<◌, ◌≤◌, ◌^◌};
-ghost use Rattle.std.specs.Prelude.{◌++◌, ℕ, [], ◌∷◌, ◌↔◌};
-ghost use Rattle.std.specs.Prelude.{};
-ghost use Rattle.std.specs.Prelude.{false, length, vec_len, All};
-ghost use Rattle.std.specs.Prelude.{IsSome, IsTrue, IfOk, OnOk};
-ghost use Rattle.feed_model.specs.Reply.{max_piece, missing_below};
+ghost use Rattle.std.specs.Prelude.{◌++◌, ℕ, [], ◌∷◌};
+ghost use Rattle.std.specs.Prelude.{false, length, vec_len, All, IsTrue, IfOk, OnOk};
+ghost use Rattle.feed_model.specs.Reply.{max_piece};
 ghost use Rattle.feed_model.specs.Content.{byte_in};
-ghost use Rattle.feed_model.specs.Change.{merged};
-ghost use Rattle.feed_parts.specs.Shown.{shown_part, shown_parts};
-ghost use Rattle.feed_model.specs.Parts.{AgreesIn, Covers, DiffersIn, HasNew, Adds, AreWithin};
-ghost use Rattle.feed_parts.specs.Piece.{total_length};
+ghost use Rattle.feed_model.specs.Parts.{AgreesIn, Adds, AreWithin, Covers, DiffersIn, HasNew};
 ghost use Rattle.feed_parts.specs.Cut.{cut, cuts};
+ghost use Rattle.feed_parts.specs.Piece.{total_length};
+ghost use Rattle.feed_parts.specs.Segments.{AreSegments};
+ghost use Rattle.feed_parts.specs.Shown.{shown_part, shown_parts};
 
 use crate::part::{Part, end_of};
 use std::alloc::{AllocError, Global};
 
 // The parts that have a place from `first` up to `end`, `end` not included.
-fn meeting(parts: &[Part], size: u64, first: u64, end: u64) -> &[Part]
-    requires within { AreWithin size (shown_parts parts.now) }
-    requires small { size < 2 ^ 63 }
-    ensures order { AreWithin size (shown_parts result.now) }
+fn meeting(parts: &[Part], first: u64, end: u64) -> &[Part]
+    requires order { AreSegments (shown_parts parts.now) }
+    ensures order { AreSegments (shown_parts result.now) }
     ensures begins { All (λ p. p.first < end) (shown_parts result.now) }
     ensures same { (place : ℕ) → first ≤ place → place < end
         → byte_in (shown_parts result.now) place ≡ byte_in (shown_parts parts.now) place }
@@ -30,16 +27,15 @@ fn meeting(parts: &[Part], size: u64, first: u64, end: u64) -> &[Part]
     &rest[..to]
 }
 
-/// Whether a kept byte is another one than the piece has at its place. It takes no memory.
-pub fn conflicts(parts: &[Part], size: u64, first: u64, bytes: &[u8]) -> bool
-    requires within { AreWithin size (shown_parts parts.now) }
-    requires small { size < 2 ^ 63 }
-    requires inside { first + length bytes.now ≤ size }
+// Whether a kept byte is another one than the piece has at its place.
+pub(crate) fn conflicts(parts: &[Part], first: u64, bytes: &[u8]) -> bool
+    requires order { AreSegments (shown_parts parts.now) }
+    requires inside { first + length bytes.now < 2 ^ 64 }
     ensures differs { IsTrue result → DiffersIn (shown_parts parts.now) first bytes.now }
     ensures agrees { result ≡ false → AgreesIn (shown_parts parts.now) first bytes.now }
 {
     let end = first + bytes.len() as u64;
-    for part in meeting(parts, size, first, end) {
+    for part in meeting(parts, first, end) {
         if differs(part, first, bytes) {
             return true;
         }
@@ -69,17 +65,16 @@ fn slice_at(bytes: &[u8], first: u64, low: u64, high: u64) -> &[u8]
     &bytes[(low - first) as usize..(high - first) as usize]
 }
 
-/// Whether each place of the piece is kept. It takes no memory.
-pub fn covers(parts: &[Part], size: u64, first: u64, bytes: &[u8]) -> bool
-    requires within { AreWithin size (shown_parts parts.now) }
-    requires small { size < 2 ^ 63 }
-    requires inside { first + length bytes.now ≤ size }
+// Whether each place of the piece is kept.
+pub(crate) fn covers(parts: &[Part], first: u64, bytes: &[u8]) -> bool
+    requires order { AreSegments (shown_parts parts.now) }
+    requires inside { first + length bytes.now < 2 ^ 64 }
     ensures covers { IsTrue result → Covers (shown_parts parts.now) first bytes.now }
     ensures new { result ≡ false → HasNew (shown_parts parts.now) first bytes.now }
 {
     let end = first + bytes.len() as u64;
     let mut place = first;
-    for part in meeting(parts, size, first, end) {
+    for part in meeting(parts, first, end) {
         if place < part.first {
             return false;
         }
@@ -88,32 +83,24 @@ pub fn covers(parts: &[Part], size: u64, first: u64, bytes: &[u8]) -> bool
     end <= place
 }
 
-/// The bytes of the piece at whose places none is kept, a part for each gap, in order.
-pub fn new_parts(
+// The bytes of the piece at whose places none is kept, a part for each gap, in order.
+pub(crate) fn new_parts(
     alloc: Global,
     parts: &[Part],
-    size: u64,
     first: u64,
     bytes: &[u8],
 ) -> Result<Vec<Part>, AllocError>
-    requires within { AreWithin size (shown_parts parts.now) }
-    requires small { size < 2 ^ 63 }
-    requires inside { first + length bytes.now ≤ size }
+    requires order { AreSegments (shown_parts parts.now) }
+    requires inside { first + length bytes.now < 2 ^ 64 }
     requires piece { length bytes.now ≤ max_piece }
-    ensures adds { IfOk result (λ new. Adds size (shown_parts parts.now) first bytes.now (shown_parts new.items)) }
+    ensures adds { IfOk result (λ new. (size : ℕ) → AreWithin size (shown_parts parts.now)
+        → first + length bytes.now ≤ size → Adds size (shown_parts parts.now) first bytes.now (shown_parts new.items)) }
     ensures some { IfOk result (λ new. HasNew (shown_parts parts.now) first bytes.now → 0 < length new.items) }
-    ensures missing { IfOk result (λ new. missing_below
-        (byte_in (merged (shown_parts parts.now) (shown_parts new.items))) size + total_length (shown_parts new.items)
-        ≡ missing_below (byte_in (shown_parts parts.now)) size) }
-    ensures whole { IfOk result (λ new. (missing_below (byte_in
-        (merged (shown_parts parts.now) (shown_parts new.items))) size ≡ 0)
-        ↔ ((place : ℕ) → place < size → IsSome (byte_in (merged (shown_parts parts.now)
-        (shown_parts new.items)) place))) }
 {
     let end = first + bytes.len() as u64;
     let mut new = Vec::new(alloc);
     let mut place = first;
-    for part in meeting(parts, size, first, end) {
+    for part in meeting(parts, first, end) {
         push_cut(alloc, &mut new, first, bytes, place, part.first)?;
         place = place.max(end_of(part));
     }
@@ -143,13 +130,10 @@ fn push_cut(
     Ok(())
 }
 
-/// How many bytes parts inside a file have. It takes no memory.
-pub fn byte_count(parts: &[Part], size: u64) -> u64
-    requires within { AreWithin size (shown_parts parts.now) }
-    requires small { size < 2 ^ 63 }
-    ensures value { result ≡ total_length (shown_parts parts.now) }
-    ensures bound { result ≤ size }
-    ensures missing { missing_below (byte_in (shown_parts parts.now)) size + result ≡ size }
+// How many bytes parts have.
+pub(crate) fn byte_count(parts: &[Part]) -> u64
+    requires { AreSegments (shown_parts parts.now) }
+    ensures { result ≡ total_length (shown_parts parts.now) }
 {
     let mut count = 0u64;
     for part in parts {

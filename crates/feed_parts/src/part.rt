@@ -35,8 +35,8 @@ pub fn copied(alloc: Global, parts: &[Part]) -> Result<Vec<Part>, AllocError>
     Ok(copy)
 }
 
-/// Whether the parts are in order, each of 1 to 1,048,576 bytes, and none reaches past the size of the file.
-pub fn are_within(parts: &[Part], size: u64) -> bool
+// Whether the parts are in order, each of 1 to 1,048,576 bytes, and none reaches past the size of the file.
+pub(crate) fn are_within(parts: &[Part], size: u64) -> bool
     ensures { IsTrue result ↔ AreWithin size (shown_parts parts.now) }
 {
     let mut place = 0;

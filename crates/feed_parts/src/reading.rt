@@ -1,10 +1,10 @@
 //! The text of a file, read from its parts where they lie.
-ghost use Rattle.std.specs.Prelude.{◌≡◌, ◌<◌, ◌∷◌, [], ℕ, IsSome, IfSome, IfNone};
-ghost use Rattle.feed_model.specs.Content.{byte_in, AreParts};
+ghost use Rattle.std.specs.Prelude.{◌≡◌, ◌∷◌, [], IfSome, IfNone};
+ghost use Rattle.feed_model.specs.Content.{AreParts};
 ghost use Rattle.feed_model.specs.Change.{merged};
-ghost use Rattle.feed_model.specs.Sound.{IsText};
+ghost use Rattle.feed_parts.specs.Piece.{joined};
+ghost use Rattle.feed_parts.specs.Segments.{IsTextOf};
 ghost use Rattle.feed_parts.specs.Shown.{shown_part, shown_parts};
-ghost use Rattle.feed_model.specs.Parts.{AreWithin};
 
 use crate::part::Part;
 use std::io::{self, Read};
@@ -12,13 +12,13 @@ use std::marker::Model;
 
 /// Reads the bytes of kept and new parts, in the order of their places.
 #[derive(Drop)]
-pub struct PartReader<'a> {
+pub struct SegmentReader<'a> {
     front: &'a [u8],
     kept: &'a [Part],
     new: &'a [Part],
 }
 
-impl<'a> Model for PartReader<'a> {
+impl<'a> Model for SegmentReader<'a> {
     ghost use Rattle.std.specs.Prelude.{ℕ, List, ◌++◌};
     ghost use Rattle.feed_model.specs.Content.{AreParts};
     ghost use Rattle.feed_model.specs.Change.{merged};
@@ -33,18 +33,15 @@ impl<'a> Model for PartReader<'a> {
         × AreParts (merged (shown_parts r.kept.now) (shown_parts r.new.now)) };
 }
 
-impl<'a> PartReader<'a> {
-    /// Of kept and new parts, both in order. Where no place of the file is missing, what it reads is the text of the
-    /// file.
-    pub fn new(kept: &'a [Part], new: &'a [Part]) -> PartReader<'a>
+impl<'a> SegmentReader<'a> {
+    // Of kept and new parts, both in order.
+    pub(crate) fn new(kept: &'a [Part], new: &'a [Part]) -> SegmentReader<'a>
         requires order { AreParts (shown_parts new.now) }
         requires apart { AreParts (merged (shown_parts kept.now) (shown_parts new.now)) }
-        ensures { (size : ℕ) → AreWithin size (merged (shown_parts kept.now) (shown_parts new.now))
-            → ((place : ℕ) → place < size → IsSome (byte_in (merged (shown_parts kept.now)
-            (shown_parts new.now)) place)) → IsText size
-            (merged (shown_parts kept.now) (shown_parts new.now)) result }
+        ensures bytes { result ≡ joined (merged (shown_parts kept.now) (shown_parts new.now)) }
+        ensures text { IsTextOf (merged (shown_parts kept.now) (shown_parts new.now)) result }
     {
-        PartReader {
+        SegmentReader {
             front: &[],
             kept,
             new,
@@ -52,7 +49,7 @@ impl<'a> PartReader<'a> {
     }
 }
 
-impl<'a> Read for PartReader<'a> {
+impl<'a> Read for SegmentReader<'a> {
     ghost use Rattle.std.specs.Prelude.{Some};
 
     ghost remaining = { λ r. Some r };

@@ -1,5 +1,5 @@
 -- What a piece makes of a release: that the commit is allowed, and that the answer is right.
-use Rattle.std.proofs.Common.{◌≡◌, ◌≢◌, ℕ, List, Option, Ok, refl, sym, ◌∙◌, arith}
+use Rattle.std.proofs.Common.{◌≡◌, ◌≢◌, ℕ, List, Option, Ok, refl, sym, ◌∙◌}
 use Rattle.feed_names.specs.ReleaseName.{Name}
 use Rattle.feed_model.specs.declared.reply.Reply.TheVariants.{Activated}
 use Rattle.feed_model.specs.History.{Piece}
@@ -17,7 +17,6 @@ use Rattle.feed_releases.specs.declared.release.growth.Standing.{Standing}
 use Rattle.feed_releases.specs.declared.release.growth.Standing.TheVariants.{Partial, Bad, Good}
 use Rattle.feed_releases.specs.ReleaseValue.{LiesOver}
 use Rattle.feed_releases.specs.Growth.{IsGrowth, StandsSo, change_of, parts_of, reply_of, state_of}
-use Rattle.feed_releases.proofs.Growth.{length-shown}
 
 right_so : (c : Content) (n : Name) (first : ℕ) (total : Option ℕ) (bytes : List ℕ) (r : Record) (ps : List Part) (missing : ℕ) (s : Standing) → Reaches c n first total bytes r
     → LiesOver r first bytes New
@@ -49,7 +48,7 @@ growth_allowed c n first total bytes r growth name reach lies is =
     let takes : TakesParts c n (parts_of growth) r = record {
       found = reach.found;
       staged = lies.2;
-      some = omega (arith, length-shown growth.parts.items, is.some);
+      some = is.some;
       parts = is.adds.order.parts;
       apart = is.adds.whole.parts;
       inside = is.adds.order.inside;

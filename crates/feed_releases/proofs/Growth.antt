@@ -6,45 +6,43 @@ use Rattle.feed_names.specs.ReleaseName.{Name, name_eq}
 use Rattle.feed_model.specs.declared.state.State.{State}
 use Rattle.feed_model.specs.declared.state.State.TheVariants.{Staged, Broken}
 use Rattle.feed_model.specs.Reply.{max_file, missing_below}
-use Rattle.feed_model.specs.Content.{Part, Record, record_of, byte_in}
+use Rattle.feed_model.specs.Content.{Part, Record, record_of, byte_in, end_of}
+use Rattle.feed_parts.specs.Segments.{AreSegments, last_place}
+use Rattle.std.proofs.lemmas.List.Elements.{All-weaker}
 use Rattle.feed_model.specs.Change.{grown, changed, new_record}
 use Rattle.feed_model.proofs.Names.{name_is}
 use Rattle.feed_model.proofs.Faults.{empty_bad}
-use Rattle.feed_parts.specs.declared.part.Part as code_part
-use Rattle.feed_parts.specs.Shown.{shown_parts}
 use Rattle.feed_model.specs.Parts.{AreWithin}
 use Rattle.feed_releases.specs.ReleaseValue.{ReleaseValue, IsRelease, content_of, IsPlaceOf}
 use Rattle.feed_releases.proofs.Finding.{found_at, set_at}
 
--- as many parts are seen as there are
-pub length-shown : (ps : List code_part.Part) → length (shown_parts ps) ≡ length ps
-length-shown [] = refl
-length-shown (p ∷ ps) = ap suc (length-shown ps)
+-- parts inside a file are segments
+pub segments_of : (size : ℕ) (ps : List Part) → size ≤ max_file → AreWithin size ps → AreSegments ps
+segments_of size ps limit within = record { parts = within.parts; inside = All-weaker (λ p. end_of p ≤ size) (λ p. end_of p ≤ last_place) (λ p e. omega arith) ps within.inside }
 
 missing_all : (n : ℕ) → missing_below (byte_in []) n ≡ n
 missing_all zero = refl
 missing_all (suc n) = omega (arith, missing_all n)
 
 -- a release of which nothing is kept yet
-pub sound_new : (n : Name) (size : ℕ) → size ≤ max_file → IsRelease (new_record n size) size None
+pub sound_new : (n : Name) (size : ℕ) → size ≤ max_file → IsRelease (new_record n size) None
 sound_new n size limit = by size limit
   where
     empty : (k : ℕ) → AreWithin k []
     empty k = record { parts = tt; inside = λ i d lt. absurd (omega (arith, lt)) }
 
-    by : (k : ℕ) → k ≤ max_file → IsRelease (new_record n k) k None
+    by : (k : ℕ) → k ≤ max_file → IsRelease (new_record n k) None
     by zero le =
         record {
           within = empty zero;
           limit = le;
-          counted = refl;
           staged = λ e. absurd (cc);
           whole = λ e. refl;
           known =
               ([], record { count = refl; bytes = λ place lt. absurd (omega (arith, lt)) }, empty_bad, refl);
         }
-    by (suc k) le = subst (λ (s : State). IsRelease (record { name = n; size = suc k; state = s; parts = [] }) (suc k) None) (sym (ap (λ (b : Bool). if b then Broken else Staged) (eqb-suc-zero k)))
-        (record { within = empty (suc k); limit = le; counted = sym (missing_all (suc k)); staged = λ e. omega arith; whole = λ e. absurd (e refl); known = refl })
+    by (suc k) le = subst (λ (s : State). IsRelease (record { name = n; size = suc k; state = s; parts = [] }) None) (sym (ap (λ (b : Bool). if b then Broken else Staged) (eqb-suc-zero k)))
+        (record { within = empty (suc k); limit = le; staged = λ e. omega (arith, missing_all (suc k)); whole = λ e. absurd (e refl); known = refl })
 
 -- what is at a place of the list is what was read there
 pub kept_at : (rs : List ReleaseValue) (at : ℕ) (r : ReleaseValue) (P : Record → Type 0) → r ≡ get_or rs at r → P (get_or rs at r).kept → P r.kept

@@ -9,7 +9,6 @@ use Rattle.feed_model.specs.declared.reply.Reply.TheVariants as replies
 use Rattle.feed_model.specs.Reply.{missing_below}
 use Rattle.feed_model.specs.Content.{Part, Record, byte_in}
 use Rattle.feed_model.specs.Change.{Change, merged}
-use Rattle.feed_parts.specs.Shown.{shown_parts}
 use Rattle.feed_model.specs.Parts.{Adds}
 use Rattle.feed_keep.specs.Shown.{change_to}
 use Rattle.feed_releases.specs.ReleaseValue.{IsJudged}
@@ -37,7 +36,7 @@ reply_of missing (Good holdings) = replies.Activated
 
 -- the new parts, as the model has them
 abbrev pub parts_of : Growth → List Part
-parts_of growth = shown_parts growth.parts.items
+parts_of growth = growth.new.parts
 
 -- the change that keeps them
 abbrev pub change_of : Record → Growth → Change
@@ -51,7 +50,7 @@ StandsSo size parts missing (Good holdings) = (missing ≡ 0) × IsJudged size p
 
 -- the new parts bring the bytes of the piece to the kept ones, so many places are missing then, and the file stands so
 pub record IsGrowth (r : Record) (first : ℕ) (bytes : List ℕ) (growth : Growth) : Type 0 where
-  pub some : 0 < length growth.parts.items
+  pub some : 0 < length (parts_of growth)
   pub adds : Adds r.size r.parts first bytes (parts_of growth)
   pub missing : growth.missing ≡ missing_below (byte_in (merged r.parts (parts_of growth))) r.size
   pub stands : StandsSo r.size (merged r.parts (parts_of growth)) growth.missing growth.standing

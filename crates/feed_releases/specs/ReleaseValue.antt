@@ -26,13 +26,16 @@ IsKnown Staged size parts holdings = holdings ≡ None
 IsKnown Broken size parts holdings = (text : List ℕ) × IsText size parts text × (fault_of text ≢ None) × (holdings ≡ None)
 IsKnown Active size parts holdings = (text : List ℕ) × IsText size parts text × (fault_of text ≡ None) × (holdings ≡ Some (holdings_of text))
 
--- the parts lie inside the file, which is within the limit; so many places are missing; and it is staged just while some are
-pub record IsRelease (kept : Record) (missing : ℕ) (holdings : Option HoldingsValue) : Type 0 where
+-- the record of these
+abbrev pub record_with : Name → ℕ → State → List Part → Record
+record_with name size state parts = record { name = name; size = size; state = state; parts = parts }
+
+-- the parts lie inside the file, which is within the limit, and it is staged just while a place of it is missing
+pub record IsRelease (kept : Record) (holdings : Option HoldingsValue) : Type 0 where
   pub within : AreWithin kept.size kept.parts
   pub limit : kept.size ≤ max_file
-  pub counted : missing ≡ missing_below (byte_in kept.parts) kept.size
-  pub staged : kept.state ≡ Staged → 0 < missing
-  pub whole : kept.state ≢ Staged → missing ≡ 0
+  pub staged : kept.state ≡ Staged → 0 < missing_below (byte_in kept.parts) kept.size
+  pub whole : kept.state ≢ Staged → missing_below (byte_in kept.parts) kept.size ≡ 0
   pub known : IsKnown kept.state kept.size kept.parts holdings
 
 -- the records of releases

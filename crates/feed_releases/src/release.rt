@@ -1,5 +1,5 @@
 ghost use Rattle.std.specs.Prelude.{◌≡◌, ◌≤◌, ◌+◌, length, None};
-ghost use Rattle.feed_model.specs.Reply.{max_file};
+ghost use Rattle.feed_model.specs.Reply.{max_file, missing_below};
 ghost use Rattle.feed_model.specs.Content.{byte_in};
 ghost use Rattle.feed_model.specs.Change.{new_record};
 ghost use Rattle.feed_releases.specs.NextRange.{IsNextOf};
@@ -14,28 +14,28 @@ use feed_answer::HoldingsIndex;
 use feed_keep::Record;
 use feed_model::State;
 use feed_names::ReleaseName;
-use feed_parts::{conflicts, covers, next_gap};
+use feed_parts::Segments;
 use std::alloc::Global;
 use std::marker::Model;
 
-/// A recorded release in memory: what is kept of it, how many places of its file are missing, and what its file holds
-/// if it is active, indexed by ISSN.
+/// A recorded release in memory: what is kept of its file, and what the file holds if it is active.
 #[derive(Drop)]
 pub(crate) struct Release {
-    kept: Record,
-    missing: u64,
+    name: ReleaseName,
+    size: u64,
+    state: State,
+    kept: Segments,
     holdings: Option<HoldingsIndex>,
 }
 
 impl Model for Release {
-    ghost use Rattle.feed_keep.specs.Shown.{shown_record};
-    ghost use Rattle.feed_releases.specs.ReleaseValue.{ReleaseValue, IsRelease};
+    ghost use Rattle.feed_releases.specs.ReleaseValue.{ReleaseValue, IsRelease, record_with};
 
     ghost Value = { ReleaseValue };
 
-    ghost view = { λ r. record { kept = shown_record r.kept; holdings = r.holdings } };
+    ghost view = { λ r. record { kept = record_with r.name r.size r.state r.kept.parts; holdings = r.holdings } };
 
-    ghost invariant = { λ r. IsRelease (shown_record r.kept) r.missing r.holdings };
+    ghost invariant = { λ r. IsRelease (record_with r.name r.size r.state r.kept.parts) r.holdings };
 }
 
 impl Release {
@@ -44,9 +44,17 @@ impl Release {
         requires { size ≤ max_file }
         ensures { result ≡ record { kept = new_record name size; holdings = None } }
     {
+        let Record {
+            name,
+            size,
+            state,
+            parts: _,
+        } = Record::new(alloc, name, size);
         Release {
-            kept: Record::new(alloc, name, size),
-            missing: size,
+            name,
+            size,
+            state,
+            kept: Segments::new(alloc),
             holdings: None,
         }
     }
@@ -54,20 +62,20 @@ impl Release {
     pub(crate) fn name(&self) -> &ReleaseName
         ensures { result.now ≡ self.now.kept.name }
     {
-        &self.kept.name
+        &self.name
     }
 
     pub(crate) fn size(&self) -> u64
         ensures value { result ≡ self.now.kept.size }
         ensures limit { result ≤ max_file }
     {
-        self.kept.size
+        self.size
     }
 
     pub(crate) fn state(&self) -> State
         ensures { result ≡ self.now.kept.state }
     {
-        self.kept.state
+        self.state
     }
 
     /// What the file holds, of an active release.
@@ -78,11 +86,18 @@ impl Release {
         &self.holdings
     }
 
+    // How many places of the file are missing.
+    fn missing(&self) -> u64
+        ensures { result ≡ missing_below (byte_in self.now.kept.parts) self.now.kept.size }
+    {
+        self.size.saturating_sub(self.kept.count())
+    }
+
     /// The first missing places of the file, at most `max` of them: the first one and the last one.
     pub(crate) fn next_range(&self, max: u64) -> Option<(u64, u64)>
         ensures { IsNextOf (byte_in self.now.kept.parts) self.now.kept.size max result }
     {
-        let gap = next_gap(&self.kept.parts, self.kept.size)?;
+        let gap = self.kept.next_gap(self.size)?;
         if max == 0 {
             return None;
         }
@@ -94,11 +109,9 @@ impl Release {
         requires inside { first + length bytes.now ≤ self.now.kept.size }
         ensures { LiesOver self.now.kept first bytes.now result }
     {
-        if conflicts(&self.kept.parts, self.kept.size, first, bytes) {
+        if self.kept.conflicts(first, bytes) {
             Overlap::Conflict
-        } else if self.missing == 0 {
-            Overlap::Kept
-        } else if covers(&self.kept.parts, self.kept.size, first, bytes) {
+        } else if self.missing() == 0 || self.kept.covers(first, bytes) {
             Overlap::Kept
         } else {
             Overlap::New

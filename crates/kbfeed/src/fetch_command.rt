@@ -22,8 +22,8 @@ pub struct Fetching {
 }
 
 /// Fetches the release of a name from a host and port, as `fetch_with` does, into a database. What happens is printed
-/// to `out`, each line at once; where standard error is a terminal, a line there shows how far it is. The first fault is
-/// told: of the host (`Host`) and of the name, status 2, and then of the database and of the fetch.
+/// to `out`, each line at once; where standard error is a terminal, a line there shows how far it is. The first fault
+/// is told: of the host (`Host`) and of the name, status 2, and then of the database and of the fetch.
 pub fn fetch_on<D: Database, O: Write, F: Write + Drop>(
     rt: &HostRuntime,
     database: &D,

@@ -14,13 +14,13 @@ use feed_answer::HoldingsIndex;
 use feed_kbart::{BadFile, KbartFault};
 use feed_keep::{Change, Keep};
 use feed_model::{Refusal, Reply, State};
-use feed_parts::{Part, byte_count, merge, new_parts};
+use feed_parts::Segments;
 use std::alloc::Global;
 
-/// The new bytes of a piece, a part for each gap; how many places are missing with them; and how the file stands then.
+/// The new bytes of a piece; how many places are missing with them; and how the file stands then.
 #[derive(Drop)]
 pub(crate) struct Growth {
-    pub(crate) parts: Vec<Part>,
+    pub(crate) new: Segments,
     pub(crate) missing: u64,
     pub(crate) standing: Standing,
 }
@@ -45,16 +45,14 @@ impl Release {
         ensures growth { IfOk result (IsGrowth self.now.kept first bytes.now) }
         ensures refused { OnErr result (result ≡ Err Refusal.Memory) }
     {
-        let Ok(parts) = new_parts(alloc, &self.kept.parts, self.kept.size, first, bytes) else {
+        let Ok(new) = self.kept.new_parts(alloc, first, bytes) else {
             return Err(Refusal::Memory);
         };
-        let missing = self
-            .missing
-            .saturating_sub(byte_count(&parts, self.kept.size));
+        let missing = self.missing().saturating_sub(new.count());
         let standing = if missing > 0 {
             Standing::Partial
         } else {
-            match judged(alloc, &self.kept.parts, &parts) {
+            match judged(alloc, self.kept.reader_with(&new)) {
                 Ok(holdings) => Standing::Good(holdings),
                 Err(KbartFault::Bad(why)) => Standing::Bad(why),
                 // Parts in memory are within the limit of a file and read to their end, so only memory is left.
@@ -62,7 +60,7 @@ impl Release {
             }
         };
         Ok(Growth {
-            parts,
+            new,
             missing,
             standing,
         })
@@ -84,11 +82,11 @@ impl Release {
             (change_of self.old.kept growth) keeper.old keeper.new result }
     {
         let Growth {
-            parts,
+            new,
             missing,
             standing,
         } = growth;
-        let Ok(()) = self.kept.parts.reserve(parts.len()) else {
+        let Ok(()) = self.kept.reserve(&new) else {
             return Err(Refusal::Memory);
         };
         let (state, reply, holdings) = match standing {
@@ -96,10 +94,9 @@ impl Release {
             Standing::Bad(why) => (State::Broken, Reply::Broken(why), None),
             Standing::Good(holdings) => (State::Active, Reply::Activated, Some(holdings)),
         };
-        commit(keeper, &Change::to(state, &self.kept.name, &parts))?;
-        merge(&mut self.kept.parts, parts);
-        self.kept.state = state;
-        self.missing = missing;
+        commit(keeper, &Change::to(state, &self.name, new.parts()))?;
+        self.kept.insert(new);
+        self.state = state;
         self.holdings = holdings;
         Ok(reply)
     }

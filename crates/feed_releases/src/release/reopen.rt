@@ -2,9 +2,8 @@
 ghost use Rattle.std.specs.Prelude.{◌≡◌, ◌≢◌, ◌<◌, ◌⊎◌, IfOk, IfErr, OnOk};
 ghost use Rattle.feed_model.specs.Reply.{missing_below};
 ghost use Rattle.feed_model.specs.Content.{byte_in};
-ghost use Rattle.feed_model.specs.Sound.{BearsOut, IsSoundRecord};
-ghost use Rattle.feed_parts.specs.Shown.{shown_parts};
 ghost use Rattle.feed_model.specs.Parts.{AreWithin};
+ghost use Rattle.feed_model.specs.Sound.{BearsOut, IsSoundRecord};
 ghost use Rattle.feed_keep.specs.Shown.{shown_record};
 ghost use Rattle.feed_releases.specs.ReleaseValue.{IsKnown};
 
@@ -14,7 +13,7 @@ use feed_answer::HoldingsIndex;
 use feed_kbart::{FILE_LIMIT, KbartFault};
 use feed_keep::Record;
 use feed_model::{KeepFault, State};
-use feed_parts::{are_within, byte_count};
+use feed_parts::Segments;
 use std::alloc::Global;
 
 impl Release {
@@ -26,45 +25,57 @@ impl Release {
         ensures err { IfErr result (λ cause. (cause ≡ KeepFault.Memory)
             ⊎ ((cause ≡ KeepFault.Damaged) × ¬ (IsSoundRecord (shown_record kept)))) }
     {
-        if kept.size > FILE_LIMIT as u64 || !are_within(&kept.parts, kept.size) {
+        let Record {
+            name,
+            size,
+            state,
+            parts,
+        } = kept;
+        let Some(kept) = Segments::of(parts) else {
+            return Err(KeepFault::Damaged);
+        };
+        if size > FILE_LIMIT as u64 || !kept.are_within(size) {
             return Err(KeepFault::Damaged);
         }
-        let missing = kept.size.saturating_sub(byte_count(&kept.parts, kept.size));
-        let holdings = found_in(alloc, &kept, missing)?;
+        let holdings = found_in(alloc, state, size, &kept)?;
         Ok(Release {
+            name,
+            size,
+            state,
             kept,
-            missing,
             holdings,
         })
     }
 }
 
-// The holdings that a record's release has, of which so many places are missing: those of its file if it is active.
-// The parts have to bear out the state.
-fn found_in(alloc: Global, kept: &Record, missing: u64) -> Result<Option<HoldingsIndex>, KeepFault>
-    requires within { AreWithin kept.now.size (shown_parts kept.now.parts.items) }
-    requires counted { missing ≡ missing_below (byte_in (shown_parts kept.now.parts.items)) kept.now.size }
-    ensures known { IfOk result (λ holdings.
-        IsKnown kept.now.state kept.now.size (shown_parts kept.now.parts.items) holdings
-        × BearsOut kept.now.state kept.now.size (shown_parts kept.now.parts.items)) }
-    ensures staged { OnOk result ((kept.now.state ≡ State.Staged → 0 < missing)
-        × (kept.now.state ≢ State.Staged → missing ≡ 0)) }
+// The holdings that a release has whose file is kept so: those of its file if it is active. What is kept has to bear
+// out the state.
+fn found_in(
+    alloc: Global,
+    state: State,
+    size: u64,
+    kept: &Segments,
+) -> Result<Option<HoldingsIndex>, KeepFault>
+    requires { AreWithin size kept.now.parts }
+    ensures known { IfOk result (λ holdings. IsKnown state size kept.now.parts holdings
+        × BearsOut state size kept.now.parts) }
+    ensures staged { OnOk result ((state ≡ State.Staged → 0 < missing_below (byte_in kept.now.parts) size)
+        × (state ≢ State.Staged → missing_below (byte_in kept.now.parts) size ≡ 0)) }
     ensures err { IfErr result (λ cause. (cause ≡ KeepFault.Memory)
-        ⊎ ((cause ≡ KeepFault.Damaged) × ¬ (BearsOut kept.now.state kept.now.size
-        (shown_parts kept.now.parts.items)))) }
+        ⊎ ((cause ≡ KeepFault.Damaged) × ¬ (BearsOut state size kept.now.parts))) }
 {
-    if missing > 0 {
-        return match kept.state {
+    if size.saturating_sub(kept.count()) > 0 {
+        return match state {
             State::Staged => Ok(None),
             State::Broken | State::Active => Err(KeepFault::Damaged),
         };
     }
-    match judged(alloc, &kept.parts, &[]) {
-        Ok(holdings) => match kept.state {
+    match judged(alloc, kept.reader()) {
+        Ok(holdings) => match state {
             State::Active => Ok(Some(holdings)),
             State::Staged | State::Broken => Err(KeepFault::Damaged),
         },
-        Err(KbartFault::Bad(_)) => match kept.state {
+        Err(KbartFault::Bad(_)) => match state {
             State::Broken => Ok(None),
             State::Staged | State::Active => Err(KeepFault::Damaged),
         },

@@ -4,4 +4,4 @@ use Rattle.feed_parts.proofs.Filled.{IsFilled}
 use Rattle.feed_parts.proofs.gaps.next_gap.Given as goal
 
 abbrev pub invariant-loop-part : goal.invariant-loop-part
-invariant-loop-part l = IsFilled l.size (shown_parts l.parts) l.place (shown_parts (drop l.part-index l.parts))
+invariant-loop-part l = IsFilled l.size (shown_parts l.parts) l.first (shown_parts (drop l.part-index l.parts))

@@ -2,6 +2,7 @@ use Rattle.std.proofs.Common.{◌≡◌, ◌<◌, ◌≤◌, ◌+◌, ◌∙◌,
 use Rattle.std.proofs.lemmas.Bool.{leb-true, leb-false}
 use Rattle.feed_model.specs.History.{byte_at}
 use Rattle.feed_model.specs.Content.{Part, byte_in}
+use Rattle.feed_parts.specs.Segments.{last_place}
 use Rattle.feed_parts.specs.Shown.{shown_part, shown_parts}
 use Rattle.feed_model.specs.Parts.{HasNew}
 use Rattle.feed_parts.proofs.Places.{some_is, some_value, byte_at_inside, byte_at_place}
@@ -11,10 +12,10 @@ use Rattle.feed_parts.proofs.overlap.covers.Goals as goal
 use Rattle.feed_parts.proofs.overlap.covers.Goals.{After-part-item}
 
 at_part : (c : After-part-item)
-    → IsLeft c.args.size (c.args.first + length c.args.bytes.now) (shown_parts c.args.parts.now) c.loop-part.place
+    → IsLeft last_place (c.args.first + length c.args.bytes.now) (shown_parts c.args.parts.now) c.loop-part.place
     (shown_part c.part-item.result ∷ shown_parts (drop (c.loop-part.part-index + 1) c.meeting-part-items.result.now))
 at_part c =
-    subst (IsLeft c.args.size (c.args.first + length c.args.bytes.now) (shown_parts c.args.parts.now) c.loop-part.place)
+    subst (IsLeft last_place (c.args.first + length c.args.bytes.now) (shown_parts c.args.parts.now) c.loop-part.place)
     (next c.meeting-part-items.result.now c.loop-part.part-index c.part-item.result c.loop-part-test.true c.part-item.is) c.loop-part.invariant.left
 
 -- a place of the piece that is missing
@@ -39,12 +40,12 @@ loop-part-preserved c =
     let part = shown_part c.part-item.result in
     let rest = shown_parts (drop (c.loop-part.part-index + 1) c.meeting-part-items.result.now) in
     let left = at_part (goal.at.loop-part-preserved c).After-part-item in
-    let ends = end_is c.part-item.result c.end_of.result c.args.size c.end_of.ensures (left_ends c.args.size end all c.loop-part.place part rest left) c.requires.small in
+    let ends = end_is c.part-item.result c.end_of.result last_place c.end_of.ensures (left_ends last_place end all c.loop-part.place part rest left) (omega arith) in
     let is = c.max-place.ensures ∙ ap (max c.loop-part.place) ends in
     record {
       from = omega (arith, c.loop-part.invariant.from);
-      left = left_next c.args.size end all c.loop-part.place part rest left c.max-place.result (omega arith) (omega arith);
-      kept = kept_more c.args.size end all c.loop-part.place part rest left c.args.first c.max-place.result c.loop-part.invariant.kept c.if-place-part.false is;
+      left = left_next last_place end all c.loop-part.place part rest left c.max-place.result (omega arith) (omega arith);
+      kept = kept_more last_place end all c.loop-part.place part rest left c.args.first c.max-place.result c.loop-part.invariant.kept c.if-place-part.false is;
     }
 
 pub returns-then-place-part : goal.returns-then-place-part
@@ -54,19 +55,19 @@ returns-then-place-part c =
     let part = shown_part c.part-item.result in
     let rest = shown_parts (drop (c.loop-part.part-index + 1) c.meeting-part-items.result.now) in
     let left = at_part (goal.at.returns-then-place-part c).After-part-item in
-    let starts = left_starts c.args.size end all c.loop-part.place part rest left in
+    let starts = left_starts last_place end all c.loop-part.place part rest left in
     let below : c.loop-part.place < end = omega (arith, starts, c.if-place-part.true) in
     record {
       covers = λ t. absurd (cc t);
       new = λ e. lacks all c.args.first c.args.bytes.now c.loop-part.place c.loop-part.invariant.from below
-          (left_missing c.args.size end all c.loop-part.place part rest left c.loop-part.place (omega arith) below c.if-place-part.true);
+          (left_missing last_place end all c.loop-part.place part rest left c.loop-part.place (omega arith) below c.if-place-part.true);
     }
 
 pub returns : goal.returns
 returns c =
     let end = c.args.first + length c.args.bytes.now in
     let all = shown_parts c.args.parts.now in
-    let left = subst (IsLeft c.args.size end all c.loop-part.place) (finished c.meeting-part-items.result.now c.loop-part.part-index c.loop-part-test.false) c.loop-part.invariant.left in
+    let left = subst (IsLeft last_place end all c.loop-part.place) (finished c.meeting-part-items.result.now c.loop-part.part-index c.loop-part-test.false) c.loop-part.invariant.left in
     record {
       covers = λ t place some.
           let reached = leb-true end c.loop-part.place t in
@@ -75,5 +76,5 @@ returns c =
           c.loop-part.invariant.kept place inside.0 (omega arith) inside.1;
       new = λ e.
           let below = leb-false end c.loop-part.place e in
-          lacks all c.args.first c.args.bytes.now c.loop-part.place c.loop-part.invariant.from below (left_none c.args.size end all c.loop-part.place left c.loop-part.place (omega arith) below);
+          lacks all c.args.first c.args.bytes.now c.loop-part.place c.loop-part.invariant.from below (left_none last_place end all c.loop-part.place left c.loop-part.place (omega arith) below);
     }

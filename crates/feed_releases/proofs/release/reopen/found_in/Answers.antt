@@ -4,10 +4,10 @@ use Rattle.feed_kbart.specs.declared.fault.KbartFault.{KbartFault}
 use Rattle.feed_kbart.specs.declared.fault.KbartFault.TheVariants.{Bad}
 use Rattle.feed_model.specs.declared.state.State.{State}
 use Rattle.feed_model.specs.declared.state.State.TheVariants.{Staged, Broken, Active}
-use Rattle.feed_parts.specs.Shown.{shown_parts}
+use Rattle.feed_model.specs.Reply.{missing_below}
 use Rattle.feed_model.proofs.Keeps.{none_missing}
 use Rattle.feed_model.specs.Content.{byte_in}
-use Rattle.feed_releases.proofs.Judged.{known_good, known_bad, known_bears, bears_missing, bears_good, bears_bad}
+use Rattle.feed_releases.proofs.Judged.{judged, known_good, known_bad, known_bears, bears_missing, bears_good, bears_bad}
 use Rattle.feed_releases.specs.ReleaseValue.{IsJudged}
 use Rattle.feed_releases.proofs.release.reopen.found_in.Goals as goal
 use Rattle.feed_releases.proofs.release.reopen.found_in.Goals.{After-judged}
@@ -23,29 +23,29 @@ returns-in-Broken c = record {
   staged = tt;
   err = inr (
     refl,
-    bears_missing c.args.kept.now.state c.args.kept.now.size (shown_parts c.args.kept.now.parts.items) (omega (arith, c.requires.counted, c.if-missing-gt0.true))
-        (other c.args.kept.now.state Broken Active Staged (λ e. cc) (λ e. cc) c.in-Broken.is),
+    bears_missing c.args.state c.args.size c.args.kept.now.parts (omega (arith, c.count.ensures.missing c.args.size c.requires, c.saturating_sub.ensures, c.if-saturating_sub-gt0.true))
+        (other c.args.state Broken Active Staged (λ e. cc) (λ e. cc) c.in-Broken.is),
   );
 }
 
 -- what the file of a whole release was judged as
-judgement : (c : After-judged) (outcome : Result HoldingsValue KbartFault) → c.judged.result ≡ outcome → IsJudged c.args.kept.now.size (shown_parts c.args.kept.now.parts.items) outcome
+judgement : (c : After-judged) (outcome : Result HoldingsValue KbartFault) → c.judged.result ≡ outcome → IsJudged c.args.size c.args.kept.now.parts outcome
 judgement c outcome is =
-    let covered = (none_missing (byte_in (shown_parts c.args.kept.now.parts.items)) c.args.kept.now.size).0 (omega (arith, c.requires.counted, c.if-missing-gt0.false)) in
-    subst (IsJudged c.args.kept.now.size (shown_parts c.args.kept.now.parts.items)) is
-    ((rw c.deref.ensures.value at c.judged.ensures) c.args.kept.now.size (record { within = c.requires.within; every = covered }))
+    let none : missing_below (byte_in c.args.kept.now.parts) c.args.size ≡ 0 = omega (arith, c.count.ensures.missing c.args.size c.requires, c.saturating_sub.ensures, c.if-saturating_sub-gt0.false) in
+    let text = c.reader.ensures.text c.args.size c.requires ((none_missing (byte_in c.args.kept.now.parts) c.args.size).0 none) in
+    subst (IsJudged c.args.size c.args.kept.now.parts) is (judged c.args.size c.args.kept.now.parts c.reader.result c.judged.result text c.judged.ensures)
 
 pub returns-in-Active-clause-known : goal.returns-in-Active-clause-known
 returns-in-Active-clause-known c =
-    let good = known_good c.args.kept.now.size (shown_parts c.args.kept.now.parts.items) c.in-Ok.holdings
+    let good = known_good c.args.size c.args.kept.now.parts c.in-Ok.holdings
     (judgement (goal.at.returns-in-Active-clause-known c).After-judged (Ok c.in-Ok.holdings) c.in-Ok.is) in
-    rw c.in-Active.is (good, known_bears Active c.args.kept.now.size (shown_parts c.args.kept.now.parts.items) (Some c.in-Ok.holdings) (λ e. cc) good)
+    rw c.in-Active.is (good, known_bears Active c.args.size c.args.kept.now.parts (Some c.in-Ok.holdings) (λ e. cc) good)
 
 pub returns-in-Broken-state-clause-known : goal.returns-in-Broken-state-clause-known
 returns-in-Broken-state-clause-known c =
-    let bad = known_bad c.args.kept.now.size (shown_parts c.args.kept.now.parts.items) c.in-Err-Bad.field-0-0
+    let bad = known_bad c.args.size c.args.kept.now.parts c.in-Err-Bad.field-0-0
     (judgement (goal.at.returns-in-Broken-state-clause-known c).After-judged (Err (Bad c.in-Err-Bad.field-0-0)) (c.in-Err-Bad.is ∙ ap Err c.in-Err-Bad.field-0-is)) in
-    rw c.in-Broken-state.is (bad, known_bears Broken c.args.kept.now.size (shown_parts c.args.kept.now.parts.items) None (λ e. cc) bad)
+    rw c.in-Broken-state.is (bad, known_bears Broken c.args.size c.args.kept.now.parts None (λ e. cc) bad)
 
 pub returns-in-Staged-state : goal.returns-in-Staged-state
 returns-in-Staged-state c = record {
@@ -53,8 +53,8 @@ returns-in-Staged-state c = record {
   staged = tt;
   err = inr (
     refl,
-    bears_good c.args.kept.now.state c.args.kept.now.size (shown_parts c.args.kept.now.parts.items) c.in-Ok.holdings (omega (arith, c.requires.counted, c.if-missing-gt0.false))
-        (judgement (goal.at.returns-in-Staged-state c).After-judged (Ok c.in-Ok.holdings) c.in-Ok.is) (other c.args.kept.now.state Staged Broken Active (λ e. cc) (λ e. cc) c.in-Staged-state.is),
+    bears_good c.args.state c.args.size c.args.kept.now.parts c.in-Ok.holdings (omega (arith, c.count.ensures.missing c.args.size c.requires, c.saturating_sub.ensures, c.if-saturating_sub-gt0.false))
+        (judgement (goal.at.returns-in-Staged-state c).After-judged (Ok c.in-Ok.holdings) c.in-Ok.is) (other c.args.state Staged Broken Active (λ e. cc) (λ e. cc) c.in-Staged-state.is),
   );
 }
 
@@ -64,8 +64,8 @@ returns-in-Staged-state-2 c = record {
   staged = tt;
   err = inr (
     refl,
-    bears_bad c.args.kept.now.state c.args.kept.now.size (shown_parts c.args.kept.now.parts.items) c.in-Err-Bad.field-0-0
-        (omega (arith, c.requires.counted, c.if-missing-gt0.false)) (judgement (goal.at.returns-in-Staged-state-2 c).After-judged (Err (Bad c.in-Err-Bad.field-0-0))
-        (c.in-Err-Bad.is ∙ ap Err c.in-Err-Bad.field-0-is)) (other c.args.kept.now.state Staged Active Broken (λ e. cc) (λ e. cc) c.in-Staged-state-2.is),
+    bears_bad c.args.state c.args.size c.args.kept.now.parts c.in-Err-Bad.field-0-0
+        (omega (arith, c.count.ensures.missing c.args.size c.requires, c.saturating_sub.ensures, c.if-saturating_sub-gt0.false)) (judgement (goal.at.returns-in-Staged-state-2 c).After-judged (Err (Bad c.in-Err-Bad.field-0-0))
+        (c.in-Err-Bad.is ∙ ap Err c.in-Err-Bad.field-0-is)) (other c.args.state Staged Active Broken (λ e. cc) (λ e. cc) c.in-Staged-state-2.is),
   );
 }

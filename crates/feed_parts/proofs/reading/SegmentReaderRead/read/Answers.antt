@@ -5,8 +5,8 @@ use Rattle.feed_parts.specs.Shown.{shown_part, shown_parts}
 use Rattle.feed_parts.specs.Piece.{joined}
 use Rattle.feed_parts.proofs.Joined.{no_bytes, read_front}
 use Rattle.feed_parts.proofs.Places.{starts_earlier}
-use Rattle.feed_parts.proofs.reading.PartReaderRead.read.Goals as goal
-use Rattle.feed_parts.proofs.reading.PartReaderRead.read.Goals.{In-Some}
+use Rattle.feed_parts.proofs.reading.SegmentReaderRead.read.Goals as goal
+use Rattle.feed_parts.proofs.reading.SegmentReaderRead.read.Goals.{In-Some}
 
 abbrev rest : In-Some → List Part
 rest c = merged (shown_parts c.in-Some.kept.now) (shown_parts c.in-Some.new.now)

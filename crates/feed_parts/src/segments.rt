@@ -1,0 +1,201 @@
+//! What is kept of a file: a finite map from places to bytes.
+ghost use Rattle.std.specs.Prelude.{◌≡◌, ◌≤◌, ◌<◌, ◌+◌, ◌-◌, ◌^◌, ◌↔◌, ℕ, [], length};
+ghost use Rattle.std.specs.Prelude.{false, IfOk, IfSome, IfNone, IsTrue, OnOk};
+ghost use Rattle.feed_model.specs.Reply.{max_piece, missing_below};
+ghost use Rattle.feed_model.specs.Content.{byte_in};
+ghost use Rattle.feed_model.specs.Change.{merged};
+ghost use Rattle.feed_model.specs.Parts.{AgreesIn, Adds, AreWithin, Covers, DiffersIn, HasNew};
+ghost use Rattle.feed_parts.specs.Piece.{joined, total_length};
+ghost use Rattle.feed_parts.specs.Segments.{AreFew, AreSegments, IsFirstGap, IsLastFrom, IsTextOf};
+ghost use Rattle.feed_parts.specs.Shown.{shown_parts};
+
+use crate::gaps::{self, Gap};
+use crate::merging::merge;
+use crate::overlap;
+use crate::part::{Part, are_within, end_of};
+use crate::reading::SegmentReader;
+use std::alloc::{AllocError, Global};
+use std::marker::Model;
+
+/// The bytes of a file that are kept, as parts in the order of their places, none of which has a place of another; and
+/// how many they are. Parts that touch are not joined.
+#[derive(Drop)]
+pub struct Segments {
+    parts: Vec<Part>,
+    count: u64,
+}
+
+impl Model for Segments {
+    ghost use Rattle.std.specs.Prelude.{◌≡◌, ◌-◌, vec_len, vec_capacity};
+    ghost use Rattle.feed_parts.specs.Piece.{total_length};
+    ghost use Rattle.feed_parts.specs.Segments.{AreSegments, SegmentsValue};
+    ghost use Rattle.feed_parts.specs.Shown.{shown_parts};
+
+    ghost Value = { SegmentsValue };
+
+    ghost view = { λ s. record {
+      parts = shown_parts s.parts.items;
+      room = vec_capacity s.parts - vec_len s.parts;
+    } };
+
+    ghost invariant = { λ s. AreSegments (shown_parts s.parts.items)
+        × (s.count ≡ total_length (shown_parts s.parts.items)) };
+}
+
+impl Segments {
+    /// Nothing is kept yet. It takes no memory.
+    pub fn new(alloc: Global) -> Segments
+        ensures { result.parts ≡ [] }
+    {
+        Segments {
+            parts: Vec::new(alloc),
+            count: 0,
+        }
+    }
+
+    /// Of parts in the order of their places, each of 1 to 1,048,576 bytes, of which none begins before the one in
+    /// front of it ends or reaches past the greatest number of 64 bits. `None` for others. It takes no memory.
+    pub fn of(parts: Vec<Part>) -> Option<Segments>
+        ensures some { IfSome result (λ segments. segments.parts ≡ shown_parts parts.items) }
+        ensures none { IfNone result (¬ (AreSegments (shown_parts parts.items))) }
+    {
+        if !are_within(&parts, u64::MAX) {
+            return None;
+        }
+        let count = overlap::byte_count(&parts);
+        Some(Segments { parts, count })
+    }
+
+    /// The parts, in the order of their places.
+    pub fn parts(&self) -> &[Part]
+        ensures value { shown_parts result.now ≡ self.now.parts }
+        ensures order { AreSegments self.now.parts }
+    {
+        &self.parts
+    }
+
+    /// How many bytes are kept. They are not counted anew.
+    pub fn count(&self) -> u64
+        ensures value { result ≡ total_length self.now.parts }
+        ensures missing { (size : ℕ) → AreWithin size self.now.parts
+            → missing_below (byte_in self.now.parts) size + result ≡ size }
+    {
+        self.count
+    }
+
+    /// Whether no part reaches past the size of a file.
+    pub fn are_within(&self, size: u64) -> bool
+        ensures { IsTrue result ↔ AreWithin size self.now.parts }
+    {
+        are_within(&self.parts, size)
+    }
+
+    /// The index of the last part that begins at a place or before it. Each look at the first place of a part is a
+    /// probe, and is added to those that were made. It takes no memory.
+    pub fn find(&self, place: u64, probes: &mut u32) -> Option<usize>
+        requires { probes.old ≤ 1000000 }
+        ensures found { IsLastFrom self.now.parts place result }
+        ensures rises { probes.old ≤ probes.new }
+        ensures few { AreFew (length self.now.parts) (probes.new - probes.old) }
+    {
+        find(&self.parts, place, probes)
+    }
+
+    /// The first gap of a file that has them: the least missing place, and the first place after it that is kept, or
+    /// the size. It takes no memory.
+    pub fn next_gap(&self, size: u64) -> Option<Gap>
+        requires { AreWithin size self.now.parts }
+        ensures { IsFirstGap (byte_in self.now.parts) size result }
+    {
+        gaps::next_gap(&self.parts, size)
+    }
+
+    /// Whether a kept byte is another one than a piece has at its place. It takes no memory.
+    pub fn conflicts(&self, first: u64, bytes: &[u8]) -> bool
+        requires { first + length bytes.now < 2 ^ 64 }
+        ensures differs { IsTrue result → DiffersIn self.now.parts first bytes.now }
+        ensures agrees { result ≡ false → AgreesIn self.now.parts first bytes.now }
+    {
+        overlap::conflicts(&self.parts, first, bytes)
+    }
+
+    /// Whether each place of a piece is kept. It takes no memory.
+    pub fn covers(&self, first: u64, bytes: &[u8]) -> bool
+        requires { first + length bytes.now < 2 ^ 64 }
+        ensures covers { IsTrue result → Covers self.now.parts first bytes.now }
+        ensures new { result ≡ false → HasNew self.now.parts first bytes.now }
+    {
+        overlap::covers(&self.parts, first, bytes)
+    }
+
+    /// The bytes of a piece at whose places none is kept, a part for each gap.
+    pub fn new_parts(&self, alloc: Global, first: u64, bytes: &[u8]) -> Result<Segments, AllocError>
+        requires inside { first + length bytes.now < 2 ^ 64 }
+        requires piece { length bytes.now ≤ max_piece }
+        ensures adds { IfOk result (λ new. (size : ℕ) → AreWithin size self.now.parts
+            → first + length bytes.now ≤ size → Adds size self.now.parts first bytes.now new.parts) }
+        ensures some { IfOk result (λ new. HasNew self.now.parts first bytes.now → 0 < length new.parts) }
+    {
+        let parts = overlap::new_parts(alloc, &self.parts, first, bytes)?;
+        let count = overlap::byte_count(&parts);
+        Ok(Segments { parts, count })
+    }
+
+    /// Makes room for other segments among these.
+    pub fn reserve(&mut self, new: &Segments) -> Result<(), AllocError>
+        ensures same { self.new.parts ≡ self.old.parts }
+        ensures room { OnOk result (length new.now.parts ≤ self.new.room) }
+    {
+        Ok(self.parts.reserve(new.parts.len())?)
+    }
+
+    /// Takes others in, for which there is room, so that this takes no memory; no kept byte is moved.
+    pub fn insert(&mut self, new: Segments)
+        requires room { length new.parts ≤ self.old.room }
+        requires apart { AreSegments (merged self.old.parts new.parts) }
+        ensures { self.new.parts ≡ merged self.old.parts new.parts }
+    {
+        let Segments { parts, count } = new;
+        merge(&mut self.parts, parts);
+        self.count = self.count.saturating_add(count);
+    }
+
+    /// A reader of the bytes, in the order of their places. It takes no memory.
+    pub fn reader(&self) -> SegmentReader<'_>
+        ensures bytes { result ≡ joined self.now.parts }
+        ensures text { IsTextOf self.now.parts result }
+    {
+        SegmentReader::new(&self.parts, &[])
+    }
+
+    /// A reader of these bytes and others, in the order of their places. It takes no memory.
+    pub fn reader_with<'a>(&'a self, new: &'a Segments) -> SegmentReader<'a>
+        requires { AreSegments (merged self.now.parts new.now.parts) }
+        ensures bytes { result ≡ joined (merged self.now.parts new.now.parts) }
+        ensures text { IsTextOf (merged self.now.parts new.now.parts) result }
+    {
+        SegmentReader::new(&self.parts, &new.parts)
+    }
+}
+
+// The index of the last of the parts that begins at a place or before it.
+fn find(parts: &[Part], place: u64, probes: &mut u32) -> Option<usize>
+    requires order { AreSegments (shown_parts parts.now) }
+    requires probes { probes.old ≤ 1000000 }
+    ensures found { IsLastFrom (shown_parts parts.now) place result }
+    ensures rises { probes.old ≤ probes.new }
+    ensures few { AreFew (length parts.now) (probes.new - probes.old) }
+{
+    let mut low = 0usize;
+    let mut high = parts.len();
+    while low < high {
+        let middle = low + (high - low) / 2;
+        *probes += 1;
+        if parts[middle].first <= place {
+            low = middle + 1;
+        } else {
+            high = middle;
+        }
+    }
+    low.checked_sub(1)
+}
