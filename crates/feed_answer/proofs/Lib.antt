@@ -3,5 +3,4 @@ pub mod Lines
 pub mod Members
 pub mod Ascending
 pub mod Covered
-pub mod Ranges
 pub mod Places

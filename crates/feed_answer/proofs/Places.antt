@@ -1,28 +1,26 @@
--- The hits at the places that an index gives.
-use Rattle.std.proofs.Common.{◌≡◌, ◌<◌, ◌≤◌, ◌+◌, ◌⊎◌, inl, inr, ℕ, zero, suc, Bool, true, false, ◌||◌, eqb, cond, List, [], ◌∷◌, ◌++◌, map, length, drop}
-use Rattle.std.proofs.Common.{get_or, Option, Some, None, option_map, if◌then◌else◌, refl, sym, ap, subst, ◌∙◌, arith}
+-- The hits at the places of the rows that have a query's ISSNs.
+use Rattle.std.proofs.Common.{◌≡◌, ◌<◌, ◌≤◌, ◌+◌, ◌⊎◌, inl, inr, ℕ, zero, suc, Bool, true, false, ◌||◌, eqb, List, [], ◌∷◌, length, drop}
+use Rattle.std.proofs.Common.{get_or, Option, Some, None, option_map, if◌then◌else◌, refl, sym, ap, subst, arith}
 use Rattle.std.specs.Option.{option_and_then}
-use Rattle.std.specs.List.{All, AllPairs, Contains, cons_option, filter, filter_map, flat_map, slice_get}
-use Rattle.std.specs.List.Sorted.{IsPermutation, IsStrictlyIncreasing}
+use Rattle.std.specs.List.{All, AllPairs, Contains, cons_option, enumerate_from, filter_map, flat_map, slice_get}
+use Rattle.std.specs.List.Sorted.{IsStrictlyIncreasing}
 use Rattle.std.specs.Str.{bytes_eq}
 use Rattle.std.specs.Cmp.Lexicographic.{bytes_decides}
 use Rattle.std.proofs.lemmas.Bool.Decides.{nat_tests}
 use Rattle.std.proofs.lemmas.List.{drop_all, drop_more}
 use Rattle.std.proofs.lemmas.List.Elements.{All-contains, Contains-append_left, Contains-append_right}
 use Rattle.std.proofs.lemmas.List.Kept.{AllPairs-from_increasing}
-use Rattle.std.proofs.lemmas.List.Sorted.{Contains-permutation}
 use Rattle.std.proofs.lemmas.Option.{slice_get-get_or}
-use Rattle.feed_kbart.specs.Issn.{number_of}
+use Rattle.feed_kbart.specs.Places.{is_issn, place_with, places_with}
 use Rattle.feed_kbart.specs.HoldingsValue.{HoldingsValue}
 use Rattle.feed_kbart.specs.RowValue.{RowValue}
 use Rattle.feed_answer.specs.Answers.{answer_of, hit_by}
 use Rattle.feed_answer.specs.Grades.{is_named}
 use Rattle.feed_answer.specs.HitValue.{HitValue}
-use Rattle.feed_answer.specs.Index.{entries_from, entries_with, entry_of, hit_at, places_with}
+use Rattle.feed_answer.specs.Places.{hit_at, places_among}
 use Rattle.feed_answer.specs.IssnSet.{is_among}
 use Rattle.feed_answer.specs.QueryValue.{QueryValue}
 use Rattle.feed_answer.specs.declared.grade.Grade.{Grade}
-use Rattle.feed_answer.specs.declared.index.Entry.{Entry}
 
 -- what is in a list of one more
 contains_first : {X : Type 0} (x : X) (xs : List X) → Contains (x ∷ xs) x
@@ -38,27 +36,7 @@ contains_cases y xs x (suc k, within, here) = inr (k, omega arith, here)
 contains_none : {X : Type 0} (x : X) → ¬ (Contains [] x)
 contains_none x has = omega (arith, has.1)
 
--- what passes a filter, a map or a list of lists
-contains_map : {X Y : Type 0} (f : X → Y) (xs : List X) (x : X) → Contains xs x → Contains (map f xs) (f x)
-contains_map f [] x has = absurd (contains_none x has)
-contains_map f (y ∷ xs) x has = elim (contains_cases y xs x has) [
-  | inl same ↦ subst (λ z. Contains (map f (y ∷ xs)) (f z)) same (contains_first (f y) (map f xs))
-  | inr later ↦ contains_later (f y) (map f xs) (f x) (contains_map f xs x later)
-]
-
-contains_kept : {X : Type 0} (b : Bool) (y : X) (xs : List X) (x : X) → Contains xs x → Contains (cond b (y ∷ xs) xs) x
-contains_kept true y xs x has = contains_later y xs x has
-contains_kept false y xs x has = has
-
-contains_filter : {X : Type 0} (p : X → Bool) (xs : List X) (x : X) → Contains xs x → p x ≡ true → Contains (filter p xs) x
-contains_filter p [] x has passes = absurd (contains_none x has)
-contains_filter p (y ∷ xs) x has passes = elim (contains_cases y xs x has) [
-  | inl same ↦
-      let here : p y ≡ true = ap p same ∙ passes in
-      rw here (subst (Contains (y ∷ filter p xs)) same (contains_first y (filter p xs)))
-  | inr later ↦ contains_kept (p y) y (filter p xs) x (contains_filter p xs x later passes)
-]
-
+-- what is in one of some lists
 contains_flat : {X Y : Type 0} (f : X → List Y) (xs : List X) (x : X) (y : Y) → Contains xs x → Contains (f x) y → Contains (flat_map f xs) y
 contains_flat f [] x y has inner = absurd (contains_none x has)
 contains_flat f (z ∷ xs) x y has inner = elim (contains_cases z xs x has) [
@@ -78,30 +56,36 @@ among_is issn (other ∷ issns) e = elim (or_cases (bytes_eq other issn) (is_amo
   | inr later ↦ contains_later other issns issn (among_is issn issns later)
 ]
 
--- each ISSN of a row has its entry
-entry_here : (place : ℕ) (issn : List ℕ) (own : Option (List ℕ)) → own ≡ Some issn → Contains (entry_of place own) (record { issn = number_of issn; place = place })
-entry_here place issn own e = rw e (contains_first _ [])
-
+-- a row that has an ISSN has its place among those with the ISSN
 abbrev HasIssn : RowValue → List ℕ → Type 0
 HasIssn row issn = (row.print ≡ Some issn) ⊎ (row.online ≡ Some issn)
 
-row_entries : (place : ℕ) (row : RowValue) (rest : List Entry) (issn : List ℕ) → HasIssn row issn
-    → Contains (entry_of place row.print ++ entry_of place row.online ++ rest) (record { issn = number_of issn; place = place })
-row_entries place row rest issn has =
-    Contains-append_left (entry_of place row.print ++ entry_of place row.online) rest _ (elim has [
-      | inl print ↦ Contains-append_left (entry_of place row.print) (entry_of place row.online) _ (entry_here place issn row.print print)
-      | inr online ↦ Contains-append_right (entry_of place row.print) (entry_of place row.online) _ (entry_here place issn row.online online)
-    ])
+is_itself : (issn : List ℕ) (own : Option (List ℕ)) → own ≡ Some issn → is_issn issn own ≡ true
+is_itself issn own e = rw e ((bytes_decides issn issn).1 refl)
 
-entries_have : (base : ℕ) (rows : List RowValue) (i place : ℕ) (d : RowValue) (issn : List ℕ) → i < length rows → place ≡ base + i
-    → HasIssn (get_or rows i d) issn → Contains (entries_from base rows) (record { issn = number_of issn; place = place })
-entries_have base [] i place d issn within at has = absurd (omega arith)
-entries_have base (row ∷ rows) zero place d issn within at has =
+or_true : (a : Bool) → (a || true) ≡ true
+or_true true = refl
+or_true false = refl
+
+has_issn : (issn : List ℕ) (row : RowValue) → HasIssn row issn → (is_issn issn row.print || is_issn issn row.online) ≡ true
+has_issn issn row has = elim has [
+  | inl print ↦ rw (is_itself issn row.print print) refl
+  | inr online ↦ rw (is_itself issn row.online online) (or_true (is_issn issn row.print))
+]
+
+contains_next : {X : Type 0} (first : Option X) (xs : List X) (x : X) → Contains xs x → Contains (cons_option first xs) x
+contains_next None xs x has = has
+contains_next (Some first) xs x has = contains_later first xs x has
+
+places_have : (issn : List ℕ) (base : ℕ) (rows : List RowValue) (i place : ℕ) (d : RowValue) → i < length rows → place ≡ base + i
+    → HasIssn (get_or rows i d) issn → Contains (filter_map (place_with issn) (enumerate_from base rows)) place
+places_have issn base [] i place d within at has = absurd (omega arith)
+places_have issn base (row ∷ rows) zero place d within at has =
     let same : place ≡ base = omega arith in
-    rw same (row_entries base row (entries_from (base + 1) rows) issn has)
-entries_have base (row ∷ rows) (suc i) place d issn within at has =
-    Contains-append_right (entry_of base row.print ++ entry_of base row.online) (entries_from (base + 1) rows) _
-    (entries_have (base + 1) rows i place d issn (omega arith) (omega arith) has)
+    rw (same, has_issn issn row has) (contains_first base (filter_map (place_with issn) (enumerate_from (base + 1) rows)))
+places_have issn base (row ∷ rows) (suc i) place d within at has =
+    contains_next (place_with issn (base, row)) (filter_map (place_with issn) (enumerate_from (base + 1) rows)) place
+    (places_have issn (base + 1) rows i place d (omega arith) (omega arith) has)
 
 -- a row that matches has an ISSN that is asked for
 is_asked : (b : Bool) (grade : Option Grade) (f : Grade → HitValue) (hit : HitValue) → option_map f (if b then grade else None) ≡ Some hit → b ≡ true
@@ -120,22 +104,16 @@ matches_by query row hit e =
       | inr online ↦ let named = named_is row.online query.issns online in (named.0, inr named.1, named.2)
     ]
 
-eqb_itself : (n : ℕ) → eqb n n ≡ true
-eqb_itself n = grind (arith, nat_tests)
-
 -- so its place is among those of the query's ISSNs
-place_among : (query : QueryValue) (rows : List RowValue) (entries : List Entry) → IsPermutation (entries_from 0 rows) entries
-    → (i : ℕ) (d : RowValue) → i < length rows → (hit_by query (get_or rows i d) ≡ None) ⊎ Contains (places_with query.issns entries) i
-place_among query rows entries whole i d within =
-    elim (hit_by query (get_or rows i d)) as (λ h. hit_by query (get_or rows i d) ≡ h → (hit_by query (get_or rows i d) ≡ None) ⊎ Contains (places_with query.issns entries) i) [
+place_among : (query : QueryValue) (rows : List RowValue) (i : ℕ) (d : RowValue) → i < length rows
+    → (hit_by query (get_or rows i d) ≡ None) ⊎ Contains (places_among query.issns rows) i
+unfolding places_with
+place_among query rows i d within =
+    elim (hit_by query (get_or rows i d)) as (λ h. hit_by query (get_or rows i d) ≡ h → (hit_by query (get_or rows i d) ≡ None) ⊎ Contains (places_among query.issns rows) i) [
       | None ↦ λ e. inl e
       | Some hit ↦ λ e.
           let by = matches_by query (get_or rows i d) hit e in
-          let entry : Entry = record { issn = number_of by.0; place = i } in
-          let known : Contains entries entry = Contains-permutation (entries_from 0 rows) entries entry whole (entries_have 0 rows i i d by.0 within (omega arith) by.1) in
-          let found : Contains (entries_with (number_of by.0) entries) entry = contains_filter (λ e. eqb e.issn (number_of by.0)) entries entry known (eqb_itself (number_of by.0)) in
-          inr (contains_flat (λ issn. map (λ e. e.place) (entries_with (number_of issn) entries)) query.issns by.0 i by.2
-          (contains_map (λ e. e.place) (entries_with (number_of by.0) entries) entry found))
+          inr (contains_flat (λ issn. places_with issn rows) query.issns by.0 i by.2 (places_have by.0 0 rows i i d within (omega arith) by.1))
     ] refl
 
 -- what h gives of the element at a place
@@ -225,10 +203,10 @@ over_all h (row ∷ rows) places ascending has =
     })
 
 -- the hits at ascending places that have those of the query's ISSNs are the answer
-pub answered_at : (query : QueryValue) (holdings : HoldingsValue) (entries : List Entry) (places : List ℕ) → IsPermutation (entries_from 0 holdings.rows) entries
-    → IsStrictlyIncreasing places → ((place : ℕ) → Contains (places_with query.issns entries) place → Contains places place)
+pub answered_at : (query : QueryValue) (holdings : HoldingsValue) (places : List ℕ) → IsStrictlyIncreasing places
+    → ((place : ℕ) → Contains (places_among query.issns holdings.rows) place → Contains places place)
     → filter_map (hit_at query holdings.rows) places ≡ answer_of holdings query
 unfolding answer_of
-answered_at query holdings entries places whole ascending has =
+answered_at query holdings places ascending has =
     over_all (hit_by query) holdings.rows places ascending
-    (λ i d within. elim (place_among query holdings.rows entries whole i d within) [ inl none ↦ inl none | inr among ↦ inr (has i among) ])
+    (λ i d within. elim (place_among query holdings.rows i d within) [ inl none ↦ inl none | inr among ↦ inr (has i among) ])

@@ -7,5 +7,5 @@ pub mod Faults
 pub mod Grades
 pub mod HitValue
 pub mod Answers
-pub mod Index
+pub mod Places
 pub mod Laws

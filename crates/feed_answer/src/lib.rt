@@ -1,15 +1,13 @@
 //! Which holdings answer a journal query of an OpenURL (ANSI/NISO Z39.88-2004).
 //!
 //! `Query::read` reads what a query asks for, `answer` gives the rows of a holdings list that match,
-//! each with its grade, `HoldingsIndex::answer` finds the same by an index of the rows by ISSN, and
-//! `Answer::write` writes them as text.
+//! each with its grade, and `Answer::write` writes them as text.
 #![tactic(auto)]
 
 mod decode;
 mod fault;
 mod grade;
 mod hits;
-mod index;
 mod laws;
 mod matching;
 mod pair;
@@ -18,7 +16,6 @@ mod query;
 pub use crate::fault::{QueryFault, WriteFault};
 pub use crate::grade::Grade;
 pub use crate::hits::{Answer, Hit};
-pub use crate::index::HoldingsIndex;
 pub use crate::laws::{grades_speak_of_days, set_has_just_its_issns};
 pub use crate::matching::answer;
 pub use crate::query::{QUERY_LIMIT, Query};

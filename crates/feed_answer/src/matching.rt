@@ -1,14 +1,68 @@
-ghost use Rattle.std.specs.Prelude.{◌≡◌, IfOk};
+ghost use Rattle.std.specs.Prelude.{◌≡◌, ℕ, IfOk, option_map};
+ghost use Rattle.std.specs.List.{Contains, filter_map};
+ghost use Rattle.std.specs.List.Sorted.{IsStrictlyIncreasing};
 ghost use Rattle.feed_answer.specs.Answers.{answer_of};
+ghost use Rattle.feed_answer.specs.HitValue.{hit_of};
+ghost use Rattle.feed_answer.specs.Places.{hit_at, places_among};
 
 use crate::grade::grade_of;
 use crate::hits::{Answer, Hit};
 use crate::query::Query;
-use feed_kbart::Holdings;
+use feed_kbart::{Holdings, Issn, Row};
 use std::alloc::{AllocError, Global};
 
-/// The rows of a holdings list that match a query, each with its grade, in file order.
-#[tactic(auto, unfolding(crate::specs::Answers::answer_of))]
+// The places of the rows that have one of these ISSNs, ISSN by ISSN.
+fn places_among(alloc: Global, holdings: &Holdings, issns: &[Issn]) -> Result<Vec<u32>, AllocError>
+    ensures { IfOk result (λ places. places.items ≡ places_among issns.now holdings.now.rows) }
+{
+    let mut places = Vec::new(alloc);
+    for issn in issns {
+        places.extend_from_slice(holdings.with_issn(issn))?;
+    }
+    Ok(places)
+}
+
+// The same, ascending and each once.
+fn places_of(alloc: Global, holdings: &Holdings, issns: &[Issn]) -> Result<Vec<u32>, AllocError>
+    ensures ascending { IfOk result (λ places. IsStrictlyIncreasing places.items) }
+    ensures whole { IfOk result (λ places. (place : ℕ) → Contains (places_among issns.now holdings.now.rows) place
+        → Contains places.items place) }
+{
+    let mut places = places_among(alloc, holdings, issns)?;
+    places.sort_unstable();
+    places.dedup();
+    Ok(places)
+}
+
+// The row at a place with its grade, if it is there and matches.
+fn hit_at<'a>(rows: &'a [Row], place: u32, query: &Query) -> Option<Hit<'a>>
+    ensures { option_map hit_of result ≡ hit_at query.now rows.now place }
+{
+    let row = rows.get(place as usize)?;
+    let grade = grade_of(row, query)?;
+    Some(Hit { row, grade })
+}
+
+// The rows at these places that match a query, in the order of the places.
+fn hits_at<'a>(
+    alloc: Global,
+    rows: &'a [Row],
+    places: &[u32],
+    query: &Query,
+) -> Result<Answer<'a>, AllocError>
+    ensures { IfOk result (λ answer. answer ≡ filter_map (hit_at query.now rows.now) places.now) }
+{
+    let mut hits = Vec::new(alloc);
+    for place in places {
+        if let Some(hit) = hit_at(rows, *place, query) {
+            hits.push(hit)?;
+        }
+    }
+    Ok(Answer { hits })
+}
+
+/// The rows of a holdings list that match a query, each with its grade, in file order. Only those that have one
+/// of its ISSNs are looked at.
 pub fn answer<'a>(
     alloc: Global,
     holdings: &'a Holdings,
@@ -16,11 +70,6 @@ pub fn answer<'a>(
 ) -> Result<Answer<'a>, AllocError>
     ensures { IfOk result (λ answer. answer ≡ answer_of holdings.now query.now) }
 {
-    let mut hits = Vec::new(alloc);
-    for row in holdings.rows() {
-        if let Some(grade) = grade_of(row, query) {
-            hits.push(Hit { row, grade })?;
-        }
-    }
-    Ok(Answer { hits })
+    let places = places_of(alloc, holdings, query.issns())?;
+    hits_at(alloc, holdings.rows(), &places, query)
 }

@@ -1,4 +1,9 @@
 pub mod Places
-pub mod BlockTexts
 pub mod Cuts
 pub mod Steps
+pub mod Utf8Texts
+pub mod Fronts
+pub mod Readings
+pub mod Printed
+pub mod Columns
+pub mod Listed

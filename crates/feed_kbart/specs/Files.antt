@@ -4,6 +4,7 @@ use Rattle.std.specs.Str.{is_utf8}
 use Rattle.feed_kbart.specs.Records.{has_two_marks, records_of}
 use Rattle.feed_kbart.specs.Columns.{bad_header, columns_of}
 use Rattle.feed_kbart.specs.Holdings.{holdings_from, nothing}
+use Rattle.feed_kbart.specs.CountValue.{CountValue}
 use Rattle.feed_kbart.specs.HoldingsValue.{HoldingsValue}
 use Rattle.feed_kbart.specs.Limits.{file_limit}
 use Rattle.feed_kbart.specs.declared.fault.BadFile.{BadFile}
@@ -32,14 +33,6 @@ holdings_in (header ∷ records) = holdings_from (columns_of header) 2 records
 unfoldable pub holdings_of : List ℕ → HoldingsValue
 holdings_of text = holdings_in (records_of text)
 
--- what reading records may give: the holdings of good ones, why they are bad, or a failure
-abbrev pub IsJudged : List (List (List ℕ)) → Result HoldingsValue KbartFault → Type 0
-IsJudged records (Ok holdings) = (bad_records records ≡ None) × (holdings ≡ holdings_in records)
-IsJudged records (Err (Bad why)) = bad_records records ≡ Some why
-IsJudged records (Err TooLong) = ⊥
-IsJudged records (Err Memory) = Unit {0}
-IsJudged records (Err Read) = Unit {0}
-
 -- what a fault says of the bytes that a reader gave; want of memory and a failing reader say nothing
 abbrev pub IsFaultOf : List ℕ → KbartFault → Type 0
 IsFaultOf text (Bad why) = (length text ≤ file_limit) × (bad_of text ≡ Some why)
@@ -51,3 +44,9 @@ IsFaultOf text Read = Unit {0}
 abbrev pub IsReadOf : List ℕ → Result HoldingsValue KbartFault → Type 0
 IsReadOf text (Ok holdings) = (length text ≤ file_limit) × (bad_of text ≡ None) × (holdings ≡ holdings_of text)
 IsReadOf text (Err fault) = IsFaultOf text fault
+
+-- the same, where the rows are counted
+abbrev pub IsCountOf : List ℕ → Result CountValue KbartFault → Type 0
+IsCountOf text (Ok count) = (length text ≤ file_limit) × (bad_of text ≡ None)
+    × (count.rows ≡ length (holdings_of text).rows) × (count.aside ≡ (holdings_of text).aside)
+IsCountOf text (Err fault) = IsFaultOf text fault

@@ -1,5 +1,5 @@
 -- ISSNs, after ISO 3297.
-use Rattle.std.specs.Prelude.{ℕ, ◌+◌, ◌-◌, ◌*◌, ◌%◌, ◌==◌, ◌&&◌, ◌||◌, Bool, List, [], ◌∷◌, Option, Some, None, if◌then◌else◌, slice_index}
+use Rattle.std.specs.Prelude.{◌≡◌, ℕ, ◌+◌, ◌-◌, ◌*◌, ◌%◌, ◌==◌, ◌&&◌, ◌||◌, Bool, List, [], ◌∷◌, Option, Some, None, if◌then◌else◌, slice_index}
 use Rattle.std.specs.Char.{is_ascii_digit}
 use Rattle.feed_kbart.specs.Text.{trimmed}
 
@@ -31,6 +31,18 @@ checked a b c d e f g check =
     && is_ascii_digit e && is_ascii_digit f && is_ascii_digit g && is_check check
     && (weighted a b c d e f g check % 11 == 0)
     then Some (a ∷ b ∷ c ∷ d ∷ 45 ∷ e ∷ f ∷ g ∷ capital check ∷ []) else None
+
+-- a text is the printed form of an ISSN: of seven digits and a check character that agree
+pub record IsIssn (text : List ℕ) : Type 0 where
+  pub a : ℕ
+  pub b : ℕ
+  pub c : ℕ
+  pub d : ℕ
+  pub e : ℕ
+  pub f : ℕ
+  pub g : ℕ
+  pub check : ℕ
+  pub made : checked a b c d e f g check ≡ Some text
 
 -- the eight characters, with or without a hyphen after the fourth
 abbrev pub unhyphened : List ℕ → Option (List ℕ)

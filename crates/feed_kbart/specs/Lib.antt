@@ -11,8 +11,13 @@ pub mod Coverage
 pub mod Reasons
 pub mod Texts
 pub mod RowValue
+pub mod Places
+pub mod Index
 pub mod Rows
 pub mod HoldingsValue
 pub mod Holdings
+pub mod CountValue
 pub mod Files
-pub mod Blocks
+pub mod Utf8
+pub mod Bytes
+pub mod Kept

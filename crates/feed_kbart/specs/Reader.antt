@@ -12,10 +12,14 @@ use Rattle.feed_kbart.specs.Records.{drop_mark}
 abbrev pub tabs : Config
 tabs = record { delimiter = 9; quote = 34; escape = None; double_quote = true; quoting = false; comment = None; terminator = terminator.CRLF }
 
--- it has left what the source gives, but for one byte-order mark at the front, and reads the first record as the others
-pub record IsRecordReader {R : Type 0} (rem : R → Option (List ℕ)) (source : R) (reader : Reader R) : Type 0 where
+-- it reads the first record as the others, and has read none yet
+pub record IsFresh {R : Type 0} (reader : Reader R) : Type 0 where
   pub trims : reader.trim ≡ trim.None
   pub config : reader.config ≡ tabs
   pub ready : Ready reader
   pub front : reader.state ≡ state.StartRecord
+
+-- it has left what the source gives, but for one byte-order mark at the front
+pub record IsRecordReader {R : Type 0} (rem : R → Option (List ℕ)) (source : R) (reader : Reader R) : Type 0 where
+  pub fresh : IsFresh reader
   pub left : source_of rem reader ≡ option_map drop_mark (rem source)

@@ -1,56 +1,37 @@
-ghost use Rattle.std.specs.Prelude.{◌≡◌, ◌≤◌, ◌<◌, IfErr, IfOk, IfSome, length};
-ghost use Rattle.feed_kbart.specs.Files.{IsFaultOf, IsReadOf};
-ghost use Rattle.feed_kbart.specs.Limits.{file_limit};
+ghost use Rattle.std.specs.Prelude.{◌≡◌, [], IfOk, IfSome};
+ghost use Rattle.feed_kbart.specs.Files.{IsCountOf, IsReadOf};
+ghost use Rattle.feed_kbart.specs.Kept.{HasFewRows, IsKeptOf};
 
-use crate::blocks::{BLOCK, Blocks};
-use crate::fault::{BadFile, KbartFault};
-use crate::holdings::Holdings;
-use crate::records::read_records;
+use crate::count::{FileCount, RowCount};
+use crate::fault::KbartFault;
+use crate::holdings::{Holdings, HoldingsBuilder, KeepRows};
+use crate::judge::TextJudge;
+use crate::records::{read_records, record_reader};
+use crate::row::Row;
+use crate::text_reader::{Given, TextReader, judge_rest};
 use std::alloc::Global;
 use std::io::Read;
+use std::marker::Brand;
 
 /// The most bytes that a file may have: 64 MiB.
 pub const FILE_LIMIT: usize = 67_108_864;
 
-// All bytes of a reader, if they are not more than a file may have, read through a block. Std's `read_to_end` would go
-// on after an `Interrupted`.
-fn read_text<R: Read>(alloc: Global, reader: &mut R, block: &mut [u8]) -> Result<Blocks, KbartFault>
-    requires { 0 < length block.old }
-    ensures whole { IfOk result (λ blocks. IfSome (R.remaining reader.old) (λ text. blocks ≡ text)) }
-    ensures within { IfOk result (λ blocks. length blocks ≤ file_limit) }
-    ensures fault { IfErr result (λ fault. IfSome (R.remaining reader.old) (λ text. IsFaultOf text fault)) }
+// Reads the records of a file, judges its bytes on the way, and goes on to its end where the header is bad.
+fn read_rows<R: Read + Drop, K: KeepRows + Drop, G: Given>(
+    alloc: Global,
+    reader: R,
+    rows: K,
+) -> Result<HoldingsBuilder<K>, KbartFault>
+    requires given { G.given ≡ R.remaining reader }
+    requires empty { K.keeps [] rows }
+    ensures kept { IfSome (R.remaining reader) (λ text. IsKeptOf K.keeps text result) }
+    ensures few { IfOk result (HasFewRows K.keeps) }
 {
-    let mut text = Blocks::new(alloc);
-    let mut total = 0usize;
-    // Each turn but the last takes in a byte at least.
-    for _ in 0..FILE_LIMIT + 2 {
-        let Ok(count) = reader.read(block) else {
-            return Err(KbartFault::Read);
-        };
-        if count == 0 {
-            return Ok(text);
-        }
-        if count > FILE_LIMIT - total {
-            return Err(KbartFault::TooLong);
-        }
-        text.push(alloc, &block[..count])?;
-        total += count;
-    }
-    Err(KbartFault::TooLong)
-}
-
-// The holdings of a whole text, or the first reason why it is bad.
-fn read_whole(alloc: Global, text: Blocks) -> Result<Holdings, KbartFault>
-    requires { length text ≤ file_limit }
-    ensures { IsReadOf text result }
-{
-    if !text.is_utf8() {
-        return Err(KbartFault::Bad(BadFile::NotUtf8));
-    }
-    if text.begins_with_two_marks() {
-        return Err(KbartFault::Bad(BadFile::TwoMarks));
-    }
-    read_records(alloc, text.into_reader(alloc)?)
+    let text = TextReader::<R, G>::new(reader);
+    let mut records = record_reader(alloc, text)?;
+    let kept = read_records(alloc, &mut records, rows);
+    records.into_inner().finish(alloc)?;
+    kept
 }
 
 /// Reads a file to its end and judges it (NISO RP-9-2014).
@@ -63,8 +44,27 @@ fn read_whole(alloc: Global, text: Blocks) -> Result<Holdings, KbartFault>
 pub fn read_file<R: Read + Drop>(alloc: Global, reader: R) -> Result<Holdings, KbartFault>
     ensures { IfSome (R.remaining reader) (λ text. IsReadOf text result) }
 {
-    let mut reader = reader;
-    let mut block = vec![in alloc; 0u8; BLOCK]?;
-    let text = read_text(alloc, &mut reader, block.as_mut_slice())?;
-    read_whole(alloc, text)
+    let kept = read_rows::<R, Vec<Row>, Brand>(alloc, reader, Vec::new(alloc))?;
+    Ok(Holdings::of(alloc, kept)?)
+}
+
+/// The same, but that the rows are counted and not kept. Beside the records that are set aside it takes memory for the
+/// longest line alone.
+pub fn count_file<R: Read + Drop>(alloc: Global, reader: R) -> Result<FileCount, KbartFault>
+    ensures { IfSome (R.remaining reader) (λ text. IsCountOf text result) }
+{
+    let kept = read_rows::<R, RowCount, Brand>(alloc, reader, RowCount { rows: 0 })?;
+    Ok(FileCount::of(kept))
+}
+
+/// The same of a file that two readers give alike: the first is read to its end and judged, the second gives the
+/// records, and no more than a block of the text is held at once. The fault is `Read` where either reader fails.
+pub fn read_parts<R: Read + Drop>(alloc: Global, check: R, read: R) -> Result<Holdings, KbartFault>
+    requires same { R.remaining check ≡ R.remaining read }
+    ensures { IfSome (R.remaining check) (λ text. IsReadOf text result) }
+{
+    judge_rest(alloc, check, TextJudge::new())?;
+    let mut records = record_reader(alloc, read)?;
+    let kept = read_records(alloc, &mut records, Vec::new(alloc))?;
+    Ok(Holdings::of(alloc, kept)?)
 }

@@ -1,9 +1,13 @@
-ghost use Rattle.std.specs.Prelude.{◌≡◌, [], ◌∷◌, OnOk};
+ghost use Rattle.std.specs.Prelude.{◌≡◌, ◌≤◌, ◌<◌, ◌++◌, List, [], ◌∷◌, IfOk, OnOk, length};
 ghost use Rattle.csv.specs.Records.{fields_of};
+ghost use Rattle.feed_kbart.specs.Kept.{IsKept};
+ghost use Rattle.feed_kbart.specs.Limits.{file_limit};
 
 use crate::coverage::Coverage;
 use crate::fault::Reason;
 use crate::header::Columns;
+use crate::index::IssnIndex;
+use crate::issn::Issn;
 use crate::row::Row;
 use csv::ByteRecord;
 use std::alloc::{AllocError, Global};
@@ -22,24 +26,72 @@ pub struct Aside {
 pub struct Holdings {
     rows: Vec<Row>,
     aside: Vec<Aside>,
+    index: IssnIndex,
 }
 
 impl Model for Holdings {
     ghost use Rattle.feed_kbart.specs.HoldingsValue.{HoldingsValue};
+    ghost use Rattle.feed_kbart.specs.Index.{IsIndexOf};
 
     ghost Value = { HoldingsValue };
 
     ghost view = { λ h. record { rows = h.rows.items; aside = h.aside.items } };
+
+    ghost invariant = { λ h. IsIndexOf h.rows.items h.index };
 }
 
-impl Holdings {
-    ghost use Rattle.feed_kbart.specs.Holdings.{holdings_from, joined, nothing};
+/// What is kept of the rows of a file, which are added in file order.
+pub(crate) trait KeepRows {
+    ghost use Rattle.feed_kbart.specs.RowValue.{RowValue, row_with};
+    ghost use Rattle.feed_kbart.specs.Rows.{texts_of};
 
-    pub(crate) fn new(alloc: Global) -> Holdings
-        ensures { result ≡ nothing }
+    /// Just these rows were added.
+    ghost keeps: { List RowValue → Self → Type 0 };
+
+    fn add(
+        &mut self,
+        alloc: Global,
+        number: u32,
+        coverage: Coverage,
+        columns: &Columns,
+        fields: &ByteRecord,
+    ) -> Result<(), AllocError>
+        ensures { OnOk result ((rows : List RowValue) → length rows < file_limit → keeps rows self.old
+            → keeps (rows ++ row_with number coverage (texts_of columns.now (fields_of fields.now)) ∷ []) self.new) };
+}
+
+impl KeepRows for Vec<Row> {
+    ghost keeps = { λ rows v. v.items ≡ rows };
+
+    fn add(
+        &mut self,
+        alloc: Global,
+        number: u32,
+        coverage: Coverage,
+        columns: &Columns,
+        fields: &ByteRecord,
+    ) -> Result<(), AllocError> {
+        Ok(self.push(Row::of(alloc, number, coverage, columns, fields)?)?)
+    }
+}
+
+/// What is kept of the records so far.
+#[derive(Drop)]
+pub(crate) struct HoldingsBuilder<K> {
+    pub(crate) rows: K,
+    pub(crate) aside: Vec<Aside>,
+}
+
+impl<K: KeepRows> HoldingsBuilder<K> {
+    ghost use Rattle.feed_kbart.specs.Holdings.{holdings_from, joined, nothing};
+    ghost use Rattle.feed_kbart.specs.HoldingsValue.{HoldingsValue};
+
+    pub(crate) fn new(alloc: Global, rows: K) -> HoldingsBuilder<K>
+        requires { K.keeps [] rows }
+        ensures { IsKept K.keeps nothing result }
     {
-        Holdings {
-            rows: Vec::new(alloc),
+        HoldingsBuilder {
+            rows,
             aside: Vec::new(alloc),
         }
     }
@@ -52,17 +104,29 @@ impl Holdings {
         number: u32,
         fields: &ByteRecord,
     ) -> Result<(), AllocError>
-        ensures { OnOk result (self.new
-            ≡ joined self.old (holdings_from columns.now number (fields_of fields.now ∷ []))) }
+        ensures { OnOk result ((held : HoldingsValue) → length held.rows < file_limit → IsKept K.keeps held self.old
+            → IsKept K.keeps (joined held (holdings_from columns.now number (fields_of fields.now ∷ []))) self.new) }
     {
         match Coverage::of(columns, fields) {
-            Ok(coverage) => {
-                let row = Row::of(alloc, number, coverage, columns, fields)?;
-                self.rows.push(row)?;
-            }
+            Ok(coverage) => self.rows.add(alloc, number, coverage, columns, fields)?,
             Err(reason) => self.aside.push(Aside { number, reason })?,
         }
         Ok(())
+    }
+}
+
+impl Holdings {
+    ghost use Rattle.feed_kbart.specs.Places.{places_with};
+
+    /// The holdings of rows and of records set aside, with an index of the rows.
+    pub(crate) fn of(alloc: Global, kept: HoldingsBuilder<Vec<Row>>) -> Result<Holdings, AllocError>
+        requires { length kept.rows.items ≤ file_limit }
+        ensures { IfOk result (λ holdings. holdings
+            ≡ record { rows = kept.rows.items; aside = kept.aside.items }) }
+    {
+        let HoldingsBuilder { rows, aside } = kept;
+        let index = IssnIndex::of(alloc, &rows)?;
+        Ok(Holdings { rows, aside, index })
     }
 
     /// The rows, in file order.
@@ -70,6 +134,13 @@ impl Holdings {
         ensures { result.now ≡ self.now.rows }
     {
         &self.rows
+    }
+
+    /// The places in `rows` of the rows that have an ISSN, in print or online. They ascend, and each is there once.
+    pub fn with_issn(&self, issn: &Issn) -> &[u32]
+        ensures { result.now ≡ places_with issn.now self.now.rows }
+    {
+        self.index.places_beside(issn.number())
     }
 
     /// The records that are set aside, in file order.

@@ -1,4 +1,5 @@
-ghost use Rattle.std.specs.Prelude.{◌≡◌, slice_index};
+ghost use Rattle.std.specs.Prelude.{◌≡◌, IfSome, option_map, slice_index};
+ghost use Rattle.feed_kbart.specs.Issn.{capital, check_value, is_x};
 
 use crate::text::trim_spaces;
 use std::marker::Model;
@@ -11,16 +12,44 @@ pub struct Issn {
 
 impl Model for Issn {
     ghost use Rattle.std.specs.Prelude.{ℕ, List};
+    ghost use Rattle.feed_kbart.specs.Issn.{IsIssn};
 
     ghost Value = { List ℕ };
 
     ghost view = { λ issn. issn.printed };
 
+    ghost invariant = { λ issn. IsIssn issn.printed };
+
     ghost inverse = { λ text. record { printed = text } };
 }
 
+// Whether a character is an x of either case.
+fn is_x(check: u8) -> bool
+    ensures { result ≡ is_x check }
+{
+    check == b'X' || check == b'x'
+}
+
+// The worth of a check character.
+fn check_value(check: u8) -> u32
+    ensures { result ≡ check_value check }
+{
+    if is_x(check) {
+        10
+    } else {
+        check.saturating_sub(b'0') as u32
+    }
+}
+
+// A check character as it is printed.
+fn capital(check: u8) -> u8
+    ensures { result ≡ capital check }
+{
+    if is_x(check) { b'X' } else { check }
+}
+
 impl Issn {
-    ghost use Rattle.feed_kbart.specs.Issn.{checked, issn_of, number_of};
+    ghost use Rattle.feed_kbart.specs.Issn.{IsIssn, checked, issn_of, number_of};
 
     /// Reads seven digits and a check character, with or without a hyphen after the fourth digit.
     /// Spaces at both ends are trimmed, and a check character `x` counts as `X`. Anything else is no
@@ -53,7 +82,8 @@ impl Issn {
     /// The seven digits before the check character, as a number below 10,000,000. They determine the check
     /// character.
     pub fn number(&self) -> u32
-        ensures { result ≡ number_of self.now }
+        ensures number { result ≡ number_of self.now }
+        ensures printed { IsIssn self.now }
     {
         let [a, b, c, d, _, e, f, g, _] = self.printed;
         let value = |digit: u8| -> u32 { digit.saturating_sub(b'0') as u32 };
@@ -66,8 +96,27 @@ impl Issn {
             + value(g)
     }
 
+    /// The number of an ISSN, if there is one.
+    pub(crate) fn number_of(issn: Option<Issn>) -> Option<u32>
+        ensures number { result ≡ option_map number_of issn }
+        ensures printed { IfSome issn IsIssn }
+    {
+        let issn = issn?;
+        Some(issn.number())
+    }
+
     // The ISSN of seven digits and a check character, if they are that and agree.
     fn checked(digits: [u8; 7], check: u8) -> Option<Issn>
+        ensures { result ≡ checked (slice_index digits 0) (slice_index digits 1)
+            (slice_index digits 2) (slice_index digits 3) (slice_index digits 4)
+            (slice_index digits 5) (slice_index digits 6) check }
+    {
+        let printed = Issn::printed_of(digits, check)?;
+        Some(Issn { printed })
+    }
+
+    // The same, as bytes.
+    fn printed_of(digits: [u8; 7], check: u8) -> Option<[u8; 9]>
         ensures { result ≡ checked (slice_index digits 0) (slice_index digits 1)
             (slice_index digits 2) (slice_index digits 3) (slice_index digits 4)
             (slice_index digits 5) (slice_index digits 6) check }
@@ -80,8 +129,7 @@ impl Issn {
             && e.is_ascii_digit()
             && f.is_ascii_digit()
             && g.is_ascii_digit();
-        let is_x = check == b'X' || check == b'x';
-        if !are_digits || !(check.is_ascii_digit() || is_x) {
+        if !are_digits || !(check.is_ascii_digit() || is_x(check)) {
             return None;
         }
         let value = |digit: u8| -> u32 { digit.saturating_sub(b'0') as u32 };
@@ -92,12 +140,10 @@ impl Issn {
             + 4 * value(e)
             + 3 * value(f)
             + 2 * value(g)
-            + if is_x { 10 } else { value(check) };
+            + check_value(check);
         if sum % 11 != 0 {
             return None;
         }
-        Some(Issn {
-            printed: [a, b, c, d, b'-', e, f, g, if is_x { b'X' } else { check }],
-        })
+        Some([a, b, c, d, b'-', e, f, g, capital(check)])
     }
 }

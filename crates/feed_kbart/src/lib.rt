@@ -1,25 +1,31 @@
 //! Holdings lists of journals: the tab-separated files of NISO RP-9-2014 (KBART).
 //!
 //! `read_file` gives the rows of a file and the records that are set aside, or the first reason why
-//! the file is bad. ISSNs, dates and volumes are read by the same functions elsewhere.
+//! the file is bad. `Holdings::with_issn` finds the rows of an ISSN by an index. ISSNs, dates and volumes
+//! are read by the same functions elsewhere.
 #![tactic(auto)]
 
-mod blocks;
+mod count;
 mod coverage;
 mod fault;
 mod file;
 mod header;
 mod holdings;
+mod index;
 mod issn;
+mod judge;
 mod label;
 mod law;
 mod records;
 mod row;
 mod text;
+mod text_reader;
 mod texts;
+mod utf8;
 
+pub use crate::count::FileCount;
 pub use crate::fault::{BadFile, KbartFault, Reason};
-pub use crate::file::{FILE_LIMIT, read_file};
+pub use crate::file::{FILE_LIMIT, count_file, read_file, read_parts};
 pub use crate::holdings::{Aside, Holdings};
 pub use crate::issn::Issn;
 pub use crate::label::{Label, REQUIRED_LABELS};
@@ -27,4 +33,5 @@ pub use crate::law::empty_file_is_bad;
 pub use crate::records::record_reader;
 pub use crate::row::Row;
 pub use crate::text::{read_volume, trim_spaces};
+pub use crate::utf8::Utf8Check;
 pub use feed_dates::{DayRange, dates_are_ranges};

@@ -1,14 +1,15 @@
-ghost use Rattle.std.specs.Prelude.{IfOk, IfSome, ◌≡◌, ◌≤◌, ◌⊎◌, length};
-ghost use Rattle.feed_kbart.specs.Reader.{IsRecordReader};
-ghost use Rattle.feed_kbart.specs.Records.{records_of};
-ghost use Rattle.feed_kbart.specs.Files.{IsJudged};
+ghost use Rattle.std.specs.Prelude.{IfOk, IfSome, ◌≡◌, ◌≤◌, ◌⊎◌, [], length};
+ghost use Rattle.csv.specs.Reading.{source_of};
+ghost use Rattle.feed_kbart.specs.Kept.{HasFewRows, IsBuilt};
 ghost use Rattle.feed_kbart.specs.Limits.{file_limit};
+ghost use Rattle.feed_kbart.specs.Reader.{IsFresh, IsRecordReader};
+ghost use Rattle.feed_kbart.specs.Records.{records_in};
 ghost use Rattle.feed_kbart.specs.declared.fault.KbartFault.TheVariants as fault;
 
 use crate::fault::{BadFile, KbartFault};
 use crate::file::FILE_LIMIT;
 use crate::header::read_header;
-use crate::holdings::Holdings;
+use crate::holdings::{HoldingsBuilder, KeepRows};
 use csv::{ByteRecord, Reader, ReaderBuilder};
 use std::alloc::{AllocError, Global};
 use std::io::Read;
@@ -40,13 +41,19 @@ pub fn record_reader<R: Read + Drop>(alloc: Global, source: R) -> Result<Reader<
     }
 }
 
-/// The rows and the records set aside of a text whose bytes are UTF-8 and begin with at most one
-/// byte-order mark, or why its header is bad.
-pub(crate) fn read_records<R: Read + Drop>(alloc: Global, source: R) -> Result<Holdings, KbartFault>
-    ensures { IfSome (R.remaining source)
-        (λ text. length text ≤ file_limit → IsJudged (records_of text) result) }
+/// What is kept of the records of a text whose bytes are UTF-8 and begin with at most one byte-order mark, or why its
+/// header is bad. The reader has not read yet.
+pub(crate) fn read_records<R: Read, K: KeepRows + Drop>(
+    alloc: Global,
+    reader: &mut Reader<R>,
+    rows: K,
+) -> Result<HoldingsBuilder<K>, KbartFault>
+    requires ready { IsFresh reader.old }
+    requires empty { K.keeps [] rows }
+    ensures kept { IfSome (source_of R.remaining reader.old)
+        (λ text. length text ≤ file_limit → IsBuilt K.keeps (records_in text) result) }
+    ensures few { IfOk result (HasFewRows K.keeps) }
 {
-    let mut reader = record_reader(alloc, source)?;
     let mut fields = ByteRecord::new(alloc);
     match reader.read_byte_record(&mut fields) {
         Ok(true) => {}
@@ -54,7 +61,7 @@ pub(crate) fn read_records<R: Read + Drop>(alloc: Global, source: R) -> Result<H
         Err(error) => return Err(fault_of(error)),
     }
     let columns = read_header(&fields)?;
-    let mut holdings = Holdings::new(alloc);
+    let mut holdings = HoldingsBuilder::new(alloc, rows);
     for number in 2..FILE_LIMIT as u32 + 2 {
         match reader.read_byte_record(&mut fields) {
             Ok(true) => {}

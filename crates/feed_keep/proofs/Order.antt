@@ -15,7 +15,7 @@ use Rattle.std.proofs.lemmas.List.Elements.{All-cons, All-head, All-nil, All-tai
 use Rattle.std.proofs.lemmas.List.Kept.{AllPairs-cons, AllPairs-filter}
 use Rattle.std.proofs.lemmas.List.MinMax.{ranks_by}
 use Rattle.std.proofs.lemmas.List.Sorted.{sorted_far}
-use Rattle.feed_names.specs.ReleaseName.{Name, name_eq, text_of}
+use Rattle.feed_names.specs.ReleaseName.{Name, text_of}
 use Rattle.feed_model.specs.Content.{Part, Record, Content, names}
 use Rattle.feed_model.specs.Change.{changed, comes_before, insert_part, insert_record, is_earlier, merged, without_earlier}
 use Rattle.feed_keep.specs.declared.record.Record as code

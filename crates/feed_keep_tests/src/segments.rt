@@ -1,5 +1,4 @@
-ghost use Rattle.std.specs.Prelude.{◌≤◌, ◌+◌, length};
-ghost use Rattle.feed_model.specs.Parts.{AreWithin};
+ghost use Rattle.std.specs.Prelude.{◌≤◌, ◌<◌, ◌+◌, ◌^◌, length};
 ghost use Rattle.feed_model.specs.Reply.{max_piece};
 
 use feed_parts::{PIECE_LIMIT, Part, Segments, copied, copied_in_order};
@@ -10,15 +9,8 @@ use std::test::Fail;
 const SIZE: u64 = 10;
 
 // Keeps what the piece brings.
-fn keep(
-    alloc: Global,
-    segments: &mut Segments,
-    size: u64,
-    first: u64,
-    bytes: &[u8],
-) -> Result<(), AllocError>
-    requires within { AreWithin size segments.old.parts }
-    requires inside { first + length bytes.now ≤ size }
+fn keep(alloc: Global, segments: &mut Segments, first: u64, bytes: &[u8]) -> Result<(), AllocError>
+    requires inside { first + length bytes.now < 2 ^ 64 }
     requires piece { length bytes.now ≤ max_piece }
 {
     let new = segments.new_parts(alloc, first, bytes)?;
@@ -35,8 +27,7 @@ fn completed(
     first: u64,
     bytes: &[u8],
 ) -> io::Result<Option<Vec<u8>>>
-    requires within { AreWithin size segments.now.parts }
-    requires inside { first + length bytes.now ≤ size }
+    requires inside { first + length bytes.now < 2 ^ 64 }
     requires piece { length bytes.now ≤ max_piece }
 {
     let new = segments.new_parts(alloc, first, bytes)?;
@@ -112,7 +103,7 @@ fn pieces_fill_gaps(rt: HostRuntime) -> Result<(), Fail> {
             whole.map(|text: &str| text.as_bytes()),
             "{piece}"
         );
-        keep(alloc, &mut segments, SIZE, first, bytes)?;
+        keep(alloc, &mut segments, first, bytes)?;
         assert!(rt; segments.are_within(SIZE));
         assert!(rt; !segments.are_within(first));
         assert!(rt; segments.covers(first, bytes), "{piece}");
@@ -294,8 +285,8 @@ fn segments_have_what_a_table_of_bytes_has(rt: HostRuntime) -> Result<(), Fail> 
             if conflicts {
                 continue;
             }
-            assert!(rt; segments.are_within(WIDTH) && piece.len() <= PIECE_LIMIT);
-            keep(alloc, &mut segments, WIDTH, first, &piece)?;
+            assert!(rt; piece.len() <= PIECE_LIMIT);
+            keep(alloc, &mut segments, first, &piece)?;
             plain_keep(&mut table, first, &piece);
             assert!(rt; segments.are_within(WIDTH));
             let gap = segments.next_gap(WIDTH).map(|gap| (gap.first, gap.end));
@@ -307,7 +298,13 @@ fn segments_have_what_a_table_of_bytes_has(rt: HostRuntime) -> Result<(), Fail> 
                 plain_text(alloc, &table)?.as_slice(),
                 "{round}"
             );
-            assert_eq!(rt; segments.count(), text.len() as u64, "{round}");
+            let kept = text.len() as u64;
+            assert_eq!(rt; segments.count(), kept, "{round}");
+            assert_eq!(rt;
+                segments.missing(WIDTH),
+                WIDTH.saturating_sub(kept),
+                "{round}"
+            );
             let count = segments.parts().len();
             let place = draw(&mut seed, WIDTH);
             let mut probes = 0;

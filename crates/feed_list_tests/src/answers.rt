@@ -1,5 +1,5 @@
 use crate::files::{ACTA, BETA, HEADER, joined};
-use feed_answer::{Answer, HoldingsIndex, Query, WriteFault, answer};
+use feed_answer::{Answer, Query, WriteFault, answer};
 use feed_kbart::{Holdings, KbartFault, read_file};
 use feed_names::ReleaseName;
 use std::alloc::{AllocError, Global};
@@ -16,7 +16,7 @@ fn holdings_of(alloc: Global, parts: &[&[u8]]) -> Result<Holdings, KbartFault> {
     read_file(alloc, joined(alloc, parts)?.as_slice())
 }
 
-// Expects the hits of a query to be the records of these numbers, by all rows and by an index.
+// Expects the hits of a query to be the records of these numbers.
 fn expect_records(
     rt: &impl Abort,
     alloc: Global,
@@ -26,11 +26,8 @@ fn expect_records(
 ) -> Result<(), Fail> {
     let holdings = holdings_of(alloc, file)?;
     let read = Query::read(alloc, query.as_bytes())?;
-    let by_rows = numbers_of(alloc, &answer(alloc, &holdings, &read)?)?;
-    assert_eq!(rt; by_rows.as_slice(), numbers, "{query}");
-    let index = HoldingsIndex::of(alloc, holdings)?;
-    let by_index = numbers_of(alloc, &index.answer(alloc, &read)?)?;
-    assert_eq!(rt; by_index.as_slice(), numbers, "{query}");
+    let found = numbers_of(alloc, &answer(alloc, &holdings, &read)?)?;
+    assert_eq!(rt; found.as_slice(), numbers, "{query}");
     Ok(())
 }
 
@@ -43,7 +40,7 @@ fn numbers_of(alloc: Global, found: &Answer<'_>) -> Result<Vec<u32>, AllocError>
 }
 
 #[test]
-fn an_index_gives_the_rows_in_file_order(rt: HostRuntime) -> Result<(), Fail> {
+fn rows_are_given_in_file_order(rt: HostRuntime) -> Result<(), Fail> {
     let both = b"Delta\t1050-124X\t0317-8471\t1990\n";
     let equal = b"Epsilon\t2434-561X\t2434-561X\t1996\n";
     let file: [&[u8]; 6] = [HEADER, ACTA, GAMMA, BETA, both, equal];
@@ -66,11 +63,12 @@ fn an_index_gives_the_rows_in_file_order(rt: HostRuntime) -> Result<(), Fail> {
 }
 
 #[test]
-fn an_index_has_its_holdings(rt: HostRuntime) -> Result<(), Fail> {
-    let index = HoldingsIndex::of(rt.alloc(), holdings_of(rt.alloc(), &[HEADER, ACTA, BETA])?)?;
-    assert_eq!(rt; index.holdings().rows().len(), 2);
-    assert_eq!(rt; index.holdings().rows()[1].title(), b"Beta".as_slice());
-    Ok(())
+fn a_row_of_two_issns_is_given_once(rt: HostRuntime) -> Result<(), Fail> {
+    let two = b"Two\t2434-561X\t0317-8471\n";
+    let query = "rft.issn=2434561x&rft.eissn=03178471";
+    expect_records(&rt, rt.alloc(), &[HEADER, two], query, &[2])?;
+    let query = "rft.issn=2434561x&rft.issn=0317-8471";
+    expect_records(&rt, rt.alloc(), &[HEADER, BETA, ACTA], query, &[2, 3])
 }
 
 // Takes so many bytes, and then fails.

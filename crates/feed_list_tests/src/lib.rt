@@ -4,6 +4,8 @@
 #[cfg(test)]
 mod answers;
 #[cfg(test)]
+mod counts;
+#[cfg(test)]
 mod dates;
 #[cfg(test)]
 mod files;
@@ -17,3 +19,7 @@ mod names;
 mod printed;
 #[cfg(test)]
 mod queries;
+#[cfg(test)]
+mod random;
+#[cfg(test)]
+mod utf8;

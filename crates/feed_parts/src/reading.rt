@@ -50,11 +50,18 @@ impl<'a> SegmentReader<'a> {
 }
 
 impl<'a> Read for SegmentReader<'a> {
-    ghost use Rattle.std.specs.Prelude.{Some};
+    ghost use Rattle.std.specs.Prelude.{Some, IsOk};
+    ghost use Rattle.std.specs.Io.{ReadsAtMost};
+    ghost use Rattle.std.specs.Io.KnownBytes.{ReadConsumes};
 
     ghost remaining = { λ r. Some r };
 
-    fn read(&mut self, buf: &mut [u8]) -> io::Result<usize> {
+    /// It takes no memory, and does not fail.
+    fn read(&mut self, buf: &mut [u8]) -> io::Result<usize>
+        ensures bound { ReadsAtMost result buf.new }
+        ensures bytes { ReadConsumes (Some self.old) (Some self.exit.now) result buf.new }
+        ensures whole { IsOk result }
+    {
         if !self.front.is_empty() {
             return self.front.read(buf);
         }

@@ -1,6 +1,6 @@
 //! What is kept of a file: a finite map from places to bytes.
 ghost use Rattle.std.specs.Prelude.{◌≡◌, ◌≤◌, ◌<◌, ◌+◌, ◌-◌, ◌^◌, ◌↔◌, ℕ, [], length};
-ghost use Rattle.std.specs.Prelude.{false, IfOk, IfSome, IfNone, IsTrue, OnOk};
+ghost use Rattle.std.specs.Prelude.{false, IfOk, IfSome, IfNone, IsOk, IsTrue, OnErr, OnOk};
 ghost use Rattle.feed_model.specs.Reply.{max_piece, missing_below};
 ghost use Rattle.feed_model.specs.Content.{byte_in};
 ghost use Rattle.feed_model.specs.Change.{merged};
@@ -76,11 +76,17 @@ impl Segments {
 
     /// How many bytes are kept. They are not counted anew.
     pub fn count(&self) -> u64
-        ensures value { result ≡ total_length self.now.parts }
-        ensures missing { (size : ℕ) → AreWithin size self.now.parts
-            → missing_below (byte_in self.now.parts) size + result ≡ size }
+        ensures { result ≡ total_length self.now.parts }
     {
         self.count
+    }
+
+    /// How many places of a file of this size are missing. They are not counted anew.
+    pub fn missing(&self, size: u64) -> u64
+        requires { AreWithin size self.now.parts }
+        ensures { result ≡ missing_below (byte_in self.now.parts) size }
+    {
+        size.saturating_sub(self.count)
     }
 
     /// Whether no part reaches past the size of a file.
@@ -135,16 +141,19 @@ impl Segments {
         ensures adds { IfOk result (λ new. (size : ℕ) → AreWithin size self.now.parts
             → first + length bytes.now ≤ size → Adds size self.now.parts first bytes.now new.parts) }
         ensures some { IfOk result (λ new. HasNew self.now.parts first bytes.now → 0 < length new.parts) }
+        ensures apart { IfOk result (λ new. AreSegments (merged self.now.parts new.parts)) }
     {
         let parts = overlap::new_parts(alloc, &self.parts, first, bytes)?;
         let count = overlap::byte_count(&parts);
         Ok(Segments { parts, count })
     }
 
-    /// Makes room for other segments among these.
+    /// Makes room for other segments among these. It takes memory where the room is not there yet.
     pub fn reserve(&mut self, new: &Segments) -> Result<(), AllocError>
         ensures same { self.new.parts ≡ self.old.parts }
         ensures room { OnOk result (length new.now.parts ≤ self.new.room) }
+        ensures refused { OnErr result (self.new ≡ self.old) }
+        ensures succeeds { length new.now.parts ≤ self.old.room → IsOk result }
     {
         Ok(self.parts.reserve(new.parts.len())?)
     }

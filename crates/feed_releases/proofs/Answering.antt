@@ -1,15 +1,14 @@
 -- Answers of a feed that change nothing, and what is known of a piece that brings new bytes.
-use Rattle.std.proofs.Common.{◌≡◌, ◌≢◌, ◌⊎◌, ◌≤◌, ◌<◌, ◌+◌, ℕ, Some, Result, Ok, Err}
-use Rattle.std.proofs.Common.{OnErr, IfSome, IsSomeAnd, inl, inr, sym, ap, subst, arith, List, Option, None, length}
-use Rattle.std.proofs.lemmas.Bool.Decides.{eqb_tells}
-use Rattle.feed_names.specs.ReleaseName.{Name}
+use Rattle.std.proofs.Common.{◌≡◌, ◌≢◌, ◌==◌, ◌⊎◌, ◌≤◌, ℕ, Some, Result, Ok, Err}
+use Rattle.std.proofs.Common.{OnErr, IfSome, IsSomeAnd, inl, inr, refl, sym, ap, subst, arith, false, unwrap_or, List, Option, None, length}
+use Rattle.std.proofs.lemmas.Bool.{eqb-false}
 use Rattle.feed_model.specs.declared.reply.Refusal.{Refusal}
 use Rattle.feed_model.specs.declared.reply.Refusal.TheVariants.{Memory, Device}
 use Rattle.feed_model.specs.declared.reply.Reply.{Reply}
+use Rattle.feed_model.specs.Reply.{max_piece}
 use Rattle.feed_model.specs.History.{Event, Answer}
-use Rattle.feed_model.specs.Content.{Record, Content, record_of}
-use Rattle.feed_model.specs.Change.{NoneIsLater}
-use Rattle.feed_model.specs.Parts.{IsSmall, Reaches}
+use Rattle.feed_model.specs.Content.{Record}
+use Rattle.feed_model.specs.Parts.{IsSmall}
 use Rattle.feed_model.specs.Handles.{Handles}
 use Rattle.feed_keep.specs.Cause.{IsCounted}
 use Rattle.feed_keep.specs.declared.keep.Keep.{Ghosts}
@@ -56,15 +55,19 @@ pub refused : (r : Refusal) → (r ≡ Memory) ⊎ (r ≡ Device) → (let a : A
 refused r (inl e) = inl (ap Err e)
 refused r (inr e) = inr (ap Err e)
 
--- a total that is no other size is this size
-pub sized : (total : Option ℕ) (size : ℕ) → ¬ (IsSomeAnd total (λ t. t ≢ size)) → IfSome total (λ t. t ≡ size)
-sized None size same = tt
-sized (Some t) size same = elim (eqb_tells t size) [ inl p ↦ p.1 | inr q ↦ absurd (same q.1) ]
+-- a piece that has bytes, and not too many
+pub small : (bytes : List ℕ) → false ≡ (length bytes == 0) → length bytes ≤ max_piece → IsSmall bytes
+small bytes some most = record { some = (let other : length bytes ≢ 0 = eqb-false (length bytes) 0 (sym some) in omega (arith, other)); most = most }
 
--- the piece is one of a recorded release, and inside of its file
-pub reaches : (c : Content) (n : Name) (first : ℕ) (total : Option ℕ) (bytes : List ℕ) (r : Record) → IsSmall bytes → NoneIsLater c n → record_of c n ≡ Some r
-    → ¬ (IsSomeAnd total (λ t. t ≢ r.size)) → ¬ (r.size < first + length bytes) → Reaches c n first total bytes r
-reaches c n first total bytes r small free found same inside = record { small = small; free = free; found = found; sized = sized total r.size same; within = omega (arith, inside) }
+-- a total that is told is this size
+pub sized : (total : Option ℕ) (size : ℕ) → unwrap_or total size ≡ size → IfSome total (λ t. t ≡ size)
+sized None size same = tt
+sized (Some t) size same = same
+
+-- another total is told
+pub other_size : (total : Option ℕ) (size : ℕ) → unwrap_or total size ≢ size → IsSomeAnd total (λ t. t ≢ size)
+other_size None size other = absurd (other refl)
+other_size (Some t) size other = other
 
 -- a record that is found is the one that was found before
 pub one_record : (o : Option Record) (r x : Record) (P : Record → Type 0) → o ≡ Some r → o ≡ Some x → P r → P x

@@ -6,19 +6,13 @@ use Rattle.feed_names.specs.ReleaseName.{Name, name_eq}
 use Rattle.feed_model.specs.declared.state.State.{State}
 use Rattle.feed_model.specs.declared.state.State.TheVariants.{Staged, Broken}
 use Rattle.feed_model.specs.Reply.{max_file, missing_below}
-use Rattle.feed_model.specs.Content.{Part, Record, record_of, byte_in, end_of}
-use Rattle.feed_parts.specs.Segments.{AreSegments, last_place}
-use Rattle.std.proofs.lemmas.List.Elements.{All-weaker}
+use Rattle.feed_model.specs.Content.{Part, Record, record_of, byte_in}
 use Rattle.feed_model.specs.Change.{grown, changed, new_record}
 use Rattle.feed_model.proofs.Names.{name_is}
 use Rattle.feed_model.proofs.Faults.{empty_bad}
 use Rattle.feed_model.specs.Parts.{AreWithin}
 use Rattle.feed_releases.specs.ReleaseValue.{ReleaseValue, IsRelease, content_of, IsPlaceOf}
 use Rattle.feed_releases.proofs.Finding.{found_at, set_at}
-
--- parts inside a file are segments
-pub segments_of : (size : ℕ) (ps : List Part) → size ≤ max_file → AreWithin size ps → AreSegments ps
-segments_of size ps limit within = record { parts = within.parts; inside = All-weaker (λ p. end_of p ≤ size) (λ p. end_of p ≤ last_place) (λ p e. omega arith) ps within.inside }
 
 missing_all : (n : ℕ) → missing_below (byte_in []) n ≡ n
 missing_all zero = refl

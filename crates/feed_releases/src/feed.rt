@@ -10,7 +10,7 @@ use crate::event::Event;
 use crate::feed::reopen::reopened;
 use crate::release::Release;
 use crate::releases::{active_of, find};
-use feed_answer::{Answer, Query};
+use feed_answer::{Answer, Query, answer};
 use feed_keep::Keep;
 use feed_model::{KeepFault, Refusal, Reply};
 use feed_names::ReleaseName;
@@ -73,7 +73,7 @@ impl<K: Keep + Drop> Feed<K> {
     /// Opens a feed on what a keeper holds. `Damaged` where this is nothing that a feed ever keeps: a name that stands
     /// twice, more than 256 releases, a size above the limit of a file, parts that are empty, above the limit of a
     /// piece, out of order or outside of the file, a release beside a later active one of its package, or a state that
-    /// its file does not bear out. The file of each whole release is read once.
+    /// its file does not bear out. The file of each whole release is judged and read.
     pub fn open(alloc: Global, mut keeper: K) -> Result<Feed<K>, OpenFault<K>>
         ensures content { IfOk result (λ feed. K.clean (keeper_of feed) → recorded feed ≡ K.content keeper) }
         ensures sound { IfOk result (λ feed. IsSound (recorded feed)) }
@@ -176,7 +176,7 @@ impl<K: Keep + Drop> Feed<K> {
         let Some(holdings) = self.releases[at].holdings() else {
             return Err(AnswerFault::NoRelease);
         };
-        match holdings.answer(self.alloc, query) {
+        match answer(self.alloc, holdings, query) {
             Ok(answer) => Ok(answer),
             Err(_) => Err(AnswerFault::Memory),
         }

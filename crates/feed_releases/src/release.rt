@@ -1,16 +1,15 @@
 ghost use Rattle.std.specs.Prelude.{◌≡◌, ◌≤◌, ◌+◌, length, None};
-ghost use Rattle.feed_model.specs.Reply.{max_file, missing_below};
+ghost use Rattle.feed_model.specs.Reply.{max_file};
 ghost use Rattle.feed_model.specs.Content.{byte_in};
 ghost use Rattle.feed_model.specs.Change.{new_record};
 ghost use Rattle.feed_releases.specs.NextRange.{IsNextOf};
 ghost use Rattle.feed_releases.specs.ReleaseValue.{IsKnown, LiesOver};
 
 mod growth;
-mod judge;
 mod reopen;
 
 use crate::overlap::Overlap;
-use feed_answer::HoldingsIndex;
+use feed_kbart::Holdings;
 use feed_keep::Record;
 use feed_model::State;
 use feed_names::ReleaseName;
@@ -25,7 +24,7 @@ pub(crate) struct Release {
     size: u64,
     state: State,
     kept: Segments,
-    holdings: Option<HoldingsIndex>,
+    holdings: Option<Holdings>,
 }
 
 impl Model for Release {
@@ -79,18 +78,11 @@ impl Release {
     }
 
     /// What the file holds, of an active release.
-    pub(crate) fn holdings(&self) -> &Option<HoldingsIndex>
+    pub(crate) fn holdings(&self) -> &Option<Holdings>
         ensures value { result.now ≡ self.now.holdings }
         ensures known { IsKnown self.now.kept.state self.now.kept.size self.now.kept.parts self.now.holdings }
     {
         &self.holdings
-    }
-
-    // How many places of the file are missing.
-    fn missing(&self) -> u64
-        ensures { result ≡ missing_below (byte_in self.now.kept.parts) self.now.kept.size }
-    {
-        self.size.saturating_sub(self.kept.count())
     }
 
     /// The first missing places of the file, at most `max` of them: the first one and the last one.
@@ -111,7 +103,7 @@ impl Release {
     {
         if self.kept.conflicts(first, bytes) {
             Overlap::Conflict
-        } else if self.missing() == 0 || self.kept.covers(first, bytes) {
+        } else if self.kept.missing(self.size) == 0 || self.kept.covers(first, bytes) {
             Overlap::Kept
         } else {
             Overlap::New

@@ -1,6 +1,6 @@
 //! What is printed of a list that is checked.
 use crate::records::Records;
-use feed_kbart::{Aside, BadFile, Holdings, Label, Reason};
+use feed_kbart::{Aside, BadFile, FileCount, Label, Reason};
 use feed_names::ReleaseName;
 use std::alloc::Global;
 use std::io::{ErrorKind, Write};
@@ -66,30 +66,30 @@ impl Report<'_> {
         }
     }
 
-    pub fn print_holdings<O: Write>(&self, out: &mut O, holdings: &Holdings) -> io::Result<()> {
-        let rows = holdings.rows().len();
-        let aside = holdings.aside().len();
+    pub fn print_count<O: Write>(&self, out: &mut O, count: &FileCount) -> io::Result<()> {
+        let rows = count.rows();
+        let aside = count.aside().len();
         match self.form {
             Form::Lines => {
                 writeln!(out, "rows {rows} aside {aside}")?;
-                for Aside { number, reason } in holdings.aside() {
+                for Aside { number, reason } in count.aside() {
                     writeln!(out, "aside {number} {reason}")?;
                 }
             }
             Form::Summary => {
                 out.write_all(self.name.text())?;
                 write!(out, " rows {rows} aside {aside}")?;
-                print_counts(out, holdings)?;
+                print_reasons(out, count.aside())?;
                 out.write_all(b"\n")?;
             }
             Form::Explained => {
                 writeln!(out, "rows {rows} aside {aside}")?;
-                self.print_explained(out, holdings)?;
+                self.print_explained(out, count.aside())?;
             }
             Form::Json => {
                 self.print_json_name(out)?;
                 write!(out, "\"rows\":{rows},\"aside\":[")?;
-                self.print_json_records(out, holdings)?;
+                self.print_json_records(out, count.aside())?;
                 out.write_all(b"]}\n")?;
             }
         }
@@ -114,9 +114,9 @@ impl Report<'_> {
         out.flush()
     }
 
-    fn print_explained<O: Write>(&self, out: &mut O, holdings: &Holdings) -> io::Result<()> {
+    fn print_explained<O: Write>(&self, out: &mut O, aside: &[Aside]) -> io::Result<()> {
         let mut records = Records::of(self.alloc, self.text)?;
-        for Aside { number, reason } in holdings.aside() {
+        for Aside { number, reason } in aside {
             records.go_to(*number)?;
             let line = records.line();
             writeln!(out, "aside {number} {reason}")?;
@@ -141,10 +141,10 @@ impl Report<'_> {
         out.write_all(b"\",")
     }
 
-    fn print_json_records<O: Write>(&self, out: &mut O, holdings: &Holdings) -> io::Result<()> {
+    fn print_json_records<O: Write>(&self, out: &mut O, aside: &[Aside]) -> io::Result<()> {
         let mut records = Records::of(self.alloc, self.text)?;
         let mut is_first = true;
-        for Aside { number, reason } in holdings.aside() {
+        for Aside { number, reason } in aside {
             records.go_to(*number)?;
             print_comma(out, is_first)?;
             is_first = false;
@@ -214,10 +214,10 @@ impl Report<'_> {
 }
 
 // For how many records each reason holds, of those that hold for some.
-fn print_counts<O: Write>(out: &mut O, holdings: &Holdings) -> io::Result<()> {
+fn print_reasons<O: Write>(out: &mut O, aside: &[Aside]) -> io::Result<()> {
     for reason in REASONS {
-        let aside = holdings.aside().iter();
-        let count = aside.filter(|record| record.reason == reason).count();
+        let records = aside.iter();
+        let count = records.filter(|record| record.reason == reason).count();
         if count > 0 {
             write!(out, " {reason} {count}")?;
         }

@@ -2,7 +2,7 @@
 use crate::causes::{LONG_FILE, cause_of_name};
 use crate::input::{Watched, read_up_to};
 use crate::status::{DONE, FAILED, Faults, REFUSED};
-use feed_kbart::{FILE_LIMIT, Holdings, KbartFault, read_file};
+use feed_kbart::{FILE_LIMIT, FileCount, KbartFault, count_file};
 use feed_names::{NameFault, ReleaseName};
 use feed_report::{Form, Report};
 use std::alloc::Global;
@@ -48,17 +48,17 @@ pub fn check_on<R: Read + Drop, O: Write, F: Write + Drop>(
     let judged = if manner.form.is_explained() {
         read_kept(alloc, &mut file, &mut kept)
     } else {
-        read_file(alloc, &mut file)
+        count_file(alloc, &mut file)
     };
     report.text = &kept;
     match judged {
-        Ok(holdings) => {
-            let status = if manner.strict && !holdings.aside().is_empty() {
+        Ok(count) => {
+            let status = if manner.strict && !count.aside().is_empty() {
                 REFUSED
             } else {
                 DONE
             };
-            faults.printed(report.print_holdings(out, &holdings), status)
+            faults.printed(report.print_count(out, &count), status)
         }
         Err(KbartFault::Bad(why)) => faults.printed(report.print_broken(out, why), REFUSED),
         Err(fault) => match out.flush() {
@@ -73,13 +73,13 @@ fn read_kept<R: Read>(
     alloc: Global,
     file: &mut R,
     kept: &mut Vec<u8>,
-) -> Result<Holdings, KbartFault> {
+) -> Result<FileCount, KbartFault> {
     match read_up_to(alloc, file, FILE_LIMIT) {
         Ok(text) => *kept = text,
         Err(fault) if fault.kind() == ErrorKind::OutOfMemory => return Err(KbartFault::Memory),
         Err(_) => return Err(KbartFault::Read),
     }
-    read_file(alloc, kept.as_slice())
+    count_file(alloc, kept.as_slice())
 }
 
 /// Tells why a file was not read, or is bad, and gives the status.

@@ -1,8 +1,5 @@
 //! How a feed answers a piece.
-ghost use Rattle.std.specs.Prelude.{◌≡◌, ◌≢◌, ◌<◌, ◌+◌, ◌⊎◌, ◌↔◌};
-ghost use Rattle.std.specs.Prelude.{false, IsTrue, IsSomeAnd, length};
-ghost use Rattle.feed_model.specs.Reply.{max_piece};
-ghost use Rattle.feed_model.specs.Parts.{IsSmall};
+ghost use Rattle.std.specs.Prelude.{◌≡◌};
 
 use crate::feed::Feed;
 use crate::overlap::Overlap;
@@ -30,7 +27,7 @@ impl<K: Keep + Drop> Feed<K> {
     ) -> Result<Reply, Refusal>
         ensures { IsAnsweredBy self.old self.new (Piece name.now first total bytes.now) result }
     {
-        if !is_fit(bytes) {
+        if bytes.is_empty() || bytes.len() > PIECE_LIMIT {
             return Err(Refusal::BadPiece);
         }
         if is_passed(&self.releases, name) {
@@ -41,10 +38,10 @@ impl<K: Keep + Drop> Feed<K> {
         };
         let release = &self.releases[at];
         let size = release.size();
-        if is_other(total, size) {
+        if total.unwrap_or(size) != size {
             return Err(Refusal::WrongSize);
         }
-        if is_outside(first, bytes.len(), size) {
+        if first > size || (bytes.len() as u64) > size - first {
             return Err(Refusal::Outside);
         }
         match release.overlap(first, bytes) {
@@ -77,29 +74,4 @@ impl<K: Keep + Drop> Feed<K> {
         }
         Ok(reply)
     }
-}
-
-// Whether a piece has a permitted length.
-fn is_fit(bytes: &[u8]) -> bool
-    ensures fit { IsTrue result → IsSmall bytes.now }
-    ensures unfit { result ≡ false → (length bytes.now ≡ 0) ⊎ (max_piece < length bytes.now) }
-{
-    0 < bytes.len() && bytes.len() <= PIECE_LIMIT
-}
-
-// Whether a total is told, and is another one.
-fn is_other(total: Option<u64>, size: u64) -> bool
-    ensures { IsTrue result ↔ IsSomeAnd total (λ t. t ≢ size) }
-{
-    match total {
-        Some(total) => total != size,
-        None => false,
-    }
-}
-
-// Whether places from `first` on reach past the size.
-fn is_outside(first: u64, count: usize, size: u64) -> bool
-    ensures { IsTrue result ↔ (size < first + count) }
-{
-    first > size || (count as u64) > size - first
 }

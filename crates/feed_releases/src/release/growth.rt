@@ -9,9 +9,7 @@ ghost use Rattle.feed_releases.specs.Growth.{IsGrowth, change_of, parts_of, repl
 use crate::commit::commit;
 use crate::overlap::Overlap;
 use crate::release::Release;
-use crate::release::judge::judged;
-use feed_answer::HoldingsIndex;
-use feed_kbart::{BadFile, KbartFault};
+use feed_kbart::{BadFile, Holdings, KbartFault, read_parts};
 use feed_keep::{Change, Keep};
 use feed_model::{Refusal, Reply, State};
 use feed_parts::Segments;
@@ -33,7 +31,7 @@ pub(crate) enum Standing {
     /// It is whole, and bad.
     Bad(BadFile),
     /// It is whole and good, and holds this.
-    Good(HoldingsIndex),
+    Good(Holdings),
 }
 
 impl Release {
@@ -48,11 +46,12 @@ impl Release {
         let Ok(new) = self.kept.new_parts(alloc, first, bytes) else {
             return Err(Refusal::Memory);
         };
-        let missing = self.missing().saturating_sub(new.count());
+        let missing = self.kept.missing(self.size).saturating_sub(new.count());
         let standing = if missing > 0 {
             Standing::Partial
         } else {
-            match judged(alloc, self.kept.reader_with(&new)) {
+            let check = self.kept.reader_with(&new);
+            match read_parts(alloc, check, self.kept.reader_with(&new)) {
                 Ok(holdings) => Standing::Good(holdings),
                 Err(KbartFault::Bad(why)) => Standing::Bad(why),
                 // Parts in memory are within the limit of a file and read to their end, so only memory is left.

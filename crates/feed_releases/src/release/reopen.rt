@@ -8,9 +8,7 @@ ghost use Rattle.feed_keep.specs.Shown.{shown_record};
 ghost use Rattle.feed_releases.specs.ReleaseValue.{IsKnown};
 
 use crate::release::Release;
-use crate::release::judge::judged;
-use feed_answer::HoldingsIndex;
-use feed_kbart::{FILE_LIMIT, KbartFault};
+use feed_kbart::{FILE_LIMIT, Holdings, KbartFault, read_parts};
 use feed_keep::Record;
 use feed_model::{KeepFault, State};
 use feed_parts::Segments;
@@ -55,7 +53,7 @@ fn found_in(
     state: State,
     size: u64,
     kept: &Segments,
-) -> Result<Option<HoldingsIndex>, KeepFault>
+) -> Result<Option<Holdings>, KeepFault>
     requires { AreWithin size kept.now.parts }
     ensures known { IfOk result (λ holdings. IsKnown state size kept.now.parts holdings
         × BearsOut state size kept.now.parts) }
@@ -64,13 +62,13 @@ fn found_in(
     ensures err { IfErr result (λ cause. (cause ≡ KeepFault.Memory)
         ⊎ ((cause ≡ KeepFault.Damaged) × ¬ (BearsOut state size kept.now.parts))) }
 {
-    if size.saturating_sub(kept.count()) > 0 {
+    if kept.missing(size) > 0 {
         return match state {
             State::Staged => Ok(None),
             State::Broken | State::Active => Err(KeepFault::Damaged),
         };
     }
-    match judged(alloc, kept.reader()) {
+    match read_parts(alloc, kept.reader(), kept.reader()) {
         Ok(holdings) => match state {
             State::Active => Ok(Some(holdings)),
             State::Staged | State::Broken => Err(KeepFault::Damaged),

@@ -14,5 +14,8 @@ byte_count-count-requires c = rw c.deref-2.ensures.value (adds (goal.at.byte_cou
 pub invariant_of-result : goal.invariant_of-result
 invariant_of-result c = ((adds (goal.at.invariant_of-result c).In_ok-parts).order, rw (← c.deref-2.ensures.value) c.byte_count-count.ensures)
 
+pub returns-clause-apart : goal.returns-clause-apart
+returns-clause-apart c = rw (← c.self.view_is) (adds (goal.at.returns-clause-apart c).In_ok-parts).whole
+
 pub returns-clause-adds : goal.returns-clause-adds
 returns-clause-adds c = rw (← c.self.view_is) (rw c.deref.ensures.value at c.in_ok-parts.ensures.adds)

@@ -1,19 +1,20 @@
-use Rattle.std.proofs.Common.{◌≢◌, ◌<◌, ◌+◌, length, IsSomeAnd, refl, arith}
+use Rattle.std.proofs.Common.{◌≤◌, ◌<◌, ◌+◌, length, refl, arith}
 use Rattle.feed_model.specs.Content.{record_of}
 use Rattle.feed_model.specs.Parts.{Reaches}
 use Rattle.feed_model.proofs.Pieces.{piece_older, piece_unknown, piece_wrong_size, piece_outside, piece_conflict, piece_repeated}
 use Rattle.feed_releases.specs.declared.overlap.Overlap.TheVariants.{New}
 use Rattle.feed_releases.specs.ReleaseValue.{content_of, LiesOver}
-use Rattle.feed_releases.proofs.Answering.{idle, sized, reaches, one_record}
+use Rattle.feed_releases.proofs.Answering.{idle, small, sized, other_size, one_record}
 use Rattle.feed_releases.proofs.Finding.{later_at, none_later}
 use Rattle.feed_releases.proofs.Growth.{found_here}
 use Rattle.feed_releases.proofs.feed.Feed.piece.Goals as goal
+use Rattle.feed_releases.proofs.feed.Feed.piece.Goals.{then-first-size-via-then-first-size, then-first-size-via-else-first-size+then-bytes-size}
 
 pub returns-then-is_passed : goal.returns-then-is_passed
 returns-then-is_passed g c = idle c.args.self.now c.args.self.now _ _ refl refl (λ e. cc) (λ h is. (
     let rs = c.args.self.now.releases.items in
     let later = rw c.deref.ensures.value at (c.if-is_passed.ensures.later refl) in
-    piece_older (content_of rs) c.args.name.now c.args.first c.args.total c.args.bytes.now (c.if-not-is_fit.ensures.fit refl) (later_at rs c.args.name.now later.0 is.distinct later.1 later.2) h is))
+    piece_older (content_of rs) c.args.name.now c.args.first c.args.total c.args.bytes.now (small c.args.bytes.now c.if-is_empty.ensures c.if-bytes-gt-PIECE_LIMIT.false) (later_at rs c.args.name.now later.0 is.distinct later.1 later.2) h is))
 
 pub returns-in_default : goal.returns-in_default
 returns-in_default g c =
@@ -21,28 +22,31 @@ returns-in_default g c =
     let free = none_later rs c.args.name.now (rw c.deref.ensures.value at (c.if-is_passed.ensures.none refl)) in
     let none = rw c.deref-2.ensures.value at c.in_default.ensures.none in
     idle c.args.self.now c.args.self.now _ _ refl refl (λ e. cc) (piece_unknown (content_of rs) c.args.name.now c.args.first c.args.total c.args.bytes.now
-    (c.if-not-is_fit.ensures.fit refl) free none)
+    (small c.args.bytes.now c.if-is_empty.ensures c.if-bytes-gt-PIECE_LIMIT.false) free none)
 
-pub returns-then-is_other : goal.returns-then-is_other
-returns-then-is_other g c =
+pub returns-then-unwrap_or-size : goal.returns-then-unwrap_or-size
+returns-then-unwrap_or-size g c =
     let rs = c.args.self.now.releases.items in
     let free = none_later rs c.args.name.now (rw c.deref.ensures.value at (c.if-is_passed.ensures.none refl)) in
     let r = c.index-release.result.now in
     let found = found_here rs c.args.name.now c.in-Some.at r (rw c.deref-2.ensures.value at c.in-Some.ensures.found) c.index-release.ensures in
-    let other = rw c.size-size.ensures.value at (c.if-is_other.ensures.0 refl) in
+    let other = rw c.size-size.ensures.value at (other_size c.args.total c.size-size.result (rw c.unwrap_or.ensures at c.if-unwrap_or-size.true)) in
     idle c.args.self.now c.args.self.now _ _ refl refl (λ e. cc) (piece_wrong_size (content_of rs) c.args.name.now c.args.first c.args.total c.args.bytes.now r.kept
-    (c.if-not-is_fit.ensures.fit refl) free found other)
+    (small c.args.bytes.now c.if-is_empty.ensures c.if-bytes-gt-PIECE_LIMIT.false) free found other)
 
-pub returns-then-is_outside : goal.returns-then-is_outside
-returns-then-is_outside g c =
+pub returns-then-first-size : goal.returns-then-first-size
+returns-then-first-size g c =
     let rs = c.args.self.now.releases.items in
     let free = none_later rs c.args.name.now (rw c.deref.ensures.value at (c.if-is_passed.ensures.none refl)) in
     let r = c.index-release.result.now in
     let found = found_here rs c.args.name.now c.in-Some.at r (rw c.deref-2.ensures.value at c.in-Some.ensures.found) c.index-release.ensures in
-    let same = rw c.size-size.ensures.value at (sized c.args.total c.size-size.result (λ s. let t = c.if-is_other.ensures.1 s in cc)) in
-    let past = c.if-is_outside.ensures.0 refl in
+    let same = rw c.size-size.ensures.value at (sized c.args.total c.size-size.result (rw c.unwrap_or.ensures at c.if-unwrap_or-size.false)) in
+    let past : c.size-size.result < c.args.first + length c.args.bytes.now = elim c.then-first-size.branch [
+      | then-first-size-via-then-first-size w ↦ omega (arith, w.if-first-size.true)
+      | then-first-size-via-else-first-size+then-bytes-size w ↦ omega (arith, w.if-first-size.false, w.if-bytes-size.true)
+    ] in
     idle c.args.self.now c.args.self.now _ _ refl refl (λ e. cc) (piece_outside (content_of rs) c.args.name.now c.args.first c.args.total c.args.bytes.now r.kept
-    (c.if-not-is_fit.ensures.fit refl) free found same
+    (small c.args.bytes.now c.if-is_empty.ensures c.if-bytes-gt-PIECE_LIMIT.false) free found same
     (omega (arith, past, c.size-size.ensures.value)))
 
 pub take_in-requires-clause-reaches : goal.take_in-requires-clause-reaches
@@ -51,10 +55,14 @@ take_in-requires-clause-reaches g c x found_x =
     let free = none_later rs c.args.name.now (rw c.deref.ensures.value at (c.if-is_passed.ensures.none refl)) in
     let r = c.index-release.result.now in
     let found = found_here rs c.args.name.now c.in-Some.at r (rw c.deref-2.ensures.value at c.in-Some.ensures.found) c.index-release.ensures in
-    let other : ¬ (IsSomeAnd c.args.total (λ t. t ≢ c.size-size.result)) = λ s. (let t = c.if-is_other.ensures.1 s in cc) in
-    let inside : ¬ (c.size-size.result < c.args.first + length c.args.bytes.now) = λ past. (let t = c.if-is_outside.ensures.1 past in cc) in
-    let reach = reaches (content_of rs) c.args.name.now c.args.first c.args.total c.args.bytes.now r.kept (c.if-not-is_fit.ensures.fit refl) free found
-    (rw c.size-size.ensures.value at other) (rw c.size-size.ensures.value at inside) in
+    let inside : c.args.first + length c.args.bytes.now ≤ c.size-size.result = omega (arith, c.if-first-size.false, c.if-bytes-size.false) in
+    let reach : Reaches (content_of rs) c.args.name.now c.args.first c.args.total c.args.bytes.now r.kept = record {
+      small = small c.args.bytes.now c.if-is_empty.ensures c.if-bytes-gt-PIECE_LIMIT.false;
+      free = free;
+      found = found;
+      sized = rw c.size-size.ensures.value at (sized c.args.total c.size-size.result (rw c.unwrap_or.ensures at c.if-unwrap_or-size.false));
+      within = rw c.size-size.ensures.value at inside;
+    } in
     one_record (record_of (content_of rs) c.args.name.now) r.kept x (λ k. Reaches (content_of rs) c.args.name.now c.args.first c.args.total c.args.bytes.now k) found found_x reach
 
 pub take_in-requires-clause-new : goal.take_in-requires-clause-new
@@ -70,10 +78,14 @@ returns-in-Conflict g c =
     let free = none_later rs c.args.name.now (rw c.deref.ensures.value at (c.if-is_passed.ensures.none refl)) in
     let r = c.index-release.result.now in
     let found = found_here rs c.args.name.now c.in-Some.at r (rw c.deref-2.ensures.value at c.in-Some.ensures.found) c.index-release.ensures in
-    let other : ¬ (IsSomeAnd c.args.total (λ t. t ≢ c.size-size.result)) = λ s. (let t = c.if-is_other.ensures.1 s in cc) in
-    let inside : ¬ (c.size-size.result < c.args.first + length c.args.bytes.now) = λ past. (let t = c.if-is_outside.ensures.1 past in cc) in
-    let reach = reaches (content_of rs) c.args.name.now c.args.first c.args.total c.args.bytes.now r.kept (c.if-not-is_fit.ensures.fit refl) free found
-    (rw c.size-size.ensures.value at other) (rw c.size-size.ensures.value at inside) in
+    let inside : c.args.first + length c.args.bytes.now ≤ c.size-size.result = omega (arith, c.if-first-size.false, c.if-bytes-size.false) in
+    let reach : Reaches (content_of rs) c.args.name.now c.args.first c.args.total c.args.bytes.now r.kept = record {
+      small = small c.args.bytes.now c.if-is_empty.ensures c.if-bytes-gt-PIECE_LIMIT.false;
+      free = free;
+      found = found;
+      sized = rw c.size-size.ensures.value at (sized c.args.total c.size-size.result (rw c.unwrap_or.ensures at c.if-unwrap_or-size.false));
+      within = rw c.size-size.ensures.value at inside;
+    } in
     idle c.args.self.now c.args.self.now _ _ refl refl (λ e. cc) (piece_conflict (content_of rs) c.args.name.now c.args.first c.args.total c.args.bytes.now r.kept reach c.in-Conflict.ensures)
 
 pub returns-in-Kept : goal.returns-in-Kept
@@ -82,9 +94,13 @@ returns-in-Kept g c =
     let free = none_later rs c.args.name.now (rw c.deref.ensures.value at (c.if-is_passed.ensures.none refl)) in
     let r = c.index-release.result.now in
     let found = found_here rs c.args.name.now c.in-Some.at r (rw c.deref-2.ensures.value at c.in-Some.ensures.found) c.index-release.ensures in
-    let other : ¬ (IsSomeAnd c.args.total (λ t. t ≢ c.size-size.result)) = λ s. (let t = c.if-is_other.ensures.1 s in cc) in
-    let inside : ¬ (c.size-size.result < c.args.first + length c.args.bytes.now) = λ past. (let t = c.if-is_outside.ensures.1 past in cc) in
-    let reach = reaches (content_of rs) c.args.name.now c.args.first c.args.total c.args.bytes.now r.kept (c.if-not-is_fit.ensures.fit refl) free found
-    (rw c.size-size.ensures.value at other) (rw c.size-size.ensures.value at inside) in
+    let inside : c.args.first + length c.args.bytes.now ≤ c.size-size.result = omega (arith, c.if-first-size.false, c.if-bytes-size.false) in
+    let reach : Reaches (content_of rs) c.args.name.now c.args.first c.args.total c.args.bytes.now r.kept = record {
+      small = small c.args.bytes.now c.if-is_empty.ensures c.if-bytes-gt-PIECE_LIMIT.false;
+      free = free;
+      found = found;
+      sized = rw c.size-size.ensures.value at (sized c.args.total c.size-size.result (rw c.unwrap_or.ensures at c.if-unwrap_or-size.false));
+      within = rw c.size-size.ensures.value at inside;
+    } in
     idle c.args.self.now c.args.self.now _ _ refl refl (λ e. cc) (piece_repeated
     (content_of rs) c.args.name.now c.args.first c.args.total c.args.bytes.now r.kept reach c.in-Kept.ensures.0 c.in-Kept.ensures.1)

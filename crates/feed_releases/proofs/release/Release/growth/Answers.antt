@@ -6,16 +6,12 @@ use Rattle.feed_model.specs.Parts.{Adds}
 use Rattle.feed_model.specs.Reply.{missing_below}
 use Rattle.feed_model.proofs.Keeps.{none_missing}
 use Rattle.feed_parts.proofs.Counting.{missing_merged}
-use Rattle.feed_releases.proofs.Growth.{segments_of}
 use Rattle.feed_releases.proofs.Judged.{judged}
 use Rattle.feed_releases.proofs.release.Release.growth.Goals as goal
-use Rattle.feed_releases.proofs.release.Release.growth.Goals.{In-Ok, then-missing-gt0, else-missing-gt0+in-Ok-judged, else-missing-gt0+in-Err-Bad}
+use Rattle.feed_releases.proofs.release.Release.growth.Goals.{In-Ok, then-missing-gt0, else-missing-gt0+in-Ok-read_parts, else-missing-gt0+in-Err-Bad}
 
 adds : (c : In-Ok) → Adds c.self.inside.size c.self.inside.kept.parts c.args.first c.args.bytes.now c.in-Ok.new.parts
 adds c = c.in-Ok.ensures.adds c.self.inside.size c.self.invariant.within (rw (← c.self.view_is) at c.requires.inside)
-
-pub reader_with-requires : goal.reader_with-requires
-reader_with-requires c = segments_of c.self.inside.size (merged c.self.inside.kept.parts c.in-Ok.new.parts) c.self.invariant.limit (adds (goal.at.reader_with-requires c).In-Ok).whole
 
 pub returns-clause-growth : goal.returns-clause-growth
 returns-clause-growth c =
@@ -24,22 +20,21 @@ returns-clause-growth c =
     let qs = c.in-Ok.new.parts in
     let brings = adds (goal.at.returns-clause-growth c).In-Ok in
     let new = rw (← c.self.view_is) at c.requires.new in
-    let before = rw (← c.self.view_is) at c.missing.ensures in
     let missing : c.saturating_sub-missing.result ≡ missing_below (byte_in (merged ps qs)) size = omega
-    (arith, c.saturating_sub-missing.ensures, c.count.ensures.value, before, missing_merged size ps qs c.self.invariant.within brings.whole) in
+    (arith, c.saturating_sub-missing.ensures, c.count.ensures, c.missing.ensures, missing_merged size ps qs c.self.invariant.within brings.whole) in
     rw (← c.self.view_is) (record {
       some = c.in-Ok.ensures.some new.1;
       adds = brings;
       missing = missing;
       stands = elim c.if-missing-gt0.branch [
         | then-missing-gt0 w ↦ rw w.standing-is w.if-missing-gt0.true
-        | else-missing-gt0+in-Ok-judged w ↦
+        | else-missing-gt0+in-Ok-read_parts w ↦
             let none : c.saturating_sub-missing.result ≡ 0 = omega (arith, w.if-missing-gt0.false) in
-            let text = w.reader_with.ensures.text size brings.whole ((none_missing (byte_in (merged ps qs)) size).0 (sym missing ∙ none)) in
-            rw w.standing-is (none, judged size (merged ps qs) w.reader_with.result (Ok w.in-Ok-judged.holdings) text w.in-Ok-judged.ensures)
+            let text = w.reader_with-check.ensures.text size brings.whole ((none_missing (byte_in (merged ps qs)) size).0 (sym missing ∙ none)) in
+            rw w.standing-is (none, judged size (merged ps qs) w.reader_with-check.result (Ok w.in-Ok-read_parts.holdings) text w.in-Ok-read_parts.ensures)
         | else-missing-gt0+in-Err-Bad w ↦
             let none : c.saturating_sub-missing.result ≡ 0 = omega (arith, w.if-missing-gt0.false) in
-            let text = w.reader_with.ensures.text size brings.whole ((none_missing (byte_in (merged ps qs)) size).0 (sym missing ∙ none)) in
-            rw w.standing-is (none, judged size (merged ps qs) w.reader_with.result (Err (Bad w.in-Err-Bad.why)) text (rw w.in-Err-Bad.field-0-is at w.in-Err-Bad.ensures))
+            let text = w.reader_with-check.ensures.text size brings.whole ((none_missing (byte_in (merged ps qs)) size).0 (sym missing ∙ none)) in
+            rw w.standing-is (none, judged size (merged ps qs) w.reader_with-check.result (Err (Bad w.in-Err-Bad.why)) text (rw w.in-Err-Bad.field-0-is at w.in-Err-Bad.ensures))
       ];
     })

@@ -10,7 +10,7 @@ use Rattle.feed_model.specs.Content.{byte_in}
 use Rattle.feed_releases.proofs.Judged.{judged, known_good, known_bad, known_bears, bears_missing, bears_good, bears_bad}
 use Rattle.feed_releases.specs.ReleaseValue.{IsJudged}
 use Rattle.feed_releases.proofs.release.reopen.found_in.Goals as goal
-use Rattle.feed_releases.proofs.release.reopen.found_in.Goals.{After-judged}
+use Rattle.feed_releases.proofs.release.reopen.found_in.Goals.{After-read_parts}
 
 -- one of two states is no third one
 other : (s a b t : State) → a ≢ t → b ≢ t → (s ≡ a) ⊎ (s ≡ b) → s ≢ t
@@ -23,28 +23,28 @@ returns-in-Broken c = record {
   staged = tt;
   err = inr (
     refl,
-    bears_missing c.args.state c.args.size c.args.kept.now.parts (omega (arith, c.count.ensures.missing c.args.size c.requires, c.saturating_sub.ensures, c.if-saturating_sub-gt0.true))
+    bears_missing c.args.state c.args.size c.args.kept.now.parts (omega (arith, c.missing.ensures, c.if-missing-gt0.true))
         (other c.args.state Broken Active Staged (λ e. cc) (λ e. cc) c.in-Broken.is),
   );
 }
 
 -- what the file of a whole release was judged as
-judgement : (c : After-judged) (outcome : Result HoldingsValue KbartFault) → c.judged.result ≡ outcome → IsJudged c.args.size c.args.kept.now.parts outcome
+judgement : (c : After-read_parts) (outcome : Result HoldingsValue KbartFault) → c.read_parts.result ≡ outcome → IsJudged c.args.size c.args.kept.now.parts outcome
 judgement c outcome is =
-    let none : missing_below (byte_in c.args.kept.now.parts) c.args.size ≡ 0 = omega (arith, c.count.ensures.missing c.args.size c.requires, c.saturating_sub.ensures, c.if-saturating_sub-gt0.false) in
+    let none : missing_below (byte_in c.args.kept.now.parts) c.args.size ≡ 0 = omega (arith, c.missing.ensures, c.if-missing-gt0.false) in
     let text = c.reader.ensures.text c.args.size c.requires ((none_missing (byte_in c.args.kept.now.parts) c.args.size).0 none) in
-    subst (IsJudged c.args.size c.args.kept.now.parts) is (judged c.args.size c.args.kept.now.parts c.reader.result c.judged.result text c.judged.ensures)
+    subst (IsJudged c.args.size c.args.kept.now.parts) is (judged c.args.size c.args.kept.now.parts c.reader.result c.read_parts.result text c.read_parts.ensures)
 
 pub returns-in-Active-clause-known : goal.returns-in-Active-clause-known
 returns-in-Active-clause-known c =
     let good = known_good c.args.size c.args.kept.now.parts c.in-Ok.holdings
-    (judgement (goal.at.returns-in-Active-clause-known c).After-judged (Ok c.in-Ok.holdings) c.in-Ok.is) in
+    (judgement (goal.at.returns-in-Active-clause-known c).After-read_parts (Ok c.in-Ok.holdings) c.in-Ok.is) in
     rw c.in-Active.is (good, known_bears Active c.args.size c.args.kept.now.parts (Some c.in-Ok.holdings) (λ e. cc) good)
 
 pub returns-in-Broken-state-clause-known : goal.returns-in-Broken-state-clause-known
 returns-in-Broken-state-clause-known c =
     let bad = known_bad c.args.size c.args.kept.now.parts c.in-Err-Bad.field-0-0
-    (judgement (goal.at.returns-in-Broken-state-clause-known c).After-judged (Err (Bad c.in-Err-Bad.field-0-0)) (c.in-Err-Bad.is ∙ ap Err c.in-Err-Bad.field-0-is)) in
+    (judgement (goal.at.returns-in-Broken-state-clause-known c).After-read_parts (Err (Bad c.in-Err-Bad.field-0-0)) (c.in-Err-Bad.is ∙ ap Err c.in-Err-Bad.field-0-is)) in
     rw c.in-Broken-state.is (bad, known_bears Broken c.args.size c.args.kept.now.parts None (λ e. cc) bad)
 
 pub returns-in-Staged-state : goal.returns-in-Staged-state
@@ -53,8 +53,8 @@ returns-in-Staged-state c = record {
   staged = tt;
   err = inr (
     refl,
-    bears_good c.args.state c.args.size c.args.kept.now.parts c.in-Ok.holdings (omega (arith, c.count.ensures.missing c.args.size c.requires, c.saturating_sub.ensures, c.if-saturating_sub-gt0.false))
-        (judgement (goal.at.returns-in-Staged-state c).After-judged (Ok c.in-Ok.holdings) c.in-Ok.is) (other c.args.state Staged Broken Active (λ e. cc) (λ e. cc) c.in-Staged-state.is),
+    bears_good c.args.state c.args.size c.args.kept.now.parts c.in-Ok.holdings (omega (arith, c.missing.ensures, c.if-missing-gt0.false))
+        (judgement (goal.at.returns-in-Staged-state c).After-read_parts (Ok c.in-Ok.holdings) c.in-Ok.is) (other c.args.state Staged Broken Active (λ e. cc) (λ e. cc) c.in-Staged-state.is),
   );
 }
 
@@ -65,7 +65,7 @@ returns-in-Staged-state-2 c = record {
   err = inr (
     refl,
     bears_bad c.args.state c.args.size c.args.kept.now.parts c.in-Err-Bad.field-0-0
-        (omega (arith, c.count.ensures.missing c.args.size c.requires, c.saturating_sub.ensures, c.if-saturating_sub-gt0.false)) (judgement (goal.at.returns-in-Staged-state-2 c).After-judged (Err (Bad c.in-Err-Bad.field-0-0))
+        (omega (arith, c.missing.ensures, c.if-missing-gt0.false)) (judgement (goal.at.returns-in-Staged-state-2 c).After-read_parts (Err (Bad c.in-Err-Bad.field-0-0))
         (c.in-Err-Bad.is ∙ ap Err c.in-Err-Bad.field-0-is)) (other c.args.state Staged Active Broken (λ e. cc) (λ e. cc) c.in-Staged-state-2.is),
   );
 }

@@ -1,0 +1,34 @@
+use Rattle.std.proofs.Common.{◌≡◌, ◌∙◌, ℕ, List, true, Some, arith, refl, sym, inl, inr}
+use Rattle.std.specs.Prelude.{IsUtf8}
+use Rattle.std.specs.Str.{is_utf8}
+use Rattle.std.proofs.lemmas.Bool.{cases_Bool, true≢false}
+use Rattle.std.proofs.lemmas.Str.{IsUtf8-from_is_utf8, is_utf8-from_IsUtf8}
+use Rattle.feed_kbart.specs.Records.{has_two_marks}
+use Rattle.feed_kbart.specs.Files.{bad_of}
+use Rattle.feed_kbart.specs.declared.fault.BadFile.TheVariants.{NotUtf8, TwoMarks}
+use Rattle.feed_kbart.proofs.Fronts.{front_marks}
+use Rattle.feed_kbart.proofs.judge.TextJudge.judged.Goals as goal
+
+bad-not_utf8 : (text : List ℕ) → (IsUtf8 text → ⊥) → bad_of text ≡ Some NotUtf8
+unfolding bad_of
+bad-not_utf8 text other = elim (cases_Bool (is_utf8 text)) [ inl e ↦ absurd (other (IsUtf8-from_is_utf8 text e)) | inr e ↦ rw e refl ]
+
+bad-two_marks : (text : List ℕ) → is_utf8 text ≡ true → has_two_marks text ≡ true → bad_of text ≡ Some TwoMarks
+unfolding bad_of
+bad-two_marks text utf8 marks = rw (utf8, marks) refl
+
+pub returns-then-not-finish : goal.returns-then-not-finish
+returns-then-not-finish c text is =
+    (omega (arith, c.requires, is.size), bad-not_utf8 text (λ utf8. absurd (true≢false (sym ((c.finish.ensures text is.checked).1 utf8) ∙ c.if-not-finish.true))))
+
+pub returns-then-starts_with : goal.returns-then-starts_with
+returns-then-starts_with c text is =
+    let utf8 = is_utf8-from_IsUtf8 text ((c.finish.ensures text is.checked).0 c.if-not-finish.false) in
+    let marks = front_marks text c.args.self.front c.min.result (omega (arith, c.min.ensures, is.size)) is.front in
+    (omega (arith, c.requires, is.size), bad-two_marks text utf8 (sym marks ∙ sym c.starts_with.ensures.value ∙ c.if-starts_with.true))
+
+pub returns : goal.returns
+returns c text is =
+    let utf8 = is_utf8-from_IsUtf8 text ((c.finish.ensures text is.checked).0 c.if-not-finish.false) in
+    let marks = front_marks text c.args.self.front c.min.result (omega (arith, c.min.ensures, is.size)) is.front in
+    (omega (arith, c.requires, is.size), utf8, sym marks ∙ sym c.starts_with.ensures.value ∙ c.if-starts_with.false)

@@ -1,0 +1,47 @@
+-- An index of rows by ISSN.
+use Rattle.std.specs.Prelude.{◌≡◌, ℕ, ◌+◌, ◌==◌, List, [], ◌∷◌, ◌++◌, length, map, Option, Some, None, IfSome, if◌then◌else◌, option_map}
+use Rattle.std.specs.List.Sorted.{IsNonDecreasing}
+use Rattle.feed_kbart.specs.Issn.{IsIssn, number_of}
+use Rattle.feed_kbart.specs.Places.{places_with}
+use Rattle.feed_kbart.specs.RowValue.{RowValue}
+use Rattle.feed_kbart.specs.declared.index.Entry.{Entry}
+use Rattle.feed_kbart.specs.declared.index.IssnIndex.{IssnIndex}
+
+-- the places that stand beside a number
+abbrev pub places_beside : ℕ → List ℕ → List ℕ → List ℕ
+places_beside number [] places = []
+places_beside number (one ∷ numbers) [] = []
+places_beside number (one ∷ numbers) (place ∷ places) =
+    if one == number then place ∷ places_beside number numbers places else places_beside number numbers places
+
+-- beside each number stands a place, and the numbers ascend
+pub record IsTable (index : IssnIndex) : Type 0 where
+  pub even : length index.places.items ≡ length index.numbers.items
+  pub ascending : IsNonDecreasing index.numbers.items
+
+-- an index of rows: beside the number of an ISSN stand the places of the rows that have it
+pub record IsIndexOf (rows : List RowValue) (index : IssnIndex) : Type 0 where
+  pub table : IsTable index
+  pub whole : (issn : List ℕ) → IsIssn issn → places_beside (number_of issn) index.numbers.items index.places.items ≡ places_with issn rows
+
+-- what a row has as its ISSNs are printed ISSNs
+pub record HasIssns (row : RowValue) : Type 0 where
+  pub print : IfSome row.print IsIssn
+  pub online : IfSome row.online IsIssn
+
+-- the numbers that are there, each once
+abbrev pub each_once : Option ℕ → Option ℕ → List ℕ
+each_once None None = []
+each_once (Some number) None = number ∷ []
+each_once None (Some number) = number ∷ []
+each_once (Some first) (Some second) = if first == second then first ∷ [] else first ∷ second ∷ []
+
+-- the entries of the row at a place: one for each of its ISSNs
+abbrev pub entries_of : ℕ → RowValue → List Entry
+entries_of place row =
+    map (λ number. record { number = number; place = place }) (each_once (option_map number_of row.print) (option_map number_of row.online))
+
+-- the entries of rows, of which the first is at this place
+abbrev pub entries_from : ℕ → List RowValue → List Entry
+entries_from place [] = []
+entries_from place (row ∷ rows) = entries_of place row ++ entries_from (place + 1) rows

@@ -1,0 +1,70 @@
+ghost use Rattle.std.specs.Prelude.{◌≡◌, length};
+
+use crate::coverage::Coverage;
+use crate::header::Columns;
+use crate::holdings::{Aside, HoldingsBuilder, KeepRows};
+use csv::ByteRecord;
+use std::alloc::{AllocError, Global};
+use std::marker::Model;
+
+/// How many rows a good file has, and the records that are set aside.
+#[derive(Debug, Drop)]
+pub struct FileCount {
+    rows: u32,
+    aside: Vec<Aside>,
+}
+
+impl Model for FileCount {
+    ghost use Rattle.feed_kbart.specs.CountValue.{CountValue};
+
+    ghost Value = { CountValue };
+
+    ghost view = { λ c. record { rows = c.rows; aside = c.aside.items } };
+}
+
+/// Counts rows, and keeps nothing else of them.
+#[derive(Drop)]
+pub(crate) struct RowCount {
+    pub(crate) rows: u32,
+}
+
+impl KeepRows for RowCount {
+    ghost keeps = { λ rows c. c.rows ≡ length rows };
+
+    fn add(
+        &mut self,
+        _alloc: Global,
+        _number: u32,
+        _coverage: Coverage,
+        _columns: &Columns,
+        _fields: &ByteRecord,
+    ) -> Result<(), AllocError> {
+        self.rows = self.rows.saturating_add(1);
+        Ok(())
+    }
+}
+
+impl FileCount {
+    pub(crate) fn of(kept: HoldingsBuilder<RowCount>) -> FileCount
+        ensures { result ≡ record { rows = kept.rows.rows; aside = kept.aside.items } }
+    {
+        FileCount {
+            rows: kept.rows.rows,
+            aside: kept.aside,
+        }
+    }
+
+    /// How many rows there are.
+    pub fn rows(&self) -> u32
+        ensures { result ≡ self.now.rows }
+    {
+        self.rows
+    }
+
+    /// The records that are set aside, in file order.
+    pub fn aside(&self) -> &[Aside]
+        ensures { result.now ≡ self.now.aside }
+    {
+        &self.aside
+    }
+}

@@ -1,0 +1,96 @@
+ghost use Rattle.std.specs.Prelude.{◌≡◌, ◌≤◌, ◌++◌, IfOk, OnOk, length, map};
+ghost use Rattle.std.specs.List.{All};
+ghost use Rattle.feed_kbart.specs.Index.{HasIssns, IsIndexOf, IsTable, entries_from, entries_of, places_beside};
+ghost use Rattle.feed_kbart.specs.Limits.{file_limit};
+
+use crate::issn::Issn;
+use crate::row::Row;
+use std::alloc::{AllocError, Global};
+
+// The number of an ISSN, and the place of a row that has it.
+#[derive(Clone, Copy)]
+struct Entry {
+    number: u32,
+    place: u32,
+}
+
+/// The places of rows by ISSN: beside each number of an ISSN stands the place of a row that has it.
+#[derive(Debug, Drop)]
+pub(crate) struct IssnIndex {
+    numbers: Vec<u32>,
+    places: Vec<u32>,
+}
+
+// Adds the entries of a row.
+fn add_row(entries: &mut Vec<Entry>, place: u32, row: &Row) -> Result<(), AllocError>
+    ensures added { OnOk result (entries.new.items ≡ entries.old.items ++ entries_of place row.now) }
+    ensures issns { HasIssns row.now }
+{
+    let print = Issn::number_of(row.print());
+    let online = Issn::number_of(row.online());
+    match (print, online) {
+        (Some(first), Some(second)) if first != second => {
+            entries.push(Entry {
+                number: first,
+                place,
+            })?;
+            entries.push(Entry {
+                number: second,
+                place,
+            })?;
+        }
+        (Some(number), _) | (None, Some(number)) => entries.push(Entry { number, place })?,
+        (None, None) => {}
+    }
+    Ok(())
+}
+
+// The entries of rows, in file order.
+fn entries_of(alloc: Global, rows: &[Row]) -> Result<Vec<Entry>, AllocError>
+    requires { length rows.now ≤ file_limit }
+    ensures whole { IfOk result (λ entries. entries.items ≡ entries_from 0 rows.now) }
+    ensures issns { OnOk result (All HasIssns rows.now) }
+{
+    let mut entries = Vec::with_capacity(alloc, rows.len().saturating_mul(2))?;
+    for (place, row) in rows.iter().enumerate() {
+        add_row(&mut entries, place as u32, row)?;
+    }
+    Ok(entries)
+}
+
+// The entries as columns.
+fn columns_of(alloc: Global, entries: &[Entry]) -> Result<IssnIndex, AllocError>
+    ensures numbers { IfOk result (λ index. index.numbers.items ≡ map (λ entry. entry.number) entries.now) }
+    ensures places { IfOk result (λ index. index.places.items ≡ map (λ entry. entry.place) entries.now) }
+{
+    let mut numbers = Vec::with_capacity(alloc, entries.len())?;
+    let mut places = Vec::with_capacity(alloc, entries.len())?;
+    for entry in entries {
+        numbers.push(entry.number)?;
+        places.push(entry.place)?;
+    }
+    Ok(IssnIndex { numbers, places })
+}
+
+impl IssnIndex {
+    /// Indexes rows.
+    pub(crate) fn of(alloc: Global, rows: &[Row]) -> Result<IssnIndex, AllocError>
+        requires { length rows.now ≤ file_limit }
+        ensures { IfOk result (IsIndexOf rows.now) }
+    {
+        let mut entries = entries_of(alloc, rows)?;
+        // Rows of one ISSN keep their order.
+        entries.sort_by_key(|entry| entry.number)?;
+        columns_of(alloc, &entries)
+    }
+
+    /// The places beside a number.
+    pub(crate) fn places_beside(&self, number: u32) -> &[u32]
+        requires { IsTable self.now }
+        ensures { result.now ≡ places_beside number self.now.numbers.items self.now.places.items }
+    {
+        let first = self.numbers.partition_point(|one| *one < number);
+        let end = self.numbers.partition_point(|one| *one <= number);
+        &self.places[first..end]
+    }
+}

@@ -1,0 +1,66 @@
+ghost use Rattle.std.specs.Prelude.{◌≡◌, ◌≤◌, ◌+◌, ◌-◌, ◌++◌, ℕ, List, [], length, min, take};
+ghost use Rattle.feed_kbart.specs.Bytes.{IsJudgeOf, IsTextOf};
+ghost use Rattle.feed_kbart.specs.Limits.{file_limit};
+
+use crate::fault::{BadFile, KbartFault};
+use crate::utf8::Utf8Check;
+
+// Two byte-order marks of UTF-8.
+const TWO_MARKS: [u8; 6] = [0xEF, 0xBB, 0xBF, 0xEF, 0xBB, 0xBF];
+
+/// Judges the bytes of a text that comes in pieces.
+#[derive(Drop)]
+pub(crate) struct TextJudge {
+    check: Utf8Check,
+    front: [u8; 6],
+    pub(crate) total: usize,
+}
+
+// The front of a text, of which so many bytes are known, with those that come next.
+fn with_next(front: [u8; 6], known: usize, bytes: &[u8]) -> [u8; 6]
+    requires { known ≤ 6 }
+    ensures { take (min (known + length bytes.now) 6) result ≡ take known front ++ take (6 - known) bytes.now }
+{
+    let mut front = front;
+    let count = bytes.len().min(front.len() - known);
+    front[known..known + count].copy_from_slice(&bytes[..count]);
+    front
+}
+
+impl TextJudge {
+    /// A judge of no bytes.
+    pub(crate) fn new() -> TextJudge
+        ensures { IsJudgeOf [] result }
+    {
+        TextJudge {
+            check: Utf8Check::new(),
+            front: [0; 6],
+            total: 0,
+        }
+    }
+
+    /// Takes in the bytes that come next.
+    pub(crate) fn feed(&mut self, bytes: &[u8])
+        requires { self.old.total ≤ file_limit }
+        ensures judged { (text : List ℕ) → IsJudgeOf text self.old → IsJudgeOf (text ++ bytes.now) self.new }
+        ensures total { self.new.total ≡ self.old.total + length bytes.now }
+    {
+        self.check.feed(bytes);
+        self.front = with_next(self.front, self.total.min(6), bytes);
+        self.total += bytes.len();
+    }
+
+    /// Why the bytes of a whole text are bad, if they are.
+    pub(crate) fn judged(self) -> Result<(), KbartFault>
+        requires { self.total ≤ file_limit }
+        ensures { (text : List ℕ) → IsJudgeOf text self → IsTextOf text result }
+    {
+        if !self.check.finish() {
+            return Err(KbartFault::Bad(BadFile::NotUtf8));
+        }
+        if self.front[..self.total.min(6)].starts_with(&TWO_MARKS) {
+            return Err(KbartFault::Bad(BadFile::TwoMarks));
+        }
+        Ok(())
+    }
+}
