@@ -16,6 +16,9 @@ import sys
 # What the loader of programs says where it has no memory.
 LOADER = ["loading shared libraries", "data structures for initial thread"]
 
+# What a run may come to.
+KNOWN = ["not begun", "fault", "refused", "counted", "right"]
+
 
 def run(command, path, limit):
     def limited():
@@ -46,14 +49,13 @@ def outcome(done, whole):
 def main():
     least, step, path, command = int(sys.argv[1]), int(sys.argv[2]), sys.argv[3], sys.argv[4:]
     whole = run(command, path, None)
-    known = ["not begun", "fault", "refused", "counted", "right"]
     met = []
     for turn in range(100):
         limit = least + turn * step
         met.append(outcome(run(command, path, limit), whole))
-        if met[-1] not in known:
+        if met[-1] not in KNOWN:
             print(limit, met[-1])
-    print(", ".join(name for name in known[1:] if name in met) + "; at last " + met[-1])
+    print(", ".join(name for name in KNOWN[1:] if name in met) + "; at last " + met[-1])
 
 
 if __name__ == "__main__":

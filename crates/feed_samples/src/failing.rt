@@ -3,12 +3,13 @@ ghost use Rattle.feed_keep.specs.InMemory.{IsListed, content_of_list};
 use feed_keep::{Change, Keep, KeepFault, ListKeep, Record};
 use std::alloc::Global;
 
-/// A keeper over a list, with a device that fails at one load, or at every commit after so many.
+/// A keeper over a list, with a device that fails at one load, at one commit, or at every commit after so many.
 #[derive(Drop)]
 pub struct Failing {
     list: ListKeep,
     loads_before: u64,
     commits_before: u64,
+    commits_failing: u64,
     failed: u64,
 }
 
@@ -19,6 +20,18 @@ impl Failing {
             list: ListKeep::new(alloc),
             loads_before,
             commits_before: u64::MAX,
+            commits_failing: 0,
+            failed: 0,
+        }
+    }
+
+    /// The commit after so many others fails, and no other one.
+    pub fn at_commit(alloc: Global, commits_before: u64) -> Failing {
+        Failing {
+            list: ListKeep::new(alloc),
+            loads_before: u64::MAX,
+            commits_before,
+            commits_failing: 1,
             failed: 0,
         }
     }
@@ -29,6 +42,7 @@ impl Failing {
             list: ListKeep::new(alloc),
             loads_before: u64::MAX,
             commits_before,
+            commits_failing: u64::MAX,
             failed: 0,
         }
     }
@@ -58,7 +72,8 @@ impl Keep for Failing {
     }
 
     fn commit(&mut self, change: &Change<'_>) -> Result<(), KeepFault> {
-        if self.commits_before == 0 {
+        if self.commits_before == 0 && self.commits_failing > 0 {
+            self.commits_failing -= 1;
             self.failed = self.failed.saturating_add(1);
             return Err(KeepFault::Device);
         }

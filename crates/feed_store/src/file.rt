@@ -28,6 +28,7 @@ impl<S: Start> SqlKeep<FileStore<FileFrom<S>>> {
     ) -> Result<SqlKeep<FileStore<FileFrom<S>>>, StoreFault>
         ensures opened { IfOk result (λ keep.
             IsOpenedAs (image_at S.Start) keep.0 keep.1.1) }
+        ensures fresh { IfOk result (λ keep. keep.1.0 ≡ 0) }
     {
         match Connection::open_from(rt, path, false, start) {
             Ok(conn) => match SqlKeep::adopt(conn) {

@@ -46,6 +46,7 @@ impl<S: Alter> SqlKeep<S> {
         ensures adopted { IfOk result (λ keep.
             IsAdopted (state S.Store conn) (state S.Store keep.0) keep.1.1) }
         ensures together { IfOk result (λ _. TakesAllOrNone (state S.Store conn).now.schema) }
+        ensures fresh { IfOk result (λ keep. keep.1.0 ≡ 0) }
         ensures refused { IfErr result (λ fault. fault.connection.in_transaction ≡ false) }
     {
         let mut conn = conn;
@@ -127,8 +128,9 @@ impl SqlKeep<MemStore> {
 
     /// An empty keeper in memory.
     pub fn open_memory(alloc: Global) -> Result<SqlKeep<MemStore>, StoreFault>
-        ensures { IfOk result (λ keep. IsLive (state over_memory keep.0)
+        ensures blank { IfOk result (λ keep. IsLive (state over_memory keep.0)
             → IsTrue keep.1.1 × IsBlank (state over_memory keep.0).now) }
+        ensures fresh { IfOk result (λ keep. keep.1.0 ≡ 0) }
     {
         let Ok(conn) = Connection::open_in_memory(alloc) else {
             return Err(StoreFault::Memory);

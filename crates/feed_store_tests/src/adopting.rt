@@ -1,13 +1,12 @@
 // Databases that are taken as keepers, or refused.
-ghost use Rattle.std.specs.Prelude.{◌≡◌, false, IfOk, IsTrue};
-ghost use Rattle.sqlite_disk.specs.Memory.{memory_is_usable};
+ghost use Rattle.std.specs.Prelude.{◌≡◌, false, IfOk};
 
 use feed_keep::{Keep, KeepFault, State};
 use feed_releases::{Event, Feed, OpenFault};
-use feed_samples::{content_of, listed, name_of, record_of};
+use feed_samples::{JANUARY, content_of, january_file, listed, name_of, record_of};
 use feed_store::{AdoptFault, SqlKeep, StoreFault};
 use sqlite::{Alter, Connection, MemStore};
-use sqlite_disk::{Files, Memory};
+use sqlite_disk::{Disk, Files, Memory};
 use sqlite_pager::Options;
 use sqlite_store::FileStore;
 use std::alloc::Global;
@@ -103,8 +102,9 @@ fn seen_and_refused(
 #[test]
 fn a_foreign_database_is_refused_and_stays_as_it_was(rt: HostRuntime) -> Result<(), Fail> {
     let alloc = rt.alloc();
-    let rows: [&[&str]; 9] = [
+    let rows: [&[&str]; 10] = [
         &["CREATE TABLE feed_layout (v TEXT)"],
+        &["CREATE TABLE feed_piece (v TEXT)"],
         &["CREATE TABLE feed_release (name TEXT)"],
         &["CREATE VIEW Feed_Piece AS SELECT 1"],
         &[LAYOUT, NUMBER],
@@ -135,15 +135,19 @@ fn a_foreign_database_is_refused_and_stays_as_it_was(rt: HostRuntime) -> Result<
     Ok(())
 }
 
-type Pages = FileStore<Memory>;
-
-fn opened(alloc: Global, files: Files<Memory>) -> Result<Connection<Pages>, Fail>
-    requires { IsTrue (memory_is_usable files.log) × IsTrue (memory_is_usable files.db) }
+// A connection over these files, or the files where there is none.
+pub fn opened<D: Disk + Drop>(
+    alloc: Global,
+    files: Files<D>,
+) -> Result<Connection<FileStore<D>>, Files<D>>
     ensures { IfOk result (λ conn. conn.in_transaction ≡ false) }
 {
+    if !files.may_be_used() {
+        return Err(files);
+    }
     match Connection::open_files(alloc, files, Options::new(1)) {
         Ok(conn) => Ok(conn),
-        Err((error, _)) => Err(Fail::new(error)),
+        Err((_, left)) => Err(left.into_files()),
     }
 }
 
@@ -154,7 +158,10 @@ fn an_empty_database_of_pages_is_taken_and_keeps_a_record(rt: HostRuntime) -> Re
         log: Memory::new(alloc),
         db: Memory::new(alloc),
     };
-    let mut keeper = with_release(alloc, adopted(opened(alloc, files)?)?, 10)?;
+    let Ok(conn) = opened(alloc, files) else {
+        return Err(Fail::new("it does not open"));
+    };
+    let mut keeper = with_release(alloc, adopted(conn)?, 10)?;
     let expected = b"X_2024-01-01.txt 10 Staged\n".as_slice();
     assert_eq!(rt; content_of(alloc, &mut keeper)?.as_slice(), expected);
     assert_eq!(rt; keeper.failures(), 0);
@@ -210,6 +217,66 @@ fn a_table_that_no_keeper_wrote_is_damaged(rt: HostRuntime) -> Result<(), Fail> 
         let damaged = matches!(handed_back.load(alloc), Err(KeepFault::Damaged));
         assert!(rt; damaged, "{row}");
         assert_eq!(rt; handed_back.failures(), 0);
+    }
+    Ok(())
+}
+
+#[test]
+fn records_that_no_feed_keeps_are_damaged(rt: HostRuntime) -> Result<(), Fail> {
+    let alloc = rt.alloc();
+    let staged = "INSERT INTO feed_release VALUES ('X_2024-01-01.txt', 'X', 19723, 4, 0)";
+    let first = "INSERT INTO feed_piece VALUES ('X_2024-01-01.txt', 0, x'303132')";
+    let rows = [
+        // It lies over the first part; it is empty; it ends past the file; with it the file is whole.
+        "INSERT INTO feed_piece VALUES ('X_2024-01-01.txt', 2, x'3233')",
+        "INSERT INTO feed_piece VALUES ('X_2024-01-01.txt', 3, x'')",
+        "INSERT INTO feed_piece VALUES ('X_2024-01-01.txt', 3, x'3334')",
+        "INSERT INTO feed_piece VALUES ('X_2024-01-01.txt', 3, x'33')",
+        "UPDATE feed_release SET state = 1",
+        "UPDATE feed_release SET state = 2",
+    ];
+    for row in rows {
+        let texts = [LAYOUT, RELEASE, PIECE, NUMBER, staged, first, row];
+        let Err(fault) = Feed::open(alloc, adopted(database_of(alloc, &texts)?)?) else {
+            return Err(Fail::new("a feed opens"));
+        };
+        assert_eq!(rt; fault.cause, KeepFault::Damaged, "{row}");
+        assert_eq!(rt; fault.keeper.failures(), 0);
+    }
+    Ok(())
+}
+
+#[test]
+fn a_state_that_the_file_does_not_bear_out_is_damaged(rt: HostRuntime) -> Result<(), Fail> {
+    let alloc = rt.alloc();
+    let january = name_of(alloc, JANUARY)?;
+    let file = january_file(alloc)?;
+    let states = [
+        "UPDATE feed_release SET state = 0",
+        "UPDATE feed_release SET state = 1",
+    ];
+    for text in states {
+        let keeper = SqlKeep::open_memory(alloc)?;
+        let mut feed = Feed::open(alloc, keeper).map_err(|fault| Fail::new(fault.cause))?;
+        feed.handle(&Event::Offered {
+            name: &january,
+            size: 205,
+        })?;
+        feed.handle(&Event::Piece {
+            name: &january,
+            first: 0,
+            total: None,
+            bytes: &file,
+        })?;
+        let mut conn = feed.restart().into_connection();
+        conn.execute_batch(text)?;
+        if !conn.is_autocommit() {
+            return Err(Fail::new("a transaction is open"));
+        }
+        let Err(fault) = Feed::open(alloc, adopted(conn)?) else {
+            return Err(Fail::new("a feed opens"));
+        };
+        assert_eq!(rt; fault.cause, KeepFault::Damaged, "{text}");
     }
     Ok(())
 }

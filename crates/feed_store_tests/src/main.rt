@@ -19,6 +19,8 @@ mod adopting;
 #[cfg(test)]
 mod feeds;
 mod steps;
+#[cfg(test)]
+mod stops;
 
 use std::env;
 use std::test::Fail;
