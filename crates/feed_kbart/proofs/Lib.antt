@@ -4,6 +4,5 @@ pub mod Steps
 pub mod Utf8Texts
 pub mod Fronts
 pub mod Readings
-pub mod Printed
 pub mod Columns
 pub mod Listed

@@ -1,21 +1,28 @@
--- The entries of an ISSN are those of the rows that have it.
+-- The entries of an identifier are those of the rows that have it.
 use Rattle.std.proofs.Common.{◌≡◌, ◌<◌, ◌+◌, ℕ, suc, Bool, true, false, ◌||◌, eqb, List, [], ◌∷◌, ◌++◌, map}
 use Rattle.std.proofs.Common.{length, get_or, Option, Some, None, IfSome, option_map, if◌then◌else◌, refl, sym, ap, ◌∙◌, arith}
 use Rattle.std.specs.List.{All, cons_option, enumerate_from, filter, filter_map}
 use Rattle.std.specs.List.Sorted.{IsStableByKey, ties}
+use Rattle.std.specs.Str.{bytes_eq}
+use Rattle.std.specs.Cmp.Lexicographic.{bytes_decides}
 use Rattle.std.specs.Ordering.{is_lt, nat_cmp}
 use Rattle.std.proofs.lemmas.Bool.Decides.{nat_tests}
 use Rattle.std.proofs.lemmas.List.{get_or_default, length-map, map-append}
 use Rattle.std.proofs.lemmas.List.Elements.{filter-append}
 use Rattle.std.specs.List.Sorted.{IsNonDecreasingBy}
-use Rattle.feed_kbart.specs.Index.{HasIssns, IsIndexOf, each_once, entries_from, entries_of}
-use Rattle.feed_kbart.specs.Issn.{IsIssn, number_of}
-use Rattle.feed_kbart.specs.Places.{is_issn, place_with, places_with}
+use Rattle.feed_kbart.specs.Index.{HasIdentifiers, IsIndexOf, each_once, entries_from, entries_of}
+use Rattle.feed_identifiers.specs.Issn.{IsIssn, number_of}
+use Rattle.feed_identifiers.specs.Isbn as isbn
+use Rattle.feed_identifiers.specs.Isbn.{IsIsbn}
+use Rattle.feed_identifiers.specs.Laws.{IssnNumbersAreSmall, OneIsbnForNumber, OneIssnForNumber}
+use Rattle.feed_kbart.specs.Identifiers.{AreIdentifiers, isbn_number, numbers, online_isbn, online_issn, print_isbn, print_issn}
+use Rattle.feed_kbart.specs.Places.{has_isbn, has_issn, is_own, place_by, places_by}
+use Rattle.feed_kbart.specs.declared.identifiers.Identifiers.{Identifiers}
+use Rattle.feed_kbart.specs.declared.identifiers.Identifiers.TheVariants.{Serial, Book}
 use Rattle.feed_kbart.specs.RowValue.{RowValue}
 use Rattle.feed_kbart.specs.declared.index.Entry.{Entry}
-use Rattle.feed_kbart.specs.declared.index.IssnIndex.{IssnIndex}
+use Rattle.feed_kbart.specs.declared.index.Index.{Index}
 use Rattle.feed_kbart.proofs.Columns.{beside_entries, column_ascends}
-use Rattle.feed_kbart.proofs.Printed.{same_test}
 
 -- the places of the entries with a number
 abbrev placed : ℕ → List Entry → List ℕ
@@ -51,33 +58,102 @@ two n place k m xs = go (eqb k m) (eqb k n) (eqb m n) refl refl refl
     go false false true s e f = rw (s, e, f) refl
     go false false false s e f = rw (s, e, f) refl
 
-row_placed : (issn : List ℕ) (place : ℕ) (print online : Option (List ℕ)) (xs : List ℕ) → IsIssn issn → IfSome print IsIssn → IfSome online IsIssn
-    → placed (number_of issn) (numbered place (each_once (option_map number_of print) (option_map number_of online))) ++ xs
-    ≡ cons_option (if is_issn issn print || is_issn issn online then Some place else None) xs
-row_placed issn place None None xs i p o = refl
-row_placed issn place None (Some online) xs i p o = rw (same_test issn online i o) (one (number_of issn) place (number_of online) xs)
-row_placed issn place (Some print) None xs i p o = rw (same_test issn print i p) (or_none (number_of issn) (number_of print))
+-- identifiers that a number tells apart are the same just where their numbers are
+same_test : (number : List ℕ → ℕ) (Is : List ℕ → Type 0) → ((s t : List ℕ) → Is s → Is t → number s ≡ number t → s ≡ t)
+    → (identifier own : List ℕ) → Is identifier → Is own → bytes_eq identifier own ≡ eqb (number own) (number identifier)
+same_test number Is tells identifier own i j =
+    elim (eqb (number own) (number identifier)) as (λ b. eqb (number own) (number identifier) ≡ b → bytes_eq identifier own ≡ b) [
+      | true ↦ λ e. (let same : number own ≡ number identifier = grind (arith, nat_tests) in (bytes_decides identifier own).1 (sym (tells own identifier j i same)))
+      | false ↦ λ e. no (bytes_eq identifier own) refl e
+    ] refl
   where
-    or_none : (n m : ℕ) → placed n (numbered place (m ∷ [])) ++ xs ≡ cons_option (if eqb m n || false then Some place else None) xs
-    or_none n m = rw (or_false (eqb m n)) (one n place m xs)
-      where
-        or_false : (b : Bool) → (b || false) ≡ b
-        or_false true = refl
-        or_false false = refl
-row_placed issn place (Some print) (Some online) xs i p o =
-    rw (same_test issn print i p, same_test issn online i o) (two (number_of issn) place (number_of print) (number_of online) xs)
+    itself : (n : ℕ) → eqb n n ≡ true
+    itself n = grind (arith, nat_tests)
+
+    no : (b : Bool) → bytes_eq identifier own ≡ b → eqb (number own) (number identifier) ≡ false → b ≡ false
+    no true same differ =
+        let eq = ap number ((bytes_decides identifier own).0 same) in
+        sym (itself (number own)) ∙ rw eq at differ
+    no false same differ = refl
+
+or_false : (b : Bool) → (b || false) ≡ b
+or_false true = refl
+or_false false = refl
+
+-- a row has its place among the entries of an identifier just where it has the identifier
+own_placed : (number : List ℕ → ℕ) (Is : List ℕ → Type 0) (identifier : List ℕ)
+    → ((own : List ℕ) → Is own → bytes_eq identifier own ≡ eqb (number own) (number identifier))
+    → (place : ℕ) (print online : Option (List ℕ)) (xs : List ℕ) → IfSome print Is → IfSome online Is
+    → placed (number identifier) (numbered place (each_once (option_map number print) (option_map number online))) ++ xs
+    ≡ cons_option (if is_own identifier print || is_own identifier online then Some place else None) xs
+own_placed number Is identifier tests place None None xs p o = refl
+own_placed number Is identifier tests place None (Some online) xs p o = rw (tests online o) (one (number identifier) place (number online) xs)
+own_placed number Is identifier tests place (Some print) None xs p o =
+    rw (tests print p, or_false (eqb (number print) (number identifier))) (one (number identifier) place (number print) xs)
+own_placed number Is identifier tests place (Some print) (Some online) xs p o =
+    rw (tests print p, tests online o) (two (number identifier) place (number print) (number online) xs)
+
+-- identifiers of the other kind have no place there
+other_placed : (number : List ℕ → ℕ) (Is : List ℕ → Type 0) (n : ℕ) → ((own : List ℕ) → Is own → eqb (number own) n ≡ false)
+    → (place : ℕ) (print online : Option (List ℕ)) (xs : List ℕ) → IfSome print Is → IfSome online Is
+    → placed n (numbered place (each_once (option_map number print) (option_map number online))) ++ xs ≡ xs
+other_placed number Is n apart place None None xs p o = refl
+other_placed number Is n apart place None (Some online) xs p o = rw (apart online o) refl
+other_placed number Is n apart place (Some print) None xs p o = rw (apart print p) refl
+other_placed number Is n apart place (Some print) (Some online) xs p o =
+    elim (eqb (number print) (number online))
+    as (λ b. eqb (number print) (number online) ≡ b → placed n (numbered place (each_once (Some (number print)) (Some (number online)))) ++ xs ≡ xs) [
+      | true ↦ λ e. rw (e, apart print p) refl
+      | false ↦ λ e. rw (e, apart print p, apart online o) refl
+    ] refl
+
+-- the number tells an identifier from the others of its kind, and from those of the other kind
+pub record NumbersTell : Type 0 where
+  pub issns : OneIssnForNumber
+  pub isbns : OneIsbnForNumber
+  pub small : IssnNumbersAreSmall
+
+above : (m n : ℕ) → n < 10000000 → eqb (10000000 + m) n ≡ false
+above m n h = grind (arith, nat_tests)
+
+below : (m n : ℕ) → m < 10000000 → eqb m (10000000 + n) ≡ false
+below m n h = grind (arith, nat_tests)
+
+one_more : (tell : NumbersTell) (s t : List ℕ) → IsIsbn s → IsIsbn t → isbn_number s ≡ isbn_number t → s ≡ t
+one_more tell s t i j e = tell.isbns s t i j (omega arith)
+
+issn_placed : NumbersTell → (issn : List ℕ) → IsIssn issn → (place : ℕ) (own : Identifiers) (xs : List ℕ) → AreIdentifiers own
+    → placed (number_of issn) (numbered place (each_once (numbers own).0 (numbers own).1)) ++ xs
+    ≡ cons_option (if is_own issn (print_issn own) || is_own issn (online_issn own) then Some place else None) xs
+issn_placed tell issn i place (Serial print online) xs are =
+    own_placed number_of IsIssn issn (λ own o. same_test number_of IsIssn tell.issns issn own i o) place print online xs are.0 are.1
+issn_placed tell issn i place (Book print online) xs are =
+    other_placed isbn_number IsIsbn (number_of issn) (λ own o. above (isbn.number_of own) (number_of issn) (tell.small issn i)) place print online xs are.0 are.1
+
+isbn_placed : NumbersTell → (isbn : List ℕ) → IsIsbn isbn → (place : ℕ) (own : Identifiers) (xs : List ℕ) → AreIdentifiers own
+    → placed (isbn_number isbn) (numbered place (each_once (numbers own).0 (numbers own).1)) ++ xs
+    ≡ cons_option (if is_own isbn (print_isbn own) || is_own isbn (online_isbn own) then Some place else None) xs
+isbn_placed tell digits i place (Book print online) xs are =
+    own_placed isbn_number IsIsbn digits (λ own o. same_test isbn_number IsIsbn (one_more tell) digits own i o) place print online xs are.0 are.1
+isbn_placed tell digits i place (Serial print online) xs are =
+    other_placed number_of IsIssn (isbn_number digits) (λ own o. below (number_of own) (isbn.number_of digits) (tell.small own o)) place print online xs are.0 are.1
 
 placed_append : (n : ℕ) (es fs : List Entry) → placed n (es ++ fs) ≡ placed n es ++ placed n fs
 placed_append n es fs = ap (map (λ e. e.place)) (filter-append (λ (e : Entry). eqb e.number n) es fs) ∙ map-append (λ (e : Entry). e.place) _ _
 
-rows_placed : (issn : List ℕ) (place : ℕ) (rows : List RowValue) → IsIssn issn → All HasIssns rows
-    → placed (number_of issn) (entries_from place rows) ≡ filter_map (place_with issn) (enumerate_from place rows)
-rows_placed issn place [] i all = refl
-rows_placed issn place (row ∷ rows) i all =
-    let has : HasIssns row = all 0 row (omega arith) in
-    placed_append (number_of issn) (entries_of place row) (entries_from (place + 1) rows)
-    ∙ ap (λ xs. placed (number_of issn) (entries_of place row) ++ xs) (rows_placed issn (place + 1) rows i (λ k d within. all (suc k) d (omega (arith, within))))
-    ∙ row_placed issn place row.print row.online (filter_map (place_with issn) (enumerate_from (place + 1) rows)) i has.print has.online
+-- a row has its place among the entries with a number just where it passes
+abbrev IsTold : ℕ → (RowValue → Bool) → Type 0
+IsTold n test = (place : ℕ) (row : RowValue) (xs : List ℕ) → HasIdentifiers row
+    → placed n (entries_of place row) ++ xs ≡ cons_option (if test row then Some place else None) xs
+
+rows_placed : (n : ℕ) (test : RowValue → Bool) (place : ℕ) (rows : List RowValue) → IsTold n test → All HasIdentifiers rows
+    → placed n (entries_from place rows) ≡ filter_map (place_by test) (enumerate_from place rows)
+rows_placed n test place [] told all = refl
+rows_placed n test place (row ∷ rows) told all =
+    let has : HasIdentifiers row = all 0 row (omega arith) in
+    placed_append n (entries_of place row) (entries_from (place + 1) rows)
+    ∙ ap (λ xs. placed n (entries_of place row) ++ xs) (rows_placed n test (place + 1) rows told (λ k d within. all (suc k) d (omega (arith, within))))
+    ∙ told place row (filter_map (place_by test) (enumerate_from (place + 1) rows)) has
 
 filter_same : {X : Type 0} (p q : X → Bool) (xs : List X) → ((x : X) → p x ≡ q x) → filter p xs ≡ filter q xs
 filter_same p q [] same = refl
@@ -87,15 +163,14 @@ tie_test : (m n : ℕ) → ties (λ x y. is_lt (nat_cmp x y)) m n ≡ eqb n m
 tie_test m n = grind (arith, nat_tests)
 
 -- entries that a stable sort by number puts in order give the same places for each number
-pub sorted_placed : (issn : List ℕ) (rows : List RowValue) (entries sorted : List Entry) → IsIssn issn → All HasIssns rows → entries ≡ entries_from 0 rows
-    → IsStableByKey (λ (e : Entry). e.number) nat_cmp entries sorted
-    → map (λ e. e.place) (filter (λ e. eqb e.number (number_of issn)) sorted) ≡ places_with issn rows
-unfolding places_with
-sorted_placed issn rows entries sorted i all are stable =
-    let n = number_of issn in
+sorted_placed : (n : ℕ) (test : RowValue → Bool) (rows : List RowValue) (entries sorted : List Entry) → IsTold n test → All HasIdentifiers rows
+    → entries ≡ entries_from 0 rows → IsStableByKey (λ (e : Entry). e.number) nat_cmp entries sorted
+    → map (λ e. e.place) (filter (λ e. eqb e.number n) sorted) ≡ places_by test rows
+unfolding places_by
+sorted_placed n test rows entries sorted told all are stable =
     let same = λ (xs : List Entry). filter_same (λ e. ties (λ x y. is_lt (nat_cmp x y)) n e.number) (λ e. eqb e.number n) xs (λ e. tie_test n e.number) in
     ap (map (λ e. e.place)) (sym (same sorted) ∙ stable (record { number = n; place = 0 }) ∙ same entries)
-    ∙ ap (placed n) are ∙ rows_placed issn 0 rows i all
+    ∙ ap (placed n) are ∙ rows_placed n test 0 rows told all
 
 -- what holds of the first places, and of the next
 pub holds_next : {X : Type 0} (P : X → Type 0) (xs : List X) (i : ℕ) (x : X) → x ≡ get_or xs i x → i < length xs
@@ -108,13 +183,16 @@ holds_next P xs i x is within all one k d h = elim (eqb k i) as (λ b. eqb k i �
 ] refl
 
 -- the columns of the entries in order are an index
-pub indexed : (rows : List RowValue) (entries sorted : List Entry) (index : IssnIndex) → All HasIssns rows → entries ≡ entries_from 0 rows
+pub indexed : NumbersTell → (rows : List RowValue) (entries sorted : List Entry) (index : Index) → All HasIdentifiers rows → entries ≡ entries_from 0 rows
     → IsStableByKey (λ (e : Entry). e.number) nat_cmp entries sorted → IsNonDecreasingBy (λ e. e.number) sorted
     → index.numbers.items ≡ map (λ e. e.number) sorted → index.places.items ≡ map (λ e. e.place) sorted → IsIndexOf rows index
-indexed rows entries sorted index all are stable up numbers places = record {
+indexed tell rows entries sorted index all are stable up numbers places = record {
   table = record {
     even = rw (numbers, places) (length-map sorted (λ (e : Entry). e.place) ∙ sym (length-map sorted (λ (e : Entry). e.number)));
     ascending = rw numbers (column_ascends sorted up);
   };
-  whole = λ issn i. rw (numbers, places) (beside_entries (number_of issn) sorted ∙ sorted_placed issn rows entries sorted i all are stable);
+  issns = λ issn i. rw (numbers, places) (beside_entries (number_of issn) sorted
+      ∙ sorted_placed (number_of issn) (has_issn issn) rows entries sorted (λ place row xs has. issn_placed tell issn i place row.identifiers xs has) all are stable);
+  isbns = λ digits i. rw (numbers, places) (beside_entries (isbn_number digits) sorted
+      ∙ sorted_placed (isbn_number digits) (has_isbn digits) rows entries sorted (λ place row xs has. isbn_placed tell digits i place row.identifiers xs has) all are stable);
 }

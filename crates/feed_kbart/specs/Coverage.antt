@@ -1,24 +1,33 @@
--- What a record covers: ISSNs, days and volumes, and why a record is set aside.
+-- What a record covers: identifiers, days and volumes, and why a record is set aside.
 use Rattle.std.specs.Prelude.{◌||◌, ◌&&◌, not, nat_lt, ℕ, Bool, true, false, List, [], ◌∷◌, Option, Some, None, if◌then◌else◌, is_none, is_some, option_map, codes, int_lt}
 use Rattle.std.specs.Str.{str_eq_ignore_ascii_case}
-use Rattle.feed_kbart.specs.Text.{trimmed, volume_of}
-use Rattle.feed_kbart.specs.Issn.{issn_of}
+use Rattle.feed_identifiers.specs.Text.{trimmed}
+use Rattle.feed_kbart.specs.Text.{volume_of}
+use Rattle.feed_identifiers.specs.Issn.{issn_of}
+use Rattle.feed_identifiers.specs.Isbn.{isbn_of}
 use Rattle.feed_dates.specs.DayRanges.{days_of}
 use Rattle.feed_kbart.specs.Columns.{cell}
 use Rattle.feed_kbart.specs.declared.coverage.Coverage.{Coverage}
 use Rattle.feed_dates.specs.declared.day_range.DayRange.{DayRange}
 use Rattle.feed_kbart.specs.declared.header.Columns.{Columns}
 use Rattle.feed_kbart.specs.declared.fault.Reason.{Reason}
-use Rattle.feed_kbart.specs.declared.fault.Reason.TheVariants.{NotSerial, NoIssn, BadDate, Reversed}
+use Rattle.feed_kbart.specs.declared.fault.Reason.TheVariants.{OtherType, NoIssn, NoIsbn, BadDate, Reversed}
+use Rattle.feed_kbart.specs.declared.identifiers.Identifiers.TheVariants.{Serial, Book}
+use Rattle.feed_kbart.specs.declared.identifiers.Kind.{Kind}
+use Rattle.feed_kbart.specs.declared.identifiers.Kind.TheVariants as of
 
 -- a text without bytes
 abbrev pub is_empty : List ℕ → Bool
 is_empty [] = true
 is_empty (b ∷ bytes) = false
 
--- the publication type is empty or `serial`, but for spaces at its ends and the case of ASCII letters
-abbrev pub is_serial : List ℕ → Bool
-is_serial text = is_empty (trimmed text) || str_eq_ignore_ascii_case (trimmed text) (codes "serial")
+-- a publication type tells a serial where it is empty or `serial`, and a book where it is `monograph`, but for spaces at
+-- its ends and the case of ASCII letters
+abbrev pub kind_of : List ℕ → Option Kind
+kind_of text =
+    if is_empty (trimmed text) || str_eq_ignore_ascii_case (trimmed text) (codes "serial") then Some of.Serial
+    else if str_eq_ignore_ascii_case (trimmed text) (codes "monograph") then Some of.Book
+    else None
 
 -- the days of a coverage date, but for spaces at its ends; an empty date has none and is an open side
 abbrev pub coverage_days : List ℕ → Option DayRange
@@ -34,14 +43,28 @@ is_reversed (Some begin) (Some end) = int_lt end.last begin.first
 is_reversed None end = false
 is_reversed (Some begin) None = false
 
--- why a record is set aside, or nothing where it is a row
-abbrev pub reason_of : Columns → List (List ℕ) → Option Reason
-reason_of columns fields =
-    if not (is_serial (cell columns.publication_type fields)) then Some NotSerial
-    else if is_none (issn_of (cell columns.print fields)) && is_none (issn_of (cell columns.online fields)) then Some NoIssn
+-- why a serial's record is set aside, or nothing where it is a row
+abbrev pub serial_reason : Columns → List (List ℕ) → Option Reason
+serial_reason columns fields =
+    if is_none (issn_of (cell columns.print fields)) && is_none (issn_of (cell columns.online fields)) then Some NoIssn
     else if not (is_coverage_date (cell columns.first_date fields) && is_coverage_date (cell columns.last_date fields)) then Some BadDate
     else if is_reversed (coverage_days (cell columns.first_date fields)) (coverage_days (cell columns.last_date fields)) then Some Reversed
     else None
+
+-- why a book's record is set aside, or nothing where it is a row
+abbrev pub book_reason : Columns → List (List ℕ) → Option Reason
+book_reason columns fields =
+    if is_none (isbn_of (cell columns.print fields)) && is_none (isbn_of (cell columns.online fields)) then Some NoIsbn else None
+
+-- why a record of this kind is set aside: one of neither kind is, for its type
+abbrev pub reason_by : Option Kind → Columns → List (List ℕ) → Option Reason
+reason_by (Some of.Serial) columns fields = serial_reason columns fields
+reason_by (Some of.Book) columns fields = book_reason columns fields
+reason_by None columns fields = Some OtherType
+
+-- why a record is set aside, or nothing where it is a row
+abbrev pub reason_of : Columns → List (List ℕ) → Option Reason
+reason_of columns fields = reason_by (kind_of (cell columns.publication_type fields)) columns fields
 
 -- the first and the last volume; neither counts where the first exceeds the last
 abbrev pub volumes : Option ℕ → Option ℕ → Option ℕ × Option ℕ
@@ -54,13 +77,32 @@ abbrev pub coverage_volumes : Columns → List (List ℕ) → Option ℕ × Opti
 coverage_volumes columns fields =
     volumes (volume_of (trimmed (cell columns.first_volume fields))) (volume_of (trimmed (cell columns.last_volume fields)))
 
--- the ISSNs, the days and the volumes of a record
-abbrev pub coverage_of : Columns → List (List ℕ) → Coverage
-coverage_of columns fields = record {
-  print = issn_of (cell columns.print fields);
-  online = issn_of (cell columns.online fields);
+-- the ISSNs, the days and the volumes of a serial's record
+abbrev pub serial_coverage : Columns → List (List ℕ) → Coverage
+serial_coverage columns fields = record {
+  identifiers = Serial (issn_of (cell columns.print fields)) (issn_of (cell columns.online fields));
   first_day = option_map (λ days. days.first) (coverage_days (cell columns.first_date fields));
   last_day = option_map (λ days. days.last) (coverage_days (cell columns.last_date fields));
   first_volume = (coverage_volumes columns fields).0;
   last_volume = (coverage_volumes columns fields).1;
 }
+
+-- the ISBNs of a book's record, of which neither dates nor volumes are read
+abbrev pub book_coverage : Columns → List (List ℕ) → Coverage
+book_coverage columns fields = record {
+  identifiers = Book (isbn_of (cell columns.print fields)) (isbn_of (cell columns.online fields));
+  first_day = None;
+  last_day = None;
+  first_volume = None;
+  last_volume = None;
+}
+
+-- what a record of this kind covers
+abbrev pub coverage_by : Option Kind → Columns → List (List ℕ) → Coverage
+coverage_by (Some of.Book) columns fields = book_coverage columns fields
+coverage_by (Some of.Serial) columns fields = serial_coverage columns fields
+coverage_by None columns fields = serial_coverage columns fields
+
+-- the identifiers, the days and the volumes of a record that is a row
+abbrev pub coverage_of : Columns → List (List ℕ) → Coverage
+coverage_of columns fields = coverage_by (kind_of (cell columns.publication_type fields)) columns fields

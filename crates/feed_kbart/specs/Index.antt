@@ -1,11 +1,13 @@
--- An index of rows by ISSN.
-use Rattle.std.specs.Prelude.{◌≡◌, ℕ, ◌+◌, ◌==◌, List, [], ◌∷◌, ◌++◌, length, map, Option, Some, None, IfSome, if◌then◌else◌, option_map}
+-- An index of rows by identifier.
+use Rattle.std.specs.Prelude.{◌≡◌, ℕ, ◌+◌, ◌==◌, List, [], ◌∷◌, ◌++◌, length, map, Option, Some, None, if◌then◌else◌}
 use Rattle.std.specs.List.Sorted.{IsNonDecreasing}
-use Rattle.feed_kbart.specs.Issn.{IsIssn, number_of}
-use Rattle.feed_kbart.specs.Places.{places_with}
+use Rattle.feed_identifiers.specs.Issn.{IsIssn, number_of}
+use Rattle.feed_identifiers.specs.Isbn.{IsIsbn}
+use Rattle.feed_kbart.specs.Identifiers.{AreIdentifiers, isbn_number, numbers}
+use Rattle.feed_kbart.specs.Places.{places_with, places_with_isbn}
 use Rattle.feed_kbart.specs.RowValue.{RowValue}
 use Rattle.feed_kbart.specs.declared.index.Entry.{Entry}
-use Rattle.feed_kbart.specs.declared.index.IssnIndex.{IssnIndex}
+use Rattle.feed_kbart.specs.declared.index.Index.{Index}
 
 -- the places that stand beside a number
 abbrev pub places_beside : ℕ → List ℕ → List ℕ → List ℕ
@@ -15,19 +17,19 @@ places_beside number (one ∷ numbers) (place ∷ places) =
     if one == number then place ∷ places_beside number numbers places else places_beside number numbers places
 
 -- beside each number stands a place, and the numbers ascend
-pub record IsTable (index : IssnIndex) : Type 0 where
+pub record IsTable (index : Index) : Type 0 where
   pub even : length index.places.items ≡ length index.numbers.items
   pub ascending : IsNonDecreasing index.numbers.items
 
--- an index of rows: beside the number of an ISSN stand the places of the rows that have it
-pub record IsIndexOf (rows : List RowValue) (index : IssnIndex) : Type 0 where
+-- an index of rows: beside the number of an identifier stand the places of the rows that have it
+pub record IsIndexOf (rows : List RowValue) (index : Index) : Type 0 where
   pub table : IsTable index
-  pub whole : (issn : List ℕ) → IsIssn issn → places_beside (number_of issn) index.numbers.items index.places.items ≡ places_with issn rows
+  pub issns : (issn : List ℕ) → IsIssn issn → places_beside (number_of issn) index.numbers.items index.places.items ≡ places_with issn rows
+  pub isbns : (isbn : List ℕ) → IsIsbn isbn → places_beside (isbn_number isbn) index.numbers.items index.places.items ≡ places_with_isbn isbn rows
 
--- what a row has as its ISSNs are printed ISSNs
-pub record HasIssns (row : RowValue) : Type 0 where
-  pub print : IfSome row.print IsIssn
-  pub online : IfSome row.online IsIssn
+-- what a row has as its identifiers are printed ones
+abbrev pub HasIdentifiers : RowValue → Type 0
+HasIdentifiers row = AreIdentifiers row.identifiers
 
 -- the numbers that are there, each once
 abbrev pub each_once : Option ℕ → Option ℕ → List ℕ
@@ -36,10 +38,10 @@ each_once (Some number) None = number ∷ []
 each_once None (Some number) = number ∷ []
 each_once (Some first) (Some second) = if first == second then first ∷ [] else first ∷ second ∷ []
 
--- the entries of the row at a place: one for each of its ISSNs
+-- the entries of the row at a place: one for each of its identifiers
 abbrev pub entries_of : ℕ → RowValue → List Entry
 entries_of place row =
-    map (λ number. record { number = number; place = place }) (each_once (option_map number_of row.print) (option_map number_of row.online))
+    map (λ number. record { number = number; place = place }) (each_once (numbers row.identifiers).0 (numbers row.identifiers).1)
 
 -- the entries of rows, of which the first is at this place
 abbrev pub entries_from : ℕ → List RowValue → List Entry

@@ -1,6 +1,7 @@
 pub mod Limits
 pub mod Text
-pub mod Issn
+pub use Rattle.feed_identifiers.specs.Issn
+pub use Rattle.feed_identifiers.specs.Isbn
 pub use Rattle.feed_dates.specs.Days
 pub use Rattle.feed_dates.specs.DayRanges
 pub mod Labels
@@ -10,6 +11,7 @@ pub mod Columns
 pub mod Coverage
 pub mod Reasons
 pub mod Texts
+pub mod Identifiers
 pub mod RowValue
 pub mod Places
 pub mod Index

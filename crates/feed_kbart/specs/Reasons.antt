@@ -4,7 +4,7 @@ use Rattle.feed_kbart.specs.Labels.{label_text}
 use Rattle.feed_kbart.specs.declared.fault.BadFile.{BadFile}
 use Rattle.feed_kbart.specs.declared.fault.BadFile.TheVariants.{NotUtf8, TwoMarks, NoHeader, MissingLabel, LabelTwice}
 use Rattle.feed_kbart.specs.declared.fault.Reason.{Reason}
-use Rattle.feed_kbart.specs.declared.fault.Reason.TheVariants.{NotSerial, NoIssn, BadDate, Reversed}
+use Rattle.feed_kbart.specs.declared.fault.Reason.TheVariants.{OtherType, NoIssn, NoIsbn, BadDate, Reversed}
 
 -- how it is printed why a file is bad
 abbrev pub bad_file_text : BadFile → List ℕ
@@ -16,7 +16,8 @@ bad_file_text (LabelTwice label) = codes "LabelTwice " ++ label_text label
 
 -- how a reason is printed
 abbrev pub reason_text : Reason → List ℕ
-reason_text NotSerial = codes "NotSerial"
+reason_text OtherType = codes "OtherType"
 reason_text NoIssn = codes "NoIssn"
+reason_text NoIsbn = codes "NoIsbn"
 reason_text BadDate = codes "BadDate"
 reason_text Reversed = codes "Reversed"

@@ -2,13 +2,13 @@
 use Rattle.std.specs.Prelude.{ℕ, List, Option, ℤ}
 use Rattle.feed_kbart.specs.Texts.{TextsValue}
 use Rattle.feed_kbart.specs.declared.coverage.Coverage.{Coverage}
+use Rattle.feed_kbart.specs.declared.identifiers.Identifiers.{Identifiers}
 
--- what is seen of a row: its numbers, its texts and the printed bytes of its ISSNs
+-- what is seen of a row: its numbers, its texts and the printed bytes of its identifiers
 pub record RowValue : Type 0 where
   pub number : ℕ
   pub title : List ℕ
-  pub print : Option (List ℕ)
-  pub online : Option (List ℕ)
+  pub identifiers : Identifiers
   pub first_day : Option ℤ
   pub last_day : Option ℤ
   pub first_volume : Option ℕ
@@ -24,8 +24,7 @@ abbrev pub row_with : ℕ → Coverage → TextsValue → RowValue
 row_with number coverage texts = record {
   number = number;
   title = texts.title;
-  print = coverage.print;
-  online = coverage.online;
+  identifiers = coverage.identifiers;
   first_day = coverage.first_day;
   last_day = coverage.last_day;
   first_volume = coverage.first_volume;

@@ -1,33 +1,40 @@
 ghost use Rattle.std.specs.Prelude.{◌≡◌, true, false, MatchResult};
 ghost use Rattle.csv.specs.Records.{fields_of};
-ghost use Rattle.feed_kbart.specs.Coverage.{coverage_days, coverage_of, coverage_volumes};
-ghost use Rattle.feed_kbart.specs.Coverage.{is_coverage_date, is_reversed, is_serial, reason_of};
+ghost use Rattle.feed_kbart.specs.Coverage.{book_coverage, book_reason, coverage_days, coverage_of, coverage_volumes};
+ghost use Rattle.feed_kbart.specs.Coverage.{is_coverage_date, is_reversed, kind_of, reason_of};
+ghost use Rattle.feed_kbart.specs.Coverage.{serial_coverage, serial_reason};
 ghost use Rattle.feed_kbart.specs.declared.fault.Reason.TheVariants as reason;
 
 use crate::fault::Reason;
 use crate::header::{Columns, cell_of};
-use crate::issn::Issn;
-use crate::text::{read_volume, trim_spaces};
+use crate::identifiers::{Identifiers, Kind};
+use crate::text::read_volume;
 use csv::ByteRecord;
 use feed_dates::DayRange;
+use feed_identifiers::{Isbn, Issn, trim_spaces};
 
-/// The ISSNs, the days and the volumes of a record.
+/// The identifiers, the days and the volumes of a record.
 #[derive(Clone, Copy, Debug)]
 pub(crate) struct Coverage {
-    pub(crate) print: Option<Issn>,
-    pub(crate) online: Option<Issn>,
+    pub(crate) identifiers: Identifiers,
     pub(crate) first_day: Option<i32>,
     pub(crate) last_day: Option<i32>,
     pub(crate) first_volume: Option<u32>,
     pub(crate) last_volume: Option<u32>,
 }
 
-// Whether a publication type is a serial's, or is not told.
-fn is_serial_type(text: &[u8]) -> bool
-    ensures { result ≡ is_serial text.now }
+// What a publication type tells a row to be: a serial where it is empty or `serial`, a book where it is `monograph`.
+fn read_kind(text: &[u8]) -> Option<Kind>
+    ensures { result ≡ kind_of text.now }
 {
     let kind = trim_spaces(text);
-    kind.is_empty() || kind.eq_ignore_ascii_case(b"serial")
+    if kind.is_empty() || kind.eq_ignore_ascii_case(b"serial") {
+        Some(Kind::Serial)
+    } else if kind.eq_ignore_ascii_case(b"monograph") {
+        Some(Kind::Book)
+    } else {
+        None
+    }
 }
 
 // The days of a coverage date; an empty date is an open side.
@@ -76,9 +83,20 @@ impl Coverage {
             × (coverage ≡ coverage_of columns.now (fields_of fields.now)))
             (λ why. reason_of columns.now (fields_of fields.now) ≡ Some why) }
     {
-        if !is_serial_type(cell_of(fields, columns.publication_type)) {
-            return Err(Reason::NotSerial);
+        match read_kind(cell_of(fields, columns.publication_type)) {
+            Some(Kind::Serial) => Coverage::of_serial(columns, fields),
+            Some(Kind::Book) => Coverage::of_book(columns, fields),
+            None => Err(Reason::OtherType),
         }
+    }
+
+    // What a serial's record covers, or the first reason to set it aside.
+    fn of_serial(columns: &Columns, fields: &ByteRecord) -> Result<Coverage, Reason>
+        ensures { MatchResult result
+            (λ coverage. (serial_reason columns.now (fields_of fields.now) ≡ None)
+            × (coverage ≡ serial_coverage columns.now (fields_of fields.now)))
+            (λ why. serial_reason columns.now (fields_of fields.now) ≡ Some why) }
+    {
         let print = Issn::parse(cell_of(fields, columns.print));
         let online = Issn::parse(cell_of(fields, columns.online));
         if print.is_none() && online.is_none() {
@@ -91,12 +109,32 @@ impl Coverage {
         }
         let (first_volume, last_volume) = volumes_of(columns, fields);
         Ok(Coverage {
-            print,
-            online,
+            identifiers: Identifiers::Serial { print, online },
             first_day: first.map(|days| days.first),
             last_day: last.map(|days| days.last),
             first_volume,
             last_volume,
+        })
+    }
+
+    // What a book's record covers: of a book neither dates nor volumes are read.
+    fn of_book(columns: &Columns, fields: &ByteRecord) -> Result<Coverage, Reason>
+        ensures { MatchResult result
+            (λ coverage. (book_reason columns.now (fields_of fields.now) ≡ None)
+            × (coverage ≡ book_coverage columns.now (fields_of fields.now)))
+            (λ why. book_reason columns.now (fields_of fields.now) ≡ Some why) }
+    {
+        let print = Isbn::parse(cell_of(fields, columns.print));
+        let online = Isbn::parse(cell_of(fields, columns.online));
+        if print.is_none() && online.is_none() {
+            return Err(Reason::NoIsbn);
+        }
+        Ok(Coverage {
+            identifiers: Identifiers::Book { print, online },
+            first_day: None,
+            last_day: None,
+            first_volume: None,
+            last_volume: None,
         })
     }
 }

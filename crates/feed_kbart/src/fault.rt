@@ -84,10 +84,12 @@ impl From<BadFile> for KbartFault {
 /// Why a record is set aside: the first of these that holds.
 #[derive(Clone, Copy, Debug, PartialEq, Eq)]
 pub enum Reason {
-    /// `publication_type` is neither empty nor `serial`.
-    NotSerial,
-    /// Neither identifier reads as an ISSN.
+    /// `publication_type` is neither empty, `serial` nor `monograph`.
+    OtherType,
+    /// Of a serial neither identifier reads as an ISSN.
     NoIssn,
+    /// Of a book neither identifier reads as an ISBN.
+    NoIsbn,
     /// A coverage date is not empty and does not read.
     BadDate,
     /// The first day of the first date is after the last day of the last.
@@ -102,8 +104,9 @@ impl fmt::Display for Reason {
 
     fn fmt<W: fmt::Write>(&self, f: &mut fmt::Formatter<W>) -> fmt::Result {
         f.write_str(match self {
-            Reason::NotSerial => "NotSerial",
+            Reason::OtherType => "OtherType",
             Reason::NoIssn => "NoIssn",
+            Reason::NoIsbn => "NoIsbn",
             Reason::BadDate => "BadDate",
             Reason::Reversed => "Reversed",
         })

@@ -6,10 +6,11 @@ ghost use Rattle.feed_kbart.specs.Limits.{file_limit};
 use crate::coverage::Coverage;
 use crate::fault::Reason;
 use crate::header::Columns;
-use crate::index::IssnIndex;
-use crate::issn::Issn;
+use crate::identifiers::isbn_number;
+use crate::index::Index;
 use crate::row::Row;
 use csv::ByteRecord;
+use feed_identifiers::{Isbn, Issn};
 use std::alloc::{AllocError, Global};
 use std::marker::Model;
 
@@ -26,7 +27,7 @@ pub struct Aside {
 pub struct Holdings {
     rows: Vec<Row>,
     aside: Vec<Aside>,
-    index: IssnIndex,
+    index: Index,
 }
 
 impl Model for Holdings {
@@ -116,7 +117,7 @@ impl<K: KeepRows> HoldingsBuilder<K> {
 }
 
 impl Holdings {
-    ghost use Rattle.feed_kbart.specs.Places.{places_with};
+    ghost use Rattle.feed_kbart.specs.Places.{places_with, places_with_isbn};
 
     /// The holdings of rows and of records set aside, with an index of the rows.
     pub(crate) fn of(alloc: Global, kept: HoldingsBuilder<Vec<Row>>) -> Result<Holdings, AllocError>
@@ -125,7 +126,7 @@ impl Holdings {
             ≡ record { rows = kept.rows.items; aside = kept.aside.items }) }
     {
         let HoldingsBuilder { rows, aside } = kept;
-        let index = IssnIndex::of(alloc, &rows)?;
+        let index = Index::of(alloc, &rows)?;
         Ok(Holdings { rows, aside, index })
     }
 
@@ -141,6 +142,13 @@ impl Holdings {
         ensures { result.now ≡ places_with issn.now self.now.rows }
     {
         self.index.places_beside(issn.number())
+    }
+
+    /// The places in `rows` of the rows that have an ISBN, in print or online. They ascend, and each is there once.
+    pub fn with_isbn(&self, isbn: &Isbn) -> &[u32]
+        ensures { result.now ≡ places_with_isbn isbn.now self.now.rows }
+    {
+        self.index.places_beside(isbn_number(isbn))
     }
 
     /// The records that are set aside, in file order.

@@ -1,22 +1,22 @@
 ghost use Rattle.std.specs.Prelude.{◌≡◌, ◌≤◌, ◌++◌, IfOk, OnOk, length, map};
 ghost use Rattle.std.specs.List.{All};
-ghost use Rattle.feed_kbart.specs.Index.{HasIssns, IsIndexOf, IsTable, entries_from, entries_of, places_beside};
+ghost use Rattle.feed_kbart.specs.Index.{HasIdentifiers, IsIndexOf, IsTable, entries_from, entries_of, places_beside};
 ghost use Rattle.feed_kbart.specs.Limits.{file_limit};
 
-use crate::issn::Issn;
 use crate::row::Row;
+use feed_identifiers::{issn_numbers_are_small, one_isbn_for_number, one_issn_for_number};
 use std::alloc::{AllocError, Global};
 
-// The number of an ISSN, and the place of a row that has it.
+// The number of an identifier, and the place of a row that has it.
 #[derive(Clone, Copy)]
 struct Entry {
     number: u32,
     place: u32,
 }
 
-/// The places of rows by ISSN: beside each number of an ISSN stands the place of a row that has it.
+/// The places of rows by identifier: beside the number of each stands the place of a row that has it.
 #[derive(Debug, Drop)]
-pub(crate) struct IssnIndex {
+pub(crate) struct Index {
     numbers: Vec<u32>,
     places: Vec<u32>,
 }
@@ -24,11 +24,9 @@ pub(crate) struct IssnIndex {
 // Adds the entries of a row.
 fn add_row(entries: &mut Vec<Entry>, place: u32, row: &Row) -> Result<(), AllocError>
     ensures added { OnOk result (entries.new.items ≡ entries.old.items ++ entries_of place row.now) }
-    ensures issns { HasIssns row.now }
+    ensures printed { HasIdentifiers row.now }
 {
-    let print = Issn::number_of(row.print());
-    let online = Issn::number_of(row.online());
-    match (print, online) {
+    match row.numbers() {
         (Some(first), Some(second)) if first != second => {
             entries.push(Entry {
                 number: first,
@@ -49,7 +47,7 @@ fn add_row(entries: &mut Vec<Entry>, place: u32, row: &Row) -> Result<(), AllocE
 fn entries_of(alloc: Global, rows: &[Row]) -> Result<Vec<Entry>, AllocError>
     requires { length rows.now ≤ file_limit }
     ensures whole { IfOk result (λ entries. entries.items ≡ entries_from 0 rows.now) }
-    ensures issns { OnOk result (All HasIssns rows.now) }
+    ensures printed { OnOk result (All HasIdentifiers rows.now) }
 {
     let mut entries = Vec::with_capacity(alloc, rows.len().saturating_mul(2))?;
     for (place, row) in rows.iter().enumerate() {
@@ -59,7 +57,7 @@ fn entries_of(alloc: Global, rows: &[Row]) -> Result<Vec<Entry>, AllocError>
 }
 
 // The entries as columns.
-fn columns_of(alloc: Global, entries: &[Entry]) -> Result<IssnIndex, AllocError>
+fn columns_of(alloc: Global, entries: &[Entry]) -> Result<Index, AllocError>
     ensures numbers { IfOk result (λ index. index.numbers.items ≡ map (λ entry. entry.number) entries.now) }
     ensures places { IfOk result (λ index. index.places.items ≡ map (λ entry. entry.place) entries.now) }
 {
@@ -69,17 +67,20 @@ fn columns_of(alloc: Global, entries: &[Entry]) -> Result<IssnIndex, AllocError>
         numbers.push(entry.number)?;
         places.push(entry.place)?;
     }
-    Ok(IssnIndex { numbers, places })
+    Ok(Index { numbers, places })
 }
 
-impl IssnIndex {
+impl Index {
     /// Indexes rows.
-    pub(crate) fn of(alloc: Global, rows: &[Row]) -> Result<IssnIndex, AllocError>
+    pub(crate) fn of(alloc: Global, rows: &[Row]) -> Result<Index, AllocError>
         requires { length rows.now ≤ file_limit }
         ensures { IfOk result (IsIndexOf rows.now) }
     {
+        one_issn_for_number();
+        one_isbn_for_number();
+        issn_numbers_are_small();
         let mut entries = entries_of(alloc, rows)?;
-        // Rows of one ISSN keep their order.
+        // Rows of one identifier keep their order.
         entries.sort_by_key(|entry| entry.number)?;
         columns_of(alloc, &entries)
     }

@@ -1,6 +1,6 @@
 ghost use Rattle.std.specs.Prelude.{◌≡◌, Some};
 
-use crate::text::trim_spaces;
+use feed_identifiers::trim_spaces;
 use std::fmt;
 
 /// A column label that is read, in the order in which a file is checked for them. The first eight

@@ -1,8 +1,8 @@
-//! Holdings lists of journals: the tab-separated files of NISO RP-9-2014 (KBART).
+//! Holdings lists of serials and books: the tab-separated files of NISO RP-9-2014 (KBART).
 //!
 //! `read_file` gives the rows of a file and the records that are set aside, or the first reason why
-//! the file is bad. `Holdings::with_issn` finds the rows of an ISSN by an index. ISSNs, dates and volumes
-//! are read by the same functions elsewhere.
+//! the file is bad. `Holdings::with_issn` and `with_isbn` find the rows of an identifier by an index. Identifiers,
+//! dates and volumes are read by the same functions elsewhere.
 #![tactic(auto)]
 
 mod count;
@@ -11,8 +11,8 @@ mod fault;
 mod file;
 mod header;
 mod holdings;
+mod identifiers;
 mod index;
-mod issn;
 mod judge;
 mod label;
 mod law;
@@ -27,11 +27,12 @@ pub use crate::count::FileCount;
 pub use crate::fault::{BadFile, KbartFault, Reason};
 pub use crate::file::{FILE_LIMIT, count_file, read_file, read_parts};
 pub use crate::holdings::{Aside, Holdings};
-pub use crate::issn::Issn;
+pub use crate::identifiers::Kind;
 pub use crate::label::{Label, REQUIRED_LABELS};
 pub use crate::law::empty_file_is_bad;
 pub use crate::records::record_reader;
 pub use crate::row::Row;
-pub use crate::text::{read_volume, trim_spaces};
+pub use crate::text::read_volume;
 pub use crate::utf8::Utf8Check;
 pub use feed_dates::{DayRange, dates_are_ranges};
+pub use feed_identifiers::{Isbn, Issn, trim_spaces};

@@ -3,14 +3,15 @@ ghost use Rattle.csv.specs.Records.{fields_of};
 
 use crate::coverage::Coverage;
 use crate::header::{Columns, cell_of};
-use crate::issn::Issn;
+use crate::identifiers::Kind;
 use crate::texts::Texts;
 use csv::ByteRecord;
+use feed_identifiers::{Isbn, Issn};
 use std::alloc::{AllocError, Global};
 use std::marker::Model;
 
-/// A row of a file: one journal's holdings. Its texts are as in the file, untrimmed; a text of an
-/// absent column is empty.
+/// A row of a file: the holdings of one serial, or a book. Its texts are as in the file, untrimmed; a text of an
+/// absent column is empty. Of a book neither dates nor volumes are read: they are absent.
 #[derive(Debug, Drop)]
 pub struct Row {
     number: u32,
@@ -27,6 +28,8 @@ impl Model for Row {
 }
 
 impl Row {
+    ghost use Rattle.feed_kbart.specs.Identifiers.{AreIdentifiers, kind, numbers, online_isbn, online_issn, print_isbn};
+    ghost use Rattle.feed_kbart.specs.Identifiers.{print_issn};
     ghost use Rattle.feed_kbart.specs.RowValue.{row_with};
     ghost use Rattle.feed_kbart.specs.Rows.{texts_of};
 
@@ -71,18 +74,47 @@ impl Row {
         self.texts.title()
     }
 
-    /// The ISSN of `print_identifier`, where it reads as one.
-    pub fn print(&self) -> Option<Issn>
-        ensures { result ≡ self.now.print }
+    /// Whether it is a serial's or a book's.
+    pub fn kind(&self) -> Kind
+        ensures { result ≡ kind self.now.identifiers }
     {
-        self.coverage.print
+        self.coverage.identifiers.kind()
     }
 
-    /// The ISSN of `online_identifier`, where it reads as one.
-    pub fn online(&self) -> Option<Issn>
-        ensures { result ≡ self.now.online }
+    /// The ISSN of a serial's `print_identifier`, where it reads as one.
+    pub fn print(&self) -> Option<Issn>
+        ensures { result ≡ print_issn self.now.identifiers }
     {
-        self.coverage.online
+        self.coverage.identifiers.print_issn()
+    }
+
+    /// The ISSN of a serial's `online_identifier`, where it reads as one.
+    pub fn online(&self) -> Option<Issn>
+        ensures { result ≡ online_issn self.now.identifiers }
+    {
+        self.coverage.identifiers.online_issn()
+    }
+
+    /// The ISBN of a book's `print_identifier`, where it reads as one.
+    pub fn print_isbn(&self) -> Option<Isbn>
+        ensures { result ≡ print_isbn self.now.identifiers }
+    {
+        self.coverage.identifiers.print_isbn()
+    }
+
+    /// The ISBN of a book's `online_identifier`, where it reads as one.
+    pub fn online_isbn(&self) -> Option<Isbn>
+        ensures { result ≡ online_isbn self.now.identifiers }
+    {
+        self.coverage.identifiers.online_isbn()
+    }
+
+    /// The numbers of its identifiers in the index.
+    pub(crate) fn numbers(&self) -> (Option<u32>, Option<u32>)
+        ensures numbers { result ≡ numbers self.now.identifiers }
+        ensures printed { AreIdentifiers self.now.identifiers }
+    {
+        self.coverage.identifiers.numbers()
     }
 
     /// The first day of `date_first_issue_online`, counted from 1970-01-01. None is an open side.

@@ -1,6 +1,6 @@
 use Rattle.std.proofs.Common.{◌<◌, append_assoc, arith, length}
 use Rattle.std.proofs.lemmas.List.{drop_more}
-use Rattle.feed_kbart.specs.Index.{HasIssns}
+use Rattle.feed_kbart.specs.Index.{HasIdentifiers}
 use Rattle.feed_kbart.proofs.Listed.{holds_next}
 use Rattle.feed_kbart.proofs.index.entries_of.Goals as goal
 
@@ -11,5 +11,5 @@ loop-place-preserved c =
     let row = c.index-rows-place in
     record {
       whole = rw (c.in_ok-add_row.ensures.added, append_assoc) (rw (next, ← row.is) at c.loop-place.invariant.whole);
-      issns = holds_next HasIssns c.args.rows.now c.loop-place.place row.result row.is within c.loop-place.invariant.issns c.in_ok-add_row.ensures.issns;
+      printed = holds_next HasIdentifiers c.args.rows.now c.loop-place.place row.result row.is within c.loop-place.invariant.printed c.in_ok-add_row.ensures.printed;
     }

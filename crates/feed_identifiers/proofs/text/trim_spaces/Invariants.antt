@@ -1,6 +1,6 @@
 use Rattle.std.proofs.Common.{◌≡◌, length, reverse}
-use Rattle.feed_kbart.specs.Text.{skip_spaces, trimmed}
-use Rattle.feed_kbart.proofs.text.trim_spaces.Given as goal
+use Rattle.feed_identifiers.specs.Text.{skip_spaces, trimmed}
+use Rattle.feed_identifiers.proofs.text.trim_spaces.Given as goal
 
 abbrev pub invariant-loop-tail : goal.invariant-loop-tail
 invariant-loop-tail l = skip_spaces l.rest ≡ skip_spaces l.fn.text

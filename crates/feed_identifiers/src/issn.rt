@@ -1,6 +1,6 @@
-ghost use Rattle.std.specs.Prelude.{◌≡◌, IfSome, option_map, slice_index};
-ghost use Rattle.feed_kbart.specs.Issn.{capital, check_value, is_x};
+ghost use Rattle.std.specs.Prelude.{◌≡◌, ◌<◌, slice_index};
 
+use crate::check::{capital, check_value, is_check};
 use crate::text::trim_spaces;
 use std::marker::Model;
 
@@ -12,7 +12,7 @@ pub struct Issn {
 
 impl Model for Issn {
     ghost use Rattle.std.specs.Prelude.{ℕ, List};
-    ghost use Rattle.feed_kbart.specs.Issn.{IsIssn};
+    ghost use Rattle.feed_identifiers.specs.Issn.{IsIssn};
 
     ghost Value = { List ℕ };
 
@@ -23,33 +23,8 @@ impl Model for Issn {
     ghost inverse = { λ text. record { printed = text } };
 }
 
-// Whether a character is an x of either case.
-fn is_x(check: u8) -> bool
-    ensures { result ≡ is_x check }
-{
-    check == b'X' || check == b'x'
-}
-
-// The worth of a check character.
-fn check_value(check: u8) -> u32
-    ensures { result ≡ check_value check }
-{
-    if is_x(check) {
-        10
-    } else {
-        check.saturating_sub(b'0') as u32
-    }
-}
-
-// A check character as it is printed.
-fn capital(check: u8) -> u8
-    ensures { result ≡ capital check }
-{
-    if is_x(check) { b'X' } else { check }
-}
-
 impl Issn {
-    ghost use Rattle.feed_kbart.specs.Issn.{IsIssn, checked, issn_of, number_of};
+    ghost use Rattle.feed_identifiers.specs.Issn.{IsIssn, checked, issn_of, number_of};
 
     /// Reads seven digits and a check character, with or without a hyphen after the fourth digit.
     /// Spaces at both ends are trimmed, and a check character `x` counts as `X`. Anything else is no
@@ -83,6 +58,7 @@ impl Issn {
     /// character.
     pub fn number(&self) -> u32
         ensures number { result ≡ number_of self.now }
+        ensures small { result < 10000000 }
         ensures printed { IsIssn self.now }
     {
         let [a, b, c, d, _, e, f, g, _] = self.printed;
@@ -94,15 +70,6 @@ impl Issn {
             + 100 * value(e)
             + 10 * value(f)
             + value(g)
-    }
-
-    /// The number of an ISSN, if there is one.
-    pub(crate) fn number_of(issn: Option<Issn>) -> Option<u32>
-        ensures number { result ≡ option_map number_of issn }
-        ensures printed { IfSome issn IsIssn }
-    {
-        let issn = issn?;
-        Some(issn.number())
     }
 
     // The ISSN of seven digits and a check character, if they are that and agree.
@@ -129,7 +96,7 @@ impl Issn {
             && e.is_ascii_digit()
             && f.is_ascii_digit()
             && g.is_ascii_digit();
-        if !are_digits || !(check.is_ascii_digit() || is_x(check)) {
+        if !are_digits || !is_check(check) {
             return None;
         }
         let value = |digit: u8| -> u32 { digit.saturating_sub(b'0') as u32 };

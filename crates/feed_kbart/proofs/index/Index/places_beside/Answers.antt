@@ -1,8 +1,8 @@
 use Rattle.std.proofs.Common.{◌≤◌, leb, length, ltb, rules}
 use Rattle.std.proofs.lemmas.List.Sorted.{IsPartitionPoint-from_clause, IsPartitionedBy-leb, IsPartitionedBy-ltb}
 use Rattle.feed_kbart.proofs.Columns.{Ends, Starts, in_order, part_beside}
-use Rattle.feed_kbart.proofs.index.IssnIndex.places_beside.Goals as goal
-use Rattle.feed_kbart.proofs.index.IssnIndex.places_beside.Goals.{After-deref-3}
+use Rattle.feed_kbart.proofs.index.Index.places_beside.Goals as goal
+use Rattle.feed_kbart.proofs.index.Index.places_beside.Goals.{After-deref-3}
 
 starts : (c : After-deref-3) → Starts c.args.number c.args.self.now.numbers.items c.partition_point-first.result
 starts c =

@@ -1,35 +1,12 @@
 -- The number of a printed ISSN tells which it is.
-use Rattle.std.proofs.Common.{◌≡◌, ◌≤◌, ◌+◌, ◌-◌, ◌*◌, ℕ, Bool, true, false, ◌&&◌, ◌||◌, eqb, List, [], ◌∷◌}
-use Rattle.std.proofs.Common.{Some, None, if◌then◌else◌, refl, sym, ap, ◌∙◌, arith}
+use Rattle.std.proofs.Common.{◌≡◌, ◌≤◌, ◌<◌, ◌+◌, ◌-◌, ◌*◌, ℕ, Bool, true, false, ◌&&◌, ◌||◌, eqb, List, [], ◌∷◌}
+use Rattle.std.proofs.Common.{Option, Some, None, if◌then◌else◌, refl, sym, ◌∙◌, arith}
 use Rattle.std.specs.Prelude.{◌%◌, ◌==◌}
 use Rattle.std.specs.Char.{is_ascii_digit}
-use Rattle.std.specs.Str.{bytes_eq}
-use Rattle.std.specs.Cmp.Lexicographic.{bytes_decides}
 use Rattle.std.proofs.lemmas.Bool.Decides.{nat_tests}
-use Rattle.feed_kbart.specs.Issn.{IsIssn, capital, check_value, checked, is_check, is_x, number_of, weighted}
-
-first_true : (a b : Bool) → (a && b) ≡ true → a ≡ true
-first_true true b e = refl
-first_true false b e = e
-
-second_true : (a b : Bool) → (a && b) ≡ true → b ≡ true
-second_true true b e = e
-second_true false b e = absurd (cc)
-
-test_true : (b : Bool) (x s : List ℕ) → (if b then Some x else None) ≡ Some s → b ≡ true
-test_true true x s e = refl
-test_true false x s e = absurd (cc)
-
-value_is : (b : Bool) (x s : List ℕ) → (if b then Some x else None) ≡ Some s → s ≡ x
-value_is true x s e = cc
-value_is false x s e = absurd (cc)
-
-record IsDigit (n : ℕ) : Type 0 where
-  low : 48 ≤ n
-  high : n ≤ 57
-
-digit_is : (n : ℕ) → is_ascii_digit n ≡ true → IsDigit n
-digit_is n e = record { low = grind (arith, nat_tests); high = grind (arith, nat_tests) }
+use Rattle.feed_identifiers.proofs.Digits.{IsDigit, digit_is, eqb_same, first_true, same_digit, second_true, split, test_true, value_is, worth}
+use Rattle.feed_identifiers.specs.Check.{capital, check_value, is_check, is_x}
+use Rattle.feed_identifiers.specs.Issn.{IsIssn, checked, issn_of, number_of, unhyphened, weighted}
 
 -- what the characters of a printed ISSN are
 record Spelled (text : List ℕ) (a b c d e f g check : ℕ) : Type 0 where
@@ -43,9 +20,6 @@ record Spelled (text : List ℕ) (a b c d e f g check : ℕ) : Type 0 where
   seventh : IsDigit g
   checks : is_check check ≡ true
   sum : weighted a b c d e f g check % 11 ≡ 0
-
-eqb_same : (m n : ℕ) → eqb m n ≡ true → m ≡ n
-eqb_same m n e = grind (arith, nat_tests)
 
 spelled_by : (text : List ℕ) (a b c d e f g check : ℕ) → checked a b c d e f g check ≡ Some text → Spelled text a b c d e f g check
 spelled_by text a b c d e f g check made =
@@ -69,17 +43,6 @@ spelled_by text a b c d e f g check made =
       checks = second_true _ (is_check check) t8;
       sum = eqb_same _ 0 (second_true _ (weighted a b c d e f g check % 11 == 0) t9);
     }
-
--- the last digit and those before it are told by a number
-split : (x y p q : ℕ) → y ≤ 9 → q ≤ 9 → 10 * x + y ≡ 10 * p + q → (x ≡ p) × (y ≡ q)
-split x y p q h k e = (omega arith, omega arith)
-
--- digits are told by their worth
-same_digit : (m n : ℕ) → IsDigit m → IsDigit n → m - 48 ≡ n - 48 → m ≡ n
-same_digit m n h k e = omega arith
-
-worth : (n : ℕ) → IsDigit n → n - 48 ≤ 9
-worth n h = omega arith
 
 -- characters that check with one sum are worth the same
 same_worth : (w v u : ℕ) → v ≤ 10 → u ≤ 10 → (w + v) % 11 ≡ 0 → (w + u) % 11 ≡ 0 → v ≡ u
@@ -113,6 +76,17 @@ number_in_steps : (a b c d e f g : ℕ) → 1000000 * a + 100000 * b + 10000 * c
     ≡ 10 * (10 * (10 * (10 * (10 * (10 * a + b) + c) + d) + e) + f) + g
 number_in_steps a b c d e f g = omega arith
 
+-- the number of an ISSN is small
+small_sum : (a b c d e f g : ℕ) → a ≤ 9 → b ≤ 9 → c ≤ 9 → d ≤ 9 → e ≤ 9 → f ≤ 9 → g ≤ 9
+    → 1000000 * a + 100000 * b + 10000 * c + 1000 * d + 100 * e + 10 * f + g < 10000000
+small_sum a b c d e f g p q r s t u v = omega arith
+
+pub small_number : (text : List ℕ) → IsIssn text → number_of text < 10000000
+small_number text i =
+    let p = spelled_by text i.a i.b i.c i.d i.e i.f i.g i.check i.made in
+    rw p.is (small_sum _ _ _ _ _ _ _ (worth i.a p.first) (worth i.b p.second) (worth i.c p.third) (worth i.d p.fourth)
+    (worth i.e p.fifth) (worth i.f p.sixth) (worth i.g p.seventh))
+
 -- two ISSNs with one number are the same
 pub same_issn : (s t : List ℕ) → IsIssn s → IsIssn t → number_of s ≡ number_of t → s ≡ t
 same_issn s t i j same =
@@ -140,18 +114,45 @@ same_issn s t i j same =
         (check_worth k checks) (check_worth r others) own other in
         rw (ah, bi, cj, dl, em, fn, go, same_check k r checks others worths) refl
 
--- an ISSN is another just where their numbers are the same
-pub same_test : (issn own : List ℕ) → IsIssn issn → IsIssn own → bytes_eq issn own ≡ eqb (number_of own) (number_of issn)
-same_test issn own i j = elim (eqb (number_of own) (number_of issn)) as (λ b. eqb (number_of own) (number_of issn) ≡ b → bytes_eq issn own ≡ b) [
-  | true ↦ λ e. (bytes_decides issn own).1 (sym (same_issn own issn j i (eqb_same _ _ e)))
-  | false ↦ λ e. no (bytes_eq issn own) refl e
-] refl
+-- the printed form of an ISSN reads as itself
+capital_again : (k : ℕ) → is_check k ≡ true → (is_check (capital k) ≡ true) × (check_value (capital k) ≡ check_value k) × (capital (capital k) ≡ capital k) × (eqb (capital k) 32 ≡ false)
+capital_again k h = elim (is_x k) as (λ b. is_x k ≡ b → (is_ascii_digit k || b) ≡ true
+    → (is_check (if b then 88 else k) ≡ true) × (check_value (if b then 88 else k) ≡ (if b then 10 else k - 48))
+    × (capital (if b then 88 else k) ≡ (if b then 88 else k)) × (eqb (if b then 88 else k) 32 ≡ false)) [
+      | true ↦ λ e g. (refl, refl, refl, refl)
+      | false ↦ λ e g. (rw e g, rw e refl, rw e refl, (let d = digit_is k (or_false _ g) in grind (arith, nat_tests)))
+    ] refl h
   where
-    itself : (n : ℕ) → eqb n n ≡ true
-    itself n = grind (arith, nat_tests)
+    or_false : (a : Bool) → (a || false) ≡ true → a ≡ true
+    or_false true h = refl
+    or_false false h = h
 
-    no : (b : Bool) → bytes_eq issn own ≡ b → eqb (number_of own) (number_of issn) ≡ false → b ≡ false
-    no true same differ =
-        let eq = ap number_of ((bytes_decides issn own).0 same) in
-        sym (itself (number_of own)) ∙ rw eq at differ
-    no false same differ = refl
+checked_again : (digits check others : Bool) (worth its w : ℕ) (text its_text s : List ℕ) → check ≡ true → others ≡ true → its ≡ worth → its_text ≡ text
+    → (if digits && check && ((w + worth) % 11 == 0) then Some text else None) ≡ Some s
+    → (if digits && others && ((w + its) % 11 == 0) then Some its_text else None) ≡ Some s
+checked_again digits check others worth its w text its_text s e f g h made = rw (f, g, h) (rw e at made)
+
+taken : (b : Bool) (x : Option (List ℕ)) (s : List ℕ) → (if b then x else None) ≡ Some s → x ≡ Some s
+taken true x s e = e
+taken false x s e = absurd (cc)
+
+pub issn_made : (characters printed : List ℕ) → unhyphened characters ≡ Some printed → IsIssn printed
+issn_made (a ∷ b ∷ c ∷ d ∷ e ∷ f ∷ g ∷ check ∷ []) printed made = record { a = a; b = b; c = c; d = d; e = e; f = f; g = g; check = check; made = made }
+issn_made (a ∷ b ∷ c ∷ d ∷ hyphen ∷ e ∷ f ∷ g ∷ check ∷ []) printed made =
+    record { a = a; b = b; c = c; d = d; e = e; f = f; g = g; check = check; made = taken (hyphen == 45) (checked a b c d e f g check) printed made }
+issn_made _ printed made = absurd (cc)
+
+digit_is_no_space : (n : ℕ) → IsDigit n → eqb n 32 ≡ false
+digit_is_no_space n d = grind (arith, nat_tests)
+
+pub issn_again : (printed : List ℕ) → IsIssn printed → issn_of printed ≡ Some printed
+issn_again printed j =
+    let p = spelled_by printed j.a j.b j.c j.d j.e j.f j.g j.check j.made in
+    let c = capital_again j.check p.checks in
+    rw (p.is, digit_is_no_space j.a p.first, c.3)
+    (checked_again (is_ascii_digit j.a && is_ascii_digit j.b && is_ascii_digit j.c && is_ascii_digit j.d && is_ascii_digit j.e && is_ascii_digit j.f && is_ascii_digit j.g)
+    (is_check j.check) (is_check (capital j.check)) (check_value j.check) (check_value (capital j.check))
+    (8 * (j.a - 48) + 7 * (j.b - 48) + 6 * (j.c - 48) + 5 * (j.d - 48) + 4 * (j.e - 48) + 3 * (j.f - 48) + 2 * (j.g - 48))
+    (j.a ∷ j.b ∷ j.c ∷ j.d ∷ 45 ∷ j.e ∷ j.f ∷ j.g ∷ capital j.check ∷ [])
+    (j.a ∷ j.b ∷ j.c ∷ j.d ∷ 45 ∷ j.e ∷ j.f ∷ j.g ∷ capital (capital j.check) ∷ []) _
+    p.checks c.0 c.1 (rw c.2 refl) (rw p.is at j.made))

@@ -1,23 +1,8 @@
 -- ISSNs, after ISO 3297.
-use Rattle.std.specs.Prelude.{◌≡◌, ℕ, ◌+◌, ◌-◌, ◌*◌, ◌%◌, ◌==◌, ◌&&◌, ◌||◌, Bool, List, [], ◌∷◌, Option, Some, None, if◌then◌else◌, slice_index}
+use Rattle.std.specs.Prelude.{◌≡◌, ℕ, ◌+◌, ◌-◌, ◌*◌, ◌%◌, ◌==◌, ◌&&◌, List, [], ◌∷◌, Option, Some, None, if◌then◌else◌, slice_index}
 use Rattle.std.specs.Char.{is_ascii_digit}
-use Rattle.feed_kbart.specs.Text.{trimmed}
-
--- an x of either case
-abbrev pub is_x : ℕ → Bool
-is_x b = (b == 88) || (b == 120)
-
--- a check character is a digit or an x
-abbrev pub is_check : ℕ → Bool
-is_check b = is_ascii_digit b || is_x b
-
--- the worth of a check character: an x counts ten
-abbrev pub check_value : ℕ → ℕ
-check_value b = if is_x b then 10 else b - 48
-
--- a check character as it is printed
-abbrev pub capital : ℕ → ℕ
-capital b = if is_x b then 88 else b
+use Rattle.feed_identifiers.specs.Check.{capital, check_value, is_check}
+use Rattle.feed_identifiers.specs.Text.{trimmed}
 
 -- the sum of the characters with the weights 8 to 1
 abbrev pub weighted : ℕ → ℕ → ℕ → ℕ → ℕ → ℕ → ℕ → ℕ → ℕ

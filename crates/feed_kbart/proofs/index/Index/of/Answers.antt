@@ -3,11 +3,11 @@ use Rattle.std.specs.declared.alloc.AllocError.{AllocError}
 use Rattle.std.proofs.lemmas.List.Sorted.{IsNonDecreasingBy-from_sort_by_key, answers_always}
 use Rattle.feed_kbart.specs.Index.{IsIndexOf}
 use Rattle.feed_kbart.specs.declared.index.Entry.{Entry}
-use Rattle.feed_kbart.specs.declared.index.IssnIndex.{IssnIndex}
+use Rattle.feed_kbart.specs.declared.index.Index.{Index}
 use Rattle.feed_kbart.proofs.Listed.{indexed}
-use Rattle.feed_kbart.proofs.index.IssnIndex.of.Goals as goal
+use Rattle.feed_kbart.proofs.index.Index.of.Goals as goal
 
-if_both : (made : Result IssnIndex AllocError) (P Q R : IssnIndex → Type 0) → IfOk made P → IfOk made Q → ((index : IssnIndex) → P index → Q index → R index) → IfOk made R
+if_both : (made : Result Index AllocError) (P Q R : Index → Type 0) → IfOk made P → IfOk made Q → ((index : Index) → P index → Q index → R index) → IfOk made R
 if_both (Ok index) P Q R p q f = f index p q
 if_both (Err e) P Q R p q f = tt
 
@@ -17,5 +17,6 @@ returns c =
     let stable = c.in_ok-sort_by_key.ensures.stable own (answers_always _ _ _ (λ f a r q k. search rules)) in
     let up = IsNonDecreasingBy-from_sort_by_key own _ c.in_ok-sort_by_key.ensures.sorted (λ a r q k. search rules) in
     if_both c.columns_of.result _ _ (IsIndexOf c.args.rows.now) c.columns_of.ensures.numbers c.columns_of.ensures.places (λ index numbers places.
-    indexed c.args.rows.now c.in_ok-entries.entries.items c.sort_by_key.new.self.items index c.in_ok-entries.ensures.issns c.in_ok-entries.ensures.whole stable up
+    indexed (record { issns = c.one_issn_for_number.ensures; isbns = c.one_isbn_for_number.ensures; small = c.issn_numbers_are_small.ensures })
+    c.args.rows.now c.in_ok-entries.entries.items c.sort_by_key.new.self.items index c.in_ok-entries.ensures.printed c.in_ok-entries.ensures.whole stable up
     (rw c.deref.ensures.value at numbers) (rw c.deref.ensures.value at places))

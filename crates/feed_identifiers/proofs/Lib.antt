@@ -1,0 +1,4 @@
+mod Digits
+mod Kept
+mod PrintedIssn
+mod PrintedIsbn

@@ -1,0 +1,5 @@
+pub mod Text
+pub mod Check
+pub mod Issn
+pub mod Isbn
+pub mod Laws

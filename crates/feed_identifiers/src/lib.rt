@@ -1,0 +1,16 @@
+//! Identifiers of serials and books: ISSNs (ISO 3297) and ISBNs (ISO 2108), and the numbers that tell them apart.
+#![tactic(auto)]
+
+mod check;
+mod isbn;
+mod issn;
+mod laws;
+mod text;
+
+pub use crate::isbn::Isbn;
+pub use crate::issn::Issn;
+pub use crate::laws::{
+    an_isbn_10_is_its_isbn_13, isbn_reads_back, issn_numbers_are_small, issn_reads_back,
+    one_isbn_for_number, one_issn_for_number,
+};
+pub use crate::text::trim_spaces;

@@ -1,0 +1,16 @@
+ghost use Rattle.std.specs.Prelude.{◌≡◌};
+ghost use Rattle.feed_identifiers.specs.Text.{trimmed};
+
+/// The text without the spaces (byte 20 hexadecimal) at its two ends. Other white space stays.
+pub fn trim_spaces(text: &[u8]) -> &[u8]
+    ensures { result.now ≡ trimmed text.now }
+{
+    let mut rest = text;
+    while let Some((b' ', tail)) = rest.split_first() {
+        rest = tail;
+    }
+    while let Some((b' ', front)) = rest.split_last() {
+        rest = front;
+    }
+    rest
+}

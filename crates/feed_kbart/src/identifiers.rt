@@ -1,0 +1,123 @@
+ghost use Rattle.std.specs.Prelude.{◌≡◌, ◌<◌, IfSome, option_map};
+ghost use Rattle.feed_identifiers.specs.Isbn.{IsIsbn};
+ghost use Rattle.feed_identifiers.specs.Issn.{IsIssn, number_of};
+ghost use Rattle.feed_kbart.specs.Identifiers.{isbn_number};
+
+use feed_identifiers::{Isbn, Issn};
+
+/// What a row is about.
+#[derive(Clone, Copy, Debug, PartialEq, Eq)]
+pub enum Kind {
+    /// A serial: `publication_type` is empty or `serial`.
+    Serial,
+    /// A book: `publication_type` is `monograph`.
+    Book,
+}
+
+/// The identifiers of a row, in print and online: a serial's are ISSNs, a book's are ISBNs.
+#[derive(Clone, Copy, Debug)]
+pub(crate) enum Identifiers {
+    Serial {
+        print: Option<Issn>,
+        online: Option<Issn>,
+    },
+    Book {
+        print: Option<Isbn>,
+        online: Option<Isbn>,
+    },
+}
+
+/// The number of an ISBN in the index, where those of ISSNs stand below it.
+pub(crate) fn isbn_number(isbn: &Isbn) -> u32
+    ensures number { result ≡ isbn_number isbn.now }
+    ensures printed { IsIsbn isbn.now }
+{
+    10_000_000 + isbn.number()
+}
+
+// The number of an ISSN, if there is one.
+fn number_of_issn(issn: Option<Issn>) -> Option<u32>
+    ensures number { result ≡ option_map number_of issn }
+    ensures printed { IfSome issn IsIssn }
+{
+    let issn = issn?;
+    Some(issn.number())
+}
+
+// The number of an ISBN in the index, if there is one.
+fn number_of_isbn(isbn: Option<Isbn>) -> Option<u32>
+    ensures number { result ≡ option_map isbn_number isbn }
+    ensures printed { IfSome isbn IsIsbn }
+{
+    let isbn = isbn?;
+    Some(isbn_number(&isbn))
+}
+
+impl Identifiers {
+    ghost use Rattle.feed_kbart.specs.Identifiers.{AreIdentifiers, kind, numbers, online_isbn, online_issn, print_isbn};
+    ghost use Rattle.feed_kbart.specs.Identifiers.{print_issn};
+
+    /// Whose they are.
+    pub(crate) fn kind(self) -> Kind
+        ensures { result ≡ kind self }
+    {
+        match self {
+            Identifiers::Serial { .. } => Kind::Serial,
+            Identifiers::Book { .. } => Kind::Book,
+        }
+    }
+
+    /// The ISSN of a serial in print.
+    pub(crate) fn print_issn(self) -> Option<Issn>
+        ensures { result ≡ print_issn self }
+    {
+        match self {
+            Identifiers::Serial { print, .. } => print,
+            Identifiers::Book { .. } => None,
+        }
+    }
+
+    /// The ISSN of a serial online.
+    pub(crate) fn online_issn(self) -> Option<Issn>
+        ensures { result ≡ online_issn self }
+    {
+        match self {
+            Identifiers::Serial { online, .. } => online,
+            Identifiers::Book { .. } => None,
+        }
+    }
+
+    /// The ISBN of a book in print.
+    pub(crate) fn print_isbn(self) -> Option<Isbn>
+        ensures { result ≡ print_isbn self }
+    {
+        match self {
+            Identifiers::Serial { .. } => None,
+            Identifiers::Book { print, .. } => print,
+        }
+    }
+
+    /// The ISBN of a book online.
+    pub(crate) fn online_isbn(self) -> Option<Isbn>
+        ensures { result ≡ online_isbn self }
+    {
+        match self {
+            Identifiers::Serial { .. } => None,
+            Identifiers::Book { online, .. } => online,
+        }
+    }
+
+    /// Their numbers in the index.
+    pub(crate) fn numbers(self) -> (Option<u32>, Option<u32>)
+        ensures numbers { result ≡ numbers self }
+        ensures printed { AreIdentifiers self }
+    {
+        match self {
+            Identifiers::Serial { print, online } => (
+                number_of_issn(print),
+                number_of_issn(online),
+            ),
+            Identifiers::Book { print, online } => (number_of_isbn(print), number_of_isbn(online)),
+        }
+    }
+}
