@@ -7,7 +7,7 @@ use Rattle.std.specs.List.{AllByRecursion}
 use Rattle.std.specs.List.Sorted.{IsStrictlySortedBy}
 use Rattle.std.specs.BTreeSet.{insert_key}
 use Rattle.std.proofs.lemmas.Cmp.{nat_list_cmp_total}
-use Rattle.feed_answer.specs.IssnSet.{bytes_cmp, IsAscending, issn_set}
+use Rattle.feed_answer.specs.IdentifierSet.{bytes_cmp, IsAscending, identifier_set}
 
 all_below : (first second : List ℕ) (issns : List (List ℕ)) → bytes_cmp first second ≡ Less
     → AllByRecursion (λ issn. bytes_cmp second issn ≡ Less) issns → AllByRecursion (λ issn. bytes_cmp first issn ≡ Less) issns
@@ -42,6 +42,6 @@ ascending_fold [] set up = up
 ascending_fold (one ∷ issns) set up = ascending_fold issns (insert_key bytes_cmp set one) (ascending_insert one set up)
 
 -- each ISSN of a set is below those after it
-pub set_ascends : (issns : List (List ℕ)) → IsAscending (issn_set issns)
+pub set_ascends : (issns : List (List ℕ)) → IsAscending (identifier_set issns)
 unfolding IsStrictlySortedBy
 set_ascends issns = ascending_fold issns [] tt

@@ -6,7 +6,7 @@ use Rattle.std.specs.Ordering.{match_ordering}
 use Rattle.std.specs.Str.{bytes_eq}
 use Rattle.std.specs.BTreeSet.{insert_key}
 use Rattle.std.specs.FinSet.{nat_cmp-IsAntisymmetric, slice_cmp-IsAntisymmetric}
-use Rattle.feed_answer.specs.IssnSet.{bytes_cmp, is_among, issn_set}
+use Rattle.feed_answer.specs.IdentifierSet.{bytes_cmp, is_among, identifier_set}
 
 or_itself : (a b : Bool) → (a || b) ≡ (a || (a || b))
 or_itself true b = refl
@@ -49,5 +49,5 @@ among-fold issn (one ∷ issns) set =
     ∙ ap (λ b. b || is_among issn issns) (among-insert issn one set)
     ∙ or_move (bytes_eq one issn) (is_among issn set) (is_among issn issns)
 
-pub has_just_its_issns : (issns : List (List ℕ)) (issn : List ℕ) → is_among issn (issn_set issns) ≡ is_among issn issns
-has_just_its_issns issns issn = among-fold issn issns []
+pub has_just_its_identifiers : (issns : List (List ℕ)) (issn : List ℕ) → is_among issn (identifier_set issns) ≡ is_among issn issns
+has_just_its_identifiers issns issn = among-fold issn issns []

@@ -1,4 +1,4 @@
--- The hits at the places of the rows that have a query's ISSNs.
+-- The hits at the places of the rows that have a query's identifiers.
 use Rattle.std.proofs.Common.{◌≡◌, ◌<◌, ◌≤◌, ◌+◌, ◌⊎◌, inl, inr, ℕ, zero, suc, Bool, true, false, ◌||◌, eqb, List, [], ◌∷◌, length, drop}
 use Rattle.std.proofs.Common.{get_or, Option, Some, None, option_map, if◌then◌else◌, refl, sym, ap, subst, arith}
 use Rattle.std.specs.Option.{option_and_then}
@@ -11,16 +11,20 @@ use Rattle.std.proofs.lemmas.List.{drop_all, drop_more}
 use Rattle.std.proofs.lemmas.List.Elements.{All-contains, Contains-append_left, Contains-append_right}
 use Rattle.std.proofs.lemmas.List.Kept.{AllPairs-from_increasing}
 use Rattle.std.proofs.lemmas.Option.{slice_get-get_or}
-use Rattle.feed_kbart.specs.Places.{is_issn, place_with, places_with}
+use Rattle.feed_kbart.specs.Identifiers.{kind, online_isbn, online_issn, print_isbn, print_issn}
+use Rattle.feed_kbart.specs.Places.{has_isbn, has_issn, is_own, place_by, places_by, places_with, places_with_isbn}
+use Rattle.feed_kbart.specs.declared.identifiers.Kind.{Kind}
+use Rattle.feed_kbart.specs.declared.identifiers.Kind.TheVariants.{Serial, Book}
 use Rattle.feed_kbart.specs.HoldingsValue.{HoldingsValue}
 use Rattle.feed_kbart.specs.RowValue.{RowValue}
 use Rattle.feed_answer.specs.Answers.{answer_of, hit_by}
-use Rattle.feed_answer.specs.Grades.{is_named}
+use Rattle.feed_answer.specs.Grades.{grade_by, is_named}
 use Rattle.feed_answer.specs.HitValue.{HitValue}
-use Rattle.feed_answer.specs.Places.{hit_at, places_among}
-use Rattle.feed_answer.specs.IssnSet.{is_among}
+use Rattle.feed_answer.specs.Places.{hit_at, places_among, places_of_isbns, places_of_issns}
+use Rattle.feed_answer.specs.IdentifierSet.{is_among}
 use Rattle.feed_answer.specs.QueryValue.{QueryValue}
 use Rattle.feed_answer.specs.declared.grade.Grade.{Grade}
+use Rattle.feed_answer.specs.declared.grade.Grade.TheVariants.{Untested}
 
 -- what is in a list of one more
 contains_first : {X : Type 0} (x : X) (xs : List X) → Contains (x ∷ xs) x
@@ -44,7 +48,7 @@ contains_flat f (z ∷ xs) x y has inner = elim (contains_cases z xs x has) [
   | inr later ↦ Contains-append_right (f z) (flat_map f xs) y (contains_flat f xs x y later inner)
 ]
 
--- an ISSN that is among some is one of them
+-- an identifier that is among some is one of them
 or_cases : (a b : Bool) → (a || b) ≡ true → (a ≡ true) ⊎ (b ≡ true)
 or_cases true b e = inl refl
 or_cases false b e = inr e
@@ -56,64 +60,73 @@ among_is issn (other ∷ issns) e = elim (or_cases (bytes_eq other issn) (is_amo
   | inr later ↦ contains_later other issns issn (among_is issn issns later)
 ]
 
--- a row that has an ISSN has its place among those with the ISSN
-abbrev HasIssn : RowValue → List ℕ → Type 0
-HasIssn row issn = (row.print ≡ Some issn) ⊎ (row.online ≡ Some issn)
-
-is_itself : (issn : List ℕ) (own : Option (List ℕ)) → own ≡ Some issn → is_issn issn own ≡ true
-is_itself issn own e = rw e ((bytes_decides issn issn).1 refl)
-
 or_true : (a : Bool) → (a || true) ≡ true
 or_true true = refl
 or_true false = refl
-
-has_issn : (issn : List ℕ) (row : RowValue) → HasIssn row issn → (is_issn issn row.print || is_issn issn row.online) ≡ true
-has_issn issn row has = elim has [
-  | inl print ↦ rw (is_itself issn row.print print) refl
-  | inr online ↦ rw (is_itself issn row.online online) (or_true (is_issn issn row.print))
-]
 
 contains_next : {X : Type 0} (first : Option X) (xs : List X) (x : X) → Contains xs x → Contains (cons_option first xs) x
 contains_next None xs x has = has
 contains_next (Some first) xs x has = contains_later first xs x has
 
-places_have : (issn : List ℕ) (base : ℕ) (rows : List RowValue) (i place : ℕ) (d : RowValue) → i < length rows → place ≡ base + i
-    → HasIssn (get_or rows i d) issn → Contains (filter_map (place_with issn) (enumerate_from base rows)) place
-places_have issn base [] i place d within at has = absurd (omega arith)
-places_have issn base (row ∷ rows) zero place d within at has =
+-- a row that passes has its place among those that do
+places_have : (test : RowValue → Bool) (base : ℕ) (rows : List RowValue) (i place : ℕ) (d : RowValue) → i < length rows → place ≡ base + i
+    → test (get_or rows i d) ≡ true → Contains (filter_map (place_by test) (enumerate_from base rows)) place
+places_have test base [] i place d within at passes = absurd (omega arith)
+places_have test base (row ∷ rows) zero place d within at passes =
     let same : place ≡ base = omega arith in
-    rw (same, has_issn issn row has) (contains_first base (filter_map (place_with issn) (enumerate_from (base + 1) rows)))
-places_have issn base (row ∷ rows) (suc i) place d within at has =
-    contains_next (place_with issn (base, row)) (filter_map (place_with issn) (enumerate_from (base + 1) rows)) place
-    (places_have issn (base + 1) rows i place d (omega arith) (omega arith) has)
+    rw (same, passes) (contains_first base (filter_map (place_by test) (enumerate_from (base + 1) rows)))
+places_have test base (row ∷ rows) (suc i) place d within at passes =
+    contains_next (place_by test (base, row)) (filter_map (place_by test) (enumerate_from (base + 1) rows)) place
+    (places_have test (base + 1) rows i place d (omega arith) (omega arith) passes)
 
--- a row that matches has an ISSN that is asked for
+-- a row has one of the identifiers that are asked for
+abbrev HasOne : (List ℕ → RowValue → Bool) → List (List ℕ) → RowValue → Type 0
+HasOne has asked row = (identifier : List ℕ) × (has identifier row ≡ true) × Contains asked identifier
+
 is_asked : (b : Bool) (grade : Option Grade) (f : Grade → HitValue) (hit : HitValue) → option_map f (if b then grade else None) ≡ Some hit → b ≡ true
 is_asked true grade f hit e = refl
 is_asked false grade f hit e = absurd (cc)
 
-named_is : (own : Option (List ℕ)) (issns : List (List ℕ)) → is_named own issns ≡ true → (issn : List ℕ) × (own ≡ Some issn) × Contains issns issn
-named_is None issns e = absurd (cc)
-named_is (Some issn) issns e = (issn, refl, among_is issn issns e)
+is_itself : (identifier : List ℕ) → bytes_eq identifier identifier ≡ true
+is_itself identifier = (bytes_decides identifier identifier).1 refl
 
-matches_by : (query : QueryValue) (row : RowValue) (hit : HitValue) → hit_by query row ≡ Some hit → (issn : List ℕ) × HasIssn row issn × Contains query.issns issn
-matches_by query row hit e =
-    let asked = is_asked (is_named row.print query.issns || is_named row.online query.issns) _ _ hit e in
-    elim (or_cases _ _ asked) [
-      | inl print ↦ let named = named_is row.print query.issns print in (named.0, inl named.1, named.2)
-      | inr online ↦ let named = named_is row.online query.issns online in (named.0, inr named.1, named.2)
-    ]
+named_has : (print online : Option (List ℕ)) (asked : List (List ℕ)) → (is_named print asked || is_named online asked) ≡ true
+    → (identifier : List ℕ) × ((is_own identifier print || is_own identifier online) ≡ true) × Contains asked identifier
+named_has None None asked e = absurd (cc)
+named_has None (Some online) asked e = (online, is_itself online, among_is online asked e)
+named_has (Some print) None asked e = (print, rw (is_itself print) refl, among_is print asked (alone (is_among print asked) e))
+  where
+    alone : (b : Bool) → (b || false) ≡ true → b ≡ true
+    alone true e = refl
+    alone false e = e
+named_has (Some print) (Some online) asked e = elim (or_cases (is_among print asked) (is_among online asked) e) [
+  | inl first ↦ (print, rw (is_itself print) refl, among_is print asked first)
+  | inr second ↦ (online, rw (is_itself online) (or_true (bytes_eq online print)), among_is online asked second)
+]
 
--- so its place is among those of the query's ISSNs
+-- a row that matches has an identifier that is asked for
+matches_by : (query : QueryValue) (row : RowValue) (of : Kind) (f : Grade → HitValue) (hit : HitValue) → option_map f (grade_by of query row) ≡ Some hit
+    → HasOne has_issn query.issns row ⊎ HasOne has_isbn query.isbns row
+matches_by query row Serial f hit e =
+    inl (named_has (print_issn row.identifiers) (online_issn row.identifiers) query.issns
+    (is_asked (is_named (print_issn row.identifiers) query.issns || is_named (online_issn row.identifiers) query.issns) _ f hit e))
+matches_by query row Book f hit e =
+    inr (named_has (print_isbn row.identifiers) (online_isbn row.identifiers) query.isbns
+    (is_asked (is_named (print_isbn row.identifiers) query.isbns || is_named (online_isbn row.identifiers) query.isbns) (Some Untested) f hit e))
+
+-- so its place is among those of the query's identifiers
 place_among : (query : QueryValue) (rows : List RowValue) (i : ℕ) (d : RowValue) → i < length rows
-    → (hit_by query (get_or rows i d) ≡ None) ⊎ Contains (places_among query.issns rows) i
-unfolding places_with
+    → (hit_by query (get_or rows i d) ≡ None) ⊎ Contains (places_among query rows) i
+unfolding places_by
 place_among query rows i d within =
-    elim (hit_by query (get_or rows i d)) as (λ h. hit_by query (get_or rows i d) ≡ h → (hit_by query (get_or rows i d) ≡ None) ⊎ Contains (places_among query.issns rows) i) [
+    elim (hit_by query (get_or rows i d)) as (λ h. hit_by query (get_or rows i d) ≡ h → (hit_by query (get_or rows i d) ≡ None) ⊎ Contains (places_among query rows) i) [
       | None ↦ λ e. inl e
-      | Some hit ↦ λ e.
-          let by = matches_by query (get_or rows i d) hit e in
-          inr (contains_flat (λ issn. places_with issn rows) query.issns by.0 i by.2 (places_have by.0 0 rows i i d within (omega arith) by.1))
+      | Some hit ↦ λ e. inr (elim (matches_by query (get_or rows i d) (kind (get_or rows i d).identifiers) _ hit e) [
+        | inl by ↦ Contains-append_left (places_of_issns query.issns rows) (places_of_isbns query.isbns rows) i
+            (contains_flat (λ issn. places_with issn rows) query.issns by.0 i by.2 (places_have (has_issn by.0) 0 rows i i d within (omega arith) by.1))
+        | inr by ↦ Contains-append_right (places_of_issns query.issns rows) (places_of_isbns query.isbns rows) i
+            (contains_flat (λ isbn. places_with_isbn isbn rows) query.isbns by.0 i by.2 (places_have (has_isbn by.0) 0 rows i i d within (omega arith) by.1))
+      ])
     ] refl
 
 -- what h gives of the element at a place
@@ -202,9 +215,9 @@ over_all h (row ∷ rows) places ascending has =
       has = λ i d k g. has i d g;
     })
 
--- the hits at ascending places that have those of the query's ISSNs are the answer
+-- the hits at ascending places that have those of the query's identifiers are the answer
 pub answered_at : (query : QueryValue) (holdings : HoldingsValue) (places : List ℕ) → IsStrictlyIncreasing places
-    → ((place : ℕ) → Contains (places_among query.issns holdings.rows) place → Contains places place)
+    → ((place : ℕ) → Contains (places_among query holdings.rows) place → Contains places place)
     → filter_map (hit_at query holdings.rows) places ≡ answer_of holdings query
 unfolding answer_of
 answered_at query holdings places ascending has =

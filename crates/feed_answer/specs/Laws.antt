@@ -1,13 +1,13 @@
 -- Laws of queries and grades.
 use Rattle.std.specs.Prelude.{◌≡◌, ◌↔◌, ℕ, List, Option, Some, None, true, ℤ, ◌≤ℤ◌}
 use Rattle.feed_dates.specs.declared.day_range.DayRange.{DayRange}
-use Rattle.feed_answer.specs.IssnSet.{is_among, issn_set}
+use Rattle.feed_answer.specs.IdentifierSet.{is_among, identifier_set}
 use Rattle.feed_answer.specs.Grades.{begins_by, lasts_to, tested_days}
 use Rattle.feed_answer.specs.declared.grade.Grade.TheVariants.{Inside}
 
--- the set of a list's ISSNs has each ISSN of the list, and no other
-abbrev pub SetHasJustItsIssns : Type 0
-SetHasJustItsIssns = (issns : List (List ℕ)) (issn : List ℕ) → is_among issn (issn_set issns) ≡ is_among issn issns
+-- the set of a list's identifiers has each identifier of the list, and no other
+abbrev pub SetHasJustItsIdentifiers : Type 0
+SetHasJustItsIdentifiers = (identifiers : List (List ℕ)) (one : List ℕ) → is_among one (identifier_set identifiers) ≡ is_among one identifiers
 
 -- a day is covered from a first day to a last; a side that is absent is open
 pub record IsCovered (first last : Option ℤ) (day : ℤ) : Type 0 where

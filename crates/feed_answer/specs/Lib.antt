@@ -1,5 +1,5 @@
 pub mod Limits
-pub mod IssnSet
+pub mod IdentifierSet
 pub mod Pairs
 pub mod QueryValue
 pub mod Queries

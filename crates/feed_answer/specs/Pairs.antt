@@ -1,12 +1,14 @@
--- What the pairs of a query say (ANSI/NISO Z39.88-2004, key/value journal format).
+-- What the pairs of a query say (ANSI/NISO Z39.88-2004, key/value formats of journals and books).
 use Rattle.std.specs.Prelude.{ℕ, ◌&&◌, ◌||◌, not, Bool, true, false, List, [], ◌∷◌, Option, Some, None, if◌then◌else◌, take, drop, length, codes}
 use Rattle.std.specs.List.{filter_map}
 use Rattle.std.specs.Str.{bytes_eq, str_eq_ignore_ascii_case}
-use Rattle.feed_kbart.specs.Text.{trimmed, volume_of}
-use Rattle.feed_kbart.specs.Issn.{issn_of}
+use Rattle.feed_identifiers.specs.Isbn.{isbn_of}
+use Rattle.feed_identifiers.specs.Issn.{issn_of}
+use Rattle.feed_identifiers.specs.Text.{trimmed}
+use Rattle.feed_kbart.specs.Text.{volume_of}
 use Rattle.feed_dates.specs.DayRanges.{query_days_of}
 use Rattle.feed_dates.specs.declared.day_range.DayRange.{DayRange}
-use Rattle.feed_answer.specs.IssnSet.{issn_set}
+use Rattle.feed_answer.specs.IdentifierSet.{identifier_set}
 
 -- the key of a pair is this text
 abbrev pub has_key : List ℕ → List ℕ × List ℕ → Bool
@@ -26,9 +28,20 @@ abbrev pub is_other_version : List ℕ × List ℕ → Bool
 is_other_version pair =
     is_other (codes "url_ver") (codes "Z39.88-2004") pair || is_other (codes "ctx_ver") (codes "Z39.88-2004") pair
 
--- the format is another than the journal's
+-- the format of journals, and that of books
+abbrev pub journal_format : List ℕ
+journal_format = codes "info:ofi/fmt:kev:mtx:journal"
+
+abbrev pub book_format : List ℕ
+book_format = codes "info:ofi/fmt:kev:mtx:book"
+
+-- the pair tells this format
+abbrev pub tells_format : List ℕ → List ℕ × List ℕ → Bool
+tells_format format pair = has_key (codes "rft_val_fmt") pair && bytes_eq pair.1 format
+
+-- the format is neither that of journals nor that of books
 abbrev pub is_other_format : List ℕ × List ℕ → Bool
-is_other_format pair = is_other (codes "rft_val_fmt") (codes "info:ofi/fmt:kev:mtx:journal") pair
+is_other_format pair = is_other (codes "rft_val_fmt") journal_format pair && not (bytes_eq pair.1 book_format)
 
 -- the text begins with this front, in any case of ASCII letters
 abbrev pub is_begun_by : List ℕ → List ℕ → Bool
@@ -47,7 +60,15 @@ issn_of_pair pair =
 
 -- the ISSNs that the pairs name, as a set
 abbrev pub issns_among : List (List ℕ × List ℕ) → List (List ℕ)
-issns_among pairs = issn_set (filter_map issn_of_pair pairs)
+issns_among pairs = identifier_set (filter_map issn_of_pair pairs)
+
+-- the ISBN that a pair names
+abbrev pub isbn_of_pair : List ℕ × List ℕ → Option (List ℕ)
+isbn_of_pair pair = if has_key (codes "rft.isbn") pair then isbn_of pair.1 else None
+
+-- the ISBNs that the pairs name, as a set
+abbrev pub isbns_among : List (List ℕ × List ℕ) → List (List ℕ)
+isbns_among pairs = identifier_set (filter_map isbn_of_pair pairs)
 
 -- the days of a pair whose value, trimmed, reads as a date
 abbrev pub days_of_pair : List ℕ × List ℕ → Option DayRange

@@ -1,25 +1,46 @@
 -- What a query asks for, or why it is refused.
-use Rattle.std.specs.Prelude.{◌≡◌, ◌≤◌, nat_lt, ℕ, List, length, Result, Ok, Err, if◌then◌else◌}
+use Rattle.std.specs.Prelude.{◌≡◌, ◌≤◌, ◌&&◌, ◌||◌, nat_lt, ℕ, Bool, List, [], length, Result, Ok, Err, if◌then◌else◌}
 use Rattle.std.specs.List.{list_any}
 use Rattle.form_urlencoded.specs.Form as form
-use Rattle.feed_answer.specs.Pairs.{is_empty, is_other_version, is_other_format, issns_among, first_days, first_volume}
+use Rattle.feed_answer.specs.Pairs.{is_empty, is_other_version, is_other_format, issns_among, isbns_among, first_days, first_volume}
+use Rattle.feed_answer.specs.Pairs.{book_format, journal_format, tells_format}
 use Rattle.feed_answer.specs.QueryValue.{QueryValue}
 use Rattle.feed_answer.specs.Limits.{query_limit}
 use Rattle.feed_answer.specs.declared.fault.QueryFault.{QueryFault}
-use Rattle.feed_answer.specs.declared.fault.QueryFault.TheVariants.{TooLong, Version, NotJournal, NoIssn, Memory}
+use Rattle.feed_answer.specs.declared.fault.QueryFault.TheVariants.{TooLong, Version, OtherFormat, NoIssn, NoIsbn, Memory}
 
--- a query asks for the rows of these ISSNs, and is refused where there are none
-abbrev pub asked_for : List (List ℕ) → List (List ℕ × List ℕ) → Result QueryValue QueryFault
-asked_for issns pairs =
-    if is_empty issns then Err NoIssn
-    else Ok (record { issns = issns; days = first_days pairs; volume = first_volume pairs })
+-- the format of journals is told
+abbrev pub tells_journal : List (List ℕ × List ℕ) → Bool
+tells_journal pairs = list_any (tells_format journal_format) pairs
 
--- what the decoded pairs ask for: the version is judged first, then the format, then the ISSNs
+-- the format of books is told
+abbrev pub tells_book : List (List ℕ × List ℕ) → Bool
+tells_book pairs = list_any (tells_format book_format) pairs
+
+-- the formats are none that is answered: another is told, or both are
+abbrev pub has_other_format : List (List ℕ × List ℕ) → Bool
+has_other_format pairs = list_any is_other_format pairs || (tells_journal pairs && tells_book pairs)
+
+-- the ISSNs that are asked for, which do not count in the format of books
+abbrev pub issns_asked : List (List ℕ × List ℕ) → List (List ℕ)
+issns_asked pairs = if tells_book pairs then [] else issns_among pairs
+
+-- the ISBNs that are asked for, which do not count in the format of journals
+abbrev pub isbns_asked : List (List ℕ × List ℕ) → List (List ℕ)
+isbns_asked pairs = if tells_journal pairs then [] else isbns_among pairs
+
+-- a query asks for the rows of these identifiers, and is refused where there are none
+abbrev pub asked_for : List (List ℕ) → List (List ℕ) → List (List ℕ × List ℕ) → Result QueryValue QueryFault
+asked_for issns isbns pairs =
+    if is_empty issns && is_empty isbns then Err (if tells_book pairs then NoIsbn else NoIssn)
+    else Ok (record { issns = issns; isbns = isbns; days = first_days pairs; volume = first_volume pairs })
+
+-- what the decoded pairs ask for: the version is judged first, then the format, then the identifiers
 abbrev pub asked_by : List (List ℕ × List ℕ) → Result QueryValue QueryFault
 asked_by pairs =
     if list_any is_other_version pairs then Err Version
-    else if list_any is_other_format pairs then Err NotJournal
-    else asked_for (issns_among pairs) pairs
+    else if has_other_format pairs then Err OtherFormat
+    else asked_for (issns_asked pairs) (isbns_asked pairs) pairs
 
 -- what a query asks for, or the first reason to refuse it
 unfoldable pub query_of : List ℕ → Result QueryValue QueryFault

@@ -13,10 +13,13 @@ pub enum QueryFault {
     TooLong,
     /// A `url_ver` or `ctx_ver` is neither empty nor `Z39.88-2004`.
     Version,
-    /// A `rft_val_fmt` is neither empty nor `info:ofi/fmt:kev:mtx:journal`.
-    NotJournal,
-    /// No value names an ISSN.
+    /// A `rft_val_fmt` is neither empty, `info:ofi/fmt:kev:mtx:journal` nor `info:ofi/fmt:kev:mtx:book`, or one is the
+    /// first of these and one the second.
+    OtherFormat,
+    /// No value that counts names an ISSN or an ISBN.
     NoIssn,
+    /// In the format of books no value names an ISBN.
+    NoIsbn,
     /// Want of memory, in place of any outcome but `TooLong`.
     Memory,
 }
@@ -31,8 +34,9 @@ impl fmt::Display for QueryFault {
         f.write_str(match self {
             QueryFault::TooLong => "TooLong",
             QueryFault::Version => "Version",
-            QueryFault::NotJournal => "NotJournal",
+            QueryFault::OtherFormat => "OtherFormat",
             QueryFault::NoIssn => "NoIssn",
+            QueryFault::NoIsbn => "NoIsbn",
             QueryFault::Memory => "Memory",
         })
     }

@@ -1,14 +1,16 @@
 ghost use Rattle.std.specs.Prelude.{◌≡◌, Some};
-ghost use Rattle.feed_answer.specs.Grades.{begins_by, days_grade, grade_of, is_named, lasts_to, volume_grade};
+ghost use Rattle.feed_answer.specs.Grades.{begins_by, book_grade, days_grade, grade_of, is_named};
+ghost use Rattle.feed_answer.specs.Grades.{lasts_to, serial_grade, volume_grade};
 
 use crate::query::Query;
-use feed_kbart::{DayRange, Issn, Row};
+use feed_identifiers::{Isbn, Issn};
+use feed_kbart::{DayRange, Kind, Row};
 use std::fmt;
 
 /// How well a row that matches covers what the query asks for.
 #[derive(Clone, Copy, Debug, PartialEq, Eq)]
 pub enum Grade {
-    /// Neither date nor volume was tested: the query or the row does not tell it.
+    /// Neither date nor volume was tested: the query or the row does not tell it, or the row is a book.
     Untested,
     /// The row covers some of the query's days, and not all.
     Overlap,
@@ -82,17 +84,24 @@ fn volume_grade(row: &Row, volume: Option<u32>) -> Option<Grade>
 }
 
 // Whether a row's ISSN, if it has one, is among those that are asked for.
-fn is_named(issn: Option<Issn>, issns: &[Issn]) -> bool
+fn is_issn_named(issn: Option<Issn>, issns: &[Issn]) -> bool
     ensures { result ≡ is_named issn issns.now }
 {
     issn.is_some_and(|issn| issns.contains(&issn))
 }
 
-/// The grade of a row under a query, if the row matches.
-pub(crate) fn grade_of(row: &Row, query: &Query) -> Option<Grade>
-    ensures { result ≡ grade_of query.now row.now }
+// Whether a row's ISBN, if it has one, is among those that are asked for.
+fn is_isbn_named(isbn: Option<Isbn>, isbns: &[Isbn]) -> bool
+    ensures { result ≡ is_named isbn isbns.now }
 {
-    if !is_named(row.print(), query.issns()) && !is_named(row.online(), query.issns()) {
+    isbn.is_some_and(|isbn| isbns.contains(&isbn))
+}
+
+// The grade of a serial's row: one of its ISSNs is asked for, and its dates and volumes pass.
+fn serial_grade(row: &Row, query: &Query) -> Option<Grade>
+    ensures { result ≡ serial_grade query.now row.now }
+{
+    if !is_issn_named(row.print(), query.issns()) && !is_issn_named(row.online(), query.issns()) {
         return None;
     }
     let by_days = days_grade(row, query.days())?;
@@ -100,5 +109,28 @@ pub(crate) fn grade_of(row: &Row, query: &Query) -> Option<Grade>
     match by_days {
         Grade::Untested => Some(by_volume),
         _ => Some(by_days),
+    }
+}
+
+// The grade of a book's row: one of its ISBNs is asked for, and nothing is tested.
+fn book_grade(row: &Row, query: &Query) -> Option<Grade>
+    ensures { result ≡ book_grade query.now row.now }
+{
+    if is_isbn_named(row.print_isbn(), query.isbns())
+        || is_isbn_named(row.online_isbn(), query.isbns())
+    {
+        Some(Grade::Untested)
+    } else {
+        None
+    }
+}
+
+/// The grade of a row under a query, if the row matches.
+pub(crate) fn grade_of(row: &Row, query: &Query) -> Option<Grade>
+    ensures { result ≡ grade_of query.now row.now }
+{
+    match row.kind() {
+        Kind::Serial => serial_grade(row, query),
+        Kind::Book => book_grade(row, query),
     }
 }

@@ -1,4 +1,4 @@
-//! Which holdings answer a journal query of an OpenURL (ANSI/NISO Z39.88-2004).
+//! Which holdings answer a query of an OpenURL for serials or books (ANSI/NISO Z39.88-2004).
 //!
 //! `Query::read` reads what a query asks for, `answer` gives the rows of a holdings list that match,
 //! each with its grade, and `Answer::write` writes them as text.
@@ -16,6 +16,6 @@ mod query;
 pub use crate::fault::{QueryFault, WriteFault};
 pub use crate::grade::Grade;
 pub use crate::hits::{Answer, Hit};
-pub use crate::laws::{grades_speak_of_days, set_has_just_its_issns};
+pub use crate::laws::{grades_speak_of_days, set_has_just_its_identifiers};
 pub use crate::matching::answer;
 pub use crate::query::{QUERY_LIMIT, Query};

@@ -1,34 +1,46 @@
-ghost use Rattle.std.specs.Prelude.{◌≡◌, ℕ, IfOk, option_map};
+ghost use Rattle.std.specs.Prelude.{◌≡◌, ◌++◌, ℕ, IfOk, OnOk, option_map};
 ghost use Rattle.std.specs.List.{Contains, filter_map};
 ghost use Rattle.std.specs.List.Sorted.{IsStrictlyIncreasing};
 ghost use Rattle.feed_answer.specs.Answers.{answer_of};
 ghost use Rattle.feed_answer.specs.HitValue.{hit_of};
-ghost use Rattle.feed_answer.specs.Places.{hit_at, places_among};
+ghost use Rattle.feed_answer.specs.Places.{hit_at, places_among, places_of_isbns, places_of_issns};
 
 use crate::grade::grade_of;
 use crate::hits::{Answer, Hit};
 use crate::query::Query;
-use feed_kbart::{Holdings, Issn, Row};
+use feed_identifiers::{Isbn, Issn};
+use feed_kbart::{Holdings, Row};
 use std::alloc::{AllocError, Global};
 
-// The places of the rows that have one of these ISSNs, ISSN by ISSN.
-fn places_among(alloc: Global, holdings: &Holdings, issns: &[Issn]) -> Result<Vec<u32>, AllocError>
-    ensures { IfOk result (λ places. places.items ≡ places_among issns.now holdings.now.rows) }
+// Adds the places of the rows that have one of these ISSNs, ISSN by ISSN.
+fn add_issns(places: &mut Vec<u32>, holdings: &Holdings, issns: &[Issn]) -> Result<(), AllocError>
+    ensures { OnOk result (places.new.items ≡ places.old.items ++ places_of_issns issns.now holdings.now.rows) }
 {
-    let mut places = Vec::new(alloc);
     for issn in issns {
         places.extend_from_slice(holdings.with_issn(issn))?;
     }
-    Ok(places)
+    Ok(())
 }
 
-// The same, ascending and each once.
-fn places_of(alloc: Global, holdings: &Holdings, issns: &[Issn]) -> Result<Vec<u32>, AllocError>
+// Adds the places of the rows that have one of these ISBNs, ISBN by ISBN.
+fn add_isbns(places: &mut Vec<u32>, holdings: &Holdings, isbns: &[Isbn]) -> Result<(), AllocError>
+    ensures { OnOk result (places.new.items ≡ places.old.items ++ places_of_isbns isbns.now holdings.now.rows) }
+{
+    for isbn in isbns {
+        places.extend_from_slice(holdings.with_isbn(isbn))?;
+    }
+    Ok(())
+}
+
+// The places of the rows that have one of the identifiers of a query, ascending and each once.
+fn places_of(alloc: Global, holdings: &Holdings, query: &Query) -> Result<Vec<u32>, AllocError>
     ensures ascending { IfOk result (λ places. IsStrictlyIncreasing places.items) }
-    ensures whole { IfOk result (λ places. (place : ℕ) → Contains (places_among issns.now holdings.now.rows) place
+    ensures whole { IfOk result (λ places. (place : ℕ) → Contains (places_among query.now holdings.now.rows) place
         → Contains places.items place) }
 {
-    let mut places = places_among(alloc, holdings, issns)?;
+    let mut places = Vec::new(alloc);
+    add_issns(&mut places, holdings, query.issns())?;
+    add_isbns(&mut places, holdings, query.isbns())?;
     places.sort_unstable();
     places.dedup();
     Ok(places)
@@ -62,7 +74,7 @@ fn hits_at<'a>(
 }
 
 /// The rows of a holdings list that match a query, each with its grade, in file order. Only those that have one
-/// of its ISSNs are looked at.
+/// of its identifiers are looked at.
 pub fn answer<'a>(
     alloc: Global,
     holdings: &'a Holdings,
@@ -70,6 +82,6 @@ pub fn answer<'a>(
 ) -> Result<Answer<'a>, AllocError>
     ensures { IfOk result (λ answer. answer ≡ answer_of holdings.now query.now) }
 {
-    let places = places_of(alloc, holdings, query.issns())?;
+    let places = places_of(alloc, holdings, query)?;
     hits_at(alloc, holdings.rows(), &places, query)
 }

@@ -1,15 +1,20 @@
 ghost use Rattle.std.specs.Prelude.{◌≡◌};
 ghost use Rattle.feed_answer.specs.Pairs.{days_of_pair, has_key, is_other, is_other_format, is_other_version};
-ghost use Rattle.feed_answer.specs.Pairs.{issn_of_pair, issn_of_urn, volume_of_pair};
+ghost use Rattle.feed_answer.specs.Pairs.{isbn_of_pair, issn_of_pair, issn_of_urn, tells_format, volume_of_pair};
 
-use feed_kbart::{DayRange, Issn, read_volume, trim_spaces};
+use feed_identifiers::{Isbn, Issn, trim_spaces};
+use feed_kbart::{DayRange, read_volume};
 use std::alloc::Global;
 use std::borrow::CowSlice;
 use std::marker::Model;
 
 const VERSION: &str = "Z39.88-2004";
 
-const JOURNAL: &str = "info:ofi/fmt:kev:mtx:journal";
+/// The format of journals, as a value of `rft_val_fmt`.
+pub(crate) const JOURNAL: &str = "info:ofi/fmt:kev:mtx:journal";
+
+/// The format of books, as a value of `rft_val_fmt`.
+pub(crate) const BOOK: &str = "info:ofi/fmt:kev:mtx:book";
 
 /// A decoded key and its value. Their bytes need not be UTF-8.
 #[derive(Drop)]
@@ -58,11 +63,18 @@ impl<'a> Pair<'a> {
         self.is_other("url_ver", VERSION) || self.is_other("ctx_ver", VERSION)
     }
 
-    /// Whether it tells another format than that of a journal.
+    /// Whether it tells this format.
+    pub(crate) fn tells_format(&self, format: &str) -> bool
+        ensures { result ≡ tells_format format.now self.now }
+    {
+        self.has_key("rft_val_fmt") && self.value.as_slice() == format.as_bytes()
+    }
+
+    /// Whether it tells another format than those of journals and of books.
     pub(crate) fn is_other_format(&self) -> bool
         ensures { result ≡ is_other_format self.now }
     {
-        self.is_other("rft_val_fmt", JOURNAL)
+        self.is_other("rft_val_fmt", JOURNAL) && self.value.as_slice() != BOOK.as_bytes()
     }
 
     /// The ISSN that it names, if it names one.
@@ -73,6 +85,17 @@ impl<'a> Pair<'a> {
             Issn::parse(self.value.as_slice())
         } else if self.has_key("rft_id") {
             issn_of_urn(self.value.as_slice())
+        } else {
+            None
+        }
+    }
+
+    /// The ISBN that it names, if it names one.
+    pub(crate) fn isbn(&self) -> Option<Isbn>
+        ensures { result ≡ isbn_of_pair self.now }
+    {
+        if self.has_key("rft.isbn") {
+            Isbn::parse(self.value.as_slice())
         } else {
             None
         }

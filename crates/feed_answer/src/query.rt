@@ -1,13 +1,17 @@
-ghost use Rattle.std.specs.Prelude.{◌≡◌, IfOk, OnOk};
+ghost use Rattle.std.specs.Prelude.{◌≡◌, IfOk, OnOk, if◌then◌else◌};
 ghost use Rattle.std.specs.List.{list_any};
 ghost use Rattle.std.specs.BTreeSet.{insert_key};
-ghost use Rattle.feed_answer.specs.IssnSet.{IsAscending, bytes_cmp};
-ghost use Rattle.feed_answer.specs.Pairs.{first_days, first_volume, is_other_format, is_other_version, issns_among};
+ghost use Rattle.feed_answer.specs.IdentifierSet.{IsAscending, bytes_cmp};
+ghost use Rattle.feed_answer.specs.Pairs.{first_days, first_volume, is_other_format, is_other_version};
+ghost use Rattle.feed_answer.specs.Pairs.{isbns_among, issns_among, tells_format};
+ghost use Rattle.feed_answer.specs.Queries.{has_other_format, isbns_asked, issns_asked, tells_book};
+ghost use Rattle.feed_answer.specs.declared.fault.QueryFault.TheVariants as fault;
 
 use crate::decode::decoded_pairs;
 use crate::fault::QueryFault;
-use crate::pair::Pair;
-use feed_kbart::{DayRange, Issn};
+use crate::pair::{BOOK, JOURNAL, Pair};
+use feed_identifiers::{Isbn, Issn};
+use feed_kbart::DayRange;
 use std::alloc::{AllocError, Global};
 use std::cmp::Ordering;
 use std::marker::Model;
@@ -15,36 +19,41 @@ use std::marker::Model;
 /// The most bytes that a query may have.
 pub const QUERY_LIMIT: usize = 4096;
 
-/// What a journal query asks for (ANSI/NISO Z39.88-2004, key/value format).
+/// What a query for serials or books asks for (ANSI/NISO Z39.88-2004, key/value format).
 #[derive(Drop)]
 pub struct Query {
     issns: Vec<Issn>,
+    isbns: Vec<Isbn>,
     days: Option<DayRange>,
     volume: Option<u32>,
 }
 
 impl Model for Query {
     ghost use Rattle.feed_answer.specs.QueryValue.{QueryValue};
-    ghost use Rattle.feed_answer.specs.IssnSet.{IsAscending};
+    ghost use Rattle.feed_answer.specs.IdentifierSet.{IsAscending};
 
     ghost Value = { QueryValue };
 
-    ghost view = { λ q. record { issns = q.issns.items; days = q.days; volume = q.volume } };
+    ghost view = { λ q. record { issns = q.issns.items; isbns = q.isbns.items; days = q.days; volume = q.volume } };
 
-    ghost invariant = { λ q. IsAscending q.issns.items };
+    ghost invariant = { λ q. IsAscending q.issns.items × IsAscending q.isbns.items };
 }
 
 impl Query {
-    ghost use Rattle.feed_answer.specs.IssnSet.{IsAscending};
+    ghost use Rattle.feed_answer.specs.IdentifierSet.{IsAscending};
     ghost use Rattle.feed_answer.specs.Queries.{IsReadOf};
 
     /// Reads the bytes after the `?` of an OpenURL: pairs of `application/x-www-form-urlencoded` text,
     /// whose keys are compared exactly.
     ///
-    /// Every `rft.issn`, `rft.eissn` and `rft_id` that names an ISSN counts, and of `rft.date` and
-    /// `rft.volume` the first that reads. A `url_ver` or `ctx_ver` other than `Z39.88-2004` is
-    /// `Version`, a `rft_val_fmt` other than `info:ofi/fmt:kev:mtx:journal` is `NotJournal`; an empty
-    /// value of these counts as absent. `NoIssn` is a query that names no ISSN.
+    /// Every `rft.issn`, `rft.eissn` and `rft_id` that names an ISSN counts, and every `rft.isbn` that names an ISBN;
+    /// of `rft.date` and `rft.volume` the first that reads. In the format of journals,
+    /// `rft_val_fmt=info:ofi/fmt:kev:mtx:journal`, ISBNs do not count; in that of books,
+    /// `info:ofi/fmt:kev:mtx:book`, ISSNs do not.
+    ///
+    /// A `url_ver` or `ctx_ver` other than `Z39.88-2004` is `Version`, a `rft_val_fmt` other than these two is
+    /// `OtherFormat`, and so are both together; an empty value of these counts as absent. A query without an
+    /// identifier that counts is `NoIsbn` in the format of books, else `NoIssn`.
     #[tactic(auto, unfolding(crate::specs::Queries::query_of))]
     pub fn read(alloc: Global, text: &[u8]) -> Result<Query, QueryFault>
         ensures { IsReadOf text.now result }
@@ -57,14 +66,16 @@ impl Query {
             return Err(QueryFault::Version);
         }
         if has_other_format(&pairs) {
-            return Err(QueryFault::NotJournal);
+            return Err(QueryFault::OtherFormat);
         }
-        let issns = issns_among(alloc, &pairs)?;
-        if issns.is_empty() {
-            return Err(QueryFault::NoIssn);
+        let issns = issns_asked(alloc, &pairs)?;
+        let isbns = isbns_asked(alloc, &pairs)?;
+        if issns.is_empty() && isbns.is_empty() {
+            return Err(without_identifiers(&pairs));
         }
         Ok(Query {
             issns,
+            isbns,
             days: first_days(&pairs),
             volume: first_volume(&pairs),
         })
@@ -76,6 +87,14 @@ impl Query {
         ensures ascending { IsAscending self.now.issns }
     {
         &self.issns
+    }
+
+    /// The ISBNs that are asked for, ascending by their thirteen digits, each once.
+    pub fn isbns(&self) -> &[Isbn]
+        ensures value { result.now ≡ self.now.isbns }
+        ensures ascending { IsAscending self.now.isbns }
+    {
+        &self.isbns
     }
 
     /// The days that are asked for, both ends included.
@@ -99,24 +118,49 @@ fn has_other_version(pairs: &[Pair<'_>]) -> bool
     pairs.iter().any(|pair| pair.is_other_version())
 }
 
-fn has_other_format(pairs: &[Pair<'_>]) -> bool
+// Whether one of the pairs tells this format.
+fn tells_format(pairs: &[Pair<'_>], format: &str) -> bool
+    ensures { result ≡ list_any (tells_format format.now) pairs.now }
+{
+    pairs.iter().any(|pair| pair.tells_format(format))
+}
+
+// Whether one of the pairs tells neither the format of journals nor that of books.
+fn tells_neither(pairs: &[Pair<'_>]) -> bool
     ensures { result ≡ list_any is_other_format pairs.now }
 {
     pairs.iter().any(|pair| pair.is_other_format())
 }
 
-// Puts an ISSN in its place among those that ascend, unless it is there.
-fn add_issn(issns: &mut Vec<Issn>, issn: Issn) -> Result<(), AllocError>
-    ensures { OnOk result (issns.new.items ≡ insert_key bytes_cmp issns.old.items issn) }
+fn has_other_format(pairs: &[Pair<'_>]) -> bool
+    ensures { result ≡ has_other_format pairs.now }
 {
-    for (place, other) in issns.iter().enumerate() {
-        match issn.cmp(other) {
-            Ordering::Less => return Ok(issns.insert(place, issn)?),
+    tells_neither(pairs) || (tells_format(pairs, JOURNAL) && tells_format(pairs, BOOK))
+}
+
+// Why a query without identifiers is refused.
+fn without_identifiers(pairs: &[Pair<'_>]) -> QueryFault
+    ensures { result ≡ (if tells_book pairs.now then fault.NoIsbn else fault.NoIssn) }
+{
+    if tells_format(pairs, BOOK) {
+        QueryFault::NoIsbn
+    } else {
+        QueryFault::NoIssn
+    }
+}
+
+// Puts an identifier in its place among those that ascend, unless it is there.
+fn add<T: Ord + Copy>(identifiers: &mut Vec<T>, identifier: T) -> Result<(), AllocError>
+    ensures { OnOk result (identifiers.new.items ≡ insert_key T.cmp identifiers.old.items identifier) }
+{
+    for (place, other) in identifiers.iter().enumerate() {
+        match identifier.cmp(other) {
+            Ordering::Less => return Ok(identifiers.insert(place, identifier)?),
             Ordering::Equal => return Ok(()),
             Ordering::Greater => {}
         }
     }
-    Ok(issns.push(issn)?)
+    Ok(identifiers.push(identifier)?)
 }
 
 // The set of the ISSNs that pairs name. A query has room for some three hundred of them, and mostly
@@ -128,10 +172,46 @@ fn issns_among(alloc: Global, pairs: &[Pair<'_>]) -> Result<Vec<Issn>, AllocErro
     let mut issns = Vec::new(alloc);
     for pair in pairs {
         if let Some(issn) = pair.issn() {
-            add_issn(&mut issns, issn)?;
+            add(&mut issns, issn)?;
         }
     }
     Ok(issns)
+}
+
+// The set of the ISBNs that pairs name.
+fn isbns_among(alloc: Global, pairs: &[Pair<'_>]) -> Result<Vec<Isbn>, AllocError>
+    ensures value { IfOk result (λ isbns. isbns.items ≡ isbns_among pairs.now) }
+    ensures ascending { IfOk result (λ isbns. IsAscending isbns.items) }
+{
+    let mut isbns = Vec::new(alloc);
+    for pair in pairs {
+        if let Some(isbn) = pair.isbn() {
+            add(&mut isbns, isbn)?;
+        }
+    }
+    Ok(isbns)
+}
+
+// The ISSNs that are asked for: in the format of books they do not count.
+fn issns_asked(alloc: Global, pairs: &[Pair<'_>]) -> Result<Vec<Issn>, AllocError>
+    ensures value { IfOk result (λ issns. issns.items ≡ issns_asked pairs.now) }
+    ensures ascending { IfOk result (λ issns. IsAscending issns.items) }
+{
+    if tells_format(pairs, BOOK) {
+        return Ok(Vec::new(alloc));
+    }
+    issns_among(alloc, pairs)
+}
+
+// The ISBNs that are asked for: in the format of journals they do not count.
+fn isbns_asked(alloc: Global, pairs: &[Pair<'_>]) -> Result<Vec<Isbn>, AllocError>
+    ensures value { IfOk result (λ isbns. isbns.items ≡ isbns_asked pairs.now) }
+    ensures ascending { IfOk result (λ isbns. IsAscending isbns.items) }
+{
+    if tells_format(pairs, JOURNAL) {
+        return Ok(Vec::new(alloc));
+    }
+    isbns_among(alloc, pairs)
 }
 
 // The days of the first date that reads.

@@ -2,7 +2,7 @@ use Rattle.std.proofs.Common.{◌≡◌, drop}
 use Rattle.std.specs.Prelude.{fold}
 use Rattle.std.specs.List.{filter_map}
 use Rattle.std.specs.BTreeSet.{insert_key}
-use Rattle.feed_answer.specs.IssnSet.{bytes_cmp}
+use Rattle.feed_answer.specs.IdentifierSet.{bytes_cmp}
 use Rattle.feed_answer.specs.Pairs.{issn_of_pair, issns_among}
 use Rattle.feed_answer.proofs.query.issns_among.Given as goal
 

@@ -1,4 +1,4 @@
--- Sets of ISSNs, as ascending lists of their printed bytes.
+-- Sets of identifiers, as ascending lists of their printed bytes.
 use Rattle.std.specs.Prelude.{ℕ, Bool, List, [], fold}
 use Rattle.std.specs.declared.cmp.Ordering.{Ordering}
 use Rattle.std.specs.Ordering.{nat_cmp}
@@ -12,14 +12,14 @@ use Rattle.std.specs.BTreeSet.{insert_key}
 abbrev pub bytes_cmp : List ℕ → List ℕ → Ordering
 bytes_cmp = slice_cmp nat_cmp
 
--- each ISSN is below those after it, so each stands there once
+-- each identifier is below those after it, so each stands there once
 abbrev pub IsAscending : List (List ℕ) → Type 0
-IsAscending issns = IsStrictlySortedBy bytes_cmp issns
+IsAscending identifiers = IsStrictlySortedBy bytes_cmp identifiers
 
--- the set of a list's ISSNs: each is put in its place, unless it is there
-abbrev pub issn_set : List (List ℕ) → List (List ℕ)
-issn_set issns = fold (insert_key bytes_cmp) [] issns
+-- the set of a list's identifiers: each is put in its place, unless it is there
+abbrev pub identifier_set : List (List ℕ) → List (List ℕ)
+identifier_set identifiers = fold (insert_key bytes_cmp) [] identifiers
 
--- an ISSN is one of these
+-- an identifier is one of these
 abbrev pub is_among : List ℕ → List (List ℕ) → Bool
-is_among issn issns = list_any (λ other. bytes_eq other issn) issns
+is_among identifier identifiers = list_any (λ other. bytes_eq other identifier) identifiers
