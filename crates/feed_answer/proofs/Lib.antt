@@ -4,3 +4,4 @@ pub mod Members
 pub mod Ascending
 pub mod Covered
 pub mod Places
+pub mod Serials

@@ -8,4 +8,5 @@ pub mod Grades
 pub mod HitValue
 pub mod Answers
 pub mod Places
+pub mod Serials
 pub mod Laws

@@ -1,0 +1,86 @@
+-- What lists and queries said before books were read. The answers on serials are still those.
+use Rattle.std.specs.Prelude.{◌≡◌, ◌&&◌, ◌||◌, nat_lt, ℕ, Bool, true, false, List, [], ◌∷◌, length, Option, Some, None, Ok, if◌then◌else◌, is_none, option_map, codes}
+use Rattle.std.specs.List.{enumerate_from, filter, filter_map, list_any}
+use Rattle.std.specs.Str.{str_eq_ignore_ascii_case}
+use Rattle.form_urlencoded.specs.Form as form
+use Rattle.feed_dates.specs.declared.day_range.DayRange.{DayRange}
+use Rattle.feed_identifiers.specs.Text.{trimmed}
+use Rattle.feed_kbart.specs.Columns.{cell, columns_of}
+use Rattle.feed_kbart.specs.Coverage as coverage
+use Rattle.feed_kbart.specs.Coverage.{serial_coverage, serial_reason}
+use Rattle.feed_kbart.specs.Files.{holdings_of}
+use Rattle.feed_kbart.specs.Identifiers.{kind, online_issn, print_issn}
+use Rattle.feed_kbart.specs.Records.{records_of}
+use Rattle.feed_kbart.specs.Rows.{texts_of}
+use Rattle.feed_kbart.specs.RowValue.{RowValue, row_with}
+use Rattle.feed_kbart.specs.declared.identifiers.Kind.{Kind}
+use Rattle.feed_kbart.specs.declared.identifiers.Kind.TheVariants.{Serial, Book}
+use Rattle.feed_answer.specs.Answers.{answer_of}
+use Rattle.feed_answer.specs.Grades.{both_grades, days_grade, is_named, volume_grade}
+use Rattle.feed_answer.specs.HitValue.{HitValue}
+use Rattle.feed_answer.specs.Limits.{query_limit}
+use Rattle.feed_answer.specs.Pairs.{first_days, first_volume, is_empty, is_other, is_other_version, issns_among, journal_format}
+use Rattle.feed_answer.specs.Queries.{query_of}
+use Rattle.feed_answer.specs.QueryValue.{QueryValue}
+
+-- the publication type is empty or `serial`; every other one was set aside
+abbrev pub is_serial_type : List ℕ → Bool
+is_serial_type text = coverage.is_empty (trimmed text) || str_eq_ignore_ascii_case (trimmed text) (codes "serial")
+
+-- the row that a numbered record was under a header, unless it was set aside
+abbrev pub serial_row_at : List (List ℕ) → ℕ × List (List ℕ) → Option RowValue
+serial_row_at header numbered =
+    if is_serial_type (cell (columns_of header).publication_type numbered.1) && is_none (serial_reason (columns_of header) numbered.1)
+    then Some (row_with numbered.0 (serial_coverage (columns_of header) numbered.1) (texts_of (columns_of header) numbered.1)) else None
+
+-- the rows that records were, of which the first is the header
+abbrev pub serial_rows_in : List (List (List ℕ)) → List RowValue
+serial_rows_in [] = []
+serial_rows_in (header ∷ records) = filter_map (serial_row_at header) (enumerate_from 2 records)
+
+-- what a query asked for
+pub record SerialQuery : Type 0 where
+  pub issns : List (List ℕ)
+  pub days : Option DayRange
+  pub volume : Option ℕ
+
+-- the format was another than that of journals
+abbrev pub is_other_than_journal : List ℕ × List ℕ → Bool
+is_other_than_journal pair = is_other (codes "rft_val_fmt") journal_format pair
+
+-- what pairs asked for, unless they were refused
+abbrev pub serial_query_by : List (List ℕ × List ℕ) → Option SerialQuery
+serial_query_by pairs =
+    if list_any is_other_version pairs || (list_any is_other_than_journal pairs || is_empty (issns_among pairs)) then None
+    else Some (record { issns = issns_among pairs; days = first_days pairs; volume = first_volume pairs })
+
+-- what a query asked for, unless it was refused
+unfoldable pub serial_query_of : List ℕ → Option SerialQuery
+serial_query_of text = if nat_lt query_limit (length text) then None else serial_query_by (form.parse text)
+
+-- a row with its grade, if it matched
+abbrev pub serial_hit_by : SerialQuery → RowValue → Option HitValue
+serial_hit_by query row = option_map (λ grade. record { row = row; grade = grade }) (
+    if is_named (print_issn row.identifiers) query.issns || is_named (online_issn row.identifiers) query.issns
+    then both_grades (days_grade row.first_day row.last_day query.days) (volume_grade row.first_volume row.last_volume query.volume)
+    else None
+    )
+
+-- the answer that a text gave
+unfoldable pub serial_answer_of : List ℕ → SerialQuery → List HitValue
+serial_answer_of text query = filter_map (serial_hit_by query) (serial_rows_in (records_of text))
+
+-- a row is a serial's
+abbrev pub is_serial : Kind → Bool
+is_serial Serial = true
+is_serial Book = false
+
+-- a hit is on a serial's row
+abbrev pub is_serial_hit : HitValue → Bool
+is_serial_hit hit = is_serial (kind hit.row.identifiers)
+
+-- every query that was read is read, and in every list its hits on serials are those that it had, with their grades
+abbrev pub SerialAnswersStay : Type 0
+SerialAnswersStay =
+    (text query : List ℕ) (old : SerialQuery) → serial_query_of query ≡ Some old
+    → (new : QueryValue) × (query_of query ≡ Ok new) × (filter is_serial_hit (answer_of (holdings_of text) new) ≡ serial_answer_of text old)
