@@ -79,8 +79,9 @@ impl<'a> Records<'a> {
     /// Whether the field under a label is what a reason is about.
     pub fn offends(&self, label: Label, reason: Reason) -> bool {
         match (reason, label) {
-            (Reason::NotSerial, Label::PublicationType) => true,
-            (Reason::NoIssn, Label::PrintIdentifier | Label::OnlineIdentifier) => true,
+            (Reason::OtherType | Reason::NoIsbn, Label::PublicationType) => true,
+            (Reason::NoIssn | Reason::NoIsbn, Label::PrintIdentifier | Label::OnlineIdentifier) =>
+                true,
             (Reason::BadDate, Label::DateFirstIssueOnline | Label::DateLastIssueOnline) => {
                 let date = trim_spaces(self.field(label));
                 !date.is_empty() && DayRange::of_text(date).is_none()

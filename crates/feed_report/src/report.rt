@@ -7,9 +7,10 @@ use std::io::{ErrorKind, Write};
 use std::{io, str};
 
 // The reasons, in the order in which they are judged.
-const REASONS: [Reason; 4] = [
-    Reason::NotSerial,
+const REASONS: [Reason; 5] = [
+    Reason::OtherType,
     Reason::NoIssn,
+    Reason::NoIsbn,
     Reason::BadDate,
     Reason::Reversed,
 ];

@@ -26,8 +26,11 @@ pub fn cause_of_query(fault: QueryFault) -> &'static str {
     match fault {
         QueryFault::TooLong => "a query has at most 4,096 bytes",
         QueryFault::Version => "url_ver and ctx_ver are Z39.88-2004",
-        QueryFault::NotJournal => "rft_val_fmt is info:ofi/fmt:kev:mtx:journal",
-        QueryFault::NoIssn => "no rft.issn, rft.eissn or rft_id has an ISSN with its check digit",
+        QueryFault::OtherFormat =>
+            "rft_val_fmt is info:ofi/fmt:kev:mtx:journal or info:ofi/fmt:kev:mtx:book, and not both",
+        QueryFault::NoIssn =>
+            "no rft.issn, rft.eissn or rft_id has an ISSN with its check digit, and no rft.isbn that counts an ISBN",
+        QueryFault::NoIsbn => "no rft.isbn has an ISBN with its check digit",
         QueryFault::Memory => "there was no memory",
     }
 }

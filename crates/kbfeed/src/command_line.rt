@@ -57,7 +57,7 @@ A script is a line for each event. The first is `nodes N`, N from 1 to 16. Then,
   stop-before NODE WHAT         the same before a node keeps WHAT, an offer or a delivery
   stop-after NODE WHAT          the same after it, before the node answers
   report NODE PACKAGE           the active release of a package
-  ask NODE PACKAGE QUERY        an OpenURL query, as rft.issn=2434561x&rft.date=1996
+  ask NODE PACKAGE QUERY        an OpenURL query, as rft.issn=2434561x&rft.date=1996 or rft.isbn=9780306406157
 
 WHAT is `offer NAME` or `deliver NAME FIRST LEN`.
 
@@ -70,9 +70,9 @@ for a failing device or want of memory. docs/FAULTS.md has each fault, and -v sa
 
 const CHECK_HELP: &str = "Reads a holdings list (KBART, NISO RP-9-2014) and prints what it holds.
 
-The last part of FILE is a release name, as Acme_Global_All_2024-01-01.txt. A good file prints how many rows it has and
-how many records are set aside, and for each of these its number and the reason. A bad file prints `broken` and the
-reason.
+The last part of FILE is a release name, as Acme_Global_All_2024-01-01.txt. A good file prints how many rows it has, of
+serials and of books, and how many records are set aside, and for each of these its number and the reason. A bad file
+prints `broken` and the reason.
 
 --explain prints below such a record its line in the file, its title and the fields that it is set aside for, and below
 a bad file all required labels that it lacks. --json prints the same as one object on a line for each file: release and
@@ -90,9 +90,10 @@ const ANSWER_HELP: &str =
     "Reads a holdings list (KBART, NISO RP-9-2014), and prints what a node with this release answers an OpenURL query.
 
 The last part of FILE is a release name, as Acme_Global_All_2024-01-01.txt. QUERY is the query of an OpenURL 1.0 of at
-most 4,096 bytes, as rft.issn=2434561x&rft.date=1996&rft.volume=3. The first line has the release and the number of
-hits. A line for each row that matches has the number of its record, its grade (inside, overlap or untested), title,
-URL, title id, coverage depth, embargo and access type, with a tab between each two.
+most 4,096 bytes: of a serial, as rft.issn=2434561x&rft.date=1996&rft.volume=3, or of a book, as rft.isbn=9780306406157.
+The first line has the release and the number of hits. A line for each row that matches has the number of its record,
+its grade (inside, overlap or untested; a book's is untested), title, URL, title id, coverage depth, embargo and access
+type, with a tab between each two.
 
 The first fault is told of the query, of the file's name, and of the file. The status is 0 for an answer, also one
 without hits, 1 for a query or a name that is none, a bad file and one that is too long, 2 for a wrong command line, and
@@ -157,8 +158,9 @@ const ASK_HELP: &str =
     "Prints what a node answers an OpenURL query: from the active release of a package in its database.
 
 DB is the file that `kbfeed fetch` fills. PACKAGE is a name without its date, as Acme_Global_All. QUERY is the query of
-an OpenURL 1.0 of at most 4,096 bytes, as rft.issn=2434561x&rft.date=1996&rft.volume=3. The answer is as that of `kbfeed
-answer` on the release's file, byte for byte. A PACKAGE or QUERY that begins with - stands behind --.
+an OpenURL 1.0 of at most 4,096 bytes: of a serial, as rft.issn=2434561x&rft.date=1996&rft.volume=3, or of a book, as
+rft.isbn=9780306406157. The answer is as that of `kbfeed answer` on the release's file, byte for byte. A PACKAGE or
+QUERY that begins with - stands behind --.
 
 The first fault is told of the query, of the database, and of the package (NoRelease: it has no active release). The
 status is 0 for an answer, also one without hits, 1 for a query that is none, a package without a release, and a
@@ -188,7 +190,7 @@ pub fn read<'a>(alloc: Global, words: &'a [String]) -> Result<(bool, Request<'a>
         .action(ArgAction::SetTrue)
         .help("Says on a second line what a fault is about, and its cause");
     let command = Command::new(alloc, "kbfeed")
-        .about("A feed of journal holdings lists for OpenURL link resolvers")
+        .about("A feed of holdings lists for OpenURL link resolvers")
         .version(VERSION)
         .subcommand_required(true)
         .arg(verbose)?
@@ -256,9 +258,9 @@ fn answer_command<'a>(alloc: Global) -> Result<Command<'a>, AllocError> {
     let file = Arg::new(alloc, "FILE")
         .required(true)
         .help("The path of the file");
-    let query = Arg::new(alloc, "QUERY")
-        .required(true)
-        .help("The query of an OpenURL, as rft.issn=2434561x");
+    let query = Arg::new(alloc, "QUERY").required(true).help(
+        "The query of an OpenURL, as rft.issn=2434561x or rft.isbn=9780306406157",
+    );
     Command::new(alloc, "answer")
         .about("Answers a query from a holdings list")
         .long_about(ANSWER_HELP)
@@ -336,9 +338,9 @@ fn ask_command<'a>(alloc: Global) -> Result<Command<'a>, AllocError> {
     let package = Arg::new(alloc, "PACKAGE")
         .required(true)
         .help("The package, as Acme_Global_All");
-    let query = Arg::new(alloc, "QUERY")
-        .required(true)
-        .help("The query of an OpenURL, as rft.issn=2434561x");
+    let query = Arg::new(alloc, "QUERY").required(true).help(
+        "The query of an OpenURL, as rft.issn=2434561x or rft.isbn=9780306406157",
+    );
     Command::new(alloc, "ask")
         .about("Answers a query from the database of a node")
         .long_about(ASK_HELP)

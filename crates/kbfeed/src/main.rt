@@ -1,4 +1,4 @@
-//! kbfeed: a feed of journal holdings lists (KBART files) for a fleet of OpenURL link resolvers.
+//! kbfeed: a feed of holdings lists of serials and books (KBART files) for a fleet of OpenURL link resolvers.
 #![tactic(auto)]
 
 mod answer_command;
