@@ -1,5 +1,5 @@
 //! Files that are counted, beside the same files read.
-use crate::files::{ACTA, BETA, HEADER, slow_reader};
+use crate::files::{ACTA, BETA, HEADER, OMEGA, TYPED_HEADER, slow_reader};
 use feed_kbart::{Aside, BadFile, KbartFault, Label, Reason, count_file, read_file};
 use std::alloc::Global;
 use std::process::Abort;
@@ -59,6 +59,8 @@ fn counts_what_is_read(rt: HostRuntime) -> Result<(), Fail> {
     expect(&rt, alloc, &[HEADER, ACTA, BETA], Ok((2, &[])))?;
     let between = [HEADER, ACTA, b"\nGamma\r\n", BETA, b"Delta"];
     expect(&rt, alloc, &between, Ok((2, &[aside(3), aside(5)])))?;
+    let books = [TYPED_HEADER, OMEGA, b"Gamma\n", ACTA, OMEGA];
+    expect(&rt, alloc, &books, Ok((3, &[aside(3)])))?;
     expect(&rt, alloc, &[MARK, HEADER, ACTA], Ok((1, &[])))?;
     expect(&rt, alloc, &[HEADER, ACTA, MARK, BETA], Ok((2, &[])))
 }

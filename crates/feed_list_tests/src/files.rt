@@ -7,9 +7,17 @@ use std::io::Read;
 pub(crate) const HEADER: &[u8] = b"publication_title\tprint_identifier\tonline_identifier\t\
     date_first_issue_online\tnum_first_vol_online\tdate_last_issue_online\tnum_last_vol_online\ttitle_url\n";
 
+/// The same, and the type of a publication.
+pub(crate) const TYPED_HEADER: &[u8] = b"publication_title\tprint_identifier\tonline_identifier\t\
+    date_first_issue_online\tnum_first_vol_online\tdate_last_issue_online\tnum_last_vol_online\ttitle_url\t\
+    publication_type\n";
+
 pub(crate) const ACTA: &[u8] = b"Acta\t2434-561X\t\t1995\t1\t2001-06-30\t7\thttp://a.example/\n";
 
 pub(crate) const BETA: &[u8] = b"Beta\t\t0317-8471\t\t\t\t\thttp://b.example/\n";
+
+/// A book.
+pub(crate) const OMEGA: &[u8] = b"Omega\t0-306-40615-2\t\t\t\t\t\thttp://o.example/\tmonograph\n";
 
 pub(crate) fn joined(alloc: Global, parts: &[&[u8]]) -> Result<Vec<u8>, AllocError> {
     let mut bytes = Vec::new(alloc);

@@ -1,8 +1,12 @@
-//! Tests of release names, dates, holdings lists and journal queries, by their public calls.
+//! Tests of release names, dates, holdings lists and OpenURL queries, by their public calls.
 #![tactic(auto)]
 
 #[cfg(test)]
 mod answers;
+#[cfg(test)]
+mod books;
+#[cfg(test)]
+mod chance;
 #[cfg(test)]
 mod counts;
 #[cfg(test)]
@@ -13,6 +17,8 @@ mod files;
 mod holdings;
 #[cfg(test)]
 mod identifiers;
+#[cfg(test)]
+mod isbns;
 #[cfg(test)]
 mod names;
 #[cfg(test)]

@@ -43,13 +43,14 @@ fn prints_names(rt: HostRuntime) -> Result<(), Fail> {
         "MissingLabel title_url, Memory, Read, TooLong"
     );
     let reasons = format!(in rt.alloc();
-        "{}, {}, {}, {}",
-        Reason::NotSerial,
+        "{}, {}, {}, {}, {}",
+        Reason::OtherType,
         Reason::NoIssn,
+        Reason::NoIsbn,
         Reason::BadDate,
         Reason::Reversed
     )?;
-    assert_eq!(rt; reasons.as_str(), "NotSerial, NoIssn, BadDate, Reversed");
+    assert_eq!(rt; reasons.as_str(), "OtherType, NoIssn, NoIsbn, BadDate, Reversed");
     Ok(())
 }
 
@@ -58,8 +59,9 @@ fn faults_and_grades_print_their_names(rt: HostRuntime) -> Result<(), Fail> {
     let faults = [
         (QueryFault::TooLong, "TooLong"),
         (QueryFault::Version, "Version"),
-        (QueryFault::NotJournal, "NotJournal"),
+        (QueryFault::OtherFormat, "OtherFormat"),
         (QueryFault::NoIssn, "NoIssn"),
+        (QueryFault::NoIsbn, "NoIsbn"),
         (QueryFault::Memory, "Memory"),
     ];
     for (fault, name) in faults {

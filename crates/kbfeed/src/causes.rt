@@ -29,7 +29,7 @@ pub fn cause_of_query(fault: QueryFault) -> &'static str {
         QueryFault::OtherFormat =>
             "rft_val_fmt is info:ofi/fmt:kev:mtx:journal or info:ofi/fmt:kev:mtx:book, and not both",
         QueryFault::NoIssn =>
-            "no rft.issn, rft.eissn or rft_id has an ISSN with its check digit, and no rft.isbn that counts an ISBN",
+            "no rft.issn, rft.eissn or rft_id has an ISSN with its check digit, and no rft.isbn an ISBN that counts",
         QueryFault::NoIsbn => "no rft.isbn has an ISBN with its check digit",
         QueryFault::Memory => "there was no memory",
     }
