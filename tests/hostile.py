@@ -32,13 +32,14 @@ WAIT = 60
 LIMITED = ["sh", "-c", f'ulimit -t 1; ulimit -v {ROOM // 1_024}; ulimit -c 0; exec kbfeed "$@"', "kbfeed"]
 
 NAME, LATER = "Acme_Global_All_2024-01-01.txt", "Acme_Global_All_2024-02-01.txt"
-QUERY = "rft.issn=2434561x&rft.date=1996"
+QUERY = "rft.issn=2434561x&rft.isbn=0306406152&rft.date=1996"
 LABELS = ["publication_title", "print_identifier", "online_identifier", "date_first_issue_online",
-          "num_first_vol_online", "date_last_issue_online", "num_last_vol_online", "title_url"]
+          "num_first_vol_online", "date_last_issue_online", "num_last_vol_online", "title_url", "publication_type"]
 ROWS = ["Acta\t2434-561X\t\t1995\t1\t2001-06-30\t7\thttp://a.example/",
         "Beta\t\t0317-8471\t\t\t\t\thttp://b.example/",
         "Gamma \u00e9\u20ac\U0001f4d6\t1050-124X\t\t1990\t\t\t\thttp://g.example/",
-        "\"Delta\t0000-0345\t2434-561X\t2001-02-30\t\t1999\t\thttp://d.example/"]
+        "\"Delta\t0000-0345\t2434-561X\t2001-02-30\t\t1999\t\thttp://d.example/",
+        "Omega\t0-306-40615-2\t978-0-306-40615-7\t\t\t\t\thttp://o.example/\tmonograph"]
 GOOD = "\t".join(LABELS) + "\n" + "".join(row + "\n" for row in ROWS)
 BROKEN = re.compile("NotUtf8|TwoMarks|NoHeader|MissingLabel [a-z_]+|LabelTwice [a-z_]+")
 
@@ -116,15 +117,16 @@ def of_many_columns(draw, text):
 def of_other_labels(draw, text):
     labels = [*LABELS]
     draw.shuffle(labels)
-    labels = draw.choices(labels, k=8) if draw.randrange(2) else labels[:draw.randrange(9)]
+    labels = draw.choices(labels, k=9) if draw.randrange(2) else labels[:draw.randrange(10)]
     return "\t".join(labels).encode() + b"\n" + text.partition(b"\n")[2]
 
 
 def of_odd_fields(draw, text):
     """Rows whose fields have other texts."""
     texts = ["", " ", "9999-9999", "2434-561x", "2434561X", "10-01-01", "0000", "9999-12-31", "1995-1", "1995-13",
-             "2000-02-30", "P1Y", "-5", "18446744073709551616", "9" * 400, "\u200b", "\ufeff", "\u00a01995", "\"\"\""]
-    rows = ["\t".join(draw.choices(texts, k=draw.choice([7, 8, 8, 8, 9]))) for _ in range(draw.choice([1, 9, 300]))]
+             "2000-02-30", "P1Y", "-5", "18446744073709551616", "9" * 400, "\u200b", "\ufeff", "\u00a01995", "\"\"\"",
+             "Monograph", "serial ", "0-306-40615-2", "--9780306406157-", "-" * 400]
+    rows = ["\t".join(draw.choices(texts, k=draw.choice([8, 9, 9, 9, 10]))) for _ in range(draw.choice([1, 9, 300]))]
     return text + "\n".join(rows).encode()
 
 
