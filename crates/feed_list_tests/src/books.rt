@@ -20,7 +20,10 @@ fn reads_a_book(rt: HostRuntime) -> Result<(), Fail> {
     let omega = &holdings.rows()[0];
     assert_eq!(rt; omega.kind(), Kind::Book);
     assert_eq!(rt; (omega.print_isbn(), omega.online_isbn()), (isbn, None));
-    assert_eq!(rt; omega.print_isbn().map(|isbn| isbn.text()), Some(*b"9780306406157"));
+    assert_eq!(rt;
+        omega.print_isbn().map(|isbn| isbn.text()),
+        Some(*b"9780306406157")
+    );
     assert_eq!(rt; omega.title(), b"Omega".as_slice());
     assert_eq!(rt; omega.url(), b"http://o.example/".as_slice());
     let psi = &holdings.rows()[1];
@@ -33,8 +36,14 @@ fn reads_a_book(rt: HostRuntime) -> Result<(), Fail> {
     assert_eq!(rt; acta.kind(), Kind::Serial);
     assert_eq!(rt; (acta.print_isbn(), acta.online_isbn()), (None, None));
     let chi = &holdings.rows()[3];
-    assert_eq!(rt; chi.print_isbn().map(|isbn| isbn.text()), Some(*b"9780804429573"));
-    assert_eq!(rt; chi.online_isbn().map(|isbn| isbn.text()), Some(*b"9791090636071"));
+    assert_eq!(rt;
+        chi.print_isbn().map(|isbn| isbn.text()),
+        Some(*b"9780804429573")
+    );
+    assert_eq!(rt;
+        chi.online_isbn().map(|isbn| isbn.text()),
+        Some(*b"9791090636071")
+    );
     for (text, places) in [
         (b"0-306-40615-2".as_slice(), [0, 1].as_slice()),
         (b"9791090636071", &[3]),
@@ -53,16 +62,43 @@ fn reads_a_book(rt: HostRuntime) -> Result<(), Fail> {
 fn the_first_reason_sets_aside(rt: HostRuntime) -> Result<(), Fail> {
     let rows = [
         // A type that is neither a serial's nor a book's comes before all else.
-        ("Omega\t0-306-40615-2\t\t\t\t\t\thttp://o.example/\tdatabase", Some(Reason::OtherType)),
-        ("Acta\t2434-561X\t\t1995\t1\t2001\t7\t\tserials", Some(Reason::OtherType)),
+        (
+            "Omega\t0-306-40615-2\t\t\t\t\t\thttp://o.example/\tdatabase",
+            Some(Reason::OtherType),
+        ),
+        (
+            "Acta\t2434-561X\t\t1995\t1\t2001\t7\t\tserials",
+            Some(Reason::OtherType),
+        ),
         ("\t\t\tx\t\t\t\t\tbook", Some(Reason::OtherType)),
-        ("Acta\t2434-561X\t\t1995\t1\t2001\t7\t\tmonograph", Some(Reason::NoIsbn)),
-        ("Acta\t2434-561X\t0317-8471\tx\t\t\t\t\tmonograph", Some(Reason::NoIsbn)),
-        ("Acta\t977-0-306-40615-8\t0-306-40615-3\t\t\t\t\t\tmonograph", Some(Reason::NoIsbn)),
-        ("Acta\t2434-561X\t0306406152\t2002\t\t2001\t\t\tmonograph", None),
-        ("Acta\t0306406152\t9780306406157\tx\t\t\t\t\tserial", Some(Reason::NoIssn)),
-        ("Acta\t0306406152\t2434-561X\tx\t\t\t\t\t", Some(Reason::BadDate)),
-        ("Acta\t2434-561X\t\t2002\t\t2001\t\t\tserial", Some(Reason::Reversed)),
+        (
+            "Acta\t2434-561X\t\t1995\t1\t2001\t7\t\tmonograph",
+            Some(Reason::NoIsbn),
+        ),
+        (
+            "Acta\t2434-561X\t0317-8471\tx\t\t\t\t\tmonograph",
+            Some(Reason::NoIsbn),
+        ),
+        (
+            "Acta\t977-0-306-40615-8\t0-306-40615-3\t\t\t\t\t\tmonograph",
+            Some(Reason::NoIsbn),
+        ),
+        (
+            "Acta\t2434-561X\t0306406152\t2002\t\t2001\t\t\tmonograph",
+            None,
+        ),
+        (
+            "Acta\t0306406152\t9780306406157\tx\t\t\t\t\tserial",
+            Some(Reason::NoIssn),
+        ),
+        (
+            "Acta\t0306406152\t2434-561X\tx\t\t\t\t\t",
+            Some(Reason::BadDate),
+        ),
+        (
+            "Acta\t2434-561X\t\t2002\t\t2001\t\t\tserial",
+            Some(Reason::Reversed),
+        ),
         ("Acta\t2434-561X\t\t1995\t1\t2001\t7\t\tSerial", None),
     ];
     for (record, reason) in rows {
@@ -95,8 +131,15 @@ fn books_are_answered_by_isbn(rt: HostRuntime) -> Result<(), Fail> {
     for (text, is_hit) in rows {
         let query = Query::read(alloc, text.as_bytes())?;
         let found = answer(alloc, &holdings, &query)?;
-        let grade = found.hits().first().map(|hit| (hit.row.number(), hit.grade));
-        let expected = if is_hit { Some((2, Grade::Untested)) } else { None };
+        let grade = found
+            .hits()
+            .first()
+            .map(|hit| (hit.row.number(), hit.grade));
+        let expected = if is_hit {
+            Some((2, Grade::Untested))
+        } else {
+            None
+        };
         assert!(rt; grade == expected, "{text}");
     }
     Ok(())
@@ -106,7 +149,10 @@ fn books_are_answered_by_isbn(rt: HostRuntime) -> Result<(), Fail> {
 fn serials_and_books_are_answered_in_file_order(rt: HostRuntime) -> Result<(), Fail> {
     let alloc = rt.alloc();
     let holdings = holdings_of(alloc, &[TYPED_HEADER, OMEGA, ACTA, OMEGA])?;
-    let query = Query::read(alloc, b"rft.issn=2434561x&rft.isbn=0306406152&rft.date=1996")?;
+    let query = Query::read(
+        alloc,
+        b"rft.issn=2434561x&rft.isbn=0306406152&rft.date=1996",
+    )?;
     let found = answer(alloc, &holdings, &query)?;
     let mut hits = Vec::new(alloc);
     for hit in found.hits() {
@@ -124,18 +170,27 @@ fn serials_and_books_are_answered_in_file_order(rt: HostRuntime) -> Result<(), F
 #[test]
 fn the_first_fault_of_a_query_is_told(rt: HostRuntime) -> Result<(), Fail> {
     let rows = [
-        ("ctx_ver=Z39.88-2003&rft.issn=2434561x", Some(QueryFault::Version)),
+        (
+            "ctx_ver=Z39.88-2003&rft.issn=2434561x",
+            Some(QueryFault::Version),
+        ),
         ("rft_val_fmt=x&url_ver=x", Some(QueryFault::Version)),
         (
             "rft_val_fmt=info:ofi/fmt:kev:mtx:journal&rft_val_fmt=info:ofi/fmt:kev:mtx:book&rft.isbn=0306406152",
             Some(QueryFault::OtherFormat),
         ),
-        ("rft_val_fmt=info:ofi/fmt:kev:mtx:dissertation", Some(QueryFault::OtherFormat)),
+        (
+            "rft_val_fmt=info:ofi/fmt:kev:mtx:dissertation",
+            Some(QueryFault::OtherFormat),
+        ),
         (
             "rft_val_fmt=info:ofi/fmt:kev:mtx:book&rft_val_fmt=%FF&rft.isbn=0306406152",
             Some(QueryFault::OtherFormat),
         ),
-        ("rft_val_fmt=info:ofi/fmt:kev:mtx:BOOK&rft.isbn=0306406152", Some(QueryFault::OtherFormat)),
+        (
+            "rft_val_fmt=info:ofi/fmt:kev:mtx:BOOK&rft.isbn=0306406152",
+            Some(QueryFault::OtherFormat),
+        ),
         (
             "rft_val_fmt=info:ofi/fmt:kev:mtx:book&rft.issn=2434561x",
             Some(QueryFault::NoIsbn),
@@ -175,7 +230,8 @@ fn the_first_fault_of_a_query_is_told(rt: HostRuntime) -> Result<(), Fail> {
 
 #[test]
 fn the_format_says_which_identifiers_count(rt: HostRuntime) -> Result<(), Fail> {
-    let identifiers = b"&rft.isbn=9791090636071&rft.isbn=0306406152&rft.issn=2434561x&rft.isbn=978-0-306-40615-7\
+    let identifiers =
+        b"&rft.isbn=9791090636071&rft.isbn=0306406152&rft.issn=2434561x&rft.isbn=978-0-306-40615-7\
         &rft.isbn=%FF0306406152&rft.isbn=x&rft_id=urn:ISSN:03178471";
     let rows = [
         ("", 2, 2),

@@ -75,7 +75,10 @@ fn expect(
 ) -> Result<(), AllocError> {
     for text in [joined(alloc, &[text])?, hyphened(alloc, chance, text)?] {
         let read = Isbn::parse(&text).map(|isbn| isbn.text());
-        assert!(rt; read.as_ref().map(|read| read.as_slice()) == digits, "{text:?}");
+        assert!(rt;
+            read.as_ref().map(|read| read.as_slice()) == digits,
+            "{text:?}"
+        );
     }
     Ok(())
 }
@@ -90,7 +93,11 @@ fn the_check_characters_of_ten_are_judged(rt: HostRuntime) -> Result<(), Fail> {
         for check in b"0123456789Xx" {
             let ten = joined(alloc, &[&nine, &[*check]])?;
             let is_isbn = sum_of(&ten, &TEN) % 11 == 0;
-            let digits = if is_isbn { Some(thirteen.as_slice()) } else { None };
+            let digits = if is_isbn {
+                Some(thirteen.as_slice())
+            } else {
+                None
+            };
             expect(&rt, alloc, &mut chance, &ten, digits)?;
         }
     }
@@ -103,7 +110,12 @@ fn the_check_digits_of_thirteen_are_judged(rt: HostRuntime) -> Result<(), Fail> 
     let mut chance = Chance::new(4);
     for _ in 0..100 {
         let nine = nine_digits(alloc, &mut chance)?;
-        for (front, is_book) in [(b"978", true), (b"979", true), (b"977", false), (b"878", false)] {
+        for (front, is_book) in [
+            (b"978", true),
+            (b"979", true),
+            (b"977", false),
+            (b"878", false),
+        ] {
             let twelve = joined(alloc, &[front, &nine])?;
             for check in b"0123456789X" {
                 let text = joined(alloc, &[&twelve, &[*check]])?;
@@ -135,7 +147,10 @@ fn isbns_of_both_forms_are_read(rt: HostRuntime) -> Result<(), Fail> {
     ];
     for (text, digits) in rows {
         let read = Isbn::parse(text.as_bytes()).map(|isbn| isbn.text());
-        assert!(rt; read.as_ref().map(|read| read.as_slice()) == Some(digits.as_bytes()), "{text}");
+        assert!(rt;
+            read.as_ref().map(|read| read.as_slice()) == Some(digits.as_bytes()),
+            "{text}"
+        );
         let again = Isbn::parse(digits.as_bytes());
         assert!(rt; again == Isbn::parse(text.as_bytes()), "{text}");
     }

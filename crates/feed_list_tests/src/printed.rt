@@ -50,7 +50,10 @@ fn prints_names(rt: HostRuntime) -> Result<(), Fail> {
         Reason::BadDate,
         Reason::Reversed
     )?;
-    assert_eq!(rt; reasons.as_str(), "OtherType, NoIssn, NoIsbn, BadDate, Reversed");
+    assert_eq!(rt;
+        reasons.as_str(),
+        "OtherType, NoIssn, NoIsbn, BadDate, Reversed"
+    );
     Ok(())
 }
 

@@ -206,12 +206,20 @@ fn grade_of(row: &Row, asked: &Asked, days: Option<DayRange>) -> Option<Grade> {
         Kind::Serial => {
             let is_asked = asked.format != Format::Book
                 && asked.issns.iter().any(|issn| has_issn(row, *issn));
-            if is_asked { grade_by_days(row, days) } else { None }
+            if is_asked {
+                grade_by_days(row, days)
+            } else {
+                None
+            }
         }
         Kind::Book => {
             let is_asked = asked.format != Format::Journal
                 && asked.isbns.iter().any(|isbn| has_isbn(row, *isbn));
-            if is_asked { Some(Grade::Untested) } else { None }
+            if is_asked {
+                Some(Grade::Untested)
+            } else {
+                None
+            }
         }
     }
 }
@@ -302,8 +310,8 @@ fn large_holdings_answer_as_all_rows_do(rt: HostRuntime) -> Result<(), Fail> {
         for format in [Format::Absent, Format::Journal, Format::Book] {
             let asked = Asked {
                 format,
-                issns: known.issns.try_clone()?,
-                isbns: known.isbns.try_clone()?,
+                issns: Vec::from_slice(alloc, &known.issns)?,
+                isbns: Vec::from_slice(alloc, &known.isbns)?,
                 year: chance.year(),
             };
             expect_answer(&rt, alloc, &holdings, &asked)?;
