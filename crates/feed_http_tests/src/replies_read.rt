@@ -320,6 +320,40 @@ fn failing_readers_are_faults(rt: HostRuntime) -> Result<(), Fail> {
     Ok(())
 }
 
+// An interim reply without a body, and then the reply of the exchange: just what that reply alone gives.
+#[test]
+fn interim_replies_change_nothing(rt: HostRuntime) -> Result<(), Fail> {
+    let interim = b"HTTP/1.1 100 Continue\r\n\r\n".as_slice();
+    let mut reply = Vec::from_slice(rt.alloc(), interim)?;
+    reply.extend_from_slice(PART.as_bytes())?;
+    for step in [1, 2, 7, usize::MAX] {
+        for given in [PART.as_bytes(), reply.as_slice()] {
+            let got = read_reply(rt.alloc(), &mut Cuts::new(given, step), Method::Get);
+            let Ok(
+                Got::Piece {
+                    first,
+                    total,
+                    bytes,
+                },
+            ) = got
+            else {
+                return Err(Fail::from("no piece"));
+            };
+            assert_eq!(rt; first, 2);
+            assert_eq!(rt; total, Some(10));
+            assert_eq!(rt; bytes.as_slice(), b"234".as_slice());
+        }
+    }
+    // Cut off in either head or in the body, it is short.
+    for length in 0..reply.len() {
+        for step in [1, 2, 7, usize::MAX] {
+            let given = told(rt.alloc(), &reply[..length], Method::Get, step)?;
+            assert_eq!(rt; given.as_str(), "Short", "{length} bytes by {step}");
+        }
+    }
+    Ok(())
+}
+
 // A chunk's line may have 1,024 bytes, and all heads together 8,192.
 #[test]
 fn replies_have_limits(rt: HostRuntime) -> Result<(), Fail> {
