@@ -11,6 +11,7 @@ use sqlite::{Alter, Connection, Error, ErrorCode, Transaction};
 pub fn lay_out<S: Alter>(conn: &mut Connection<S>) -> Result<(), Error>
     requires { conn.old.in_transaction ≡ false }
     ensures idle { conn.new.in_transaction ≡ false }
+    ensures limit { conn.new.step_limit ≡ conn.old.step_limit }
     ensures open { HasCleanDisk (state S.Store conn.new) → OnOk result (IsTrue (state S.Store conn.new).is_open) }
     ensures live { IsLive (state S.Store conn.new) → IsLive (state S.Store conn.old) }
     ensures whole { IsLive (state S.Store conn.new) → OnOk result (Leads HasNoTable IsBlank

@@ -10,6 +10,7 @@ use sqlite_value::value::ValueRef;
 /// Whether the layout of a database with these tables has the number 1, and no other. The error is SQLite's.
 pub fn has_number_1<S: Alter>(conn: &mut Connection<S>) -> Result<bool, Error>
     ensures idle { conn.old.in_transaction ≡ false → conn.new.in_transaction ≡ false }
+    ensures limit { conn.new.step_limit ≡ conn.old.step_limit }
     ensures told { HasCleanDisk (state S.Store conn.new) → IfOk result (λ is.
         TellsNumber (state S.Store conn.old) (state S.Store conn.new) is) }
 {

@@ -17,6 +17,7 @@ use sqlite_schema::schema::{Column, Kind, Schema, Table, View};
 pub fn made_ready<S: Alter>(conn: &mut Connection<S>) -> Result<bool, StoreFault>
     requires { conn.old.in_transaction ≡ false }
     ensures idle { conn.new.in_transaction ≡ false }
+    ensures limit { conn.new.step_limit ≡ conn.old.step_limit }
     ensures adopted { IfOk result (λ alone.
         IsAdopted (state S.Store conn.old) (state S.Store conn.new) alone) }
     ensures together { IfOk result (λ _. TakesAllOrNone (state S.Store conn.old).now.schema) }
@@ -34,6 +35,7 @@ pub fn made_ready<S: Alter>(conn: &mut Connection<S>) -> Result<bool, StoreFault
 fn laid_out<S: Alter>(conn: &mut Connection<S>) -> Result<bool, StoreFault>
     requires { conn.old.in_transaction ≡ false }
     ensures idle { conn.new.in_transaction ≡ false }
+    ensures limit { conn.new.step_limit ≡ conn.old.step_limit }
     ensures made { IfOk result (λ alone.
         IsTrue alone × IsLaidOut (state S.Store conn.old) (state S.Store conn.new)) }
 {
@@ -47,6 +49,7 @@ fn laid_out<S: Alter>(conn: &mut Connection<S>) -> Result<bool, StoreFault>
 fn numbered<S: Alter>(conn: &mut Connection<S>) -> Result<bool, StoreFault>
     requires { conn.old.in_transaction ≡ false }
     ensures idle { conn.new.in_transaction ≡ false }
+    ensures limit { conn.new.step_limit ≡ conn.old.step_limit }
     ensures told { IfOk result (λ alone. IsTrue alone × (HasCleanDisk (state S.Store conn.new)
         → TellsNumber (state S.Store conn.old) (state S.Store conn.new) alone)) }
 {
@@ -61,6 +64,7 @@ fn numbered<S: Alter>(conn: &mut Connection<S>) -> Result<bool, StoreFault>
 fn beside_others<S: Alter>(conn: &mut Connection<S>) -> Result<bool, StoreFault>
     requires { conn.old.in_transaction ≡ false }
     ensures idle { conn.new.in_transaction ≡ false }
+    ensures limit { conn.new.step_limit ≡ conn.old.step_limit }
     ensures beside { IfOk result (λ alone. alone ≡ false) }
     ensures together { IfOk result (λ _. TakesAllOrNone (state S.Store conn.old).now.schema) }
 {

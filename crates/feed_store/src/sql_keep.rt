@@ -1,4 +1,4 @@
-ghost use Rattle.std.specs.Prelude.{◌≡◌, false, IfErr, IfOk};
+ghost use Rattle.std.specs.Prelude.{◌≡◌, false, None, IfErr, IfOk, MatchResult};
 
 use crate::adopt::made_ready;
 use crate::fault::{AdoptFault, StoreFault};
@@ -48,6 +48,8 @@ impl<S: Alter> SqlKeep<S> {
         ensures together { IfOk result (λ _. TakesAllOrNone (state S.Store conn).now.schema) }
         ensures fresh { IfOk result (λ keep. keep.1.0 ≡ 0) }
         ensures refused { IfErr result (λ fault. fault.connection.in_transaction ≡ false) }
+        ensures lifted { MatchResult result (λ keep. keep.0.step_limit ≡ None)
+            (λ fault. fault.connection.step_limit ≡ None) }
     {
         let mut conn = conn;
         conn.set_step_limit(None);
