@@ -8,3 +8,4 @@ pub mod Sequence
 mod Terms
 mod Recognised
 mod LayoutNumber
+mod Selects

@@ -1,19 +1,25 @@
 ghost use Rattle.std.specs.Prelude.{◌≡◌, ◌∷◌, ◌↔◌, [], false, pos, IfOk, IsTrue};
-ghost use Rattle.feed_statements.specs.Effects.{TellsNumber};
+ghost use Rattle.feed_statements.specs.Effects.{IsLive, TellsNumber};
 ghost use Rattle.sqlite.specs.Held.{state};
 ghost use Rattle.sqlite.specs.State.{HasCleanDisk};
 ghost use Rattle.sqlite_value.specs.declared.value.Value.TheVariants.{Int};
 
-use sqlite::{Alter, Connection, Error, Row};
+use sqlite::{Alter, Connection, Error, ErrorCode, Row};
 use sqlite_value::value::ValueRef;
 
-/// Whether the layout of a database with these tables has the number 1, and no other. The error is SQLite's.
+/// Whether the layout of a database with these tables has the number 1, and no other. It writes nothing, and refuses
+/// inside a transaction. The error is SQLite's.
 pub fn has_number_1<S: Alter>(conn: &mut Connection<S>) -> Result<bool, Error>
     ensures idle { conn.old.in_transaction ≡ false → conn.new.in_transaction ≡ false }
+    ensures live { IsLive (state S.Store conn.new) → IsLive (state S.Store conn.old) }
+    ensures same { IsLive (state S.Store conn.new) → (state S.Store conn.new).now ≡ (state S.Store conn.old).now }
     ensures limit { conn.new.step_limit ≡ conn.old.step_limit }
     ensures told { HasCleanDisk (state S.Store conn.new) → IfOk result (λ is.
         TellsNumber (state S.Store conn.old) (state S.Store conn.new) is) }
 {
+    if !conn.is_autocommit() {
+        return Err(Error::SqliteFailure(ErrorCode::TransactionState));
+    }
     let rows = conn.query_all("SELECT version FROM feed_layout", &[])?;
     Ok(are_number_1(rows.as_slice()))
 }

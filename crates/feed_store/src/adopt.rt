@@ -1,6 +1,6 @@
-ghost use Rattle.std.specs.Prelude.{◌≡◌, false, IfOk, IsTrue};
+ghost use Rattle.std.specs.Prelude.{◌≡◌, false, IfOk, IsTrue, OnErr};
 ghost use Rattle.std.specs.List.{list_any};
-ghost use Rattle.feed_statements.specs.Effects.{TellsNumber};
+ghost use Rattle.feed_statements.specs.Effects.{IsLive, TellsNumber};
 ghost use Rattle.feed_store.specs.Adopted.{AreTaken, IsAdopted, IsLaidOut, TakesAllOrNone, is_taken};
 ghost use Rattle.sqlite.specs.Held.{state};
 ghost use Rattle.sqlite.specs.State.{HasCleanDisk};
@@ -18,6 +18,8 @@ pub fn made_ready<S: Alter>(conn: &mut Connection<S>) -> Result<bool, StoreFault
     requires { conn.old.in_transaction ≡ false }
     ensures idle { conn.new.in_transaction ≡ false }
     ensures limit { conn.new.step_limit ≡ conn.old.step_limit }
+    ensures neither { IsLive (state S.Store conn.new)
+        → OnErr result ((state S.Store conn.new).now ≡ (state S.Store conn.old).now) }
     ensures adopted { IfOk result (λ alone.
         IsAdopted (state S.Store conn.old) (state S.Store conn.new) alone) }
     ensures together { IfOk result (λ _. TakesAllOrNone (state S.Store conn.old).now.schema) }
@@ -36,6 +38,8 @@ fn laid_out<S: Alter>(conn: &mut Connection<S>) -> Result<bool, StoreFault>
     requires { conn.old.in_transaction ≡ false }
     ensures idle { conn.new.in_transaction ≡ false }
     ensures limit { conn.new.step_limit ≡ conn.old.step_limit }
+    ensures neither { IsLive (state S.Store conn.new)
+        → OnErr result ((state S.Store conn.new).now ≡ (state S.Store conn.old).now) }
     ensures made { IfOk result (λ alone.
         IsTrue alone × IsLaidOut (state S.Store conn.old) (state S.Store conn.new)) }
 {
@@ -50,6 +54,8 @@ fn numbered<S: Alter>(conn: &mut Connection<S>) -> Result<bool, StoreFault>
     requires { conn.old.in_transaction ≡ false }
     ensures idle { conn.new.in_transaction ≡ false }
     ensures limit { conn.new.step_limit ≡ conn.old.step_limit }
+    ensures neither { IsLive (state S.Store conn.new)
+        → OnErr result ((state S.Store conn.new).now ≡ (state S.Store conn.old).now) }
     ensures told { IfOk result (λ alone. IsTrue alone × (HasCleanDisk (state S.Store conn.new)
         → TellsNumber (state S.Store conn.old) (state S.Store conn.new) alone)) }
 {
@@ -65,6 +71,8 @@ fn beside_others<S: Alter>(conn: &mut Connection<S>) -> Result<bool, StoreFault>
     requires { conn.old.in_transaction ≡ false }
     ensures idle { conn.new.in_transaction ≡ false }
     ensures limit { conn.new.step_limit ≡ conn.old.step_limit }
+    ensures neither { IsLive (state S.Store conn.new)
+        → OnErr result ((state S.Store conn.new).now ≡ (state S.Store conn.old).now) }
     ensures beside { IfOk result (λ alone. alone ≡ false) }
     ensures together { IfOk result (λ _. TakesAllOrNone (state S.Store conn.old).now.schema) }
 {

@@ -37,6 +37,7 @@ impl<S: Alter> Model for SqlKeep<S> {
 
 impl<S: Alter> SqlKeep<S> {
     ghost use Rattle.sqlite.specs.Held.{state};
+    ghost use Rattle.feed_rows.specs.Live.{IsLive};
     ghost use Rattle.feed_store.specs.Adopted.{IsAdopted, TakesAllOrNone};
 
     /// Takes over a connection that is in no transaction, and lifts its limit of steps. A database that has none of the
@@ -48,6 +49,8 @@ impl<S: Alter> SqlKeep<S> {
         ensures together { IfOk result (λ _. TakesAllOrNone (state S.Store conn).now.schema) }
         ensures fresh { IfOk result (λ keep. keep.1.0 ≡ 0) }
         ensures refused { IfErr result (λ fault. fault.connection.in_transaction ≡ false) }
+        ensures neither { IfErr result (λ fault. IsLive (state S.Store fault.connection)
+            → (state S.Store fault.connection).now ≡ (state S.Store conn).now) }
         ensures lifted { MatchResult result (λ keep. keep.0.step_limit ≡ None)
             (λ fault. fault.connection.step_limit ≡ None) }
     {
