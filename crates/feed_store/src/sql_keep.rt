@@ -84,7 +84,10 @@ impl<S: Alter> SqlKeep<S> {
 }
 
 impl<S: Alter> Keep for SqlKeep<S> {
-    ghost use Rattle.std.specs.Prelude.{IsTrue};
+    ghost use Rattle.std.specs.Prelude.{Err, IsErrOf, IsTrue, OnErr, OnOk};
+    ghost use Rattle.feed_model.specs.Change.{after, IsAllowed};
+    ghost use Rattle.feed_keep.specs.Cause.{IsCounted};
+    ghost use Rattle.feed_keep.specs.Shown.{shown_change};
     ghost use Rattle.sqlite.specs.Held.{state};
     ghost use Rattle.feed_rows.specs.Live.{IsLive};
     ghost use Rattle.feed_rows.specs.Tables.{IsListed, content_of};
@@ -113,7 +116,22 @@ impl<S: Alter> Keep for SqlKeep<S> {
         }
     }
 
-    fn commit(&mut self, change: &Change<'_>) -> Result<(), KeepFault> {
+    /// As of every keeper; and where it refuses, the database is as before, whatever else stands in it.
+    fn commit(&mut self, change: &Change<'_>) -> Result<(), KeepFault>
+        requires listed { ⟦<SqlKeep<S> as Keep>⟧.clean self.old → ∥ ⟦<SqlKeep<S> as Keep>⟧.listed self.old ∥₁ }
+        requires allowed { ⟦<SqlKeep<S> as Keep>⟧.clean self.old
+            → IsAllowed (shown_change change.now) (⟦<SqlKeep<S> as Keep>⟧.content self.old) }
+        ensures made { OnOk result (⟦<SqlKeep<S> as Keep>⟧.clean self.new → ⟦<SqlKeep<S> as Keep>⟧.content self.new
+            ≡ after (shown_change change.now) (⟦<SqlKeep<S> as Keep>⟧.content self.old)) }
+        ensures refused { OnErr result (⟦<SqlKeep<S> as Keep>⟧.clean self.new
+            → ⟦<SqlKeep<S> as Keep>⟧.content self.new ≡ ⟦<SqlKeep<S> as Keep>⟧.content self.old) }
+        ensures listed { ⟦<SqlKeep<S> as Keep>⟧.clean self.new → ∥ ⟦<SqlKeep<S> as Keep>⟧.listed self.new ∥₁ }
+        ensures clean { ⟦<SqlKeep<S> as Keep>⟧.clean self.new → ⟦<SqlKeep<S> as Keep>⟧.clean self.old }
+        ensures undamaged { ¬ (IsErrOf result KeepFault.Damaged) }
+        ensures device { IsCounted (result ≡ Err KeepFault.Device) self.old.1.0 self.new.1.0 }
+        ensures neither { IsLive (state S.Store self.new.0)
+            → OnErr result ((state S.Store self.new.0).now ≡ (state S.Store self.old.0).now) }
+    {
         match commit_change(&mut self.conn, change) {
             Ok(()) => Ok(()),
             Err(Error::SqliteFailure(ErrorCode::OutOfMemory)) => Err(KeepFault::Memory),
