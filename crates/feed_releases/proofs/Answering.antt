@@ -3,9 +3,9 @@ use Rattle.std.proofs.Common.{◌≡◌, ◌≢◌, ◌==◌, ◌⊎◌, ◌≤�
 use Rattle.std.proofs.Common.{OnErr, IfSome, IsSomeAnd, inl, inr, refl, sym, ap, subst, arith, false, unwrap_or, List, Option, None, length}
 use Rattle.std.proofs.lemmas.Bool.{eqb-false}
 use Rattle.feed_model.specs.declared.reply.Refusal.{Refusal}
-use Rattle.feed_model.specs.declared.reply.Refusal.TheVariants.{Memory, Device}
+use Rattle.feed_model.specs.declared.reply.Refusal.TheVariants.{Memory, Device, Full}
 use Rattle.feed_model.specs.declared.reply.Reply.{Reply}
-use Rattle.feed_model.specs.Reply.{max_piece}
+use Rattle.feed_model.specs.Reply.{max_held, max_piece}
 use Rattle.feed_model.specs.History.{Event, Answer}
 use Rattle.feed_model.specs.Content.{Record}
 use Rattle.feed_model.specs.Parts.{IsSmall}
@@ -13,7 +13,10 @@ use Rattle.feed_model.specs.Handles.{Handles}
 use Rattle.feed_keep.specs.Cause.{IsCounted}
 use Rattle.feed_keep.specs.declared.keep.Keep.{Ghosts}
 use Rattle.feed_releases.specs.declared.feed.Feed.{Feed}
-use Rattle.feed_releases.specs.Feeds.{IsAnsweredBy, keeper_of, releases_of, recorded}
+use Rattle.feed_releases.specs.declared.release.growth.Standing.{Standing}
+use Rattle.feed_releases.specs.declared.release.growth.Standing.TheVariants.{Partial, Bad, Good}
+use Rattle.feed_releases.specs.Growth.{reply_of}
+use Rattle.feed_releases.specs.Feeds.{CommitsNothing, IsAnsweredBy, keeper_of, releases_of, recorded}
 
 -- what holds anyway holds after an error
 pub on_err : (a : Answer) (P : Type 0) → P → OnErr a P
@@ -22,26 +25,41 @@ on_err (Err e) P p = p
 
 -- an answer that changes nothing, and tells no fault of the device
 pub idle : {K : Type 0} {k : Ghosts K} (old new : Feed K k) (event : Event) (answer : Answer) → keeper_of new ≡ keeper_of old → releases_of new ≡ releases_of old → answer ≢ Err Device
-    → Handles (recorded old) event answer (recorded old) → IsAnsweredBy old new event answer
-idle {K} {k} old new event answer keeper same other right = record {
+    → (answer ≡ Err Full → length (releases_of old) ≡ max_held) → Handles (recorded old) event answer (recorded old) → IsAnsweredBy old new event answer
+idle {K} {k} old new event answer keeper same other full right = record {
   right = rw same right;
   refused = on_err answer _ same;
+  idle = λ _. same;
+  full = full;
   clean = λ clean. subst k.clean keeper clean;
   device = record { rises = subst (λ (x : K). k.failed (keeper_of old) ≤ k.failed x) (sym keeper) (omega arith); failed = λ e. absurd (other e); stays = λ _. ap k.failed keeper };
 }
 
--- a refusal of what commits
+-- want of memory and a fault of the device are not `Full`
+not_full : (r : Refusal) → (r ≡ Memory) ⊎ (r ≡ Device) → let a : Answer = Err r in a ≢ Err Full
+not_full r (inl is) e = cc
+not_full r (inr is) e = cc
+
+-- a refusal of what commits, which is want of memory or a fault of the device
 pub refused_with : {K : Type 0} {k : Ghosts K} (old new : Feed K k) (event : Event) (refusal : Refusal) → releases_of new ≡ releases_of old
     → (k.clean (keeper_of new) → k.clean (keeper_of old))
-    → IsCounted (let a : Answer = Err refusal in a ≡ Err Device) (k.failed (keeper_of old)) (k.failed (keeper_of new)) → Handles (recorded old) event (Err refusal)
-    (recorded old) → IsAnsweredBy old new event (Err refusal)
-refused_with old new event refusal same clean counted right = record { right = rw same right; refused = same; clean = clean; device = counted }
+    → IsCounted (let a : Answer = Err refusal in a ≡ Err Device) (k.failed (keeper_of old)) (k.failed (keeper_of new)) → (refusal ≡ Memory) ⊎ (refusal ≡ Device)
+    → Handles (recorded old) event (Err refusal) (recorded old) → IsAnsweredBy old new event (Err refusal)
+refused_with old new event refusal same clean counted fault right =
+    record { right = rw same right; refused = same; idle = λ _. same; full = λ e. absurd (not_full refusal fault e); clean = clean; device = counted }
 
 -- an answer that commits
 pub taken_in : {K : Type 0} {k : Ghosts K} (old new : Feed K k) (event : Event) (reply : Reply) → (k.clean (keeper_of new) → k.clean (keeper_of old))
-    → IsCounted (let a : Answer = Ok reply in a ≡ Err Device) (k.failed (keeper_of old)) (k.failed (keeper_of new)) → Handles (recorded old) event (Ok reply)
-    (recorded new) → IsAnsweredBy old new event (Ok reply)
-taken_in old new event reply clean counted right = record { right = right; refused = tt; clean = clean; device = counted }
+    → IsCounted (let a : Answer = Ok reply in a ≡ Err Device) (k.failed (keeper_of old)) (k.failed (keeper_of new)) → ¬ (CommitsNothing (Ok reply))
+    → Handles (recorded old) event (Ok reply) (recorded new) → IsAnsweredBy old new event (Ok reply)
+taken_in old new event reply clean counted commits right =
+    record { right = right; refused = tt; idle = λ nothing. absurd (commits nothing); full = λ e. absurd (let e = e in cc); clean = clean; device = counted }
+
+-- what is answered to new bytes is no answer that commits nothing
+pub grown_commits : (missing : ℕ) (standing : Standing) → ¬ (CommitsNothing (Ok (reply_of missing standing)))
+grown_commits missing Partial nothing = nothing
+grown_commits missing (Bad why) nothing = nothing
+grown_commits missing (Good holdings) nothing = nothing
 
 -- an error that is want of memory
 pub only_memory : {T : Type 0} (refusal : Refusal) → (let r : Result T Refusal = Err refusal in r ≡ Err Memory) → refusal ≡ Memory
@@ -49,6 +67,9 @@ only_memory refusal e = cc
 
 pub memory_not : let a : Answer = Err Memory in a ≢ Err Device
 memory_not e = cc
+
+pub memory_not_full : let a : Answer = Err Memory in a ≢ Err Full
+memory_not_full e = cc
 
 -- want of memory, or a fault of the device
 pub refused : (r : Refusal) → (r ≡ Memory) ⊎ (r ≡ Device) → (let a : Answer = Err r in a ≡ Err Memory) ⊎ (let a : Answer = Err r in a ≡ Err Device)

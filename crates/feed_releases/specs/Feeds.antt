@@ -1,9 +1,11 @@
 -- What is seen of a feed, and how it answers an event.
-use Rattle.std.specs.Prelude.{◌≡◌, List, Err, OnErr}
-use Rattle.feed_model.specs.declared.reply.Refusal.TheVariants.{Device}
+use Rattle.std.specs.Prelude.{◌≡◌, List, length, Ok, Err, OnErr}
+use Rattle.feed_model.specs.declared.reply.Refusal.TheVariants.{Device, Full}
+use Rattle.feed_model.specs.declared.reply.Reply.TheVariants as replies
 use Rattle.feed_model.specs.History.{Event, Answer}
 use Rattle.feed_model.specs.Content.{Content}
 use Rattle.feed_model.specs.Handles.{Handles}
+use Rattle.feed_model.specs.Reply.{max_held}
 use Rattle.feed_keep.specs.Cause.{IsCounted}
 use Rattle.feed_keep.specs.declared.keep.Keep.{Ghosts}
 use Rattle.feed_releases.specs.declared.feed.Feed.{Feed}
@@ -21,10 +23,21 @@ releases_of feed = feed.releases.items
 abbrev pub recorded : {K : Type 0} {k : Ghosts K} → Feed K k → Content
 recorded feed = content_of (releases_of feed)
 
--- the answer is right after whatever history the feed stands at, and the feed then stands at the longer one; after a refusal its releases are as before; its keeper was clean if it is; and a
+-- an answer to an event that commits nothing: each refusal, and each reply that brings nothing new
+abbrev pub CommitsNothing : Answer → Type 0
+CommitsNothing (Err refusal) = Unit {0}
+CommitsNothing (Ok replies.Known) = Unit {0}
+CommitsNothing (Ok replies.Older) = Unit {0}
+CommitsNothing (Ok replies.Repeated) = Unit {0}
+CommitsNothing (Ok replies.Nothing) = Unit {0}
+CommitsNothing (Ok reply) = ⊥
+
+-- the answer is right after whatever history the feed stands at, and the feed then stands at the longer one; after an answer that commits nothing its releases are as before; it is full only with the most releases; its keeper was clean if it is; and a
 -- fault of the device is told just where it failed
 pub record IsAnsweredBy {K : Type 0} {k : Ghosts K} (old new : Feed K k) (event : Event) (answer : Answer) : Type 0 where
   pub right : Handles (recorded old) event answer (recorded new)
   pub refused : OnErr answer (releases_of new ≡ releases_of old)
+  pub idle : CommitsNothing answer → releases_of new ≡ releases_of old
+  pub full : answer ≡ Err Full → length (releases_of old) ≡ max_held
   pub clean : k.clean (keeper_of new) → k.clean (keeper_of old)
   pub device : IsCounted (answer ≡ Err Device) (k.failed (keeper_of old)) (k.failed (keeper_of new))

@@ -68,7 +68,7 @@ impl<K: Keep + Drop> Feed<K> {
     ghost use Rattle.feed_releases.specs.NextRange.{IsNextRange};
     ghost use Rattle.feed_releases.specs.Told.{told};
     ghost use Rattle.feed_keep.specs.Cause.{HasFailedSince, IsCounted};
-    ghost use Rattle.feed_releases.specs.Feeds.{keeper_of, recorded, releases_of};
+    ghost use Rattle.feed_releases.specs.Feeds.{CommitsNothing, keeper_of, recorded, releases_of};
 
     /// Opens a feed on what a keeper holds. `Damaged` where this is nothing that a feed ever keeps: a name that stands
     /// twice, more than 256 releases, a size above the limit of a file, parts that are empty, above the limit of a
@@ -105,10 +105,13 @@ impl<K: Keep + Drop> Feed<K> {
     }
 
     /// Takes one event. Whatever history the feed stands at, the answer is right after it, and the feed then stands at
-    /// the history with the event and the answer added. After a refusal the feed is as before.
+    /// the history with the event and the answer added. After a refusal, and a reply that brings nothing new, the feed
+    /// is as before. `Full` is answered only where as many releases are recorded as may be.
     pub fn handle(&mut self, event: &Event<'_>) -> Result<Reply, Refusal>
         ensures right { Handles (recorded self.old) (told event.now) result (recorded self.new) }
         ensures refused { OnErr result (releases_of self.new ≡ releases_of self.old) }
+        ensures idle { CommitsNothing result → releases_of self.new ≡ releases_of self.old }
+        ensures full { result ≡ Err Refusal.Full → length (releases_of self.old) ≡ max_held }
         ensures clean { K.clean (keeper_of self.new) → K.clean (keeper_of self.old) }
         ensures device { IsCounted (result ≡ Err Refusal.Device) (K.failed (keeper_of self.old))
             (K.failed (keeper_of self.new)) }
@@ -211,6 +214,9 @@ impl<K: Keep + Drop> Feed<K> {
         ensures after { point ≡ Point.After → K.clean result → (h : History) → IsContent (recorded self) h
             → (answer : event_answer) × IsRight h (told event.now) answer
             × IsContent (K.content result) ((told event.now, answer) ∷ h) }
+        ensures idle { point ≡ Point.After → K.clean result
+            → (answer : event_answer) × Handles (recorded self) (told event.now) answer (K.content result)
+            × (CommitsNothing answer → K.content result ≡ recorded self) }
         ensures listed { K.clean result → ∥ K.listed result ∥₁ }
         ensures clean { K.clean result → K.clean (keeper_of self) }
         ensures counted { K.failed (keeper_of self) ≤ K.failed result }

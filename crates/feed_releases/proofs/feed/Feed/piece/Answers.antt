@@ -11,7 +11,7 @@ use Rattle.feed_releases.proofs.feed.Feed.piece.Goals as goal
 use Rattle.feed_releases.proofs.feed.Feed.piece.Goals.{then-first-size-via-then-first-size, then-first-size-via-else-first-size+then-bytes-size}
 
 pub returns-then-is_passed : goal.returns-then-is_passed
-returns-then-is_passed g c = idle c.args.self.now c.args.self.now _ _ refl refl (λ e. cc) (λ h is. (
+returns-then-is_passed g c = idle c.args.self.now c.args.self.now _ _ refl refl (λ e. cc) (λ e. cc) (λ h is. (
     let rs = c.args.self.now.releases.items in
     let later = rw c.deref.ensures.value at (c.if-is_passed.ensures.later refl) in
     piece_older (content_of rs) c.args.name.now c.args.first c.args.total c.args.bytes.now (small c.args.bytes.now c.if-is_empty.ensures c.if-bytes-gt-PIECE_LIMIT.false) (later_at rs c.args.name.now later.0 is.distinct later.1 later.2) h is))
@@ -21,7 +21,7 @@ returns-in_default g c =
     let rs = c.args.self.now.releases.items in
     let free = none_later rs c.args.name.now (rw c.deref.ensures.value at (c.if-is_passed.ensures.none refl)) in
     let none = rw c.deref-2.ensures.value at c.in_default.ensures.none in
-    idle c.args.self.now c.args.self.now _ _ refl refl (λ e. cc) (piece_unknown (content_of rs) c.args.name.now c.args.first c.args.total c.args.bytes.now
+    idle c.args.self.now c.args.self.now _ _ refl refl (λ e. cc) (λ e. cc) (piece_unknown (content_of rs) c.args.name.now c.args.first c.args.total c.args.bytes.now
     (small c.args.bytes.now c.if-is_empty.ensures c.if-bytes-gt-PIECE_LIMIT.false) free none)
 
 pub returns-then-unwrap_or-size : goal.returns-then-unwrap_or-size
@@ -31,7 +31,7 @@ returns-then-unwrap_or-size g c =
     let r = c.index-release.result.now in
     let found = found_here rs c.args.name.now c.in-Some.at r (rw c.deref-2.ensures.value at c.in-Some.ensures.found) c.index-release.ensures in
     let other = rw c.size-size.ensures.value at (other_size c.args.total c.size-size.result (rw c.unwrap_or.ensures at c.if-unwrap_or-size.true)) in
-    idle c.args.self.now c.args.self.now _ _ refl refl (λ e. cc) (piece_wrong_size (content_of rs) c.args.name.now c.args.first c.args.total c.args.bytes.now r.kept
+    idle c.args.self.now c.args.self.now _ _ refl refl (λ e. cc) (λ e. cc) (piece_wrong_size (content_of rs) c.args.name.now c.args.first c.args.total c.args.bytes.now r.kept
     (small c.args.bytes.now c.if-is_empty.ensures c.if-bytes-gt-PIECE_LIMIT.false) free found other)
 
 pub returns-then-first-size : goal.returns-then-first-size
@@ -45,7 +45,7 @@ returns-then-first-size g c =
       | then-first-size-via-then-first-size w ↦ omega (arith, w.if-first-size.true)
       | then-first-size-via-else-first-size+then-bytes-size w ↦ omega (arith, w.if-first-size.false, w.if-bytes-size.true)
     ] in
-    idle c.args.self.now c.args.self.now _ _ refl refl (λ e. cc) (piece_outside (content_of rs) c.args.name.now c.args.first c.args.total c.args.bytes.now r.kept
+    idle c.args.self.now c.args.self.now _ _ refl refl (λ e. cc) (λ e. cc) (piece_outside (content_of rs) c.args.name.now c.args.first c.args.total c.args.bytes.now r.kept
     (small c.args.bytes.now c.if-is_empty.ensures c.if-bytes-gt-PIECE_LIMIT.false) free found same
     (omega (arith, past, c.size-size.ensures.value)))
 
@@ -86,7 +86,7 @@ returns-in-Conflict g c =
       sized = rw c.size-size.ensures.value at (sized c.args.total c.size-size.result (rw c.unwrap_or.ensures at c.if-unwrap_or-size.false));
       within = rw c.size-size.ensures.value at inside;
     } in
-    idle c.args.self.now c.args.self.now _ _ refl refl (λ e. cc) (piece_conflict (content_of rs) c.args.name.now c.args.first c.args.total c.args.bytes.now r.kept reach c.in-Conflict.ensures)
+    idle c.args.self.now c.args.self.now _ _ refl refl (λ e. cc) (λ e. cc) (piece_conflict (content_of rs) c.args.name.now c.args.first c.args.total c.args.bytes.now r.kept reach c.in-Conflict.ensures)
 
 pub returns-in-Kept : goal.returns-in-Kept
 returns-in-Kept g c =
@@ -102,5 +102,5 @@ returns-in-Kept g c =
       sized = rw c.size-size.ensures.value at (sized c.args.total c.size-size.result (rw c.unwrap_or.ensures at c.if-unwrap_or-size.false));
       within = rw c.size-size.ensures.value at inside;
     } in
-    idle c.args.self.now c.args.self.now _ _ refl refl (λ e. cc) (piece_repeated
+    idle c.args.self.now c.args.self.now _ _ refl refl (λ e. cc) (λ e. cc) (piece_repeated
     (content_of rs) c.args.name.now c.args.first c.args.total c.args.bytes.now r.kept reach c.in-Kept.ensures.0 c.in-Kept.ensures.1)
