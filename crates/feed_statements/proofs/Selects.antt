@@ -1,5 +1,5 @@
 -- The selection of the layout's number leaves every database as it was.
-use Rattle.std.proofs.Common.{◌≡◌, ◌⊎◌, inl, inr, ℕ, List, [], Bool, true, false, None, Some, Ok, Err, Option, IsTrue, IfOk, if◌then◌else◌, refl, sym, subst, ◌∙◌}
+use Rattle.std.proofs.Common.{◌≡◌, inl, inr, ℕ, List, [], Bool, true, false, None, Some, Ok, Err, Option, IsTrue, IfOk, if◌then◌else◌, refl, sym, subst, ◌∙◌}
 use Rattle.sqlite_value.specs.Order.{Row}
 use Rattle.sqlite_tied.specs.Compute.{everything}
 use Rattle.sqlite_schema.specs.declared.command.Command.{Command}
@@ -14,7 +14,7 @@ use Rattle.sqlite_resolve.specs.Compile.{compiled, first, meaning, planned, retu
 use Rattle.sqlite.specs.declared.error.Error.{Error}
 use Rattle.sqlite.specs.Clock.{timed}
 use Rattle.sqlite.specs.Listing.{understood, reads_listing, if_select, is_select, listing_schema}
-use Rattle.sqlite.specs.State.{State, FailsToQuery, FailsToShow, IsNotRun, IsRolledBack, IsUnchanged, Shown, ShowsRows}
+use Rattle.sqlite.specs.State.{State, FailsToQuery, FailsToShow, IsNotRun, IsRolledBack, IsUnchanged, Shown}
 use Rattle.feed_statements.specs.Texts.{number_text}
 
 -- a text that changes no row has no rows of changes to show

@@ -1,6 +1,5 @@
 use Rattle.std.proofs.Common.{◌≡◌, IsTrue, sym, ◌∙◌, arith, rules}
 use Rattle.sqlite.specs.Held.{state}
-use Rattle.sqlite.specs.State.{HasCleanDisk}
 use Rattle.feed_statements.proofs.LayoutNumber.{number_told}
 use Rattle.feed_statements.proofs.Selects.{Stays, failed_stays, number_stays}
 use Rattle.feed_statements.proofs.number.has_number_1.Goals as goal
