@@ -21,7 +21,8 @@ use Rattle.feed_answer.specs.Limits.{query_limit}
 use Rattle.feed_answer.specs.Pairs.{book_format, first_days, first_volume, has_key, is_empty, is_other_format, is_other_version, issns_among, tells_format}
 use Rattle.feed_answer.specs.Queries.{asked_by, isbns_asked, query_of, tells_journal}
 use Rattle.feed_answer.specs.QueryValue.{QueryValue}
-use Rattle.feed_answer.specs.Serials.{SerialQuery, is_other_than_journal, is_serial_hit, is_serial_type, serial_answer_of, serial_hit_by, serial_query_by, serial_query_of, serial_row_at, serial_rows_in, SerialAnswersStay}
+use Rattle.feed_answer.specs.Serials.{SerialAnswersStay, SerialQuery, is_other_than_journal, is_serial_hit, is_serial_type, serial_answer_of}
+use Rattle.feed_answer.specs.Serials.{serial_hit_by, serial_query_by, serial_query_of, serial_row_at, serial_rows_in}
 use Rattle.feed_answer.specs.declared.fault.QueryFault.TheVariants.{TooLong}
 use Rattle.feed_answer.specs.declared.grade.Grade.{Grade}
 

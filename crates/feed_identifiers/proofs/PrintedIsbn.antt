@@ -118,7 +118,8 @@ thirteen_again : (first second last a b c d e f g h i check : ℕ) (printed : Li
     → of_thirteen 57 55 last a b c d e f g h i check ≡ Some printed
 thirteen_again first second last a b c d e f g h i check printed made =
     let t : (((last == 56) || (last == 57)) && are_nine_digits a b c d e f g h i && is_ascii_digit check
-    && ((sum_of_twelve last a b c d e f g h i + (check - 48)) % 10 == 0)) ≡ true = behind_front (first == 57) (second == 55) ((last == 56) || (last == 57)) (are_nine_digits a b c d e f g h i) (is_ascii_digit check)
+    && ((sum_of_twelve last a b c d e f g h i + (check - 48)) % 10 == 0)) ≡ true =
+    behind_front (first == 57) (second == 55) ((last == 56) || (last == 57)) (are_nine_digits a b c d e f g h i) (is_ascii_digit check)
     ((sum_of_twelve last a b c d e f g h i + (check - 48)) % 10 == 0) (test_true _ _ printed made) in
     rw t (ap Some (sym (value_is _ _ printed made)))
 

@@ -1,7 +1,8 @@
 //! Laws of identifiers, each the contract of a function that does nothing.
 ghost use Rattle.feed_identifiers.specs.Isbn.{isbn_of};
 ghost use Rattle.feed_identifiers.specs.Issn.{issn_of};
-ghost use Rattle.feed_identifiers.specs.Laws.{IssnNumbersAreSmall, OneIsbnForNumber, OneIssnForNumber, ReadsBack, TenAreThirteen};
+ghost use Rattle.feed_identifiers.specs.Laws.{IssnNumbersAreSmall, OneIsbnForNumber, OneIssnForNumber};
+ghost use Rattle.feed_identifiers.specs.Laws.{ReadsBack, TenAreThirteen};
 
 /// The printed form of an ISSN reads as itself.
 pub fn issn_reads_back()

@@ -120,8 +120,8 @@ fn a_reader_that_fails_is_told(rt: HostRuntime) -> Result<(), Fail> {
     Ok(())
 }
 
-// What reading and counting a file gives where a reader fails at the call after so many: by `read_file`, by `read_parts`
-// with a failing first or second reader, and by `count_file`.
+// What reading and counting a file gives where a reader fails at the call after so many: by `read_file`, by
+// `read_parts` with a failing first or second reader, and by `count_file`.
 fn read_failing(
     alloc: Global,
     parts: &[&[u8]],

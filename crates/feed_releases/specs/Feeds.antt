@@ -32,8 +32,9 @@ CommitsNothing (Ok replies.Repeated) = Unit {0}
 CommitsNothing (Ok replies.Nothing) = Unit {0}
 CommitsNothing (Ok reply) = ⊥
 
--- the answer is right after whatever history the feed stands at, and the feed then stands at the longer one; after an answer that commits nothing its releases are as before; it is full only with the most releases; its keeper was clean if it is; and a
--- fault of the device is told just where it failed
+-- the answer is right after whatever history the feed stands at, and the feed then stands at the longer one; after an
+-- answer that commits nothing its releases are as before; it is full only with the most releases; its keeper was clean if
+-- it is; and a fault of the device is told just where it failed
 pub record IsAnsweredBy {K : Type 0} {k : Ghosts K} (old new : Feed K k) (event : Event) (answer : Answer) : Type 0 where
   pub right : Handles (recorded old) event answer (recorded new)
   pub refused : OnErr answer (releases_of new ≡ releases_of old)

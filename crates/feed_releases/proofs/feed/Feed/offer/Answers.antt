@@ -18,7 +18,8 @@ returns-then-size-2 g c =
     let rs = c.args.self.now.releases.items in
     let free = none_later rs c.args.name.now (rw c.deref.ensures.value at (c.if-is_passed.ensures.none refl)) in
     let found = found_at rs c.args.name.now c.in-Some.at c.index.result.now (rw c.deref-2.ensures.value at c.in-Some.ensures.found) in
-    idle c.args.self.now c.args.self.now _ _ refl refl (λ e. cc) (λ e. cc) (offer_known (content_of rs) c.args.name.now c.args.size (get_or rs c.in-Some.at c.index.result.now).kept c.if-size.false free found
+    idle c.args.self.now c.args.self.now _ _ refl refl (λ e. cc) (λ e. cc)
+    (offer_known (content_of rs) c.args.name.now c.args.size (get_or rs c.in-Some.at c.index.result.now).kept c.if-size.false free found
     (ap (λ (r : ReleaseValue). r.kept.size) (sym c.index.ensures) ∙ sym c.size.ensures.value ∙ c.if-size-2.true))
 
 pub returns-else-size-2 : goal.returns-else-size-2

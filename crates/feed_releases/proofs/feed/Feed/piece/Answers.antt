@@ -14,7 +14,8 @@ pub returns-then-is_passed : goal.returns-then-is_passed
 returns-then-is_passed g c = idle c.args.self.now c.args.self.now _ _ refl refl (λ e. cc) (λ e. cc) (λ h is. (
     let rs = c.args.self.now.releases.items in
     let later = rw c.deref.ensures.value at (c.if-is_passed.ensures.later refl) in
-    piece_older (content_of rs) c.args.name.now c.args.first c.args.total c.args.bytes.now (small c.args.bytes.now c.if-is_empty.ensures c.if-bytes-gt-PIECE_LIMIT.false) (later_at rs c.args.name.now later.0 is.distinct later.1 later.2) h is))
+    piece_older (content_of rs) c.args.name.now c.args.first c.args.total c.args.bytes.now (small c.args.bytes.now c.if-is_empty.ensures c.if-bytes-gt-PIECE_LIMIT.false)
+    (later_at rs c.args.name.now later.0 is.distinct later.1 later.2) h is))
 
 pub returns-in_default : goal.returns-in_default
 returns-in_default g c =
@@ -86,7 +87,8 @@ returns-in-Conflict g c =
       sized = rw c.size-size.ensures.value at (sized c.args.total c.size-size.result (rw c.unwrap_or.ensures at c.if-unwrap_or-size.false));
       within = rw c.size-size.ensures.value at inside;
     } in
-    idle c.args.self.now c.args.self.now _ _ refl refl (λ e. cc) (λ e. cc) (piece_conflict (content_of rs) c.args.name.now c.args.first c.args.total c.args.bytes.now r.kept reach c.in-Conflict.ensures)
+    idle c.args.self.now c.args.self.now _ _ refl refl (λ e. cc) (λ e. cc)
+    (piece_conflict (content_of rs) c.args.name.now c.args.first c.args.total c.args.bytes.now r.kept reach c.in-Conflict.ensures)
 
 pub returns-in-Kept : goal.returns-in-Kept
 returns-in-Kept g c =

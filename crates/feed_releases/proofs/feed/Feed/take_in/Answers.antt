@@ -31,7 +31,8 @@ returns-in_err-growth g c =
     let lies = c.requires.new r.kept found in
     let p = err_from_is_err_and c.from_residual.result c.from_residual.ensures.1 in
     let memory = only_memory _ c.in_err-growth.ensures.refused in
-    rw (p.1, p.2, memory) (idle c.args.self.now _ _ _ refl refl memory_not (λ e. absurd (memory_not_full e)) (piece_refused (content_of rs) n c.args.first c.args.total c.args.bytes.now r.kept _ reach lies.0 lies.1 (inl refl)))
+    rw (p.1, p.2, memory) (idle c.args.self.now _ _ _ refl refl memory_not (λ e. absurd (memory_not_full e))
+    (piece_refused (content_of rs) n c.args.first c.args.total c.args.bytes.now r.kept _ reach lies.0 lies.1 (inl refl)))
 
 pub grow-requires-clause-allowed : goal.grow-requires-clause-allowed
 grow-requires-clause-allowed g c =
@@ -54,7 +55,8 @@ returns-in_err-reply g c =
     let lies = c.requires.new r.kept found in
     let back = set_back rs c.args.at r c.grow.new.self c.index_mut.ensures.value c.in_err-reply.ensures.same in
     let p = err_from_is_err_and c.from_residual-in_err-reply.result c.from_residual-in_err-reply.ensures.1 in
-    rw (p.1, p.2) (refused_with c.args.self.now _ _ c.in_err-reply.field-0.0 back c.in_err-reply.ensures.committed.was (told_as c.in_err-reply.ensures.committed.counted (λ e. cc) (λ e. cc)) c.in_err-reply.ensures.committed.fault
+    rw (p.1, p.2) (refused_with c.args.self.now _ _ c.in_err-reply.field-0.0 back c.in_err-reply.ensures.committed.was
+    (told_as c.in_err-reply.ensures.committed.counted (λ e. cc) (λ e. cc)) c.in_err-reply.ensures.committed.fault
     (piece_refused (content_of rs) n c.args.first c.args.total c.args.bytes.now r.kept _ reach lies.0 lies.1 (refused c.in_err-reply.field-0.0 c.in_err-reply.ensures.committed.fault)))
 
 pub invariant_of-self-in-Activated-clause-mirrors : goal.invariant_of-self-in-Activated-clause-mirrors
@@ -101,7 +103,8 @@ returns-in-Activated g c =
     (ap (λ (y : ReleaseValue). y.kept) c.in_ok-reply.ensures.taken) in
     let content = c.drop_earlier.ensures.dropped ∙ ap (without_earlier n) grown
     ∙ sym (after_activated n r.kept growth (content_of rs) name (sym c.in_ok-reply.ensures.reply ∙ c.in-Activated.is)) in
-    rw c.in_ok-reply.ensures.reply (taken_in c.args.self.now _ _ _ c.in_ok-reply.ensures.committed.was (told_as c.in_ok-reply.ensures.committed.counted (λ e. cc) (λ e. cc)) (grown_commits growth.missing growth.standing)
+    rw c.in_ok-reply.ensures.reply (taken_in c.args.self.now _ _ _ c.in_ok-reply.ensures.committed.was (told_as c.in_ok-reply.ensures.committed.counted (λ e. cc) (λ e. cc))
+    (grown_commits growth.missing growth.standing)
     (rw content (growth_right (content_of rs) n c.args.first c.args.total c.args.bytes.now r.kept growth name (c.requires.reaches r.kept found) (c.requires.new r.kept found)
     (rw same at c.in_ok-growth.ensures.growth))))
 
@@ -117,6 +120,7 @@ returns-in_default g c =
     let grown = grown_at rs n c.args.at r c.grow.new.self (parts_of growth) (state_of growth.standing) c.requires.place c.index_mut.ensures.value
     (ap (λ (y : ReleaseValue). y.kept) c.in_ok-reply.ensures.taken) in
     let content = grown ∙ sym (after_kept n r.kept growth (content_of rs) name (λ e. c.in_default.not-Activated (c.in_ok-reply.ensures.reply ∙ e))) in
-    rw c.in_ok-reply.ensures.reply (taken_in c.args.self.now _ _ _ c.in_ok-reply.ensures.committed.was (told_as c.in_ok-reply.ensures.committed.counted (λ e. cc) (λ e. cc)) (grown_commits growth.missing growth.standing)
+    rw c.in_ok-reply.ensures.reply (taken_in c.args.self.now _ _ _ c.in_ok-reply.ensures.committed.was (told_as c.in_ok-reply.ensures.committed.counted (λ e. cc) (λ e. cc))
+    (grown_commits growth.missing growth.standing)
     (rw content (growth_right (content_of rs) n c.args.first c.args.total c.args.bytes.now r.kept growth name (c.requires.reaches r.kept found) (c.requires.new r.kept found)
     (rw same at c.in_ok-growth.ensures.growth))))
