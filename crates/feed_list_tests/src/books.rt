@@ -9,32 +9,26 @@ fn holdings_of(alloc: Global, parts: &[&[u8]]) -> Result<Holdings, KbartFault> {
     read_file(alloc, joined(alloc, parts)?.as_slice())
 }
 
-#[test]
-fn reads_a_book(rt: HostRuntime) -> Result<(), Fail> {
-    let alloc = rt.alloc();
+// Three books, and a serial before the last.
+fn books_and_a_serial(alloc: Global) -> Result<Holdings, KbartFault> {
     let dated = b"Psi\t\t9780306406157\tx\t1\t1990\t7\thttp://p.example/\t MonoGraph \n";
     let both = b"Chi\t080442957X\t979-10-90636-07-1\t1990\t\t1980\t\t\tMONOGRAPH";
-    let holdings = holdings_of(alloc, &[TYPED_HEADER, OMEGA, dated, ACTA, both])?;
-    let isbn = Isbn::parse(b"0306406152");
+    holdings_of(alloc, &[TYPED_HEADER, OMEGA, dated, ACTA, both])
+}
+
+#[test]
+fn reads_a_book(rt: HostRuntime) -> Result<(), Fail> {
+    let holdings = books_and_a_serial(rt.alloc())?;
     assert_eq!(rt; holdings.rows().len(), 4);
     let omega = &holdings.rows()[0];
     assert_eq!(rt; omega.kind(), Kind::Book);
-    assert_eq!(rt; (omega.print_isbn(), omega.online_isbn()), (isbn, None));
     assert_eq!(rt;
         omega.print_isbn().map(|isbn| isbn.text()),
         Some(*b"9780306406157")
     );
+    assert_eq!(rt; omega.online_isbn(), None);
     assert_eq!(rt; omega.title(), b"Omega".as_slice());
     assert_eq!(rt; omega.url(), b"http://o.example/".as_slice());
-    let psi = &holdings.rows()[1];
-    assert_eq!(rt; psi.kind(), Kind::Book);
-    assert_eq!(rt; (psi.print_isbn(), psi.online_isbn()), (None, isbn));
-    assert_eq!(rt; (psi.first_day(), psi.last_day()), (None, None));
-    assert_eq!(rt; (psi.first_volume(), psi.last_volume()), (None, None));
-    assert_eq!(rt; (psi.print(), psi.online()), (None, None));
-    let acta = &holdings.rows()[2];
-    assert_eq!(rt; acta.kind(), Kind::Serial);
-    assert_eq!(rt; (acta.print_isbn(), acta.online_isbn()), (None, None));
     let chi = &holdings.rows()[3];
     assert_eq!(rt;
         chi.print_isbn().map(|isbn| isbn.text()),
@@ -44,17 +38,43 @@ fn reads_a_book(rt: HostRuntime) -> Result<(), Fail> {
         chi.online_isbn().map(|isbn| isbn.text()),
         Some(*b"9791090636071")
     );
-    for (text, places) in [
-        (b"0-306-40615-2".as_slice(), [0, 1].as_slice()),
-        (b"9791090636071", &[3]),
-        (b"9780804429573", &[3]),
-        (b"9783161484100", &[]),
-    ] {
-        let found = Isbn::parse(text).map(|isbn| holdings.with_isbn(&isbn));
-        assert!(rt; found == Some(places), "{text:?}");
+    Ok(())
+}
+
+#[test]
+fn a_book_has_no_dates_volumes_or_issns(rt: HostRuntime) -> Result<(), Fail> {
+    let holdings = books_and_a_serial(rt.alloc())?;
+    let psi = &holdings.rows()[1];
+    assert_eq!(rt; psi.kind(), Kind::Book);
+    assert_eq!(rt; psi.print_isbn(), None);
+    assert_eq!(rt; psi.online_isbn(), Isbn::parse(b"0306406152"));
+    assert_eq!(rt; (psi.first_day(), psi.last_day()), (None, None));
+    assert_eq!(rt; (psi.first_volume(), psi.last_volume()), (None, None));
+    assert_eq!(rt; (psi.print(), psi.online()), (None, None));
+    let acta = &holdings.rows()[2];
+    assert_eq!(rt; acta.kind(), Kind::Serial);
+    assert_eq!(rt; (acta.print_isbn(), acta.online_isbn()), (None, None));
+    Ok(())
+}
+
+// Whether just these rows have an ISBN.
+fn are_places_of(holdings: &Holdings, isbn: &[u8], places: &[u32]) -> bool {
+    match Isbn::parse(isbn) {
+        Some(isbn) => holdings.with_isbn(&isbn) == places,
+        None => false,
     }
-    let found = Issn::parse(b"2434561x").map(|issn| holdings.with_issn(&issn));
-    assert!(rt; found == Some([2].as_slice()));
+}
+
+#[test]
+fn finds_the_rows_of_an_isbn(rt: HostRuntime) -> Result<(), Fail> {
+    let holdings = books_and_a_serial(rt.alloc())?;
+    assert!(rt; are_places_of(&holdings, b"0-306-40615-2", &[0, 1]));
+    assert!(rt; are_places_of(&holdings, b"9791090636071", &[3]));
+    assert!(rt; are_places_of(&holdings, b"9780804429573", &[3]));
+    assert!(rt; are_places_of(&holdings, b"9783161484100", &[]));
+    if let Some(issn) = Issn::parse(b"2434561x") {
+        assert_eq!(rt; holdings.with_issn(&issn), [2].as_slice());
+    }
     Ok(())
 }
 

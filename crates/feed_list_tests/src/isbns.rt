@@ -104,26 +104,58 @@ fn the_check_characters_of_ten_are_judged(rt: HostRuntime) -> Result<(), Fail> {
     Ok(())
 }
 
+// Expects of thirteen characters, of which the first twelve are these, that they are an ISBN just where the last is a
+// digit that makes the sum divisible by 10, if such a front is a book's.
+fn expect_thirteen(
+    rt: &impl Abort,
+    alloc: Global,
+    chance: &mut Chance,
+    twelve: &[u8],
+    is_book: bool,
+) -> Result<(), AllocError> {
+    for check in b"0123456789X" {
+        let text = joined(alloc, &[twelve, &[*check]])?;
+        let is_isbn = is_book && *check != b'X' && sum_of(&text, &THIRTEEN) % 10 == 0;
+        let digits = text.as_slice();
+        expect(rt, alloc, chance, digits, is_isbn.then_some(digits))?;
+    }
+    Ok(())
+}
+
 #[test]
 fn the_check_digits_of_thirteen_are_judged(rt: HostRuntime) -> Result<(), Fail> {
     let alloc = rt.alloc();
     let mut chance = Chance::new(4);
     for _ in 0..100 {
         let nine = nine_digits(alloc, &mut chance)?;
-        for (front, is_book) in [
-            (b"978", true),
-            (b"979", true),
-            (b"977", false),
-            (b"878", false),
-        ] {
-            let twelve = joined(alloc, &[front, &nine])?;
-            for check in b"0123456789X" {
-                let text = joined(alloc, &[&twelve, &[*check]])?;
-                let is_isbn = is_book && *check != b'X' && sum_of(&text, &THIRTEEN) % 10 == 0;
-                let digits = if is_isbn { Some(text.as_slice()) } else { None };
-                expect(&rt, alloc, &mut chance, &text, digits)?;
-            }
-        }
+        expect_thirteen(
+            &rt,
+            alloc,
+            &mut chance,
+            &joined(alloc, &[b"978", &nine])?,
+            true,
+        )?;
+        expect_thirteen(
+            &rt,
+            alloc,
+            &mut chance,
+            &joined(alloc, &[b"979", &nine])?,
+            true,
+        )?;
+        expect_thirteen(
+            &rt,
+            alloc,
+            &mut chance,
+            &joined(alloc, &[b"977", &nine])?,
+            false,
+        )?;
+        expect_thirteen(
+            &rt,
+            alloc,
+            &mut chance,
+            &joined(alloc, &[b"878", &nine])?,
+            false,
+        )?;
     }
     Ok(())
 }
