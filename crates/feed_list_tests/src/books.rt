@@ -44,6 +44,7 @@ fn reads_a_book(rt: HostRuntime) -> Result<(), Fail> {
 #[test]
 fn a_book_has_no_dates_volumes_or_issns(rt: HostRuntime) -> Result<(), Fail> {
     let holdings = books_and_a_serial(rt.alloc())?;
+    assert_eq!(rt; holdings.rows().len(), 4);
     let psi = &holdings.rows()[1];
     assert_eq!(rt; psi.kind(), Kind::Book);
     assert_eq!(rt; psi.print_isbn(), None);
