@@ -168,7 +168,7 @@ def files(draw, count, folder):
     for at in range(count):
         made = of_a_long_line(draw, GOOD.encode(), 60 * 1_048_576 * 3) if at == 0 else GOOD.encode()
         for _ in range(draw.choice([1, 1, 2, 3]) if at else 0):
-            made = draw.choice(FILES)(draw, made or b"\n")[:67_108_864]
+            made = draw.choice(FILES)(draw, made or b"\n")[:268_435_456]
         path.write_bytes(made)
         yield path, file_ended(path)
 

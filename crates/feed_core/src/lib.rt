@@ -11,9 +11,10 @@ mod transcript;
 mod world;
 
 pub use feed_answer::WriteFault;
-pub use feed_keep::{Change, Keep, ListKeep, RELEASE_LIMIT, Record};
+pub use feed_keep::{Change, Keep, ListKeep, Record};
+pub use feed_limits::{FILE_LIMIT, PIECE_LIMIT, RELEASE_LIMIT};
 pub use feed_model::{KeepFault, Refusal, Reply, State};
-pub use feed_parts::{PIECE_LIMIT, Part};
+pub use feed_parts::Part;
 pub use feed_releases::{AnswerFault, Event, Feed, OpenFault, Point};
 pub use feed_world::{Line, Sent, Why, WorldEvent};
 pub use transcript::Transcript;

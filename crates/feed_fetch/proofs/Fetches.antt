@@ -20,6 +20,7 @@ use Rattle.feed_model.specs.History.{Event, Offered, Piece, Lost, History, Answe
 use Rattle.feed_model.proofs.Names.{day_cases}
 use Rattle.std.proofs.lemmas.Int.{ints}
 use Rattle.feed_model.specs.Reply.{max_piece}
+use Rattle.feed_limits.specs.Limits.{file_limit}
 use Rattle.feed_model.specs.Content.{Content, IsContent}
 use Rattle.feed_releases.specs.NextRange.{IsNextRange}
 use Rattle.feed_fetch.specs.declared.stop.Unasked.{Unasked}
@@ -48,8 +49,8 @@ given_fault wanted http.Shelf g = absurd g
 unwritten : (fault : HttpFault) → fault ≡ http.Write → IsExcused (stops.Unasked (Http fault))
 unwritten fault e = subst (λ (f : HttpFault). IsExcused (stops.Unasked (Http f))) (sym e) tt
 
-small_enough : (n : ℕ) → n ≤ 67108864 → n < 2 ^ 64
-small_enough n le = let top : 67108864 < 2 ^ 64 = lit< tt in omega (arith, le, top)
+small_enough : (n : ℕ) → n ≤ file_limit → n < 2 ^ 64
+small_enough n le = let top : file_limit < 2 ^ 64 = lit< tt in omega (arith, le, top)
 
 -- what a request gives where each reply to it is this text, of which a law says what is given
 read_given : (IsReplyTo : List ℕ → List ℕ → Type 0) (method : Method) (text served : List ℕ) (wanted : Got) (result : Result Got Unasked)
@@ -223,7 +224,7 @@ pub fill_ends : (b c : Content) (n : Name) (file : List ℕ) (rounds max : ℕ) 
 fill_ends b c n file rounds max range is least filled next h at ready =
     let x = filled h at ready in (x.0, (x.1.0, nothing_next x.0 n file max range is least x.1.0 (next x.0 x.2)), x.2)
 
-pub fill_counts : (b c : Content) (n : Name) (file : List ℕ) (rounds : ℕ) → IsFetchable file → 67108864 ≤ rounds
+pub fill_counts : (b c : Content) (n : Name) (file : List ℕ) (rounds : ℕ) → IsFetchable file → file_limit ≤ rounds
     → HasFilled n file rounds b c → Gets n file (Ok tt) b c
 fill_counts b c n file rounds fit most filled h at ready =
     let x = filled h at ready in (x.0, (x.1.0, whole_by_count x.0 n file rounds fit x.1.0 x.1.1 most), x.2)

@@ -20,6 +20,7 @@ use Rattle.feed_model.proofs.Moves.{added_size}
 use Rattle.feed_model.proofs.Bytes.{some_none, byte_at-some, slice_some}
 use Rattle.feed_model.proofs.Growth.{kept_here, keeps_but}
 use Rattle.feed_model.proofs.Others.{SameBut, good_other, good_back}
+use Rattle.feed_limits.specs.Limits.{file_limit}
 use Rattle.feed_fetch.specs.Fetched.{IsFetchable, IsOpenTo, IsFilling, IsAskedNext, missing_of}
 
 -- a step that touches the release alone makes it no passed one
@@ -194,7 +195,7 @@ missing_most_of n file h = missing_all (kept h n) (length file)
 pub whole_file : (h : History) (n : Name) (file : List ℕ) → IsFilling n file h → ((place : ℕ) → place < length file → IsSome (kept h n place)) → IsFile h n file
 whole_file h n file fill all = (fill.size, λ place lt. (let y = some_of (kept h n place) (all place lt) in y.1 ∙ sym (fill.bytes place y.0 y.1)))
 
-pub whole_by_count : (h : History) (n : Name) (file : List ℕ) (rounds : ℕ) → IsFetchable file → IsFilling n file h → missing_of n file h + rounds ≤ length file → 67108864 ≤ rounds
+pub whole_by_count : (h : History) (n : Name) (file : List ℕ) (rounds : ℕ) → IsFetchable file → IsFilling n file h → missing_of n file h + rounds ≤ length file → file_limit ≤ rounds
     → IsFile h n file
 whole_by_count h n file rounds fit fill count most =
     let none : missing_of n file h ≡ 0 = (let small = fit.small in omega (arith, small, count, most)) in

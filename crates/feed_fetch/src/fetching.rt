@@ -25,6 +25,7 @@ ghost use Rattle.feed_fetch.specs.Fetched.{
   Gets,
 };
 ghost use Rattle.feed_http.specs.RequestTexts.{is_host};
+ghost use Rattle.feed_limits.specs.Limits.{piece_limit};
 
 use crate::asking::{ask_places, ask_size};
 use crate::dial::{Dial, DialFault};
@@ -32,14 +33,12 @@ use crate::stop::{Stop, Unasked};
 use crate::taking::{take, tell};
 use feed_http::{Got, HttpFault};
 use feed_keep::Keep;
+use feed_limits::FILE_LIMIT;
 use feed_names::ReleaseName;
 use feed_releases::{Event, Feed, Refusal};
 use std::alloc::Global;
 use std::fmt;
 use std::io::Write;
-
-// A file has at most so many places, of which each round fills one.
-const FILE_LIMIT: u64 = 67_108_864;
 
 // Tells the feed that a request came to nothing, unless there was no connection.
 fn lose<K: Keep + Drop, O: Write>(
@@ -169,7 +168,7 @@ pub fn fetch<D: Dial, K: Keep + Drop, O: Write>(
 ) -> Result<(), Stop>
     requires host { IsTrue (is_host host.now) }
     requires least { 1 ≤ piece }
-    requires most { piece ≤ 1048576 }
+    requires most { piece ≤ piece_limit }
     ensures goes { GoesOn (IsTold D.replies host.now name.now)
         (λ k. IfErr result (λ stop. IsStoppedAt name.now stop k)) (recorded feed.old) (recorded feed.new) }
     ensures gets { (file : List ℕ) → Serves D.replies name.now file → IsFetchable file
@@ -178,6 +177,7 @@ pub fn fetch<D: Dial, K: Keep + Drop, O: Write>(
     if let Err(stop) = offer(alloc, dial, feed, host, name, out) {
         return Err(stop);
     }
+    // Each round fills a place, of which a file has no more.
     'rounds: for _ in 0..FILE_LIMIT {
         let Some((first, last)) = feed.next_range(name, piece) else {
             return Ok(());
@@ -252,7 +252,7 @@ pub fn fetch_with<D: Dial, K: Keep + Drop, O: Write, F: Write>(
 ) -> u8
     requires host { IsTrue (is_host host.now) }
     requires least { 1 ≤ piece }
-    requires most { piece ≤ 1048576 }
+    requires most { piece ≤ piece_limit }
     ensures goes { GoesOn (IsTold D.replies host.now name.now) (EndsWith name.now result)
         (recorded feed.old) (recorded feed.new) }
     ensures gets { (file : List ℕ) → Serves D.replies name.now file → IsFetchable file → (h : History)

@@ -9,8 +9,8 @@ ghost use Rattle.feed_fetch.specs.Fetched.{GoesOn, IsTakenFrom};
 use crate::stop::Stop;
 use feed_http::Got;
 use feed_keep::Keep;
+use feed_limits::PIECE_LIMIT;
 use feed_names::ReleaseName;
-use feed_parts::PIECE_LIMIT;
 use feed_releases::{Event, Feed, Reply};
 use std::io::Write;
 

@@ -2,6 +2,7 @@
 ghost use Rattle.std.specs.Prelude.{ℕ, List, [], ◌≡◌, ◌≤◌, ◌⊎◌, IsTrue, Some};
 ghost use Rattle.feed_http.specs.MemoryShelves.{file_named};
 ghost use Rattle.feed_http.specs.RequestTexts.{is_host};
+ghost use Rattle.feed_limits.specs.Limits.{piece_limit};
 ghost use Rattle.feed_model.specs.Content.{IsContent};
 ghost use Rattle.feed_model.specs.History.{History};
 ghost use Rattle.feed_releases.specs.Feeds.{recorded};
@@ -31,7 +32,7 @@ fn fetch_from<A: Archive, K: Keep + Drop, O: Write, F: Write>(
     requires archive { file_named files.now ≡ A.files }
     requires host { IsTrue (is_host host.now) }
     requires least { 1 ≤ piece }
-    requires most { piece ≤ 1048576 }
+    requires most { piece ≤ piece_limit }
     ensures goes { GoesOn (IsTold (Known (IsServed A.files)) host.now name.now) (EndsWith name.now result)
         (recorded feed.old) (recorded feed.new) }
     ensures gets { (file : List ℕ) → A.files name.now ≡ Some file → IsFetchable file → (h : History)
@@ -58,7 +59,7 @@ pub fn fetch_from_memory<K: Keep + Drop, O: Write, F: Write>(
 ) -> u8
     requires host { IsTrue (is_host host.now) }
     requires least { 1 ≤ piece }
-    requires most { piece ≤ 1048576 }
+    requires most { piece ≤ piece_limit }
     ensures goes { GoesOn (IsTold (Known (IsServed (file_named files.now))) host.now name.now)
         (EndsWith name.now result) (recorded feed.old) (recorded feed.new) }
 

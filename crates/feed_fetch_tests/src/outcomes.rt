@@ -4,7 +4,7 @@ use feed_answer::Query;
 use feed_fetch::fetch_with;
 use feed_http::{NamedFile, is_host};
 use feed_keep::{Keep, ListKeep};
-use feed_parts::PIECE_LIMIT;
+use feed_limits::PIECE_LIMIT;
 use feed_releases::Feed;
 use feed_samples::{JANUARY, PACKAGE, january_file, name_of};
 use std::alloc::Global;

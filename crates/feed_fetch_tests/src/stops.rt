@@ -21,7 +21,7 @@ const ENDLESS: &[u8] = b"200\r\n\r\n";
 
 const RANGELESS: &[u8] = b"206\r\n\r\n";
 
-const LONG: &[u8] = b"200\r\nContent-Length: 67108865\r\n\r\n";
+const LONG: &[u8] = b"200\r\nContent-Length: 268435457\r\n\r\n";
 
 const LONG_PIECE: &[u8] = b"206\r\nContent-Range: bytes 0-1048576/*\r\n\r\n";
 
@@ -116,7 +116,7 @@ fn a_reply_may_not_fit(rt: HostRuntime) -> Result<(), Fail> {
         (0, Turn::Serves(&[]), "missing\n||1"),
         (0, Turn::Says(ENDLESS), "nothing\n|kbfeed: Length\n|1"),
         (0, Turn::Says(RANGELESS), "nothing\n|kbfeed: Status 206\n|1"),
-        (0, Turn::Says(LONG), "size 67108865\nrefused TooLarge\n||1"),
+        (0, Turn::Says(LONG), "size 268435457\nrefused TooLarge\n||1"),
         (2, Turn::Serves(&[]), "missing\n||1"),
         (2, Turn::Says(ENDLESS), "|kbfeed: NoProgress\n|1"),
         (2, Turn::Says(RANGELESS), "nothing\n|kbfeed: Range\n|1"),

@@ -12,7 +12,7 @@ use Rattle.feed_http.specs.declared.fetching.judge.Framing.{Framing}
 use Rattle.feed_http.specs.declared.fetching.judge.Framing.TheVariants.{Chunked, Sized, ToEnd}
 use Rattle.feed_http.specs.declared.fetching.judge.Judgement.{Judgement}
 use Rattle.feed_http.specs.declared.fetching.judge.Judgement.TheVariants.{Missing, Unsatisfied, Part, Whole}
-use Rattle.feed_http.specs.Limits.{piece_limit, file_limit}
+use Rattle.feed_limits.specs.Limits.{piece_limit, file_limit}
 use Rattle.feed_http.specs.Judgements.{is_get, values, gives_file, is_transfer_coded, is_coded_otherwise, stated_of, agreed, stated_length, content_length, framed_by_length, framing_of, range_of}
 use Rattle.feed_http.specs.Judgements.{part_framed, part_judged, whole_judged, size_judged, unsatisfied_judged, unsatisfied_part, file_judged, judged}
 use Rattle.feed_http.specs.Fields.{has_any}

@@ -10,7 +10,8 @@ use Rattle.feed_http.specs.declared.fetching.judge.Framing.{Framing}
 use Rattle.feed_http.specs.declared.fetching.judge.Framing.TheVariants.{Chunked, Sized, ToEnd}
 use Rattle.feed_http.specs.declared.fetching.judge.Judgement.{Judgement}
 use Rattle.feed_http.specs.declared.fetching.judge.Judgement.TheVariants.{Missing, Unsatisfied, Size, Part, Whole}
-use Rattle.feed_http.specs.Limits.{head_limit, field_limit, file_limit}
+use Rattle.feed_http.specs.Limits.{head_limit, field_limit}
+use Rattle.feed_limits.specs.Limits.{file_limit}
 use Rattle.feed_http.specs.ReplyHeads.{BeginsWithHeads, IsNoReply}
 use Rattle.feed_http.specs.Judgements.{judged}
 use Rattle.feed_http.specs.Chunks.{IsBodyChunked, IsNotChunked}

@@ -13,14 +13,6 @@ field_limit = 64
 abbrev pub chunk_line_limit : ℕ
 chunk_line_limit = 1024
 
--- the most bytes of a piece
-abbrev pub piece_limit : ℕ
-piece_limit = 1048576
-
--- the most bytes of a file
-abbrev pub file_limit : ℕ
-file_limit = 67108864
-
 -- the most bytes of a host
 abbrev pub host_limit : ℕ
 host_limit = 255

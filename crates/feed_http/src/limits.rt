@@ -6,8 +6,4 @@ pub(crate) const FIELD_LIMIT: usize = 64;
 
 pub(crate) const CHUNK_LINE_LIMIT: usize = 1_024;
 
-pub(crate) const PIECE_LIMIT: u64 = 1_048_576;
-
-pub(crate) const FILE_LIMIT: u64 = 67_108_864;
-
 pub(crate) const HOST_LIMIT: usize = 255;

@@ -13,7 +13,7 @@ use Rattle.feed_kbart.specs.Records.{drop_mark, records_of}
 use Rattle.feed_kbart.specs.RowValue.{RowValue}
 use Rattle.feed_kbart.specs.declared.holdings.HoldingsBuilder.{HoldingsBuilder}
 use Rattle.feed_kbart.proofs.Cuts.{length-drop_mark}
-use Rattle.feed_kbart.specs.Limits.{file_limit}
+use Rattle.feed_limits.specs.Limits.{file_limit}
 use Rattle.feed_kbart.specs.declared.fault.KbartFault.{KbartFault}
 use Rattle.feed_kbart.specs.declared.fault.KbartFault.TheVariants as fault
 use Rattle.feed_kbart.specs.declared.judge.TextJudge.{TextJudge}

@@ -3,7 +3,7 @@ use Rattle.std.specs.Prelude.{◌≡◌, ℕ, ◌≤◌, true, false, List, leng
 use Rattle.std.specs.Io.KnownBytes.{Consumes}
 use Rattle.std.specs.Str.{is_utf8}
 use Rattle.feed_kbart.specs.Files.{IsFaultOf}
-use Rattle.feed_kbart.specs.Limits.{file_limit}
+use Rattle.feed_limits.specs.Limits.{file_limit}
 use Rattle.feed_kbart.specs.Records.{has_two_marks}
 use Rattle.feed_kbart.specs.Utf8.{IsCheckOf}
 use Rattle.feed_kbart.specs.declared.fault.KbartFault.{KbartFault}

@@ -6,7 +6,7 @@ use Rattle.feed_kbart.specs.Columns.{bad_header, columns_of}
 use Rattle.feed_kbart.specs.Holdings.{holdings_from, nothing}
 use Rattle.feed_kbart.specs.CountValue.{CountValue}
 use Rattle.feed_kbart.specs.HoldingsValue.{HoldingsValue}
-use Rattle.feed_kbart.specs.Limits.{file_limit}
+use Rattle.feed_limits.specs.Limits.{file_limit}
 use Rattle.feed_kbart.specs.declared.fault.BadFile.{BadFile}
 use Rattle.feed_kbart.specs.declared.fault.BadFile.TheVariants.{NotUtf8, TwoMarks, NoHeader}
 use Rattle.feed_kbart.specs.declared.fault.KbartFault.{KbartFault}

@@ -1,4 +1,4 @@
-pub mod Limits
+pub use Rattle.feed_limits.specs.Limits
 pub mod Text
 pub use Rattle.feed_identifiers.specs.Issn
 pub use Rattle.feed_identifiers.specs.Isbn

@@ -13,9 +13,6 @@ use std::alloc::Global;
 use std::io::Read;
 use std::marker::Brand;
 
-/// The most bytes that a file may have: 64 MiB.
-pub const FILE_LIMIT: usize = 67_108_864;
-
 // Reads the records of a file, judges its bytes on the way, and goes on to its end where the header is bad.
 fn read_rows<R: Read + Drop, K: KeepRows + Drop, G: Given>(
     alloc: Global,

@@ -1,7 +1,7 @@
 ghost use Rattle.std.specs.Prelude.{◌≡◌, ◌≤◌, ◌<◌, ◌++◌, List, [], ◌∷◌, IfOk, OnOk, length};
 ghost use Rattle.csv.specs.Records.{fields_of};
 ghost use Rattle.feed_kbart.specs.Kept.{IsKept};
-ghost use Rattle.feed_kbart.specs.Limits.{file_limit};
+ghost use Rattle.feed_limits.specs.Limits.{file_limit};
 
 use crate::coverage::Coverage;
 use crate::fault::Reason;

@@ -1,7 +1,7 @@
 ghost use Rattle.std.specs.Prelude.{◌≡◌, ◌≤◌, ◌++◌, IfOk, OnOk, length, map};
 ghost use Rattle.std.specs.List.{All};
 ghost use Rattle.feed_kbart.specs.Index.{HasIdentifiers, IsIndexOf, IsTable, entries_from, entries_of, places_beside};
-ghost use Rattle.feed_kbart.specs.Limits.{file_limit};
+ghost use Rattle.feed_limits.specs.Limits.{file_limit};
 
 use crate::row::Row;
 use feed_identifiers::{issn_numbers_are_small, one_isbn_for_number, one_issn_for_number};

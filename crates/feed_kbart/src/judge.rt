@@ -1,6 +1,6 @@
 ghost use Rattle.std.specs.Prelude.{◌≡◌, ◌≤◌, ◌+◌, ◌-◌, ◌++◌, ℕ, List, [], length, min, take};
 ghost use Rattle.feed_kbart.specs.Bytes.{IsJudgeOf, IsTextOf};
-ghost use Rattle.feed_kbart.specs.Limits.{file_limit};
+ghost use Rattle.feed_limits.specs.Limits.{file_limit};
 
 use crate::fault::{BadFile, KbartFault};
 use crate::utf8::Utf8Check;

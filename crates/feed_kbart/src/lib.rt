@@ -25,7 +25,7 @@ mod utf8;
 
 pub use crate::count::FileCount;
 pub use crate::fault::{BadFile, KbartFault, Reason};
-pub use crate::file::{FILE_LIMIT, count_file, read_file, read_parts};
+pub use crate::file::{count_file, read_file, read_parts};
 pub use crate::holdings::{Aside, Holdings};
 pub use crate::identifiers::Kind;
 pub use crate::label::{Label, REQUIRED_LABELS};

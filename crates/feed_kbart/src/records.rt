@@ -1,16 +1,16 @@
 ghost use Rattle.std.specs.Prelude.{IfOk, IfSome, ◌≡◌, ◌≤◌, ◌⊎◌, [], length};
 ghost use Rattle.csv.specs.Reading.{source_of};
 ghost use Rattle.feed_kbart.specs.Kept.{HasFewRows, IsBuilt};
-ghost use Rattle.feed_kbart.specs.Limits.{file_limit};
+ghost use Rattle.feed_limits.specs.Limits.{file_limit};
 ghost use Rattle.feed_kbart.specs.Reader.{IsFresh, IsRecordReader};
 ghost use Rattle.feed_kbart.specs.Records.{records_in};
 ghost use Rattle.feed_kbart.specs.declared.fault.KbartFault.TheVariants as fault;
 
 use crate::fault::{BadFile, KbartFault};
-use crate::file::FILE_LIMIT;
 use crate::header::read_header;
 use crate::holdings::{HoldingsBuilder, KeepRows};
 use csv::{ByteRecord, Reader, ReaderBuilder};
+use feed_limits::FILE_LIMIT;
 use std::alloc::{AllocError, Global};
 use std::io::Read;
 

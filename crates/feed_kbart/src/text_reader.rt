@@ -2,8 +2,8 @@ ghost use Rattle.std.specs.Prelude.{◌≡◌, Option, List, ℕ, None, IfSome};
 ghost use Rattle.feed_kbart.specs.Bytes.{IsReadTo, IsTextOf};
 
 use crate::fault::KbartFault;
-use crate::file::FILE_LIMIT;
 use crate::judge::TextJudge;
+use feed_limits::FILE_LIMIT;
 use std::alloc::Global;
 use std::io;
 use std::io::{ErrorKind, Read};

@@ -13,9 +13,6 @@ use feed_names::ReleaseName;
 use feed_parts::Part;
 use std::alloc::Global;
 
-/// A feed records at most this many releases, of all packages together.
-pub const RELEASE_LIMIT: usize = 256;
-
 /// A change of what is kept, made whole or not at all. Parts are in order, disjoint from one another and from the kept
 /// ones, and each has 1 to `PIECE_LIMIT` bytes.
 #[derive(Clone, Copy)]

@@ -9,7 +9,7 @@ mod record;
 
 pub use feed_model::{KeepFault, State};
 pub use feed_parts::Part;
-pub use keep::{Change, Keep, RELEASE_LIMIT};
+pub use keep::{Change, Keep};
 pub use list_keep::ListKeep;
 pub use name_order::{is_before, stands_before};
 pub use record::Record;

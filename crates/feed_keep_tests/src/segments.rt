@@ -1,7 +1,8 @@
 ghost use Rattle.std.specs.Prelude.{◌≤◌, ◌<◌, ◌+◌, ◌^◌, length};
 ghost use Rattle.feed_model.specs.Reply.{max_piece};
 
-use feed_parts::{PIECE_LIMIT, Part, Segments, copied, copied_in_order};
+use feed_limits::PIECE_LIMIT;
+use feed_parts::{Part, Segments, copied, copied_in_order};
 use std::alloc::{AllocError, Global};
 use std::io::{self, Read};
 use std::test::Fail;

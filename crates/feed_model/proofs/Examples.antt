@@ -116,7 +116,7 @@ parts_are_added : after (Pieces january (part 2 (50 ∷ 51 ∷ []) ∷ part 6 (5
 parts_are_added = refl
 
 -- answers
-too_large : IsRight begun (Offered february 67108865) (Err refusals.TooLarge)
+too_large : IsRight begun (Offered february 268435457) (Err refusals.TooLarge)
 too_large = inl (omega arith, refl)
 
 an_empty_piece : IsRight begun (Piece january 0 None []) (Err refusals.BadPiece)

@@ -3,7 +3,7 @@ use Rattle.std.specs.Prelude.{◌≡◌, ◌≢◌, ◌<◌, ◌+◌, ◌⊎◌,
 use Rattle.std.specs.Prelude.{List, [], ◌∷◌, length, Option, Some, None, Ok, Err, slice_get, IsSome, IsSomeAnd}
 use Rattle.std.specs.List.{IsDistinct, Contains}
 use Rattle.feed_names.specs.ReleaseName.{Name, name_eq}
-use Rattle.feed_kbart.specs.Limits.{file_limit}
+use Rattle.feed_limits.specs.Limits.{file_limit, piece_limit, release_limit}
 use Rattle.feed_kbart.specs.declared.fault.BadFile.{BadFile}
 use Rattle.feed_kbart.specs.declared.fault.BadFile.TheVariants.{NoHeader}
 use Rattle.feed_model.specs.declared.reply.Reply.{Reply}
@@ -28,10 +28,10 @@ abbrev pub max_file : ℕ
 max_file = file_limit
 
 abbrev pub max_piece : ℕ
-max_piece = 1048576
+max_piece = piece_limit
 
 abbrev pub max_held : ℕ
-max_held = 256
+max_held = release_limit
 
 -- so many releases are held
 abbrev pub HoldsNumber : History → ℕ → Type 0

@@ -10,6 +10,6 @@ mod segments;
 
 pub use gaps::Gap;
 pub use merging::copied_in_order;
-pub use part::{PIECE_LIMIT, Part, copied};
+pub use part::{Part, copied};
 pub use reading::SegmentReader;
 pub use segments::Segments;

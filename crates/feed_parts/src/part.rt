@@ -2,10 +2,8 @@ ghost use Rattle.std.specs.Prelude.{◌≡◌, ◌↔◌, ◌+◌, ◌-◌, ◌^
 ghost use Rattle.feed_parts.specs.Shown.{shown_parts};
 ghost use Rattle.feed_model.specs.Parts.{AreWithin};
 
+use feed_limits::PIECE_LIMIT;
 use std::alloc::{AllocError, Global};
-
-/// A piece, and so a part, has 1 to this many bytes.
-pub const PIECE_LIMIT: usize = 1_048_576;
 
 /// Bytes of a file, and the place of the first of them, from 0.
 #[derive(Debug, Drop)]

@@ -8,12 +8,10 @@ ghost use Rattle.feed_reading.specs.Reading.{IsReleaseOf};
 
 use crate::columns::{integer_at, number_at, text_at};
 use feed_keep::{Record, State};
+use feed_limits::FILE_LIMIT;
 use feed_names::{NameFault, ReleaseName, one_release_for_text, one_text_for_release};
 use sqlite::{Error, ErrorCode, Row};
 use std::alloc::Global;
-
-// A file has no more bytes.
-const FILE_LIMIT: u64 = 67_108_864;
 
 #[derive(Clone, Copy)]
 struct Columns<'a> {
@@ -104,5 +102,5 @@ fn is_of(name: &ReleaseName, columns: &Columns<'_>) -> bool
 {
     name.package() == columns.stem
         && i64::from(name.day()) == columns.day
-        && columns.size <= FILE_LIMIT
+        && columns.size <= FILE_LIMIT as u64
 }

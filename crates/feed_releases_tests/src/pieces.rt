@@ -1,7 +1,7 @@
 // Offers and pieces that come to a feed.
 use crate::feeds::{feed_of, offered, told};
 use feed_kbart::{BadFile, Label};
-use feed_parts::PIECE_LIMIT;
+use feed_limits::PIECE_LIMIT;
 use feed_releases::{Event, Refusal, Reply};
 use feed_samples::name_of;
 use std::test::Fail;
@@ -97,7 +97,7 @@ fn offers_and_pieces_have_limits(rt: HostRuntime) -> Result<(), Fail> {
     let above = offered(&mut feed, &name, 67_108_865);
     assert_eq!(rt; above, Err(Refusal::TooLarge));
     assert_eq!(rt; told(&mut feed, &name, 0, b"0"), Err(Refusal::Unknown));
-    let most = offered(&mut feed, &name, 67_108_864);
+    let most = offered(&mut feed, &name, 268_435_456);
     assert_eq!(rt; most, Ok(Reply::Noted));
     assert_eq!(rt; told(&mut feed, &name, 0, b""), Err(Refusal::BadPiece));
     let mut long = Vec::new(rt.alloc());

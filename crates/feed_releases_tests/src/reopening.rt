@@ -1,7 +1,7 @@
 // Feeds that are opened on what a keeper holds.
 use crate::feeds::{active_in, answer_of, cut, feed_of, feed_over, offered, told};
 use feed_keep::{Keep, KeepFault, ListKeep, Part, Record, State};
-use feed_parts::PIECE_LIMIT;
+use feed_limits::PIECE_LIMIT;
 use feed_releases::{Feed, OpenFault, Reply};
 use feed_samples::{
     ACTA, BETA, FEBRUARY, Failing, HEADER, HEADER_WITHOUT_URL, JANUARY, MARCH, PACKAGE, content_of,
@@ -287,7 +287,7 @@ fn parts_are_apart_and_inside_the_size(rt: HostRuntime) -> Result<(), Fail> {
 fn sizes_and_parts_are_within_their_limits(rt: HostRuntime) -> Result<(), Fail> {
     let damaged = Some(KeepFault::Damaged);
     let sizes = [
-        (67_108_864, None),
+        (268_435_456, None),
         (67_108_865, damaged),
         (u64::MAX, damaged),
     ];

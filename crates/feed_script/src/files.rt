@@ -18,7 +18,7 @@ pub trait Files {
 pub enum FileCause {
     #[error("the path is not UTF-8")]
     NotUtf8,
-    #[error("a list has at most 67,108,864 bytes")]
+    #[error("a list has at most 268,435,456 bytes")]
     TooLong,
     /// It does not open or read.
     #[error("{0}")]

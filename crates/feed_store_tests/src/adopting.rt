@@ -197,7 +197,7 @@ fn a_table_that_no_keeper_wrote_is_damaged(rt: HostRuntime) -> Result<(), Fail> 
         "INSERT INTO feed_release VALUES ('x', 'x', 0, 1, 0)",
         "INSERT INTO feed_release VALUES ('X_2024-01-01.txt', 'Y', 19723, 1, 0)",
         "INSERT INTO feed_release VALUES ('X_2024-01-01.txt', 'X', 19724, 1, 0)",
-        "INSERT INTO feed_release VALUES ('X_2024-01-01.txt', 'X', 19723, 67108865, 0)",
+        "INSERT INTO feed_release VALUES ('X_2024-01-01.txt', 'X', 19723, 268435457, 0)",
     ];
     for row in rows {
         let conn = database_of(alloc, &[LAYOUT, RELEASE, PIECE, NUMBER, row])?;

@@ -4,7 +4,7 @@ use feed_names::NameFault;
 use feed_script::LineFault;
 
 /// What a file has that is too long.
-pub const LONG_FILE: &str = "a list has at most 67,108,864 bytes";
+pub const LONG_FILE: &str = "a list has at most 268,435,456 bytes";
 
 /// What a script has that is too long.
 pub const LONG_SCRIPT: &str = "a script has at most 16,777,216 bytes and 100,000 lines";

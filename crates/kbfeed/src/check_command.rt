@@ -2,7 +2,8 @@
 use crate::causes::{LONG_FILE, cause_of_name};
 use crate::input::{Watched, read_up_to};
 use crate::status::{DONE, FAILED, Faults, REFUSED};
-use feed_kbart::{FILE_LIMIT, FileCount, KbartFault, count_file};
+use feed_kbart::{FileCount, KbartFault, count_file};
+use feed_limits::FILE_LIMIT;
 use feed_names::{NameFault, ReleaseName};
 use feed_report::{Form, Report};
 use std::alloc::Global;

@@ -62,7 +62,7 @@ A script is a line for each event. The first is `nodes N`, N from 1 to 16. Then,
 WHAT is `offer NAME` or `deliver NAME FIRST LEN`.
 
 Empty lines and lines that begin with # are skipped. NAME is as Acme_Global_All_2024-01-01.txt, and PACKAGE as
-Acme_Global_All. A script has at most 16,777,216 bytes and 100,000 lines, and a list at most 67,108,864 bytes. A fault
+Acme_Global_All. A script has at most 16,777,216 bytes and 100,000 lines, and a list at most 268,435,456 bytes. A fault
 of the script is printed with its line, and nothing is replayed.
 
 The status is 0 whatever the lines of the transcript are, 1 for a fault of the script, 2 for a wrong command line, and 3
@@ -78,7 +78,7 @@ prints `broken` and the reason.
 a bad file all required labels that it lacks. --json prints the same as one object on a line for each file: release and
 rows, and in aside the number, line, reason, title and values of each record; or release, broken and labels.
 
-A list has at most 67,108,864 bytes. Several FILEs are checked one after another. FILE - is standard input, under the
+A list has at most 268,435,456 bytes. Several FILEs are checked one after another. FILE - is standard input, under the
 name that --name gives. A FILE that begins with - stands behind --, as in `kbfeed check -- -x_2024-01-01.txt`. FILE is
 UTF-8.
 
@@ -97,7 +97,7 @@ type, with a tab between each two.
 
 The first fault is told of the query, of the file's name, and of the file. The status is 0 for an answer, also one
 without hits, 1 for a query or a name that is none, a bad file and one that is too long, 2 for a wrong command line, and
-3 for a failing device or want of memory. A list has at most 67,108,864 bytes. docs/FAULTS.md has each fault, and -v
+3 for a failing device or want of memory. A list has at most 268,435,456 bytes. docs/FAULTS.md has each fault, and -v
 says more of one.";
 
 const SERVE_HELP: &str =

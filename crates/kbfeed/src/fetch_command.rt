@@ -7,12 +7,10 @@ use crate::tcp_dial::TcpDial;
 use crate::timed::Cause;
 use feed_fetch::fetch_with;
 use feed_http::is_host;
+use feed_limits::PIECE_LIMIT;
 use feed_names::{NameFault, ReleaseName};
 use std::io::{IsTerminal, Write};
 use std::time::Duration;
-
-// What one request may ask for.
-const MOST_PLACES: u64 = 1_048_576;
 
 /// How many bytes a request asks for, 1 to 1,048,576, and how long a connection may take.
 #[derive(Clone, Copy)]
@@ -64,7 +62,7 @@ pub fn fetch_on<D: Database, O: Write, F: Write + Drop>(
         &mut feed,
         addr.as_bytes(),
         &name,
-        fetching.piece.max(1).min(MOST_PLACES),
+        fetching.piece.max(1).min(PIECE_LIMIT as u64),
         &mut out,
         faults.out(),
     );

@@ -12,7 +12,7 @@ use crate::fetching::got::Method;
 use crate::fetching::length::agreed_length;
 use crate::heads::fields::Fields;
 use crate::http_fault::HttpFault;
-use crate::limits::{FILE_LIMIT, PIECE_LIMIT};
+use feed_limits::{FILE_LIMIT, PIECE_LIMIT};
 use feed_range::ContentRange;
 use httparse::spans::{HeaderSpan, ResponseSpans};
 
@@ -220,7 +220,7 @@ fn judge_part(
     let Some(ContentRange::Part { first, last, total }) = range else {
         return Err(HttpFault::Range);
     };
-    if last - first >= PIECE_LIMIT {
+    if last - first >= PIECE_LIMIT as u64 {
         return Err(HttpFault::BodyTooLong);
     }
     frame_part(first, total, last - first + 1, framing)
@@ -251,7 +251,7 @@ fn judge_whole(framing: Result<Framing, HttpFault>) -> Result<Judgement, HttpFau
 {
     let framing = framing?;
     match framing {
-        Framing::Sized(length) if length > FILE_LIMIT => Err(HttpFault::BodyTooLong),
+        Framing::Sized(length) if length > FILE_LIMIT as u64 => Err(HttpFault::BodyTooLong),
         _ => Ok(Judgement::Whole(framing)),
     }
 }

@@ -8,7 +8,8 @@ use crate::fetching::got::{Bytes, Got, Method};
 use crate::fetching::judge::{Framing, Judgement, Reply};
 use crate::heads::reply_head::read_reply_head;
 use crate::http_fault::HttpFault;
-use crate::limits::{FIELD_LIMIT, FILE_LIMIT, HEAD_LIMIT};
+use crate::limits::{FIELD_LIMIT, HEAD_LIMIT};
+use feed_limits::FILE_LIMIT;
 use httparse::spans::EMPTY_HEADER_SPAN;
 use std::alloc::Global;
 use std::io::Read;
@@ -68,7 +69,7 @@ fn read_got<R: Read>(alloc: Global, reader: &mut R, judgement: Judgement) -> Res
             })
         }
         Judgement::Whole(framing) => {
-            let bytes = read_body(alloc, reader, framing, 0, FILE_LIMIT)?;
+            let bytes = read_body(alloc, reader, framing, 0, FILE_LIMIT as u64)?;
             Ok(Got::Whole { bytes })
         }
     }
@@ -86,7 +87,7 @@ fn read_got<R: Read>(alloc: Global, reader: &mut R, judgement: Judgement) -> Res
 /// the status is neither 200, 404 nor, on GET, 206 or 416. `Coding` where there is a content
 /// coding other than `identity` or, on GET, a transfer coding other than `chunked`. `Range` where
 /// a 206 has not just one Content-Range that names places, or a 416 one that does not tell the
-/// length. `BodyTooLong` where there are more than 1,048,576 places, or more than 67,108,864
+/// length. `BodyTooLong` where there are more than 1,048,576 places, or more than 268,435,456
 /// bytes of a file. `Length` where Content-Length does not state one length, that of the places
 /// on 206, or the body is of another. Of the body: `Read`, `Short`, `Coding` and `Memory`.
 pub fn read_reply<R: Read>(alloc: Global, reader: &mut R, method: Method) -> Result<Got, HttpFault>

@@ -9,8 +9,9 @@ use crate::commit::commit;
 use crate::feed::Feed;
 use crate::release::Release;
 use crate::releases::{find, is_passed, place_for};
-use feed_kbart::{BadFile, FILE_LIMIT};
-use feed_keep::{Change, Keep, RELEASE_LIMIT};
+use feed_kbart::BadFile;
+use feed_keep::{Change, Keep};
+use feed_limits::{FILE_LIMIT, RELEASE_LIMIT};
 use feed_model::{Refusal, Reply};
 use feed_names::ReleaseName;
 

@@ -5,9 +5,9 @@ use crate::feed::Feed;
 use crate::overlap::Overlap;
 use crate::releases::{drop_earlier, find, is_passed};
 use feed_keep::Keep;
+use feed_limits::PIECE_LIMIT;
 use feed_model::{Refusal, Reply};
 use feed_names::ReleaseName;
-use feed_parts::PIECE_LIMIT;
 
 impl<K: Keep + Drop> Feed<K> {
     ghost use Rattle.std.specs.Prelude.{Some};

@@ -10,7 +10,8 @@ ghost use Rattle.feed_releases.specs.ReleaseValue.{content_of};
 
 use crate::release::Release;
 use crate::releases::is_passed;
-use feed_keep::{RELEASE_LIMIT, Record};
+use feed_keep::Record;
+use feed_limits::RELEASE_LIMIT;
 use feed_model::KeepFault;
 use std::alloc::Global;
 

@@ -8,8 +8,9 @@ ghost use Rattle.feed_keep.specs.Shown.{shown_record};
 ghost use Rattle.feed_releases.specs.ReleaseValue.{IsKnown};
 
 use crate::release::Release;
-use feed_kbart::{FILE_LIMIT, Holdings, KbartFault, read_parts};
+use feed_kbart::{Holdings, KbartFault, read_parts};
 use feed_keep::Record;
+use feed_limits::FILE_LIMIT;
 use feed_model::{KeepFault, State};
 use feed_parts::Segments;
 use std::alloc::Global;

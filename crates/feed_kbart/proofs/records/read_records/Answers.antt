@@ -3,7 +3,7 @@ use Rattle.std.proofs.lemmas.Result.{err_from_is_err_and}
 use Rattle.csv.specs.Reading.{source_of}
 use Rattle.csv.specs.Records.{fields_of}
 use Rattle.feed_kbart.specs.Holdings.{holdings_from, joined, nothing}
-use Rattle.feed_kbart.specs.Limits.{file_limit}
+use Rattle.feed_limits.specs.Limits.{file_limit}
 use Rattle.feed_kbart.proofs.Steps.{no_header, first_record, stands_first, stands_next, stands_end, stands_full, if_some, joined_one}
 use Rattle.feed_kbart.proofs.records.read_records.Goals as goal
 use Rattle.feed_kbart.proofs.records.read_records.Goals.{else-loop-number-test, then-loop-number-test+in-Ok-false-read_byte_record}

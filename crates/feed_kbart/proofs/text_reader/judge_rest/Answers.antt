@@ -1,6 +1,6 @@
 use Rattle.std.proofs.Common.{◌≡◌, ◌≤◌, ◌<◌, ◌+◌, ◌-◌, ◌∙◌, ap, arith, drop, length, length-take-le, refl, rules, subst, sym, take, take_at}
 use Rattle.std.specs.Io.KnownBytes.{Consumes}
-use Rattle.feed_kbart.specs.Limits.{file_limit}
+use Rattle.feed_limits.specs.Limits.{file_limit}
 use Rattle.feed_kbart.proofs.Readings.{at_end, read_more, read_over, read_whole}
 use Rattle.feed_kbart.proofs.text_reader.judge_rest.Goals as goal
 

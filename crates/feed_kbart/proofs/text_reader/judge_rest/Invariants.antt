@@ -1,6 +1,6 @@
 use Rattle.std.proofs.Common.{◌<◌, ◌+◌, ◌-◌, ℕ, List, Option}
 use Rattle.feed_kbart.specs.Bytes.{IsReadTo}
-use Rattle.feed_kbart.specs.Limits.{file_limit}
+use Rattle.feed_limits.specs.Limits.{file_limit}
 use Rattle.feed_kbart.proofs.text_reader.judge_rest.Given as goal
 
 abbrev pub invariant-loop-judge : goal.invariant-loop-judge
