@@ -1,6 +1,7 @@
 -- Worked examples: a release of 10 bytes in pieces, and small histories around it.
 use Rattle.std.proofs.Common.{◌≡◌, ◌<◌, ◌⊎◌, ℕ, zero, suc, List, [], ◌∷◌, length, Some, None, Ok, Err, inl, inr, refl, arith, pos, slice_get, true, false}
 use Rattle.feed_names.specs.ReleaseName.{Name, IsEarlier}
+use Rattle.feed_kbart.specs.declared.fault.BadFile.TheVariants.{NoHeader}
 use Rattle.feed_model.specs.declared.reply.Reply.TheVariants as replies
 use Rattle.feed_model.specs.declared.reply.Refusal.TheVariants as refusals
 use Rattle.feed_model.specs.declared.state.State.TheVariants.{Staged, Broken, Active}
@@ -91,15 +92,15 @@ gaps_are_parts = (omega arith, omega arith, omega arith, (omega arith, omega ari
 
 -- records
 abbrev staged : Record
-staged = record { name = january; size = 10; state = Staged; parts = gaps }
+staged = record { name = january; size = 10; state = Staged; reason = None; parts = gaps }
 
 abbrev active : Record
-active = record { name = february; size = 0; state = Active; parts = [] }
+active = record { name = february; size = 0; state = Active; reason = None; parts = [] }
 
-an_offer_begins_without_parts : new_record january 10 ≡ record { name = january; size = 10; state = Staged; parts = [] }
+an_offer_begins_without_parts : new_record january 10 ≡ record { name = january; size = 10; state = Staged; reason = None; parts = [] }
 an_offer_begins_without_parts = refl
 
-an_empty_file_is_bad : new_record january 0 ≡ record { name = january; size = 0; state = Broken; parts = [] }
+an_empty_file_is_bad : new_record january 0 ≡ record { name = january; size = 0; state = Broken; reason = Some NoHeader; parts = [] }
 an_empty_file_is_bad = refl
 
 record_of_a_name : record_of (staged ∷ active ∷ []) february ≡ Some active
@@ -112,7 +113,7 @@ later_days_stay : without_earlier january (staged ∷ active ∷ []) ≡ staged 
 later_days_stay = refl
 
 parts_are_added : after (Pieces january (part 2 (50 ∷ 51 ∷ []) ∷ part 6 (54 ∷ 55 ∷ []) ∷ []))
-    (staged ∷ active ∷ []) ≡ record { name = january; size = 10; state = Staged; parts = filled } ∷ active ∷ []
+    (staged ∷ active ∷ []) ≡ record { name = january; size = 10; state = Staged; reason = None; parts = filled } ∷ active ∷ []
 parts_are_added = refl
 
 -- answers

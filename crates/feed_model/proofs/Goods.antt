@@ -1,7 +1,11 @@
 -- What follows where the good releases stay the same.
-use Rattle.std.proofs.Common.{◌≡◌, ℕ, List, sym, ◌∙◌, IsSome, subst}
+use Rattle.std.proofs.Common.{◌≡◌, ℕ, List, Option, sym, ◌∙◌, IsSome, subst}
 use Rattle.feed_names.specs.ReleaseName.{Name}
+use Rattle.feed_kbart.specs.declared.fault.BadFile.{BadFile}
+use Rattle.feed_model.specs.declared.state.State.{State}
+use Rattle.feed_model.specs.declared.state.State.TheVariants.{Staged, Broken, Active}
 use Rattle.feed_model.specs.History.{History, size_of, kept, IsFile, IsGood, IsActive, IsPassed, IsHeld}
+use Rattle.feed_model.specs.Content.{IsReason}
 
 pub record SameGood (h k : History) : Type 0 where
   pub there : (m : Name) → IsGood h m → IsGood k m
@@ -32,3 +36,9 @@ file_back_again h k s n text f = (sym (s.size n) ∙ f.0, λ place lt. sym (s.by
 
 pub goods_still : (h k : History) → IsStill h k → SameGood h k
 goods_still h k s = record { there = λ m g. (g.0, file_there h k s m g.0 g.1, g.2); back = λ m g. (g.0, file_back_again h k s m g.0 g.1, g.2) }
+
+-- a reason stays, where the file does
+pub reason_there : (h k : History) (n : Name) → ((text : List ℕ) → IsFile h n text → IsFile k n text) → (s : State) (o : Option BadFile) → IsReason h n s o → IsReason k n s o
+reason_there h k n file Staged o is = is
+reason_there h k n file Active o is = is
+reason_there h k n file Broken o is = (is.0, file is.0 is.1, is.2)

@@ -7,7 +7,7 @@ use Rattle.feed_model.specs.History.{Event, Offered, Piece, Lost, History, Answe
 use Rattle.feed_model.specs.Reply.{IsRight}
 use Rattle.feed_model.specs.Content.{Record, Content, record_of, IsState, IsRecord, IsContent}
 use Rattle.feed_model.specs.Handles.{Handles}
-use Rattle.feed_model.proofs.Goods.{SameGood, same_back, active_same, held_same, IsStill, file_there, file_back_again, goods_still}
+use Rattle.feed_model.proofs.Goods.{SameGood, same_back, active_same, held_same, IsStill, file_there, file_back_again, goods_still, reason_there}
 
 size_idle : (h : History) (e : Event) (a : Answer) → is_noted a ≡ false → (n : Name) → size_of ((e, a) ∷ h) n ≡ size_of h n
 size_idle h (Offered m s) a out n = rw out refl
@@ -39,6 +39,7 @@ idle c h e a is noted taken right = record { legal = (right, is.legal); distinct
       bytes = λ place. x.bytes place ∙ sym (kept_idle h e a taken n place);
       parts = x.parts;
       state = state r.state x.state;
+      reason = reason_there h k n (file_there h k still n) r.state r.reason x.reason;
     }
       where
         state : (s : State) → IsState h n s → IsState k n s

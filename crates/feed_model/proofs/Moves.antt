@@ -6,12 +6,12 @@ use Rattle.feed_names.specs.ReleaseName.{Name, name_eq}
 use Rattle.feed_model.specs.File.{fault_of}
 use Rattle.feed_model.specs.History.{Offered, History, Answer, is_noted, size_of, kept, IsFile, IsGood, IsPassed, IsHeld}
 use Rattle.feed_model.specs.Reply.{IsRight}
-use Rattle.feed_model.specs.Content.{Content, record_of, IsState, IsRecord, IsContent}
+use Rattle.feed_model.specs.Content.{Content, record_of, IsState, IsReason, IsRecord, IsContent}
 use Rattle.feed_model.specs.Change.{new_record, insert_record}
 use Rattle.feed_model.proofs.Names.{name_self, name_apart, name_cases}
 use Rattle.feed_model.proofs.Goods.{SameGood, same_back, passed_same}
 use Rattle.feed_model.proofs.Legal.{nothing_kept}
-use Rattle.feed_model.proofs.Faults.{empty_bad}
+use Rattle.feed_model.proofs.Faults.{fault_of-empty, empty_bad}
 use Rattle.feed_model.proofs.Lookups.{record_of-insert_record}
 use Rattle.feed_model.proofs.Distinct.{distinct-insert_record}
 use Rattle.feed_model.proofs.Others.{SameBut, goods_but, each_same}
@@ -68,6 +68,10 @@ add_moves c h n size r is free ahead noted right = record {
         (λ w. let t = only_empty n k bare w.0 w.1 in let u : Some 0 ≡ Some (suc s) = ap Some (sym (ap length t))
         ∙ (sym w.1.0 ∙ (added_here n size r h noted ∙ ap Some (sym e))) in absurd (cc))
 
+    reason : (s : ℕ) → s ≡ size → IsReason k n (new_record n s).state (new_record n s).reason
+    reason zero e = ([], (added_here n size r h noted ∙ ap Some (sym e), λ place lt. absurd (omega arith)), fault_of-empty)
+    reason (suc s) e = let off : eqb (suc s) 0 ≡ false = grind (arith, nat_tests) in rw off refl
+
     mine : IsRecord k n (new_record n size)
     mine = record {
       held = (subst IsSome (sym (added_here n size r h noted)) refl, λ p. ahead (passed_same k h (same_back h k goods) n p));
@@ -75,6 +79,7 @@ add_moves c h n size r is free ahead noted right = record {
       bytes = λ place. sym (bare place);
       parts = tt;
       state = state size refl;
+      reason = reason size refl;
     }
 
     by : (m : Name) → (m ≡ n) ⊎ (m ≢ n) → MatchOption (record_of (insert_record (new_record n size) c) m) (¬ (IsHeld k m)) (IsRecord k m)

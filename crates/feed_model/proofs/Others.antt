@@ -6,7 +6,7 @@ use Rattle.feed_model.specs.declared.state.State.TheVariants.{Staged, Broken, Ac
 use Rattle.feed_model.specs.History.{History, size_of, kept, IsFile, IsGood, IsHeld}
 use Rattle.feed_model.specs.Content.{Record, IsState, IsRecord}
 use Rattle.feed_model.proofs.Names.{name_cases}
-use Rattle.feed_model.proofs.Goods.{SameGood, same_back, active_same, held_same}
+use Rattle.feed_model.proofs.Goods.{SameGood, same_back, active_same, held_same, reason_there}
 
 -- other releases keep their size and their bytes
 pub record SameBut (n : Name) (h k : History) : Type 0 where
@@ -51,6 +51,7 @@ record_same n m h k s g apart r is = record {
   bytes = λ place. is.bytes place ∙ sym (s.bytes m apart place);
   parts = is.parts;
   state = state r.state is.state;
+  reason = reason_there h k m (file_same n m h k s apart) r.state r.reason is.reason;
 }
   where
     state : (st : State) → IsState h m st → IsState k m st

@@ -4,13 +4,14 @@ use Rattle.std.proofs.Common.{Option, Some, None, IsSome, ◌⊎◌, inl, inr, r
 use Rattle.std.specs.List.{AllByRecursion, All, IsDistinct}
 use Rattle.std.proofs.lemmas.List.Elements.{All-nil}
 use Rattle.feed_names.specs.ReleaseName.{Name}
+use Rattle.feed_kbart.specs.declared.fault.BadFile.{BadFile}
 use Rattle.feed_model.specs.declared.state.State.{State}
 use Rattle.feed_model.specs.declared.state.State.TheVariants.{Staged, Broken, Active}
 use Rattle.feed_model.specs.History.{History, IsFile, IsHeld}
 use Rattle.feed_model.specs.Reply.{missing_below}
-use Rattle.feed_model.specs.Content.{Record, Content, names, byte_in, IsState, IsRecord, IsContent}
+use Rattle.feed_model.specs.Content.{Record, Content, names, byte_in, IsText, IsState, IsReason, IsRecord, IsContent}
 use Rattle.feed_model.specs.Handles.{HasLaterActive}
-use Rattle.feed_model.specs.Sound.{IsText, BearsOut, IsSoundRecord, IsSound}
+use Rattle.feed_model.specs.Sound.{BearsOut, Explains, IsSoundRecord, IsSound}
 use Rattle.feed_model.proofs.Counting.{length_names}
 use Rattle.feed_model.proofs.Held.{held_limit}
 use Rattle.feed_model.proofs.Limits.{size_limit, kept_inside}
@@ -70,12 +71,18 @@ bears_out h n r x Staged lacks = by (missing_below (byte_in r.parts) r.size) ref
 bears_out h n r x Broken bad = (bad.0, text_by h n r bad.0 x bad.1, bad.2)
 bears_out h n r x Active active = (active.0.0, text_by h n r active.0.0 x active.0.1, active.0.2)
 
+explained : (h : History) (n : Name) (r : Record) → IsRecord h n r → (s : State) (o : Option BadFile) → IsReason h n s o → Explains s r.size r.parts o
+explained h n r x Staged o is = is
+explained h n r x Active o is = is
+explained h n r x Broken o is = (is.0, text_by h n r is.0 x is.1, is.2)
+
 sound_by : (c : Content) (h : History) (n : Name) (r : Record) → IsContent c h → IsRecord h n r → IsSoundRecord r
 sound_by c h n r is x = record {
   size = size_limit h is.legal n r.size x.size;
   parts = x.parts;
   inside = within_by 0 r.size r.parts x.parts (λ place s. kept_inside h is.legal n r.size place x.size (subst IsSome (x.bytes place) s));
   state = bears_out h n r x r.state x.state;
+  reason = explained h n r x r.state r.reason x.reason;
 }
 
 each_sound : (c : Content) (h : History) → IsContent c h → All IsSoundRecord c

@@ -1,17 +1,20 @@
 -- The changes of a keeper's content.
-use Rattle.std.specs.Prelude.{◌≡◌, ◌<◌, ◌≤◌, ◌==◌, ◌&&◌, ℕ, Bool, not, nat_lt, if◌then◌else◌, List, [], ◌∷◌, length, Some, None, IsSome, int_lt, filter, All}
+use Rattle.std.specs.Prelude.{◌≡◌, ◌<◌, ◌≤◌, ◌==◌, ◌&&◌, ℕ, Bool, not, nat_lt, if◌then◌else◌, List, [], ◌∷◌, length, Option, Some, None, IsSome, int_lt, filter, All}
 use Rattle.std.specs.Ordering.{is_lt, nat_cmp}
 use Rattle.std.specs.Cmp.Lexicographic.{slice_cmp, pointwise}
 use Rattle.feed_names.specs.ReleaseName.{Name, name_eq, text_of, IsEarlier}
+use Rattle.feed_kbart.specs.declared.fault.BadFile.{BadFile}
+use Rattle.feed_kbart.specs.declared.fault.BadFile.TheVariants.{NoHeader}
+use Rattle.feed_model.specs.File.{fault_of}
 use Rattle.feed_model.specs.declared.state.State.{State}
 use Rattle.feed_model.specs.declared.state.State.TheVariants.{Staged, Broken, Active}
 use Rattle.feed_model.specs.Reply.{max_file, max_held}
-use Rattle.feed_model.specs.Content.{Part, Record, Content, record_of, byte_in, end_of, AreParts}
+use Rattle.feed_model.specs.Content.{Part, Record, Content, record_of, byte_in, end_of, IsText, AreParts}
 
 pub data Change : Type 0 where
   Add : (name : Name) (size : ℕ) → Change
   Pieces : (name : Name) (parts : List Part) → Change
-  Break : (name : Name) (parts : List Part) → Change
+  Break : (name : Name) (parts : List Part) (reason : BadFile) → Change
   Activate : (name : Name) (parts : List Part) → Change
 
 -- the part among others, in front of the first that begins later
@@ -24,9 +27,9 @@ abbrev pub merged : List Part → List Part → List Part
 merged parts [] = parts
 merged parts (p ∷ ps) = merged (insert_part p parts) ps
 
--- the record with these parts too, and this state
-abbrev pub grown : List Part → State → Record → Record
-grown ps state r = record { name = r.name; size = r.size; state = state; parts = merged r.parts ps }
+-- the record with these parts too, this state, and this reason
+abbrev pub grown : List Part → State → Option BadFile → Record → Record
+grown ps state reason r = record { name = r.name; size = r.size; state = state; reason = reason; parts = merged r.parts ps }
 
 -- the text of the one name comes before that of the other
 abbrev pub comes_before : Name → Name → Bool
@@ -51,14 +54,20 @@ without_earlier n c = filter (λ r. not (is_earlier r.name n)) c
 
 -- what is recorded of a release that is offered: an empty file is whole, and bad
 abbrev pub new_record : Name → ℕ → Record
-new_record n size = record { name = n; size = size; state = if size == 0 then Broken else Staged; parts = [] }
+new_record n size = record {
+  name = n;
+  size = size;
+  state = if size == 0 then Broken else Staged;
+  reason = if size == 0 then Some NoHeader else None;
+  parts = [];
+}
 
 -- the content after a change
 abbrev pub after : Change → Content → Content
 after (Add n size) c = insert_record (new_record n size) c
-after (Pieces n ps) c = changed n (grown ps Staged) c
-after (Break n ps) c = changed n (grown ps Broken) c
-after (Activate n ps) c = without_earlier n (changed n (grown ps Active) c)
+after (Pieces n ps) c = changed n (grown ps Staged None) c
+after (Break n ps why) c = changed n (grown ps Broken (Some why)) c
+after (Activate n ps) c = without_earlier n (changed n (grown ps Active None) c)
 
 -- the record is staged, and can take these parts
 pub record TakesParts (c : Content) (n : Name) (ps : List Part) (r : Record) : Type 0 where
@@ -73,6 +82,10 @@ pub record TakesParts (c : Content) (n : Name) (ps : List Part) (r : Record) : T
 abbrev pub Completes : List Part → Record → Type 0
 Completes ps r = (place : ℕ) → place < r.size → IsSome (byte_in (merged r.parts ps) place)
 
+-- with these parts its file is bad for this reason
+abbrev pub IsBadWith : List Part → BadFile → Record → Type 0
+IsBadWith ps why r = (text : List ℕ) × IsText r.size (merged r.parts ps) text × (fault_of text ≡ Some why)
+
 -- no active record of the package is later
 abbrev pub NoneIsLater : Content → Name → Type 0
 NoneIsLater c n = (a : Record) → record_of c a.name ≡ Some a → a.state ≡ Active → ¬ (IsEarlier n a.name)
@@ -81,5 +94,5 @@ NoneIsLater c n = (a : Record) → record_of c a.name ≡ Some a → a.state ≡
 abbrev pub IsAllowed : Change → Content → Type 0
 IsAllowed (Add n size) c = (record_of c n ≡ None) × (length c < max_held) × (size ≤ max_file)
 IsAllowed (Pieces n ps) c = (r : Record) × TakesParts c n ps r
-IsAllowed (Break n ps) c = (r : Record) × TakesParts c n ps r × Completes ps r
+IsAllowed (Break n ps why) c = (r : Record) × TakesParts c n ps r × Completes ps r × IsBadWith ps why r
 IsAllowed (Activate n ps) c = (r : Record) × TakesParts c n ps r × Completes ps r × NoneIsLater c n

@@ -1,10 +1,12 @@
 -- What a keeper contains, and when this is a content of a history.
-use Rattle.std.specs.Prelude.{◌≡◌, ◌<◌, ◌≤◌, ◌+◌, ℕ, if◌then◌else◌, List, [], ◌∷◌, length, map, Option, Some, None, MatchOption}
+use Rattle.std.specs.Prelude.{◌≡◌, ◌<◌, ◌≤◌, ◌+◌, ℕ, if◌then◌else◌, List, [], ◌∷◌, length, map, slice_get, Option, Some, None, MatchOption}
 use Rattle.std.specs.List.{IsDistinct}
 use Rattle.feed_names.specs.ReleaseName.{Name, name_eq}
+use Rattle.feed_kbart.specs.declared.fault.BadFile.{BadFile}
+use Rattle.feed_model.specs.File.{fault_of}
 use Rattle.feed_model.specs.declared.state.State.{State}
 use Rattle.feed_model.specs.declared.state.State.TheVariants.{Staged, Broken, Active}
-use Rattle.feed_model.specs.History.{History, or_else, byte_at, size_of, kept, IsHeld, IsWhole, IsActive, IsBad}
+use Rattle.feed_model.specs.History.{History, or_else, byte_at, size_of, kept, IsFile, IsHeld, IsWhole, IsActive, IsBad}
 use Rattle.feed_model.specs.Reply.{IsLegal, max_piece}
 
 -- bytes, and the place of the first of them
@@ -21,6 +23,7 @@ pub record Record : Type 0 where
   pub name : Name
   pub size : ℕ
   pub state : State
+  pub reason : Option BadFile
   pub parts : List Part
 
 -- the records of a keeper
@@ -40,6 +43,11 @@ abbrev pub byte_in : List Part → ℕ → Option ℕ
 byte_in [] place = None
 byte_in (p ∷ ps) place = or_else (byte_at p.first p.bytes place) (byte_in ps place)
 
+-- the parts are this text, from its first place to its last
+pub record IsText (size : ℕ) (parts : List Part) (text : List ℕ) : Type 0 where
+  pub count : length text ≡ size
+  pub bytes : (place : ℕ) → place < size → byte_in parts place ≡ slice_get text place
+
 -- each part has 1 to 1,048,576 bytes, and none begins before the one in front of it ends
 abbrev pub ArePartsFrom : ℕ → List Part → Type 0
 ArePartsFrom place [] = Unit {0}
@@ -54,6 +62,12 @@ IsState h n Staged = ¬ (IsWhole h n)
 IsState h n Active = IsActive h n
 IsState h n Broken = IsBad h n
 
+-- why the file is bad, of a broken release; of any other there is no reason
+abbrev pub IsReason : History → Name → State → Option BadFile → Type 0
+IsReason h n Staged reason = reason ≡ None
+IsReason h n Active reason = reason ≡ None
+IsReason h n Broken reason = (text : List ℕ) × IsFile h n text × (fault_of text ≡ reason)
+
 -- the record has what the history has of the release; how its bytes are cut into parts is free
 pub record IsRecord (h : History) (n : Name) (r : Record) : Type 0 where
   pub held : IsHeld h n
@@ -61,6 +75,7 @@ pub record IsRecord (h : History) (n : Name) (r : Record) : Type 0 where
   pub bytes : (place : ℕ) → byte_in r.parts place ≡ kept h n place
   pub parts : AreParts r.parts
   pub state : IsState h n r.state
+  pub reason : IsReason h n r.state r.reason
 
 -- just the releases that are held have a record
 pub record IsContent (c : Content) (h : History) : Type 0 where
