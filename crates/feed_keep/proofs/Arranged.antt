@@ -1,8 +1,9 @@
 -- Records whose parts stand as they came, and what they are in order.
-use Rattle.std.proofs.Common.{if◌then◌else◌, ◌≡◌, ◌++◌, Bool, true, false, not, cond, List, [], ◌∷◌, IsPermutation, refl, sym, ◌∙◌, ap, subst}
+use Rattle.std.proofs.Common.{if◌then◌else◌, ◌≡◌, ◌++◌, Bool, true, false, not, cond, Option, List, [], ◌∷◌, IsPermutation, refl, sym, ◌∙◌, ap, subst}
 use Rattle.std.specs.List.{IsDistinct}
 use Rattle.std.proofs.lemmas.List.Sorted.{IsPermutation-map}
 use Rattle.feed_names.specs.ReleaseName.{Name, name_eq}
+use Rattle.feed_kbart.specs.declared.fault.BadFile.{BadFile}
 use Rattle.feed_model.specs.declared.state.State.{State}
 use Rattle.feed_model.specs.Content.{Part, Record, Content, names}
 use Rattle.feed_model.specs.Change.{changed, comes_before, grown, insert_part, insert_record, is_earlier, merged, without_earlier}
@@ -13,7 +14,7 @@ use Rattle.feed_keep.specs.Arranged.{AreSame, IsArranged, ordered_record, ordere
 
 same_ordered : (c : Content) → AreSame c (ordered c)
 same_ordered [] = tt
-same_ordered (r ∷ rs) = (record { name = refl; size = refl; state = refl; parts = merged_moves [] r.parts }, same_ordered rs)
+same_ordered (r ∷ rs) = (record { name = refl; size = refl; state = refl; reason = refl; parts = merged_moves [] r.parts }, same_ordered rs)
 
 pub arranged : (given moved : List code.Record) → IsPermutation given moved → IsArranged (shown given) (ordered (shown moved))
 arranged given moved permuted = (shown moved, IsPermutation-map shown_record given moved permuted, same_ordered (shown moved))
@@ -33,8 +34,8 @@ pub merged_behind : (ps qs ns : List Part) → merged ps (qs ++ ns) ≡ merged (
 merged_behind ps [] ns = refl
 merged_behind ps (q ∷ qs) ns = merged_behind (insert_part q ps) qs ns
 
-lengthened_ordered : (ps : List Part) (state : State) (r : Record) → ordered_record (lengthened ps state r) ≡ grown ps state (ordered_record r)
-lengthened_ordered ps state r = ap (λ (qs : List Part). let x : Record = record { name = r.name; size = r.size; state = state; parts = qs } in x) (merged_behind [] r.parts ps)
+lengthened_ordered : (ps : List Part) (state : State) (reason : Option BadFile) (r : Record) → ordered_record (lengthened ps state reason r) ≡ grown ps state reason (ordered_record r)
+lengthened_ordered ps state reason r = ap (λ (qs : List Part). let x : Record = record { name = r.name; size = r.size; state = state; reason = reason; parts = qs } in x) (merged_behind [] r.parts ps)
 
 pub insert_ordered : (r : Record) (c : Content) → ordered (insert_record r c) ≡ insert_record (ordered_record r) (ordered c)
 insert_ordered r [] = refl
@@ -46,14 +47,14 @@ insert_ordered r (x ∷ xs) = by (comes_before x.name r.name) (insert_ordered r 
     by true again = ap (λ ys. ordered_record x ∷ ys) again
     by false again = refl
 
-pub changed_ordered : (n : Name) (ps : List Part) (state : State) (c : Content) → ordered (changed n (lengthened ps state) c) ≡ changed n (grown ps state) (ordered c)
-changed_ordered n ps state [] = refl
-changed_ordered n ps state (r ∷ rs) = by (name_eq r.name n) (changed_ordered n ps state rs)
+pub changed_ordered : (n : Name) (ps : List Part) (state : State) (reason : Option BadFile) (c : Content) → ordered (changed n (lengthened ps state reason) c) ≡ changed n (grown ps state reason) (ordered c)
+changed_ordered n ps state reason [] = refl
+changed_ordered n ps state reason (r ∷ rs) = by (name_eq r.name n) (changed_ordered n ps state reason rs)
   where
-    by : (b : Bool) → ordered (changed n (lengthened ps state) rs) ≡ changed n (grown ps state) (ordered rs)
-        → ordered (if b then lengthened ps state r ∷ rs else r ∷ changed n (lengthened ps state) rs) ≡
-        (if b then grown ps state (ordered_record r) ∷ ordered rs else ordered_record r ∷ changed n (grown ps state) (ordered rs))
-    by true again = ap (λ x. x ∷ ordered rs) (lengthened_ordered ps state r)
+    by : (b : Bool) → ordered (changed n (lengthened ps state reason) rs) ≡ changed n (grown ps state reason) (ordered rs)
+        → ordered (if b then lengthened ps state reason r ∷ rs else r ∷ changed n (lengthened ps state reason) rs) ≡
+        (if b then grown ps state reason (ordered_record r) ∷ ordered rs else ordered_record r ∷ changed n (grown ps state reason) (ordered rs))
+    by true again = ap (λ x. x ∷ ordered rs) (lengthened_ordered ps state reason r)
     by false again = ap (λ ys. ordered_record r ∷ ys) again
 
 pub without_earlier_ordered : (n : Name) (c : Content) → ordered (without_earlier n c) ≡ without_earlier n (ordered c)
@@ -66,6 +67,6 @@ without_earlier_ordered n (r ∷ rs) = by (not (is_earlier r.name n)) (without_e
     by false again = again
 
 -- a release with new parts that becomes active
-pub active_ordered : (n : Name) (ps : List Part) (state : State) (c : Content)
-    → ordered (without_earlier n (changed n (lengthened ps state) c)) ≡ without_earlier n (changed n (grown ps state) (ordered c))
-active_ordered n ps state c = without_earlier_ordered n (changed n (lengthened ps state) c) ∙ ap (without_earlier n) (changed_ordered n ps state c)
+pub active_ordered : (n : Name) (ps : List Part) (state : State) (reason : Option BadFile) (c : Content)
+    → ordered (without_earlier n (changed n (lengthened ps state reason) c)) ≡ without_earlier n (changed n (grown ps state reason) (ordered c))
+active_ordered n ps state reason c = without_earlier_ordered n (changed n (lengthened ps state reason) c) ∙ ap (without_earlier n) (changed_ordered n ps state reason c)

@@ -1,3 +1,4 @@
+mod BadFile
 mod Records
 mod Twice
 mod Arranged

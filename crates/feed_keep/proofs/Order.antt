@@ -1,5 +1,5 @@
 -- Names and parts stay in order.
-use Rattle.std.proofs.Common.{if◌then◌else◌, ◌≡◌, ◌<◌, ◌≤◌, zero, suc, Bool, true, false, not, List, [], ◌∷◌, length}
+use Rattle.std.proofs.Common.{if◌then◌else◌, ◌≡◌, ◌<◌, ◌≤◌, zero, suc, Bool, true, false, not, Option, List, [], ◌∷◌, length}
 use Rattle.std.proofs.Common.{Ordering, map, filter, get_or, refl, sym, ap, subst, arith, nat_lt, cond, Result, Ok, Err, OnOk, OnErr}
 use Rattle.std.specs.Borrow.{Bor}
 use Rattle.std.specs.Cmp.{IsStrictWeakOrder}
@@ -21,6 +21,7 @@ use Rattle.feed_model.specs.Change.{changed, comes_before, insert_part, insert_r
 use Rattle.feed_keep.specs.declared.record.Record as code
 use Rattle.feed_keep.specs.Shown.{shown}
 use Rattle.feed_keep.specs.Arranged.{lengthened, ordered}
+use Rattle.feed_kbart.specs.declared.fault.BadFile.{BadFile}
 use Rattle.feed_model.specs.declared.state.State.{State}
 use Rattle.feed_model.proofs.Distinct.{names-changed}
 use Rattle.feed_keep.proofs.Arranged.{names_ordered}
@@ -114,8 +115,8 @@ pub either_in_order : {T E : Type 0} (r : Result T E) (old new made : Content) �
 either_in_order (Ok x) old new made is same before after = subst (λ (c : Content). AreNamesInOrder (names c)) (sym is) after
 either_in_order (Err e) old new made is same before after = subst (λ (c : Content). AreNamesInOrder (names c)) (sym same) before
 
-pub lengthened_in_order : (n : Name) (ps : List Part) (state : State) (c : Content) → AreNamesInOrder (names c) → AreNamesInOrder (names (changed n (lengthened ps state) c))
-lengthened_in_order n ps state c up = subst AreNamesInOrder (sym (names-changed n (lengthened ps state) (λ r. refl) c)) up
+pub lengthened_in_order : (n : Name) (ps : List Part) (state : State) (reason : Option BadFile) (c : Content) → AreNamesInOrder (names c) → AreNamesInOrder (names (changed n (lengthened ps state reason) c))
+lengthened_in_order n ps state reason c up = subst AreNamesInOrder (sym (names-changed n (lengthened ps state reason) (λ r. refl) c)) up
 
 -- a part among others
 all_insert_part : (P : Part → Type 0) (p : Part) (qs : List Part) → P p → All P qs → All P (insert_part p qs)

@@ -1,26 +1,28 @@
 -- Records in another order.
-use Rattle.std.specs.Prelude.{◌≡◌, ◌++◌, List, [], ◌∷◌, map, IsPermutation}
+use Rattle.std.specs.Prelude.{◌≡◌, ◌++◌, List, Option, [], ◌∷◌, map, IsPermutation}
+use Rattle.feed_kbart.specs.declared.fault.BadFile.{BadFile}
 use Rattle.feed_model.specs.declared.state.State.{State}
 use Rattle.feed_model.specs.Content.{Part, Record, Content}
 use Rattle.feed_model.specs.Change.{merged}
 
 -- the record with its parts in order: those that begin at one place stay as they stood
 abbrev pub ordered_record : Record → Record
-ordered_record r = record { name = r.name; size = r.size; state = r.state; parts = merged [] r.parts }
+ordered_record r = record { name = r.name; size = r.size; state = r.state; reason = r.reason; parts = merged [] r.parts }
 
 -- the same records, each with its parts in order
 abbrev pub ordered : Content → Content
 ordered rs = map ordered_record rs
 
--- the record with these parts behind its own, and this state
-abbrev pub lengthened : List Part → State → Record → Record
-lengthened ps state r = record { name = r.name; size = r.size; state = state; parts = r.parts ++ ps }
+-- the record with these parts behind its own, this state, and this reason
+abbrev pub lengthened : List Part → State → Option BadFile → Record → Record
+lengthened ps state reason r = record { name = r.name; size = r.size; state = state; reason = reason; parts = r.parts ++ ps }
 
 -- the same record, with its parts in another order
 pub record IsSame (r s : Record) : Type 0 where
   pub name : s.name ≡ r.name
   pub size : s.size ≡ r.size
   pub state : s.state ≡ r.state
+  pub reason : s.reason ≡ r.reason
   pub parts : IsPermutation r.parts s.parts
 
 -- one after another

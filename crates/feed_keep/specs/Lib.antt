@@ -5,3 +5,4 @@ pub mod Cause
 pub mod Order
 pub mod Arranged
 pub mod InMemory
+pub mod BadFile

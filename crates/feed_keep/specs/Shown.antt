@@ -4,15 +4,13 @@ use Rattle.feed_names.specs.ReleaseName.{Name, name_eq}
 use Rattle.feed_model.specs.Content.{Part, Record, Content}
 use Rattle.feed_model.specs.Change.{Change, Add, Pieces, Break, Activate}
 use Rattle.feed_parts.specs.Shown.{shown_parts}
-use Rattle.feed_model.specs.declared.state.State.{State}
-use Rattle.feed_model.specs.declared.state.State.TheVariants.{Staged, Broken, Active}
 use Rattle.feed_keep.specs.declared.record.Record as code_record
 use Rattle.feed_keep.specs.declared.keep.Change as code_change
 use Rattle.feed_keep.specs.declared.keep.Change.TheVariants as changes
 
 -- what a record says
 abbrev pub shown_record : code_record.Record → Record
-shown_record r = record { name = r.name; size = r.size; state = r.state; parts = shown_parts r.parts.items }
+shown_record r = record { name = r.name; size = r.size; state = r.state; reason = r.reason; parts = shown_parts r.parts.items }
 
 -- the content that a list of records is
 abbrev pub shown : List code_record.Record → Content
@@ -22,14 +20,8 @@ shown rs = map shown_record rs
 abbrev pub shown_change : code_change.Change → Change
 shown_change (changes.Add n size) = Add n.now size
 shown_change (changes.Pieces n ps) = Pieces n.now (shown_parts ps.now)
-shown_change (changes.Break n ps) = Break n.now (shown_parts ps.now)
+shown_change (changes.Break n ps why) = Break n.now (shown_parts ps.now) why
 shown_change (changes.Activate n ps) = Activate n.now (shown_parts ps.now)
-
--- the change that gives a release new parts and a state
-abbrev pub change_to : State → Name → List Part → Change
-change_to Staged n ps = Pieces n ps
-change_to Broken n ps = Break n ps
-change_to Active n ps = Activate n ps
 
 -- the first record of the name stands at this place
 pub record IsRecordAt (records : List code_record.Record) (n : Name) (i : ℕ) : Type 0 where

@@ -8,7 +8,8 @@ ghost use Rattle.feed_keep.specs.Order.{IsInOrder};
 ghost use Rattle.feed_keep.specs.Cause.{IsCounted};
 
 use crate::record::Record;
-use feed_model::{KeepFault, State};
+use feed_kbart::BadFile;
+use feed_model::KeepFault;
 use feed_names::ReleaseName;
 use feed_parts::Part;
 use std::alloc::Global;
@@ -27,32 +28,17 @@ pub enum Change<'a> {
         name: &'a ReleaseName,
         parts: &'a [Part],
     },
-    /// The last parts of a staged release whose file is bad.
+    /// The last parts of a staged release whose file is bad, and why it is.
     Break {
         name: &'a ReleaseName,
         parts: &'a [Part],
+        reason: BadFile,
     },
     /// The last parts of a staged release whose file is good. The package's records of earlier days go.
     Activate {
         name: &'a ReleaseName,
         parts: &'a [Part],
     },
-}
-
-impl<'a> Change<'a> {
-    ghost use Rattle.feed_parts.specs.Shown.{shown_parts};
-    ghost use Rattle.feed_keep.specs.Shown.{change_to};
-
-    /// The change that adds parts to a release and gives it this state.
-    pub fn to(state: State, name: &'a ReleaseName, parts: &'a [Part]) -> Change<'a>
-        ensures { shown_change result ≡ change_to state name.now (shown_parts parts.now) }
-    {
-        match state {
-            State::Staged => Change::Pieces { name, parts },
-            State::Broken => Change::Break { name, parts },
-            State::Active => Change::Activate { name, parts },
-        }
-    }
 }
 
 /// What keeps the records of a feed from one run of its node to the next.

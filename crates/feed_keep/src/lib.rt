@@ -2,11 +2,13 @@
 //! them, what a keeper promises, and the plain keeper in memory.
 #![tactic(auto)]
 
+mod bad_file;
 mod keep;
 mod list_keep;
 mod name_order;
 mod record;
 
+pub use bad_file::bad_of;
 pub use feed_model::{KeepFault, State};
 pub use feed_parts::Part;
 pub use keep::{Change, Keep};

@@ -16,6 +16,7 @@ ghost use Rattle.feed_keep.specs.Shown.{shown, shown_record, IsRecordAt};
 use crate::keep::{Change, Keep};
 use crate::name_order::{is_before, stands_before};
 use crate::record::Record;
+use feed_kbart::BadFile;
 use feed_model::{KeepFault, State};
 use feed_names::ReleaseName;
 use feed_parts::{Part, copied, copied_in_order};
@@ -85,10 +86,15 @@ impl Keep for ListKeep {
         let done = match change {
             Change::Add { name, size } => add(self.alloc, &mut self.records, name, *size),
             Change::Pieces { name, parts } => {
-                grow(self.alloc, &mut self.records, name, parts, State::Staged)
+                grow(self.alloc, &mut self.records, name, parts, State::Staged, None)
             }
-            Change::Break { name, parts } => {
-                grow(self.alloc, &mut self.records, name, parts, State::Broken)
+            Change::Break {
+                name,
+                parts,
+                reason,
+            } => {
+                let reason = Some(*reason);
+                grow(self.alloc, &mut self.records, name, parts, State::Broken, reason)
             }
             Change::Activate { name, parts } => {
                 activate(self.alloc, &mut self.records, name, parts)
@@ -122,9 +128,10 @@ fn grow(
     name: &ReleaseName,
     parts: &[Part],
     state: State,
+    reason: Option<BadFile>,
 ) -> Result<(), AllocError>
-    ensures ok { OnOk result (shown records.new.items ≡ changed name.now (lengthened (shown_parts parts.now) state)
-        (shown records.old.items)) }
+    ensures ok { OnOk result (shown records.new.items
+        ≡ changed name.now (lengthened (shown_parts parts.now) state reason) (shown records.old.items)) }
     ensures err { OnErr result (shown records.new.items ≡ shown records.old.items) }
 {
     let Some(at) = find_record(records, name) else {
@@ -134,6 +141,7 @@ fn grow(
     let record = &mut records[at];
     record.parts.append(&mut new)?;
     record.state = state;
+    record.reason = reason;
     Ok(())
 }
 
@@ -144,10 +152,10 @@ fn activate(
     parts: &[Part],
 ) -> Result<(), AllocError>
     ensures ok { OnOk result (shown records.new.items ≡ without_earlier name.now
-        (changed name.now (lengthened (shown_parts parts.now) State.Active) (shown records.old.items))) }
+        (changed name.now (lengthened (shown_parts parts.now) State.Active None) (shown records.old.items))) }
     ensures err { OnErr result (shown records.new.items ≡ shown records.old.items) }
 {
-    grow(alloc, records, name, parts, State::Active)?;
+    grow(alloc, records, name, parts, State::Active, None)?;
     drop_earlier(records, name);
     Ok(())
 }
@@ -220,6 +228,7 @@ fn copied_records(alloc: Global, records: &[Record]) -> Result<Vec<Record>, Allo
             name: record.name.try_clone()?,
             size: record.size,
             state: record.state,
+            reason: record.reason,
             parts: copied_in_order(alloc, &record.parts)?,
         };
         copy.push(record)?;

@@ -1,14 +1,17 @@
+use feed_kbart::BadFile;
 use feed_model::State;
 use feed_names::ReleaseName;
 use feed_parts::Part;
 use std::alloc::Global;
 
-/// What is kept of a release: the size of its file in bytes, and the parts of it, ordered by their first places.
+/// What is kept of a release: the size of its file in bytes, why the file is bad where the release is broken, and the
+/// parts of it, ordered by their first places.
 #[derive(Debug, Drop)]
 pub struct Record {
     pub name: ReleaseName,
     pub size: u64,
     pub state: State,
+    pub reason: Option<BadFile>,
     pub parts: Vec<Part>,
 }
 
@@ -22,15 +25,16 @@ impl Record {
     pub fn new(alloc: Global, name: ReleaseName, size: u64) -> Record
         ensures { shown_record result ≡ new_record name size }
     {
-        let state = if size == 0 {
-            State::Broken
+        let (state, reason) = if size == 0 {
+            (State::Broken, Some(BadFile::NoHeader))
         } else {
-            State::Staged
+            (State::Staged, None)
         };
         Record {
             name,
             size,
             state,
+            reason,
             parts: Vec::new(alloc),
         }
     }

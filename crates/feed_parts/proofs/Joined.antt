@@ -8,8 +8,7 @@ use Rattle.std.proofs.lemmas.List.{get_or_append_left, get_or-append_right}
 use Rattle.std.proofs.lemmas.List.Elements.{All-head, All-tail}
 use Rattle.std.proofs.lemmas.Option.{slice_get-get_or}
 use Rattle.feed_model.specs.History.{byte_at}
-use Rattle.feed_model.specs.Content.{Part, byte_in, end_of, ArePartsFrom}
-use Rattle.feed_model.specs.Sound.{IsText}
+use Rattle.feed_model.specs.Content.{Part, byte_in, end_of, IsText, ArePartsFrom}
 use Rattle.feed_model.specs.Parts.{AreWithin}
 use Rattle.feed_parts.specs.Piece.{joined}
 use Rattle.feed_parts.proofs.Places.{first_none, first_some, both_none, some_not_none, byte_at_before, byte_at_after, byte_at_inside, none_before}

@@ -1,8 +1,7 @@
 -- Segments: the bytes of a file that are kept, a finite map from places to bytes.
 use Rattle.std.specs.Prelude.{◌≡◌, ◌<◌, ◌≤◌, ◌-◌, ◌^◌, ℕ, List, length, Option, Some, None, IsSome, All, slice_index_or}
-use Rattle.feed_model.specs.Content.{Part, byte_in}
+use Rattle.feed_model.specs.Content.{Part, byte_in, IsText}
 use Rattle.feed_model.specs.Parts.{AreWithin}
-use Rattle.feed_model.specs.Sound.{IsText}
 use Rattle.feed_parts.specs.declared.gaps.Gap.{Gap}
 
 -- the greatest number of 64 bits, past which no part reaches
@@ -17,6 +16,11 @@ AreSegments parts = AreWithin last_place parts
 pub record SegmentsValue : Type 0 where
   pub parts : List Part
   pub room : ℕ
+
+-- the parts lie inside the file, and no place of it is missing
+pub record IsFull (size : ℕ) (parts : List Part) : Type 0 where
+  pub within : AreWithin size parts
+  pub every : (place : ℕ) → place < size → IsSome (byte_in parts place)
 
 -- a gap of a file: each place of it is missing and each before it is kept, and it ends where one is kept or the file ends
 pub record IsGap (has : ℕ → Option ℕ) (size : ℕ) (gap : Gap) : Type 0 where

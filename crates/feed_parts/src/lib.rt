@@ -11,5 +11,5 @@ mod segments;
 pub use gaps::Gap;
 pub use merging::copied_in_order;
 pub use part::{Part, copied};
-pub use reading::SegmentReader;
+pub use reading::{SegmentReader, whole_reader};
 pub use segments::Segments;

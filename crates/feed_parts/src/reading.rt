@@ -1,12 +1,13 @@
 //! The text of a file, read from its parts where they lie.
 ghost use Rattle.std.specs.Prelude.{◌≡◌, ◌∷◌, [], IfSome, IfNone};
-ghost use Rattle.feed_model.specs.Content.{AreParts};
+ghost use Rattle.feed_model.specs.Content.{AreParts, IsText};
 ghost use Rattle.feed_model.specs.Change.{merged};
 ghost use Rattle.feed_parts.specs.Piece.{joined};
-ghost use Rattle.feed_parts.specs.Segments.{IsTextOf};
+ghost use Rattle.feed_parts.specs.Segments.{IsFull, IsTextOf};
 ghost use Rattle.feed_parts.specs.Shown.{shown_part, shown_parts};
 
-use crate::part::Part;
+use crate::overlap::byte_count;
+use crate::part::{Part, are_within};
 use std::io::{self, Read};
 use std::marker::Model;
 
@@ -75,6 +76,19 @@ impl<'a> Read for SegmentReader<'a> {
             }
         }
     }
+}
+
+/// A reader of the file of this size that parts are, where they lie inside of it, in the order of their places, and none
+/// of its places is missing. `None` of other parts. It takes no memory.
+pub fn whole_reader(parts: &[Part], size: u64) -> Option<SegmentReader<'_>>
+    ensures some { IfSome result (λ text. IsFull size (shown_parts parts.now)
+        × IsText size (shown_parts parts.now) text) }
+    ensures none { IfNone result (¬ (IsFull size (shown_parts parts.now))) }
+{
+    if !are_within(parts, size) || byte_count(parts) < size {
+        return None;
+    }
+    Some(SegmentReader::new(parts, &[]))
 }
 
 // The part that begins first, and the other kept and new parts.

@@ -10,8 +10,8 @@ use Rattle.feed_model.specs.declared.state.State.{State}
 use Rattle.feed_model.specs.declared.state.State.TheVariants.{Staged, Broken, Active}
 use Rattle.feed_model.specs.File.{fault_of}
 use Rattle.feed_model.specs.Reply.{missing_below}
-use Rattle.feed_model.specs.Content.{Part, byte_in}
-use Rattle.feed_model.specs.Sound.{IsText, BearsOut}
+use Rattle.feed_model.specs.Content.{Part, byte_in, IsText}
+use Rattle.feed_model.specs.Sound.{BearsOut}
 use Rattle.feed_model.proofs.Tests.{same_at}
 use Rattle.feed_model.proofs.Keeps.{none_missing}
 use Rattle.feed_releases.specs.ReleaseValue.{IsJudged, IsKnown}

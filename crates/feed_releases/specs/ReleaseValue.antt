@@ -7,8 +7,7 @@ use Rattle.feed_kbart.specs.declared.fault.KbartFault.{KbartFault}
 use Rattle.feed_kbart.specs.declared.fault.KbartFault.TheVariants.{Bad}
 use Rattle.feed_model.specs.File.{fault_of}
 use Rattle.feed_model.specs.Reply.{max_file, missing_below}
-use Rattle.feed_model.specs.Content.{Part, Record, Content, byte_in}
-use Rattle.feed_model.specs.Sound.{IsText}
+use Rattle.feed_model.specs.Content.{Part, Record, Content, byte_in, IsText}
 use Rattle.feed_model.specs.declared.state.State.{State}
 use Rattle.feed_model.specs.declared.state.State.TheVariants.{Staged, Broken, Active}
 use Rattle.feed_model.specs.Parts.{DiffersIn, AgreesIn, HasNew, Covers, AreWithin}
@@ -61,11 +60,6 @@ abbrev pub LiesOver : Record → ℕ → List ℕ → Overlap → Type 0
 LiesOver r first bytes Conflict = DiffersIn r.parts first bytes
 LiesOver r first bytes Kept = AgreesIn r.parts first bytes × Covers r.parts first bytes
 LiesOver r first bytes New = AgreesIn r.parts first bytes × HasNew r.parts first bytes × (r.state ≡ Staged)
-
--- the parts lie inside the file, and no place of it is missing
-pub record IsFull (size : ℕ) (parts : List Part) : Type 0 where
-  pub within : AreWithin size parts
-  pub every : (place : ℕ) → place < size → IsSome (byte_in parts place)
 
 -- what whole parts are judged as, unless memory is short
 abbrev pub IsJudged : ℕ → List Part → Result HoldingsValue KbartFault → Type 0

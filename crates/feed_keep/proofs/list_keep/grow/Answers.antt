@@ -16,7 +16,7 @@ returns-in_err-append-clause-err c =
     let r = c.index_mut-record.result.now in
     let same : shown_parts c.append.new.self.items ≡ shown_parts r.parts.items = ap shown_parts c.in_err-append.ensures.items in
     on_err _ _ (set_same c.args.records.now.items c.in-Some.at r _
-    (ap (λ (ps : List Part). let x : Record = record { name = r.name; size = r.size; state = r.state; parts = ps } in x) same ∙ ap shown_record c.index_mut-record.ensures.value))
+    (ap (λ (ps : List Part). let x : Record = record { name = r.name; size = r.size; state = r.state; reason = r.reason; parts = ps } in x) same ∙ ap shown_record c.index_mut-record.ensures.value))
 
 pub returns-clause-ok : goal.returns-clause-ok
 returns-clause-ok c =
@@ -24,6 +24,6 @@ returns-clause-ok c =
     let place = rw c.deref.ensures.value at c.in-Some.ensures.found in
     let parts : shown_parts c.append.new.self.items ≡ shown_parts r.parts.items ++ shown_parts c.args.parts.now =
     ap shown_parts c.in_ok-append.ensures.items ∙ map-append shown_part r.parts.items c.in_ok-new.new.items ∙ ap (λ (ps : List Part). shown_parts r.parts.items ++ ps) c.in_ok-new.ensures in
-    set_at c.args.records.now.items c.args.name.now c.in-Some.at r _ (lengthened (shown_parts c.args.parts.now) c.args.state) place
-    (ap (λ (ps : List Part). let x : Record = record { name = r.name; size = r.size; state = c.args.state; parts = ps } in x) parts
-    ∙ ap (λ (y : code.Record). lengthened (shown_parts c.args.parts.now) c.args.state (shown_record y)) c.index_mut-record.ensures.value)
+    set_at c.args.records.now.items c.args.name.now c.in-Some.at r _ (lengthened (shown_parts c.args.parts.now) c.args.state c.args.reason) place
+    (ap (λ (ps : List Part). let x : Record = record { name = r.name; size = r.size; state = c.args.state; reason = c.args.reason; parts = ps } in x) parts
+    ∙ ap (λ (y : code.Record). lengthened (shown_parts c.args.parts.now) c.args.state c.args.reason (shown_record y)) c.index_mut-record.ensures.value)

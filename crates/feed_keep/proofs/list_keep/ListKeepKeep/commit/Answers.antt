@@ -1,4 +1,4 @@
-use Rattle.std.proofs.Common.{sym, ◌∙◌, ap, subst}
+use Rattle.std.proofs.Common.{Some, None, sym, ◌∙◌, ap, subst}
 use Rattle.std.proofs.Math.Logic.{∥∥₁_map}
 use Rattle.std.specs.List.{IsDistinct}
 use Rattle.feed_names.specs.ReleaseName.{name_eq}
@@ -24,13 +24,13 @@ returns-in-Ok-clause-made c = λ _.
           rw (w.self-is, w.in-Add.is) (ap ordered made ∙ insert_ordered (new_record w.in-Add.name.now w.in-Add.size) old)
       | in-Pieces w ↦
           let made = rw (sym w.done-is ∙ c.in-Ok.is) at w.grow-done.ensures.ok in
-          rw (w.self-is, w.in-Pieces.is) (ap ordered made ∙ changed_ordered w.in-Pieces.name.now (shown_parts w.in-Pieces.parts.now) Staged old)
+          rw (w.self-is, w.in-Pieces.is) (ap ordered made ∙ changed_ordered w.in-Pieces.name.now (shown_parts w.in-Pieces.parts.now) Staged None old)
       | in-Break w ↦
           let made = rw (sym w.done-is ∙ c.in-Ok.is) at w.grow-done-in-Break.ensures.ok in
-          rw (w.self-is, w.in-Break.is) (ap ordered made ∙ changed_ordered w.in-Break.name.now (shown_parts w.in-Break.parts.now) Broken old)
+          rw (w.self-is, w.in-Break.is) (ap ordered made ∙ changed_ordered w.in-Break.name.now (shown_parts w.in-Break.parts.now) Broken (Some w.in-Break.reason) old)
       | in-Activate w ↦
           let made = rw (sym w.done-is ∙ c.in-Ok.is) at w.activate-done.ensures.ok in
-          rw (w.self-is, w.in-Activate.is) (ap ordered made ∙ active_ordered w.in-Activate.name.now (shown_parts w.in-Activate.parts.now) Active old)
+          rw (w.self-is, w.in-Activate.is) (ap ordered made ∙ active_ordered w.in-Activate.name.now (shown_parts w.in-Activate.parts.now) Active None old)
     ]
 
 pub returns-in-Ok-clause-listed : goal.returns-in-Ok-clause-listed
@@ -47,13 +47,13 @@ invariant_of-self c = record {
 pub invariant_of-self-in-Pieces : goal.invariant_of-self-in-Pieces
 invariant_of-self-in-Pieces c = record {
   order = either_in_order c.grow-done.result _ _ _ c.grow-done.ensures.ok c.grow-done.ensures.err c.args.self.now.order
-      (lengthened_in_order c.in-Pieces.name.now (shown_parts c.in-Pieces.parts.now) Staged (shown c.args.self.now.records.items) c.args.self.now.order);
+      (lengthened_in_order c.in-Pieces.name.now (shown_parts c.in-Pieces.parts.now) Staged None (shown c.args.self.now.records.items) c.args.self.now.order);
 }
 
 pub invariant_of-self-in-Break : goal.invariant_of-self-in-Break
 invariant_of-self-in-Break c = record {
   order = either_in_order c.grow-done-in-Break.result _ _ _ c.grow-done-in-Break.ensures.ok c.grow-done-in-Break.ensures.err c.args.self.now.order
-      (lengthened_in_order c.in-Break.name.now (shown_parts c.in-Break.parts.now) Broken (shown c.args.self.now.records.items) c.args.self.now.order);
+      (lengthened_in_order c.in-Break.name.now (shown_parts c.in-Break.parts.now) Broken (Some c.in-Break.reason) (shown c.args.self.now.records.items) c.args.self.now.order);
 }
 
 pub invariant_of-self-in-Activate : goal.invariant_of-self-in-Activate
@@ -62,5 +62,5 @@ invariant_of-self-in-Activate c =
     let n = c.in-Activate.name.now in
     let ps = shown_parts c.in-Activate.parts.now in record {
       order = either_in_order c.activate-done.result _ _ _ c.activate-done.ensures.ok c.activate-done.ensures.err c.args.self.now.order
-          (without_in_order n (changed n (lengthened ps Active) old) (lengthened_in_order n ps Active old c.args.self.now.order));
+          (without_in_order n (changed n (lengthened ps Active None) old) (lengthened_in_order n ps Active None old c.args.self.now.order));
     }
