@@ -5,8 +5,9 @@ use Rattle.std.proofs.lemmas.List.Sorted.{IsPermutation-map}
 use Rattle.feed_names.specs.ReleaseName.{Name, name_eq}
 use Rattle.feed_kbart.specs.declared.fault.BadFile.{BadFile}
 use Rattle.feed_model.specs.declared.state.State.{State}
+use Rattle.std.specs.Option.{option_or}
 use Rattle.feed_model.specs.Content.{Part, Record, Content, names}
-use Rattle.feed_model.specs.Change.{changed, comes_before, grown, insert_part, insert_record, is_earlier, merged, without_earlier}
+use Rattle.feed_model.specs.Change.{changed, comes_before, insert_part, insert_record, is_earlier, merged, without_earlier}
 use Rattle.feed_parts.proofs.Unique.{merged_moves}
 use Rattle.feed_keep.specs.declared.record.Record as code
 use Rattle.feed_keep.specs.Shown.{shown, shown_record}
@@ -34,8 +35,12 @@ pub merged_behind : (ps qs ns : List Part) → merged ps (qs ++ ns) ≡ merged (
 merged_behind ps [] ns = refl
 merged_behind ps (q ∷ qs) ns = merged_behind (insert_part q ps) qs ns
 
-lengthened_ordered : (ps : List Part) (state : State) (reason : Option BadFile) (r : Record) → ordered_record (lengthened ps state reason r) ≡ grown ps state reason (ordered_record r)
-lengthened_ordered ps state reason r = ap (λ (qs : List Part). let x : Record = record { name = r.name; size = r.size; state = state; reason = reason; parts = qs } in x) (merged_behind [] r.parts ps)
+-- the record with these parts too, this state, and this reason if there is one, else its own
+abbrev pub grown_for : List Part → State → Option BadFile → Record → Record
+grown_for ps state reason r = record { name = r.name; size = r.size; state = state; reason = option_or reason r.reason; parts = merged r.parts ps }
+
+lengthened_ordered : (ps : List Part) (state : State) (reason : Option BadFile) (r : Record) → ordered_record (lengthened ps state reason r) ≡ grown_for ps state reason (ordered_record r)
+lengthened_ordered ps state reason r = ap (λ (qs : List Part). let x : Record = record { name = r.name; size = r.size; state = state; reason = option_or reason r.reason; parts = qs } in x) (merged_behind [] r.parts ps)
 
 pub insert_ordered : (r : Record) (c : Content) → ordered (insert_record r c) ≡ insert_record (ordered_record r) (ordered c)
 insert_ordered r [] = refl
@@ -47,13 +52,13 @@ insert_ordered r (x ∷ xs) = by (comes_before x.name r.name) (insert_ordered r 
     by true again = ap (λ ys. ordered_record x ∷ ys) again
     by false again = refl
 
-pub changed_ordered : (n : Name) (ps : List Part) (state : State) (reason : Option BadFile) (c : Content) → ordered (changed n (lengthened ps state reason) c) ≡ changed n (grown ps state reason) (ordered c)
+pub changed_ordered : (n : Name) (ps : List Part) (state : State) (reason : Option BadFile) (c : Content) → ordered (changed n (lengthened ps state reason) c) ≡ changed n (grown_for ps state reason) (ordered c)
 changed_ordered n ps state reason [] = refl
 changed_ordered n ps state reason (r ∷ rs) = by (name_eq r.name n) (changed_ordered n ps state reason rs)
   where
-    by : (b : Bool) → ordered (changed n (lengthened ps state reason) rs) ≡ changed n (grown ps state reason) (ordered rs)
+    by : (b : Bool) → ordered (changed n (lengthened ps state reason) rs) ≡ changed n (grown_for ps state reason) (ordered rs)
         → ordered (if b then lengthened ps state reason r ∷ rs else r ∷ changed n (lengthened ps state reason) rs) ≡
-        (if b then grown ps state reason (ordered_record r) ∷ ordered rs else ordered_record r ∷ changed n (grown ps state reason) (ordered rs))
+        (if b then grown_for ps state reason (ordered_record r) ∷ ordered rs else ordered_record r ∷ changed n (grown_for ps state reason) (ordered rs))
     by true again = ap (λ x. x ∷ ordered rs) (lengthened_ordered ps state reason r)
     by false again = ap (λ ys. ordered_record r ∷ ys) again
 
@@ -68,5 +73,5 @@ without_earlier_ordered n (r ∷ rs) = by (not (is_earlier r.name n)) (without_e
 
 -- a release with new parts that becomes active
 pub active_ordered : (n : Name) (ps : List Part) (state : State) (reason : Option BadFile) (c : Content)
-    → ordered (without_earlier n (changed n (lengthened ps state reason) c)) ≡ without_earlier n (changed n (grown ps state reason) (ordered c))
+    → ordered (without_earlier n (changed n (lengthened ps state reason) c)) ≡ without_earlier n (changed n (grown_for ps state reason) (ordered c))
 active_ordered n ps state reason c = without_earlier_ordered n (changed n (lengthened ps state reason) c) ∙ ap (without_earlier n) (changed_ordered n ps state reason c)

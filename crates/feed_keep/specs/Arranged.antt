@@ -2,6 +2,7 @@
 use Rattle.std.specs.Prelude.{◌≡◌, ◌++◌, List, Option, [], ◌∷◌, map, IsPermutation}
 use Rattle.feed_kbart.specs.declared.fault.BadFile.{BadFile}
 use Rattle.feed_model.specs.declared.state.State.{State}
+use Rattle.std.specs.Option.{option_or}
 use Rattle.feed_model.specs.Content.{Part, Record, Content}
 use Rattle.feed_model.specs.Change.{merged}
 
@@ -13,9 +14,9 @@ ordered_record r = record { name = r.name; size = r.size; state = r.state; reaso
 abbrev pub ordered : Content → Content
 ordered rs = map ordered_record rs
 
--- the record with these parts behind its own, this state, and this reason
+-- the record with these parts behind its own, this state, and this reason if there is one, else its own
 abbrev pub lengthened : List Part → State → Option BadFile → Record → Record
-lengthened ps state reason r = record { name = r.name; size = r.size; state = state; reason = reason; parts = r.parts ++ ps }
+lengthened ps state reason r = record { name = r.name; size = r.size; state = state; reason = option_or reason r.reason; parts = r.parts ++ ps }
 
 -- the same record, with its parts in another order
 pub record IsSame (r s : Record) : Type 0 where

@@ -141,7 +141,7 @@ fn grow(
     let record = &mut records[at];
     record.parts.append(&mut new)?;
     record.state = state;
-    record.reason = reason;
+    record.reason = reason.or(record.reason);
     Ok(())
 }
 

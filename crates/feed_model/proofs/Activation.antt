@@ -15,7 +15,7 @@ use Rattle.feed_model.proofs.Distinct.{distinct-changed, distinct-without_earlie
 use Rattle.feed_model.proofs.Goods.{reason_there}
 use Rattle.feed_model.proofs.Others.{SameBut, file_same, file_back, good_other, good_back}
 use Rattle.feed_model.proofs.Tests.{of_record, record_good}
-use Rattle.feed_model.proofs.Growth.{Keeps, keeps_but, grown_bytes}
+use Rattle.feed_model.proofs.Growth.{Keeps, keeps_but, grown_bytes, no_reason}
 
 -- where n isn't passed, no good release of its package is later
 pub none_later : (c : Content) (h : History) → IsContent c h → (n m : Name) → (IsPassed h n → ⊥) → m.stem ≡ n.stem → IsGood h m → m.day ≤ℤ n.day
@@ -30,10 +30,10 @@ none_later c h is n m ahead same g = by (day_cases m.day n.day)
 
 pub activate_moves : (c : Content) (h : History) (n : Name) (f : ℕ) (t : Option ℕ) (b : List ℕ) (a : Answer) (r : Record) (ps : List Part)
     → Keeps c h n f b r ps → is_taken a ≡ true → IsRight h (Piece n f t b) a → IsGood ((Piece n f t b, a) ∷ h) n
-    → IsContent (without_earlier n (changed n (grown ps Active None) c)) ((Piece n f t b, a) ∷ h)
+    → IsContent (without_earlier n (changed n (grown ps Active) c)) ((Piece n f t b, a) ∷ h)
 activate_moves c h n f t b a r ps keeps taken right good = record {
   legal = (right, keeps.content.legal);
-  distinct = distinct-without_earlier n (changed n (grown ps Active None) c) (distinct-changed n (grown ps Active None) (λ x. refl) c keeps.content.distinct);
+  distinct = distinct-without_earlier n (changed n (grown ps Active) c) (distinct-changed n (grown ps Active) (λ x. refl) c keeps.content.distinct);
   each = λ m. by m (is_earlier m n) refl (name_cases m n);
 }
   where
@@ -111,25 +111,25 @@ activate_moves c h n f t b a r ps keeps taken right good = record {
         state Active act = active_there m kept apart act
         state Broken g = (g.0, file_same n m h k but apart g.0 g.1, g.2)
 
-    mine : IsRecord k n (grown ps Active None r)
+    mine : IsRecord k n (grown ps Active r)
     mine = record {
       held = (was.held.0, λ p. let le : p.0.day ≤ℤ n.day = latest.1 p.0 (sym p.2.0) p.1.0 in let lt : n.day <ℤ p.0.day = p.2.1 in absurd (omega (arith, ints)));
       size = was.size;
       bytes = grown_bytes c h n f t b a r ps keeps taken;
       parts = keeps.parts;
       state = latest;
-      reason = refl;
+      reason = no_reason c h n r keeps.content keeps.found keeps.staged;
     }
 
-    by : (m : Name) (e : Bool) → is_earlier m n ≡ e → (m ≡ n) ⊎ (m ≢ n) → MatchOption (record_of (without_earlier n (changed n (grown ps Active None) c)) m) (¬ (IsHeld k m)) (IsRecord k m)
+    by : (m : Name) (e : Bool) → is_earlier m n ≡ e → (m ≡ n) ⊎ (m ≢ n) → MatchOption (record_of (without_earlier n (changed n (grown ps Active) c)) m) (¬ (IsHeld k m)) (IsRecord k m)
     by m true e cases =
-        let gone : record_of (without_earlier n (changed n (grown ps Active None) c)) m ≡ None = record_of-without_earlier n (changed n (grown ps Active None) c) m ∙ rw e refl in
+        let gone : record_of (without_earlier n (changed n (grown ps Active) c)) m ≡ None = record_of-without_earlier n (changed n (grown ps Active) c) m ∙ rw e refl in
         rw gone (λ held. held.1 (n, latest, earlier_is m n e))
     by m false e (inl same) =
-        let found : record_of (without_earlier n (changed n (grown ps Active None) c)) m ≡ Some (grown ps Active None r) = record_of-without_earlier n (changed n (grown ps Active None) c) m ∙ rw e
-        (ap (record_of (changed n (grown ps Active None) c)) same ∙ record_of-changed_here n (grown ps Active None) (λ x. refl) c r keeps.found) in
-        rw found (subst (λ (x : Name). IsRecord k x (grown ps Active None r)) (sym same) mine)
+        let found : record_of (without_earlier n (changed n (grown ps Active) c)) m ≡ Some (grown ps Active r) = record_of-without_earlier n (changed n (grown ps Active) c) m ∙ rw e
+        (ap (record_of (changed n (grown ps Active) c)) same ∙ record_of-changed_here n (grown ps Active) (λ x. refl) c r keeps.found) in
+        rw found (subst (λ (x : Name). IsRecord k x (grown ps Active r)) (sym same) mine)
     by m false e (inr apart) =
-        let found : record_of (without_earlier n (changed n (grown ps Active None) c)) m ≡ record_of c m = record_of-without_earlier n (changed n (grown ps Active None) c) m ∙ rw e
-        (record_of-changed n (grown ps Active None) (λ x. refl) c m apart) in
+        let found : record_of (without_earlier n (changed n (grown ps Active) c)) m ≡ record_of c m = record_of-without_earlier n (changed n (grown ps Active) c) m ∙ rw e
+        (record_of-changed n (grown ps Active) (λ x. refl) c m apart) in
         rw found (stays m (earlier_not m n e) apart (record_of c m) (keeps.content.each m))

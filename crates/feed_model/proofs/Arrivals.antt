@@ -9,12 +9,12 @@ use Rattle.feed_model.specs.File.{fault_of}
 use Rattle.feed_model.specs.History.{Piece, History, Answer, is_taken, or_else, byte_at, IsFile, IsWhole, IsBad}
 use Rattle.feed_model.specs.Reply.{IsRight, kept_with, missing_below, verdict}
 use Rattle.feed_model.specs.Content.{Part, Record, Content, record_of, byte_in, IsRecord, IsContent}
-use Rattle.feed_model.specs.Change.{merged, grown, changed, without_earlier}
+use Rattle.feed_model.specs.Change.{merged, grown, broken_with, changed, without_earlier}
 use Rattle.feed_model.specs.Parts.{AgreesIn, HasNew, Adds, Reaches}
 use Rattle.feed_model.specs.Handles.{Handles}
 use Rattle.feed_model.proofs.Bytes.{slice_some}
 use Rattle.feed_model.proofs.Tests.{of_record, good_not_bad}
-use Rattle.feed_model.proofs.Growth.{Keeps, kept_here, piece_moves}
+use Rattle.feed_model.proofs.Growth.{Keeps, kept_here, grown_is, broken_is, no_reason, piece_moves}
 use Rattle.feed_model.proofs.Activation.{activate_moves}
 use Rattle.feed_model.proofs.Pieces.{stores_right}
 
@@ -43,9 +43,10 @@ keeps_by c h n first bytes r ps is found staged adds = record { content = is; fo
 stored_at : (c : Content) (h : History) (n : Name) (first : ℕ) (total : Option ℕ) (bytes : List ℕ) (r : Record) (ps : List Part) (missing : ℕ) → Reaches c n first total bytes r
     → r.state ≡ Staged → AgreesIn r.parts first bytes → HasNew r.parts first bytes → Adds r.size r.parts first bytes ps
     → missing ≡ missing_below (byte_in (merged r.parts ps)) r.size → 0 < missing → IsContent c h → IsRight h (Piece n first total bytes) (Ok (replies.Stored missing)) × IsContent
-    (changed n (grown ps Staged None) c) ((Piece n first total bytes, Ok (replies.Stored missing)) ∷ h)
+    (changed n (grown ps Staged) c) ((Piece n first total bytes, Ok (replies.Stored missing)) ∷ h)
 stored_at c h n first total bytes r ps missing reach staged agrees new adds lack some is =
-    (right, piece_moves c h n first total bytes a r ps Staged None (keeps_by c h n first bytes r ps is reach.found staged adds) refl right (λ g. lacks (g.0, g.1)) lacks refl)
+    (right, piece_moves c h n first total bytes a r ps (grown ps Staged) (grown_is ps Staged r) (keeps_by c h n first bytes r ps is reach.found staged adds) refl right (λ g. lacks (g.0, g.1)) lacks
+    (no_reason c h n r is reach.found staged))
   where
     a : Answer
     a = Ok (replies.Stored missing)
@@ -68,7 +69,7 @@ stored_at c h n first total bytes r ps missing reach staged agrees new adds lack
 
 pub piece_stored : (c : Content) (n : Name) (first : ℕ) (total : Option ℕ) (bytes : List ℕ) (r : Record) (ps : List Part) (missing : ℕ) → Reaches c n first total bytes r
     → r.state ≡ Staged → AgreesIn r.parts first bytes → HasNew r.parts first bytes → Adds r.size r.parts first bytes ps
-    → missing ≡ missing_below (byte_in (merged r.parts ps)) r.size → 0 < missing → Handles c (Piece n first total bytes) (Ok (replies.Stored missing)) (changed n (grown ps Staged None) c)
+    → missing ≡ missing_below (byte_in (merged r.parts ps)) r.size → 0 < missing → Handles c (Piece n first total bytes) (Ok (replies.Stored missing)) (changed n (grown ps Staged) c)
 piece_stored c n first total bytes r ps missing reach staged agrees new adds lack some = λ h is. stored_at c h n first total bytes r ps missing reach staged agrees new adds lack some is
 
 -- the whole file
@@ -97,21 +98,21 @@ pub piece_broken : (c : Content) (n : Name) (first : ℕ) (total : Option ℕ) (
     → r.state ≡ Staged → AgreesIn r.parts first bytes → HasNew r.parts first bytes → Adds r.size r.parts first bytes ps
     → missing_below (byte_in (merged r.parts ps)) r.size ≡ 0 → length text ≡ r.size →
     ((place : ℕ) → place < r.size → byte_in (merged r.parts ps) place ≡ slice_get text place) → fault_of text ≡ Some why
-    → Handles c (Piece n first total bytes) (Ok (replies.Broken why)) (changed n (grown ps Broken (Some why)) c)
+    → Handles c (Piece n first total bytes) (Ok (replies.Broken why)) (changed n (broken_with ps why) c)
 piece_broken c n first total bytes r ps text why reach staged agrees new adds none len at bad = λ h is.
     let a : Answer = Ok (replies.Broken why) in
     let right : IsRight h (Piece n first total bytes) a = whole_right c h n first total bytes r ps text a reach agrees new adds none len at is (ap (λ o. Ok (verdict o)) (sym bad)) in
     let file = file_by c h n first total bytes r ps text a is reach.found adds refl len at in
     let is_bad : IsBad ((Piece n first total bytes, a) ∷ h) n = (text, file, λ e. (let u : Some why ≡ None = sym bad ∙ e in absurd (cc))) in (
       right,
-      piece_moves c h n first total bytes a r ps Broken (Some why) (keeps_by c h n first bytes r ps is reach.found staged adds) refl right
+      piece_moves c h n first total bytes a r ps (broken_with ps why) (broken_is ps why r) (keeps_by c h n first bytes r ps is reach.found staged adds) refl right
           (λ g. good_not_bad ((Piece n first total bytes, a) ∷ h) n g is_bad) is_bad (text, file, bad),
     )
 
 pub piece_activated : (c : Content) (n : Name) (first : ℕ) (total : Option ℕ) (bytes : List ℕ) (r : Record) (ps : List Part) (text : List ℕ) → Reaches c n first total bytes r
     → r.state ≡ Staged → AgreesIn r.parts first bytes → HasNew r.parts first bytes → Adds r.size r.parts first bytes ps
     → missing_below (byte_in (merged r.parts ps)) r.size ≡ 0 → length text ≡ r.size → ((place : ℕ) → place < r.size → byte_in (merged r.parts ps) place ≡ slice_get text place)
-    → fault_of text ≡ None → Handles c (Piece n first total bytes) (Ok replies.Activated) (without_earlier n (changed n (grown ps Active None) c))
+    → fault_of text ≡ None → Handles c (Piece n first total bytes) (Ok replies.Activated) (without_earlier n (changed n (grown ps Active) c))
 piece_activated c n first total bytes r ps text reach staged agrees new adds none len at good = λ h is.
     let a : Answer = Ok replies.Activated in
     let right : IsRight h (Piece n first total bytes) a = whole_right c h n first total bytes r ps text a reach agrees new adds none len at is (ap (λ o. Ok (verdict o)) (sym good)) in (

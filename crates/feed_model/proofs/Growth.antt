@@ -1,5 +1,5 @@
 -- A piece that is kept.
-use Rattle.std.proofs.Common.{◌≡◌, ◌≢◌, ℕ, Bool, true, false, List, ◌∷◌, Option, Some, MatchOption, ◌⊎◌, inl, inr, refl, sym, ◌∙◌, ap, subst}
+use Rattle.std.proofs.Common.{◌≡◌, ◌≢◌, ℕ, Bool, true, false, List, ◌∷◌, Option, Some, None, MatchOption, ◌⊎◌, inl, inr, refl, sym, ◌∙◌, ap, subst}
 use Rattle.feed_names.specs.ReleaseName.{Name, name_eq}
 use Rattle.feed_kbart.specs.declared.fault.BadFile.{BadFile}
 use Rattle.feed_model.specs.declared.state.State.{State}
@@ -7,7 +7,7 @@ use Rattle.feed_model.specs.declared.state.State.TheVariants.{Staged}
 use Rattle.feed_model.specs.History.{Piece, History, Answer, is_taken, or_else, byte_at, kept, IsWhole, IsGood, IsHeld}
 use Rattle.feed_model.specs.Reply.{IsRight, kept_with}
 use Rattle.feed_model.specs.Content.{Part, Record, Content, record_of, byte_in, AreParts, IsState, IsReason, IsRecord, IsContent}
-use Rattle.feed_model.specs.Change.{merged, grown, changed}
+use Rattle.feed_model.specs.Change.{merged, grown, broken_with, changed}
 use Rattle.feed_model.proofs.Names.{name_self, name_apart, name_cases}
 use Rattle.feed_model.proofs.Goods.{SameGood, held_same}
 use Rattle.feed_model.proofs.Lookups.{record_of-changed, record_of-changed_here}
@@ -49,14 +49,30 @@ grown_bytes c h n f t b a r ps k taken place = k.new place ∙ ap (λ o. or_else
 pub not_before : (c : Content) (h : History) (n : Name) (r : Record) → IsContent c h → record_of c n ≡ Some r → r.state ≡ Staged → (IsWhole h n → ⊥)
 not_before c h n r is found staged = let s = (of_record c h n r is found).state in subst (IsState h n) staged s
 
+-- a change that keeps name and size, and adds the parts
+pub record IsGrown (ps : List Part) (grow : Record → Record) (r : Record) : Type 0 where
+  pub name : (x : Record) → (grow x).name ≡ x.name
+  pub size : (grow r).size ≡ r.size
+  pub parts : (grow r).parts ≡ merged r.parts ps
+
+pub grown_is : (ps : List Part) (s : State) (r : Record) → IsGrown ps (grown ps s) r
+grown_is ps s r = record { name = λ x. refl; size = refl; parts = refl }
+
+pub broken_is : (ps : List Part) (why : BadFile) (r : Record) → IsGrown ps (broken_with ps why) r
+broken_is ps why r = record { name = λ x. refl; size = refl; parts = refl }
+
+-- staged, it has no reason
+pub no_reason : (c : Content) (h : History) (n : Name) (r : Record) → IsContent c h → record_of c n ≡ Some r → r.state ≡ Staged → r.reason ≡ None
+no_reason c h n r is found staged = let x = (of_record c h n r is found).reason in subst (λ (s : State). IsReason h n s r.reason) staged x
+
 -- It isn't good afterwards: nothing else changes.
-pub piece_moves : (c : Content) (h : History) (n : Name) (f : ℕ) (t : Option ℕ) (b : List ℕ) (a : Answer) (r : Record) (ps : List Part) (s : State) (o : Option BadFile)
-    → Keeps c h n f b r ps → is_taken a ≡ true → IsRight h (Piece n f t b) a
-    → (IsGood ((Piece n f t b, a) ∷ h) n → ⊥) → IsState ((Piece n f t b, a) ∷ h) n s → IsReason ((Piece n f t b, a) ∷ h) n s o
-    → IsContent (changed n (grown ps s o) c) ((Piece n f t b, a) ∷ h)
-piece_moves c h n f t b a r ps s o keeps taken right now state reason = record {
+pub piece_moves : (c : Content) (h : History) (n : Name) (f : ℕ) (t : Option ℕ) (b : List ℕ) (a : Answer) (r : Record) (ps : List Part) (grow : Record → Record)
+    → IsGrown ps grow r → Keeps c h n f b r ps → is_taken a ≡ true → IsRight h (Piece n f t b) a
+    → (IsGood ((Piece n f t b, a) ∷ h) n → ⊥) → IsState ((Piece n f t b, a) ∷ h) n (grow r).state → IsReason ((Piece n f t b, a) ∷ h) n (grow r).state (grow r).reason
+    → IsContent (changed n grow c) ((Piece n f t b, a) ∷ h)
+piece_moves c h n f t b a r ps grow grows keeps taken right now state reason = record {
   legal = (right, keeps.content.legal);
-  distinct = distinct-changed n (grown ps s o) (λ x. refl) c keeps.content.distinct;
+  distinct = distinct-changed n grow grows.name c keeps.content.distinct;
   each = λ m. by m (name_cases m n);
 }
   where
@@ -72,20 +88,20 @@ piece_moves c h n f t b a r ps s o keeps taken right now state reason = record {
     goods : SameGood h k
     goods = goods_but n h k but (λ g. not_before c h n r keeps.content keeps.found keeps.staged (g.0, g.1)) now
 
-    mine : IsRecord k n (grown ps s o r)
+    mine : IsRecord k n (grow r)
     mine = record {
       held = held_same h k goods n refl was.held;
-      size = was.size;
-      bytes = grown_bytes c h n f t b a r ps keeps taken;
-      parts = keeps.parts;
+      size = was.size ∙ ap (λ s. Some s) (sym grows.size);
+      bytes = λ place. ap (λ qs. byte_in qs place) grows.parts ∙ grown_bytes c h n f t b a r ps keeps taken place;
+      parts = subst AreParts (sym grows.parts) keeps.parts;
       state = state;
       reason = reason;
     }
 
-    by : (m : Name) → (m ≡ n) ⊎ (m ≢ n) → MatchOption (record_of (changed n (grown ps s o) c) m) (¬ (IsHeld k m)) (IsRecord k m)
+    by : (m : Name) → (m ≡ n) ⊎ (m ≢ n) → MatchOption (record_of (changed n grow c) m) (¬ (IsHeld k m)) (IsRecord k m)
     by m (inl e) =
-        let found : record_of (changed n (grown ps s o) c) n ≡ Some (grown ps s o r) = record_of-changed_here n (grown ps s o) (λ x. refl) c r keeps.found in
-        subst (λ (x : Name). MatchOption (record_of (changed n (grown ps s o) c) x) (¬ (IsHeld k x)) (IsRecord k x)) (sym e) (rw found mine)
+        let found : record_of (changed n grow c) n ≡ Some (grow r) = record_of-changed_here n grow grows.name c r keeps.found in
+        subst (λ (x : Name). MatchOption (record_of (changed n grow c) x) (¬ (IsHeld k x)) (IsRecord k x)) (sym e) (rw found mine)
     by m (inr apart) =
-        let found : record_of (changed n (grown ps s o) c) m ≡ record_of c m = record_of-changed n (grown ps s o) (λ x. refl) c m apart in
+        let found : record_of (changed n grow c) m ≡ record_of c m = record_of-changed n grow grows.name c m apart in
         rw found (each_same n m h k but goods apart (record_of c m) (keeps.content.each m))

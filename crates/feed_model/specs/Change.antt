@@ -1,5 +1,5 @@
 -- The changes of a keeper's content.
-use Rattle.std.specs.Prelude.{◌≡◌, ◌<◌, ◌≤◌, ◌==◌, ◌&&◌, ℕ, Bool, not, nat_lt, if◌then◌else◌, List, [], ◌∷◌, length, Option, Some, None, IsSome, int_lt, filter, All}
+use Rattle.std.specs.Prelude.{◌≡◌, ◌<◌, ◌≤◌, ◌==◌, ◌&&◌, ℕ, Bool, not, nat_lt, if◌then◌else◌, List, [], ◌∷◌, length, Some, None, IsSome, int_lt, filter, All}
 use Rattle.std.specs.Ordering.{is_lt, nat_cmp}
 use Rattle.std.specs.Cmp.Lexicographic.{slice_cmp, pointwise}
 use Rattle.feed_names.specs.ReleaseName.{Name, name_eq, text_of, IsEarlier}
@@ -27,9 +27,13 @@ abbrev pub merged : List Part → List Part → List Part
 merged parts [] = parts
 merged parts (p ∷ ps) = merged (insert_part p parts) ps
 
--- the record with these parts too, this state, and this reason
-abbrev pub grown : List Part → State → Option BadFile → Record → Record
-grown ps state reason r = record { name = r.name; size = r.size; state = state; reason = reason; parts = merged r.parts ps }
+-- the record with these parts too, and this state
+abbrev pub grown : List Part → State → Record → Record
+grown ps state r = record { name = r.name; size = r.size; state = state; reason = r.reason; parts = merged r.parts ps }
+
+-- the record with these parts too, which is broken for this reason
+abbrev pub broken_with : List Part → BadFile → Record → Record
+broken_with ps why r = record { name = r.name; size = r.size; state = Broken; reason = Some why; parts = merged r.parts ps }
 
 -- the text of the one name comes before that of the other
 abbrev pub comes_before : Name → Name → Bool
@@ -65,9 +69,9 @@ new_record n size = record {
 -- the content after a change
 abbrev pub after : Change → Content → Content
 after (Add n size) c = insert_record (new_record n size) c
-after (Pieces n ps) c = changed n (grown ps Staged None) c
-after (Break n ps why) c = changed n (grown ps Broken (Some why)) c
-after (Activate n ps) c = without_earlier n (changed n (grown ps Active None) c)
+after (Pieces n ps) c = changed n (grown ps Staged) c
+after (Break n ps why) c = changed n (broken_with ps why) c
+after (Activate n ps) c = without_earlier n (changed n (grown ps Active) c)
 
 -- the record is staged, and can take these parts
 pub record TakesParts (c : Content) (n : Name) (ps : List Part) (r : Record) : Type 0 where

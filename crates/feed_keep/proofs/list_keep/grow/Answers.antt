@@ -1,5 +1,6 @@
 use Rattle.std.proofs.Common.{◌≡◌, ◌++◌, List, sym, ◌∙◌, ap}
 use Rattle.std.proofs.lemmas.List.{map-append}
+use Rattle.std.specs.Option.{option_or}
 use Rattle.feed_model.specs.Content.{Part, Record}
 use Rattle.feed_parts.specs.Shown.{shown_part, shown_parts}
 use Rattle.feed_keep.specs.Arranged.{lengthened}
@@ -24,6 +25,6 @@ returns-clause-ok c =
     let place = rw c.deref.ensures.value at c.in-Some.ensures.found in
     let parts : shown_parts c.append.new.self.items ≡ shown_parts r.parts.items ++ shown_parts c.args.parts.now =
     ap shown_parts c.in_ok-append.ensures.items ∙ map-append shown_part r.parts.items c.in_ok-new.new.items ∙ ap (λ (ps : List Part). shown_parts r.parts.items ++ ps) c.in_ok-new.ensures in
-    set_at c.args.records.now.items c.args.name.now c.in-Some.at r _ (lengthened (shown_parts c.args.parts.now) c.args.state c.args.reason) place
-    (ap (λ (ps : List Part). let x : Record = record { name = r.name; size = r.size; state = c.args.state; reason = c.args.reason; parts = ps } in x) parts
-    ∙ ap (λ (y : code.Record). lengthened (shown_parts c.args.parts.now) c.args.state c.args.reason (shown_record y)) c.index_mut-record.ensures.value)
+    rw c.or-record.ensures (set_at c.args.records.now.items c.args.name.now c.in-Some.at r _ (lengthened (shown_parts c.args.parts.now) c.args.state c.args.reason) place
+    (ap (λ (ps : List Part). let x : Record = record { name = r.name; size = r.size; state = c.args.state; reason = option_or c.args.reason r.reason; parts = ps } in x) parts
+    ∙ ap (λ (y : code.Record). lengthened (shown_parts c.args.parts.now) c.args.state c.args.reason (shown_record y)) c.index_mut-record.ensures.value))
