@@ -17,6 +17,11 @@ and_true false = refl
 pub not_broken : (b : Bool) → (not b && true) ≡ true → b ≡ false
 not_broken b h = not-true b (sym (and_true (not b)) ∙ h)
 
+-- the first of two rules, where nothing breaks either
+pub first_unbroken : (b c : Bool) → (not b && c) ≡ true → b ≡ false
+first_unbroken false c h = refl
+first_unbroken true c h = absurd (let e : false ≡ true = h in cc)
+
 -- what a truth value is as a condition
 pub held : (b : Bool) → is_true (from_truth (Some b)) ≡ b
 held true = refl
@@ -39,3 +44,21 @@ three_zero e = omega arith
 
 pub three_one : ◌≢◌ {A = ℕ} 3 1
 three_one e = omega arith
+
+pub zero_five : ◌≢◌ {A = ℕ} 0 5
+zero_five e = omega arith
+
+pub one_five : ◌≢◌ {A = ℕ} 1 5
+one_five e = omega arith
+
+pub three_five : ◌≢◌ {A = ℕ} 3 5
+three_five e = omega arith
+
+pub five_zero : ◌≢◌ {A = ℕ} 5 0
+five_zero e = omega arith
+
+pub five_one : ◌≢◌ {A = ℕ} 5 1
+five_one e = omega arith
+
+pub five_three : ◌≢◌ {A = ℕ} 5 3
+five_three e = omega arith

@@ -16,10 +16,10 @@ use Rattle.feed_names.specs.ReleaseName.{Name, text_of}
 use Rattle.feed_model.specs.Content.{Part, Record}
 use Rattle.feed_model.specs.Change.{is_earlier, without_earlier}
 use Rattle.feed_rows.proofs.Insertion.{filter_sort}
-use Rattle.feed_rows.specs.Tables.{IsReleaseRow, IsPieceRow, AreRows, text_in, name_in, part_in, is_of, record_in, sorted, sorted_parts, content_in}
+use Rattle.feed_rows.specs.Tables.{IsReleaseRow, IsPieceRow, IsReasonRow, AreRows, AreReasons, text_in, name_in, part_in, is_of, record_in, sorted, sorted_parts, content_in}
 use Rattle.feed_rows.proofs.Order.{same_text, record_stops, record_laws, records_sort}
 use Rattle.feed_rows.proofs.Rows.{IsKeyed, text_equal, int_less}
-use Rattle.feed_rows.proofs.Gone.{IsTexted, is_child, same_filter}
+use Rattle.feed_rows.proofs.Gone.{IsTexted, AreTexted, is_child, same_filter}
 use Rattle.feed_rows.proofs.Unique.{same_texts, distinct_some}
 use Rattle.feed_rows.proofs.Conditions.{goes}
 
@@ -73,7 +73,7 @@ distinct_records pieces (r ∷ rows) all d = (others r rows all.0 all.1 d.0, dis
     )
 
 -- one row of a text
-one_text : (rows : List Row) (a b : Row) → IsDistinct same_texts rows → Has rows a → Has rows b → text_in a ≡ text_in b → a ≡ b
+pub one_text : (rows : List Row) (a b : Row) → IsDistinct same_texts rows → Has rows a → Has rows b → text_in a ≡ text_in b → a ≡ b
 one_text [] a b d h k same = absurd h
 one_text (r ∷ rows) a b d (inl p) (inl q) same = p ∙ sym q
 one_text (r ∷ rows) a b d (inl p) (inr k) same =
@@ -140,16 +140,28 @@ are_left p q rows pieces are = record {
   piece_ids = distinct_some q pieces are.piece_ids;
 }
 
--- ---- a database of ours
+-- ---- rows that this product writes have numbers and texts
 
-pub keyed_releases : (rows pieces : List Row) → AreRows rows pieces → AllByRecursion IsKeyed rows
-keyed_releases rows pieces are = all_from IsKeyed rows (λ r h. release_keyed r (all_has IsReleaseRow rows r are.are_releases h))
+pub texted_releases : (rows pieces : List Row) → AreRows rows pieces → AreTexted rows
+texted_releases rows pieces are = record {
+  keyed = all_from IsKeyed rows (λ r h. release_keyed r (all_has IsReleaseRow rows r are.are_releases h));
+  ids = are.ids;
+  texted = all_from IsTexted rows (λ r h. release_texted r (all_has IsReleaseRow rows r are.are_releases h));
+}
 
-pub texted_releases : (rows pieces : List Row) → AreRows rows pieces → AllByRecursion IsTexted rows
-texted_releases rows pieces are = all_from IsTexted rows (λ r h. release_texted r (all_has IsReleaseRow rows r are.are_releases h))
+pub texted_pieces : (rows pieces : List Row) → AreRows rows pieces → AreTexted pieces
+texted_pieces rows pieces are = record {
+  keyed = all_from IsKeyed pieces (λ r h. piece_keyed r (all_has IsPieceRow pieces r are.are_pieces h));
+  ids = are.piece_ids;
+  texted = all_from IsTexted pieces (λ r h. piece_texted r (all_has IsPieceRow pieces r are.are_pieces h));
+}
 
-pub keyed_pieces : (rows pieces : List Row) → AreRows rows pieces → AllByRecursion IsKeyed pieces
-keyed_pieces rows pieces are = all_from IsKeyed pieces (λ r h. piece_keyed r (all_has IsPieceRow pieces r are.are_pieces h))
+pub texted_reasons : (reasons : List Row) → AreReasons reasons → AreTexted reasons
+texted_reasons reasons are = record {
+  keyed = all_from IsKeyed reasons (λ r h. ap rowid (all_has IsReasonRow reasons r are.are h).is);
+  ids = are.ids;
+  texted = all_from IsTexted reasons (λ r h. ap (λ row. column row 1) (all_has IsReasonRow reasons r are.are h).is);
+}
 
-pub texted_pieces : (rows pieces : List Row) → AreRows rows pieces → AllByRecursion IsTexted pieces
-texted_pieces rows pieces are = all_from IsTexted pieces (λ r h. piece_texted r (all_has IsPieceRow pieces r are.are_pieces h))
+pub reasons_left : (p : Row → Bool) (reasons : List Row) → AreReasons reasons → AreReasons (filter p reasons)
+reasons_left p reasons are = record { are = all_left IsReasonRow p reasons are.are; ids = distinct_some p reasons are.ids }

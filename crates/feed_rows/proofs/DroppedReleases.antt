@@ -1,5 +1,5 @@
 -- What the statement that deletes releases makes of the tables, and of the content.
-use Rattle.std.proofs.Common.{◌≡◌, ℤ, ℕ, List, [], ◌∷◌, filter, Bool, not, IsPermutation, refl, subst}
+use Rattle.std.proofs.Common.{◌≡◌, ℤ, ℕ, List, [], ◌∷◌, filter, Bool, not, IsPermutation, refl, sym, subst}
 use Rattle.std.proofs.lemmas.List.Sorted.{IsPermutation-map}
 use Rattle.sqlite_value.specs.declared.value.Value.TheVariants.{Int, Text}
 use Rattle.sqlite_value.specs.Order.{Row}
@@ -12,14 +12,15 @@ use Rattle.sqlite.specs.Query.{IsAnswer}
 use Rattle.sqlite.specs.Program.{overlay}
 use Rattle.feed_names.specs.ReleaseName.{Name}
 use Rattle.feed_model.specs.Change.{without_earlier}
-use Rattle.feed_rows.specs.Tables.{IsChanged, IsListed, IsOurs, content_of}
+use Rattle.feed_rows.specs.Tables.{AreReasons, IsChanged, IsListed, IsOurs, earlier_content_of, content_of}
 use Rattle.feed_rows.proofs.Rows.{answered}
 use Rattle.feed_rows.proofs.Conditions.{earlier, goes}
 use Rattle.feed_rows.proofs.Cascade.{Cascade}
 use Rattle.feed_rows.proofs.Gone.{AreLeft, is_child, removed}
 use Rattle.feed_rows.proofs.Unique.{distinct_texts}
-use Rattle.feed_rows.proofs.Ours.{KeepsLayout, still_ours}
-use Rattle.feed_rows.proofs.Contents.{dropped, are_left, keyed_releases, texted_releases, keyed_pieces, texted_pieces}
+use Rattle.feed_rows.proofs.Ours.{KeepsLayout, still_ours, tables_of_ours}
+use Rattle.feed_rows.proofs.Explained.{explained_dropped}
+use Rattle.feed_rows.proofs.Contents.{dropped, are_left, reasons_left, texted_releases, texted_pieces, texted_reasons}
 
 -- the rows that the condition picks, and what their removal makes
 pub record Deletes (stem : List ℕ) (day : ℤ) (old new : Database) : Type 0 where
@@ -36,18 +37,22 @@ module _ (n : Name) (old new : Database) (ours : IsOurs old) (it : Deletes n.ste
   left =
       let picked = answered 1 earlier.filter earlier.project [] (Text n.stem ∷ Int n.day ∷ []) old.trees it.rows refl it.picked in
       let ids = IsPermutation-map (λ r. id_in (rowid r)) _ it.rows picked in
-      removed gone old.trees new.trees (ids_of it.rows) (keyed_releases _ _ are) are.ids (texted_releases _ _ are)
-      (keyed_pieces _ _ are) are.piece_ids (texted_pieces _ _ are)
+      removed gone old.trees new.trees (ids_of it.rows) (texted_releases _ _ are.rows) (texted_pieces _ _ are.rows) (texted_reasons _ are.reasons)
       (subst (λ xs. IsPermutation xs (ids_of it.rows)) (map-map (λ r. id_in (rowid r)) _ (filter gone (old.trees 1))) ids)
       it.cascade
 
   listed : IsListed new
-  listed = rw (left.releases, left.pieces) (are_left (λ r. not (gone r)) (λ r. not (is_child gone (old.trees 1) r)) _ _ are)
+  listed = record {
+    rows = rw (left.releases, left.pieces) (are_left (λ r. not (gone r)) (λ r. not (is_child gone (old.trees 1) r)) _ _ are.rows);
+    reasons = subst AreReasons (sym left.reasons) (reasons_left (λ r. not (is_child gone (old.trees 1) r)) _ are.reasons);
+  }
 
   content : content_of new ≡ without_earlier n (content_of old)
   content =
-      let apart = distinct_texts old ours.schema ours.obeyed (keyed_releases _ _ are) (texted_releases _ _ are) are.ids in
-      rw (left.releases, left.pieces) (dropped n (old.trees 1) (old.trees 3) are apart)
+      let apart = distinct_texts old (tables_of_ours old ours) (texted_releases _ _ are.rows) in
+      let bare : earlier_content_of new ≡ without_earlier n (earlier_content_of old) =
+      rw (left.releases, left.pieces) (dropped n (old.trees 1) (old.trees 3) are.rows apart) in
+      rw (left.reasons, bare) (explained_dropped n (old.trees 1) (old.trees 3) (old.trees 5) are.rows apart)
 
 pub deletes_earlier : (n : Name) (old new : Database) → IsOurs old → Deletes n.stem n.day old new → IsChanged (without_earlier n) old new
 deletes_earlier n old new ours it = record {

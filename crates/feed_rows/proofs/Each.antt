@@ -60,7 +60,7 @@ none_here n f (r ∷ rs) apart =
     let other : name_eq r.name n ≡ false = name_laws.symm r.name n ∙ apart.0 in
     rw other (ap (λ l. r ∷ l) (none_here n f rs apart.1))
 
-changed_map : (n : Name) (f : Record → Record) (c : Content) → IsDistinct name_eq (names c) → map (each n f) c ≡ changed n f c
+pub changed_map : (n : Name) (f : Record → Record) (c : Content) → IsDistinct name_eq (names c) → map (each n f) c ≡ changed n f c
 changed_map n f [] d = refl
 changed_map n f (r ∷ rs) d = by (name_eq r.name n) refl (changed_map n f rs (IsDistinct-tail name_eq r.name (names rs) d))
   where

@@ -1,4 +1,4 @@
--- The rows that a removal leaves, of the releases and of their parts.
+-- The rows that a removal leaves, of the releases, of their parts and of their reasons.
 use Rattle.std.proofs.Common.{◌≡◌, ◌⊎◌, inl, inr, ◌==◌, ◌||◌, ◌&&◌, ℤ, List, [], ◌∷◌, map, filter, Bool, true, false}
 use Rattle.std.proofs.Common.{cond, not, IsPermutation, refl, sym, ap, subst, ◌∙◌}
 use Rattle.std.specs.List.{AllByRecursion, IsDistinct, list_any}
@@ -16,6 +16,7 @@ use Rattle.sqlite_tied.specs.Compute.{everything}
 use Rattle.sqlite_value.proofs.OrderLemmas.{value_cmp_total}
 use Rattle.sqlite_trees.specs.Tree.{Trees, rowid, has_rowid}
 use Rattle.sqlite_schema.specs.declared.schema.Keys.TheVariants.{Enforced}
+use Rattle.sqlite_schema.specs.declared.schema.Table.{Table}
 use Rattle.sqlite_schema.specs.Rules.{agree, equal}
 use Rattle.sqlite_sql.specs.Ops.{binary}
 use Rattle.sqlite_rules.specs.declared.error.Rowids.TheVariants.{Given}
@@ -23,11 +24,11 @@ use Rattle.sqlite_rules.specs.Lists.{Has}
 use Rattle.sqlite_rules.specs.Edit.{edit_of, id_in, without_all, row_at, Applies}
 use Rattle.sqlite_rules.specs.Action.{pairs, loses, is_child_of, AreChildren}
 use Rattle.sqlite_rules.proofs.ListLemmas.{all_has, all_from, some_has, some_from, has_filtered, has_kept}
-use Rattle.feed_rows.specs.Layout.{feed_schema, piece}
+use Rattle.feed_rows.specs.Layout.{feed_schema, piece, reason}
 use Rattle.feed_rows.specs.Tables.{same_id, text_in, is_of}
 use Rattle.feed_rows.proofs.Rows.{IsKeyed, has_id, id_itself, any_moved, any_map, taken_out, text_equal}
-use Rattle.feed_rows.proofs.Basics.{same_test, and_true, three_one, one_three}
-use Rattle.feed_rows.proofs.Cascade.{Cascade, work, lose}
+use Rattle.feed_rows.proofs.Basics.{same_test, and_true, three_one, one_three, one_five, three_five, five_one, five_three}
+use Rattle.feed_rows.proofs.Cascade.{Cascade, Removes, removes_beside, work, lose}
 
 tied_is : (o : Ordering) → is_eq o ≡ true → o ≡ Equal
 tied_is Equal e = refl
@@ -103,8 +104,8 @@ unfolding binary
 lost o texted = rw (equal_texts o o texted texted, (bytes_decides (text_in o) (text_in o)).1 refl, texted)
 
 -- a part is a child of a row just where it has its text
-child_of : (w : List Row) (row o : Row) → IsTexted row → IsTexted o → is_child_of (work w) row (o, []) ≡ is_of (text_in o) row
-child_of w row o s t = rw (lost o t, equal_texts row o s t)
+child_of : (child : Table) (w : List Row) (row o : Row) → IsTexted row → IsTexted o → is_child_of (work child w) row (o, []) ≡ is_of (text_in o) row
+child_of child w row o s t = rw (lost o t, equal_texts row o s t)
 
 pairs_any : (f : Row × Row → Bool) (olds : List Row) → list_any f (pairs olds []) ≡ list_any (λ o. f (o, [])) olds
 pairs_any f [] = refl
@@ -132,12 +133,12 @@ module _ (p : Row → Bool) (rows : List Row) (ids : List ℤ) (keyed : AllByRec
       any_same f g [] all = refl
       any_same f g (x ∷ xs) all = rw (all.0, any_same f g xs all.1)
 
-  children_are : (row : Row) → IsTexted row → list_any (is_child_of (work (map (row_at rows) ids)) row) (pairs (map (row_at rows) ids) []) ≡ is_child p rows row
-  children_are row t =
-      pairs_any (is_child_of (work (map (row_at rows) ids)) row) (map (row_at rows) ids)
-      ∙ any_taken (λ o. is_child_of (work (map (row_at rows) ids)) row (o, []))
+  children_are : (child : Table) (row : Row) → IsTexted row → list_any (is_child_of (work child (map (row_at rows) ids)) row) (pairs (map (row_at rows) ids) []) ≡ is_child p rows row
+  children_are child row t =
+      pairs_any (is_child_of (work child (map (row_at rows) ids)) row) (map (row_at rows) ids)
+      ∙ any_taken (λ o. is_child_of (work child (map (row_at rows) ids)) row (o, []))
       ∙ any_same _ (λ o. is_of (text_in o) row) (filter p rows)
-      (all_from _ (filter p rows) (λ o h. child_of (map (row_at rows) ids) row o t (all_has IsTexted rows o texted (has_filtered p rows o h).0)))
+      (all_from _ (filter p rows) (λ o h. child_of child (map (row_at rows) ids) row o t (all_has IsTexted rows o texted (has_filtered p rows o h).0)))
     where
       any_same : (f g : Row → Bool) (xs : List Row) → AllByRecursion (λ r. f r ≡ g r) xs → list_any f xs ≡ list_any g xs
       any_same f g [] all = refl
@@ -153,9 +154,9 @@ module _ (p : Row → Bool) (rows : List Row) (ids : List ℤ) (keyed : AllByRec
       no_child (x ∷ xs) all e = absurd (let g : true ≡ false = sym (ap (λ b. b || list_any (λ o. loses plain (1 ∷ []) (o, [])) xs) (lost x all.0)) ∙ e in cc)
 
   -- where just the children have the rowids that are taken, the others are left
-  children_gone : (mid : Trees) (pieces : List Row) (ids' : List ℤ) → mid 3 ≡ pieces → AllByRecursion IsKeyed pieces → IsDistinct same_id pieces → AllByRecursion IsTexted pieces
-      → AreChildren mid (work (map (row_at rows) ids)) ids' → without_all (mid 3) ids' ≡ filter (λ r. not (is_child p rows r)) pieces
-  children_gone mid pieces ids' same pkeyed pd ptexted are =
+  children_gone : (child : Table) (mid : Trees) (pieces : List Row) (ids' : List ℤ) → mid child.tree ≡ pieces → AllByRecursion IsKeyed pieces → IsDistinct same_id pieces → AllByRecursion IsTexted pieces
+      → AreChildren mid (work child (map (row_at rows) ids)) ids' → without_all (mid child.tree) ids' ≡ filter (λ r. not (is_child p rows r)) pieces
+  children_gone child mid pieces ids' same pkeyed pd ptexted are =
       rw same (taken_out (is_child p rows) ids' pieces (all_from _ pieces (λ row h. same_test (list_any (λ id. has_rowid id row) ids') (is_child p rows row) (there row h) (back row h))))
     where
       there : (row : Row) → Has pieces row → list_any (λ id. has_rowid id row) ids' ≡ true → is_child p rows row ≡ true
@@ -164,45 +165,60 @@ module _ (p : Row → Bool) (rows : List Row) (ids : List ℤ) (keyed : AllByRec
           let one = are.sound it.0 it.1 in
           let tie : same_id row one.0 ≡ true = ap (λ v. is_eq (value_cmp (rowid row) v)) one.3 ∙ it.2 in
           let is : row ≡ one.0 = one_row pieces row one.0 pd h (subst (λ l. Has l one.0) same one.1) tie in
-          sym (children_are row (all_has IsTexted pieces row ptexted h)) ∙ ap (λ r. list_any (is_child_of (work (map (row_at rows) ids)) r) (pairs (map (row_at rows) ids) [])) is ∙ one.2
+          sym (children_are child row (all_has IsTexted pieces row ptexted h)) ∙ ap (λ r. list_any (is_child_of (work child (map (row_at rows) ids)) r) (pairs (map (row_at rows) ids) [])) is ∙ one.2
 
       back : (row : Row) → Has pieces row → is_child p rows row ≡ true → list_any (λ id. has_rowid id row) ids' ≡ true
       back row h e =
           let own : IsKeyed row = all_has IsKeyed pieces row pkeyed h in
-          let listed = are.complete row (id_in (rowid row)) (subst (λ l. Has l row) (sym same) h) (children_are row (all_has IsTexted pieces row ptexted h) ∙ e) own in
+          let listed = are.complete row (id_in (rowid row)) (subst (λ l. Has l row) (sym same) h) (children_are child row (all_has IsTexted pieces row ptexted h) ∙ e) own in
           some_from (λ id. has_rowid id row) ids' (id_in (rowid row)) listed (has_id row row own ∙ id_itself row)
 
--- the tables without the rows that a condition picks, and without their parts
+-- rows of a table, each with a number and a text
+pub record AreTexted (rows : List Row) : Type 0 where
+  pub keyed : AllByRecursion IsKeyed rows
+  pub ids : IsDistinct same_id rows
+  pub texted : AllByRecursion IsTexted rows
+
+-- the tables without the rows that a condition picks, and without their parts and reasons
 pub record AreLeft (p : Row → Bool) (db next : Trees) : Type 0 where
   pub releases : next 1 ≡ filter (λ r. not (p r)) (db 1)
   pub pieces : next 3 ≡ filter (λ r. not (is_child p (db 1) r)) (db 3)
+  pub reasons : next 5 ≡ filter (λ r. not (is_child p (db 1) r)) (db 5)
 
-pub removed : (p : Row → Bool) (db next : Trees) (gone : List ℤ) → AllByRecursion IsKeyed (db 1) → IsDistinct same_id (db 1) → AllByRecursion IsTexted (db 1)
-    → AllByRecursion IsKeyed (db 3) → IsDistinct same_id (db 3) → AllByRecursion IsTexted (db 3)
-    → IsPermutation (map (λ r. id_in (rowid r)) (filter p (db 1))) gone → Cascade db next gone → AreLeft p db next
-removed p db next gone keyed d texted pkeyed pd ptexted moved c = by c.then
-  where
-    rows : c.mid 1 ≡ filter (λ r. not (p r)) (db 1)
-    rows = c.first.rows ∙ left_rows p (db 1) gone keyed d moved
+module _ (p : Row → Bool) (db next : Trees) (gone : List ℤ) (releases : AreTexted (db 1)) (pieces : AreTexted (db 3)) (reasons : AreTexted (db 5))
+    (moved : IsPermutation (map (λ r. id_in (rowid r)) (filter p (db 1))) gone) (c : Cascade db next gone) where
+  rows : c.mid 1 ≡ filter (λ r. not (p r)) (db 1)
+  rows = c.first.rows ∙ left_rows p (db 1) gone releases.keyed releases.ids moved
 
-    by : ((lose c.olds ≡ false) × (next ≡ c.mid)) ⊎ ((lose c.olds ≡ true) × (ids : List ℤ) × AreChildren c.mid (work c.olds) ids
-        × (((ids ≡ []) × (next ≡ c.mid)) ⊎ Applies feed_schema Enforced c.mid (edit_of c.mid piece ids Given 0 []) next)) → AreLeft p db next
-    by (inl none) = record {
-      releases = ap (λ (t : Trees). t 1) none.1 ∙ rows;
-      pieces = ap (λ (t : Trees). t 3) none.1 ∙ c.first.tables.1.1.0 three_one
-          ∙ sym (keep_all (is_child p (db 1)) (db 3) (all_from _ (db 3) (λ r h. losing p (db 1) gone keyed d texted moved (ap lose (sym c.taken) ∙ none.0) r)));
-    }
-    by (inr (has, ids, are, inl none)) =
-        let mine = subst (λ o. AreChildren c.mid (work o) ids) c.taken are in
-        let pieces = children_gone p (db 1) gone keyed d texted moved c.mid (db 3) ids (c.first.tables.1.1.0 three_one) pkeyed pd ptexted mine in
-        record {
-          releases = ap (λ (t : Trees). t 1) none.1 ∙ rows;
-          pieces = ap (λ (t : Trees). t 3) none.1 ∙ ap (without_all (c.mid 3)) (sym none.0) ∙ pieces;
+  -- without the children of the picked rows, the others are left
+  left_of_table : (child : Table) (mid late : Trees) (these : List Row) → mid child.tree ≡ these → AreTexted these → Removes child c.olds mid late
+      → late child.tree ≡ filter (λ r. not (is_child p (db 1) r)) these
+  left_of_table child mid late these same are it =
+      let mine = subst (λ o. AreChildren mid (work child o) it.ids) c.taken it.are in
+      let gone_there = children_gone p (db 1) gone releases.keyed releases.ids releases.texted moved child mid these it.ids same are.keyed are.ids are.texted mine in
+      elim it.then [
+        | inl none ↦ ap (λ (t : Trees). t child.tree) none.1 ∙ ap (without_all (mid child.tree)) (sym none.0) ∙ gone_there
+        | inr later ↦ later.rows ∙ gone_there
+      ]
+
+  -- where no row had a key that is lost, none had a child
+  all_left : lose c.olds ≡ false → (these : List Row) → these ≡ filter (λ r. not (is_child p (db 1) r)) these
+  all_left none these = sym (keep_all (is_child p (db 1)) these
+      (all_from _ these (λ r h. losing p (db 1) gone releases.keyed releases.ids releases.texted moved (ap lose (sym c.taken) ∙ none) r)))
+
+  pub removed : AreLeft p db next
+  removed = elim c.then [
+    | inl none ↦ record {
+        releases = ap (λ (t : Trees). t 1) none.1 ∙ rows;
+        pieces = ap (λ (t : Trees). t 3) none.1 ∙ c.first.tables.1.1.0 three_one ∙ all_left none.0 (db 3);
+        reasons = ap (λ (t : Trees). t 5) none.1 ∙ c.first.tables.1.1.1.0 five_one ∙ all_left none.0 (db 5);
+      }
+    | inr (late, first, last) ↦
+        let parts_there : late 3 ≡ db 3 = removes_beside reason c.olds c.mid late 3 first (λ ids it. it.tables.1.1.0 three_five) ∙ c.first.tables.1.1.0 three_one in record {
+          releases = removes_beside piece c.olds late next 1 last (λ ids it. it.tables.1.0 one_three)
+              ∙ removes_beside reason c.olds c.mid late 1 first (λ ids it. it.tables.1.0 one_five) ∙ rows;
+          pieces = left_of_table piece late next (db 3) parts_there pieces last;
+          reasons = removes_beside piece c.olds late next 5 last (λ ids it. it.tables.1.1.1.0 five_three)
+              ∙ left_of_table reason c.mid late (db 5) (c.first.tables.1.1.1.0 five_one) reasons first;
         }
-    by (inr (has, ids, are, inr later)) =
-        let mine = subst (λ o. AreChildren c.mid (work o) ids) c.taken are in
-        let pieces = children_gone p (db 1) gone keyed d texted moved c.mid (db 3) ids (c.first.tables.1.1.0 three_one) pkeyed pd ptexted mine in
-        record {
-          releases = later.tables.1.0 one_three ∙ rows;
-          pieces = later.rows ∙ pieces;
-        }
+  ]

@@ -8,6 +8,7 @@ pub mod Gone
 pub mod Unique
 pub mod Ours
 pub mod Contents
+pub mod Explained
 pub mod DroppedReleases
 pub mod Puts
 pub mod Each
@@ -15,5 +16,6 @@ pub mod Inserted
 pub mod SetState
 pub mod AddedPart
 pub mod AddedRelease
+pub mod AddedReason
 pub mod AnyOrder
 pub mod ContentSet

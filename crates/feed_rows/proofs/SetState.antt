@@ -1,6 +1,6 @@
 -- What the statement that sets a state makes of the content.
 use Rattle.std.proofs.Common.{◌≡◌, ◌⊎◌, ◌&&◌, inl, inr, ℕ, ℤ, pos, List, [], ◌∷◌, ◌++◌, length, map, filter, drop}
-use Rattle.std.proofs.Common.{Bool, true, false, cond, not, IsPermutation, refl, sym, ap, subst, ◌∙◌, arith}
+use Rattle.std.proofs.Common.{Bool, true, false, cond, not, None, IsPermutation, refl, sym, ap, subst, ◌∙◌, arith}
 use Rattle.std.specs.List.{AllByRecursion, IsDistinct}
 use Rattle.std.specs.Cmp.Lexicographic.{bytes_decides}
 use Rattle.std.proofs.lemmas.Map.Keys.{IsDistinct-head, IsDistinct-tail}
@@ -31,7 +31,7 @@ use Rattle.feed_model.specs.Change.{changed}
 use Rattle.feed_model.proofs.Names.{name_is, name_self}
 use Rattle.feed_rows.specs.Layout.{release}
 use Rattle.feed_rows.specs.Records.{with_state}
-use Rattle.feed_rows.specs.Tables.{IsReleaseRow, AreRows, IsChanged, IsListed, IsOurs, release_row, number_of, state_at, same_id, text_in}
+use Rattle.feed_rows.specs.Tables.{IsReleaseRow, AreRows, AreReasons, IsChanged, IsEarlierListed, IsListed, IsOurs, earlier_content_of, release_row, number_of, state_at, same_id, text_in}
 use Rattle.feed_rows.specs.Tables.{name_in, is_of, record_in, parts_in, sorted, content_in, content_of}
 use Rattle.feed_rows.proofs.Basics.{same_test}
 use Rattle.feed_rows.proofs.Insertion.{sort_moved}
@@ -39,12 +39,13 @@ use Rattle.feed_rows.proofs.Order.{same_text, record_stops, record_laws, records
 use Rattle.feed_rows.proofs.Rows.{passes, answered, text_equal}
 use Rattle.feed_rows.proofs.Conditions.{with_new_state}
 use Rattle.feed_rows.proofs.Gone.{left_rows, same_filter}
-use Rattle.feed_rows.proofs.Unique.{same_texts, distinct_texts, distinct_some}
-use Rattle.feed_rows.proofs.Ours.{KeepsLayout, still_ours}
-use Rattle.feed_rows.proofs.Contents.{distinct_records, release_text, release_texted, map_same, keyed_releases, texted_releases}
+use Rattle.feed_rows.proofs.Unique.{same_texts, distinct_texts, distinct_some, single}
+use Rattle.feed_rows.proofs.Ours.{KeepsLayout, still_ours, tables_of}
+use Rattle.feed_rows.proofs.Contents.{distinct_records, release_text, release_texted, map_same, texted_releases}
 use Rattle.feed_rows.proofs.Inserted.{cast_int, free_from}
 use Rattle.feed_rows.proofs.Puts.{put_moved, put_distinct}
 use Rattle.feed_rows.proofs.Each.{each, each_content, one_name}
+use Rattle.feed_rows.proofs.Explained.{explained_changed}
 
 -- the row that the statement changes, if any
 pub record Sets (name : List ℕ) (status : ℤ) (old new : Database) : Type 0 where
@@ -55,6 +56,7 @@ pub record Sets (name : List ℕ) (status : ℤ) (old new : Database) : Type 0 w
   pub fresh : are_fresh (left_by old.trees (edit_of old.trees release (ids_of rows) Given 1 rows))
       (edit_of old.trees release (ids_of rows) Given 1 rows).news ≡ true
   pub pieces : new.trees 3 ≡ old.trees 3
+  pub reasons : new.trees 5 ≡ old.trees 5
 
 pub state_back : (s : State) → state_at (number_of s) ≡ s
 state_back Staged = refl
@@ -71,26 +73,6 @@ picks_is text status r h = rw (release_texted r h, text_equal (text_in r) text) 
     last : (b : Bool) → (b && true) ≡ b
     last true = refl
     last false = refl
-
-none_of : (t : List ℕ) (r : Row) (xs : List Row) → is_of t r ≡ true → AllByRecursion (λ y. same_texts r y ≡ false) xs → filter (is_of t) xs ≡ []
-none_of t r [] e apart = refl
-none_of t r (x ∷ xs) e apart = at (is_of t x) refl (none_of t r xs e apart.1)
-  where
-    at : (b : Bool) → is_of t x ≡ b → filter (is_of t) xs ≡ [] → cond b (x ∷ filter (is_of t) xs) (filter (is_of t) xs) ≡ []
-    at false f more = more
-    at true f more =
-        let tie : same_texts r x ≡ true = (bytes_decides (text_in r) (text_in x)).1 ((bytes_decides (text_in r) t).0 e ∙ sym ((bytes_decides (text_in x) t).0 f)) in
-        absurd (let g : true ≡ false = sym tie ∙ apart.0 in cc)
-
--- at most one row has a text
-single : (t : List ℕ) (rows : List Row) → IsDistinct same_texts rows → (filter (is_of t) rows ≡ []) ⊎ ((r : Row) × (filter (is_of t) rows ≡ r ∷ []))
-single t [] d = inl refl
-single t (r ∷ rows) d = by (is_of t r) refl (single t rows (IsDistinct-tail same_texts r rows d))
-  where
-    by : (b : Bool) → is_of t r ≡ b → (filter (is_of t) rows ≡ []) ⊎ ((r : Row) × (filter (is_of t) rows ≡ r ∷ []))
-        → (cond b (r ∷ filter (is_of t) rows) (filter (is_of t) rows) ≡ []) ⊎ ((s : Row) × (cond b (r ∷ filter (is_of t) rows) (filter (is_of t) rows) ≡ s ∷ []))
-    by true e more = inr (r, ap (λ l. r ∷ l) (none_of t r rows e (IsDistinct-head same_texts r rows d)))
-    by false e more = more
 
 -- a row has the text of the name just where it is the name's
 named_is : (n : Name) (r : Row) → IsName (text_of n) n → IsReleaseRow r → is_of (text_of n) r ≡ name_eq (name_in r) n
@@ -130,8 +112,8 @@ module _ (n : Name) (s : State) (named : IsName (text_of n) n) where
   record_is : (pieces : List Row) (r : Row) → IsReleaseRow r → record_in pieces (renewed r s) ≡ with_state s (record_in pieces r)
   unfolding renewed
   record_is pieces r h =
-      ap (λ (st : State). let x : Record = record { name = name_in r; size = number_in (column r 4); state = st; parts = parts_in pieces (text_of (name_in r)) } in x) (state_back s)
-      ∙ ap (λ (u : List ℕ). let x : Record = record { name = name_in r; size = number_in (column r 4); state = s; parts = parts_in pieces u } in x) (sym (release_text r h))
+      ap (λ (st : State). let x : Record = record { name = name_in r; size = number_in (column r 4); state = st; reason = None; parts = parts_in pieces (text_of (name_in r)) } in x) (state_back s)
+      ∙ ap (λ (u : List ℕ). let x : Record = record { name = name_in r; size = number_in (column r 4); state = s; reason = None; parts = parts_in pieces u } in x) (sym (release_text r h))
 
   others_same : (pieces xs : List Row) → AllByRecursion IsReleaseRow xs → AllByRecursion (λ r. is_of t r ≡ false) xs
       → map (λ r. each n (with_state s) (record_in pieces r)) xs ≡ map (record_in pieces) xs
@@ -237,7 +219,7 @@ renewed_rows n s named old new are apart it = by (single t rows apart)
         let h = all_has IsReleaseRow rows r are.are_releases here.0 in
         let ids : IsPermutation (map (λ x. id_in (rowid x)) (filter (is_of t) rows)) (id_in (rowid r) ∷ []) =
         subst (λ l. IsPermutation (map (λ x. id_in (rowid x)) l) (id_in (rowid r) ∷ [])) (sym only) (IsPermutation-refl (id_in (rowid r) ∷ [])) in
-        let left = left_rows (is_of t) rows (id_in (rowid r) ∷ []) (keyed_releases rows (old.trees 3) are) are.ids ids in
+        let left = left_rows (is_of t) rows (id_in (rowid r) ∷ []) (texted_releases rows (old.trees 3) are).keyed are.ids ids in
         let same : new.trees 1 ≡ put_row (renewed r s) (filter (λ x. not (is_of t x)) rows) =
         it.releases ∙ ap (λ l. edited old.trees (edit_of old.trees release (ids_of l) Given 1 l)) just
         ∙ ap (λ x. put_row x (without_all rows (id_in (rowid r) ∷ []))) (written n s named r h) ∙ ap (put_row (renewed r s)) left in
@@ -251,18 +233,22 @@ renewed_rows n s named old new are apart it = by (single t rows apart)
 module _ (n : Name) (s : State) (named : IsName (text_of n) n) (old new : Database) (ours : IsOurs old)
     (it : Sets (text_of n) (pos (number_of s)) old new) (are : IsListed old) where
   apart : IsDistinct same_texts (old.trees 1)
-  apart = distinct_texts old ours.schema ours.obeyed (keyed_releases _ _ are) (texted_releases _ _ are) are.ids
+  apart = distinct_texts old (tables_of old ours.schema ours.obeyed) (texted_releases _ _ are.rows)
 
   news : AreRenewed n s named (old.trees 1) (old.trees 3) (new.trees 1)
-  news = renewed_rows n s named old new are apart it
+  news = renewed_rows n s named old new are.rows apart it
+
+  rows : IsEarlierListed new
+  rows = rw it.pieces (record { are_releases = news.are_releases; are_pieces = are.rows.are_pieces; ids = news.ids; piece_ids = are.rows.piece_ids })
 
   listed : IsListed new
-  listed = rw it.pieces (record { are_releases = news.are_releases; are_pieces = are.are_pieces; ids = news.ids; piece_ids = are.piece_ids })
+  listed = record { rows = rows; reasons = subst AreReasons (sym it.reasons) are.reasons }
 
   content : content_of new ≡ changed n (with_state s) (content_of old)
   content =
-      let texts = distinct_texts new it.keeps.schema it.keeps.sound (keyed_releases _ _ listed) (texted_releases _ _ listed) listed.ids in
-      rw it.pieces (news.content texts)
+      let texts = distinct_texts new (tables_of new it.keeps.schema it.keeps.sound) (texted_releases _ _ rows) in
+      let bare : earlier_content_of new ≡ changed n (with_state s) (earlier_content_of old) = rw it.pieces (news.content texts) in
+      rw (it.reasons, bare) (explained_changed (old.trees 5) n (with_state s) (λ r. refl) (λ r. refl) (earlier_content_of old))
 
 pub sets_state : (n : Name) (s : State) (old new : Database) → IsName (text_of n) n → IsOurs old → Sets (text_of n) (pos (number_of s)) old new
     → IsChanged (changed n (with_state s)) old new

@@ -1,5 +1,5 @@
 -- What the rules of the tables say of their rows: no name stands twice, and no place of a name.
-use Rattle.std.proofs.Common.{◌≡◌, inl, inr, ◌==◌, ◌&&◌, ℕ, pos, List, [], ◌∷◌, map, filter, Bool, true, false, cond, refl, sym, subst, ◌∙◌, arith}
+use Rattle.std.proofs.Common.{◌≡◌, ◌⊎◌, inl, inr, ◌==◌, ◌&&◌, ℕ, pos, List, [], ◌∷◌, map, filter, Bool, true, false, cond, refl, sym, ap, subst, ◌∙◌, arith}
 use Rattle.std.specs.List.{AllByRecursion, IsDistinct}
 use Rattle.std.specs.Ordering.{is_eq, is_ne}
 use Rattle.std.specs.declared.cmp.Ordering.{Ordering}
@@ -18,21 +18,27 @@ use Rattle.sqlite_rules.specs.Edit.{id_in}
 use Rattle.sqlite_rules.proofs.ListLemmas.{all_has, all_from, some_from, has_filtered}
 use Rattle.sqlite.specs.Effect.{Database, IsDatabase}
 use Rattle.sqlite_catalog.specs.Listing.{IsSound}
-use Rattle.feed_rows.specs.Layout.{feed_schema, release, piece}
-use Rattle.feed_rows.specs.Tables.{same_id, text_in, part_in, is_of}
+use Rattle.sqlite.specs.Table.{Table}
+use Rattle.sqlite_schema.specs.declared.schema.Index.{Index}
+use Rattle.std.proofs.lemmas.Map.Keys.{IsDistinct-head, IsDistinct-tail}
+use Rattle.feed_rows.specs.Layout.{schema_with, feed_schema, release, piece, reason}
+use Rattle.feed_rows.specs.Tables.{HasTables, same_id, text_in, part_in, is_of}
 use Rattle.feed_rows.proofs.Rows.{IsKeyed}
 use Rattle.feed_rows.proofs.Order.{same_first}
 use Rattle.std.proofs.lemmas.Cmp.{tied_itself, int_cmp_total}
 use Rattle.std.proofs.lemmas.Bool.Decides.{nat_tests}
 use Rattle.sqlite_value.proofs.OrderLemmas.{value_cmp-Int}
-use Rattle.feed_rows.proofs.Basics.{held, not_broken}
-use Rattle.feed_rows.proofs.Gone.{IsTexted, equal_texts}
+use Rattle.feed_rows.proofs.Basics.{held, not_broken, first_unbroken}
+use Rattle.feed_rows.proofs.Gone.{IsTexted, AreTexted, equal_texts}
 
 abbrev pub same_texts : Row → Row → Bool
 same_texts a b = pointwise ◌==◌ (text_in a) (text_in b)
 
-clash_free : (db : Trees) (row : Row) → passes Unique feed_schema db release row ≡ true → clashes plain (1 ∷ []) (db 1) row ≡ false
-clash_free db row h = not_broken (clashes plain (1 ∷ []) (db 1) row) h
+clash_free : (more : List Table) (keys : List Index) (db : Trees) (row : Row) → passes Unique (schema_with more keys) db release row ≡ true → clashes plain (1 ∷ []) (db 1) row ≡ false
+clash_free more keys db row h = first_unbroken (clashes plain (1 ∷ []) (db 1) row) _ h
+
+reason_free : (db : Trees) (row : Row) → passes Unique feed_schema db reason row ≡ true → clashes plain (1 ∷ []) (db 5) row ≡ false
+reason_free db row h = not_broken (clashes plain (1 ∷ []) (db 5) row) h
 
 untied : (o : Ordering) → is_eq o ≡ false → is_ne o ≡ true
 untied Equal e = absurd (let g : true ≡ false = e in cc)
@@ -73,8 +79,8 @@ distinct_some p (x ∷ xs) d = by (p x) (distinct_some p xs d.1)
     by true more = (all_from _ (filter p xs) (λ y h. all_has (λ y. same_id x y ≡ false) xs y d.0 (has_filtered p xs y h).0), more)
     by false more = more
 
-piece_free : (db : Trees) (row : Row) → passes Unique feed_schema db piece row ≡ true → clashes plain (1 ∷ 2 ∷ []) (db 3) row ≡ false
-piece_free db row h = not_broken (clashes plain (1 ∷ 2 ∷ []) (db 3) row) h
+piece_free : (more : List Table) (keys : List Index) (db : Trees) (row : Row) → passes Unique (schema_with more keys) db piece row ≡ true → clashes plain (1 ∷ 2 ∷ []) (db 3) row ≡ false
+piece_free more keys db row h = first_unbroken (clashes plain (1 ∷ 2 ∷ []) (db 3) row) _ h
 
 -- a row whose second column is a place
 abbrev pub IsPlaced : Row → Type 0
@@ -122,21 +128,50 @@ module _ (rows : List Row) (keyed : AllByRecursion IsKeyed rows) (texted : AllBy
       others x here (y ∷ ys) among apart = (places_apart_from x y here.0 (among y (inl refl)).0 apart.0 here.1 (among y (inl refl)).1, others x here ys (λ z h. among z (inr h)) apart.1)
 
 -- no two parts of a name have one place
-pub distinct_places : (db : Database) → db.schema ≡ feed_schema → IsDatabase db → AllByRecursion IsKeyed (db.trees 3) → AllByRecursion IsTexted (db.trees 3)
-    → AllByRecursion IsPlaced (db.trees 3) → IsDistinct same_id (db.trees 3)
+pub distinct_places : (db : Database) → HasTables db → AreTexted (db.trees 3) → AllByRecursion IsPlaced (db.trees 3)
     → (t : List ℕ) → IsDistinct same_first (map part_in (filter (is_of t) (db.trees 3)))
-distinct_places db has sound keyed texted placed d t =
-    let is : IsSound feed_schema db.trees = subst (λ s. IsSound s db.trees) has sound in
+distinct_places db has are placed t =
+    let s = schema_with has.more has.keys in
+    let is : IsSound s db.trees = subst (λ s. IsSound s db.trees) has.schema has.obeyed in
     let rules = (is.obeys.rules Unique).1.1.0 in
-    firsts_apart (db.trees 3) keyed texted placed (all_from _ (db.trees 3)
-    (λ r h. piece_free db.trees r (all_has (λ row. passes Unique feed_schema db.trees piece row ≡ true) (db.trees 3) r rules h))) t
-    (filter (is_of t) (db.trees 3)) (λ x h. has_filtered (is_of t) (db.trees 3) x h) (distinct_some (is_of t) (db.trees 3) d)
+    firsts_apart (db.trees 3) are.keyed are.texted placed (all_from _ (db.trees 3)
+    (λ r h. piece_free has.more has.keys db.trees r (all_has (λ row. passes Unique s db.trees piece row ≡ true) (db.trees 3) r rules h))) t
+    (filter (is_of t) (db.trees 3)) (λ x h. has_filtered (is_of t) (db.trees 3) x h) (distinct_some (is_of t) (db.trees 3) are.ids)
 
 -- no two releases have one text
-pub distinct_texts : (db : Database) → db.schema ≡ feed_schema → IsDatabase db → AllByRecursion IsKeyed (db.trees 1) → AllByRecursion IsTexted (db.trees 1)
-    → IsDistinct same_id (db.trees 1) → IsDistinct same_texts (db.trees 1)
-distinct_texts db has sound keyed texted d =
-    let is : IsSound feed_schema db.trees = subst (λ s. IsSound s db.trees) has sound in
+pub distinct_texts : (db : Database) → HasTables db → AreTexted (db.trees 1) → IsDistinct same_texts (db.trees 1)
+distinct_texts db has are =
+    let s = schema_with has.more has.keys in
+    let is : IsSound s db.trees = subst (λ s. IsSound s db.trees) has.schema has.obeyed in
     let rules = (is.obeys.rules Unique).1.0 in
-    texts_apart (db.trees 1) keyed texted (all_from _ (db.trees 1)
-    (λ r h. clash_free db.trees r (all_has (λ row. passes Unique feed_schema db.trees release row ≡ true) (db.trees 1) r rules h))) (db.trees 1) (λ x h. h) d
+    texts_apart (db.trees 1) are.keyed are.texted (all_from _ (db.trees 1)
+    (λ r h. clash_free has.more has.keys db.trees r (all_has (λ row. passes Unique s db.trees release row ≡ true) (db.trees 1) r rules h))) (db.trees 1) (λ x h. h) are.ids
+
+-- no two reasons have one text
+pub distinct_reasons : (db : Database) → db.schema ≡ feed_schema → IsDatabase db → AreTexted (db.trees 5) → IsDistinct same_texts (db.trees 5)
+distinct_reasons db has sound are =
+    let is : IsSound feed_schema db.trees = subst (λ s. IsSound s db.trees) has sound in
+    let rules = (is.obeys.rules Unique).1.1.1.0 in
+    texts_apart (db.trees 5) are.keyed are.texted (all_from _ (db.trees 5)
+    (λ r h. reason_free db.trees r (all_has (λ row. passes Unique feed_schema db.trees reason row ≡ true) (db.trees 5) r rules h))) (db.trees 5) (λ x h. h) are.ids
+
+-- ---- at most one row has a text
+
+none_of : (t : List ℕ) (r : Row) (xs : List Row) → is_of t r ≡ true → AllByRecursion (λ y. same_texts r y ≡ false) xs → filter (is_of t) xs ≡ []
+none_of t r [] e apart = refl
+none_of t r (x ∷ xs) e apart = at (is_of t x) refl (none_of t r xs e apart.1)
+  where
+    at : (b : Bool) → is_of t x ≡ b → filter (is_of t) xs ≡ [] → cond b (x ∷ filter (is_of t) xs) (filter (is_of t) xs) ≡ []
+    at false f more = more
+    at true f more =
+        let tie : same_texts r x ≡ true = (bytes_decides (text_in r) (text_in x)).1 ((bytes_decides (text_in r) t).0 e ∙ sym ((bytes_decides (text_in x) t).0 f)) in
+        absurd (let g : true ≡ false = sym tie ∙ apart.0 in cc)
+
+pub single : (t : List ℕ) (rows : List Row) → IsDistinct same_texts rows → (filter (is_of t) rows ≡ []) ⊎ ((r : Row) × (filter (is_of t) rows ≡ r ∷ []))
+single t [] d = inl refl
+single t (r ∷ rows) d = by (is_of t r) refl (single t rows (IsDistinct-tail same_texts r rows d))
+  where
+    by : (b : Bool) → is_of t r ≡ b → (filter (is_of t) rows ≡ []) ⊎ ((r : Row) × (filter (is_of t) rows ≡ r ∷ []))
+        → (cond b (r ∷ filter (is_of t) rows) (filter (is_of t) rows) ≡ []) ⊎ ((s : Row) × (cond b (r ∷ filter (is_of t) rows) (filter (is_of t) rows) ≡ s ∷ []))
+    by true e more = inr (r, ap (λ l. r ∷ l) (none_of t r rows e (IsDistinct-head same_texts r rows d)))
+    by false e more = more

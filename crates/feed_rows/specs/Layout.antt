@@ -12,6 +12,7 @@ use Rattle.sqlite_sql.specs.declared.ops.BinaryOp.TheVariants.{Compare, And}
 use Rattle.sqlite_sql.specs.declared.ops.CompareOp.{CompareOp}
 use Rattle.sqlite_sql.specs.declared.ops.CompareOp.TheVariants.{Ge, Le}
 use Rattle.sqlite_schema.specs.declared.schema.Column.{Column}
+use Rattle.sqlite_schema.specs.declared.schema.Index.{Index}
 use Rattle.sqlite_schema.specs.declared.schema.Reference.{Reference}
 use Rattle.sqlite_schema.specs.declared.schema.Action.TheVariants.{Cascade, NoAction}
 
@@ -44,6 +45,10 @@ column_of kind name = record { name = name; kind = kind; is_strict = true; not_n
 abbrev pub bound_by : CompareOp → ℕ → ℕ → Term
 bound_by how place n = op2 (Compare how Binary) (col 1 place) (lit (Int (pos n)))
 
+-- the column at this place lies between two numbers
+abbrev pub between : ℕ → ℕ → ℕ → Term
+between place least most = op2 And (bound_by Ge place least) (bound_by Le place most)
+
 -- the number of the layout
 abbrev pub layout : Table
 layout = record no_table {
@@ -63,10 +68,10 @@ release = record no_table {
   primary = 1 ∷ [];
   uniques = (1 ∷ []) ∷ [];
   orders = (record { digits = 0 }) ∷ [];
-  checks = bound_by Ge 4 0 ∷ op2 And (bound_by Ge 5 0) (bound_by Le 5 2) ∷ [];
+  checks = bound_by Ge 4 0 ∷ between 5 0 2 ∷ [];
 }
 
--- a part goes with its release
+-- a part or a reason goes with its release
 abbrev pub owner : Reference
 owner = record {
   columns = 1 ∷ [];
@@ -90,10 +95,31 @@ piece = record no_table {
   references = owner ∷ [];
 }
 
--- the three tables and no other, with the indexes that their unique keys have
-abbrev pub feed_schema : Schema
-feed_schema = record {
-  tables = layout ∷ release ∷ piece ∷ [];
-  indexes = automatics release 0 2 release.uniques ++ automatics piece 0 4 piece.uniques;
+-- a row for each broken release: its name, the number of the reason, and the place of the label that it names
+abbrev pub reason : Table
+reason = record no_table {
+  name = codes "feed_reason";
+  tree = 5;
+  columns = column_of Text (codes "name") ∷ column_of Integer (codes "reason") ∷ column_of Integer (codes "label") ∷ [];
+  primary = 1 ∷ [];
+  uniques = (1 ∷ []) ∷ [];
+  orders = (record { digits = 0 }) ∷ [];
+  checks = between 2 1 5 ∷ between 3 0 13 ∷ [];
+  references = owner ∷ [];
+}
+
+-- the first three tables and more behind them, with the indexes that their unique keys have
+abbrev pub schema_with : List Table → List Index → Schema
+schema_with more keys = record {
+  tables = layout ∷ release ∷ piece ∷ more;
+  indexes = automatics release 0 2 release.uniques ++ automatics piece 0 4 piece.uniques ++ keys;
   views = [];
 }
+
+-- layout 1: the three tables and no other
+abbrev pub earlier_schema : Schema
+earlier_schema = schema_with [] []
+
+-- layout 2: the four tables and no other
+abbrev pub feed_schema : Schema
+feed_schema = schema_with (reason ∷ []) (automatics reason 0 6 reason.uniques)

@@ -1,9 +1,12 @@
 -- What the tables hold.
-use Rattle.std.specs.Prelude.{◌≡◌, ◌≤◌, ◌==◌, ℕ, ℤ, pos, Bool, if◌then◌else◌, List, [], ◌∷◌, map, filter}
+use Rattle.std.specs.Prelude.{◌≡◌, ◌≤◌, ◌==◌, ◌&&◌, ℕ, ℤ, pos, Bool, nat_le, if◌then◌else◌, List, [], ◌∷◌, Option, Some, None, IsSome, map, filter, option_map}
 use Rattle.std.specs.List.{AllByRecursion, IsDistinct}
 use Rattle.std.specs.Ordering.{is_eq}
 use Rattle.std.specs.Cmp.Lexicographic.{pointwise}
 use Rattle.feed_names.specs.ReleaseName.{Name, IsName, text_of}
+use Rattle.feed_kbart.specs.declared.fault.BadFile.{BadFile}
+use Rattle.feed_kbart.specs.declared.fault.BadFile.TheVariants.{NotUtf8, TwoMarks, NoHeader, MissingLabel, LabelTwice}
+use Rattle.feed_kbart.specs.Labels.{label_at}
 use Rattle.feed_model.specs.declared.state.State.{State}
 use Rattle.feed_model.specs.declared.state.State.TheVariants.{Staged, Broken, Active}
 use Rattle.feed_model.specs.Reply.{max_file}
@@ -15,7 +18,9 @@ use Rattle.sqlite_trees.specs.Tree.{rowid}
 use Rattle.sqlite_trees.specs.Objects.{number_in}
 use Rattle.sqlite_rules.specs.Edit.{id_in}
 use Rattle.sqlite.specs.Effect.{Database, IsDatabase}
-use Rattle.feed_rows.specs.Layout.{feed_schema}
+use Rattle.sqlite.specs.Table.{Table}
+use Rattle.sqlite_schema.specs.declared.schema.Index.{Index}
+use Rattle.feed_rows.specs.Layout.{schema_with, earlier_schema, feed_schema}
 
 -- ---- the content, of any rows whatever
 
@@ -54,12 +59,13 @@ sorted_parts (p ∷ ps) = insert_part p (sorted_parts ps)
 abbrev pub parts_in : List Row → List ℕ → List Part
 parts_in pieces text = sorted_parts (map part_in (filter (is_of text) pieces))
 
--- the record of a release's row, with the parts of its name
+-- the record of a release's row, with the parts of its name, and without a reason
 abbrev pub record_in : List Row → Row → Record
 record_in pieces row = record {
   name = name_in row;
   size = number_in (column row 4);
   state = state_at (number_in (column row 5));
+  reason = None;
   parts = parts_in pieces (text_in row);
 }
 
@@ -68,13 +74,44 @@ abbrev pub sorted : List Record → Content
 sorted [] = []
 sorted (r ∷ rs) = insert_record r (sorted rs)
 
--- the content of rows of releases, and of parts
+-- the content of rows of releases, and of parts, without reasons
 abbrev pub content_in : List Row → List Row → Content
 content_in releases pieces = sorted (map (record_in pieces) releases)
 
--- the content of a database: its releases, each with the parts of its name, and nothing else
+-- the reason that a number and the place of a label stand for, if they stand for one
+abbrev pub reason_at : ℕ → ℕ → Option BadFile
+reason_at number place =
+    if number == 1 && place == 0 then Some NotUtf8
+    else if number == 2 && place == 0 then Some TwoMarks
+    else if number == 3 && place == 0 then Some NoHeader
+    else if number == 4 && nat_le place 8 then option_map MissingLabel (label_at place)
+    else if number == 5 then option_map LabelTwice (label_at place)
+    else None
+
+-- the reason that a row says
+abbrev pub said_in : Row → Option BadFile
+said_in row = reason_at (number_in (column row 2)) (number_in (column row 3))
+
+-- the reason of a name: that of the first row that is of it
+abbrev pub reason_in : List Row → List ℕ → Option BadFile
+reason_in [] text = None
+reason_in (row ∷ rows) text = if is_of text row then said_in row else reason_in rows text
+
+-- the record with the reason of its name
+abbrev pub explained_by : List Row → Record → Record
+explained_by reasons r = record r { reason = reason_in reasons (text_of r.name) }
+
+-- the content with the reasons of its names
+abbrev pub explained : List Row → Content → Content
+explained reasons c = map (explained_by reasons) c
+
+-- the content of a database of layout 1: its releases, each with the parts of its name, and nothing else
+abbrev pub earlier_content_of : Database → Content
+earlier_content_of db = content_in (db.trees 1) (db.trees 3)
+
+-- the content of a database of layout 2: the same, with the reasons
 abbrev pub content_of : Database → Content
-content_of db = content_in (db.trees 1) (db.trees 3)
+content_of db = explained (db.trees 5) (earlier_content_of db)
 
 -- ---- the rows that this product writes
 
@@ -87,9 +124,13 @@ release_row id n size state =
 abbrev pub piece_row : ℤ → List ℕ → Part → Row
 piece_row id text p = Int id ∷ Text text ∷ Int (pos p.first) ∷ Blob p.bytes ∷ []
 
--- the row of the layout, whose number is 1; an integer that is the primary key stands in front, and not in its column
-abbrev pub version_row : Row
-version_row = Int (pos 1) ∷ Null ∷ []
+-- a row of a reason
+abbrev pub reason_row : ℤ → List ℕ → ℕ → ℕ → Row
+reason_row id text number place = Int id ∷ Text text ∷ Int (pos number) ∷ Int (pos place) ∷ []
+
+-- the row of the layout with its number; an integer that is the primary key stands in front, and not in its column
+abbrev pub version_row : ℕ → Row
+version_row number = Int (pos number) ∷ Null ∷ []
 
 -- a row of a release: its text is the name that its package and day make, and its size is within the limit
 pub record IsReleaseRow (row : Row) : Type 0 where
@@ -100,6 +141,11 @@ pub record IsReleaseRow (row : Row) : Type 0 where
 -- a row of a part
 abbrev pub IsPieceRow : Row → Type 0
 IsPieceRow row = row ≡ piece_row (id_in (rowid row)) (text_in row) (part_in row)
+
+-- a row of a reason, which its number and the place of its label stand for
+pub record IsReasonRow (row : Row) : Type 0 where
+  pub is : row ≡ reason_row (id_in (rowid row)) (text_in row) (number_in (column row 2)) (number_in (column row 3))
+  pub said : IsSome (said_in row)
 
 -- two rows have one rowid
 abbrev pub same_id : Row → Row → Bool
@@ -112,15 +158,38 @@ pub record AreRows (releases pieces : List Row) : Type 0 where
   pub ids : IsDistinct same_id releases
   pub piece_ids : IsDistinct same_id pieces
 
+-- reasons that this product writes, each with a number of its own
+pub record AreReasons (reasons : List Row) : Type 0 where
+  pub are : AllByRecursion IsReasonRow reasons
+  pub ids : IsDistinct same_id reasons
+
+-- the tables of layout 1 hold a list of records
+abbrev pub IsEarlierListed : Database → Type 0
+IsEarlierListed db = AreRows (db.trees 1) (db.trees 3)
+
 -- the tables hold a list of records
-abbrev pub IsListed : Database → Type 0
-IsListed db = AreRows (db.trees 1) (db.trees 3)
+pub record IsListed (db : Database) : Type 0 where
+  pub rows : IsEarlierListed db
+  pub reasons : AreReasons (db.trees 5)
+
+-- the database has the first three tables, whatever tables and indexes stand behind them, and its rules hold
+pub record HasTables (db : Database) : Type 0 where
+  pub more : List Table
+  pub keys : List Index
+  pub schema : db.schema ≡ schema_with more keys
+  pub obeyed : IsDatabase db
 
 -- the database has the tables of layout 1 and no other, its rules hold, and the layout's number is 1
+pub record IsEarlier (db : Database) : Type 0 where
+  pub schema : db.schema ≡ earlier_schema
+  pub obeyed : IsDatabase db
+  pub version : map rowid (db.trees 0) ≡ Int (pos 1) ∷ []
+
+-- the database has the tables of layout 2 and no other, its rules hold, and the layout's number is 2
 pub record IsOurs (db : Database) : Type 0 where
   pub schema : db.schema ≡ feed_schema
   pub obeyed : IsDatabase db
-  pub version : map rowid (db.trees 0) ≡ Int (pos 1) ∷ []
+  pub version : map rowid (db.trees 0) ≡ Int (pos 2) ∷ []
 
 -- what a change makes of a database of ours: it stays ours, and where it held a list of records, that is changed so
 pub record IsChanged (f : Content → Content) (old new : Database) : Type 0 where
