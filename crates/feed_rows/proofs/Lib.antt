@@ -19,3 +19,4 @@ pub mod AddedRelease
 pub mod AddedReason
 pub mod AnyOrder
 pub mod ContentSet
+pub mod Stored

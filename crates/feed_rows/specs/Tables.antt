@@ -1,12 +1,12 @@
 -- What the tables hold.
 use Rattle.std.specs.Prelude.{◌≡◌, ◌≤◌, ◌==◌, ◌&&◌, ℕ, ℤ, pos, Bool, nat_le, if◌then◌else◌, List, [], ◌∷◌, Option, Some, None, IsSome, map, filter, option_map}
-use Rattle.std.specs.List.{AllByRecursion, IsDistinct}
+use Rattle.std.specs.List.{AllByRecursion, Contains, IsDistinct}
 use Rattle.std.specs.Ordering.{is_eq}
 use Rattle.std.specs.Cmp.Lexicographic.{pointwise}
 use Rattle.feed_names.specs.ReleaseName.{Name, IsName, text_of}
 use Rattle.feed_kbart.specs.declared.fault.BadFile.{BadFile}
 use Rattle.feed_kbart.specs.declared.fault.BadFile.TheVariants.{NotUtf8, TwoMarks, NoHeader, MissingLabel, LabelTwice}
-use Rattle.feed_kbart.specs.Labels.{label_at}
+use Rattle.feed_kbart.specs.Labels.{label_at, required_labels}
 use Rattle.feed_model.specs.declared.state.State.{State}
 use Rattle.feed_model.specs.declared.state.State.TheVariants.{Staged, Broken, Active}
 use Rattle.feed_model.specs.Reply.{max_file}
@@ -87,6 +87,11 @@ reason_at number place =
     else if number == 4 && nat_le place 8 then option_map MissingLabel (label_at place)
     else if number == 5 then option_map LabelTwice (label_at place)
     else None
+
+-- a reason of a file: a label that is missing is one that a file must have
+abbrev pub IsStored : BadFile → Type 0
+IsStored (MissingLabel label) = Contains required_labels label
+IsStored why = Unit {0}
 
 -- the reason that a row says
 abbrev pub said_in : Row → Option BadFile

@@ -25,12 +25,13 @@ use Rattle.sqlite.proofs.Callers.{IsPlain, command_of, statement_of, runs_as, on
 use Rattle.feed_names.specs.ReleaseName.{Name, text_of}
 use Rattle.feed_model.specs.Content.{Part}
 use Rattle.feed_model.specs.declared.state.State as model
-use Rattle.feed_rows.specs.Layout.{feed_schema, layout, release, piece}
+use Rattle.feed_rows.specs.Layout.{feed_schema, layout, release, piece, reason}
 use Rattle.feed_rows.specs.Tables.{number_of, version_row}
 use Rattle.feed_rows.proofs.AddedPart.{part_row}
+use Rattle.feed_rows.proofs.AddedReason.{said_row}
 use Rattle.feed_rows.proofs.AddedRelease.{new_row}
 use Rattle.feed_rows.proofs.Inserted.{Puts, cast_null, cast_int, free_from}
-use Rattle.feed_statements.specs.Texts.{insert_text, part_text, version_text}
+use Rattle.feed_statements.specs.Texts.{insert_text, part_text, said_text, version_text}
 use Rattle.feed_statements.proofs.Runs.{went, same_value}
 
 -- the row that the sources of an insertion make
@@ -109,7 +110,18 @@ piece_plain : IsPlain (understood feed_schema part_text)
 unfolding understood everything
 piece_plain = (refl, refl)
 
-version_is : command_of (understood feed_schema version_text) ≡ Insert 0 (Values (lit (Int (pos 1)) ∷ lit Null ∷ []) 2)
+abbrev reason_terms : List Term
+reason_terms = lit Null ∷ col 0 0 ∷ col 0 1 ∷ col 0 2 ∷ []
+
+reason_is : command_of (understood feed_schema said_text) ≡ Insert 3 (Values reason_terms 4)
+unfolding understood everything
+reason_is = refl
+
+reason_plain : IsPlain (understood feed_schema said_text)
+unfolding understood everything
+reason_plain = (refl, refl)
+
+version_is : command_of (understood feed_schema version_text) ≡ Insert 0 (Values (lit (Int (pos 2)) ∷ lit Null ∷ []) 2)
 unfolding understood everything
 version_is = refl
 
@@ -138,6 +150,16 @@ puts_piece n p old new count has h =
     (rw (cast_null, cast_int (pos p.first))) refl
 
 pub puts_version : (old new : State) (count : ℕ) → old.now.schema ≡ feed_schema → Executes version_text [] old new (Ok count)
-    → Puts layout version_row old.now new.now
+    → Puts layout (version_row 2) old.now new.now
 puts_version old new count has h =
-    puts version_text [] old new count 0 layout (lit (Int (pos 1)) ∷ lit Null ∷ []) 2 version_row refl refl version_is version_plain has h (rw (cast_int (pos 1), cast_null)) refl
+    puts version_text [] old new count 0 layout (lit (Int (pos 2)) ∷ lit Null ∷ []) 2 (version_row 2) refl refl version_is version_plain has h (rw (cast_int (pos 2), cast_null)) refl
+
+-- the values of the statement that inserts a reason
+abbrev pub said_params : Name → ℕ → ℕ → Row
+said_params n number place = Text (text_of n) ∷ Int (pos number) ∷ Int (pos place) ∷ []
+
+pub puts_reason : (n : Name) (number place : ℕ) (old new : State) (count : ℕ) → old.now.schema ≡ feed_schema
+    → Executes said_text (said_params n number place) old new (Ok count) → Puts reason (said_row n number place old.now) old.now new.now
+puts_reason n number place old new count has h =
+    puts said_text (said_params n number place) old new count 3 reason reason_terms 4 (said_row n number place old.now) refl refl reason_is reason_plain has h
+    (rw (cast_null, cast_int (pos number), cast_int (pos place))) refl

@@ -1,5 +1,5 @@
 -- What the selection of the layout's number says of its table.
-use Rattle.std.proofs.Common.{◌≡◌, ◌↔◌, ◌∙◌, List, [], ◌∷◌, map, filter, codes, false, pos, length, IsPermutation, refl, sym, ap, subst, arith}
+use Rattle.std.proofs.Common.{◌≡◌, ◌↔◌, ◌∙◌, ℕ, List, [], ◌∷◌, map, filter, codes, false, pos, length, IsPermutation, refl, sym, ap, subst, arith}
 use Rattle.std.specs.List.{AllByRecursion}
 use Rattle.std.proofs.lemmas.List.Sorted.{IsPermutation-sym, length_permutation}
 use Rattle.sqlite_value.specs.declared.value.Value.TheVariants.{Int, Null}
@@ -14,18 +14,20 @@ use Rattle.sqlite_schema.specs.declared.command.Command.TheVariants.{Select}
 use Rattle.sqlite.specs.Listing.{understood, reads_listing}
 use Rattle.sqlite.specs.State.{State, IsUnchanged, Shown}
 use Rattle.sqlite.proofs.Callers.{IsPlain, command_of, reads_as}
-use Rattle.feed_rows.specs.Layout.{feed_schema}
+use Rattle.sqlite.specs.Table.{Table}
+use Rattle.sqlite_schema.specs.declared.schema.Index.{Index}
+use Rattle.feed_rows.specs.Layout.{schema_with}
 use Rattle.feed_rows.proofs.Rows.{table_query, passes, answered}
 use Rattle.feed_statements.specs.Texts.{number_text}
 
-number_select : (command_of (understood feed_schema number_text) ≡ Select (record { lets = []; body = table_query 0 [] (col 1 0 ∷ []) [] }) (codes "version" ∷ []))
-    × (reads_listing feed_schema number_text ≡ false)
+number_select : (more : List Table) (keys : List Index) → (command_of (understood (schema_with more keys) number_text) ≡ Select (record { lets = []; body = table_query 0 [] (col 1 0 ∷ []) [] }) (codes "version" ∷ []))
+    × (reads_listing (schema_with more keys) number_text ≡ false)
 unfolding understood everything
-number_select = (refl, refl)
+number_select more keys = (refl, refl)
 
-number_plain : IsPlain (understood feed_schema number_text)
+number_plain : (more : List Table) (keys : List Index) → IsPlain (understood (schema_with more keys) number_text)
 unfolding understood everything
-number_plain = (refl, refl)
+number_plain more keys = (refl, refl)
 
 -- a row of the answer is the number of a row alone
 abbrev numbers : List Row → List Row
@@ -35,18 +37,18 @@ numbered : (rows : List Row) → map (λ r. rowid r ∷ []) (filter (passes [] [
 numbered [] = refl
 numbered (r ∷ rows) = ap (λ l. (rowid r ∷ []) ∷ l) (numbered rows)
 
-shown_numbers : (old new : State) (rows : List Row) → old.now.schema ≡ feed_schema → Shown number_text [] old new rows → IsPermutation (numbers (old.now.trees 0)) rows
-shown_numbers old new rows has h =
-    let got = reads_as number_text [] old new feed_schema has _ number_select.0 number_plain number_select.1 rows h in
+shown_numbers : (more : List Table) (keys : List Index) (old new : State) (rows : List Row) → old.now.schema ≡ schema_with more keys → Shown number_text [] old new rows → IsPermutation (numbers (old.now.trees 0)) rows
+shown_numbers more keys old new rows has h =
+    let got = reads_as number_text [] old new (schema_with more keys) has _ (number_select more keys).0 (number_plain more keys) (number_select more keys).1 rows h in
     let a : IsAnswer (table_query 0 [] (col 1 0 ∷ []) []) (overlay old.now.trees []) [] rows = got.answer Null in
     subst (λ l. IsPermutation l rows) (numbered (old.now.trees 0)) (answered 0 [] (col 1 0 ∷ []) [] [] old.now.trees rows refl a)
 
 -- a selection leaves the database as it was
-unchanged : (old new : State) (rows : List Row) → old.now.schema ≡ feed_schema → Shown number_text [] old new rows → IsUnchanged old new
+unchanged : (more : List Table) (keys : List Index) (old new : State) (rows : List Row) → old.now.schema ≡ schema_with more keys → Shown number_text [] old new rows → IsUnchanged old new
 unfolding Shown
-unchanged old new rows has h =
+unchanged more keys old new rows has h =
     let known = sym h.1.is ∙ ap (λ s. understood s number_text) has in
-    let bare = subst IsPlain (sym known) number_plain in
+    let bare = subst IsPlain (sym known) (number_plain more keys) in
     (rw bare.0 at h.2).3
 
 single : {X : Type 0} (xs : List X) (y : X) → length xs ≡ 1 → AllByRecursion (λ x. x ≡ y) xs → xs ≡ y ∷ []
@@ -57,23 +59,24 @@ single (x ∷ z ∷ xs) y n all = absurd (omega (arith, n))
 only : {X : Type 0} (xs : List X) (y : X) → IsPermutation xs (y ∷ []) → xs ≡ y ∷ []
 only {X} xs y moved = single xs y (sym (length_permutation xs (y ∷ []) moved)) (all-permutation (λ x. x ≡ y) _ _ (IsPermutation-sym xs (y ∷ []) moved) (refl, tt))
 
-ids_of : (rows : List Row) → numbers rows ≡ (Int (pos 1) ∷ []) ∷ [] → map rowid rows ≡ Int (pos 1) ∷ []
-ids_of [] e = cc
-ids_of (r ∷ []) e = cc
-ids_of (r ∷ s ∷ rows) e = cc
+ids_of : (k : ℕ) (rows : List Row) → numbers rows ≡ (Int (pos k) ∷ []) ∷ [] → map rowid rows ≡ Int (pos k) ∷ []
+ids_of k [] e = cc
+ids_of k (r ∷ []) e = cc
+ids_of k (r ∷ s ∷ rows) e = cc
 
-rows_of : (rows : List Row) → map rowid rows ≡ Int (pos 1) ∷ [] → numbers rows ≡ (Int (pos 1) ∷ []) ∷ []
-rows_of [] e = cc
-rows_of (r ∷ []) e = cc
-rows_of (r ∷ s ∷ rows) e = cc
+rows_of : (k : ℕ) (rows : List Row) → map rowid rows ≡ Int (pos k) ∷ [] → numbers rows ≡ (Int (pos k) ∷ []) ∷ []
+rows_of k [] e = cc
+rows_of k (r ∷ []) e = cc
+rows_of k (r ∷ s ∷ rows) e = cc
 
-pub number_told : (old new : State) (rows : List Row) → Shown number_text [] old new rows → old.now.schema ≡ feed_schema
-    → IsUnchanged old new × ((rows ≡ (Int (pos 1) ∷ []) ∷ []) ↔ (map rowid (old.now.trees 0) ≡ Int (pos 1) ∷ []))
-number_told old new rows h has =
+pub number_told : (k : ℕ) (more : List Table) (keys : List Index) (old new : State) (rows : List Row) → Shown number_text [] old new rows
+    → old.now.schema ≡ schema_with more keys
+    → IsUnchanged old new × ((rows ≡ (Int (pos k) ∷ []) ∷ []) ↔ (map rowid (old.now.trees 0) ≡ Int (pos k) ∷ []))
+number_told k more keys old new rows h has =
     let ids = old.now.trees 0 in
-    let moved = shown_numbers old new rows has h in
-    let one : (rows ≡ (Int (pos 1) ∷ []) ∷ []) → map rowid ids ≡ Int (pos 1) ∷ [] =
-    λ e. ids_of ids (only (numbers ids) (Int (pos 1) ∷ []) (subst (IsPermutation (numbers ids)) e moved)) in
-    let row : map rowid ids ≡ Int (pos 1) ∷ [] → rows ≡ (Int (pos 1) ∷ []) ∷ [] =
-    λ e. only rows (Int (pos 1) ∷ []) (subst (IsPermutation rows) (rows_of ids e) (IsPermutation-sym _ _ moved)) in
-    (unchanged old new rows has h, (one, row))
+    let moved = shown_numbers more keys old new rows has h in
+    let one : (rows ≡ (Int (pos k) ∷ []) ∷ []) → map rowid ids ≡ Int (pos k) ∷ [] =
+    λ e. ids_of k ids (only (numbers ids) (Int (pos k) ∷ []) (subst (IsPermutation (numbers ids)) e moved)) in
+    let row : map rowid ids ≡ Int (pos k) ∷ [] → rows ≡ (Int (pos k) ∷ []) ∷ [] =
+    λ e. only rows (Int (pos k) ∷ []) (subst (IsPermutation rows) (rows_of k ids e) (IsPermutation-sym _ _ moved)) in
+    (unchanged more keys old new rows has h, (one, row))

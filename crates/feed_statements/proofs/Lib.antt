@@ -9,3 +9,4 @@ mod Terms
 mod Recognised
 mod LayoutNumber
 mod Selects
+mod Upgrade

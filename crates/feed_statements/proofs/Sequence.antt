@@ -1,15 +1,22 @@
 -- Changes one after another.
-use Rattle.std.proofs.Common.{◌≡◌, List, [], ◌∷◌, ◌++◌, Some, Bool, true, false, refl, sym, ap, ◌∙◌, if◌then◌else◌}
+use Rattle.std.proofs.Common.{◌≡◌, ◌≢◌, ◌≤◌, ℕ, eqb, List, [], ◌∷◌, ◌++◌, Some, None, Bool, true, false, refl, sym, ap, ◌∙◌, if◌then◌else◌, arith}
+use Rattle.std.proofs.lemmas.Bool.Decides.{nat_tests}
 use Rattle.sqlite.specs.Effect.{Database}
 use Rattle.sqlite.specs.State.{State}
 use Rattle.feed_names.specs.ReleaseName.{Name, name_eq}
 use Rattle.feed_model.specs.declared.state.State as model
 use Rattle.feed_model.specs.declared.state.State.TheVariants as states
 use Rattle.feed_model.specs.Content.{Part, Record, Content, record_of}
-use Rattle.feed_model.specs.Change.{changed, grown, merged, insert_part, Pieces}
-use Rattle.feed_rows.specs.Records.{with_part, with_parts, with_state}
-use Rattle.feed_rows.specs.Tables.{content_of}
-use Rattle.feed_statements.specs.Effects.{AllowedChanges, Changes, IsMade}
+use Rattle.feed_kbart.specs.declared.fault.BadFile.{BadFile}
+use Rattle.feed_kbart.specs.declared.fault.BadFile.TheVariants.{NotUtf8, TwoMarks, NoHeader, MissingLabel, LabelTwice}
+use Rattle.feed_model.specs.File.{fault_of}
+use Rattle.feed_model.specs.Reply.{max_file}
+use Rattle.feed_model.specs.Change.{changed, comes_before, grown, broken_with, merged, insert_part, insert_record, new_record, Add, Pieces, Break}
+use Rattle.feed_model.proofs.Names.{name_self}
+use Rattle.feed_rows.specs.Records.{bare, with_part, with_parts, with_reason, with_state}
+use Rattle.feed_rows.specs.Tables.{IsStored, content_of}
+use Rattle.feed_rows.proofs.Stored.{missing_is_required}
+use Rattle.feed_statements.specs.Effects.{AllowedChanges, Changes, ChangesIf, IsMade}
 
 -- one change of a record after another
 changed_twice : (n : Name) (f g h : Record → Record) → ((r : Record) → (f r).name ≡ r.name) → ((r : Record) → g (f r) ≡ h r) → (c : Content)
@@ -86,7 +93,7 @@ still_staged n ps r (x ∷ xs) found staged = by (name_eq x.name n) refl (still_
     by true e more =
         let is : Some x ≡ Some r = ap (λ (b : Bool). if b then Some x else record_of xs n) (sym e) ∙ found in
         let one : x ≡ r = cc in
-        ap (λ (s : model.State). let y : Record = record { name = x.name; size = x.size; state = s; parts = merged x.parts ps } in y ∷ xs)
+        ap (λ (s : model.State). let y : Record = record { name = x.name; size = x.size; state = s; reason = x.reason; parts = merged x.parts ps } in y ∷ xs)
         (ap (λ (y : Record). y.state) one ∙ staged)
     by false e more = ap (λ l. x ∷ l) (more (ap (λ (b : Bool). if b then Some x else record_of xs n) (sym e) ∙ found) staged)
 
@@ -103,3 +110,81 @@ pieces_made n ps a b = made_as (Changes (changed n (with_parts ps))) (AllowedCha
       listed = done.listed;
       content = λ are. done.content are ∙ still_staged n ps allowed.0 (content_of a.now) allowed.1.found allowed.1.staged;
     })
+
+-- ---- releases that are broken
+
+-- the record that was put in is changed
+changed_inserted : (f : Record → Record) (r : Record) → ((x : Record) → (f x).name ≡ x.name) → (c : Content) → record_of c r.name ≡ None
+    → changed r.name f (insert_record r c) ≡ insert_record (f r) c
+changed_inserted f r same [] free = ap (λ (b : Bool). if b then f r ∷ [] else r ∷ []) (name_self r.name)
+changed_inserted f r same (x ∷ xs) free = by (name_eq x.name r.name) (comes_before x.name r.name) refl refl (changed_inserted f r same xs)
+  where
+    by : (a b : Bool) → name_eq x.name r.name ≡ a → comes_before x.name r.name ≡ b
+        → (record_of xs r.name ≡ None → changed r.name f (insert_record r xs) ≡ insert_record (f r) xs)
+        → changed r.name f (if b then x ∷ insert_record r xs else r ∷ x ∷ xs) ≡ insert_record (f r) (x ∷ xs)
+    by true b e d more = absurd (let g : Some x ≡ None = sym (ap (λ (q : Bool). if q then Some x else record_of xs r.name) e) ∙ free in cc)
+    by false true e d more =
+        let before : comes_before x.name (f r).name ≡ true = ap (comes_before x.name) (same r) ∙ d in
+        let rest : record_of xs r.name ≡ None = ap (λ (q : Bool). if q then Some x else record_of xs r.name) (sym e) ∙ free in
+        ap (λ (q : Bool). if q then f x ∷ insert_record r xs else x ∷ changed r.name f (insert_record r xs)) e
+        ∙ ap (λ l. x ∷ l) (more rest)
+        ∙ ap (λ (q : Bool). if q then x ∷ insert_record (f r) xs else f r ∷ x ∷ xs) (sym before)
+    by false false e d more =
+        let before : comes_before x.name (f r).name ≡ false = ap (comes_before x.name) (same r) ∙ d in
+        ap (λ (q : Bool). if q then f r ∷ x ∷ xs else r ∷ changed r.name f (x ∷ xs)) (name_self r.name)
+        ∙ ap (λ (q : Bool). if q then x ∷ insert_record (f r) xs else f r ∷ x ∷ xs) (sym before)
+
+-- an empty file is broken as it is offered
+pub empty_made : (n : Name) (a b c : State) → IsMade (ChangesIf (0 ≤ max_file) (insert_record (bare n 0 states.Broken))) a b
+    → IsMade (ChangesIf (IsStored NoHeader) (changed n (with_reason NoHeader))) b c → IsMade (AllowedChanges (Add n 0)) a c
+empty_made n a b c one two = record {
+  change = λ allowed ours.
+      let first = one.change (omega arith) ours in
+      let second = two.change tt first.ours in record {
+        ours = second.ours;
+        listed = λ are. second.listed (first.listed are);
+        content = λ are. second.content (first.listed are) ∙ ap (changed n (with_reason NoHeader)) (first.content are)
+            ∙ changed_inserted (with_reason NoHeader) (bare n 0 states.Broken) (λ x. refl) (content_of a.now) allowed.0;
+      };
+  committed = two.committed ∙ one.committed;
+  inside = λ on. two.inside (one.inside on);
+}
+
+-- another one is staged
+pub staged_made : (n : Name) (size : ℕ) (a b : State) → size ≢ 0 → IsMade (ChangesIf (size ≤ max_file) (insert_record (bare n size states.Staged))) a b
+    → IsMade (AllowedChanges (Add n size)) a b
+staged_made n size a b some = made_as (ChangesIf (size ≤ max_file) (insert_record (bare n size states.Staged))) (AllowedChanges (Add n size)) a b
+    (λ change allowed ours.
+    let done = change allowed.2 ours in record {
+      ours = done.ours;
+      listed = done.listed;
+      content = λ are. done.content are ∙ ap (λ (r : Record). insert_record r (content_of a.now)) (new_is size some);
+    })
+  where
+    new_is : (k : ℕ) → k ≢ 0 → bare n k states.Staged ≡ new_record n k
+    new_is k some = let off : eqb k 0 ≡ false = grind (arith, nat_tests) in rw off refl
+
+-- a reason of a file is stored
+stored : (text : List ℕ) (why : BadFile) → fault_of text ≡ Some why → IsStored why
+stored text NotUtf8 e = tt
+stored text TwoMarks e = tt
+stored text NoHeader e = tt
+stored text (LabelTwice label) e = tt
+stored text (MissingLabel label) e = missing_is_required text label e
+
+-- parts, the state and a reason are what the change of a record is
+pub break_made : (n : Name) (ps : List Part) (why : BadFile) (a b c : State) → IsMade (Changes (changed n (grown ps states.Broken))) a b
+    → IsMade (ChangesIf (IsStored why) (changed n (with_reason why))) b c → IsMade (AllowedChanges (Break n ps why)) a c
+break_made n ps why a b c one two = record {
+  change = λ allowed ours.
+      let bad = allowed.3 in
+      let first = one.change ours in
+      let second = two.change (stored bad.0 why bad.2) first.ours in record {
+        ours = second.ours;
+        listed = λ are. second.listed (first.listed are);
+        content = λ are. second.content (first.listed are) ∙ ap (changed n (with_reason why)) (first.content are)
+            ∙ changed_twice n (grown ps states.Broken) (with_reason why) (broken_with ps why) (λ r. refl) (λ r. refl) (content_of a.now);
+      };
+  committed = two.committed ∙ one.committed;
+  inside = λ on. two.inside (one.inside on);
+}

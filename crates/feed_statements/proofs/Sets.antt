@@ -21,7 +21,7 @@ use Rattle.feed_statements.specs.Texts.{set_text}
 use Rattle.feed_rows.specs.Layout.{feed_schema, release}
 use Rattle.feed_statements.proofs.Runs.{went, same_value}
 use Rattle.std.proofs.Math.Dec.{eqb-suc-zero}
-use Rattle.feed_rows.proofs.Basics.{zero_one, three_one}
+use Rattle.feed_rows.proofs.Basics.{zero_one, three_one, five_one}
 use Rattle.feed_rows.proofs.Cascade.{key_is}
 use Rattle.feed_rows.proofs.Conditions.{with_new_state}
 use Rattle.feed_rows.proofs.SetState.{Sets}
@@ -71,4 +71,5 @@ sets old new name status count has h =
       picked = given.1.answer Null;
       releases = ap (λ (t : Trees). t 1) all ∙ step.rows;
       pieces = ap (λ (t : Trees). t 3) all ∙ step.tables.1.1.0 three_one;
+      reasons = ap (λ (t : Trees). t 5) all ∙ step.tables.1.1.1.0 five_one;
     }

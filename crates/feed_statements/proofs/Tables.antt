@@ -11,12 +11,12 @@ use Rattle.sqlite.specs.Does.{Tally, lacks_sequence}
 use Rattle.sqlite.specs.Effect.{Database, IsDatabase}
 use Rattle.sqlite.specs.State.{State, Writes, Executes}
 use Rattle.sqlite.proofs.Callers.{IsPlain, command_of, statement_of, runs_as}
-use Rattle.feed_rows.specs.Layout.{no_schema, feed_schema, layout, release}
-use Rattle.feed_statements.specs.Texts.{layout_text, release_text, piece_text}
-use Rattle.feed_statements.specs.Schemas.{table_in, with_text, first_schema, second_schema, HasNoTable, HasLayoutTable, HasReleaseTable, HasAllTables}
-use Rattle.feed_statements.specs.Effects.{IsBlank}
+use Rattle.feed_rows.specs.Layout.{no_schema, earlier_schema, feed_schema, layout, release}
+use Rattle.feed_statements.specs.Texts.{layout_text, release_text, piece_text, reason_text}
+use Rattle.feed_statements.specs.Schemas.{table_in, with_text, first_schema, second_schema, HasNoTable, HasLayoutTable, HasReleaseTable, HasPieceTable, HasAllTables}
+use Rattle.feed_statements.specs.Effects.{Extends, IsBlank}
 use Rattle.feed_rows.specs.Tables.{version_row}
-use Rattle.feed_rows.proofs.Basics.{one_zero, three_zero}
+use Rattle.feed_rows.proofs.Basics.{one_zero, three_zero, five_zero}
 use Rattle.feed_rows.proofs.Inserted.{Puts}
 use Rattle.feed_rows.proofs.Ours.{empty_content, empty_listed}
 use Rattle.feed_statements.proofs.Runs.{went, same_value}
@@ -65,9 +65,21 @@ makes_piece : Makes second_schema piece_text
 unfolding understood everything
 makes_piece = record { command = refl; whole = refl; plain = (refl, refl); uncounted = refl }
 
-third_is : with_text second_schema piece_text ≡ feed_schema
+third_is : with_text second_schema piece_text ≡ earlier_schema
 unfolding understood everything
 third_is = refl
+
+makes_reason : Makes earlier_schema reason_text
+unfolding understood everything
+makes_reason = record { command = refl; whole = refl; plain = (refl, refl); uncounted = refl }
+
+fourth_is : with_text earlier_schema reason_text ≡ feed_schema
+unfolding understood everything
+fourth_is = refl
+
+next_of_earlier : next_tree earlier_schema ≡ 5
+unfolding understood everything
+next_of_earlier = refl
 
 next_trees : (next_tree no_schema ≡ 0) × (next_tree first_schema ≡ 1) × (next_tree second_schema ≡ 3)
 unfolding understood everything
@@ -94,7 +106,7 @@ creates_release old new count has h =
     record { schema_is = it.schema_is; empty = (kept.0 ∙ has.empty.0, (subst (λ n. new.now.trees n ≡ []) next_trees.1 it.empty, tt)) }
 
 pub creates_piece : (old new : State) (count : ℕ) → HasReleaseTable old.now → Executes piece_text [] old new (Ok count)
-    → HasAllTables new.now
+    → HasPieceTable new.now
 creates_piece old new count has h =
     let it = creates piece_text second_schema makes_piece old new count has.schema_is h in
     let kept = subst (λ ts. KeepsRows ts old.now.trees new.now.trees) second_tables it.others in
@@ -103,12 +115,30 @@ creates_piece old new count has h =
       empty = (kept.0 ∙ has.empty.0, (kept.1.0 ∙ has.empty.1.0, (subst (λ n. new.now.trees n ≡ []) next_trees.2 it.empty, tt)));
     }
 
+-- the table of the reasons is made behind those of layout 1
+pub creates_reason : (old new : State) (count : ℕ) → Executes reason_text [] old new (Ok count) → Extends old.now new.now
+creates_reason old new count h has =
+    let it = creates reason_text earlier_schema makes_reason old new count has h in record {
+      schema = it.schema_is ∙ fourth_is;
+      obeyed = it.sound;
+      layout = it.others.0;
+      releases = it.others.1.0;
+      pieces = it.others.1.1.0;
+      reasons = subst (λ n. new.now.trees n ≡ []) next_of_earlier it.empty;
+    }
+
+pub all_tables : (old new : Database) → Extends old new → HasPieceTable old → HasAllTables new
+all_tables old new extends has =
+    let it = extends has.schema_is in
+    record { schema_is = it.schema; empty = (it.layout ∙ has.empty.0, (it.releases ∙ has.empty.1.0, (it.pieces ∙ has.empty.1.1.0, (it.reasons, tt)))) }
+
 -- the layout's number makes of empty tables those of a keeper of nothing
-pub numbered : (old new : Database) → HasAllTables old → Puts layout version_row old new → IsBlank new
+pub numbered : (old new : Database) → HasAllTables old → Puts layout (version_row 2) old new → IsBlank new
 numbered old new has it =
     let one : new.trees 1 ≡ [] = it.others.1.0 one_zero ∙ has.empty.1.0 in
-    let three : new.trees 3 ≡ [] = it.others.1.1.0 three_zero ∙ has.empty.1.1.0 in record {
-      ours = record { schema = it.schema; obeyed = it.sound; version = ap (map rowid) (it.rows ∙ ap (put_row version_row) has.empty.0) };
-      listed = empty_listed new one three;
+    let three : new.trees 3 ≡ [] = it.others.1.1.0 three_zero ∙ has.empty.1.1.0 in
+    let five : new.trees 5 ≡ [] = it.others.1.1.1.0 five_zero ∙ has.empty.1.1.1.0 in record {
+      ours = record { schema = it.schema; obeyed = it.sound; version = ap (map rowid) (it.rows ∙ ap (put_row (version_row 2)) has.empty.0) };
+      listed = empty_listed new one three five;
       content = empty_content new one;
     }

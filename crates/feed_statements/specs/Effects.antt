@@ -1,16 +1,18 @@
 -- What calls make of a database.
-use Rattle.std.specs.Prelude.{◌≡◌, ◌↔◌, ◌∷◌, Bool, IsTrue, [], map, OnOk, pos, Result}
+use Rattle.std.specs.Prelude.{◌≡◌, ◌↔◌, ◌∷◌, ℕ, List, Bool, IsTrue, [], map, OnOk, pos, Result}
 use Rattle.feed_model.specs.Change.{Change, IsAllowed, after}
 use Rattle.feed_model.specs.Content.{Content}
-use Rattle.sqlite.specs.Effect.{Database}
+use Rattle.sqlite.specs.Effect.{Database, IsDatabase}
 use Rattle.sqlite.specs.Held.{Held, state}
 use Rattle.sqlite.specs.State.{State, HasCleanDisk, IsUnchanged, KeepsCommit, Survives}
 use Rattle.sqlite_trees.specs.declared.store.Store.{Ghosts}
 use Rattle.sqlite_trees.specs.Tree.{rowid}
 use Rattle.sqlite_value.specs.declared.value.Value.TheVariants.{Int}
-use Rattle.feed_rows.specs.Layout.{feed_schema}
+use Rattle.sqlite.specs.Table.{Table}
+use Rattle.sqlite_schema.specs.declared.schema.Index.{Index}
+use Rattle.feed_rows.specs.Layout.{schema_with, earlier_schema, feed_schema}
 pub use Rattle.feed_rows.specs.Live.{IsLive}
-use Rattle.feed_rows.specs.Tables.{IsChanged, IsListed, IsOurs, content_of}
+use Rattle.feed_rows.specs.Tables.{IsChanged, IsEarlier, IsEarlierListed, IsListed, IsOurs, earlier_content_of, content_of}
 
 -- the change is made inside the transaction, which goes on
 pub record IsMade (Change : Database → Database → Type 0) (old new : State) : Type 0 where
@@ -52,6 +54,35 @@ pub record IsBlank (db : Database) : Type 0 where
   pub listed : IsListed db
   pub content : content_of db ≡ []
 
--- where the tables are those of the layout, the database is as it was, and it is told whether the layout has the number 1 and no other
-abbrev pub TellsNumber : State → State → Bool → Type 0
-TellsNumber old new is = old.now.schema ≡ feed_schema → IsUnchanged old new × (IsTrue is ↔ (map rowid (old.now.trees 0) ≡ Int (pos 1) ∷ []))
+-- where the first three tables are there, the database is as it was, and it is told whether the layout has this number and no other
+abbrev pub TellsNumber : ℕ → State → State → Bool → Type 0
+TellsNumber number old new is =
+    (more : List Table) (keys : List Index) → old.now.schema ≡ schema_with more keys
+    → IsUnchanged old new × (IsTrue is ↔ (map rowid (old.now.trees 0) ≡ Int (pos number) ∷ []))
+
+-- the table of the reasons is there too, and empty, and the other tables are as they were
+pub record IsExtended (old new : Database) : Type 0 where
+  pub schema : new.schema ≡ feed_schema
+  pub obeyed : IsDatabase new
+  pub layout : new.trees 0 ≡ old.trees 0
+  pub releases : new.trees 1 ≡ old.trees 1
+  pub pieces : new.trees 3 ≡ old.trees 3
+  pub reasons : new.trees 5 ≡ []
+
+-- a database with the tables of layout 1 gets that of the reasons
+abbrev pub Extends : Database → Database → Type 0
+Extends old new = old.schema ≡ earlier_schema → IsExtended old new
+
+-- a database of layout 1 becomes one of layout 2, whose content is this of the one before
+pub record IsUpgraded (f : Content → Content) (old new : Database) : Type 0 where
+  pub ours : IsOurs new
+  pub listed : IsEarlierListed old → IsListed new
+  pub content : IsEarlierListed old → content_of new ≡ f (earlier_content_of old)
+
+abbrev pub Upgrades : (Content → Content) → Database → Database → Type 0
+Upgrades f old new = IsEarlier old → IsUpgraded f old new
+
+-- a database whose tables of layout 1 were extended gets the number of layout 2
+abbrev pub Renumbers : Database → Database → Type 0
+Renumbers old new =
+    (first : Database) → IsEarlier first → IsExtended first old → IsUpgraded (λ c. c) first new

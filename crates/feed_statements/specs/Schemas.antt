@@ -7,7 +7,7 @@ use Rattle.sqlite.specs.Effect.{Database}
 use Rattle.sqlite.specs.Schema.{Schema}
 use Rattle.sqlite.specs.Table.{Table}
 use Rattle.sqlite_schema.specs.declared.schema.Index.{Index}
-use Rattle.feed_rows.specs.Layout.{feed_schema, no_schema, no_table}
+use Rattle.feed_rows.specs.Layout.{earlier_schema, feed_schema, no_schema, no_table}
 use Rattle.feed_statements.specs.Texts.{layout_text, release_text}
 
 -- the table that a text defines
@@ -44,9 +44,13 @@ HasLayoutTable = HasEmpty first_schema (0 ∷ [])
 abbrev pub HasReleaseTable : Database → Type 0
 HasReleaseTable = HasEmpty second_schema (0 ∷ 1 ∷ [])
 
--- all three are there
+-- and that of the parts
+abbrev pub HasPieceTable : Database → Type 0
+HasPieceTable = HasEmpty earlier_schema (0 ∷ 1 ∷ 3 ∷ [])
+
+-- all four are there
 abbrev pub HasAllTables : Database → Type 0
-HasAllTables = HasEmpty feed_schema (0 ∷ 1 ∷ 3 ∷ [])
+HasAllTables = HasEmpty feed_schema (0 ∷ 1 ∷ 3 ∷ 5 ∷ [])
 
 -- no default of the table is computed, and its rows have no running number
 abbrev pub IsPlain : Table → Type 0
@@ -57,7 +61,14 @@ abbrev pub automatic : List ℕ → ℕ → ℕ → List ℕ → Index
 automatic name tree table places =
     record { name = name; tree = tree; table = table; columns = places; order = record { digits = 0 }; is_unique = true }
 
--- the indexes of the releases' names, and of the places of parts
-abbrev pub key_indexes : List Index
-key_indexes =
-    automatic (codes "sqlite_autoindex_feed_release_1") 2 1 (1 ∷ []) ∷ automatic (codes "sqlite_autoindex_feed_piece_1") 4 3 (1 ∷ 2 ∷ []) ∷ []
+-- the index of the releases' names
+abbrev pub release_index : Index
+release_index = automatic (codes "sqlite_autoindex_feed_release_1") 2 1 (1 ∷ [])
+
+-- that of the places of parts
+abbrev pub piece_index : Index
+piece_index = automatic (codes "sqlite_autoindex_feed_piece_1") 4 3 (1 ∷ 2 ∷ [])
+
+-- that of the names of reasons
+abbrev pub reason_index : Index
+reason_index = automatic (codes "sqlite_autoindex_feed_reason_1") 6 5 (1 ∷ [])

@@ -14,8 +14,16 @@ piece_text =
     codes "CREATE TABLE feed_piece (\n  name TEXT NOT NULL REFERENCES feed_release (name) ON DELETE CASCADE,\n"
     ++ codes "  place INTEGER NOT NULL,\n  bytes BLOB NOT NULL,\n  PRIMARY KEY (name, place),\n  CHECK (place >= 0)\n) STRICT"
 
+abbrev pub reason_text : List ℕ
+reason_text =
+    codes "CREATE TABLE feed_reason (\n  name TEXT NOT NULL PRIMARY KEY REFERENCES feed_release (name) ON DELETE CASCADE,\n"
+    ++ codes "  reason INTEGER NOT NULL,\n  label INTEGER NOT NULL,\n  CHECK (reason BETWEEN 1 AND 5),\n  CHECK (label BETWEEN 0 AND 13)\n) STRICT"
+
 abbrev pub version_text : List ℕ
-version_text = codes "INSERT INTO feed_layout (version) VALUES (1)"
+version_text = codes "INSERT INTO feed_layout (version) VALUES (2)"
+
+abbrev pub upgrade_text : List ℕ
+upgrade_text = codes "UPDATE feed_layout SET version = 2"
 
 abbrev pub number_text : List ℕ
 number_text = codes "SELECT version FROM feed_layout"
@@ -25,6 +33,9 @@ insert_text = codes "INSERT INTO feed_release (name, package, day, size, state) 
 
 abbrev pub part_text : List ℕ
 part_text = codes "INSERT INTO feed_piece (name, place, bytes) VALUES (?1, ?2, ?3)"
+
+abbrev pub said_text : List ℕ
+said_text = codes "INSERT INTO feed_reason (name, reason, label) VALUES (?1, ?2, ?3)"
 
 abbrev pub set_text : List ℕ
 set_text = codes "UPDATE feed_release SET state = ?2 WHERE name = ?1"

@@ -1,12 +1,12 @@
-ghost use Rattle.std.specs.Prelude.{◌≡◌, ◌≤◌, false, OnOk, OnErr};
-ghost use Rattle.feed_model.specs.Change.{after, changed, grown, insert_record, new_record, without_earlier, IsAllowed};
-ghost use Rattle.feed_model.specs.Reply.{max_file};
+ghost use Rattle.std.specs.Prelude.{◌≡◌, false, OnOk, OnErr};
+ghost use Rattle.feed_model.specs.Change.{Add, Break, after, changed, grown, without_earlier, IsAllowed};
 ghost use Rattle.feed_parts.specs.Shown.{shown_parts};
 ghost use Rattle.feed_keep.specs.Shown.{shown_change};
-ghost use Rattle.feed_statements.specs.Effects.{AllowedChanges, Changes, ChangesIf, IsLive, Keeps, LeavesDisk, Makes};
+ghost use Rattle.feed_statements.specs.Effects.{AllowedChanges, Changes, IsLive, Keeps, LeavesDisk, Makes};
 ghost use Rattle.sqlite.specs.Held.{state};
 
-use crate::statements::{drop_earlier, insert_parts, insert_release, set_state};
+use crate::statements::{drop_earlier, insert_parts, insert_reason, insert_release, set_state};
+use feed_kbart::BadFile;
 use feed_keep::{Change, Part, State};
 use feed_names::ReleaseName;
 use sqlite::{Alter, Connection, Error, ErrorCode, Transaction};
@@ -40,7 +40,11 @@ fn make<S: Alter>(tx: &mut Transaction<'_, S>, change: &Change<'_>) -> Result<()
     match change {
         Change::Add { name, size } => add(tx, name, *size),
         Change::Pieces { name, parts } => insert_parts(tx, name, parts),
-        Change::Break { name, parts } => finish(tx, name, parts, State::Broken),
+        Change::Break {
+            name,
+            parts,
+            reason,
+        } => break_off(tx, name, parts, *reason),
         Change::Activate { name, parts } => activate(tx, name, parts),
     }
 }
@@ -48,20 +52,47 @@ fn make<S: Alter>(tx: &mut Transaction<'_, S>, change: &Change<'_>) -> Result<()
 // Adds the record of a release. It refuses a size beyond 32 bits, which no file has.
 fn add<S: Alter>(tx: &mut Transaction<'_, S>, name: &ReleaseName, size: u64) -> Result<(), Error>
     ensures same_reference { tx.new.conn.ghost_name ≡ tx.old.conn.ghost_name }
-    ensures made { Makes S.Store (ChangesIf (size ≤ max_file) (insert_record (new_record name.now size)))
-        tx.old.conn.now tx.new.conn.now result }
+    ensures made { Makes S.Store (AllowedChanges (Add name.now size)) tx.old.conn.now tx.new.conn.now result }
     ensures kept { Keeps S.Store tx.old.conn.now tx.new.conn.now }
     ensures survives { LeavesDisk S.Store tx.old.conn.now tx.new.conn.now }
 {
     let Ok(short) = u32::try_from(size) else {
         return Err(Error::SqliteFailure(ErrorCode::TooBig));
     };
-    let state = if size == 0 {
-        State::Broken
-    } else {
-        State::Staged
-    };
-    insert_release(tx, name, short, state)?;
+    if size == 0 {
+        return add_empty(tx, name);
+    }
+    insert_release(tx, name, short, State::Staged)?;
+    Ok(())
+}
+
+// Adds the record of a release whose file is empty, and so whole, and bad.
+fn add_empty<S: Alter>(tx: &mut Transaction<'_, S>, name: &ReleaseName) -> Result<(), Error>
+    ensures same_reference { tx.new.conn.ghost_name ≡ tx.old.conn.ghost_name }
+    ensures made { Makes S.Store (AllowedChanges (Add name.now 0)) tx.old.conn.now tx.new.conn.now result }
+    ensures kept { Keeps S.Store tx.old.conn.now tx.new.conn.now }
+    ensures survives { LeavesDisk S.Store tx.old.conn.now tx.new.conn.now }
+{
+    insert_release(tx, name, 0, State::Broken)?;
+    insert_reason(tx, name, BadFile::NoHeader)?;
+    Ok(())
+}
+
+// Adds the last parts of a release whose file is bad, and why it is.
+fn break_off<S: Alter>(
+    tx: &mut Transaction<'_, S>,
+    name: &ReleaseName,
+    parts: &[Part],
+    why: BadFile,
+) -> Result<(), Error>
+    ensures same_reference { tx.new.conn.ghost_name ≡ tx.old.conn.ghost_name }
+    ensures made { Makes S.Store (AllowedChanges (Break name.now (shown_parts parts.now) why))
+        tx.old.conn.now tx.new.conn.now result }
+    ensures kept { Keeps S.Store tx.old.conn.now tx.new.conn.now }
+    ensures survives { LeavesDisk S.Store tx.old.conn.now tx.new.conn.now }
+{
+    finish(tx, name, parts, State::Broken)?;
+    insert_reason(tx, name, why)?;
     Ok(())
 }
 

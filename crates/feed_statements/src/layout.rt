@@ -1,6 +1,6 @@
 ghost use Rattle.std.specs.Prelude.{◌≡◌, false, IsTrue, OnErr, OnOk};
-ghost use Rattle.feed_statements.specs.Effects.{IsBlank, IsLive, Keeps, Leads, LeavesDisk, Makes};
-ghost use Rattle.feed_statements.specs.Schemas.{HasAllTables, HasLayoutTable, HasNoTable, HasReleaseTable};
+ghost use Rattle.feed_statements.specs.Effects.{Extends, IsBlank, IsLive, Keeps, Leads, LeavesDisk, Makes};
+ghost use Rattle.feed_statements.specs.Schemas.{HasAllTables, HasLayoutTable, HasNoTable, HasPieceTable, HasReleaseTable};
 ghost use Rattle.sqlite.specs.Held.{state};
 ghost use Rattle.sqlite.specs.State.{HasCleanDisk};
 
@@ -37,6 +37,7 @@ fn fill<S: Alter>(tx: &mut Transaction<'_, S>) -> Result<(), Error>
     create_layout(tx)?;
     create_release(tx)?;
     create_piece(tx)?;
+    create_reason(tx)?;
     insert_version(tx)?;
     Ok(())
 }
@@ -77,7 +78,7 @@ fn create_release<S: Alter>(tx: &mut Transaction<'_, S>) -> Result<usize, Error>
 
 fn create_piece<S: Alter>(tx: &mut Transaction<'_, S>) -> Result<usize, Error>
     ensures same_reference { tx.new.conn.ghost_name ≡ tx.old.conn.ghost_name }
-    ensures made { Makes S.Store (Leads HasReleaseTable HasAllTables)
+    ensures made { Makes S.Store (Leads HasReleaseTable HasPieceTable)
         tx.old.conn.now tx.new.conn.now result }
     ensures kept { Keeps S.Store tx.old.conn.now tx.new.conn.now }
     ensures survives { LeavesDisk S.Store tx.old.conn.now tx.new.conn.now }
@@ -94,6 +95,26 @@ fn create_piece<S: Alter>(tx: &mut Transaction<'_, S>) -> Result<usize, Error>
     )
 }
 
+/// Makes the table of the reasons.
+pub(crate) fn create_reason<S: Alter>(tx: &mut Transaction<'_, S>) -> Result<usize, Error>
+    ensures same_reference { tx.new.conn.ghost_name ≡ tx.old.conn.ghost_name }
+    ensures made { Makes S.Store Extends tx.old.conn.now tx.new.conn.now result }
+    ensures blank { Makes S.Store (Leads HasPieceTable HasAllTables) tx.old.conn.now tx.new.conn.now result }
+    ensures kept { Keeps S.Store tx.old.conn.now tx.new.conn.now }
+    ensures survives { LeavesDisk S.Store tx.old.conn.now tx.new.conn.now }
+{
+    tx.execute(
+        "CREATE TABLE feed_reason (
+  name TEXT NOT NULL PRIMARY KEY REFERENCES feed_release (name) ON DELETE CASCADE,
+  reason INTEGER NOT NULL,
+  label INTEGER NOT NULL,
+  CHECK (reason BETWEEN 1 AND 5),
+  CHECK (label BETWEEN 0 AND 13)
+) STRICT",
+        &[],
+    )
+}
+
 fn insert_version<S: Alter>(tx: &mut Transaction<'_, S>) -> Result<usize, Error>
     ensures same_reference { tx.new.conn.ghost_name ≡ tx.old.conn.ghost_name }
     ensures made { Makes S.Store (Leads HasAllTables IsBlank)
@@ -101,5 +122,5 @@ fn insert_version<S: Alter>(tx: &mut Transaction<'_, S>) -> Result<usize, Error>
     ensures kept { Keeps S.Store tx.old.conn.now tx.new.conn.now }
     ensures survives { LeavesDisk S.Store tx.old.conn.now tx.new.conn.now }
 {
-    tx.execute("INSERT INTO feed_layout (version) VALUES (1)", &[])
+    tx.execute("INSERT INTO feed_layout (version) VALUES (2)", &[])
 }

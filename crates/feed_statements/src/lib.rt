@@ -11,5 +11,5 @@ mod text;
 
 pub use changes::commit_change;
 pub use layout::lay_out;
-pub use number::has_number_1;
-pub use schema::{is_blank, is_laid_out};
+pub use number::has_number;
+pub use schema::{is_blank, is_earlier, is_laid_out};

@@ -1,12 +1,13 @@
 ghost use Rattle.std.specs.Prelude.{◌≡◌, ◌≤◌, ◌↔◌, IsTrue, [], ◌∷◌, ℕ, codes};
 ghost use Rattle.std.specs.Prelude.{false, length, pos, suc};
 ghost use Rattle.sqlite_schema.specs.declared.schema.Kind.TheVariants.{Integer};
-ghost use Rattle.feed_rows.specs.Layout.{bound_by, column_of, feed_schema, layout, no_schema, owner, piece, release};
-ghost use Rattle.feed_statements.specs.Schemas.{IsPlain, automatic, key_indexes};
+ghost use Rattle.feed_rows.specs.Layout.{between, bound_by, column_of, earlier_schema, feed_schema, layout, no_schema};
+ghost use Rattle.feed_rows.specs.Layout.{owner, piece, reason, release};
+ghost use Rattle.feed_statements.specs.Schemas.{IsPlain, automatic, piece_index, reason_index, release_index};
 ghost use Rattle.sqlite_schema.specs.Code.{term_in, term_to};
 ghost use Rattle.sqlite_sql.specs.Term.{col, lit, op2};
-ghost use Rattle.sqlite_sql.specs.declared.ops.BinaryOp.TheVariants.{And, Compare};
-ghost use Rattle.sqlite_sql.specs.declared.ops.CompareOp.TheVariants.{Ge, Le};
+ghost use Rattle.sqlite_sql.specs.declared.ops.BinaryOp.TheVariants.{Compare};
+ghost use Rattle.sqlite_sql.specs.declared.ops.CompareOp.TheVariants.{Ge};
 ghost use Rattle.sqlite_value.specs.declared.keys.Collation.TheVariants.{Binary};
 ghost use Rattle.sqlite_value.specs.declared.value.Value.TheVariants.{Int};
 
@@ -97,16 +98,16 @@ fn is_bound(nodes: &[Op], at: usize, how: CompareOp, place: usize, number: u32) 
     }
 }
 
-// Whether the node at a place says that a column lies between 0 and 2.
-fn is_between(nodes: &[Op], at: usize, place: usize) -> bool
+// Whether the node at a place says that a column lies between two numbers.
+fn is_between(nodes: &[Op], at: usize, place: usize, least: u32, most: u32) -> bool
     ensures { (depth : ℕ) → IsTrue result ↔ (term_to nodes.now (suc (suc (suc depth))) at
-        ≡ op2 And (bound_by Ge place 0) (bound_by Le place 2)) }
+        ≡ between place least most) }
 {
     match nodes.get(at) {
         Some(Op::Binary(op, left, right)) => {
             is_operator(*op, BinaryOp::And)
-                & is_bound(nodes, *left, CompareOp::Ge, place, 0)
-                & is_bound(nodes, *right, CompareOp::Le, place, 2)
+                & is_bound(nodes, *left, CompareOp::Ge, place, least)
+                & is_bound(nodes, *right, CompareOp::Le, place, most)
         }
         _ => false,
     }
@@ -125,11 +126,11 @@ fn is_lower_bound(nodes: &[Op], at: usize, place: usize) -> bool
     are_at_least(nodes, 2) & is_bound(nodes, at, CompareOp::Ge, place, 0)
 }
 
-// Whether it says that a column lies between 0 and 2.
-fn is_range(nodes: &[Op], at: usize, place: usize) -> bool
-    ensures { IsTrue result ↔ (term_in nodes.now at ≡ op2 And (bound_by Ge place 0) (bound_by Le place 2)) }
+// Whether it says that a column lies between two numbers.
+fn is_range(nodes: &[Op], at: usize, place: usize, least: u32, most: u32) -> bool
+    ensures { IsTrue result ↔ (term_in nodes.now at ≡ between place least most) }
 {
-    are_at_least(nodes, 3) & is_between(nodes, at, place)
+    are_at_least(nodes, 3) & is_between(nodes, at, place, least, most)
 }
 
 // Whether the rules of a table are those of the releases.
@@ -138,7 +139,7 @@ fn are_release_checks(terms: &Terms) -> bool
 {
     let nodes = terms.nodes.as_slice();
     match terms.roots.as_slice() {
-        [size, state] => is_lower_bound(nodes, *size, 4) & is_range(nodes, *state, 5),
+        [size, state] => is_lower_bound(nodes, *size, 4) & is_range(nodes, *state, 5, 0, 2),
         _ => false,
     }
 }
@@ -149,6 +150,17 @@ fn are_piece_checks(terms: &Terms) -> bool
 {
     match terms.roots.as_slice() {
         [place] => is_lower_bound(terms.nodes.as_slice(), *place, 2),
+        _ => false,
+    }
+}
+
+// Whether they are those of the reasons.
+fn are_reason_checks(terms: &Terms) -> bool
+    ensures { IsTrue result ↔ (terms.now ≡ reason.checks) }
+{
+    let nodes = terms.nodes.as_slice();
+    match terms.roots.as_slice() {
+        [number, label] => is_range(nodes, *number, 2, 1, 5) & is_range(nodes, *label, 3, 0, 13),
         _ => false,
     }
 }
@@ -276,6 +288,35 @@ fn are_piece_columns(columns: &Items<Column>) -> bool
         && is_column(bytes, Kind::Blob, b"bytes")
 }
 
+fn is_reason(table: &Table) -> bool
+    ensures { IsTrue result ↔ (table.now ≡ reason) }
+{
+    let [reference] = table.references.as_slice() else {
+        return false;
+    };
+    is_word(&table.name, b"feed_reason")
+        && table.tree == 5
+        && are_reason_columns(&table.columns)
+        && table.key.is_none()
+        && are_places(&table.primary, &[1])
+        && is_one_key(&table.uniques, &[1])
+        && is_plain_order(&table.orders)
+        && are_reason_checks(&table.checks)
+        && is_owner(reference)
+        && is_plain(table)
+}
+
+fn are_reason_columns(columns: &Items<Column>) -> bool
+    ensures { IsTrue result ↔ (columns.now ≡ reason.columns) }
+{
+    let [name, number, label] = columns.as_slice() else {
+        return false;
+    };
+    is_column(name, Kind::Text, b"name")
+        && is_column(number, Kind::Integer, b"reason")
+        && is_column(label, Kind::Integer, b"label")
+}
+
 // Whether an index is the one that a table has for its unique key.
 fn is_automatic(index: &Index, name: &[u8], tree: u32, table: u32, places: &[usize]) -> bool
     ensures { IsTrue result ↔ (index.now ≡ automatic name.now tree table places.now) }
@@ -288,8 +329,8 @@ fn is_automatic(index: &Index, name: &[u8], tree: u32, table: u32, places: &[usi
         && index.is_unique
 }
 
-fn are_tables(tables: &Items<Table>) -> bool
-    ensures { IsTrue result ↔ (tables.now ≡ feed_schema.tables) }
+fn are_earlier_tables(tables: &Items<Table>) -> bool
+    ensures { IsTrue result ↔ (tables.now ≡ earlier_schema.tables) }
 {
     match tables.as_slice() {
         [first, second, third] => is_layout(first) && is_release(second) && is_piece(third),
@@ -297,19 +338,65 @@ fn are_tables(tables: &Items<Table>) -> bool
     }
 }
 
-fn are_indexes(indexes: &Items<Index>) -> bool
-    ensures { IsTrue result ↔ (indexes.now ≡ key_indexes) }
+fn are_tables(tables: &Items<Table>) -> bool
+    ensures { IsTrue result ↔ (tables.now ≡ feed_schema.tables) }
 {
-    match indexes.as_slice() {
-        [first, second] => {
-            is_automatic(first, b"sqlite_autoindex_feed_release_1", 2, 1, &[1])
-                && is_automatic(second, b"sqlite_autoindex_feed_piece_1", 4, 3, &[1, 2])
+    match tables.as_slice() {
+        [first, second, third, fourth] => {
+            is_layout(first) && is_release(second) && is_piece(third) && is_reason(fourth)
         }
         _ => false,
     }
 }
 
-/// Whether a database has the tables of the layout and no other, with the indexes that their keys have.
+fn is_release_index(index: &Index) -> bool
+    ensures { IsTrue result ↔ (index.now ≡ release_index) }
+{
+    is_automatic(index, b"sqlite_autoindex_feed_release_1", 2, 1, &[1])
+}
+
+fn is_piece_index(index: &Index) -> bool
+    ensures { IsTrue result ↔ (index.now ≡ piece_index) }
+{
+    is_automatic(index, b"sqlite_autoindex_feed_piece_1", 4, 3, &[1, 2])
+}
+
+fn is_reason_index(index: &Index) -> bool
+    ensures { IsTrue result ↔ (index.now ≡ reason_index) }
+{
+    is_automatic(index, b"sqlite_autoindex_feed_reason_1", 6, 5, &[1])
+}
+
+fn are_earlier_indexes(indexes: &Items<Index>) -> bool
+    ensures { IsTrue result ↔ (indexes.now ≡ release_index ∷ piece_index ∷ []) }
+{
+    match indexes.as_slice() {
+        [first, second] => is_release_index(first) && is_piece_index(second),
+        _ => false,
+    }
+}
+
+fn are_indexes(indexes: &Items<Index>) -> bool
+    ensures { IsTrue result ↔ (indexes.now ≡ release_index ∷ piece_index ∷ reason_index ∷ []) }
+{
+    match indexes.as_slice() {
+        [first, second, third] => {
+            is_release_index(first) && is_piece_index(second) && is_reason_index(third)
+        }
+        _ => false,
+    }
+}
+
+/// Whether a database has the tables of layout 1 and no other, with the indexes that their keys have.
+pub fn is_earlier(schema: &Schema) -> bool
+    ensures { IsTrue result ↔ (schema.now ≡ earlier_schema) }
+{
+    are_earlier_tables(&schema.tables)
+        & are_earlier_indexes(&schema.indexes)
+        & schema.views.is_empty()
+}
+
+/// Whether a database has the tables of layout 2 and no other, with the indexes that their keys have.
 pub fn is_laid_out(schema: &Schema) -> bool
     ensures { IsTrue result ↔ (schema.now ≡ feed_schema) }
 {

@@ -1,12 +1,13 @@
-ghost use Rattle.std.specs.Prelude.{◌≡◌, ◌≤◌};
+ghost use Rattle.std.specs.Prelude.{◌≡◌, ◌≤◌, Some};
 ghost use Rattle.feed_model.specs.Change.{changed, insert_record, without_earlier};
 ghost use Rattle.feed_model.specs.Reply.{max_file};
 ghost use Rattle.feed_parts.specs.Shown.{shown_part, shown_parts};
-ghost use Rattle.feed_rows.specs.Records.{bare, with_part, with_parts, with_state};
-ghost use Rattle.feed_rows.specs.Tables.{number_of};
+ghost use Rattle.feed_rows.specs.Records.{bare, with_part, with_parts, with_reason, with_state};
+ghost use Rattle.feed_rows.specs.Tables.{IsStored, number_of, reason_at};
 ghost use Rattle.feed_statements.specs.Effects.{Changes, ChangesIf, Keeps, LeavesDisk, Makes};
 
 use crate::text::as_text;
+use feed_kbart::BadFile;
 use feed_keep::{Part, State};
 use feed_names::ReleaseName;
 use sqlite::{Alter, Error, ErrorCode, Transaction, params};
@@ -73,7 +74,27 @@ pub fn set_state<S: Alter>(
     )
 }
 
-/// Deletes the releases of the name's package that are of earlier days, and with them their parts.
+/// Inserts the reason of a release.
+pub fn insert_reason<S: Alter>(
+    tx: &mut Transaction<'_, S>,
+    name: &ReleaseName,
+    why: BadFile,
+) -> Result<usize, Error>
+    ensures same_reference { tx.new.conn.ghost_name ≡ tx.old.conn.ghost_name }
+    ensures made { Makes S.Store (ChangesIf (IsStored why) (changed name.now (with_reason why)))
+        tx.old.conn.now tx.new.conn.now result }
+    ensures kept { Keeps S.Store tx.old.conn.now tx.new.conn.now }
+    ensures survives { LeavesDisk S.Store tx.old.conn.now tx.new.conn.now }
+{
+    let text = as_text(name.text())?;
+    let (number, place) = numbers_of(why);
+    tx.execute(
+        "INSERT INTO feed_reason (name, reason, label) VALUES (?1, ?2, ?3)",
+        params![text, number, place],
+    )
+}
+
+/// Deletes the releases of the name's package that are of earlier days, and with them their parts and reasons.
 pub fn drop_earlier<S: Alter>(
     tx: &mut Transaction<'_, S>,
     name: &ReleaseName,
@@ -116,5 +137,18 @@ fn number_of(state: State) -> u32
         State::Staged => 0,
         State::Broken => 1,
         State::Active => 2,
+    }
+}
+
+// The number by which a reason is stored, and the place of the label that it names, else 0.
+fn numbers_of(why: BadFile) -> (u32, u32)
+    ensures { IsStored why → reason_at result.0 result.1 ≡ Some why }
+{
+    match why {
+        BadFile::NotUtf8 => (1, 0),
+        BadFile::TwoMarks => (2, 0),
+        BadFile::NoHeader => (3, 0),
+        BadFile::MissingLabel(label) => (4, u32::from(label.place())),
+        BadFile::LabelTwice(label) => (5, u32::from(label.place())),
     }
 }

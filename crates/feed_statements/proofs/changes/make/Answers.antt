@@ -9,14 +9,7 @@ use Rattle.feed_statements.proofs.Sequence.{made_as, pieces_made}
 use Rattle.feed_statements.proofs.changes.make.Goals as goal
 
 pub returns-in-Add-clause-made : goal.returns-in-Add-clause-made
-returns-in-Add-clause-made g c clean =
-    let n = c.in-Add.name.now in
-    let size = c.in-Add.size in
-    rw c.in-Add.is
-    (on_ok_weaker c.add.result
-    (made_as (ChangesIf (size ≤ max_file) (insert_record (new_record n size))) (AllowedChanges (Add n size))
-    (state g.S.Store c.args.tx.now.conn.now) (state g.S.Store c.add.new.tx.conn.now) (λ change allowed ours. change allowed.2 ours))
-    (c.add.ensures.made clean))
+returns-in-Add-clause-made g c clean = rw c.in-Add.is (c.add.ensures.made clean)
 
 pub returns-in-Pieces-clause-made : goal.returns-in-Pieces-clause-made
 returns-in-Pieces-clause-made g c clean =

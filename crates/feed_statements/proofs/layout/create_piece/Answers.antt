@@ -1,7 +1,7 @@
 use Rattle.std.proofs.Common.{ap, refl, []}
 use Rattle.sqlite.specs.Held.{state}
 use Rattle.feed_statements.specs.Effects.{Leads}
-use Rattle.feed_statements.specs.Schemas.{HasAllTables, HasReleaseTable}
+use Rattle.feed_statements.specs.Schemas.{HasPieceTable, HasReleaseTable}
 use Rattle.feed_statements.specs.Texts.{piece_text}
 use Rattle.feed_statements.proofs.Inside.{kept_inside, made_inside}
 use Rattle.feed_statements.proofs.Tables.{creates_piece}
@@ -11,7 +11,7 @@ pub returns-clause-made : goal.returns-clause-made
 returns-clause-made g c clean =
     let old = state g.S.Store c.args.tx.now.conn.now in
     let new = state g.S.Store c.execute.new.self.conn.now in
-    made_inside piece_text [] old new (Leads HasReleaseTable HasAllTables) c.execute.result
+    made_inside piece_text [] old new (Leads HasReleaseTable HasPieceTable) c.execute.result
     (λ count ran has. creates_piece old new count has ran)
     (λ off. rw (c.execute.ensures.ended off).0 refl) (λ live. c.execute.ensures.runs clean live)
 

@@ -9,5 +9,5 @@ use Rattle.feed_statements.proofs.schema.is_between.Goals as goal
 pub returns-in-Some-Binary : goal.returns-in-Some-Binary
 returns-in-Some-Binary c = λ depth.
     stands-op2 c.args.nodes.now (suc (suc depth)) c.args.at c.in-Some-Binary.left c.in-Some-Binary.right c.in-Some-Binary.op And
-    (bound_by Ge c.args.place 0) (bound_by Le c.args.place 2) c.is_operator.result c.is_bound.result c.is_bound-in-Some-Binary.result
+    (bound_by Ge c.args.place c.args.least) (bound_by Le c.args.place c.args.most) c.is_operator.result c.is_bound.result c.is_bound-in-Some-Binary.result
     (grind (arith, common_steps, c.in-Some-Binary.ensures.lookup)) c.is_operator.ensures (c.is_bound.ensures depth) (c.is_bound-in-Some-Binary.ensures depth)

@@ -1,0 +1,18 @@
+use Rattle.std.proofs.Common.{◌≡◌, ◌≢◌, rules, subst, arith}
+use Rattle.sqlite.specs.Held.{state}
+use Rattle.feed_model.specs.declared.state.State.TheVariants.{Staged}
+use Rattle.feed_model.specs.Change.{insert_record}
+use Rattle.feed_model.specs.Reply.{max_file}
+use Rattle.feed_rows.specs.Records.{bare}
+use Rattle.feed_statements.specs.Effects.{ChangesIf, IsMade}
+use Rattle.feed_statements.proofs.Sequence.{staged_made}
+use Rattle.feed_statements.proofs.changes.add.Goals as goal
+
+pub returns-clause-made : goal.returns-clause-made
+returns-clause-made g c clean =
+    let n = c.args.name.now in
+    let old = state g.S.Store c.args.tx.now.conn.now in
+    let new = state g.S.Store c.insert_release.new.tx.conn.now in
+    let short : c.in-Ok.short ≡ c.args.size = search rules in
+    let some : c.args.size ≢ 0 = omega (arith, c.if-size-eq0.false) in
+    staged_made n c.args.size old new some (rw short at (c.in_ok-insert_release.ensures.made clean))
