@@ -146,3 +146,13 @@ explained_same reasons others same [] = refl
 explained_same reasons others same (r ∷ rs) =
     ap (λ (o : Option BadFile). let x : Record = record r { reason = o } in x ∷ explained reasons rs) (same (text_of r.name))
     ∙ ap (λ l. explained_by others r ∷ l) (explained_same reasons others same rs)
+
+-- ---- no reasons at all
+
+none_explained : (c : Content) → AllByRecursion (λ r. r.reason ≡ None) c → explained [] c ≡ c
+none_explained [] all = refl
+none_explained (r ∷ rs) all =
+    ap (λ (o : Option BadFile). let x : Record = record r { reason = o } in x ∷ explained [] rs) (sym all.0) ∙ ap (λ l. r ∷ l) (none_explained rs all.1)
+
+pub unexplained : (pieces rows : List Row) → explained [] (content_in rows pieces) ≡ content_in rows pieces
+unexplained pieces rows = none_explained (content_in rows pieces) (all_records (λ r. r.reason ≡ None) pieces rows (λ r h. refl))

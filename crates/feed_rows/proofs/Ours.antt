@@ -20,7 +20,7 @@ no_rows : AreRows [] []
 unfolding IsDistinct
 no_rows = record { are_releases = tt; are_pieces = tt; ids = tt; piece_ids = tt }
 
-no_reasons : AreReasons []
+pub no_reasons : AreReasons []
 unfolding IsDistinct
 no_reasons = record { are = tt; ids = tt }
 

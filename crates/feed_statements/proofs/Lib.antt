@@ -9,4 +9,5 @@ mod Terms
 mod Recognised
 mod LayoutNumber
 mod Selects
-mod Upgrade
+mod Renumbering
+mod Steps

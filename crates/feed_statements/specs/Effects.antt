@@ -79,8 +79,9 @@ pub record IsUpgraded (f : Content → Content) (old new : Database) : Type 0 wh
   pub listed : IsEarlierListed old → IsListed new
   pub content : IsEarlierListed old → content_of new ≡ f (earlier_content_of old)
 
-abbrev pub Upgrades : (Content → Content) → Database → Database → Type 0
-Upgrades f old new = IsEarlier old → IsUpgraded f old new
+-- under a condition, a database of layout 1 becomes one of layout 2
+abbrev pub UpgradesIf : Type 0 → (Content → Content) → Database → Database → Type 0
+UpgradesIf Condition f old new = Condition → IsEarlier old → IsUpgraded f old new
 
 -- a database whose tables of layout 1 were extended gets the number of layout 2
 abbrev pub Renumbers : Database → Database → Type 0

@@ -1,3 +1,4 @@
 pub mod Texts
 pub mod Schemas
 pub mod Effects
+pub mod Upgrading

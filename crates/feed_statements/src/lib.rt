@@ -8,8 +8,10 @@ mod number;
 mod schema;
 mod statements;
 mod text;
+mod upgrading;
 
 pub use changes::commit_change;
 pub use layout::lay_out;
 pub use number::has_number;
 pub use schema::{is_blank, is_earlier, is_laid_out};
+pub use upgrading::upgrade;
