@@ -12,22 +12,24 @@ use Rattle.sqlite_sql.specs.Program.{overlay}
 use Rattle.sqlite_sql.specs.Term.{Term, col, eval_all}
 use Rattle.sqlite_schema.specs.declared.command.Command.TheVariants.{Select}
 use Rattle.sqlite.specs.Listing.{understood, reads_listing}
-use Rattle.sqlite.specs.Effect.{IsDatabase}
 use Rattle.sqlite.specs.State.{State, Shown}
 use Rattle.sqlite.proofs.Callers.{IsPlain, command_of, reads_as}
-use Rattle.feed_rows.specs.Layout.{feed_schema}
+use Rattle.sqlite.specs.Table.{Table}
+use Rattle.sqlite_schema.specs.declared.schema.Index.{Index}
+use Rattle.feed_rows.specs.Layout.{schema_with}
+use Rattle.feed_rows.specs.Tables.{HasTables}
 use Rattle.feed_rows.proofs.Rows.{table_query, passes, answered}
 use Rattle.feed_reading.specs.Texts.{releases_text, pieces_text}
 use Rattle.feed_reading.proofs.InOrder.{in_order, key, name_key, place_key}
 use Rattle.feed_reading.proofs.Widths.{release_widths, piece_widths}
 
-pub releases_plain : IsPlain (understood feed_schema releases_text)
+pub releases_plain : (more : List Table) (keys : List Index) → IsPlain (understood (schema_with more keys) releases_text)
 unfolding understood everything
-releases_plain = (refl, refl)
+releases_plain more keys = (refl, refl)
 
-pub pieces_plain : IsPlain (understood feed_schema pieces_text)
+pub pieces_plain : (more : List Table) (keys : List Index) → IsPlain (understood (schema_with more keys) pieces_text)
 unfolding understood everything
-pieces_plain = (refl, refl)
+pieces_plain more keys = (refl, refl)
 
 abbrev pub release_terms : List Term
 release_terms = col 1 0 ∷ col 1 1 ∷ col 1 2 ∷ col 1 3 ∷ col 1 4 ∷ col 1 5 ∷ []
@@ -38,10 +40,10 @@ by_name = (col 1 1, key) ∷ []
 abbrev pub release_heads : List (List ℕ)
 release_heads = codes "rowid" ∷ codes "name" ∷ codes "package" ∷ codes "day" ∷ codes "size" ∷ codes "state" ∷ []
 
-pub releases_select : (command_of (understood feed_schema releases_text) ≡ Select (record { lets = []; body = table_query 1 [] release_terms by_name }) release_heads)
-    × (reads_listing feed_schema releases_text ≡ false)
+pub releases_select : (more : List Table) (keys : List Index) → (command_of (understood (schema_with more keys) releases_text) ≡ Select (record { lets = []; body = table_query 1 [] release_terms by_name }) release_heads)
+    × (reads_listing (schema_with more keys) releases_text ≡ false)
 unfolding understood everything
-releases_select = (refl, refl)
+releases_select more keys = (refl, refl)
 
 abbrev pub piece_terms : List Term
 piece_terms = col 1 0 ∷ col 1 1 ∷ col 1 2 ∷ col 1 3 ∷ []
@@ -52,10 +54,10 @@ by_place = (col 1 1, key) ∷ (col 1 2, key) ∷ []
 abbrev pub piece_heads : List (List ℕ)
 piece_heads = codes "rowid" ∷ codes "name" ∷ codes "place" ∷ codes "bytes" ∷ []
 
-pub pieces_select : (command_of (understood feed_schema pieces_text) ≡ Select (record { lets = []; body = table_query 3 [] piece_terms by_place }) piece_heads)
-    × (reads_listing feed_schema pieces_text ≡ false)
+pub pieces_select : (more : List Table) (keys : List Index) → (command_of (understood (schema_with more keys) pieces_text) ≡ Select (record { lets = []; body = table_query 3 [] piece_terms by_place }) piece_heads)
+    × (reads_listing (schema_with more keys) pieces_text ≡ false)
 unfolding understood everything
-pieces_select = (refl, refl)
+pieces_select more keys = (refl, refl)
 
 all_kept : (rows : List Row) → filter (passes [] []) rows ≡ rows
 all_kept [] = refl
@@ -87,30 +89,30 @@ all_same f n same (r ∷ rows) all = ap (λ (x : Row). x ∷ map f rows) (same r
 
 -- ---- the rows of the answers are those of the tables
 
-pub releases_shown : (old new : State) (rows : List Row) → old.now.schema ≡ feed_schema → IsDatabase old.now → Shown releases_text [] old new rows → IsPermutation (old.now.trees 1) rows
-releases_shown old new rows has sound h =
-    let got = reads_as releases_text [] old new feed_schema has _ releases_select.0 releases_plain releases_select.1 rows h in
+pub releases_shown : (old new : State) (rows : List Row) → HasTables old.now → Shown releases_text [] old new rows → IsPermutation (old.now.trees 1) rows
+releases_shown old new rows has h =
+    let got = reads_as releases_text [] old new (schema_with has.more has.keys) has.schema _ (releases_select has.more has.keys).0 (releases_plain has.more has.keys) (releases_select has.more has.keys).1 rows h in
     let a : IsAnswer (table_query 1 [] release_terms by_name) (overlay old.now.trees []) [] rows = got.answer Null in
     let moved = answered 1 [] release_terms by_name [] old.now.trees rows refl a in
     let show : Row → Row = λ r. eval_all release_terms ([] ∷ r ∷ []) in
-    subst (λ l. IsPermutation l rows) (ap (map show) (all_kept (old.now.trees 1)) ∙ all_same show 6 six (old.now.trees 1) (release_widths old.now has sound)) moved
+    subst (λ l. IsPermutation l rows) (ap (map show) (all_kept (old.now.trees 1)) ∙ all_same show 6 six (old.now.trees 1) (release_widths old.now has)) moved
 
 -- and they stand in the order of their names
-pub releases_order : (old new : State) (rows : List Row) → old.now.schema ≡ feed_schema → Shown releases_text [] old new rows → IsSorted (on name_key (key_cmp 0 (key ∷ []))) rows
+pub releases_order : (old new : State) (rows : List Row) → HasTables old.now → Shown releases_text [] old new rows → IsSorted (on name_key (key_cmp 0 (key ∷ []))) rows
 releases_order old new rows has h =
-    let got = reads_as releases_text [] old new feed_schema has _ releases_select.0 releases_plain releases_select.1 rows h in
+    let got = reads_as releases_text [] old new (schema_with has.more has.keys) has.schema _ (releases_select has.more has.keys).0 (releases_plain has.more has.keys) (releases_select has.more has.keys).1 rows h in
     in_order 1 release_terms by_name name_key (λ r. refl) old.now.trees rows (got.answer Null)
 
-pub pieces_shown : (old new : State) (rows : List Row) → old.now.schema ≡ feed_schema → IsDatabase old.now → Shown pieces_text [] old new rows → IsPermutation (old.now.trees 3) rows
-pieces_shown old new rows has sound h =
-    let got = reads_as pieces_text [] old new feed_schema has _ pieces_select.0 pieces_plain pieces_select.1 rows h in
+pub pieces_shown : (old new : State) (rows : List Row) → HasTables old.now → Shown pieces_text [] old new rows → IsPermutation (old.now.trees 3) rows
+pieces_shown old new rows has h =
+    let got = reads_as pieces_text [] old new (schema_with has.more has.keys) has.schema _ (pieces_select has.more has.keys).0 (pieces_plain has.more has.keys) (pieces_select has.more has.keys).1 rows h in
     let a : IsAnswer (table_query 3 [] piece_terms by_place) (overlay old.now.trees []) [] rows = got.answer Null in
     let moved = answered 3 [] piece_terms by_place [] old.now.trees rows refl a in
     let show : Row → Row = λ r. eval_all piece_terms ([] ∷ r ∷ []) in
-    subst (λ l. IsPermutation l rows) (ap (map show) (all_kept (old.now.trees 3)) ∙ all_same show 4 four (old.now.trees 3) (piece_widths old.now has sound)) moved
+    subst (λ l. IsPermutation l rows) (ap (map show) (all_kept (old.now.trees 3)) ∙ all_same show 4 four (old.now.trees 3) (piece_widths old.now has)) moved
 
 -- and they stand in the order of their names and places
-pub pieces_order : (old new : State) (rows : List Row) → old.now.schema ≡ feed_schema → Shown pieces_text [] old new rows → IsSorted (on place_key (key_cmp 0 (key ∷ key ∷ []))) rows
+pub pieces_order : (old new : State) (rows : List Row) → HasTables old.now → Shown pieces_text [] old new rows → IsSorted (on place_key (key_cmp 0 (key ∷ key ∷ []))) rows
 pieces_order old new rows has h =
-    let got = reads_as pieces_text [] old new feed_schema has _ pieces_select.0 pieces_plain pieces_select.1 rows h in
+    let got = reads_as pieces_text [] old new (schema_with has.more has.keys) has.schema _ (pieces_select has.more has.keys).0 (pieces_plain has.more has.keys) (pieces_select has.more has.keys).1 rows h in
     in_order 3 piece_terms by_place place_key (λ r. refl) old.now.trees rows (got.answer Null)

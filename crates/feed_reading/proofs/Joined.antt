@@ -25,10 +25,10 @@ use Rattle.feed_parts.specs.Shown.{shown_parts}
 use Rattle.feed_keep.specs.declared.record.Record as code
 use Rattle.feed_keep.specs.Shown.{shown}
 use Rattle.feed_names.specs.ReleaseName.{text_of}
-use Rattle.feed_rows.specs.Tables.{IsListed, IsOurs, IsPieceRow, IsReleaseRow, content_in, content_of, is_of, name_in, part_in, parts_in, record_in, same_id, text_in}
+use Rattle.feed_rows.specs.Tables.{HasTables, IsEarlierListed, IsPieceRow, IsReleaseRow, content_in, earlier_content_of, is_of, name_in, part_in, parts_in, record_in, same_id, text_in}
 use Rattle.feed_rows.proofs.AddedPart.{placed_pieces}
-use Rattle.feed_rows.proofs.AnyOrder.{any_order}
-use Rattle.feed_rows.proofs.Contents.{keyed_pieces, keyed_releases, release_text, texted_pieces, texted_releases}
+use Rattle.feed_rows.proofs.AnyOrder.{any_rows}
+use Rattle.feed_rows.proofs.Contents.{release_text, texted_pieces, texted_releases}
 use Rattle.feed_rows.proofs.Insertion.{IsUp, sort_same}
 use Rattle.feed_rows.proofs.Order.{part_laws, part_stops, parts_sort, record_laws, record_stops, records_sort, same_first, same_text}
 use Rattle.feed_rows.proofs.Unique.{distinct_places, distinct_texts}
@@ -83,7 +83,7 @@ ids_apart rows ids same d =
 
 -- ---- the tables hold a list of records
 
-pub now_listed : (db : Database) (found : Releases) (ids : List ℤ) → AreSelected db found ids → IsDistinct int_eq found.ids.items → IsDistinct int_eq ids → IsListed db
+pub now_listed : (db : Database) (found : Releases) (ids : List ℤ) → AreSelected db found ids → IsDistinct int_eq found.ids.items → IsDistinct int_eq ids → IsEarlierListed db
 now_listed db found ids it one two =
     let releases = it.releases in
     let pieces = it.pieces in
@@ -95,11 +95,11 @@ now_listed db found ids it one two =
       piece_ids = apart_moved id_cmp id_total pieces.rows (db.trees 3) (IsPermutation-sym _ _ pieces.moved) parts;
     }
 
-pub release_ids_apart : (db : Database) (found : Releases) (ids : List ℤ) → AreSelected db found ids → IsListed db → IsDistinct int_eq found.ids.items
+pub release_ids_apart : (db : Database) (found : Releases) (ids : List ℤ) → AreSelected db found ids → IsEarlierListed db → IsDistinct int_eq found.ids.items
 release_ids_apart db found ids it are =
     subst (IsDistinct int_eq) (sym it.numbers) (ids_apart it.releases.rows _ it.releases.show.numbers (apart_moved id_cmp id_total (db.trees 1) it.releases.rows it.releases.moved are.ids))
 
-pub piece_ids_apart : (db : Database) (found : Releases) (ids : List ℤ) → AreSelected db found ids → IsListed db → IsDistinct int_eq ids
+pub piece_ids_apart : (db : Database) (found : Releases) (ids : List ℤ) → AreSelected db found ids → IsEarlierListed db → IsDistinct int_eq ids
 piece_ids_apart db found ids it are =
     ids_apart it.pieces.rows ids it.pieces.show.numbers (apart_moved id_cmp id_total (db.trees 3) it.pieces.rows it.pieces.moved are.piece_ids)
 
@@ -118,9 +118,9 @@ unfolding IsStrictlySortedBy
 named_up [] all up = tt
 named_up (r ∷ rows) all up = (others_named r rows all.0 all.1 up.0, named_up rows all.1 up.1)
 
-pub names_up : (db : Database) (found : Releases) → IsOurs db → IsListed db → AreReleases db found → AreNamesUp (names (shown found.records.items))
+pub names_up : (db : Database) (found : Releases) → HasTables db → IsEarlierListed db → AreReleases db found → AreNamesUp (names (shown found.records.items))
 names_up db found ours are it =
-    let apart = distinct_texts db ours.schema ours.obeyed (keyed_releases _ _ are) (texted_releases _ _ are) are.ids in
+    let apart = distinct_texts db ours (texted_releases _ _ are) in
     let tied = subst (λ e. IsDistinct e (db.trees 1)) (λ i a b. sym (is_eq-slice_cmp (text_in a) (text_in b)) i) apart in
     let mine = apart_moved (on text_in text_cmp) text_total (db.trees 1) it.rows it.moved tied in
     let up = strict_of (on text_in text_cmp) text_total it.rows it.order mine in
@@ -152,7 +152,7 @@ all_of text (r ∷ rows) = by (is_of text r) refl (all_of text rows)
 same_then : (o p : Ordering) → o ≡ Equal → ordering_then o p ≡ p
 same_then o p e = rw e
 
-pub places_up : (db : Database) (rows : List Row) (text : List ℕ) → IsOurs db → IsListed db → IsPermutation (db.trees 3) rows → ArePlacesInOrder rows
+pub places_up : (db : Database) (rows : List Row) (text : List ℕ) → HasTables db → IsEarlierListed db → IsPermutation (db.trees 3) rows → ArePlacesInOrder rows
     → ArePartsUp (map part_in (filter (is_of text) rows))
 places_up db rows text ours are moved order =
     let mine = filter (is_of text) rows in
@@ -163,7 +163,7 @@ places_up db rows text ours are moved order =
     let b = get_or mine k d in
     let tie : text_cmp (text_in a) (text_in b) ≡ Equal = (λ i. text_cmp (named (k + 1) d high i) (named k d (omega arith) i)) ∙ text_itself text in
     ap is_lt (sym (same_then _ (nat_cmp (place_of a) (place_of b)) tie)) ∙ kept k d low high in
-    let apart = distinct_places db ours.schema ours.obeyed (keyed_pieces _ _ are) (texted_pieces _ _ are) (placed_pieces _ _ are) are.piece_ids text in
+    let apart = distinct_places db ours (texted_pieces _ _ are) (placed_pieces _ _ are) text in
     let tied = subst (λ e. IsDistinct e (map part_in (filter (is_of text) (db.trees 3)))) (λ i p q. first_ties p.first q.first i) apart in
     let first : Part → ℕ = λ p. p.first in
     let parts_moved = IsPermutation-map part_in _ _ (IsPermutation-filter (is_of text) (db.trees 3) rows moved) in
@@ -179,7 +179,7 @@ from_shown : (rs : List code.Record) → AllByRecursion (λ r. ArePartsUp r.part
 from_shown [] all = tt
 from_shown (r ∷ rs) all = (all.0, from_shown rs all.1)
 
-pub all_parts_up : (db : Database) (found : Releases) (ids : List ℤ) → IsOurs db → IsListed db → AreSelected db found ids
+pub all_parts_up : (db : Database) (found : Releases) (ids : List ℤ) → HasTables db → IsEarlierListed db → AreSelected db found ids
     → All (λ r. ArePartsUp (shown_parts r.parts.items)) found.records.items
 all_parts_up db found ids ours are it =
     let rows = it.pieces.rows in
@@ -231,13 +231,13 @@ each_joined rows (r ∷ rs) all up = λ i. (let x : Record = record (record_in [
         ∙ sym (parts_sort (mine (text_in r)) ∙ sort_same same_first part_stops part_laws (mine (text_in r)) (parts_are_up (mine (text_in r)) (up (text_in r))))
 
 -- the records that were read, with their parts, are the content
-pub joined : (db : Database) (found : Releases) (ids : List ℤ) → IsOurs db → IsListed db → AreSelected db found ids → AreNamesUp (names (shown found.records.items))
-    → shown found.records.items ≡ content_of db
+pub joined : (db : Database) (found : Releases) (ids : List ℤ) → HasTables db → IsEarlierListed db → AreSelected db found ids → AreNamesUp (names (shown found.records.items))
+    → shown found.records.items ≡ earlier_content_of db
 joined db found ids ours are it up =
     let rows = it.pieces.rows in
     let releases = it.releases.rows in
     let other : Database = record { schema = db.schema; trees = λ tree. cond (tree == 1) releases rows } in
-    let any : content_of db ≡ content_in releases rows = any_order db other ours are it.releases.moved it.pieces.moved in
+    let any : earlier_content_of db ≡ content_in releases rows = any_rows db other ours are it.releases.moved it.pieces.moved in
     let is : shown found.records.items ≡ map (record_in rows) releases =
     it.pieces.show.shows ∙ ap (map (with_rows rows)) it.releases.show.shows
     ∙ each_joined rows releases it.releases.show.proper (λ text. places_up db rows text ours are it.pieces.moved it.pieces.order) in

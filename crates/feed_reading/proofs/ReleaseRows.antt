@@ -1,5 +1,5 @@
 -- What a row of a release is read as.
-use Rattle.std.proofs.Common.{◌≡◌, ◌≤◌, ℕ, ℤ, pos, List, [], ◌∷◌, refl, sym, ap, subst}
+use Rattle.std.proofs.Common.{◌≡◌, ◌≤◌, ℕ, ℤ, pos, List, [], ◌∷◌, None, refl, sym, ap, subst}
 use Rattle.sqlite_value.specs.declared.value.Value.TheVariants.{Int, Text}
 use Rattle.sqlite_value.specs.Order.{Row, column, bytes}
 use Rattle.feed_names.specs.ReleaseName.{Name, IsName, text_of}
@@ -11,11 +11,11 @@ use Rattle.feed_reading.specs.Reading.{IsReleaseOf}
 
 -- the row that a record's release has
 pub as_release : (row : Row) (id : ℤ) (r : Record) → row ≡ release_row id r.name r.size r.state → IsName (text_of r.name) r.name → r.size ≤ max_file
-    → r.parts.items ≡ [] → IsReleaseOf row id r
-as_release row id r is named limit none = subst (λ (l : Row). IsReleaseOf l id r) (sym is) (record {
+    → r.reason ≡ None → r.parts.items ≡ [] → IsReleaseOf row id r
+as_release row id r is named limit bare none = subst (λ (l : Row). IsReleaseOf l id r) (sym is) (record {
   is = record { is = ap (release_row id r.name r.size) (sym (state_back r.state)); named = named; limit = limit };
   number = refl;
-  shows = rw (none, state_back r.state);
+  shows = rw (none, bare, state_back r.state);
 })
 
 -- what the columns of a release's row say

@@ -14,7 +14,7 @@ use Rattle.sqlite.specs.Given.{HasGiven, HasBegun, IsRefused}
 use Rattle.sqlite.specs.Held.{Held, state}
 use Rattle.sqlite.specs.State.{State, HasCleanDisk, IsUnchanged, IsRolledBack, FailsToQuery, FailsToShow, IsNotRun, Shown, ShowsRows}
 use Rattle.sqlite.proofs.Callers.{EndsIn, begins_shown, command_of, given_begin}
-use Rattle.feed_rows.specs.Layout.{feed_schema}
+use Rattle.sqlite.specs.Schema.{Schema}
 use Rattle.feed_reading.specs.Releases.{Leaves}
 
 -- rows of a query were given, of which this is known, and nothing was changed
@@ -55,10 +55,10 @@ begun_open g sql old new (inl h) = h.1.0.was_open
 begun_open g sql old new (inr h) = shown_open sql (state g old) (state g new) h.1.0 (timed [] h.1.0.formats h.1.1.now) _ h.1.0.returning h.1.2
 
 -- the rows that were given begin a whole answer
-pub whole_given : {S : Type 0} (g : store.Ghosts S) (sql : List ℕ) (now : Held S) (rows : List Row) (p : Program) (names : List (List ℕ)) → now.schema ≡ feed_schema
-    → p.lets ≡ [] → command_of (understood feed_schema sql) ≡ Select p names → IsTrue (state g now).is_open → HasGiven g sql [] now rows
+pub whole_given : {S : Type 0} (g : store.Ghosts S) (sql : List ℕ) (now : Held S) (rows : List Row) (p : Program) (names : List (List ℕ)) (schema : Schema) → now.schema ≡ schema
+    → p.lets ≡ [] → command_of (understood schema sql) ≡ Select p names → IsTrue (state g now).is_open → HasGiven g sql [] now rows
     → (tail : List Row) × Shown sql [] (state g now) (state g now) (rows ++ tail)
-whole_given g sql now rows p names has none is open_now given =
+whole_given g sql now rows p names schema has none is open_now given =
     let s = state g now in
     let same : IsUnchanged s s =
     (record { was_open = open_now; is_open = open_now; now_is = refl; committed_is = refl; mode = refl }, record { changes = refl; last_rowid = refl }, refl) in

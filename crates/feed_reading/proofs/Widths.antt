@@ -11,7 +11,9 @@ use Rattle.sqlite_schema.specs.Rules.{passes, are_typed, are_present, has_comput
 use Rattle.sqlite_sql.specs.Ops.{is_null}
 use Rattle.sqlite_rules.proofs.ListLemmas.{all_has, all_from}
 use Rattle.sqlite.specs.Effect.{Database, IsDatabase}
-use Rattle.feed_rows.specs.Layout.{feed_schema, release, piece}
+use Rattle.sqlite.specs.Schema.{Schema}
+use Rattle.feed_rows.specs.Layout.{schema_with, release, piece}
+use Rattle.feed_rows.specs.Tables.{HasTables}
 
 first_of : (a b : Bool) → (a && b) ≡ true → a ≡ true
 first_of true b h = refl
@@ -56,31 +58,33 @@ width table row none some all typed full =
       | inr least ↦ omega (arith, length-drop 1 row)
     ]
 
-release_width : (db : Trees) (row : Row) → passes Datatype feed_schema db release row ≡ true → passes NotNull feed_schema db release row ≡ true → length row ≡ 6
-release_width db row typed full =
+release_width : (s : Schema) (db : Trees) (row : Row) → passes Datatype s db release row ≡ true → passes NotNull s db release row ≡ true → length row ≡ 6
+release_width s db row typed full =
     width release row refl (λ e. omega (arith, ap length e)) (refl, (refl, (refl, (refl, (refl, tt)))))
     (first_of (are_typed release.key 0 release.columns (drop 1 row)) (has_computed release row) typed) full
 
-piece_width : (db : Trees) (row : Row) → passes Datatype feed_schema db piece row ≡ true → passes NotNull feed_schema db piece row ≡ true → length row ≡ 4
-piece_width db row typed full =
+piece_width : (s : Schema) (db : Trees) (row : Row) → passes Datatype s db piece row ≡ true → passes NotNull s db piece row ≡ true → length row ≡ 4
+piece_width s db row typed full =
     width piece row refl (λ e. omega (arith, ap length e)) (refl, (refl, (refl, tt))) (first_of (are_typed piece.key 0 piece.columns (drop 1 row)) (has_computed piece row) typed) full
 
 -- a row's number, and its five columns
-pub release_widths : (db : Database) → db.schema ≡ feed_schema → IsDatabase db → AllByRecursion (λ row. length row ≡ 6) (db.trees 1)
-release_widths db has sound =
-    let is : IsDatabase (record { schema = feed_schema; trees = db.trees }) = subst (λ s. IsDatabase (record { schema = s; trees = db.trees })) has sound in
+pub release_widths : (db : Database) → HasTables db → AllByRecursion (λ row. length row ≡ 6) (db.trees 1)
+release_widths db has =
+    let s = schema_with has.more has.keys in
+    let is : IsDatabase (record { schema = s; trees = db.trees }) = subst (λ s. IsDatabase (record { schema = s; trees = db.trees })) has.schema has.obeyed in
     let typed = (is.obeys.rules Datatype).1.0 in
     let full = (is.obeys.rules NotNull).1.0 in
-    all_from _ (db.trees 1) (λ r h. release_width db.trees r
-    (all_has (λ row. passes Datatype feed_schema db.trees release row ≡ true) (db.trees 1) r typed h)
-    (all_has (λ row. passes NotNull feed_schema db.trees release row ≡ true) (db.trees 1) r full h))
+    all_from _ (db.trees 1) (λ r h. release_width s db.trees r
+    (all_has (λ row. passes Datatype s db.trees release row ≡ true) (db.trees 1) r typed h)
+    (all_has (λ row. passes NotNull s db.trees release row ≡ true) (db.trees 1) r full h))
 
 -- a row's number, and its three columns
-pub piece_widths : (db : Database) → db.schema ≡ feed_schema → IsDatabase db → AllByRecursion (λ row. length row ≡ 4) (db.trees 3)
-piece_widths db has sound =
-    let is : IsDatabase (record { schema = feed_schema; trees = db.trees }) = subst (λ s. IsDatabase (record { schema = s; trees = db.trees })) has sound in
+pub piece_widths : (db : Database) → HasTables db → AllByRecursion (λ row. length row ≡ 4) (db.trees 3)
+piece_widths db has =
+    let s = schema_with has.more has.keys in
+    let is : IsDatabase (record { schema = s; trees = db.trees }) = subst (λ s. IsDatabase (record { schema = s; trees = db.trees })) has.schema has.obeyed in
     let typed = (is.obeys.rules Datatype).1.1.0 in
     let full = (is.obeys.rules NotNull).1.1.0 in
-    all_from _ (db.trees 3) (λ r h. piece_width db.trees r
-    (all_has (λ row. passes Datatype feed_schema db.trees piece row ≡ true) (db.trees 3) r typed h)
-    (all_has (λ row. passes NotNull feed_schema db.trees piece row ≡ true) (db.trees 3) r full h))
+    all_from _ (db.trees 3) (λ r h. piece_width s db.trees r
+    (all_has (λ row. passes Datatype s db.trees piece row ≡ true) (db.trees 3) r typed h)
+    (all_has (λ row. passes NotNull s db.trees piece row ≡ true) (db.trees 3) r full h))

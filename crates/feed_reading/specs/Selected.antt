@@ -4,7 +4,7 @@ use Rattle.std.specs.declared.alloc.Global.{Global}
 use Rattle.sqlite.specs.Effect.{Database}
 use Rattle.feed_keep.specs.declared.record.Record.{Record}
 use Rattle.feed_keep.specs.Shown.{shown}
-use Rattle.feed_rows.specs.Tables.{IsListed, content_of}
+use Rattle.feed_rows.specs.Tables.{IsEarlierListed, earlier_content_of}
 use Rattle.feed_reading.specs.declared.releases.Releases.{Releases}
 use Rattle.feed_reading.specs.Pieces.{ArePieces}
 use Rattle.feed_reading.specs.Releases.{AreReleases}
@@ -16,7 +16,7 @@ pub record AreSelected (db : Database) (found : Releases) (ids : List ℤ) : Typ
   pub numbers : found.ids.items ≡ start.ids.items
   pub pieces : ArePieces db ids (shown start.records.items) (shown found.records.items)
 
--- the tables hold a list of records, and these are they
+-- the tables hold a list of records, and these are they, without reasons
 pub record Holds (db : Database) (records : Vec Record Global) : Type 0 where
-  pub listed : IsListed db
-  pub content : shown records.items ≡ content_of db
+  pub listed : IsEarlierListed db
+  pub content : shown records.items ≡ earlier_content_of db

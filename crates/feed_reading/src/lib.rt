@@ -10,4 +10,4 @@ mod reading;
 mod release_row;
 mod releases;
 
-pub use reading::read_records;
+pub use reading::read_unexplained;

@@ -7,7 +7,7 @@ ghost use Rattle.feed_names.specs.ReleaseName.{text_of};
 ghost use Rattle.feed_model.specs.Content.{Content, names};
 ghost use Rattle.feed_keep.specs.Shown.{shown};
 ghost use Rattle.feed_rows.specs.Live.{IsLive};
-ghost use Rattle.feed_rows.specs.Tables.{IsListed, IsOurs, IsPieceRow, text_in};
+ghost use Rattle.feed_rows.specs.Tables.{IsEarlierListed, IsTabled, IsPieceRow, text_in};
 ghost use Rattle.feed_reading.specs.Order.{AreNamesUp};
 ghost use Rattle.feed_reading.specs.Pieces.{ArePieces, ShowPieces};
 ghost use Rattle.feed_reading.specs.Releases.{AreReleases, Leaves};
@@ -31,10 +31,10 @@ pub fn select_pieces<S: Alter>(
     ensures ids { found.new.ids ≡ found.old.ids }
     ensures idle { conn.old.in_transaction ≡ false → conn.new.in_transaction ≡ false }
     ensures leaves { Leaves (state S.Store conn.old) (state S.Store conn.new) }
-    ensures read { IsLive (state S.Store conn.new) → IsOurs (state S.Store conn.old).now → IfOk result
+    ensures read { IsLive (state S.Store conn.new) → IsTabled (state S.Store conn.old).now → IfOk result
         (λ read. IsUnchanged (state S.Store conn.old) (state S.Store conn.new)
         × MatchOption read (AreReleases (state S.Store conn.old).now found.old
-        → ¬ (IsListed (state S.Store conn.old).now))
+        → ¬ (IsEarlierListed (state S.Store conn.old).now))
         (λ ids. ArePieces (state S.Store conn.old).now ids.items
         (shown found.old.records.items) (shown found.new.records.items))) }
 {

@@ -7,7 +7,7 @@ ghost use Rattle.feed_model.specs.Content.{names};
 ghost use Rattle.feed_keep.specs.Order.{IsInOrder};
 ghost use Rattle.feed_keep.specs.Shown.{shown};
 ghost use Rattle.feed_rows.specs.Live.{IsLive};
-ghost use Rattle.feed_rows.specs.Tables.{IsListed, IsOurs, content_of};
+ghost use Rattle.feed_rows.specs.Tables.{IsEarlierListed, IsTabled, earlier_content_of};
 ghost use Rattle.feed_reading.specs.Order.{AreNamesUp};
 ghost use Rattle.feed_reading.specs.Releases.{Leaves};
 ghost use Rattle.feed_reading.specs.Selected.{AreSelected, Holds};
@@ -19,25 +19,26 @@ use feed_keep::Record;
 use sqlite::{Alter, Connection, Error, ErrorCode};
 use std::alloc::Global;
 
-/// All records, ordered by the texts of their names, each with its parts ordered by their first places. Nothing where
-/// the tables hold no list of records. It writes nothing, and refuses inside a transaction. The parts are held once.
-pub fn read_records<S: Alter>(
+/// All records of a database of either layout, without reasons, ordered by the texts of their names, each with its parts
+/// ordered by their first places. Nothing where the tables hold no list of records. It writes nothing, and refuses inside
+/// a transaction. The parts are held once.
+pub fn read_unexplained<S: Alter>(
     alloc: Global,
     conn: &mut Connection<S>,
 ) -> Result<Option<Vec<Record>>, Error>
     requires { conn.old.in_transaction ≡ false }
     ensures idle { conn.new.in_transaction ≡ false }
     ensures live { IsLive (state S.Store conn.new) → IsLive (state S.Store conn.old) }
-    ensures same { IsLive (state S.Store conn.new) → IsOurs (state S.Store conn.old).now
+    ensures same { IsLive (state S.Store conn.new) → IsTabled (state S.Store conn.old).now
         → (state S.Store conn.new).now ≡ (state S.Store conn.old).now }
     ensures distinct { IfOk result (λ found. IfSome found
         (λ records. IsDistinct name_eq (names (shown records.items)))) }
     ensures order { IfOk result (λ found. IfSome found (λ records. IsInOrder (shown records.items))) }
-    ensures records { IsLive (state S.Store conn.new) → IsOurs (state S.Store conn.old).now → IfOk result
-        (λ found. IfSome found (λ records. shown records.items ≡ content_of (state S.Store conn.old).now)) }
-    ensures listed { IsLive (state S.Store conn.new) → IsOurs (state S.Store conn.old).now → IfOk result
-        (λ found. MatchOption found (¬ (IsListed (state S.Store conn.old).now))
-        (λ records. IsListed (state S.Store conn.old).now)) }
+    ensures records { IsLive (state S.Store conn.new) → IsTabled (state S.Store conn.old).now → IfOk result
+        (λ found. IfSome found (λ records. shown records.items ≡ earlier_content_of (state S.Store conn.old).now)) }
+    ensures listed { IsLive (state S.Store conn.new) → IsTabled (state S.Store conn.old).now → IfOk result
+        (λ found. MatchOption found (¬ (IsEarlierListed (state S.Store conn.old).now))
+        (λ records. IsEarlierListed (state S.Store conn.old).now)) }
 {
     if !conn.is_autocommit() {
         return Err(Error::SqliteFailure(ErrorCode::TransactionState));
@@ -56,8 +57,8 @@ fn select_all<S: Alter>(
     ensures idle { conn.old.in_transaction ≡ false → conn.new.in_transaction ≡ false }
     ensures leaves { Leaves (state S.Store conn.old) (state S.Store conn.new) }
     ensures up { IfOk result (λ found. IfSome found (λ it. AreNamesUp (names (shown it.0.records.items)))) }
-    ensures read { IsLive (state S.Store conn.new) → IsOurs (state S.Store conn.old).now → IfOk result
-        (λ found. MatchOption found (¬ (IsListed (state S.Store conn.old).now))
+    ensures read { IsLive (state S.Store conn.new) → IsTabled (state S.Store conn.old).now → IfOk result
+        (λ found. MatchOption found (¬ (IsEarlierListed (state S.Store conn.old).now))
         (λ it. AreSelected (state S.Store conn.old).now it.0 it.1.items)) }
 {
     let Some(mut found) = select_releases(alloc, conn)? else {
@@ -77,8 +78,8 @@ fn judged(found: Releases, ids: Vec<i64>) -> Option<Vec<Record>>
     requires up { AreNamesUp (names (shown found.records.items)) }
     ensures distinct { IfSome result (λ records. IsDistinct name_eq (names (shown records.items))) }
     ensures order { IfSome result (λ records. IsInOrder (shown records.items)) }
-    ensures joined { (db : Database) → IsOurs db → AreSelected db found ids.items
-        → MatchOption result (¬ (IsListed db)) (Holds db) }
+    ensures joined { (db : Database) → IsTabled db → AreSelected db found ids.items
+        → MatchOption result (¬ (IsEarlierListed db)) (Holds db) }
 {
     let mut release_ids = found.ids;
     let mut piece_ids = ids;

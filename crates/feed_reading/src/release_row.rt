@@ -46,6 +46,7 @@ pub fn release_in(alloc: Global, row: &Row) -> Result<Option<(i64, Record)>, Err
         name,
         size: columns.size,
         state,
+        reason: None,
         parts: Vec::new(alloc),
     };
     Ok(Some((columns.id, record)))

@@ -3,7 +3,7 @@ ghost use Rattle.sqlite.specs.Held.{state};
 ghost use Rattle.sqlite.specs.State.{IsUnchanged};
 ghost use Rattle.sqlite_value.specs.Order.{Row as Values};
 ghost use Rattle.feed_rows.specs.Live.{IsLive};
-ghost use Rattle.feed_rows.specs.Tables.{IsListed, IsOurs, IsReleaseRow};
+ghost use Rattle.feed_rows.specs.Tables.{IsEarlierListed, IsTabled, IsReleaseRow};
 ghost use Rattle.feed_reading.specs.Releases.{AreReleases, Leaves, ShowReleases};
 
 use crate::release_row::release_in;
@@ -25,9 +25,9 @@ pub fn select_releases<S: Alter>(
 ) -> Result<Option<Releases>, Error>
     ensures idle { conn.old.in_transaction ≡ false → conn.new.in_transaction ≡ false }
     ensures leaves { Leaves (state S.Store conn.old) (state S.Store conn.new) }
-    ensures read { IsLive (state S.Store conn.new) → IsOurs (state S.Store conn.old).now → IfOk result
+    ensures read { IsLive (state S.Store conn.new) → IsTabled (state S.Store conn.old).now → IfOk result
         (λ found. IsUnchanged (state S.Store conn.old) (state S.Store conn.new)
-        × MatchOption found (¬ (IsListed (state S.Store conn.old).now)) (AreReleases (state S.Store conn.old).now)) }
+        × MatchOption found (¬ (IsEarlierListed (state S.Store conn.old).now)) (AreReleases (state S.Store conn.old).now)) }
 {
     let mut found = Releases {
         ids: Vec::new(alloc),

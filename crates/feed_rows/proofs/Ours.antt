@@ -5,7 +5,7 @@ use Rattle.sqlite.specs.Effect.{Database, IsDatabase}
 use Rattle.sqlite_trees.specs.Tree.{rowid}
 use Rattle.sqlite.specs.Change.{automatics}
 use Rattle.feed_rows.specs.Layout.{feed_schema, reason}
-use Rattle.feed_rows.specs.Tables.{AreRows, AreReasons, HasTables, IsEarlier, IsListed, IsOurs, content_of}
+use Rattle.feed_rows.specs.Tables.{AreRows, AreReasons, HasTables, IsTabled, IsEarlier, IsListed, IsOurs, content_of}
 
 -- the tables and their rules are as they were, and the layout's number too
 pub record KeepsLayout (old new : Database) : Type 0 where
@@ -40,3 +40,11 @@ tables_of_ours db ours = tables_of db ours.schema ours.obeyed
 
 pub tables_of_earlier : (db : Database) → IsEarlier db → HasTables db
 tables_of_earlier db is = record { more = []; keys = []; schema = is.schema; obeyed = is.obeyed }
+
+pub tabled : (db : Database) → HasTables db → IsTabled db
+unfolding IsTabled
+tabled db has = has
+
+pub tables_in : (db : Database) → IsTabled db → HasTables db
+unfolding IsTabled
+tables_in db has = has

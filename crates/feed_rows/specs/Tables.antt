@@ -184,6 +184,10 @@ pub record HasTables (db : Database) : Type 0 where
   pub schema : db.schema ≡ schema_with more keys
   pub obeyed : IsDatabase db
 
+-- the same, as what a reader of them asks
+unfoldable pub IsTabled : Database → Type 0
+IsTabled db = HasTables db
+
 -- the database has the tables of layout 1 and no other, its rules hold, and the layout's number is 1
 pub record IsEarlier (db : Database) : Type 0 where
   pub schema : db.schema ≡ earlier_schema

@@ -28,5 +28,5 @@ returns-clause-given c =
     ap shown_parts c.in_ok-push.ensures.items ∙ map-append shown_part r.parts.items _
     ∙ ap (λ (bytes : List ℕ). let q : Part = record { first = c.args.first; bytes = bytes } in shown_parts r.parts.items ++ q ∷ []) c.in_ok-bytes.ensures.items in
     set_given rs c.in-Some.at _ r c.args.text.now p c.requires.up within named
-    (ap (λ (ps : List Part). let x : Record = record { name = r.name; size = r.size; state = r.state; parts = ps } in x) parts
+    (ap (λ (ps : List Part). let x : Record = record { name = r.name; size = r.size; state = r.state; reason = r.reason; parts = ps } in x) parts
     ∙ ap (λ (y : code.Record). fuller (shown_record y) p) c.index_mut-record.ensures.value)

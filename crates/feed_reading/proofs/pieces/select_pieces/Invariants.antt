@@ -3,7 +3,7 @@ use Rattle.sqlite.specs.State.{HasCleanDisk}
 use Rattle.sqlite.specs.Held.{state}
 use Rattle.feed_model.specs.Content.{names}
 use Rattle.feed_keep.specs.Shown.{shown}
-use Rattle.feed_rows.specs.Layout.{feed_schema}
+use Rattle.feed_rows.specs.Tables.{IsTabled}
 use Rattle.feed_rows.specs.Live.{IsLive}
 use Rattle.feed_reading.specs.Texts.{pieces_text}
 use Rattle.feed_reading.proofs.Streams.{HasRead}
@@ -20,6 +20,6 @@ invariant-rows g l =
       live : IsLive now → IsLive old;
       ids : l.found.ids ≡ l.fn.found.ids;
       names : names (shown l.found.records.items) ≡ names start;
-      read : old.now.schema ≡ feed_schema → HasCleanDisk now
+      read : IsTabled old.now → HasCleanDisk now
           → HasRead g.S.Store pieces_text (λ rows. ShowPieces rows l.ids.items start (shown l.found.records.items)) l.fn.conn l.rows.conn.now;
     }

@@ -1,4 +1,4 @@
-use Rattle.std.proofs.Common.{◌≡◌, ◌∷◌, [], ◌∙◌, ap, sym, rules, subst, pos, ℕ, List, w64, to_z, of_z, FitsSigned}
+use Rattle.std.proofs.Common.{refl, ◌≡◌, ◌∷◌, [], ◌∙◌, ap, sym, rules, subst, pos, ℕ, List, w64, to_z, of_z, FitsSigned}
 use Rattle.std.proofs.Math.Facts.{to_z-of_z}
 use Rattle.sqlite_value.specs.declared.value.Value.TheVariants.{Int, Text}
 use Rattle.feed_names.specs.ReleaseName.{Name, IsName, text_of}
@@ -35,4 +35,4 @@ returns c =
     let state : columns.state ≡ number_of c.in-Some-state_of.state = c.in-Some-state_of.ensures in
     let row : c.args.row.now ≡ release_row columns.id n columns.size c.in-Some-state_of.state =
     c.in-Some.ensures ∙ (λ i. Int columns.id ∷ Text (text i) ∷ Text (right.0 i) ∷ Int (right.1 i) ∷ Int (pos columns.size) ∷ Int (pos (state i)) ∷ []) in
-    rw back (as_release c.args.row.now columns.id _ row (subst (λ (t : List ℕ). IsName t n) text named) right.2 c.new.ensures.items)
+    rw back (as_release c.args.row.now columns.id _ row (subst (λ (t : List ℕ). IsName t n) text named) right.2 refl c.new.ensures.items)
