@@ -59,7 +59,7 @@ pub pieces_select : (more : List Table) (keys : List Index) → (command_of (und
 unfolding understood everything
 pieces_select more keys = (refl, refl)
 
-all_kept : (rows : List Row) → filter (passes [] []) rows ≡ rows
+pub all_kept : (rows : List Row) → filter (passes [] []) rows ≡ rows
 all_kept [] = refl
 all_kept (r ∷ rows) = ap (λ l. r ∷ l) (all_kept rows)
 
@@ -75,7 +75,7 @@ six (a ∷ b ∷ c ∷ d ∷ e ∷ []) n = absurd (omega arith)
 six (a ∷ b ∷ c ∷ d ∷ e ∷ f ∷ []) n = refl
 six (a ∷ b ∷ c ∷ d ∷ e ∷ f ∷ g ∷ more) n = absurd (omega arith)
 
-four : (row : Row) → length row ≡ 4 → eval_all piece_terms ([] ∷ row ∷ []) ≡ row
+pub four : (row : Row) → length row ≡ 4 → eval_all piece_terms ([] ∷ row ∷ []) ≡ row
 four [] n = absurd (omega arith)
 four (a ∷ []) n = absurd (omega arith)
 four (a ∷ b ∷ []) n = absurd (omega arith)
@@ -83,7 +83,7 @@ four (a ∷ b ∷ c ∷ []) n = absurd (omega arith)
 four (a ∷ b ∷ c ∷ d ∷ []) n = refl
 four (a ∷ b ∷ c ∷ d ∷ e ∷ more) n = absurd (omega arith)
 
-all_same : (f : Row → Row) (n : ℕ) → ((row : Row) → length row ≡ n → f row ≡ row) → (rows : List Row) → AllByRecursion (λ row. length row ≡ n) rows → map f rows ≡ rows
+pub all_same : (f : Row → Row) (n : ℕ) → ((row : Row) → length row ≡ n → f row ≡ row) → (rows : List Row) → AllByRecursion (λ row. length row ≡ n) rows → map f rows ≡ rows
 all_same f n same [] all = refl
 all_same f n same (r ∷ rows) all = ap (λ (x : Row). x ∷ map f rows) (same r all.0) ∙ ap (λ l. r ∷ l) (all_same f n same rows all.1)
 

@@ -20,9 +20,10 @@ use Rattle.std.proofs.Math.Seq.{map-set_same}
 use Rattle.feed_names.specs.ReleaseName.{Name, text_of}
 use Rattle.feed_model.specs.Content.{Part, Record, names}
 use Rattle.feed_keep.specs.declared.record.Record as code
+use Rattle.feed_parts.specs.Shown.{shown_parts}
 use Rattle.feed_keep.specs.Shown.{shown, shown_record}
 use Rattle.feed_reading.specs.Order.{AreNamesUp}
-use Rattle.feed_reading.specs.Pieces.{given_to}
+use Rattle.feed_reading.specs.Pieces.{if_named}
 
 -- ---- texts
 
@@ -92,29 +93,37 @@ searchable rs text up = searchable_from_sorted nat_list_cmp_total (λ (r : code.
 
 -- ---- a part that is given to the record of a name
 
-given_none : (text : List ℕ) (p : Part) (rs : List code.Record) → ((k : ℕ) (d : code.Record) → k < length rs → text ≢ text_of (get_or rs k d).name)
-    → map (given_to text p) (shown rs) ≡ shown rs
-given_none text p [] none = refl
-given_none text p (r ∷ rs) none = rw (apart text (text_of r.name) (none 0 r (omega arith))) (ap (λ c. shown_record r ∷ c) (given_none text p rs (λ k d lt. none (suc k) d (omega arith))))
+named_none : (text : List ℕ) (f : Record → Record) (rs : List code.Record) → ((k : ℕ) (d : code.Record) → k < length rs → text ≢ text_of (get_or rs k d).name)
+    → map (if_named text f) (shown rs) ≡ shown rs
+named_none text f [] none = refl
+named_none text f (r ∷ rs) none = rw (apart text (text_of r.name) (none 0 r (omega arith))) (ap (λ c. shown_record r ∷ c) (named_none text f rs (λ k d lt. none (suc k) d (omega arith))))
 
 abbrev pub fuller : Record → Part → Record
 fuller r p = record r { parts = r.parts ++ p ∷ [] }
 
-pub set_given : (rs : List code.Record) (i : ℕ) (x d : code.Record) (text : List ℕ) (p : Part) → AreNamesUp (names (shown rs)) → i < length rs
-    → text_of (get_or rs i d).name ≡ text → shown_record x ≡ fuller (shown_record (get_or rs i d)) p → shown (set rs i x) ≡ map (given_to text p) (shown rs)
-set_given [] i x d text p up lt is same = absurd (omega arith)
-set_given (r ∷ rs) zero x d text p up lt is same =
+-- the record of a name is the changed one, and no other
+pub set_named : (rs : List code.Record) (i : ℕ) (x d : code.Record) (text : List ℕ) (f : Record → Record) → AreNamesUp (names (shown rs)) → i < length rs
+    → text_of (get_or rs i d).name ≡ text → shown_record x ≡ f (shown_record (get_or rs i d)) → shown (set rs i x) ≡ map (if_named text f) (shown rs)
+set_named [] i x d text f up lt is same = absurd (omega arith)
+set_named (r ∷ rs) zero x d text f up lt is same =
     let none : (k : ℕ) (e : code.Record) → k < length rs → text ≢ text_of (get_or rs k e).name =
     λ k e within. subst (λ t. t ≢ text_of (get_or rs k e).name) is (less_differs _ _ (records_up (r ∷ rs) up 0 (suc k) e (omega arith) (omega arith))) in
-    let rest : map (given_to text p) (shown rs) ≡ shown rs = given_none text p rs none in
+    let rest : map (if_named text f) (shown rs) ≡ shown rs = named_none text f rs none in
     let hit : pointwise ◌==◌ text (text_of r.name) ≡ true = (bytes_decides text (text_of r.name)).1 (sym is) in
     rw hit (λ i. same i ∷ sym rest i)
-set_given (r ∷ rs) (suc i) x d text p up lt is same =
+set_named (r ∷ rs) (suc i) x d text f up lt is same =
     let first : text ≢ text_of r.name = λ e. less_differs _ _ (records_up (r ∷ rs) up 0 (suc i) d (omega arith) lt) (sym e ∙ sym is) in
-    rw (apart text (text_of r.name) first) (ap (λ c. shown_record r ∷ c) (set_given rs i x d text p (sorted_tail name_cmp r.name (names (shown rs)) up) (omega arith) is same))
+    rw (apart text (text_of r.name) first) (ap (λ c. shown_record r ∷ c) (set_named rs i x d text f (sorted_tail name_cmp r.name (names (shown rs)) up) (omega arith) is same))
 
 pub names_set : (rs : List code.Record) (i : ℕ) (x d : code.Record) → x.name ≡ (get_or rs i d).name → names (shown (set rs i x)) ≡ names (shown rs)
 names_set rs i x d same = names_shown (set rs i x) ∙ map-set_same name_in rs i x d same ∙ sym (names_shown rs)
+
+-- a record with the same parts in the place of another one
+pub parts_set : (rs : List code.Record) (i : ℕ) (x d : code.Record) → shown_parts x.parts.items ≡ shown_parts (get_or rs i d).parts.items
+    → map (λ r. r.parts) (shown (set rs i x)) ≡ map (λ r. r.parts) (shown rs)
+parts_set [] i x d same = refl
+parts_set (r ∷ rs) zero x d same = ap (λ ps. ps ∷ map (λ r. r.parts) (shown rs)) same
+parts_set (r ∷ rs) (suc i) x d same = ap (λ l. shown_parts r.parts.items ∷ l) (parts_set rs i x d same)
 
 -- a place is in front of another one, or not
 pub either_side : (k i : ℕ) → (k < i) ⊎ (i ≤ k)

@@ -62,21 +62,21 @@ distinct_unmap f e (x ∷ xs) d = (others xs d.0, distinct_unmap f e xs d.1)
 
 -- ---- numbers of rows
 
-abbrev id_cmp : Row → Row → Ordering
+abbrev pub id_cmp : Row → Row → Ordering
 id_cmp = on rowid value_cmp
 
-id_total : IsTotalOrder id_cmp
+pub id_total : IsTotalOrder id_cmp
 id_total = on_total rowid value_cmp_total
 
 int_ties : (λ m n. is_eq (value_cmp (Int m) (Int n))) ≡ int_eq
 int_ties = λ i m n. is_eq (value_cmp-Int m n i)
 
-rows_apart : (rows : List Row) (ids : List ℤ) → map rowid rows ≡ map Int ids → IsDistinct int_eq ids → IsDistinct same_id rows
+pub rows_apart : (rows : List Row) (ids : List ℤ) → map rowid rows ≡ map Int ids → IsDistinct int_eq ids → IsDistinct same_id rows
 rows_apart rows ids same d =
     let e = eq_by_cmp value_cmp in
     distinct_unmap rowid e rows (subst (IsDistinct e) (sym same) (distinct_map Int e ids (subst (λ t. IsDistinct t ids) (sym int_ties) d)))
 
-ids_apart : (rows : List Row) (ids : List ℤ) → map rowid rows ≡ map Int ids → IsDistinct same_id rows → IsDistinct int_eq ids
+pub ids_apart : (rows : List Row) (ids : List ℤ) → map rowid rows ≡ map Int ids → IsDistinct same_id rows → IsDistinct int_eq ids
 ids_apart rows ids same d =
     let e = eq_by_cmp value_cmp in
     subst (λ t. IsDistinct t ids) int_ties (distinct_unmap Int e ids (subst (IsDistinct e) same (distinct_map rowid e rows d)))

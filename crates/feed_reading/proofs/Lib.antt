@@ -12,3 +12,6 @@ pub mod Parents
 pub mod Strict
 pub mod Joined
 pub mod Orders
+mod GivenReasons
+mod ReasonAnswers
+mod Explaining

@@ -51,7 +51,7 @@ parent_of db row has are here =
     let named : IsTexted it.0 = release_texted it.0 (all_has IsReleaseRow (db.trees 1) it.0 are.are_releases it.1) in
     (it.0, it.1, (bytes_decides (text_in it.0) (text_in row)).0 (sym (equal_texts it.0 row named texted) ∙ it.2))
 
-none_named : (text : List ℕ) (rs : List code.Record) → All (λ r. text_of r.name ≢ text) rs → AllByRecursion (λ n. text_of n ≢ text) (names (shown rs))
+pub none_named : (text : List ℕ) (rs : List code.Record) → All (λ r. text_of r.name ≢ text) rs → AllByRecursion (λ n. text_of n ≢ text) (names (shown rs))
 none_named text [] all = tt
 none_named text (r ∷ rs) all = (all 0 r (omega arith), none_named text rs (λ k d lt. all (suc k) d (omega arith)))
 

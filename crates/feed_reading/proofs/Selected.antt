@@ -70,11 +70,11 @@ are_pieces old mid new rows ids start now ours same h show =
       show = show;
     }
 
-has_moved : (xs ys : List Row) (x : Row) → IsPermutation ys xs → Has xs x → Has ys x
+pub has_moved : (xs ys : List Row) (x : Row) → IsPermutation ys xs → Has xs x → Has ys x
 has_moved xs ys x moved here =
     all_has (Has ys) xs x (all-permutation (Has ys) ys xs moved (all_from (Has ys) ys (λ y h. h))) here
 
-has_middle : (xs : List Row) (x : Row) (ys : List Row) → Has ((xs ++ x ∷ []) ++ ys) x
+pub has_middle : (xs : List Row) (x : Row) (ys : List Row) → Has ((xs ++ x ∷ []) ++ ys) x
 has_middle [] x ys = inl refl
 has_middle (z ∷ xs) x ys = inr (has_middle xs x ys)
 

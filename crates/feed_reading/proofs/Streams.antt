@@ -15,7 +15,7 @@ use Rattle.sqlite.specs.Held.{Held, state}
 use Rattle.sqlite.specs.State.{State, HasCleanDisk, IsUnchanged, IsRolledBack, FailsToQuery, FailsToShow, IsNotRun, Shown, ShowsRows}
 use Rattle.sqlite.proofs.Callers.{EndsIn, begins_shown, command_of, given_begin}
 use Rattle.sqlite.specs.Schema.{Schema}
-use Rattle.feed_reading.specs.Releases.{Leaves}
+use Rattle.feed_reading.specs.Releases.{Leaves, LeavesOurs}
 
 -- rows of a query were given, of which this is known, and nothing was changed
 pub record HasRead {S : Type 0} (g : store.Ghosts S) (sql : List ℕ) (Known : List Row → Type 0) (old now : Held S) : Type 0 where
@@ -68,6 +68,18 @@ whole_given g sql now rows p names schema has none is open_now given =
   where
     ends : (p : Program) (names : List (List ℕ)) (db : Database) (params : Row) → p.lets ≡ [] → EndsIn (Select p names) db params
     ends p names db params none = rw none tt
+
+-- the same of a database of layout 2
+pub refused_leaves_ours : {S X : Type 0} (g : store.Ghosts S) (sql : List ℕ) (old new : Held S) (r : Result X Error) (e : Error) → r ≡ Err e → OnErr r (IsRefused g sql [] old r new)
+    → LeavesOurs (state g old) (state g new)
+refused_leaves_ours {X = X} g sql old new r e is held =
+    let it : IsRefused g sql [] old r new = subst (λ x. OnErr x (IsRefused g sql [] old r new)) is held in
+    let left : HasCleanDisk (state g new) → LeavesAlone (state g old) (state g new) =
+    λ clean. failed_leaves sql (state g old) (state g new) e (subst (λ (x : Result X Error). IfErr x (FailsToQuery sql [] (state g old) (state g new))) is (it.err clean)) in
+    record {
+      live = λ live. (omega (arith, it.survives.clean, live.0), was_open (state g old) (state g new) (left live.0) live.1);
+      kept = λ live has. left live.0;
+    }
 
 -- a query that does not begin leaves the database alone
 pub refused_leaves : {S X : Type 0} (g : store.Ghosts S) (sql : List ℕ) (old new : Held S) (r : Result X Error) (e : Error) → r ≡ Err e → OnErr r (IsRefused g sql [] old r new)

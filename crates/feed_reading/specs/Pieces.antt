@@ -12,9 +12,13 @@ use Rattle.feed_names.specs.ReleaseName.{text_of}
 use Rattle.feed_model.specs.Content.{Content, Part, Record}
 use Rattle.feed_rows.specs.Tables.{IsPieceRow, is_of, part_in, text_in}
 
+-- the record changed so, if it has this name
+abbrev pub if_named : List ℕ → (Record → Record) → Record → Record
+if_named text f r = if pointwise ◌==◌ text (text_of r.name) then f r else r
+
 -- the record with this part behind its own, if it has this name
 abbrev pub given_to : List ℕ → Part → Record → Record
-given_to text p r = if pointwise ◌==◌ text (text_of r.name) then record r { parts = r.parts ++ p ∷ [] } else r
+given_to text p r = if_named text (λ r. record r { parts = r.parts ++ p ∷ [] }) r
 
 -- the record with the parts of these rows that are of its name behind its own
 abbrev pub with_rows : List Row → Record → Record

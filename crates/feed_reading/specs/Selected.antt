@@ -4,7 +4,7 @@ use Rattle.std.specs.declared.alloc.Global.{Global}
 use Rattle.sqlite.specs.Effect.{Database}
 use Rattle.feed_keep.specs.declared.record.Record.{Record}
 use Rattle.feed_keep.specs.Shown.{shown}
-use Rattle.feed_rows.specs.Tables.{IsEarlierListed, earlier_content_of}
+use Rattle.feed_rows.specs.Tables.{IsEarlierListed, IsListed, content_of, earlier_content_of}
 use Rattle.feed_reading.specs.declared.releases.Releases.{Releases}
 use Rattle.feed_reading.specs.Pieces.{ArePieces}
 use Rattle.feed_reading.specs.Releases.{AreReleases}
@@ -20,3 +20,8 @@ pub record AreSelected (db : Database) (found : Releases) (ids : List ℤ) : Typ
 pub record Holds (db : Database) (records : Vec Record Global) : Type 0 where
   pub listed : IsEarlierListed db
   pub content : shown records.items ≡ earlier_content_of db
+
+-- the tables of layout 2 hold a list of records, and these are they
+pub record Explains (db : Database) (records : Vec Record Global) : Type 0 where
+  pub listed : IsListed db
+  pub content : shown records.items ≡ content_of db

@@ -6,3 +6,6 @@ releases_text = codes "SELECT rowid, name, package, day, size, state FROM feed_r
 
 abbrev pub pieces_text : List ℕ
 pieces_text = codes "SELECT rowid, name, place, bytes FROM feed_piece ORDER BY name, place"
+
+abbrev pub reasons_text : List ℕ
+reasons_text = codes "SELECT rowid, name, reason, label FROM feed_reason ORDER BY name"

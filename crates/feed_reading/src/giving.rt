@@ -35,8 +35,8 @@ pub fn give(
     Ok(true)
 }
 
-// The place of the record that has this name.
-fn find(records: &[Record], text: &[u8]) -> Option<usize>
+/// The place of the record that has this name.
+pub fn find(records: &[Record], text: &[u8]) -> Option<usize>
     requires up { AreNamesUp (names (shown records.now)) }
     ensures within { IfSome result (λ at. at < length records.now) }
     ensures found { IfSome result (HoldsAt (λ r. text_of r.name ≡ text.now) records.now) }

@@ -7,7 +7,9 @@ mod giving;
 mod piece_row;
 mod pieces;
 mod reading;
+mod reason_row;
+mod reasons;
 mod release_row;
 mod releases;
 
-pub use reading::read_unexplained;
+pub use reading::{read_records, read_unexplained};

@@ -38,7 +38,7 @@ use Rattle.feed_rows.proofs.Puts.{put_moved, put_distinct, put_content}
 use Rattle.feed_rows.proofs.SetState.{state_back}
 
 -- some release has the text of this row
-abbrev HasOwner : Trees → Row → Type 0
+abbrev pub HasOwner : Trees → Row → Type 0
 HasOwner db row = list_any (λ parent. agree plain (1 ∷ []) parent (1 ∷ []) row) (db 1) ≡ true
 
 last_true : (b : Bool) → (b && true) ≡ true → b ≡ true
@@ -49,7 +49,7 @@ last_true false e = absurd (let g : false ≡ true = e in cc)
 owned_part : (db : Trees) (row : Row) → IsTexted row → passes ForeignKey feed_schema db piece row ≡ true → HasOwner db row
 owned_part db row texted h = last_true (list_any (λ parent. agree plain (1 ∷ []) parent (1 ∷ []) row) (db 1)) (rw (texted, key_is) at h)
 
-owned_reason : (db : Trees) (row : Row) → IsTexted row → passes ForeignKey feed_schema db reason row ≡ true → HasOwner db row
+pub owned_reason : (db : Trees) (row : Row) → IsTexted row → passes ForeignKey feed_schema db reason row ≡ true → HasOwner db row
 owned_reason db row texted h = last_true (list_any (λ parent. agree plain (1 ∷ []) parent (1 ∷ []) row) (db 1)) (rw (texted, key_is) at h)
 
 flips : (a b : Row) → same_texts a b ≡ same_texts b a

@@ -48,3 +48,9 @@ tabled db has = has
 pub tables_in : (db : Database) → IsTabled db → HasTables db
 unfolding IsTabled
 tables_in db has = has
+
+pub tabled_ours : (db : Database) → IsOurs db → IsTabled db
+tabled_ours db ours = tabled db (tables_of_ours db ours)
+
+pub tabled_earlier : (db : Database) → IsEarlier db → IsTabled db
+tabled_earlier db is = tabled db (tables_of_earlier db is)

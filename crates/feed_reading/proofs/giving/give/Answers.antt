@@ -5,7 +5,7 @@ use Rattle.feed_model.specs.Content.{Part, Record}
 use Rattle.feed_parts.specs.Shown.{shown_part, shown_parts}
 use Rattle.feed_keep.specs.declared.record.Record as code
 use Rattle.feed_keep.specs.Shown.{shown_record}
-use Rattle.feed_reading.proofs.Ascending.{fuller, names_set, set_given}
+use Rattle.feed_reading.proofs.Ascending.{fuller, names_set, set_named}
 use Rattle.feed_reading.proofs.giving.give.Goals as goal
 
 pub returns-in_err-push-clause-names : goal.returns-in_err-push-clause-names
@@ -27,6 +27,6 @@ returns-clause-given c =
     let parts : shown_parts c.push.new.self.items ≡ shown_parts r.parts.items ++ p ∷ [] =
     ap shown_parts c.in_ok-push.ensures.items ∙ map-append shown_part r.parts.items _
     ∙ ap (λ (bytes : List ℕ). let q : Part = record { first = c.args.first; bytes = bytes } in shown_parts r.parts.items ++ q ∷ []) c.in_ok-bytes.ensures.items in
-    set_given rs c.in-Some.at _ r c.args.text.now p c.requires.up within named
+    set_named rs c.in-Some.at _ r c.args.text.now (λ x. fuller x p) c.requires.up within named
     (ap (λ (ps : List Part). let x : Record = record { name = r.name; size = r.size; state = r.state; reason = r.reason; parts = ps } in x) parts
     ∙ ap (λ (y : code.Record). fuller (shown_record y) p) c.index_mut-record.ensures.value)
