@@ -19,21 +19,14 @@ fault_is text = refl
 pub one_text : (size : ℕ) (parts : List Part) (x y : List ℕ) → IsText size parts x → IsText size parts y → x ≡ y
 one_text size parts x y a b = same_at x y (a.count ∙ sym b.count) (λ place lt. sym (a.bytes place (omega (arith, a.count, lt))) ∙ b.bytes place (omega (arith, a.count, lt)))
 
--- the reason is that of the text which the parts are
-reason_by : (r : Record) (text : List ℕ) (o : Option BadFile) → IsFull r.size r.parts → IsText r.size r.parts text → length text ≤ file_limit → bad_of text ≡ o → IsBadOf r o
-reason_by r text o full is limit bad = record {
-  file = λ has other same. sym bad ∙ sym (fault_is text) ∙ ap fault_of (one_text r.size r.parts text other is same);
-  none = λ lacks. absurd (lacks (record { full = full; limit = omega (arith, is.count, limit) }));
-}
-
 pub good_file : (r : Record) (text : List ℕ) (holdings : HoldingsValue) → IsFull r.size r.parts → IsText r.size r.parts text → IsReadOf text (Ok holdings) → IsBadOf r None
-good_file r text holdings full is read = reason_by r text None full is read.0 read.1
+good_file r text holdings full is read = λ has other same. ap fault_of (one_text r.size r.parts other text same is) ∙ fault_is text ∙ read.1
 
 pub bad_file : (r : Record) (text : List ℕ) (why : BadFile) → IsFull r.size r.parts → IsText r.size r.parts text → IsReadOf text (Err (Bad why)) → IsBadOf r (Some why)
-bad_file r text why full is read = reason_by r text (Some why) full is read.0 read.1
+bad_file r text why full is read = (record { full = full; limit = omega (arith, is.count, read.0) }, text, is, fault_is text ∙ read.1)
 
 pub long_file : (r : Record) (text : List ℕ) → IsText r.size r.parts text → IsReadOf text (Err TooLong) → IsBadOf r None
-long_file r text is read = record { file = λ has other same. absurd (let limit = has.limit in let count = is.count in omega (arith, limit, count, read)); none = λ lacks. refl }
+long_file r text is read = λ has other same. absurd (let limit = has.limit in let count = is.count in omega (arith, limit, count, read))
 
 pub no_file : (r : Record) → (IsFull r.size r.parts → ⊥) → IsBadOf r None
-no_file r lacks = record { file = λ has text is. absurd (lacks has.full); none = λ l. refl }
+no_file r lacks = λ has text is. absurd (lacks has.full)

@@ -1,5 +1,5 @@
 -- Why the file of a record is bad.
-use Rattle.std.specs.Prelude.{◌≡◌, ◌≤◌, ℕ, List, Option, None}
+use Rattle.std.specs.Prelude.{◌≡◌, ◌≤◌, ℕ, List, Option, Some, None}
 use Rattle.feed_kbart.specs.declared.fault.BadFile.{BadFile}
 use Rattle.feed_limits.specs.Limits.{file_limit}
 use Rattle.feed_model.specs.File.{fault_of}
@@ -11,7 +11,7 @@ pub record HasFile (r : Record) : Type 0 where
   pub full : IsFull r.size r.parts
   pub limit : r.size ≤ file_limit
 
--- the reason of the whole file; where there is none, no reason
-pub record IsBadOf (r : Record) (reason : Option BadFile) : Type 0 where
-  pub file : HasFile r → (text : List ℕ) → IsText r.size r.parts text → reason ≡ fault_of text
-  pub none : ¬ (HasFile r) → reason ≡ None
+-- the reason that the whole file is bad for; or none, where the file is good or there is none
+abbrev pub IsBadOf : Record → Option BadFile → Type 0
+IsBadOf r (Some why) = HasFile r × (text : List ℕ) × IsText r.size r.parts text × (fault_of text ≡ Some why)
+IsBadOf r None = HasFile r → (text : List ℕ) → IsText r.size r.parts text → fault_of text ≡ None
