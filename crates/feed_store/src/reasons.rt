@@ -1,0 +1,49 @@
+//! The reasons of records that were kept without them.
+ghost use Rattle.std.specs.Prelude.{◌≡◌, IfOk};
+ghost use Rattle.feed_keep.specs.Shown.{shown, shown_record};
+ghost use Rattle.feed_store.specs.Upgraded.{AreReasoned, IsReasonOf};
+
+use feed_kbart::BadFile;
+use feed_keep::{Record, State, bad_of};
+use std::alloc::{AllocError, Global};
+
+/// The same records, each broken one with the reason of its file, and each other one with none.
+pub(crate) fn reasoned(alloc: Global, records: Vec<Record>) -> Result<Vec<Record>, AllocError>
+    ensures { IfOk result (λ told. AreReasoned (shown records.items) (shown told.items)) }
+{
+    let mut told = Vec::with_capacity(alloc, records.len())?;
+    for record in records {
+        let reason = reason_of(alloc, &record)?;
+        told.push_reserved(with_reason(record, reason));
+    }
+    Ok(told)
+}
+
+fn with_reason(kept: Record, reason: Option<BadFile>) -> Record
+    ensures { shown_record result ≡ record (shown_record kept) { reason = reason } }
+{
+    let Record {
+        name,
+        size,
+        state,
+        reason: _,
+        parts,
+    } = kept;
+    Record {
+        name,
+        size,
+        state,
+        reason,
+        parts,
+    }
+}
+
+// The reason of a record: that of its file if it is broken.
+fn reason_of(alloc: Global, kept: &Record) -> Result<Option<BadFile>, AllocError>
+    ensures { IfOk result (IsReasonOf kept.now.state (shown_record kept.now)) }
+{
+    match kept.state {
+        State::Broken => bad_of(alloc, kept),
+        State::Staged | State::Active => Ok(None),
+    }
+}
