@@ -3,6 +3,7 @@ mod Growth
 mod Growing
 mod Judged
 mod NextRange
+mod Reason
 mod Answered
 mod Answering
 mod Reopened

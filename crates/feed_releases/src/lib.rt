@@ -8,6 +8,7 @@ mod feed;
 mod overlap;
 mod release;
 mod releases;
+mod standing;
 
 pub use event::Event;
 pub use feed::{AnswerFault, Feed, OpenFault, Point};
