@@ -8,3 +8,4 @@ mod Answered
 mod Answering
 mod Reopened
 mod Failed
+mod Earlier

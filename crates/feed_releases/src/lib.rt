@@ -5,6 +5,7 @@
 mod commit;
 mod event;
 mod feed;
+mod laws;
 mod overlap;
 mod release;
 mod releases;
@@ -13,3 +14,4 @@ mod standing;
 pub use event::Event;
 pub use feed::{AnswerFault, Feed, OpenFault, Point};
 pub use feed_model::{Refusal, Reply};
+pub use laws::answers_stay;
