@@ -360,8 +360,7 @@ fn a_record_without_parts_bears_out_its_state(rt: HostRuntime) -> Result<(), Fai
 #[test]
 fn a_file_bears_out_its_reason(rt: HostRuntime) -> Result<(), Fail> {
     let good = january_file(rt.alloc())?;
-    let good: &[(u64, &[u8])] = &[(0, &good)];
-    let bad: &[(u64, &[u8])] = &[(0, HEADER_WITHOUT_URL)];
+    let bad = HEADER_WITHOUT_URL;
     let other = BadFile::MissingLabel(Label::PrintIdentifier);
     let damaged = Some(KeepFault::Damaged);
     let rows = [
@@ -370,17 +369,30 @@ fn a_file_bears_out_its_reason(rt: HostRuntime) -> Result<(), Fail> {
         (State::Broken, 141, Some(other), bad, damaged),
         (State::Broken, 141, None, bad, damaged),
         (State::Broken, 142, Some(WITHOUT_URL), bad, damaged),
-        (State::Broken, 205, Some(WITHOUT_URL), good, damaged),
-        (State::Broken, 0, Some(BadFile::NoHeader), &[], None),
-        (State::Broken, 0, Some(BadFile::NotUtf8), &[], damaged),
-        (State::Active, 205, Some(WITHOUT_URL), good, damaged),
+        (State::Broken, 205, Some(WITHOUT_URL), &good, damaged),
+        (State::Active, 205, Some(WITHOUT_URL), &good, damaged),
         (State::Active, 141, Some(WITHOUT_URL), bad, damaged),
         (State::Staged, 142, Some(WITHOUT_URL), bad, damaged),
         (State::Staged, 142, None, bad, None),
     ];
-    for (state, size, reason, parts, fault) in rows {
-        let found = fault_over_reason(rt.alloc(), size, state, reason, parts)?;
+    for (state, size, reason, bytes, fault) in rows {
+        let found = fault_over_reason(rt.alloc(), size, state, reason, &[(0, bytes)])?;
         assert_eq!(rt; found, fault, "{state:?} {size} {reason:?}");
+    }
+    Ok(())
+}
+
+#[test]
+fn an_empty_file_bears_out_its_reason(rt: HostRuntime) -> Result<(), Fail> {
+    let damaged = Some(KeepFault::Damaged);
+    let rows = [
+        (Some(BadFile::NoHeader), None),
+        (Some(BadFile::NotUtf8), damaged),
+        (None, damaged),
+    ];
+    for (reason, fault) in rows {
+        let found = fault_over_reason(rt.alloc(), 0, State::Broken, reason, &[])?;
+        assert_eq!(rt; found, fault, "{reason:?}");
     }
     Ok(())
 }
