@@ -1,6 +1,6 @@
 # Completion of kbfeed for bash. Paths are left to readline, which knows of quotes, spaces and ~.
 _kbfeed() {
-  local commands='replay check answer serve fetch ask status help'
+  local commands='replay check answer serve fetch ask status why help'
   local word=${COMP_WORDS[COMP_CWORD]} has_options=yes command= places=0 options= index
   COMPREPLY=()
   case ${COMP_WORDS[COMP_CWORD - 1]} in '<' | '>' | '>>') compopt -o default; return ;; esac
@@ -23,14 +23,14 @@ _kbfeed() {
     check) options='-h --help -v --verbose --name --strict --summary --explain --json' ;;
     serve) options='-h --help -v --verbose --count --timeout' ;;
     fetch) options='-h --help -v --verbose --piece --timeout' ;;
-    replay | answer | ask | status) options='-h --help -v --verbose' ;;
+    replay | answer | ask | status | why) options='-h --help -v --verbose' ;;
   esac
   if [[ $has_options && $word == -* ]]; then
     COMPREPLY=($(compgen -W "$options" -- "$word"))
   else
     case $command/$places in
       /0 | help/0) COMPREPLY=($(compgen -W "$commands" -- "$word")) ;;
-      check/* | answer/0 | fetch/0 | ask/0 | status/0) compopt -o default ;;
+      check/* | answer/0 | fetch/0 | ask/0 | status/0 | why/0) compopt -o default ;;
       serve/0) compopt -o dirnames ;;
     esac
   fi

@@ -41,6 +41,7 @@ complete -c kbfeed -n $is_command -a serve -d 'Serves a folder of releases over 
 complete -c kbfeed -n $is_command -a fetch -d 'Fetches a release into the database of a node'
 complete -c kbfeed -n $is_command -a ask -d 'Answers a query from the database of a node'
 complete -c kbfeed -n $is_command -a status -d 'Prints the releases that a node has recorded'
+complete -c kbfeed -n $is_command -a why -d 'Prints why a release of a node is broken'
 complete -c kbfeed -n $is_command -a help -d 'Prints the help of a command'
 
 set -l has_options 'not __kbfeed_at "help/*"'
@@ -56,7 +57,7 @@ complete -c kbfeed -n $check -l summary -d 'Prints one line for each file'
 complete -c kbfeed -n $check -l explain -d 'Prints for each record that is set aside its line, its title and why'
 complete -c kbfeed -n $check -l json -d 'Prints a JSON object for each file'
 
-complete -c kbfeed -n '__kbfeed_at answer/0 fetch/0 ask/0 status/0' -F
+complete -c kbfeed -n '__kbfeed_at answer/0 fetch/0 ask/0 status/0 why/0' -F
 complete -c kbfeed -n '__kbfeed_at serve/0' -a '(__fish_complete_directories)'
 complete -c kbfeed -n '__kbfeed_at "serve/*"' -x -l count -d 'How many connections are served'
 complete -c kbfeed -n '__kbfeed_at "fetch/*"' -x -l piece -d 'How many bytes a request asks for'

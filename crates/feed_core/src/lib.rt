@@ -11,7 +11,8 @@ mod transcript;
 mod world;
 
 pub use feed_answer::WriteFault;
-pub use feed_keep::{Change, Keep, ListKeep, Record};
+pub use feed_kbart::BadFile;
+pub use feed_keep::{Change, Keep, ListKeep, Record, bad_of};
 pub use feed_limits::{FILE_LIMIT, PIECE_LIMIT, RELEASE_LIMIT};
 pub use feed_model::{KeepFault, Refusal, Reply, State};
 pub use feed_parts::Part;

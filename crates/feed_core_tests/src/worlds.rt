@@ -2,8 +2,8 @@
 use crate::told::{Events, File, Told, printed};
 use feed_core::{Keep, Line, ListKeep, ReplayFault, Reply, State, Why, WriteFault, replay};
 use feed_samples::{
-    FEBRUARY, Failing, HEADER, HEADER_WITHOUT_URL, JANUARY, MARCH, content_of, february_file,
-    january_file, listed, record_of,
+    FEBRUARY, Failing, HEADER, HEADER_WITHOUT_URL, JANUARY, MARCH, WITHOUT_URL, broken_record_of,
+    content_of, february_file, january_file, listed, record_of,
 };
 use std::alloc::Global;
 use std::test::Fail;
@@ -158,7 +158,7 @@ fn each_node_hands_back_what_it_keeps(rt: HostRuntime) -> Result<(), Fail> {
     ];
     let third = [
         record_of(alloc, FEBRUARY, 243, State::Active, &[(0, &later_file)])?,
-        record_of(alloc, MARCH, 141, State::Broken, &[(0, HEADER_WITHOUT_URL)])?,
+        broken_record_of(alloc, MARCH, 141, WITHOUT_URL, &[(0, HEADER_WITHOUT_URL)])?,
     ];
     let expected = [
         listed(alloc, &first)?,

@@ -1,4 +1,4 @@
-mod BadFile
+pub mod BadFile
 mod Records
 mod Twice
 mod Arranged

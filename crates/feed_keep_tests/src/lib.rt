@@ -4,4 +4,6 @@
 #[cfg(test)]
 mod keepers;
 #[cfg(test)]
+mod reasons;
+#[cfg(test)]
 mod segments;

@@ -3,7 +3,7 @@ use Rattle.std.proofs.Common.{◌≡◌, ◌<◌, ℕ, zero, suc, true, false, L
 use Rattle.std.specs.Prelude.{is_none}
 use Rattle.feed_names.specs.ReleaseName.{Name}
 use Rattle.feed_kbart.specs.declared.fault.BadFile.{BadFile}
-use Rattle.feed_model.specs.declared.state.State.TheVariants.{Staged, Broken, Active}
+use Rattle.feed_model.specs.declared.state.State.TheVariants.{Staged, Active}
 use Rattle.feed_model.specs.declared.reply.Reply.TheVariants as replies
 use Rattle.feed_model.specs.File.{fault_of}
 use Rattle.feed_model.specs.History.{Piece, History, Answer, is_taken, or_else, byte_at, IsFile, IsWhole, IsBad}
@@ -44,9 +44,11 @@ stored_at : (c : Content) (h : History) (n : Name) (first : ℕ) (total : Option
     → r.state ≡ Staged → AgreesIn r.parts first bytes → HasNew r.parts first bytes → Adds r.size r.parts first bytes ps
     → missing ≡ missing_below (byte_in (merged r.parts ps)) r.size → 0 < missing → IsContent c h → IsRight h (Piece n first total bytes) (Ok (replies.Stored missing)) × IsContent
     (changed n (grown ps Staged) c) ((Piece n first total bytes, Ok (replies.Stored missing)) ∷ h)
-stored_at c h n first total bytes r ps missing reach staged agrees new adds lack some is =
-    (right, piece_moves c h n first total bytes a r ps (grown ps Staged) (grown_is ps Staged r) (keeps_by c h n first bytes r ps is reach.found staged adds) refl right (λ g. lacks (g.0, g.1)) lacks
-    (no_reason c h n r is reach.found staged))
+stored_at c h n first total bytes r ps missing reach staged agrees new adds lack some is = (
+  right,
+  piece_moves c h n first total bytes a r ps (grown ps Staged) (grown_is ps Staged r) (keeps_by c h n first bytes r ps is reach.found staged adds) refl right (λ g. lacks (g.0, g.1)) lacks
+      (no_reason c h n r is reach.found staged),
+)
   where
     a : Answer
     a = Ok (replies.Stored missing)

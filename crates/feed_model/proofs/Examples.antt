@@ -6,7 +6,8 @@ use Rattle.feed_model.specs.declared.reply.Reply.TheVariants as replies
 use Rattle.feed_model.specs.declared.reply.Refusal.TheVariants as refusals
 use Rattle.feed_model.specs.declared.state.State.TheVariants.{Staged, Broken, Active}
 use Rattle.feed_model.specs.History.{Offered, Piece, Lost, History, size_of, kept, IsFile, IsWhole, IsPassed, IsHeld}
-use Rattle.feed_model.specs.Reply.{missing_below, IsRight, gone_on}
+use Rattle.feed_model.specs.Reply.{missing_below, IsRightWithin, IsRight, gone_on}
+use Rattle.feed_model.specs.Earlier.{earlier_limit, without_refused}
 use Rattle.feed_model.specs.Content.{Part, Record, record_of, byte_in, AreParts}
 use Rattle.feed_model.specs.Change.{Pieces, merged, new_record, without_earlier, after}
 
@@ -119,6 +120,24 @@ parts_are_added = refl
 -- answers
 too_large : IsRight begun (Offered february 268435457) (Err refusals.TooLarge)
 too_large = inl (omega arith, refl)
+
+-- a file of 64 MiB and a byte was too large at first, and is so no more
+was_too_large : IsRightWithin earlier_limit begun (Offered february 67108865) (Err refusals.TooLarge)
+was_too_large = inl (omega arith, refl)
+
+is_too_large_no_more : ¬ (IsRight begun (Offered february 67108865) (Err refusals.TooLarge))
+is_too_large_no_more (inl (past, e)) = absurd (omega (arith, past))
+is_too_large_no_more (inr (within, inl (passed, e))) = absurd (cc)
+is_too_large_no_more (inr (within, inr (ahead, inl (held, inl (same, e))))) = absurd (cc)
+is_too_large_no_more (inr (within, inr (ahead, inl (held, inr (other, e))))) = absurd (cc)
+is_too_large_no_more (inr (within, inr (ahead, inr (out, inl (full, e))))) = absurd (cc)
+is_too_large_no_more (inr (within, inr (ahead, inr (out, inr (room, inl (none, e)))))) = absurd (omega (arith, none))
+is_too_large_no_more (inr (within, inr (ahead, inr (out, inr (room, inr (some, inl e)))))) = absurd (cc)
+is_too_large_no_more (inr (within, inr (ahead, inr (out, inr (room, inr (some, inr (inl e))))))) = absurd (cc)
+is_too_large_no_more (inr (within, inr (ahead, inr (out, inr (room, inr (some, inr (inr e))))))) = absurd (cc)
+
+refused_offers_are_left_out : without_refused ((Offered february 67108865, Err refusals.TooLarge) ∷ begun) ≡ begun
+refused_offers_are_left_out = refl
 
 an_empty_piece : IsRight begun (Piece january 0 None []) (Err refusals.BadPiece)
 an_empty_piece = inl (inl refl, refl)

@@ -8,3 +8,4 @@ pub mod Parts
 pub mod Handles
 pub mod Sound
 pub mod Texts
+pub mod Earlier

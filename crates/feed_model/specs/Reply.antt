@@ -66,15 +66,15 @@ Stores h n first bytes answer = OrRefused answer ((size : ℕ) × (size_of h n �
     (answer ≡ Ok (replies.Stored (missing_below (kept_with h n first bytes) size)))
     ((text : List ℕ) × (length text ≡ size) × ((place : ℕ) → place < size → kept_with h n first bytes place ≡ slice_get text place) × (answer ≡ Ok (verdict (fault_of text)))))
 
--- the answer is right after this history: the first case that holds decides
-abbrev pub IsRight : History → Event → Answer → Type 0
-IsRight h (Offered n size) answer =
-    Case (max_file < size) (answer ≡ Err refusals.TooLarge)
+-- the answer is right after this history, where a file may have at most so many bytes: the first case that holds decides
+abbrev pub IsRightWithin : ℕ → History → Event → Answer → Type 0
+IsRightWithin most h (Offered n size) answer =
+    Case (most < size) (answer ≡ Err refusals.TooLarge)
     (Case (IsPassed h n) (answer ≡ Ok replies.Older)
     (Case (IsHeld h n) (Case (size_of h n ≡ Some size) (answer ≡ Ok replies.Known) (answer ≡ Err refusals.WrongSize))
     (Case (HoldsNumber h max_held) (answer ≡ Err refusals.Full)
     (Case (size ≡ 0) (Commits answer (replies.Broken NoHeader)) (Commits answer replies.Noted)))))
-IsRight h (Piece n first total bytes) answer =
+IsRightWithin most h (Piece n first total bytes) answer =
     Case ((length bytes ≡ 0) ⊎ (max_piece < length bytes)) (answer ≡ Err refusals.BadPiece)
     (Case (IsPassed h n) (answer ≡ Ok replies.Older)
     (Case (¬ (IsHeld h n)) (answer ≡ Err refusals.Unknown)
@@ -83,12 +83,19 @@ IsRight h (Piece n first total bytes) answer =
     (Case (Differs h n first bytes) (answer ≡ Err refusals.Conflict)
     (Case (IsKept h n first bytes) (answer ≡ Ok replies.Repeated)
     (Stores h n first bytes answer)))))))
-IsRight h (Lost n) answer = answer ≡ Ok replies.Nothing
+IsRightWithin most h (Lost n) answer = answer ≡ Ok replies.Nothing
+
+-- the answer is right after this history
+abbrev pub IsRight : History → Event → Answer → Type 0
+IsRight h event answer = IsRightWithin max_file h event answer
 
 -- each answer is right after what came before it
+abbrev pub IsLegalWithin : ℕ → History → Type 0
+IsLegalWithin most [] = Unit {0}
+IsLegalWithin most ((event, answer) ∷ h) = IsRightWithin most h event answer × IsLegalWithin most h
+
 abbrev pub IsLegal : History → Type 0
-IsLegal [] = Unit {0}
-IsLegal ((event, answer) ∷ h) = IsRight h event answer × IsLegal h
+IsLegal h = IsLegalWithin max_file h
 
 -- the history goes on by these events and answers, in order
 abbrev pub gone_on : History → List Event → List Answer → History

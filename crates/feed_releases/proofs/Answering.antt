@@ -13,9 +13,9 @@ use Rattle.feed_model.specs.Handles.{Handles}
 use Rattle.feed_keep.specs.Cause.{IsCounted}
 use Rattle.feed_keep.specs.declared.keep.Keep.{Ghosts}
 use Rattle.feed_releases.specs.declared.feed.Feed.{Feed}
-use Rattle.feed_releases.specs.declared.release.growth.Standing.{Standing}
-use Rattle.feed_releases.specs.declared.release.growth.Standing.TheVariants.{Partial, Bad, Good}
-use Rattle.feed_releases.specs.Growth.{reply_of}
+use Rattle.feed_releases.specs.declared.standing.Standing.{Standing}
+use Rattle.feed_releases.specs.declared.standing.Standing.TheVariants.{Partial, Bad, Good}
+use Rattle.feed_releases.specs.Standing.{reply_of}
 use Rattle.feed_releases.specs.Feeds.{CommitsNothing, IsAnsweredBy, keeper_of, releases_of, recorded}
 
 -- what holds anyway holds after an error

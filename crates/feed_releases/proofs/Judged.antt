@@ -1,44 +1,33 @@
 -- What the reader says of a file, as the feed reads it.
-use Rattle.std.proofs.Common.{◌≡◌, ◌≢◌, ◌<◌, List, [], ◌∷◌, ℕ, zero, suc, Option, Some, None}
+use Rattle.std.proofs.Common.{◌≡◌, ◌<◌, ◌≤◌, List, [], ◌∷◌, ℕ, zero, suc, Option, Some, None}
 use Rattle.std.proofs.Common.{IsSome, Result, Ok, Err, length, slice_get, refl, sym, ◌∙◌, ap, subst, arith}
+use Rattle.feed_names.specs.ReleaseName.{Name}
 use Rattle.feed_kbart.specs.HoldingsValue.{HoldingsValue}
-use Rattle.feed_kbart.specs.Files.{IsReadOf, bad_of}
+use Rattle.feed_kbart.specs.Files.{IsReadOf}
 use Rattle.feed_kbart.specs.declared.fault.BadFile.{BadFile}
 use Rattle.feed_kbart.specs.declared.fault.KbartFault.{KbartFault}
-use Rattle.feed_kbart.specs.declared.fault.KbartFault.TheVariants.{Bad, Memory, Read, TooLong}
+use Rattle.feed_kbart.specs.declared.fault.KbartFault.TheVariants as faults
 use Rattle.feed_model.specs.declared.state.State.{State}
 use Rattle.feed_model.specs.declared.state.State.TheVariants.{Staged, Broken, Active}
 use Rattle.feed_model.specs.File.{fault_of}
-use Rattle.feed_model.specs.Reply.{missing_below}
-use Rattle.feed_model.specs.Content.{Part, byte_in, IsText}
-use Rattle.feed_model.specs.Sound.{BearsOut}
-use Rattle.feed_model.proofs.Tests.{same_at}
+use Rattle.feed_model.specs.Reply.{max_file, missing_below}
+use Rattle.feed_model.specs.Content.{Part, Record, byte_in, IsText}
+use Rattle.feed_model.specs.Sound.{BearsOut, Explains, IsSoundRecord}
+use Rattle.feed_model.specs.Parts.{AreWithin}
 use Rattle.feed_model.proofs.Keeps.{none_missing}
-use Rattle.feed_releases.specs.ReleaseValue.{IsJudged, IsKnown}
-
-fault_is : (text : List ℕ) → fault_of text ≡ bad_of text
-unfolding fault_of
-fault_is text = refl
+use Rattle.feed_keep.proofs.BadFile.{fault_is, one_text}
+use Rattle.feed_releases.specs.declared.standing.Standing.{Standing}
+use Rattle.feed_releases.specs.declared.standing.Standing.TheVariants.{Partial, Bad, Good}
+use Rattle.feed_releases.specs.Judged.{IsJudged}
+use Rattle.feed_releases.specs.Standing.{StandsSo, state_of, reason_of, rows_of}
+use Rattle.feed_releases.specs.ReleaseValue.{IsKnown, record_with}
 
 pub judged : (size : ℕ) (parts : List Part) (text : List ℕ) (outcome : Result HoldingsValue KbartFault) → IsText size parts text → IsReadOf text outcome → IsJudged size parts outcome
 judged size parts text (Ok holdings) is read = (text, is, fault_is text ∙ read.1, read.2)
-judged size parts text (Err (Bad why)) is read = (text, is, fault_is text ∙ read.1)
-judged size parts text (Err Memory) is read = tt
-judged size parts text (Err Read) is read = tt
-judged size parts text (Err TooLong) is read = tt
-
--- what a whole file was judged as is known of its release
-pub known_good : (size : ℕ) (parts : List Part) (holdings : HoldingsValue) → IsJudged size parts (Ok holdings) → IsKnown Active size parts (Some holdings)
-known_good size parts holdings j = (j.0, j.1, j.2, ap Some j.3)
-
-pub known_bad : (size : ℕ) (parts : List Part) (why : BadFile) → IsJudged size parts (Err (Bad why)) → IsKnown Broken size parts None
-known_bad size parts why j = (j.0, j.1, (λ good. let e = j.2 in cc), refl)
-
--- what is known of a whole release bears its state out
-pub known_bears : (s : State) (size : ℕ) (parts : List Part) (holdings : Option HoldingsValue) → s ≢ Staged → IsKnown s size parts holdings → BearsOut s size parts
-known_bears Staged size parts holdings whole known = absurd (whole refl)
-known_bears Broken size parts holdings whole known = (known.0, known.1, known.2)
-known_bears Active size parts holdings whole known = (known.0, known.1, known.2)
+judged size parts text (Err (faults.Bad why)) is read = (text, is, fault_is text ∙ read.1)
+judged size parts text (Err faults.Memory) is read = tt
+judged size parts text (Err faults.Read) is read = tt
+judged size parts text (Err faults.TooLong) is read = tt
 
 get_some : (xs : List ℕ) (i : ℕ) → i < length xs → IsSome (slice_get xs i)
 get_some [] i lt = absurd (omega arith)
@@ -49,25 +38,66 @@ get_some (x ∷ xs) (suc i) lt = get_some xs i (omega arith)
 text_whole : (size : ℕ) (parts : List Part) (text : List ℕ) → IsText size parts text → missing_below (byte_in parts) size ≡ 0
 text_whole size parts text is = (none_missing (byte_in parts) size).1 (λ place lt. subst IsSome (sym (is.bytes place lt)) (get_some text place (omega (arith, is.count, lt))))
 
-pub one_text : (size : ℕ) (parts : List Part) (x y : List ℕ) → IsText size parts x → IsText size parts y → x ≡ y
-one_text size parts x y a b = same_at x y (a.count ∙ sym b.count) (λ place lt. sym (a.bytes place (omega (arith, a.count, lt))) ∙ b.bytes place (omega (arith, a.count, lt)))
+-- how a file stands bears out the state and the reason of its release
+pub stands_sound : (size : ℕ) (parts : List Part) (s : Standing) → StandsSo size parts (missing_below (byte_in parts) size) s
+    → BearsOut (state_of s) size parts × Explains (state_of s) size parts (reason_of s)
+stands_sound size parts Partial so = (so, refl)
+stands_sound size parts (Bad why) so = ((so.1.0, so.1.1, λ good. (let e = so.1.2 in cc)), (so.1.0, so.1.1, so.1.2))
+stands_sound size parts (Good holdings) so = ((so.1.0, so.1.1, so.1.2), refl)
 
--- where a place is missing, no other state is borne out than staged
-pub bears_missing : (s : State) (size : ℕ) (parts : List Part) → 0 < missing_below (byte_in parts) size → s ≢ Staged → BearsOut s size parts → ⊥
-bears_missing Staged size parts some apart b = apart refl
-bears_missing Broken size parts some apart b = omega (arith, some, text_whole size parts b.0 b.1)
-bears_missing Active size parts some apart b = omega (arith, some, text_whole size parts b.0 b.1)
+-- and no other state
+pub state_stands : (size : ℕ) (parts : List Part) (s : Standing) (state : State) → StandsSo size parts (missing_below (byte_in parts) size) s → BearsOut state size parts → state_of s ≡ state
+state_stands size parts Partial Staged so bears = refl
+state_stands size parts Partial Broken so bears = absurd (omega (arith, so, text_whole size parts bears.0 bears.1))
+state_stands size parts Partial Active so bears = absurd (omega (arith, so, text_whole size parts bears.0 bears.1))
+state_stands size parts (Bad why) Staged so bears = absurd (omega (arith, so.0, bears))
+state_stands size parts (Bad why) Broken so bears = refl
+state_stands size parts (Bad why) Active so bears = absurd (let e : fault_of bears.0 ≡ Some why = ap fault_of (one_text size parts bears.0 so.1.0 bears.1 so.1.1) ∙ so.1.2 in let f = bears.2 in cc)
+state_stands size parts (Good holdings) Staged so bears = absurd (omega (arith, so.0, bears))
+state_stands size parts (Good holdings) Broken so bears = absurd (bears.2 (ap fault_of (one_text size parts bears.0 so.1.0 bears.1 so.1.1) ∙ so.1.2))
+state_stands size parts (Good holdings) Active so bears = refl
 
--- a good file bears out no other state than active
-pub bears_good : (s : State) (size : ℕ) (parts : List Part) (holdings : HoldingsValue) → missing_below (byte_in parts) size ≡ 0 → IsJudged size parts (Ok holdings) → s ≢ Active
-    → BearsOut s size parts → ⊥
-bears_good Staged size parts holdings none j apart b = omega (arith, none, b)
-bears_good Broken size parts holdings none j apart b = b.2 (ap fault_of (one_text size parts b.0 j.0 b.1 j.1) ∙ j.2)
-bears_good Active size parts holdings none j apart b = apart refl
+-- nor another reason
+pub reason_stands : (size : ℕ) (parts : List Part) (s : Standing) (reason : Option BadFile) → StandsSo size parts (missing_below (byte_in parts) size) s
+    → Explains (state_of s) size parts reason → reason_of s ≡ reason
+reason_stands size parts Partial reason so explains = sym explains
+reason_stands size parts (Bad why) reason so explains = sym so.1.2 ∙ ap fault_of (one_text size parts so.1.0 explains.0 so.1.1 explains.1) ∙ explains.2
+reason_stands size parts (Good holdings) reason so explains = sym explains
 
--- a bad file bears out no other state than broken
-pub bears_bad : (s : State) (size : ℕ) (parts : List Part) (why : BadFile) → missing_below (byte_in parts) size ≡ 0 → IsJudged size parts (Err (Bad why)) → s ≢ Broken
-    → BearsOut s size parts → ⊥
-bears_bad Staged size parts why none j apart b = omega (arith, none, b)
-bears_bad Broken size parts why none j apart b = apart refl
-bears_bad Active size parts why none j apart b = (let e : fault_of b.0 ≡ Some why = ap fault_of (one_text size parts b.0 j.0 b.1 j.1) ∙ j.2 in let f = b.2 in cc)
+-- the record of these
+abbrev pub kept_as : Name → ℕ → State → Option BadFile → List Part → Record
+kept_as name size state reason parts = record { name = name; size = size; state = state; reason = reason; parts = parts }
+
+-- a record that is sound stands as it says
+pub sound_stands : (name : Name) (size : ℕ) (state : State) (reason : Option BadFile) (parts ps : List Part) (s : Standing) → ps ≡ parts
+    → StandsSo size ps (missing_below (byte_in ps) size) s → IsSoundRecord (kept_as name size state reason parts) → (state_of s ≡ state) × (reason_of s ≡ reason)
+sound_stands name size state reason parts ps s same so sound =
+    let here = subst (λ (x : List Part). StandsSo size x (missing_below (byte_in x) size) s) same so in
+    let is = state_stands size parts s state here sound.state in
+    (is, reason_stands size parts s reason here (subst (λ (x : State). Explains x size parts reason) (sym is) sound.reason))
+
+-- and a record that says how its file stands is sound
+pub stands_as : (name : Name) (size : ℕ) (state : State) (reason : Option BadFile) (parts ps : List Part) (s : Standing) → parts ≡ ps → state ≡ state_of s → reason ≡ reason_of s
+    → AreWithin size ps → size ≤ max_file → StandsSo size ps (missing_below (byte_in ps) size) s
+    → (record_with name size s ps ≡ kept_as name size state reason parts) × IsSoundRecord (kept_as name size state reason parts)
+stands_as name size state reason parts ps s same is why within limit so =
+    let sound = stands_sound size ps s so in
+    rw (same, is, why) (refl, record { size = limit; parts = within.parts; inside = within.inside; state = sound.0; reason = sound.1 })
+
+-- what is known of a file that stands so
+pub known_so : (size : ℕ) (parts : List Part) (missing : ℕ) (s : Standing) → StandsSo size parts missing s → IsKnown (state_of s) size parts (rows_of s)
+known_so size parts missing Partial so = refl
+known_so size parts missing (Bad why) so = (so.1.0, so.1.1, (λ good. let e = so.1.2 in cc), refl)
+known_so size parts missing (Good holdings) so = (so.1.0, so.1.1, so.1.2, ap Some so.1.3)
+
+-- where a place is missing the release is staged
+pub staged_so : (size : ℕ) (parts : List Part) (missing : ℕ) (s : Standing) → StandsSo size parts missing s → 0 < missing → state_of s ≡ Staged
+staged_so size parts missing Partial so some = refl
+staged_so size parts missing (Bad why) so some = absurd (omega (arith, so.0, some))
+staged_so size parts missing (Good holdings) so some = absurd (omega (arith, so.0, some))
+
+-- a staged release has no reason
+pub staged_plain : (s : Standing) → state_of s ≡ Staged → reason_of s ≡ None
+staged_plain Partial is = refl
+staged_plain (Bad why) is = absurd (cc)
+staged_plain (Good holdings) is = refl

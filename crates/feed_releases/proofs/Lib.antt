@@ -3,7 +3,9 @@ mod Growth
 mod Growing
 mod Judged
 mod NextRange
+mod Reason
 mod Answered
 mod Answering
 mod Reopened
 mod Failed
+mod Earlier

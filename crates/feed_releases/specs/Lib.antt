@@ -4,8 +4,11 @@ pub use Rattle.feed_model.specs.Handles
 pub use Rattle.feed_model.specs.Sound
 pub use Rattle.feed_keep.specs.Cause
 pub mod Told
+pub mod Judged
+pub mod Standing
 pub mod ReleaseValue
 pub mod NextRange
+pub mod Reason
 pub mod Answered
 pub mod Feeds
 pub mod Growth

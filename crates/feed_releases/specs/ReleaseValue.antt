@@ -1,16 +1,16 @@
 -- What is seen of a recorded release.
-use Rattle.std.specs.Prelude.{◌≡◌, ◌≢◌, ◌<◌, ◌≤◌, ℕ, true, false, List, Option, Some, None, IsSome, Result, Ok, Err, map, length, slice_index_or}
+use Rattle.std.specs.Prelude.{◌≡◌, ◌≢◌, ◌<◌, ◌≤◌, ℕ, true, false, List, Option, Some, None, map, length, slice_index_or}
 use Rattle.feed_names.specs.ReleaseName.{Name, name_eq, IsEarlier}
 use Rattle.feed_kbart.specs.HoldingsValue.{HoldingsValue}
 use Rattle.feed_kbart.specs.Files.{holdings_of}
-use Rattle.feed_kbart.specs.declared.fault.KbartFault.{KbartFault}
-use Rattle.feed_kbart.specs.declared.fault.KbartFault.TheVariants.{Bad}
 use Rattle.feed_model.specs.File.{fault_of}
 use Rattle.feed_model.specs.Reply.{max_file, missing_below}
 use Rattle.feed_model.specs.Content.{Part, Record, Content, byte_in, IsText}
 use Rattle.feed_model.specs.declared.state.State.{State}
 use Rattle.feed_model.specs.declared.state.State.TheVariants.{Staged, Broken, Active}
 use Rattle.feed_model.specs.Parts.{DiffersIn, AgreesIn, HasNew, Covers, AreWithin}
+use Rattle.feed_releases.specs.Standing.{StandsSo, state_of, reason_of}
+use Rattle.feed_releases.specs.declared.standing.Standing.{Standing}
 use Rattle.feed_releases.specs.declared.overlap.Overlap.{Overlap}
 use Rattle.feed_releases.specs.declared.overlap.Overlap.TheVariants.{Conflict, Kept, New}
 
@@ -25,17 +25,15 @@ IsKnown Staged size parts holdings = holdings ≡ None
 IsKnown Broken size parts holdings = (text : List ℕ) × IsText size parts text × (fault_of text ≢ None) × (holdings ≡ None)
 IsKnown Active size parts holdings = (text : List ℕ) × IsText size parts text × (fault_of text ≡ None) × (holdings ≡ Some (holdings_of text))
 
--- the record of these
-abbrev pub record_with : Name → ℕ → State → List Part → Record
-record_with name size state parts = record { name = name; size = size; state = state; parts = parts }
+-- the record of a release whose file stands so
+abbrev pub record_with : Name → ℕ → Standing → List Part → Record
+record_with name size standing parts = record { name = name; size = size; state = state_of standing; reason = reason_of standing; parts = parts }
 
--- the parts lie inside the file, which is within the limit, and it is staged just while a place of it is missing
-pub record IsRelease (kept : Record) (holdings : Option HoldingsValue) : Type 0 where
-  pub within : AreWithin kept.size kept.parts
-  pub limit : kept.size ≤ max_file
-  pub staged : kept.state ≡ Staged → 0 < missing_below (byte_in kept.parts) kept.size
-  pub whole : kept.state ≢ Staged → missing_below (byte_in kept.parts) kept.size ≡ 0
-  pub known : IsKnown kept.state kept.size kept.parts holdings
+-- the parts lie inside the file, which is within the limit and stands so
+pub record IsRelease (size : ℕ) (parts : List Part) (standing : Standing) : Type 0 where
+  pub within : AreWithin size parts
+  pub limit : size ≤ max_file
+  pub stands : StandsSo size parts (missing_below (byte_in parts) size) standing
 
 -- the records of releases
 abbrev pub content_of : List ReleaseValue → Content
@@ -60,9 +58,3 @@ abbrev pub LiesOver : Record → ℕ → List ℕ → Overlap → Type 0
 LiesOver r first bytes Conflict = DiffersIn r.parts first bytes
 LiesOver r first bytes Kept = AgreesIn r.parts first bytes × Covers r.parts first bytes
 LiesOver r first bytes New = AgreesIn r.parts first bytes × HasNew r.parts first bytes × (r.state ≡ Staged)
-
--- what whole parts are judged as, unless memory is short
-abbrev pub IsJudged : ℕ → List Part → Result HoldingsValue KbartFault → Type 0
-IsJudged size parts (Ok holdings) = (text : List ℕ) × IsText size parts text × (fault_of text ≡ None) × (holdings ≡ holdings_of text)
-IsJudged size parts (Err (Bad why)) = (text : List ℕ) × IsText size parts text × (fault_of text ≡ Some why)
-IsJudged size parts (Err fault) = Unit {0}

@@ -11,6 +11,7 @@ use crate::feed::reopen::reopened;
 use crate::release::Release;
 use crate::releases::{active_of, find};
 use feed_answer::{Answer, Query, answer};
+use feed_kbart::BadFile;
 use feed_keep::Keep;
 use feed_model::{KeepFault, Refusal, Reply};
 use feed_names::ReleaseName;
@@ -66,14 +67,15 @@ impl<K: Keep + Drop> Feed<K> {
     ghost use Rattle.feed_model.specs.Handles.{Handles};
     ghost use Rattle.feed_releases.specs.Answered.{IsAnswered};
     ghost use Rattle.feed_releases.specs.NextRange.{IsNextRange};
+    ghost use Rattle.feed_releases.specs.Reason.{HasReason};
     ghost use Rattle.feed_releases.specs.Told.{told};
     ghost use Rattle.feed_keep.specs.Cause.{HasFailedSince, IsCounted};
     ghost use Rattle.feed_releases.specs.Feeds.{CommitsNothing, keeper_of, recorded, releases_of};
 
     /// Opens a feed on what a keeper holds. `Damaged` where this is nothing that a feed ever keeps: a name that stands
     /// twice, more than 256 releases, a size above the limit of a file, parts that are empty, above the limit of a
-    /// piece, out of order or outside of the file, a release beside a later active one of its package, or a state that
-    /// its file does not bear out. The file of each whole release is judged and read.
+    /// piece, out of order or outside of the file, a release beside a later active one of its package, or a state or a
+    /// reason that its file does not bear out. The file of each whole release is judged and read.
     pub fn open(alloc: Global, mut keeper: K) -> Result<Feed<K>, OpenFault<K>>
         ensures content { IfOk result (λ feed. K.clean (keeper_of feed) → recorded feed ≡ K.content keeper) }
         ensures sound { IfOk result (λ feed. IsSound (recorded feed)) }
@@ -165,6 +167,17 @@ impl<K: Keep + Drop> Feed<K> {
     {
         match find(&self.releases, name) {
             Some(at) => self.releases[at].next_range(max),
+            None => None,
+        }
+    }
+
+    /// Why a release is broken: the reason of its file. There is none of a release that is not recorded, is not whole,
+    /// is good or is passed. It takes no memory.
+    pub fn reason(&self, name: &ReleaseName) -> Option<BadFile>
+        ensures { (h : History) → IsContent (recorded self.now) h → HasReason h name.now result }
+    {
+        match find(&self.releases, name) {
+            Some(at) => self.releases[at].reason(),
             None => None,
         }
     }

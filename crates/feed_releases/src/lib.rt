@@ -5,10 +5,13 @@
 mod commit;
 mod event;
 mod feed;
+mod laws;
 mod overlap;
 mod release;
 mod releases;
+mod standing;
 
 pub use event::Event;
 pub use feed::{AnswerFault, Feed, OpenFault, Point};
 pub use feed_model::{Refusal, Reply};
+pub use laws::answers_stay;

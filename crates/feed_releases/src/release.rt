@@ -1,4 +1,4 @@
-ghost use Rattle.std.specs.Prelude.{◌≡◌, ◌≤◌, ◌+◌, length, None};
+ghost use Rattle.std.specs.Prelude.{◌≡◌, ◌≤◌, ◌+◌, length, None, option_map};
 ghost use Rattle.feed_model.specs.Reply.{max_file};
 ghost use Rattle.feed_model.specs.Content.{byte_in};
 ghost use Rattle.feed_model.specs.Change.{new_record};
@@ -9,32 +9,35 @@ mod growth;
 mod reopen;
 
 use crate::overlap::Overlap;
-use feed_kbart::Holdings;
-use feed_keep::Record;
+use crate::standing::Standing;
+use feed_kbart::{BadFile, Holdings};
 use feed_model::State;
 use feed_names::ReleaseName;
 use feed_parts::Segments;
 use std::alloc::Global;
 use std::marker::Model;
 
-/// A recorded release in memory: what is kept of its file, and what the file holds if it is active.
+/// A recorded release in memory: what is kept of its file, and how the file stands.
 #[derive(Drop)]
 pub(crate) struct Release {
     name: ReleaseName,
     size: u64,
-    state: State,
     kept: Segments,
-    holdings: Option<Holdings>,
+    standing: Standing,
 }
 
 impl Model for Release {
     ghost use Rattle.feed_releases.specs.ReleaseValue.{ReleaseValue, IsRelease, record_with};
+    ghost use Rattle.feed_releases.specs.Standing.{rows_of};
 
     ghost Value = { ReleaseValue };
 
-    ghost view = { λ r. record { kept = record_with r.name r.size r.state r.kept.parts; holdings = r.holdings } };
+    ghost view = { λ r. record {
+      kept = record_with r.name r.size r.standing r.kept.parts;
+      holdings = rows_of r.standing;
+    } };
 
-    ghost invariant = { λ r. IsRelease (record_with r.name r.size r.state r.kept.parts) r.holdings };
+    ghost invariant = { λ r. IsRelease r.size r.kept.parts r.standing };
 }
 
 impl Release {
@@ -43,18 +46,16 @@ impl Release {
         requires { size ≤ max_file }
         ensures { result ≡ record { kept = new_record name size; holdings = None } }
     {
-        let Record {
-            name,
-            size,
-            state,
-            parts: _,
-        } = Record::new(alloc, name, size);
+        let standing = if size == 0 {
+            Standing::Bad(BadFile::NoHeader)
+        } else {
+            Standing::Partial
+        };
         Release {
             name,
             size,
-            state,
             kept: Segments::new(alloc),
-            holdings: None,
+            standing,
         }
     }
 
@@ -74,15 +75,22 @@ impl Release {
     pub(crate) fn state(&self) -> State
         ensures { result ≡ self.now.kept.state }
     {
-        self.state
+        self.standing.state()
+    }
+
+    /// Why the file is bad, of a broken release.
+    pub(crate) fn reason(&self) -> Option<BadFile>
+        ensures { result ≡ self.now.kept.reason }
+    {
+        self.standing.reason()
     }
 
     /// What the file holds, of an active release.
-    pub(crate) fn holdings(&self) -> &Option<Holdings>
-        ensures value { result.now ≡ self.now.holdings }
+    pub(crate) fn holdings(&self) -> Option<&Holdings>
+        ensures value { option_map (λ holdings. holdings.now) result ≡ self.now.holdings }
         ensures known { IsKnown self.now.kept.state self.now.kept.size self.now.kept.parts self.now.holdings }
     {
-        &self.holdings
+        self.standing.holdings()
     }
 
     /// The first missing places of the file, at most `max` of them: the first one and the last one.

@@ -94,7 +94,7 @@ fn another_byte_is_a_conflict(rt: HostRuntime) -> Result<(), Fail> {
 fn offers_and_pieces_have_limits(rt: HostRuntime) -> Result<(), Fail> {
     let name = name_of(rt.alloc(), "X_2024-01-01.txt")?;
     let mut feed = feed_of(rt.alloc())?;
-    let above = offered(&mut feed, &name, 67_108_865);
+    let above = offered(&mut feed, &name, 268_435_457);
     assert_eq!(rt; above, Err(Refusal::TooLarge));
     assert_eq!(rt; told(&mut feed, &name, 0, b"0"), Err(Refusal::Unknown));
     let most = offered(&mut feed, &name, 268_435_456);
@@ -106,7 +106,7 @@ fn offers_and_pieces_have_limits(rt: HostRuntime) -> Result<(), Fail> {
     assert_eq!(rt;
         told(&mut feed, &name, 0, &long[1..]),
         Ok(Reply::Stored {
-            missing: 66_060_288
+            missing: 267_386_880
         })
     );
     Ok(())

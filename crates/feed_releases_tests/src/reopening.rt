@@ -1,11 +1,13 @@
 // Feeds that are opened on what a keeper holds.
 use crate::feeds::{active_in, answer_of, cut, feed_of, feed_over, offered, told};
+use feed_kbart::{BadFile, Label};
 use feed_keep::{Keep, KeepFault, ListKeep, Part, Record, State};
 use feed_limits::PIECE_LIMIT;
 use feed_releases::{Feed, OpenFault, Reply};
 use feed_samples::{
-    ACTA, BETA, FEBRUARY, Failing, HEADER, HEADER_WITHOUT_URL, JANUARY, MARCH, PACKAGE, content_of,
-    february_file, january_file, listed, name_of, record_of,
+    ACTA, BETA, FEBRUARY, Failing, HEADER, HEADER_WITHOUT_URL, JANUARY, MARCH, PACKAGE,
+    WITHOUT_URL, broken_record_of, content_of, february_file, january_file, listed, name_of,
+    record_of,
 };
 use std::alloc::Global;
 use std::test::Fail;
@@ -42,7 +44,7 @@ fn three_records(alloc: Global) -> Result<Vec<Record>, Fail> {
             State::Staged,
             &[(0, cut(&staged, 0, 200))],
         )?,
-        record_of(alloc, MARCH, 141, State::Broken, &[(0, HEADER_WITHOUT_URL)])?,
+        broken_record_of(alloc, MARCH, 141, WITHOUT_URL, &[(0, HEADER_WITHOUT_URL)])?,
     ];
     Ok(Vec::from_array(alloc, records)?)
 }
@@ -242,14 +244,26 @@ fn fault_over(alloc: Global, records: Vec<Record>) -> Result<Option<KeepFault>, 
 }
 
 // Why no feed opens on a keeper with this record alone.
+fn fault_over_reason(
+    alloc: Global,
+    size: u64,
+    state: State,
+    reason: Option<BadFile>,
+    parts: &[(u64, &[u8])],
+) -> Result<Option<KeepFault>, Fail> {
+    let mut record = record_of(alloc, "X_2024-01-01.txt", size, state, parts)?;
+    record.reason = reason;
+    fault_over(alloc, Vec::from_array(alloc, [record])?)
+}
+
+// The same, with a record that has no reason.
 fn fault_over_one(
     alloc: Global,
     size: u64,
     state: State,
     parts: &[(u64, &[u8])],
 ) -> Result<Option<KeepFault>, Fail> {
-    let record = record_of(alloc, "X_2024-01-01.txt", size, state, parts)?;
-    fault_over(alloc, Vec::from_array(alloc, [record])?)
+    fault_over_reason(alloc, size, state, None, parts)
 }
 
 #[test]
@@ -287,8 +301,9 @@ fn parts_are_apart_and_inside_the_size(rt: HostRuntime) -> Result<(), Fail> {
 fn sizes_and_parts_are_within_their_limits(rt: HostRuntime) -> Result<(), Fail> {
     let damaged = Some(KeepFault::Damaged);
     let sizes = [
+        (67_108_865, None),
         (268_435_456, None),
-        (67_108_865, damaged),
+        (268_435_457, damaged),
         (u64::MAX, damaged),
     ];
     for (size, fault) in sizes {
@@ -316,9 +331,6 @@ fn a_file_bears_out_its_state(rt: HostRuntime) -> Result<(), Fail> {
         (State::Active, 205, &good, None),
         (State::Active, 205, cut(&good, 0, 204), damaged),
         (State::Active, 141, bad, damaged),
-        (State::Broken, 141, bad, None),
-        (State::Broken, 142, bad, damaged),
-        (State::Broken, 205, &good, damaged),
     ];
     for (state, size, bytes, fault) in rows {
         let found = fault_over_one(rt.alloc(), size, state, &[(0, bytes)])?;
@@ -336,7 +348,7 @@ fn a_record_without_parts_bears_out_its_state(rt: HostRuntime) -> Result<(), Fai
         (State::Active, 10, damaged),
         (State::Active, 0, damaged),
         (State::Broken, 10, damaged),
-        (State::Broken, 0, None),
+        (State::Broken, 0, damaged),
     ];
     for (state, size, fault) in rows {
         let found = fault_over_one(rt.alloc(), size, state, &[])?;
@@ -345,11 +357,79 @@ fn a_record_without_parts_bears_out_its_state(rt: HostRuntime) -> Result<(), Fai
     Ok(())
 }
 
-// A record whose file bears out its state.
+#[test]
+fn a_file_bears_out_its_reason(rt: HostRuntime) -> Result<(), Fail> {
+    let good = january_file(rt.alloc())?;
+    let bad = HEADER_WITHOUT_URL;
+    let other = BadFile::MissingLabel(Label::PrintIdentifier);
+    let damaged = Some(KeepFault::Damaged);
+    let rows = [
+        (State::Broken, 141, Some(WITHOUT_URL), bad, None),
+        (State::Broken, 141, Some(BadFile::NoHeader), bad, damaged),
+        (State::Broken, 141, Some(other), bad, damaged),
+        (State::Broken, 141, None, bad, damaged),
+        (State::Broken, 142, Some(WITHOUT_URL), bad, damaged),
+        (State::Broken, 205, Some(WITHOUT_URL), &good, damaged),
+        (State::Active, 205, Some(WITHOUT_URL), &good, damaged),
+        (State::Active, 141, Some(WITHOUT_URL), bad, damaged),
+        (State::Staged, 142, Some(WITHOUT_URL), bad, damaged),
+        (State::Staged, 142, None, bad, None),
+    ];
+    for (state, size, reason, bytes, fault) in rows {
+        let found = fault_over_reason(rt.alloc(), size, state, reason, &[(0, bytes)])?;
+        assert_eq!(rt; found, fault, "{state:?} {size} {reason:?}");
+    }
+    Ok(())
+}
+
+#[test]
+fn an_empty_file_bears_out_its_reason(rt: HostRuntime) -> Result<(), Fail> {
+    let damaged = Some(KeepFault::Damaged);
+    let rows = [
+        (Some(BadFile::NoHeader), None),
+        (Some(BadFile::NotUtf8), damaged),
+        (None, damaged),
+    ];
+    for (reason, fault) in rows {
+        let found = fault_over_reason(rt.alloc(), 0, State::Broken, reason, &[])?;
+        assert_eq!(rt; found, fault, "{reason:?}");
+    }
+    Ok(())
+}
+
+#[test]
+fn a_reason_is_there_after_a_restart(rt: HostRuntime) -> Result<(), Fail> {
+    let january = name_of(rt.alloc(), JANUARY)?;
+    let february = name_of(rt.alloc(), FEBRUARY)?;
+    let march = name_of(rt.alloc(), MARCH)?;
+    let mut feed = feed_of(rt.alloc())?;
+    let empty = offered(&mut feed, &january, 0);
+    assert_eq!(rt; empty, Ok(Reply::Broken(BadFile::NoHeader)));
+    assert_eq!(rt; offered(&mut feed, &february, 141), Ok(Reply::Noted));
+    assert_eq!(rt; feed.reason(&february), None);
+    let bad = told(&mut feed, &february, 0, HEADER_WITHOUT_URL);
+    assert_eq!(rt; bad, Ok(Reply::Broken(WITHOUT_URL)));
+    let mut feed = reopened(rt.alloc(), feed)?;
+    assert_eq!(rt; feed.reason(&january), Some(BadFile::NoHeader));
+    assert_eq!(rt; feed.reason(&february), Some(WITHOUT_URL));
+    assert_eq!(rt; feed.reason(&march), None);
+    // A good file of a later day passes both.
+    let file = january_file(rt.alloc())?;
+    assert_eq!(rt; offered(&mut feed, &march, 205), Ok(Reply::Noted));
+    assert_eq!(rt; told(&mut feed, &march, 0, &file), Ok(Reply::Activated));
+    for name in [&january, &february, &march] {
+        assert_eq!(rt; feed.reason(name), None);
+    }
+    Ok(())
+}
+
+// A record whose file bears out its state and its reason.
 fn sound_record(alloc: Global, name: &str, state: State) -> Result<Record, Fail> {
     match state {
         State::Staged => record_of(alloc, name, 10, state, &[(2, b"23")]),
-        State::Broken => record_of(alloc, name, 141, state, &[(0, HEADER_WITHOUT_URL)]),
+        State::Broken => {
+            broken_record_of(alloc, name, 141, WITHOUT_URL, &[(0, HEADER_WITHOUT_URL)])
+        }
         State::Active => record_of(alloc, name, 205, state, &[(0, HEADER), (151, ACTA)]),
     }
 }
@@ -430,6 +510,7 @@ fn a_file_in_many_parts_is_reopened(rt: HostRuntime) -> Result<(), Fail> {
         name: name_of(rt.alloc(), JANUARY)?,
         size: file.len() as u64,
         state: State::Active,
+        reason: None,
         parts,
     };
     let records = Vec::from_array(rt.alloc(), [record])?;

@@ -1,10 +1,11 @@
 // Feeds that stop in the middle of an event.
 use crate::feeds::{cut, feed_over};
+use feed_kbart::BadFile;
 use feed_keep::{Keep, ListKeep, Record, State};
 use feed_releases::{Event, Point};
 use feed_samples::{
-    FEBRUARY, Failing, HEADER, HEADER_WITHOUT_URL, JANUARY, MARCH, content_of, february_file,
-    january_file, listed, name_of, record_of,
+    FEBRUARY, Failing, HEADER, HEADER_WITHOUT_URL, JANUARY, MARCH, WITHOUT_URL, broken_record_of,
+    content_of, february_file, january_file, listed, name_of, record_of,
 };
 use std::alloc::Global;
 use std::test::Fail;
@@ -73,8 +74,14 @@ fn stopped_in_piece(
 #[test]
 fn a_stop_in_an_offer_keeps_it_or_nothing(rt: HostRuntime) -> Result<(), Fail> {
     let kept = content_before(rt.alloc())?;
-    for (size, state) in [(10, State::Staged), (0, State::Broken)] {
-        let record = record_of(rt.alloc(), APRIL, size, state, &[])?;
+    let rows = [
+        (10, record_of(rt.alloc(), APRIL, 10, State::Staged, &[])?),
+        (
+            0,
+            broken_record_of(rt.alloc(), APRIL, 0, BadFile::NoHeader, &[])?,
+        ),
+    ];
+    for (size, record) in rows {
         let committed = content_with(rt.alloc(), record)?;
         let before = stopped_in_offer(rt.alloc(), APRIL, size, Point::Before)?;
         assert_eq!(rt; before.as_slice(), kept.as_slice(), "{size}");
@@ -93,7 +100,7 @@ fn a_stop_in_a_piece_keeps_it_or_nothing(rt: HostRuntime) -> Result<(), Fail> {
     let parts = [(0, cut(&file, 0, 200)), (200, cut(&file, 200, 43))];
     let active = record_of(rt.alloc(), FEBRUARY, 243, State::Active, &parts)?;
     let parts = [(0, cut(bad_file, 0, 100)), (100, cut(bad_file, 100, 41))];
-    let broken = record_of(rt.alloc(), MARCH, 141, State::Broken, &parts)?;
+    let broken = broken_record_of(rt.alloc(), MARCH, 141, WITHOUT_URL, &parts)?;
     let parts = [(0, cut(bad_file, 0, 100))];
     let other = record_of(rt.alloc(), MARCH, 141, State::Staged, &parts)?;
     let rows = [
@@ -132,7 +139,7 @@ fn a_stop_in_an_offer_that_commits_nothing_keeps_nothing(rt: HostRuntime) -> Res
     let rows = [
         (FEBRUARY, 243),
         (FEBRUARY, 244),
-        (APRIL, 67_108_865),
+        (APRIL, 268_435_457),
         (LAST_DECEMBER, 10),
     ];
     let kept = content_before(rt.alloc())?;

@@ -7,7 +7,7 @@ mod records;
 
 pub use failing::Failing;
 pub use lists::{
-    ACTA, BETA, FEBRUARY, HEADER, HEADER_WITHOUT_URL, JANUARY, MARCH, PACKAGE, february_file,
-    january_file,
+    ACTA, BETA, FEBRUARY, HEADER, HEADER_WITHOUT_URL, JANUARY, MARCH, PACKAGE, WITHOUT_URL,
+    february_file, january_file,
 };
-pub use records::{content_of, listed, name_of, record_of};
+pub use records::{broken_record_of, content_of, listed, name_of, record_of};

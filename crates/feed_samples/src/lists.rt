@@ -1,3 +1,4 @@
+use feed_kbart::{BadFile, Label};
 use std::alloc::{AllocError, Global};
 
 /// The line of labels of a KBART file.
@@ -7,6 +8,9 @@ pub const HEADER: &[u8] = b"publication_title\tprint_identifier\tonline_identifi
 /// The line of labels without its last one: a bad file of 141 bytes.
 pub const HEADER_WITHOUT_URL: &[u8] = b"publication_title\tprint_identifier\tonline_identifier\t\
     date_first_issue_online\tnum_first_vol_online\tdate_last_issue_online\tnum_last_vol_online\n";
+
+/// Why that file is bad.
+pub const WITHOUT_URL: BadFile = BadFile::MissingLabel(Label::TitleUrl);
 
 /// A record with a print ISSN.
 pub const ACTA: &[u8] = b"Acta\t2434-561X\t\t1995\t1\t2001-06-30\t7\thttp://a.example/\n";

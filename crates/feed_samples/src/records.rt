@@ -1,3 +1,4 @@
+use feed_kbart::BadFile;
 use feed_keep::{Keep, Part, Record, State};
 use feed_names::ReleaseName;
 use std::alloc::Global;
@@ -9,7 +10,7 @@ pub fn name_of(alloc: Global, text: &str) -> Result<ReleaseName, Fail> {
     Ok(ReleaseName::parse(alloc, text.as_bytes())?)
 }
 
-/// A record with these parts, given by their first places and their bytes.
+/// A record without a reason, with these parts, given by their first places and their bytes.
 pub fn record_of(
     alloc: Global,
     name: &str,
@@ -28,17 +29,34 @@ pub fn record_of(
         name: name_of(alloc, name)?,
         size,
         state,
+        reason: None,
         parts: kept,
     })
 }
 
-/// The records as text, to compare them: for each its name, size and state and then its parts, as
-/// `X_2024-01-01.txt 10 Staged 0:01 4:45`.
+/// The record of a broken release, with this reason and these parts.
+pub fn broken_record_of(
+    alloc: Global,
+    name: &str,
+    size: u64,
+    reason: BadFile,
+    parts: &[(u64, &[u8])],
+) -> Result<Record, Fail> {
+    let mut record = record_of(alloc, name, size, State::Broken, parts)?;
+    record.reason = Some(reason);
+    Ok(record)
+}
+
+/// The records as text, to compare them: for each its name, size and state, its reason, and then its parts, as
+/// `X_2024-01-01.txt 10 Staged 0:01 4:45` and `X_2024-01-01.txt 0 Broken (NoHeader)`.
 pub fn listed(alloc: Global, records: &[Record]) -> Result<Vec<u8>, Fail> {
     let mut text = Vec::new(alloc);
     for record in records {
         text.extend_from_slice(record.name.text())?;
         write!(text, " {} {:?}", record.size, record.state)?;
+        if let Some(why) = record.reason {
+            write!(text, " ({why})")?;
+        }
         list_parts(&mut text, &record.parts)?;
         text.push(b'\n')?;
     }

@@ -40,6 +40,10 @@ pub enum Request<'a> {
     Status {
         db: &'a str,
     },
+    Why {
+        db: &'a str,
+        name: &'a str,
+    },
 }
 
 const VERSION: &str = "0.1.0";
@@ -174,11 +178,23 @@ const STATUS_HELP: &str =
   state     staged: bytes are missing; active: it answers; broken: its file is bad
   size      of the file, in bytes
   missing   how many of them are missing
+  reason    why its file is bad, of a broken release alone
 
 DB is the file that `kbfeed fetch` fills. An empty database prints nothing.
 
 The status is 0, 1 for a database that is not ours or damaged, 2 for a wrong command line, and 3 for a failing device or
 want of memory. docs/FAULTS.md has each fault, and -v says more of one.";
+
+const WHY_HELP: &str =
+    "Prints why a release that a node has recorded is broken: `broken` and the reason of its file.
+
+DB is the file that `kbfeed fetch` fills. NAME is a release name, as Acme_Global_All_2024-01-01.txt. The reason is the
+one that `kbfeed check` prints of the file, as MissingLabel title_url. Of a release that is not recorded, not whole, good
+or passed by a later one there is none, and `none` is printed. A NAME that begins with - stands behind --.
+
+The first fault is told of the name and of the database. The status is 0 for a reason, 1 for none and for a database
+that is not ours or damaged, 2 for a name that is none and a wrong command line, and 3 for a failing device or want of
+memory. docs/FAULTS.md has each fault, and -v says more of one.";
 
 /// Reads the words of the command line, the program's name first: whether more is to be said of a fault, and the
 /// command.
@@ -200,7 +216,8 @@ pub fn read<'a>(alloc: Global, words: &'a [String]) -> Result<(bool, Request<'a>
         .subcommand(serve_command(alloc)?)?
         .subcommand(fetch_command(alloc)?)?
         .subcommand(ask_command(alloc)?)?
-        .subcommand(status_command(alloc)?)?;
+        .subcommand(status_command(alloc)?)?
+        .subcommand(why_command(alloc)?)?;
     let matches = command.try_get_matches_from(words)?;
     let is_verbose = matches.get_flag("verbose");
     Ok((is_verbose, request_of(alloc, &matches)?))
@@ -308,13 +325,16 @@ fn database<'a>(alloc: Global) -> Arg<'a> {
         .help("The path of the node's database")
 }
 
+fn release<'a>(alloc: Global) -> Arg<'a> {
+    Arg::new(alloc, "NAME").required(true).help(
+        "The name of the release, as Acme_Global_All_2024-01-01.txt",
+    )
+}
+
 fn fetch_command<'a>(alloc: Global) -> Result<Command<'a>, AllocError> {
     let addr = Arg::new(alloc, "ADDR")
         .required(true)
         .help("Where the server listens, as 127.0.0.1:8080");
-    let name = Arg::new(alloc, "NAME").required(true).help(
-        "The name of the release, as Acme_Global_All_2024-01-01.txt",
-    );
     let piece = Arg::new(alloc, "piece")
         .long("piece")
         .value_name("N")
@@ -329,7 +349,7 @@ fn fetch_command<'a>(alloc: Global) -> Result<Command<'a>, AllocError> {
         .long_about(FETCH_HELP)
         .arg(database(alloc))?
         .arg(addr)?
-        .arg(name)?
+        .arg(release(alloc))?
         .arg(piece)?
         .arg(timeout)
 }
@@ -354,6 +374,14 @@ fn status_command<'a>(alloc: Global) -> Result<Command<'a>, AllocError> {
         .about("Prints the releases that a node has recorded")
         .long_about(STATUS_HELP)
         .arg(database(alloc))
+}
+
+fn why_command<'a>(alloc: Global) -> Result<Command<'a>, AllocError> {
+    Command::new(alloc, "why")
+        .about("Prints why a release of a node is broken")
+        .long_about(WHY_HELP)
+        .arg(database(alloc))?
+        .arg(release(alloc))
 }
 
 fn serving_of(serve: &ArgMatches<'_>) -> Serving {
@@ -410,6 +438,10 @@ fn request_of<'a>(alloc: Global, matches: &ArgMatches<'a>) -> Result<Request<'a>
         },
         Some(("status", status)) => Request::Status {
             db: status.get_str("DB").unwrap_or(""),
+        },
+        Some(("why", why)) => Request::Why {
+            db: why.get_str("DB").unwrap_or(""),
+            name: why.get_str("NAME").unwrap_or(""),
         },
         _ => Request::Replay,
     })

@@ -19,6 +19,7 @@ mod status;
 mod status_command;
 mod tcp_dial;
 mod timed;
+mod why_command;
 
 use check_command::Manner;
 use clap::error::ErrorKind;
@@ -110,6 +111,10 @@ fn status_of(rt: &HostRuntime) -> u8 {
         Request::Status { db: path } => {
             let database = DatabaseFile { rt, path };
             status_command::status_on(rt.alloc(), &database, &mut out, &mut faults)
+        }
+        Request::Why { db: path, name } => {
+            let database = DatabaseFile { rt, path };
+            why_command::why_on(rt.alloc(), &database, name, &mut out, &mut faults)
         }
     }
 }

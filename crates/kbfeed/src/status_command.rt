@@ -8,8 +8,8 @@ use std::io;
 use std::io::Write;
 
 /// Opens the database and its feed, and prints a line for each release that is recorded, ordered by name: the name,
-/// `staged`, `active` or `broken`, the size of the file and how many bytes of it are missing, with a tab between each
-/// two. The result is the exit status: 1 for a database that is not ours or damaged, 3 for a failing device or print
+/// `staged`, `active` or `broken`, the size of the file and how many bytes of it are missing, and behind these the
+/// reason of a broken one, with a tab between each two. The result is the exit status: 1 for a database that is not ours or damaged, 3 for a failing device or print
 /// and for want of memory.
 pub fn status_on<D: Database, O: Write, F: Write + Drop>(
     alloc: Global,
@@ -40,7 +40,11 @@ fn print_records<O: Write>(out: &mut O, records: &[Record]) -> io::Result<()> {
         let size = record.size;
         let missing = missing_of(record);
         out.write_all(record.name.text())?;
-        writeln!(out, "\t{state}\t{size}\t{missing}")?;
+        write!(out, "\t{state}\t{size}\t{missing}")?;
+        if let Some(why) = record.reason {
+            write!(out, "\t{why}")?;
+        }
+        writeln!(out)?;
     }
     out.flush()
 }

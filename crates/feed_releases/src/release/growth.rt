@@ -1,17 +1,19 @@
 //! What a piece makes of a release, and how the release takes it in.
 ghost use Rattle.std.specs.Prelude.{◌≡◌, ◌≤◌, ◌+◌, ℕ, List, length, IfOk, OnOk, OnErr};
 ghost use Rattle.feed_model.specs.Reply.{max_piece};
-ghost use Rattle.feed_model.specs.Change.{grown, IsAllowed};
+ghost use Rattle.feed_model.specs.Change.{IsAllowed};
 ghost use Rattle.feed_releases.specs.Committed.{IsCommitted};
 ghost use Rattle.feed_releases.specs.ReleaseValue.{LiesOver};
-ghost use Rattle.feed_releases.specs.Growth.{IsGrowth, change_of, parts_of, reply_of, rows_of, state_of};
+ghost use Rattle.feed_releases.specs.Standing.{reply_of, rows_of, stood};
+ghost use Rattle.feed_releases.specs.Growth.{IsGrowth, change_of, parts_of};
 
 use crate::commit::commit;
 use crate::overlap::Overlap;
 use crate::release::Release;
-use feed_kbart::{BadFile, Holdings, KbartFault, read_parts};
-use feed_keep::{Change, Keep};
-use feed_model::{Refusal, Reply, State};
+use crate::standing::Standing;
+use feed_kbart::{KbartFault, read_parts};
+use feed_keep::Keep;
+use feed_model::{Refusal, Reply};
 use feed_parts::Segments;
 use std::alloc::Global;
 
@@ -21,17 +23,6 @@ pub(crate) struct Growth {
     pub(crate) new: Segments,
     pub(crate) missing: u64,
     pub(crate) standing: Standing,
-}
-
-/// How a file stands.
-#[derive(Drop)]
-pub(crate) enum Standing {
-    /// Places are missing.
-    Partial,
-    /// It is whole, and bad.
-    Bad(BadFile),
-    /// It is whole and good, and holds this.
-    Good(Holdings),
 }
 
 impl Release {
@@ -72,7 +63,7 @@ impl Release {
         requires allowed { K.clean keeper.old → IsAllowed (change_of self.old.kept growth) (K.content keeper.old) }
         ensures reply { IfOk result (λ reply. reply ≡ reply_of growth.missing growth.standing) }
         ensures taken { OnOk result (self.new ≡ record {
-          kept = grown (parts_of growth) (state_of growth.standing) self.old.kept;
+          kept = stood (parts_of growth) growth.standing self.old.kept;
           holdings = rows_of growth.standing;
         }) }
         ensures same { OnErr result (self.new ≡ self.old) }
@@ -88,15 +79,10 @@ impl Release {
         let Ok(()) = self.kept.reserve(&new) else {
             return Err(Refusal::Memory);
         };
-        let (state, reply, holdings) = match standing {
-            Standing::Partial => (State::Staged, Reply::Stored { missing }, None),
-            Standing::Bad(why) => (State::Broken, Reply::Broken(why), None),
-            Standing::Good(holdings) => (State::Active, Reply::Activated, Some(holdings)),
-        };
-        commit(keeper, &Change::to(state, &self.name, new.parts()))?;
+        commit(keeper, &standing.change(&self.name, new.parts()))?;
         self.kept.insert(new);
-        self.state = state;
-        self.holdings = holdings;
+        let reply = standing.reply(missing);
+        self.standing = standing;
         Ok(reply)
     }
 }

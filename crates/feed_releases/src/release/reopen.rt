@@ -1,23 +1,24 @@
 //! A release that is opened again.
-ghost use Rattle.std.specs.Prelude.{◌≡◌, ◌≢◌, ◌<◌, ◌⊎◌, IfOk, IfErr, OnOk};
+ghost use Rattle.std.specs.Prelude.{◌≡◌, ◌⊎◌, IfOk, IfErr};
 ghost use Rattle.feed_model.specs.Reply.{missing_below};
 ghost use Rattle.feed_model.specs.Content.{byte_in};
 ghost use Rattle.feed_model.specs.Parts.{AreWithin};
-ghost use Rattle.feed_model.specs.Sound.{BearsOut, IsSoundRecord};
+ghost use Rattle.feed_model.specs.Sound.{IsSoundRecord};
 ghost use Rattle.feed_keep.specs.Shown.{shown_record};
-ghost use Rattle.feed_releases.specs.ReleaseValue.{IsKnown};
+ghost use Rattle.feed_releases.specs.Standing.{StandsSo};
 
 use crate::release::Release;
-use feed_kbart::{Holdings, KbartFault, read_parts};
+use crate::standing::Standing;
+use feed_kbart::{KbartFault, read_parts};
 use feed_keep::Record;
 use feed_limits::FILE_LIMIT;
-use feed_model::{KeepFault, State};
+use feed_model::KeepFault;
 use feed_parts::Segments;
-use std::alloc::Global;
+use std::alloc::{AllocError, Global};
 
 impl Release {
-    /// The release that a record is of. `Damaged` where no feed ever keeps such a record; the file of one that is not
-    /// staged is read for that.
+    /// The release that a record is of. `Damaged` where no feed ever keeps such a record; the file of one that is whole
+    /// is read for that.
     pub(crate) fn reopened(alloc: Global, kept: Record) -> Result<Release, KeepFault>
         ensures ok { IfOk result (λ release. (release.kept ≡ shown_record kept)
             × IsSoundRecord (shown_record kept)) }
@@ -28,6 +29,7 @@ impl Release {
             name,
             size,
             state,
+            reason,
             parts,
         } = kept;
         let Some(kept) = Segments::of(parts) else {
@@ -36,48 +38,34 @@ impl Release {
         if size > FILE_LIMIT as u64 || !kept.are_within(size) {
             return Err(KeepFault::Damaged);
         }
-        let holdings = found_in(alloc, state, size, &kept)?;
+        let Ok(standing) = standing_of(alloc, size, &kept) else {
+            return Err(KeepFault::Memory);
+        };
+        if !standing.bears_out(state, reason) {
+            return Err(KeepFault::Damaged);
+        }
         Ok(Release {
             name,
             size,
-            state,
             kept,
-            holdings,
+            standing,
         })
     }
 }
 
-// The holdings that a release has whose file is kept so: those of its file if it is active. What is kept has to bear
-// out the state.
-fn found_in(
-    alloc: Global,
-    state: State,
-    size: u64,
-    kept: &Segments,
-) -> Result<Option<Holdings>, KeepFault>
+// How the file stands of which these bytes are kept. A whole one is read.
+fn standing_of(alloc: Global, size: u64, kept: &Segments) -> Result<Standing, AllocError>
     requires { AreWithin size kept.now.parts }
-    ensures known { IfOk result (λ holdings. IsKnown state size kept.now.parts holdings
-        × BearsOut state size kept.now.parts) }
-    ensures staged { OnOk result ((state ≡ State.Staged → 0 < missing_below (byte_in kept.now.parts) size)
-        × (state ≢ State.Staged → missing_below (byte_in kept.now.parts) size ≡ 0)) }
-    ensures err { IfErr result (λ cause. (cause ≡ KeepFault.Memory)
-        ⊎ ((cause ≡ KeepFault.Damaged) × ¬ (BearsOut state size kept.now.parts))) }
+    ensures { IfOk result (λ standing.
+        StandsSo size kept.now.parts (missing_below (byte_in kept.now.parts) size) standing) }
 {
     if kept.missing(size) > 0 {
-        return match state {
-            State::Staged => Ok(None),
-            State::Broken | State::Active => Err(KeepFault::Damaged),
-        };
+        return Ok(Standing::Partial);
     }
     match read_parts(alloc, kept.reader(), kept.reader()) {
-        Ok(holdings) => match state {
-            State::Active => Ok(Some(holdings)),
-            State::Staged | State::Broken => Err(KeepFault::Damaged),
-        },
-        Err(KbartFault::Bad(_)) => match state {
-            State::Broken => Ok(None),
-            State::Staged | State::Active => Err(KeepFault::Damaged),
-        },
-        Err(_) => Err(KeepFault::Memory),
+        Ok(holdings) => Ok(Standing::Good(holdings)),
+        Err(KbartFault::Bad(why)) => Ok(Standing::Bad(why)),
+        // Parts in memory are within the limit of a file and read to their end, so only memory is left.
+        Err(_) => Err(AllocError),
     }
 }

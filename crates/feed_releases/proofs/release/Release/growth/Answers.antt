@@ -23,6 +23,7 @@ returns-clause-growth c =
     let missing : c.saturating_sub-missing.result ≡ missing_below (byte_in (merged ps qs)) size = omega
     (arith, c.saturating_sub-missing.ensures, c.count.ensures, c.missing.ensures, missing_merged size ps qs c.self.invariant.within brings.whole) in
     rw (← c.self.view_is) (record {
+      staged = new.2;
       some = c.in-Ok.ensures.some new.1;
       adds = brings;
       missing = missing;

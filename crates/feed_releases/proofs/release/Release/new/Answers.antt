@@ -1,8 +1,9 @@
-use Rattle.std.proofs.Common.{[], None, sym, subst}
-use Rattle.feed_model.specs.Content.{Record}
-use Rattle.feed_releases.specs.ReleaseValue.{IsRelease, record_with}
-use Rattle.feed_releases.proofs.Growth.{sound_new}
+use Rattle.feed_releases.proofs.Growth.{new_partial, new_empty}
 use Rattle.feed_releases.proofs.release.Release.new.Goals as goal
+use Rattle.feed_releases.proofs.release.Release.new.Goals.{then-size-eq0, else-size-eq0}
 
 pub invariant_of-result : goal.invariant_of-result
-invariant_of-result c = rw c.new.ensures (subst (λ (r : Record). IsRelease (record_with r.name r.size r.state []) None) (sym c.new-name.ensures) (sound_new c.args.name c.args.size c.requires))
+invariant_of-result c = rw c.new.ensures (elim c.if-size-eq0.branch [
+  | then-size-eq0 w ↦ rw w.standing-is (new_empty c.args.size c.requires w.if-size-eq0.true)
+  | else-size-eq0 w ↦ rw w.standing-is (new_partial c.args.size c.requires w.if-size-eq0.false)
+])

@@ -1,0 +1,19 @@
+// What a feed answers on the content of a database of an earlier version.
+ghost use Rattle.std.specs.Prelude.{◌↔◌, ℕ, List, Result};
+ghost use Rattle.feed_answer.specs.QueryValue.{QueryValue};
+ghost use Rattle.feed_answer.specs.HitValue.{HitValue};
+ghost use Rattle.feed_model.specs.History.{History};
+ghost use Rattle.feed_model.specs.Earlier.{without_refused};
+ghost use Rattle.feed_releases.specs.Answered.{IsAnswered};
+
+use crate::feed::AnswerFault;
+use feed_model::{releases_stay, reports_stay};
+
+/// Without the offers that were refused as too large each query is answered the same.
+pub fn answers_stay()
+    ensures { (h : History) (stem : List ℕ) (query : QueryValue) (answer : Result (List HitValue) AnswerFault)
+        → IsAnswered h stem query answer ↔ IsAnswered (without_refused h) stem query answer }
+{
+    reports_stay();
+    releases_stay();
+}

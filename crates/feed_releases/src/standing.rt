@@ -1,0 +1,87 @@
+//! How the file of a release stands, and what follows from that.
+ghost use Rattle.std.specs.Prelude.{◌≡◌, ◌↔◌, IsTrue, option_map};
+ghost use Rattle.feed_parts.specs.Shown.{shown_parts};
+ghost use Rattle.feed_keep.specs.Shown.{shown_change};
+ghost use Rattle.feed_releases.specs.Standing.{change_to, reason_of, reply_of, rows_of, state_of};
+
+use feed_kbart::{BadFile, Holdings};
+use feed_keep::Change;
+use feed_model::{Reply, State};
+use feed_names::ReleaseName;
+use feed_parts::Part;
+
+/// How a file stands.
+#[derive(Drop)]
+pub(crate) enum Standing {
+    /// Places are missing.
+    Partial,
+    /// It is whole, and bad.
+    Bad(BadFile),
+    /// It is whole and good, and holds this.
+    Good(Holdings),
+}
+
+impl Standing {
+    pub(crate) fn state(&self) -> State
+        ensures { result ≡ state_of self.now }
+    {
+        match self {
+            Standing::Partial => State::Staged,
+            Standing::Bad(_) => State::Broken,
+            Standing::Good(_) => State::Active,
+        }
+    }
+
+    /// Why the file is bad, of one that is whole and bad.
+    pub(crate) fn reason(&self) -> Option<BadFile>
+        ensures { result ≡ reason_of self.now }
+    {
+        match self {
+            Standing::Bad(why) => Some(*why),
+            Standing::Partial | Standing::Good(_) => None,
+        }
+    }
+
+    /// Whether a release of this state and reason is one whose file stands so.
+    pub(crate) fn bears_out(&self, state: State, reason: Option<BadFile>) -> bool
+        ensures { IsTrue result ↔ ((state_of self.now ≡ state) × (reason_of self.now ≡ reason)) }
+    {
+        self.state() == state && self.reason() == reason
+    }
+
+    /// What the file holds, of one that is whole and good.
+    pub(crate) fn holdings(&self) -> Option<&Holdings>
+        ensures { option_map (λ holdings. holdings.now) result ≡ rows_of self.now }
+    {
+        match self {
+            Standing::Good(holdings) => Some(holdings),
+            Standing::Partial | Standing::Bad(_) => None,
+        }
+    }
+
+    /// The answer to the piece after which the file stands so, with so many places missing.
+    pub(crate) fn reply(&self, missing: u64) -> Reply
+        ensures { result ≡ reply_of missing self.now }
+    {
+        match self {
+            Standing::Partial => Reply::Stored { missing },
+            Standing::Bad(why) => Reply::Broken(*why),
+            Standing::Good(_) => Reply::Activated,
+        }
+    }
+
+    /// The change that keeps the parts with which the file of the name stands so.
+    pub(crate) fn change<'a>(&self, name: &'a ReleaseName, parts: &'a [Part]) -> Change<'a>
+        ensures { shown_change result ≡ change_to self.now name.now (shown_parts parts.now) }
+    {
+        match self {
+            Standing::Partial => Change::Pieces { name, parts },
+            Standing::Bad(why) => Change::Break {
+                name,
+                parts,
+                reason: *why,
+            },
+            Standing::Good(_) => Change::Activate { name, parts },
+        }
+    }
+}
