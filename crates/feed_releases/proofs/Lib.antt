@@ -7,3 +7,4 @@ mod Answered
 mod Answering
 mod Reopened
 mod Failed
+pub mod Inserting

@@ -8,5 +8,6 @@ pub mod ReleaseValue
 pub mod NextRange
 pub mod Answered
 pub mod Feeds
+pub mod Actives
 pub mod Growth
 pub mod Committed

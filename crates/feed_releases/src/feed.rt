@@ -6,6 +6,7 @@ mod offer;
 mod piece;
 mod reopen;
 
+use crate::actives::{ActiveRelease, actives_of};
 use crate::event::Event;
 use crate::feed::reopen::reopened;
 use crate::release::Release;
@@ -64,6 +65,7 @@ impl<K: Keep + Drop> Feed<K> {
     ghost use Rattle.feed_model.specs.Sound.{IsSound};
     ghost use Rattle.feed_model.specs.Content.{IsContent};
     ghost use Rattle.feed_model.specs.Handles.{Handles};
+    ghost use Rattle.feed_releases.specs.Actives.{actives_of};
     ghost use Rattle.feed_releases.specs.Answered.{IsAnswered};
     ghost use Rattle.feed_releases.specs.NextRange.{IsNextRange};
     ghost use Rattle.feed_releases.specs.Told.{told};
@@ -183,6 +185,13 @@ impl<K: Keep + Drop> Feed<K> {
             Ok(answer) => Ok(answer),
             Err(_) => Err(AnswerFault::Memory),
         }
+    }
+
+    /// The active releases, by their packages.
+    pub fn actives(&self) -> Result<Vec<ActiveRelease<'_>>, AllocError>
+        ensures { IfOk result (λ actives. actives.items ≡ actives_of (releases_of self.now)) }
+    {
+        actives_of(self.alloc, &self.releases)
     }
 
     /// Whether no release is recorded.

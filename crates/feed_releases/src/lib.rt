@@ -2,6 +2,7 @@
 //! reported and asked.
 #![tactic(auto)]
 
+mod actives;
 mod commit;
 mod event;
 mod feed;
@@ -9,6 +10,7 @@ mod overlap;
 mod release;
 mod releases;
 
+pub use actives::ActiveRelease;
 pub use event::Event;
 pub use feed::{AnswerFault, Feed, OpenFault, Point};
 pub use feed_model::{Refusal, Reply};
