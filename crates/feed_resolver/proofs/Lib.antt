@@ -1,2 +1,4 @@
 pub mod EscapedTexts
 pub mod JsonTexts
+pub mod PartsCut
+pub mod Weights

@@ -2,9 +2,21 @@
 //! is a function of the request's head and of the active releases of a feed.
 #![tactic(auto)]
 
+mod answers;
 mod escape;
+mod hits;
 mod laws;
 mod link;
+mod pages;
 mod piece;
+mod reply;
+mod representation;
+mod responses;
+mod status;
+mod target;
+mod text;
 
+pub use representation::Representation;
+pub use responses::{respond, respond_with};
+pub use feed_heads::{HeadEnd, head_end};
 pub use laws::{escaped_has_no_markup, escaped_reads_back, json_reads_back};
