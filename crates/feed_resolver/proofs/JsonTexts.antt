@@ -84,4 +84,5 @@ bytes_read (b ∷ text) =
     ∙ ap (with_bytes (b ∷ [])) (bytes_read text)
 
 pub reads_back : (text : List ℕ) → read_string (json_string text) ≡ Some text
+unfolding json_string
 reads_back text = bytes_read text

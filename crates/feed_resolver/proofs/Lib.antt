@@ -1,4 +1,5 @@
 pub mod EscapedTexts
 pub mod JsonTexts
 pub mod PartsCut
-pub mod Weights
+pub mod SameBytes
+pub mod Redirects

@@ -3,7 +3,9 @@ use Rattle.std.specs.Prelude.{ℕ, ◌+◌, ◌==◌, Bool, if◌then◌else◌,
 use Rattle.std.specs.List.{flat_map}
 use Rattle.std.specs.Fmt.{decimal}
 use Rattle.feed_names.specs.ReleaseName.{Name, text_of}
+use Rattle.feed_kbart.specs.RowValue.{RowValue}
 use Rattle.feed_answer.specs.QueryValue.{QueryValue}
+use Rattle.feed_answer.specs.HitValue.{HitValue}
 use Rattle.feed_answer.specs.Answers.{answer_of, answer_text}
 use Rattle.feed_answer.specs.Grades.{grade_text}
 use Rattle.feed_answer.specs.declared.grade.Grade.{Grade}
@@ -20,8 +22,12 @@ use Rattle.feed_resolver.specs.declared.representation.Representation.TheVariant
 abbrev pub joined : List (List ℕ) → List ℕ
 joined texts = flat_map (λ text. text) texts
 
+-- the name of a release, as it is written
+unfoldable pub name_text : Name → List ℕ
+name_text name = text_of name
+
 -- the answer of a release, as `Answer::write` has it
-abbrev pub release_text : QueryValue → ActiveValue → List ℕ
+unfoldable pub release_text : QueryValue → ActiveValue → List ℕ
 release_text query active = answer_text (text_of active.name) (answer_of active.holdings query)
 
 -- the answers of releases
@@ -41,23 +47,34 @@ items_from item place (x ∷ xs) = (comma_before place ++ item x) ++ items_from 
 abbrev pub json_list : {A : Type 0} → (A → List ℕ) → List A → List ℕ
 json_list item xs = codes "[" ++ (items_from item 0 xs ++ codes "\n]\n")
 
--- a hit as an object
-abbrev pub hit_object : FoundValue → List ℕ
-hit_object found = joined (
+-- the members of a hit's object that say of which release it is
+unfoldable pub release_members : FoundValue → List ℕ
+release_members found = joined (
     codes "{\"package\":" ∷ json_string found.name.stem
-    ∷ codes ",\"release\":" ∷ json_string (text_of found.name)
-    ∷ codes ",\"record\":" ∷ decimal found.hit.row.number
-    ∷ codes ",\"grade\":" ∷ json_string (grade_text found.hit.grade)
-    ∷ codes ",\"title\":" ∷ json_string found.hit.row.title
-    ∷ codes ",\"url\":" ∷ json_string found.hit.row.url
-    ∷ codes ",\"title_id\":" ∷ json_string found.hit.row.title_id
-    ∷ codes ",\"depth\":" ∷ json_string found.hit.row.depth
-    ∷ codes ",\"embargo\":" ∷ json_string found.hit.row.embargo
-    ∷ codes ",\"access\":" ∷ json_string found.hit.row.access
+    ∷ codes ",\"release\":" ∷ json_string (name_text found.name) ∷ [])
+
+-- those of its row
+unfoldable pub row_members : RowValue → List ℕ
+row_members row = joined (
+    codes ",\"title\":" ∷ json_string row.title
+    ∷ codes ",\"url\":" ∷ json_string row.url
+    ∷ codes ",\"title_id\":" ∷ json_string row.title_id
+    ∷ codes ",\"depth\":" ∷ json_string row.depth
+    ∷ codes ",\"embargo\":" ∷ json_string row.embargo
+    ∷ codes ",\"access\":" ∷ json_string row.access
     ∷ codes "}" ∷ [])
 
+-- and of its record and grade
+unfoldable pub grade_members : HitValue → List ℕ
+grade_members hit = joined (
+    codes ",\"record\":" ∷ decimal hit.row.number ∷ codes ",\"grade\":" ∷ json_string (grade_text hit.grade) ∷ [])
+
+-- a hit as an object
+unfoldable pub hit_object : FoundValue → List ℕ
+hit_object found = release_members found ++ (grade_members found.hit ++ row_members found.hit.row)
+
 -- the hits as a list of objects
-abbrev pub hits_json : List FoundValue → List ℕ
+unfoldable pub hits_json : List FoundValue → List ℕ
 hits_json hits = json_list hit_object hits
 
 -- a grade in words that a reader understands
@@ -67,7 +84,7 @@ grade_words Overlap = codes "covers a part of your date"
 grade_words Untested = codes "has the title; no date or volume was compared"
 
 -- a title, which is a link where its URL may be one
-abbrev pub title_cell : List ℕ → List ℕ → List ℕ
+unfoldable pub title_cell : List ℕ → List ℕ → List ℕ
 title_cell url title =
     if is_link url
     then joined (codes "<a href=\"" ∷ escaped url ∷ codes "\">" ∷ escaped title ∷ codes "</a>" ∷ [])
@@ -79,7 +96,7 @@ number_text None = []
 number_text (Some n) = decimal n
 
 -- the cells behind the title
-abbrev pub other_cells : FoundValue → List ℕ
+unfoldable pub other_cells : FoundValue → List ℕ
 other_cells found = joined (
     codes "</th><td>" ∷ grade_words found.hit.grade
     ∷ codes "</td><td>" ∷ number_text found.hit.row.first_volume ∷ codes "&#8211;" ∷ number_text found.hit.row.last_volume
@@ -90,11 +107,11 @@ other_cells found = joined (
     ∷ codes "</td></tr>\n" ∷ [])
 
 -- the row of a hit in the table
-abbrev pub hit_row : FoundValue → List ℕ
+unfoldable pub hit_row : FoundValue → List ℕ
 hit_row found = codes "<tr><th scope=\"row\">" ++ (title_cell found.hit.row.url found.hit.row.title ++ other_cells found)
 
 -- the front of a page with this title
-abbrev pub page_front : List ℕ → List ℕ
+unfoldable pub page_front : List ℕ → List ℕ
 page_front title = joined (
     codes "<!DOCTYPE html>\n<html lang=\"en\">\n<head>\n<meta charset=\"utf-8\">\n"
     ∷ codes "<meta name=\"viewport\" content=\"width=device-width, initial-scale=1\">\n<title>" ∷ title ∷ codes "</title>\n"
@@ -104,11 +121,11 @@ page_front title = joined (
     ∷ codes "</head>\n<body>\n<main>\n<h1>" ∷ title ∷ codes "</h1>\n" ∷ [])
 
 -- the end of each page
-abbrev pub page_end : List ℕ
+unfoldable pub page_end : List ℕ
 page_end = codes "<p><a href=\"/\">Ask again</a></p>\n</main>\n</body>\n</html>\n"
 
 -- the head of the table of hits
-abbrev pub table_head : List ℕ
+unfoldable pub table_head : List ℕ
 table_head = joined (
     codes "<div class=\"wide\">\n<table>\n<thead>\n<tr><th scope=\"col\">Title</th><th scope=\"col\">How well it fits</th>"
     ∷ codes "<th scope=\"col\">Volumes</th><th scope=\"col\">Depth</th><th scope=\"col\">Embargo</th>"
@@ -119,7 +136,7 @@ abbrev pub table_end : List ℕ
 table_end = codes "</tbody>\n</table>\n</div>\n"
 
 -- the hits as a table
-abbrev pub hits_table : List FoundValue → List ℕ
+unfoldable pub hits_table : List FoundValue → List ℕ
 hits_table hits = table_head ++ (flat_map hit_row hits ++ table_end)
 
 -- the same, or that there are none
@@ -128,11 +145,11 @@ hits_part [] = codes "<p>No holdings match.</p>\n"
 hits_part (found ∷ more) = hits_table (found ∷ more)
 
 -- the hits as a page
-abbrev pub hits_page : List FoundValue → List ℕ
+unfoldable pub hits_page : List FoundValue → List ℕ
 hits_page hits = page_front (codes "Holdings") ++ (hits_part hits ++ page_end)
 
 -- the answer of these releases
-abbrev pub answers_body : Representation → QueryValue → List ActiveValue → List ℕ
+unfoldable pub answers_body : Representation → QueryValue → List ActiveValue → List ℕ
 answers_body Text query actives = answers_text query actives
 answers_body Json query actives = hits_json (hits_among query actives)
 answers_body Html query actives = hits_page (hits_among query actives)

@@ -17,7 +17,7 @@ json_byte b =
     else b ∷ []))
 
 -- a text between quotation marks
-abbrev pub json_string : List ℕ → List ℕ
+unfoldable pub json_string : List ℕ → List ℕ
 json_string text = 34 ∷ (flat_map json_byte text ++ 34 ∷ [])
 
 -- the number of a hexadecimal digit

@@ -1,5 +1,5 @@
 -- The reply to a request, as a function of its head and of the active releases.
-use Rattle.std.specs.Prelude.{◌≡◌, ℕ, ◌||◌, not, Bool, false, if◌then◌else◌, List, [], ◌∷◌, ◌++◌, length, codes, Option, Some, None, Result, Ok, Err, position, take, drop}
+use Rattle.std.specs.Prelude.{◌≡◌, ◌⊎◌, ℕ, ◌||◌, not, Bool, false, if◌then◌else◌, List, [], ◌∷◌, ◌++◌, length, codes, Option, Some, None, Result, Ok, Err, position, take, drop}
 use Rattle.std.specs.Fmt.{decimal}
 use Rattle.std.specs.Option.{option_map_or}
 use Rattle.std.specs.Str.{bytes_eq}
@@ -68,7 +68,7 @@ status_field status.MethodNotAllowed location = joined (codes "\r\nAllow: GET, H
 status_field code location = []
 
 -- the head of a reply
-abbrev pub reply_head : ReplyValue → List ℕ
+unfoldable pub reply_head : ReplyValue → List ℕ
 reply_head reply =
     joined (codes "HTTP/1.1 " ∷ status_text reply.status ∷ [])
     ++ (status_field reply.status reply.location
@@ -155,7 +155,16 @@ response_to head actives = reply_text (is_head head) (reply_to head actives)
 abbrev pub response_to_none : List ℕ
 response_to_none = reply_text false (refusal status.BadRequest Text (codes "BadHead"))
 
--- the bytes of the reply: to the head that stands in front, within the limits, or to none
-pub record IsResponse (bytes : List ℕ) (actives : List ActiveValue) (response : List ℕ) : Type 0 where
-  pub answered : (head : RequestHead) → BeginsWithHead head_limit field_limit bytes head → response ≡ response_to head actives
-  pub refused : ((head : RequestHead) → ¬ (BeginsWithHead head_limit field_limit bytes head)) → response ≡ response_to_none
+-- the reply to the head that stands in front, within the limits
+abbrev pub IsReplyToHead : List ℕ → List ActiveValue → List ℕ → Type 0
+IsReplyToHead bytes actives response =
+    (head : RequestHead) × BeginsWithHead head_limit field_limit bytes head × (response ≡ response_to head actives)
+
+-- the reply where none stands there
+abbrev pub IsReplyToNone : List ℕ → List ℕ → Type 0
+IsReplyToNone bytes response =
+    ((head : RequestHead) → ¬ (BeginsWithHead head_limit field_limit bytes head)) × (response ≡ response_to_none)
+
+-- the reply to bytes
+abbrev pub IsResponse : List ℕ → List ActiveValue → List ℕ → Type 0
+IsResponse bytes actives response = IsReplyToHead bytes actives response ⊎ IsReplyToNone bytes response

@@ -4,6 +4,7 @@ ghost use Rattle.std.specs.List.{flat_map};
 ghost use Rattle.feed_answer.specs.Grades.{grade_text};
 ghost use Rattle.feed_resolver.specs.Pieces.{piece_text};
 ghost use Rattle.feed_resolver.specs.Answers.{release_text, answers_text, comma_before, items_from, hit_object, hits_json};
+ghost use Rattle.feed_resolver.specs.Answers.{name_text, release_members, grade_members, row_members};
 ghost use Rattle.feed_resolver.specs.Answers.{grade_words, title_cell, number_text, other_cells, hit_row, table_head, table_end};
 ghost use Rattle.feed_resolver.specs.Answers.{hits_table, hits_part, hits_page, answers_body};
 
@@ -15,9 +16,11 @@ use crate::piece::{Piece, put_all};
 use crate::representation::Representation;
 use feed_answer::{Grade, Query, answer};
 use feed_kbart::Row;
+use feed_names::ReleaseName;
 use feed_releases::ActiveRelease;
 use std::alloc::{AllocError, Global};
 
+#[tactic(auto, unfolding(crate::specs::Answers::release_text))]
 fn put_release(
     alloc: Global,
     out: &mut Vec<u8>,
@@ -57,21 +60,50 @@ fn grade_name(grade: Grade) -> &'static [u8]
     }
 }
 
-fn put_object(out: &mut Vec<u8>, found: &Found<'_>) -> Result<(), AllocError>
-    ensures { OnOk result (out.new.items ≡ out.old.items ++ hit_object found.now) }
+#[tactic(auto, unfolding(crate::specs::Answers::name_text))]
+pub(crate) fn name_text(name: &ReleaseName) -> &[u8]
+    ensures { result.now ≡ name_text name.now }
 {
-    let row = found.row();
+    name.text()
+}
+
+#[tactic(auto, unfolding(crate::specs::Answers::release_members))]
+fn put_release_members(out: &mut Vec<u8>, found: &Found<'_>) -> Result<(), AllocError>
+    ensures { OnOk result (out.new.items ≡ out.old.items ++ release_members found.now) }
+{
     put_all(
         out,
         &[
             Piece::Plain(b"{\"package\":"),
             Piece::Quoted(found.name().package()),
             Piece::Plain(b",\"release\":"),
-            Piece::Quoted(found.name().text()),
+            Piece::Quoted(name_text(found.name())),
+        ],
+    )
+}
+
+#[tactic(auto, unfolding(crate::specs::Answers::grade_members))]
+fn put_grade_members(out: &mut Vec<u8>, found: &Found<'_>) -> Result<(), AllocError>
+    ensures { OnOk result (out.new.items ≡ out.old.items ++ grade_members found.now.hit) }
+{
+    put_all(
+        out,
+        &[
             Piece::Plain(b",\"record\":"),
-            Piece::Number(u64::from(row.number())),
+            Piece::Number(u64::from(found.row().number())),
             Piece::Plain(b",\"grade\":"),
             Piece::Quoted(grade_name(found.grade())),
+        ],
+    )
+}
+
+#[tactic(auto, unfolding(crate::specs::Answers::row_members))]
+fn put_row_members(out: &mut Vec<u8>, row: &Row) -> Result<(), AllocError>
+    ensures { OnOk result (out.new.items ≡ out.old.items ++ row_members row.now) }
+{
+    put_all(
+        out,
+        &[
             Piece::Plain(b",\"title\":"),
             Piece::Quoted(row.title()),
             Piece::Plain(b",\"url\":"),
@@ -87,6 +119,15 @@ fn put_object(out: &mut Vec<u8>, found: &Found<'_>) -> Result<(), AllocError>
             Piece::Plain(b"}"),
         ],
     )
+}
+
+#[tactic(auto, unfolding(crate::specs::Answers::hit_object))]
+fn put_object(out: &mut Vec<u8>, found: &Found<'_>) -> Result<(), AllocError>
+    ensures { OnOk result (out.new.items ≡ out.old.items ++ hit_object found.now) }
+{
+    put_release_members(out, found)?;
+    put_grade_members(out, found)?;
+    put_row_members(out, found.row())
 }
 
 pub(crate) fn put_comma(out: &mut Vec<u8>, place: usize) -> Result<(), AllocError>
@@ -109,6 +150,7 @@ fn put_objects(out: &mut Vec<u8>, hits: &[Found<'_>]) -> Result<(), AllocError>
     Ok(())
 }
 
+#[tactic(auto, unfolding(crate::specs::Answers::hits_json))]
 fn put_json(out: &mut Vec<u8>, hits: &[Found<'_>]) -> Result<(), AllocError>
     ensures { OnOk result (out.new.items ≡ out.old.items ++ hits_json hits.now) }
 {
@@ -127,6 +169,7 @@ fn grade_words(grade: Grade) -> &'static [u8]
     }
 }
 
+#[tactic(auto, unfolding(crate::specs::Answers::title_cell))]
 fn put_title(out: &mut Vec<u8>, row: &Row) -> Result<(), AllocError>
     ensures { OnOk result (out.new.items ≡ out.old.items ++ title_cell row.now.url row.now.title) }
 {
@@ -155,6 +198,7 @@ fn number_piece(number: Option<u32>) -> Piece<'static>
     }
 }
 
+#[tactic(auto, unfolding(crate::specs::Answers::other_cells))]
 fn put_other_cells(out: &mut Vec<u8>, found: &Found<'_>) -> Result<(), AllocError>
     ensures { OnOk result (out.new.items ≡ out.old.items ++ other_cells found.now) }
 {
@@ -181,6 +225,7 @@ fn put_other_cells(out: &mut Vec<u8>, found: &Found<'_>) -> Result<(), AllocErro
     )
 }
 
+#[tactic(auto, unfolding(crate::specs::Answers::hit_row))]
 fn put_row(out: &mut Vec<u8>, found: &Found<'_>) -> Result<(), AllocError>
     ensures { OnOk result (out.new.items ≡ out.old.items ++ hit_row found.now) }
 {
@@ -198,6 +243,7 @@ fn put_rows(out: &mut Vec<u8>, hits: &[Found<'_>]) -> Result<(), AllocError>
     Ok(())
 }
 
+#[tactic(auto, unfolding(crate::specs::Answers::table_head))]
 fn put_table_head(out: &mut Vec<u8>) -> Result<(), AllocError>
     ensures { OnOk result (out.new.items ≡ out.old.items ++ table_head) }
 {
@@ -211,6 +257,7 @@ fn put_table_head(out: &mut Vec<u8>) -> Result<(), AllocError>
     )
 }
 
+#[tactic(auto, unfolding(crate::specs::Answers::hits_table))]
 fn put_table(out: &mut Vec<u8>, hits: &[Found<'_>]) -> Result<(), AllocError>
     ensures { OnOk result (out.new.items ≡ out.old.items ++ hits_table hits.now) }
 {
@@ -229,6 +276,7 @@ fn put_hits(out: &mut Vec<u8>, hits: &[Found<'_>]) -> Result<(), AllocError>
     }
 }
 
+#[tactic(auto, unfolding(crate::specs::Answers::hits_page))]
 fn put_page(out: &mut Vec<u8>, hits: &[Found<'_>]) -> Result<(), AllocError>
     ensures { OnOk result (out.new.items ≡ out.old.items ++ hits_page hits.now) }
 {
@@ -238,6 +286,7 @@ fn put_page(out: &mut Vec<u8>, hits: &[Found<'_>]) -> Result<(), AllocError>
 }
 
 /// The answer of these releases to a query.
+#[tactic(auto, unfolding(crate::specs::Answers::answers_body))]
 pub(crate) fn put_answer(
     alloc: Global,
     out: &mut Vec<u8>,

@@ -70,6 +70,7 @@ fn put_json_bytes(out: &mut Vec<u8>, text: &[u8]) -> Result<(), AllocError>
 }
 
 /// Writes a text as a string of JSON (RFC 8259, section 7).
+#[tactic(auto, unfolding(crate::specs::JsonStrings::json_string))]
 pub(crate) fn put_json_string(out: &mut Vec<u8>, text: &[u8]) -> Result<(), AllocError>
     ensures { OnOk result (out.new.items ≡ out.old.items ++ json_string text.now) }
 {

@@ -7,6 +7,7 @@ use crate::piece::{Piece, put_all};
 use std::alloc::AllocError;
 
 /// Writes a page up to its heading, which is its title too.
+#[tactic(auto, unfolding(crate::specs::Answers::page_front))]
 pub(crate) fn put_front(out: &mut Vec<u8>, title: &[u8]) -> Result<(), AllocError>
     ensures { OnOk result (out.new.items ≡ out.old.items ++ page_front title.now) }
 {
@@ -28,6 +29,7 @@ pub(crate) fn put_front(out: &mut Vec<u8>, title: &[u8]) -> Result<(), AllocErro
 }
 
 /// Writes the end of a page.
+#[tactic(auto, unfolding(crate::specs::Answers::page_end))]
 pub(crate) fn put_end(out: &mut Vec<u8>) -> Result<(), AllocError>
     ensures { OnOk result (out.new.items ≡ out.old.items ++ page_end) }
 {

@@ -111,6 +111,7 @@ impl<'a> Reply<'a> {
         }
     }
 
+    #[tactic(auto, unfolding(crate::specs::Replies::reply_head))]
     fn put_fields(&self, out: &mut Vec<u8>) -> Result<(), AllocError>
         ensures { OnOk result (out.new.items ≡ out.old.items ++ reply_head self.now) }
     {

@@ -6,7 +6,7 @@ ghost use Rattle.feed_resolver.specs.Pages.{active_item, active_items, active_li
 ghost use Rattle.feed_resolver.specs.Pages.{form_text, front_page, fault_part, fault_body};
 ghost use Rattle.feed_resolver.specs.declared.representation.Representation.TheVariants as representation;
 
-use crate::answers::put_comma;
+use crate::answers::{name_text, put_comma};
 use crate::escape::put;
 use crate::pages::{put_end, put_front};
 use crate::piece::{Piece, put_all};
@@ -14,6 +14,7 @@ use crate::representation::Representation;
 use feed_releases::ActiveRelease;
 use std::alloc::AllocError;
 
+#[tactic(auto, unfolding(crate::specs::Pages::active_item))]
 fn put_item(out: &mut Vec<u8>, active: &ActiveRelease<'_>) -> Result<(), AllocError>
     ensures { OnOk result (out.new.items ≡ out.old.items ++ active_item active.now) }
 {
@@ -23,7 +24,7 @@ fn put_item(out: &mut Vec<u8>, active: &ActiveRelease<'_>) -> Result<(), AllocEr
             Piece::Plain(b"<li>"),
             Piece::Escaped(active.name().package()),
             Piece::Plain(b" ("),
-            Piece::Escaped(active.name().text()),
+            Piece::Escaped(name_text(active.name())),
             Piece::Plain(b")</li>\n"),
         ],
     )
@@ -38,6 +39,7 @@ fn put_each_item(out: &mut Vec<u8>, actives: &[ActiveRelease<'_>]) -> Result<(),
     Ok(())
 }
 
+#[tactic(auto, unfolding(crate::specs::Pages::active_items))]
 fn put_items(out: &mut Vec<u8>, actives: &[ActiveRelease<'_>]) -> Result<(), AllocError>
     ensures { OnOk result (out.new.items ≡ out.old.items ++ active_items actives.now) }
 {
@@ -46,10 +48,11 @@ fn put_items(out: &mut Vec<u8>, actives: &[ActiveRelease<'_>]) -> Result<(), All
     put(out, b"</ul>\n")
 }
 
+#[tactic(auto, unfolding(crate::specs::Pages::active_line))]
 fn put_line(out: &mut Vec<u8>, active: &ActiveRelease<'_>) -> Result<(), AllocError>
     ensures { OnOk result (out.new.items ≡ out.old.items ++ active_line active.now) }
 {
-    put(out, active.name().text())?;
+    put(out, name_text(active.name()))?;
     put(out, b"\n")
 }
 
@@ -62,6 +65,7 @@ fn put_lines(out: &mut Vec<u8>, actives: &[ActiveRelease<'_>]) -> Result<(), All
     Ok(())
 }
 
+#[tactic(auto, unfolding(crate::specs::Pages::active_object))]
 fn put_object(out: &mut Vec<u8>, active: &ActiveRelease<'_>) -> Result<(), AllocError>
     ensures { OnOk result (out.new.items ≡ out.old.items ++ active_object active.now) }
 {
@@ -71,7 +75,7 @@ fn put_object(out: &mut Vec<u8>, active: &ActiveRelease<'_>) -> Result<(), Alloc
             Piece::Plain(b"{\"package\":"),
             Piece::Quoted(active.name().package()),
             Piece::Plain(b",\"release\":"),
-            Piece::Quoted(active.name().text()),
+            Piece::Quoted(name_text(active.name())),
             Piece::Plain(b"}"),
         ],
     )
@@ -95,6 +99,7 @@ fn put_json(out: &mut Vec<u8>, actives: &[ActiveRelease<'_>]) -> Result<(), Allo
     put(out, b"\n]\n")
 }
 
+#[tactic(auto, unfolding(crate::specs::Pages::status_body))]
 fn put_page(out: &mut Vec<u8>, actives: &[ActiveRelease<'_>]) -> Result<(), AllocError>
     ensures { OnOk result (out.new.items ≡ out.old.items ++ status_body representation.Html actives.now) }
 {
@@ -104,6 +109,7 @@ fn put_page(out: &mut Vec<u8>, actives: &[ActiveRelease<'_>]) -> Result<(), Allo
 }
 
 /// The active releases.
+#[tactic(auto, unfolding(crate::specs::Pages::status_body))]
 pub(crate) fn put_status(
     out: &mut Vec<u8>,
     representation: Representation,
@@ -118,6 +124,7 @@ pub(crate) fn put_status(
     }
 }
 
+#[tactic(auto, unfolding(crate::specs::Pages::form_text))]
 fn put_form(out: &mut Vec<u8>) -> Result<(), AllocError>
     ensures { OnOk result (out.new.items ≡ out.old.items ++ form_text) }
 {
@@ -135,6 +142,7 @@ fn put_form(out: &mut Vec<u8>) -> Result<(), AllocError>
 }
 
 /// The page with the form and the packages.
+#[tactic(auto, unfolding(crate::specs::Pages::front_page))]
 pub(crate) fn put_front_page(out: &mut Vec<u8>, actives: &[ActiveRelease<'_>]) -> Result<(), AllocError>
     ensures { OnOk result (out.new.items ≡ out.old.items ++ front_page actives.now) }
 {
@@ -144,6 +152,7 @@ pub(crate) fn put_front_page(out: &mut Vec<u8>, actives: &[ActiveRelease<'_>]) -
     put(out, b"</main>\n</body>\n</html>\n")
 }
 
+#[tactic(auto, unfolding(crate::specs::Pages::fault_part))]
 fn put_fault_part(out: &mut Vec<u8>, name: &[u8]) -> Result<(), AllocError>
     ensures { OnOk result (out.new.items ≡ out.old.items ++ fault_part name.now) }
 {
@@ -157,6 +166,7 @@ fn put_fault_part(out: &mut Vec<u8>, name: &[u8]) -> Result<(), AllocError>
     )
 }
 
+#[tactic(auto, unfolding(crate::specs::Pages::fault_body))]
 fn put_fault_page(out: &mut Vec<u8>, name: &[u8]) -> Result<(), AllocError>
     ensures { OnOk result (out.new.items ≡ out.old.items ++ fault_body representation.Html name.now) }
 {
@@ -166,6 +176,7 @@ fn put_fault_page(out: &mut Vec<u8>, name: &[u8]) -> Result<(), AllocError>
 }
 
 /// Why a request is not answered.
+#[tactic(auto, unfolding(crate::specs::Pages::fault_body))]
 pub(crate) fn put_fault(
     out: &mut Vec<u8>,
     representation: Representation,
