@@ -1,5 +1,5 @@
 //! The bytes of replies.
-ghost use Rattle.std.specs.Prelude.{◌≡◌, ◌++◌, IfOk, OnOk};
+ghost use Rattle.std.specs.Prelude.{◌≡◌, ◌++◌, IfOk, OnOk, length};
 ghost use Rattle.feed_resolver.specs.Replies.{ReplyValue, reply_head, reply_text, reply_with, refusal, redirect_to};
 ghost use Rattle.feed_resolver.specs.Replies.{status_text, status_field, type_text};
 
@@ -71,6 +71,12 @@ fn type_text(representation: Representation) -> &'static [u8]
     }
 }
 
+fn length_of(body: &[u8]) -> u64
+    ensures { result ≡ length body.now }
+{
+    body.len() as u64
+}
+
 fn put_field(out: &mut Vec<u8>, status: Status, location: &[u8]) -> Result<(), AllocError>
     ensures { OnOk result (out.new.items ≡ out.old.items ++ status_field status location.now) }
 {
@@ -129,7 +135,7 @@ impl<'a> Reply<'a> {
                 Piece::Plain(b"\r\nContent-Type: "),
                 Piece::Plain(type_text(self.representation)),
                 Piece::Plain(b"\r\nContent-Length: "),
-                Piece::Number(self.body.len() as u64),
+                Piece::Number(length_of(&self.body)),
                 Piece::Plain(b"\r\nVary: Accept\r\nX-Content-Type-Options: nosniff\r\nConnection: close\r\n\r\n"),
             ],
         )
