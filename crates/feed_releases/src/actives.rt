@@ -64,7 +64,10 @@ fn place_for(actives: &[ActiveRelease<'_>], active: &ActiveRelease<'_>) -> usize
     actives.len()
 }
 
-fn add<'a>(actives: &mut Vec<ActiveRelease<'a>>, active: ActiveRelease<'a>) -> Result<(), AllocError>
+fn add<'a>(
+    actives: &mut Vec<ActiveRelease<'a>>,
+    active: ActiveRelease<'a>,
+) -> Result<(), AllocError>
     ensures { OnOk result (actives.new.items ≡ insert_active active.entry actives.old.items) }
 {
     let place = place_for(actives, &active);

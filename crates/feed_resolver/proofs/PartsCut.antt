@@ -16,7 +16,7 @@ pub cut_there : (byte : ℕ) (text : List ℕ) (k : ℕ) → position (λ other.
 cut_there byte text k found =
     let at = position-Some (λ other. other == byte) text k 0 found in
     let whole : text ≡ take k text ++ get_or text k 0 ∷ drop (suc k) text =
-        sym (take-append-drop k text) ∙ ap (λ t. take k text ++ t) (drop-cons text k 0 at.0) in
+    sym (take-append-drop k text) ∙ ap (λ t. take k text ++ t) (drop-cons text k 0 at.0) in
     rw (add-one k) (record {
       parts = ap (slice_split (λ other. other == byte)) whole
           ∙ slice_split_at (λ other. other == byte) (take k text) (get_or text k 0) (drop (suc k) text) (before byte text k found) at.1;

@@ -250,9 +250,15 @@ fn put_table_head(out: &mut Vec<u8>) -> Result<(), AllocError>
     put_all(
         out,
         &[
-            Piece::Plain(b"<div class=\"wide\">\n<table>\n<thead>\n<tr><th scope=\"col\">Title</th><th scope=\"col\">How well it fits</th>"),
-            Piece::Plain(b"<th scope=\"col\">Volumes</th><th scope=\"col\">Depth</th><th scope=\"col\">Embargo</th>"),
-            Piece::Plain(b"<th scope=\"col\">Access</th><th scope=\"col\">Package</th></tr>\n</thead>\n<tbody>\n"),
+            Piece::Plain(
+                b"<div class=\"wide\">\n<table>\n<thead>\n<tr><th scope=\"col\">Title</th><th scope=\"col\">How well it fits</th>",
+            ),
+            Piece::Plain(
+                b"<th scope=\"col\">Volumes</th><th scope=\"col\">Depth</th><th scope=\"col\">Embargo</th>",
+            ),
+            Piece::Plain(
+                b"<th scope=\"col\">Access</th><th scope=\"col\">Package</th></tr>\n</thead>\n<tbody>\n",
+            ),
         ],
     )
 }

@@ -54,7 +54,10 @@ fn put_json_byte(out: &mut Vec<u8>, byte: u8) -> Result<(), AllocError>
     } else if byte == 92 {
         put(out, &[92, 92])
     } else if byte < 32 {
-        put(out, &[92, 117, 48, 48, hex_digit(byte / 16), hex_digit(byte % 16)])
+        put(
+            out,
+            &[92, 117, 48, 48, hex_digit(byte / 16), hex_digit(byte % 16)],
+        )
     } else {
         Ok(out.push(byte)?)
     }

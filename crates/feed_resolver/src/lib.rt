@@ -16,9 +16,10 @@ mod status;
 mod target;
 mod text;
 
-pub use representation::Representation;
-pub use responses::{respond, respond_with};
 pub use feed_heads::{HeadEnd, head_end};
 pub use laws::{
-    escaped_has_no_markup, escaped_reads_back, json_reads_back, redirects_to_link, same_releases_same_bytes,
+    escaped_has_no_markup, escaped_reads_back, json_reads_back, redirects_to_link,
+    same_releases_same_bytes,
 };
+pub use representation::Representation;
+pub use responses::{respond, respond_with};

@@ -14,12 +14,20 @@ pub(crate) fn put_front(out: &mut Vec<u8>, title: &[u8]) -> Result<(), AllocErro
     put_all(
         out,
         &[
-            Piece::Plain(b"<!DOCTYPE html>\n<html lang=\"en\">\n<head>\n<meta charset=\"utf-8\">\n"),
-            Piece::Plain(b"<meta name=\"viewport\" content=\"width=device-width, initial-scale=1\">\n<title>"),
+            Piece::Plain(
+                b"<!DOCTYPE html>\n<html lang=\"en\">\n<head>\n<meta charset=\"utf-8\">\n",
+            ),
+            Piece::Plain(
+                b"<meta name=\"viewport\" content=\"width=device-width, initial-scale=1\">\n<title>",
+            ),
             Piece::Plain(title),
             Piece::Plain(b"</title>\n"),
-            Piece::Plain(b"<style>body{font-family:sans-serif;max-width:60em;margin:1em auto;padding:0 1em}"),
-            Piece::Plain(b"table{border-collapse:collapse}th,td{text-align:left;padding:.4em;border-bottom:1px solid #999}"),
+            Piece::Plain(
+                b"<style>body{font-family:sans-serif;max-width:60em;margin:1em auto;padding:0 1em}",
+            ),
+            Piece::Plain(
+                b"table{border-collapse:collapse}th,td{text-align:left;padding:.4em;border-bottom:1px solid #999}",
+            ),
             Piece::Plain(b"label{display:block;margin-top:.6em}.wide{overflow-x:auto}</style>\n"),
             Piece::Plain(b"</head>\n<body>\n<main>\n<h1>"),
             Piece::Plain(title),

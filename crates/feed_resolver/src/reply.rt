@@ -43,8 +43,12 @@ impl<'a> Model for Reply<'a> {
 
     ghost Value = { ReplyValue };
 
-    ghost view = { λ r. record { status = r.status; location = r.location.now;
-        representation = r.representation; body = r.body.items } };
+    ghost view = { λ r. record {
+      status = r.status;
+      location = r.location.now;
+      representation = r.representation;
+      body = r.body.items;
+    } };
 }
 
 fn status_text(status: Status) -> &'static [u8]
@@ -136,7 +140,9 @@ impl<'a> Reply<'a> {
                 Piece::Plain(type_text(self.representation)),
                 Piece::Plain(b"\r\nContent-Length: "),
                 Piece::Number(length_of(&self.body)),
-                Piece::Plain(b"\r\nVary: Accept\r\nX-Content-Type-Options: nosniff\r\nConnection: close\r\n\r\n"),
+                Piece::Plain(
+                    b"\r\nVary: Accept\r\nX-Content-Type-Options: nosniff\r\nConnection: close\r\n\r\n",
+                ),
             ],
         )
     }

@@ -199,13 +199,28 @@ fn reply_to<'a>(
         return refusal(alloc, Status::BadRequest, Representation::Text, b"NoHost");
     }
     if is_other_method(request.method()) {
-        return refusal(alloc, Status::MethodNotAllowed, Representation::Text, b"Method");
+        return refusal(
+            alloc,
+            Status::MethodNotAllowed,
+            Representation::Text,
+            b"Method",
+        );
     }
     if !(request.is_get() || request.is_head()) {
-        return refusal(alloc, Status::NotImplemented, Representation::Text, b"Method");
+        return refusal(
+            alloc,
+            Status::NotImplemented,
+            Representation::Text,
+            b"Method",
+        );
     }
     if request.fields().has_field(b"transfer-encoding") {
-        return refusal(alloc, Status::NotImplemented, Representation::Text, b"Coding");
+        return refusal(
+            alloc,
+            Status::NotImplemented,
+            Representation::Text,
+            b"Coding",
+        );
     }
     by_path(alloc, request, origin_form(request.target()), actives)
 }

@@ -131,19 +131,34 @@ fn put_form(out: &mut Vec<u8>) -> Result<(), AllocError>
     put_all(
         out,
         &[
-            Piece::Plain(b"<form action=\"/resolve\" method=\"get\">\n<input type=\"hidden\" name=\"format\" value=\"html\">\n"),
-            Piece::Plain(b"<label for=\"issn\">ISSN of a journal</label>\n<input id=\"issn\" name=\"rft.issn\">\n"),
-            Piece::Plain(b"<label for=\"isbn\">or ISBN of a book</label>\n<input id=\"isbn\" name=\"rft.isbn\">\n"),
-            Piece::Plain(b"<label for=\"date\">Date, as 1996 or 1996-03-01</label>\n<input id=\"date\" name=\"rft.date\">\n"),
-            Piece::Plain(b"<label for=\"volume\">Volume</label>\n<input id=\"volume\" name=\"rft.volume\" inputmode=\"numeric\">\n"),
-            Piece::Plain(b"<p><button type=\"submit\">Find</button></p>\n</form>\n<h2>Packages</h2>\n"),
+            Piece::Plain(
+                b"<form action=\"/resolve\" method=\"get\">\n<input type=\"hidden\" name=\"format\" value=\"html\">\n",
+            ),
+            Piece::Plain(
+                b"<label for=\"issn\">ISSN of a journal</label>\n<input id=\"issn\" name=\"rft.issn\">\n",
+            ),
+            Piece::Plain(
+                b"<label for=\"isbn\">or ISBN of a book</label>\n<input id=\"isbn\" name=\"rft.isbn\">\n",
+            ),
+            Piece::Plain(
+                b"<label for=\"date\">Date, as 1996 or 1996-03-01</label>\n<input id=\"date\" name=\"rft.date\">\n",
+            ),
+            Piece::Plain(
+                b"<label for=\"volume\">Volume</label>\n<input id=\"volume\" name=\"rft.volume\" inputmode=\"numeric\">\n",
+            ),
+            Piece::Plain(
+                b"<p><button type=\"submit\">Find</button></p>\n</form>\n<h2>Packages</h2>\n",
+            ),
         ],
     )
 }
 
 /// The page with the form and the packages.
 #[tactic(auto, unfolding(crate::specs::Pages::front_page))]
-pub(crate) fn put_front_page(out: &mut Vec<u8>, actives: &[ActiveRelease<'_>]) -> Result<(), AllocError>
+pub(crate) fn put_front_page(
+    out: &mut Vec<u8>,
+    actives: &[ActiveRelease<'_>],
+) -> Result<(), AllocError>
     ensures { OnOk result (out.new.items ≡ out.old.items ++ front_page actives.now) }
 {
     put_front(out, b"Find holdings")?;

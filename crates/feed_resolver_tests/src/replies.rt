@@ -11,7 +11,7 @@ const TEXT_CASES: [Case; 12] = [
     Case {
         target: "/resolve?rft.issn=2434561x&rft.date=1996",
         lines: "",
-        reply: "HTTP/1.1 200 OK\r\nContent-Type: text/plain; charset=utf-8\r\nContent-Length: 152\r\nVary: Accept\r\n\
+        reply: "HTTP/1.1 200 OK\r\nContent-Type: text/plain; charset=utf-8\r\nContent-Length: 153\r\nVary: Accept\r\n\
             X-Content-Type-Options: nosniff\r\nConnection: close\r\n\r\n\
             release Acme_2024-01-01.txt hits 1\n2\tinside\tActa\thttp://a.example/\t\t\t\t\n\
             release Basic_2024-02-01.txt hits 1\n2\tuntested\tActa\thttp://basic.example/acta\t\t\t\t\n",
@@ -68,7 +68,7 @@ const TEXT_CASES: [Case; 12] = [
     Case {
         target: "/go?rft.issn=0000-0019&rft.date=1996",
         lines: "",
-        reply: "HTTP/1.1 404 Not Found\r\nContent-Type: text/plain; charset=utf-8\r\nContent-Length: 105\r\nVary: Accept\r\n\
+        reply: "HTTP/1.1 404 Not Found\r\nContent-Type: text/plain; charset=utf-8\r\nContent-Length: 110\r\nVary: Accept\r\n\
             X-Content-Type-Options: nosniff\r\nConnection: close\r\n\r\n\
             release Acme_2024-01-01.txt hits 0\nrelease Basic_2024-02-01.txt hits 1\n\
             3\tinside\tDelta\tjavascript:alert(1)\t\t\t\t\n",
@@ -100,7 +100,7 @@ const JSON_CASES: [Case; 3] = [
     Case {
         target: "/resolve?rft.issn=2434561x&rft.date=1996&format=json",
         lines: "",
-        reply: "HTTP/1.1 200 OK\r\nContent-Type: application/json\r\nContent-Length: 353\r\nVary: Accept\r\n\
+        reply: "HTTP/1.1 200 OK\r\nContent-Type: application/json\r\nContent-Length: 357\r\nVary: Accept\r\n\
             X-Content-Type-Options: nosniff\r\nConnection: close\r\n\r\n[\n\
             {\"package\":\"Acme\",\"release\":\"Acme_2024-01-01.txt\",\"record\":2,\"grade\":\"inside\",\"title\":\"Acta\",\
             \"url\":\"http://a.example/\",\"title_id\":\"\",\"depth\":\"\",\"embargo\":\"\",\"access\":\"\"},\n\
@@ -116,7 +116,7 @@ const JSON_CASES: [Case; 3] = [
     Case {
         target: "/status?format=json",
         lines: "",
-        reply: "HTTP/1.1 200 OK\r\nContent-Type: application/json\r\nContent-Length: 112\r\nVary: Accept\r\n\
+        reply: "HTTP/1.1 200 OK\r\nContent-Type: application/json\r\nContent-Length: 109\r\nVary: Accept\r\n\
             X-Content-Type-Options: nosniff\r\nConnection: close\r\n\r\n[\n\
             {\"package\":\"Acme\",\"release\":\"Acme_2024-01-01.txt\"},\n\
             {\"package\":\"Basic\",\"release\":\"Basic_2024-02-01.txt\"}\n]\n",

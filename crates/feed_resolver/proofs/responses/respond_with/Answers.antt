@@ -8,8 +8,11 @@ use Rattle.feed_resolver.proofs.responses.respond_with.Goals as goal
 
 pub returns-in-Whole : goal.returns-in-Whole
 returns-in-Whole c = IfOk-weaker c.response_to.result _ (λ response. IsResponse c.args.bytes.now c.args.actives.now response.items)
-    (λ response is. inl (c.in-Whole.ensures.head, c.in-Whole.ensures.begins,
-    is c.in-Whole.ensures.head (rw (front_is 8192 c.min.result c.args.bytes.now (omega arith)) c.in-Whole.ensures.at)))
+    (λ response is. inl (
+      c.in-Whole.ensures.head,
+      c.in-Whole.ensures.begins,
+      is c.in-Whole.ensures.head (rw (front_is 8192 c.min.result c.args.bytes.now (omega arith)) c.in-Whole.ensures.at),
+    ))
     c.response_to.ensures
 
 pub returns-in-Unfinished : goal.returns-in-Unfinished
