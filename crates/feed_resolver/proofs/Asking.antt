@@ -4,7 +4,7 @@ use Rattle.httparse.specs.Grammar.{RequestHead}
 use Rattle.feed_releases.specs.Actives.{ActiveValue}
 use Rattle.feed_resolver.specs.Accepts.{representation_of}
 use Rattle.feed_resolver.specs.Targets.{asked_of, path_in, query_in, package_of}
-use Rattle.feed_resolver.specs.Replies.{ReplyValue, by_path, resolved, packaged}
+use Rattle.feed_resolver.specs.Replies.{by_path, resolved, packaged}
 use Rattle.feed_resolver.specs.declared.representation.Representation.{Representation}
 use Rattle.feed_resolver.specs.declared.target.Asked.{Asked}
 use Rattle.feed_resolver.specs.declared.target.Asked.TheVariants as asked

@@ -1,5 +1,5 @@
 -- A string of JSON reads as the text of which it was written.
-use Rattle.std.proofs.Common.{◌≡◌, ◌<◌, ℕ, List, [], ◌∷◌, ◌++◌, Bool, true, false, Some, refl, ap, ◌∙◌, inl, inr, append_assoc, arith, ◌+◌, ◌-◌, zero, suc}
+use Rattle.std.proofs.Common.{◌≡◌, ◌<◌, ℕ, List, [], ◌∷◌, ◌++◌, false, Some, refl, ap, ◌∙◌, inl, inr, append_assoc, arith, ◌+◌, ◌-◌, zero, suc}
 use Rattle.std.proofs.lemmas.Bool.{cases_Bool, cases_lt, eqb-true}
 use Rattle.std.specs.Prelude.{◌==◌, nat_lt}
 use Rattle.std.specs.List.{flat_map}

@@ -1,11 +1,11 @@
 -- A text is cut at the first place of a byte.
-use Rattle.std.proofs.Common.{◌≡◌, ◌<◌, ◌+◌, ◌-◌, ℕ, List, [], ◌∷◌, ◌++◌, length, take, drop, get_or, Some, true, false, sym, ap, ◌∙◌, arith, drop-cons, suc, add-one}
+use Rattle.std.proofs.Common.{◌≡◌, ◌<◌, ◌+◌, ◌-◌, ℕ, List, ◌∷◌, ◌++◌, length, take, drop, get_or, Some, false, sym, ap, ◌∙◌, arith, drop-cons, suc, add-one}
 use Rattle.std.specs.Prelude.{◌==◌, position, All}
 use Rattle.std.specs.List.{slice_split}
 use Rattle.std.proofs.lemmas.List.{take-append-drop, length-drop, length-take, get_or-take, take_all}
 use Rattle.std.proofs.lemmas.List.Quantifiers.{position-Some}
 use Rattle.std.proofs.lemmas.List.Splits.{slice_split_at, slice_split_none}
-use Rattle.feed_resolver.specs.Parts.{parts_at, IsFirstPart, IsOnePart}
+use Rattle.feed_resolver.specs.Parts.{IsFirstPart, IsOnePart}
 
 before : (byte : ℕ) (text : List ℕ) (k : ℕ) → position (λ other. other == byte) text ≡ Some k → All (λ other. (other == byte) ≡ false) (take k text)
 before byte text k found = λ j d within.

@@ -1,7 +1,6 @@
 -- What is written in steps is what was to be written.
 use Rattle.std.proofs.Common.{◌≡◌, ℕ, List, [], ◌∷◌, ◌++◌, length, codes, ap, ◌∙◌, append_assoc}
 use Rattle.std.specs.Fmt.{decimal}
-use Rattle.feed_names.specs.ReleaseName.{Name}
 use Rattle.feed_kbart.specs.RowValue.{RowValue}
 use Rattle.feed_releases.specs.Actives.{ActiveValue}
 use Rattle.feed_resolver.specs.JsonStrings.{json_string}

@@ -1,5 +1,5 @@
 -- The pieces of which a reply is put together.
-use Rattle.std.specs.Prelude.{ℕ, List, [], ◌∷◌, ◌++◌}
+use Rattle.std.specs.Prelude.{ℕ, List}
 use Rattle.std.specs.List.{flat_map}
 use Rattle.std.specs.Fmt.{decimal}
 use Rattle.feed_resolver.specs.declared.piece.Piece.{Piece}

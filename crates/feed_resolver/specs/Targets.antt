@@ -1,5 +1,5 @@
 -- What the target of a request asks for (RFC 9112, section 3.2).
-use Rattle.std.specs.Prelude.{ℕ, ◌==◌, if◌then◌else◌, List, [], Bool, codes, drop, take, length, position}
+use Rattle.std.specs.Prelude.{ℕ, ◌==◌, if◌then◌else◌, List, [], Bool, codes, drop, take, position}
 use Rattle.std.specs.Option.{option_map_or}
 use Rattle.std.specs.Str.{bytes_eq}
 use Rattle.feed_range.specs.Text.{slash, split_once, strip_prefix}

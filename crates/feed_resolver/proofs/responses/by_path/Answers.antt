@@ -1,9 +1,9 @@
-use Rattle.std.proofs.Common.{◌≡◌, List, ℕ, ap, sym, ◌∙◌}
+use Rattle.std.proofs.Common.{◌≡◌, ◌∙◌}
 use Rattle.std.proofs.lemmas.Result.{IfOk-weaker}
 use Rattle.httparse.specs.Grammar.{RequestHead}
 use Rattle.feed_heads.specs.Requests.{HasHead}
-use Rattle.feed_resolver.specs.Targets.{asked_of, path_in, package_of}
-use Rattle.feed_resolver.specs.Replies.{ReplyValue, by_path, resolved, packaged}
+use Rattle.feed_resolver.specs.Targets.{asked_of, path_in}
+use Rattle.feed_resolver.specs.Replies.{by_path, resolved, packaged}
 use Rattle.feed_resolver.proofs.Asking.{resolve_asked, package_asked}
 use Rattle.feed_resolver.proofs.responses.by_path.Goals as goal
 

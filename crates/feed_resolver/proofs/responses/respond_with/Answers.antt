@@ -1,6 +1,5 @@
-use Rattle.std.proofs.Common.{◌≡◌, List, ℕ, arith, inl, inr, vec_len}
+use Rattle.std.proofs.Common.{◌≡◌, arith, inl, inr}
 use Rattle.std.proofs.lemmas.Result.{IfOk-weaker}
-use Rattle.httparse.specs.Grammar.{RequestHead}
 use Rattle.feed_heads.proofs.HeadsFound.{front_is}
 use Rattle.feed_resolver.specs.Replies.{IsResponse, response_to_none}
 use Rattle.feed_resolver.proofs.HeadsAnswered.{none_ever, none_yet}
