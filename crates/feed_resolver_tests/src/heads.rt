@@ -1,5 +1,5 @@
-use feed_resolver::{HeadEnd, head_end, respond};
 use crate::nodes::{empty_node, node, request};
+use feed_resolver::{HeadEnd, head_end, respond};
 use std::test::Fail;
 
 struct Case {
@@ -8,20 +8,62 @@ struct Case {
 }
 
 const CASES: [Case; 14] = [
-    Case { bytes: "", front: "HTTP/1.1 400 Bad Request\r\n" },
-    Case { bytes: "GET / HTTP/1.1\r\n", front: "HTTP/1.1 400 Bad Request\r\n" },
-    Case { bytes: "GET / HTTP/1.1\r\n\r\n", front: "HTTP/1.1 400 Bad Request\r\n" },
-    Case { bytes: "GET / HTTP/1.1\r\nHost: a\r\nHost: b\r\n\r\n", front: "HTTP/1.1 400 Bad Request\r\n" },
-    Case { bytes: "GET / HTTP/2.0\r\nHost: a\r\n\r\n", front: "HTTP/1.1 400 Bad Request\r\n" },
-    Case { bytes: "GET /a b HTTP/1.1\r\nHost: a\r\n\r\n", front: "HTTP/1.1 400 Bad Request\r\n" },
-    Case { bytes: "POST / HTTP/1.1\r\nHost: a\r\n\r\n", front: "HTTP/1.1 405 Method Not Allowed\r\nAllow: GET, HEAD\r\n" },
-    Case { bytes: "TRACE / HTTP/1.1\r\nHost: a\r\n\r\n", front: "HTTP/1.1 405 Method Not Allowed\r\nAllow: GET, HEAD\r\n" },
-    Case { bytes: "PATCH / HTTP/1.1\r\nHost: a\r\n\r\n", front: "HTTP/1.1 501 Not Implemented\r\n" },
-    Case { bytes: "get / HTTP/1.1\r\nHost: a\r\n\r\n", front: "HTTP/1.1 501 Not Implemented\r\n" },
-    Case { bytes: "GET / HTTP/1.1\r\nHost: a\r\nTransfer-Encoding: chunked\r\n\r\n", front: "HTTP/1.1 501 Not Implemented\r\n" },
-    Case { bytes: "GET /status HTTP/1.0\r\n\r\n", front: "HTTP/1.1 200 OK\r\n" },
-    Case { bytes: "GET http://b.example/status HTTP/1.1\r\nHost: a\r\n\r\n", front: "HTTP/1.1 200 OK\r\n" },
-    Case { bytes: "GET /status HTTP/1.1\r\nHost: a\r\n\r\nmore bytes behind", front: "HTTP/1.1 200 OK\r\n" },
+    Case {
+        bytes: "",
+        front: "HTTP/1.1 400 Bad Request\r\n",
+    },
+    Case {
+        bytes: "GET / HTTP/1.1\r\n",
+        front: "HTTP/1.1 400 Bad Request\r\n",
+    },
+    Case {
+        bytes: "GET / HTTP/1.1\r\n\r\n",
+        front: "HTTP/1.1 400 Bad Request\r\n",
+    },
+    Case {
+        bytes: "GET / HTTP/1.1\r\nHost: a\r\nHost: b\r\n\r\n",
+        front: "HTTP/1.1 400 Bad Request\r\n",
+    },
+    Case {
+        bytes: "GET / HTTP/2.0\r\nHost: a\r\n\r\n",
+        front: "HTTP/1.1 400 Bad Request\r\n",
+    },
+    Case {
+        bytes: "GET /a b HTTP/1.1\r\nHost: a\r\n\r\n",
+        front: "HTTP/1.1 400 Bad Request\r\n",
+    },
+    Case {
+        bytes: "POST / HTTP/1.1\r\nHost: a\r\n\r\n",
+        front: "HTTP/1.1 405 Method Not Allowed\r\nAllow: GET, HEAD\r\n",
+    },
+    Case {
+        bytes: "TRACE / HTTP/1.1\r\nHost: a\r\n\r\n",
+        front: "HTTP/1.1 405 Method Not Allowed\r\nAllow: GET, HEAD\r\n",
+    },
+    Case {
+        bytes: "PATCH / HTTP/1.1\r\nHost: a\r\n\r\n",
+        front: "HTTP/1.1 501 Not Implemented\r\n",
+    },
+    Case {
+        bytes: "get / HTTP/1.1\r\nHost: a\r\n\r\n",
+        front: "HTTP/1.1 501 Not Implemented\r\n",
+    },
+    Case {
+        bytes: "GET / HTTP/1.1\r\nHost: a\r\nTransfer-Encoding: chunked\r\n\r\n",
+        front: "HTTP/1.1 501 Not Implemented\r\n",
+    },
+    Case {
+        bytes: "GET /status HTTP/1.0\r\n\r\n",
+        front: "HTTP/1.1 200 OK\r\n",
+    },
+    Case {
+        bytes: "GET http://b.example/status HTTP/1.1\r\nHost: a\r\n\r\n",
+        front: "HTTP/1.1 200 OK\r\n",
+    },
+    Case {
+        bytes: "GET /status HTTP/1.1\r\nHost: a\r\n\r\nmore bytes behind",
+        front: "HTTP/1.1 200 OK\r\n",
+    },
 ];
 
 #[test]
@@ -50,7 +92,11 @@ fn a_head_alone_has_no_body(rt: HostRuntime) -> Result<(), Fail> {
 fn a_node_without_releases(rt: HostRuntime) -> Result<(), Fail> {
     let alloc = rt.alloc();
     let node = empty_node(alloc)?;
-    let reply = respond(alloc, &request(alloc, b"GET", b"/resolve?rft.issn=2434561x", b"")?, &node)?;
+    let reply = respond(
+        alloc,
+        &request(alloc, b"GET", b"/resolve?rft.issn=2434561x", b"")?,
+        &node,
+    )?;
     assert!(rt; reply.starts_with(b"HTTP/1.1 200 OK\r\n"));
     assert!(rt; reply.ends_with(b"Connection: close\r\n\r\n"));
     Ok(())

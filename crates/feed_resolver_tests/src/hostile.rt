@@ -62,7 +62,11 @@ fn has(text: &[u8], part: &[u8]) -> bool {
 #[test]
 fn pages(rt: HostRuntime) -> Result<(), Fail> {
     for case in &CASES {
-        let page = reply_of(rt.alloc(), case.row.as_bytes(), b"/resolve?rft.issn=2434561x&format=html")?;
+        let page = reply_of(
+            rt.alloc(),
+            case.row.as_bytes(),
+            b"/resolve?rft.issn=2434561x&format=html",
+        )?;
         assert!(rt; has(&page, case.cell.as_bytes()), "{}", case.row);
     }
     Ok(())
@@ -71,7 +75,11 @@ fn pages(rt: HostRuntime) -> Result<(), Fail> {
 #[test]
 fn objects(rt: HostRuntime) -> Result<(), Fail> {
     for case in &CASES {
-        let text = reply_of(rt.alloc(), case.row.as_bytes(), b"/resolve?rft.issn=2434561x&format=json")?;
+        let text = reply_of(
+            rt.alloc(),
+            case.row.as_bytes(),
+            b"/resolve?rft.issn=2434561x&format=json",
+        )?;
         assert!(rt; has(&text, case.member.as_bytes()), "{}", case.row);
     }
     Ok(())

@@ -11,4 +11,6 @@ mod hostile;
 #[cfg(test)]
 mod nodes;
 #[cfg(test)]
+mod pages;
+#[cfg(test)]
 mod replies;

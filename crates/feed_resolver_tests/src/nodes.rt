@@ -18,6 +18,19 @@ fn file_of(alloc: Global, rows: &[u8]) -> Result<Vec<u8>, Fail> {
     Ok(file)
 }
 
+fn offer(feed: &mut Feed<ListKeep>, name: &ReleaseName, size: u64) {
+    let _answer = feed.handle(&Event::Offered { name, size });
+}
+
+fn tell(feed: &mut Feed<ListKeep>, name: &ReleaseName, bytes: &[u8]) {
+    let _answer = feed.handle(&Event::Piece {
+        name,
+        first: 0,
+        total: None,
+        bytes,
+    });
+}
+
 // A release comes to the node, whole.
 pub fn publish(
     alloc: Global,
@@ -27,16 +40,8 @@ pub fn publish(
 ) -> Result<(), Fail> {
     let name = ReleaseName::parse(alloc, name)?;
     let file = file_of(alloc, rows)?;
-    let _noted = feed.handle(&Event::Offered {
-        name: &name,
-        size: file.len() as u64,
-    });
-    let _activated = feed.handle(&Event::Piece {
-        name: &name,
-        first: 0,
-        total: None,
-        bytes: &file,
-    });
+    offer(feed, &name, file.len() as u64);
+    tell(feed, &name, &file);
     Ok(())
 }
 
