@@ -8,3 +8,4 @@ mod Answering
 mod Reopened
 mod Failed
 pub mod Inserting
+pub mod ActivesReported

@@ -1,6 +1,7 @@
 //! The active releases of a feed, by their packages. There are at most 256 of them.
-ghost use Rattle.std.specs.Prelude.{◌≡◌, ◌≤◌, IfOk, OnOk, length, insert, option_map};
-ghost use Rattle.feed_releases.specs.Actives.{ActiveValue, active_of, actives_of, comes_before, insert_active, inserted};
+ghost use Rattle.std.specs.Prelude.{◌≡◌, ◌≤◌, IfOk, OnOk, length, insert};
+ghost use Rattle.feed_releases.specs.Actives.{active_of, actives_of, comes_before, insert_active};
+ghost use Rattle.feed_releases.specs.Actives.{IsKnownRelease, AreKnown};
 
 use crate::release::Release;
 use feed_kbart::Holdings;
@@ -76,7 +77,8 @@ fn add<'a>(
 }
 
 fn active_of(release: &Release) -> Option<ActiveRelease<'_>>
-    ensures { result ≡ active_of release.now }
+    ensures value { result ≡ active_of release.now }
+    ensures known { IsKnownRelease release.now }
 {
     match release.holdings() {
         Some(holdings) => Some(ActiveRelease {
@@ -92,7 +94,8 @@ pub(crate) fn actives_of(
     alloc: Global,
     releases: &[Release],
 ) -> Result<Vec<ActiveRelease<'_>>, AllocError>
-    ensures { IfOk result (λ actives. actives.items ≡ actives_of releases.now) }
+    ensures value { IfOk result (λ actives. actives.items ≡ actives_of releases.now) }
+    ensures known { OnOk result (AreKnown releases.now) }
 {
     let mut actives = Vec::new(alloc);
     for release in releases {
