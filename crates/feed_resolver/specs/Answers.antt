@@ -127,7 +127,7 @@ page_end = codes "<p><a href=\"/\">Ask again</a></p>\n</main>\n</body>\n</html>\
 -- the head of the table of hits
 unfoldable pub table_head : List ℕ
 table_head = joined (
-    codes "<div class=\"wide\">\n<table>\n<thead>\n<tr><th scope=\"col\">Title</th><th scope=\"col\">How well it fits</th>"
+    codes "<div class=\"wide\">\n<table>\n<thead>\n<tr><th scope=\"col\">Title</th>" ∷ codes "<th scope=\"col\">How well it fits</th>"
     ∷ codes "<th scope=\"col\">Volumes</th><th scope=\"col\">Depth</th><th scope=\"col\">Embargo</th>"
     ∷ codes "<th scope=\"col\">Access</th><th scope=\"col\">Package</th></tr>\n</thead>\n<tbody>\n" ∷ [])
 

@@ -1,8 +1,8 @@
 -- The laws of replies, and of the texts in them.
 use Rattle.std.specs.Prelude.{◌≡◌, ℕ, List, Some, false, true, All, map}
 use Rattle.feed_names.specs.ReleaseName.{Name}
-use Rattle.feed_kbart.specs.Files.{holdings_of}
-use Rattle.feed_releases.specs.Actives.{ActiveValue}
+use Rattle.feed_model.specs.History.{History, IsFile}
+use Rattle.feed_releases.specs.Actives.{ActiveValue, IsReported}
 use Rattle.feed_resolver.specs.Escapes.{escaped, is_markup, unescaped}
 use Rattle.feed_resolver.specs.JsonStrings.{json_string, read_string}
 use Rattle.feed_resolver.specs.Links.{is_link}
@@ -29,13 +29,14 @@ RedirectsToLink = (hits : List FoundValue) (url : List ℕ) → best_link hits �
 abbrev pub names_of : List ActiveValue → List Name
 names_of actives = map (λ active. active.name) actives
 
--- each holds what the published file of its name says
-abbrev pub ArePublished : (Name → List ℕ) → List ActiveValue → Type 0
-ArePublished file actives = All (λ active. active.holdings ≡ holdings_of (file active.name)) actives
+-- the whole files that a node has kept are the published ones
+abbrev pub KeepsPublished : (Name → List ℕ) → History → Type 0
+KeepsPublished file h = (n : Name) (text : List ℕ) → IsFile h n text → text ≡ file n
 
--- two nodes that report the same releases, and hold the published files of these, give each request the same bytes
+-- two nodes that report the same releases, and have kept their published files, give each request the same bytes
 abbrev pub SameReleasesSameBytes : Type 0
 SameReleasesSameBytes =
-    (file : Name → List ℕ) (one other : List ActiveValue) (bytes response reply : List ℕ)
-    → names_of one ≡ names_of other → ArePublished file one → ArePublished file other
+    (file : Name → List ℕ) (h k : History) (one other : List ActiveValue) (bytes response reply : List ℕ)
+    → KeepsPublished file h → KeepsPublished file k
+    → All (IsReported h) one → All (IsReported k) other → names_of one ≡ names_of other
     → IsResponse bytes one response → IsResponse bytes other reply → response ≡ reply

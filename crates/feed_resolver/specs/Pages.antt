@@ -35,7 +35,8 @@ status_body Html actives = page_front (codes "Active releases") ++ (active_items
 -- the form: an ISSN or an ISBN, a date and a volume
 unfoldable pub form_text : List ℕ
 form_text = joined (
-    codes "<form action=\"/resolve\" method=\"get\">\n<input type=\"hidden\" name=\"format\" value=\"html\">\n"
+    codes "<form action=\"/resolve\" method=\"get\">\n"
+    ∷ codes "<input type=\"hidden\" name=\"format\" value=\"html\">\n"
     ∷ codes "<label for=\"issn\">ISSN of a journal</label>\n<input id=\"issn\" name=\"rft.issn\">\n"
     ∷ codes "<label for=\"isbn\">or ISBN of a book</label>\n<input id=\"isbn\" name=\"rft.isbn\">\n"
     ∷ codes "<label for=\"date\">Date, as 1996 or 1996-03-01</label>\n<input id=\"date\" name=\"rft.date\">\n"

@@ -3,9 +3,11 @@ ghost use Rattle.std.specs.Prelude.{◌≡◌, ◌++◌, OnOk};
 ghost use Rattle.std.specs.List.{flat_map};
 ghost use Rattle.feed_answer.specs.Grades.{grade_text};
 ghost use Rattle.feed_resolver.specs.Pieces.{piece_text};
-ghost use Rattle.feed_resolver.specs.Answers.{release_text, answers_text, comma_before, items_from, hit_object, hits_json};
+ghost use Rattle.feed_resolver.specs.Answers.{release_text, answers_text, comma_before};
+ghost use Rattle.feed_resolver.specs.Answers.{items_from, hit_object, hits_json};
 ghost use Rattle.feed_resolver.specs.Answers.{name_text, release_members, grade_members, row_members};
-ghost use Rattle.feed_resolver.specs.Answers.{grade_words, title_cell, number_text, other_cells, hit_row, table_head, table_end};
+ghost use Rattle.feed_resolver.specs.Answers.{grade_words, title_cell, number_text};
+ghost use Rattle.feed_resolver.specs.Answers.{other_cells, hit_row, table_head, table_end};
 ghost use Rattle.feed_resolver.specs.Answers.{hits_table, hits_part, hits_page, answers_body};
 
 use crate::escape::put;

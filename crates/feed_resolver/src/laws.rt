@@ -23,7 +23,7 @@ pub fn redirects_to_link()
     ensures { RedirectsToLink }
 {}
 
-/// Two nodes that report the same releases, and hold the published files of these, give each request the same bytes.
+/// Two nodes that report the same releases, and have kept their published files, give each request the same bytes.
 pub fn same_releases_same_bytes()
     ensures { SameReleasesSameBytes }
 {}

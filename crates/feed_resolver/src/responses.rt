@@ -3,11 +3,13 @@ ghost use Rattle.std.specs.Prelude.{◌≡◌, IfOk, position};
 ghost use Rattle.httparse.specs.Grammar.{RequestHead};
 ghost use Rattle.feed_heads.specs.Requests.{IsInBuffer, HasHead};
 ghost use Rattle.feed_releases.specs.Actives.{actives_of};
-ghost use Rattle.feed_releases.specs.Feeds.{releases_of};
+ghost use Rattle.feed_model.specs.History.{History};
+ghost use Rattle.feed_model.specs.Content.{IsContent};
+ghost use Rattle.feed_releases.specs.Feeds.{recorded, releases_of};
 ghost use Rattle.feed_answer.specs.Queries.{query_of};
 ghost use Rattle.feed_answer.specs.Faults.{query_fault_text};
 ghost use Rattle.feed_resolver.specs.Hits.{is_of};
-ghost use Rattle.feed_resolver.specs.Replies.{IsResponse, answered, by_path, by_query, by_target, is_other_method};
+ghost use Rattle.feed_resolver.specs.Replies.{IsResponse, IsResponseAt, answered, by_path, by_query, by_target, is_other_method};
 ghost use Rattle.feed_resolver.specs.Replies.{packaged, refusal, refused_status, reply_to, reply_with, resolved};
 ghost use Rattle.feed_resolver.specs.Replies.{response_to, response_to_none, sent_on};
 ghost use Rattle.feed_resolver.specs.Targets.{asked_of, path_in};
@@ -278,7 +280,11 @@ pub fn respond<K: Keep + Drop>(
     bytes: &[u8],
     feed: &Feed<K>,
 ) -> Result<Vec<u8>, AllocError>
-    ensures { IfOk result (λ response. IsResponse bytes.now (actives_of (releases_of feed.now)) response.items) }
+    ensures value { IfOk result (λ response. IsResponse bytes.now (actives_of (releases_of feed.now)) response.items) }
+
+    // Whatever history the feed stands at: by the releases that it reports, with the holdings of their whole files.
+    ensures reported { IfOk result (λ response. (h : History) → IsContent (recorded feed.now) h
+        → IsResponseAt h bytes.now response.items) }
 {
     let actives = feed.actives()?;
     respond_with(alloc, bytes, &actives)

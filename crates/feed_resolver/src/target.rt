@@ -1,6 +1,7 @@
 //! What the target of a request asks for.
 ghost use Rattle.std.specs.Prelude.{◌≡◌, ◌≤◌, length};
-ghost use Rattle.feed_resolver.specs.Targets.{from_slash, origin_form, path_in, query_in, names_package, asked_of, package_of};
+ghost use Rattle.feed_resolver.specs.Targets.{from_slash, origin_form, path_in, query_in, names_package};
+ghost use Rattle.feed_resolver.specs.Targets.{asked_of, package_of};
 
 use crate::text::{place_of, split_once, strip_prefix};
 
