@@ -253,7 +253,8 @@ fn put_table_head(out: &mut Vec<u8>) -> Result<(), AllocError>
         out,
         &[
             Piece::Plain(
-                b"<div class=\"wide\">\n<table>\n<thead>\n<tr><th scope=\"col\">Title</th><th scope=\"col\">How well it fits</th>",
+                b"<div class=\"wide\">\n<table>\n<thead>\n<tr><th scope=\"col\">Title</th>\
+                  <th scope=\"col\">How well it fits</th>",
             ),
             Piece::Plain(
                 b"<th scope=\"col\">Volumes</th><th scope=\"col\">Depth</th><th scope=\"col\">Embargo</th>",

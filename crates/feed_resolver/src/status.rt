@@ -144,7 +144,8 @@ fn put_form(out: &mut Vec<u8>) -> Result<(), AllocError>
                 b"<label for=\"date\">Date, as 1996 or 1996-03-01</label>\n<input id=\"date\" name=\"rft.date\">\n",
             ),
             Piece::Plain(
-                b"<label for=\"volume\">Volume</label>\n<input id=\"volume\" name=\"rft.volume\" inputmode=\"numeric\">\n",
+                b"<label for=\"volume\">Volume</label>\n\
+                  <input id=\"volume\" name=\"rft.volume\" inputmode=\"numeric\">\n",
             ),
             Piece::Plain(
                 b"<p><button type=\"submit\">Find</button></p>\n</form>\n<h2>Packages</h2>\n",

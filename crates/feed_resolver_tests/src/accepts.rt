@@ -14,7 +14,8 @@ const CASES: [Case; 16] = [
         media_type: "text/html; charset=utf-8",
     },
     Case {
-        lines: "Accept: text/html,application/xhtml+xml,application/xml;q=0.9,image/avif,image/webp,image/apng,*/*;q=0.8,application/signed-exchange;v=b3;q=0.7\r\n",
+        lines: "Accept: text/html,application/xhtml+xml,application/xml;q=0.9,image/avif,image/webp,image/apng,*/*;q=0\
+            .8,application/signed-exchange;v=b3;q=0.7\r\n",
         media_type: "text/html; charset=utf-8",
     },
     Case {

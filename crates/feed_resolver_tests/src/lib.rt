@@ -1,5 +1,5 @@
-//! Tests of the resolver, through its public calls: whole replies to whole requests. They stand in a crate of their own,
-//! so that the library is proved once.
+//! Tests of the resolver, through its public calls: replies to whole requests. They stand in a crate of their own, so
+//! that the library is proved once.
 #![tactic(auto)]
 
 #[cfg(test)]

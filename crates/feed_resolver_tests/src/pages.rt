@@ -28,7 +28,8 @@ const CASES: [Case; 5] = [
         target: "/resolve?rft.issn=2434561x&rft.date=1996&format=html",
         front: "HTTP/1.1 200 OK\r\nContent-Type: text/html; charset=utf-8\r\nContent-Length: 1134",
         title: "Holdings",
-        part: "<div class=\"wide\">\n<table>\n<thead>\n<tr><th scope=\"col\">Title</th><th scope=\"col\">How well it fits</th>\
+        part: "<div class=\"wide\">\n<table>\n<thead>\n<tr><th scope=\"col\">Title</th><th scope=\"col\">How well it f\
+            its</th>\
             <th scope=\"col\">Volumes</th><th scope=\"col\">Depth</th><th scope=\"col\">Embargo</th>\
             <th scope=\"col\">Access</th><th scope=\"col\">Package</th></tr>\n</thead>\n<tbody>\n\
             <tr><th scope=\"row\"><a href=\"http://a.example/\">Acta</a></th><td>covers all of what you asked for</td>\

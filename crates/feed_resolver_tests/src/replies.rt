@@ -26,13 +26,15 @@ const TEXT_CASES: [Case; 12] = [
     Case {
         target: "/resolve/basic?rft.issn=2434561x",
         lines: "",
-        reply: "HTTP/1.1 404 Not Found\r\nContent-Type: text/plain; charset=utf-8\r\nContent-Length: 10\r\nVary: Accept\r\n\
+        reply: "HTTP/1.1 404 Not Found\r\nContent-Type: text/plain; charset=utf-8\r\nContent-Length: 10\r\nVary: Accep\
+            t\r\n\
             X-Content-Type-Options: nosniff\r\nConnection: close\r\n\r\nNoRelease\n",
     },
     Case {
         target: "/resolve?rft.issn=2434-5611",
         lines: "",
-        reply: "HTTP/1.1 400 Bad Request\r\nContent-Type: text/plain; charset=utf-8\r\nContent-Length: 7\r\nVary: Accept\r\n\
+        reply: "HTTP/1.1 400 Bad Request\r\nContent-Type: text/plain; charset=utf-8\r\nContent-Length: 7\r\nVary: Acce\
+            pt\r\n\
             X-Content-Type-Options: nosniff\r\nConnection: close\r\n\r\nNoIssn\n",
     },
     Case {
@@ -62,13 +64,15 @@ const TEXT_CASES: [Case; 12] = [
     Case {
         target: "/go?rft.issn=2434561x&rft.date=2010",
         lines: "",
-        reply: "HTTP/1.1 302 Found\r\nLocation: http://basic.example/acta\r\nContent-Type: text/plain; charset=utf-8\r\n\
+        reply: "HTTP/1.1 302 Found\r\nLocation: http://basic.example/acta\r\nContent-Type: text/plain; charset=utf-8\
+            \r\n\
             Content-Length: 0\r\nVary: Accept\r\nX-Content-Type-Options: nosniff\r\nConnection: close\r\n\r\n",
     },
     Case {
         target: "/go?rft.issn=0000-0019&rft.date=1996",
         lines: "",
-        reply: "HTTP/1.1 404 Not Found\r\nContent-Type: text/plain; charset=utf-8\r\nContent-Length: 110\r\nVary: Accept\r\n\
+        reply: "HTTP/1.1 404 Not Found\r\nContent-Type: text/plain; charset=utf-8\r\nContent-Length: 110\r\nVary: Acce\
+            pt\r\n\
             X-Content-Type-Options: nosniff\r\nConnection: close\r\n\r\n\
             release Acme_2024-01-01.txt hits 0\nrelease Basic_2024-02-01.txt hits 1\n\
             3\tinside\tDelta\tjavascript:alert(1)\t\t\t\t\n",
@@ -82,7 +86,8 @@ const TEXT_CASES: [Case; 12] = [
     Case {
         target: "/other",
         lines: "",
-        reply: "HTTP/1.1 404 Not Found\r\nContent-Type: text/plain; charset=utf-8\r\nContent-Length: 9\r\nVary: Accept\r\n\
+        reply: "HTTP/1.1 404 Not Found\r\nContent-Type: text/plain; charset=utf-8\r\nContent-Length: 9\r\nVary: Accept\
+            \r\n\
             X-Content-Type-Options: nosniff\r\nConnection: close\r\n\r\nNoTarget\n",
     },
 ];
@@ -102,10 +107,13 @@ const JSON_CASES: [Case; 3] = [
         lines: "",
         reply: "HTTP/1.1 200 OK\r\nContent-Type: application/json\r\nContent-Length: 357\r\nVary: Accept\r\n\
             X-Content-Type-Options: nosniff\r\nConnection: close\r\n\r\n[\n\
-            {\"package\":\"Acme\",\"release\":\"Acme_2024-01-01.txt\",\"record\":2,\"grade\":\"inside\",\"title\":\"Acta\",\
+            {\"package\":\"Acme\",\"release\":\"Acme_2024-01-01.txt\",\"record\":2,\"grade\":\"inside\",\"title\":\"Ac\
+            ta\",\
             \"url\":\"http://a.example/\",\"title_id\":\"\",\"depth\":\"\",\"embargo\":\"\",\"access\":\"\"},\n\
-            {\"package\":\"Basic\",\"release\":\"Basic_2024-02-01.txt\",\"record\":2,\"grade\":\"untested\",\"title\":\"Acta\",\
-            \"url\":\"http://basic.example/acta\",\"title_id\":\"\",\"depth\":\"\",\"embargo\":\"\",\"access\":\"\"}\n]\n",
+            {\"package\":\"Basic\",\"release\":\"Basic_2024-02-01.txt\",\"record\":2,\"grade\":\"untested\",\"title\":\
+            \"Acta\",\
+            \"url\":\"http://basic.example/acta\",\"title_id\":\"\",\
+            \"depth\":\"\",\"embargo\":\"\",\"access\":\"\"}\n]\n",
     },
     Case {
         target: "/resolve?rft.issn=0000-0027&format=json",
