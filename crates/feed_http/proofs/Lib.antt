@@ -1,11 +1,7 @@
-pub mod BufferFilling
-pub mod RequestReading
-pub mod NamedFields
 pub mod Targets
 pub mod Sending
 pub mod Exchanges
 pub mod Answering
-pub mod ReplyReading
 pub mod RequestWriting
 pub mod AgreedLengths
 pub mod LineReading

@@ -1,27 +1,19 @@
 -- What is sent of a file, block by block.
 use Rattle.std.proofs.Common.{◌≡◌, ◌≤◌, ◌<◌, inl, inr, ◌+◌, ◌-◌, ℕ, List, ◌++◌, take, drop, length, Option}
-use Rattle.std.proofs.Common.{Some, None, IfSome, Result, Ok, Err, refl, sym, ap, arith, ◌∙◌, zero, suc, [], ◌∷◌}
-use Rattle.std.proofs.Common.{zero-add, suc-add, subst}
+use Rattle.std.proofs.Common.{Some, None, IfSome, Result, Ok, Err, sym, ap, arith, ◌∙◌}
+use Rattle.std.proofs.Common.{subst}
 use Rattle.std.specs.Prelude.{slice_range, IsErrAnd, min, nat_le}
 use Rattle.std.specs.Io.KnownBytes.{Appends}
 use Rattle.std.proofs.lemmas.Bool.{cases_Bool}
 use borrow.Author.Tests.{leb-true, leb-false}
 use Rattle.std.proofs.lemmas.List.{drop-drop, take-take, take_all, length-take}
 use Rattle.feed_names.specs.ReleaseName.{Name}
-use Rattle.feed_http.specs.declared.http_fault.HttpFault.{HttpFault}
-use Rattle.feed_http.specs.declared.http_fault.HttpFault.TheVariants.{Write, Memory, Shelf}
+use Rattle.feed_heads.specs.declared.http_fault.HttpFault.{HttpFault}
+use Rattle.feed_heads.specs.declared.http_fault.HttpFault.TheVariants.{Write, Memory, Shelf}
 use Rattle.feed_http.specs.Shelves.{Files}
 use Rattle.feed_http.specs.Served.{IsSending}
 use Rattle.std.proofs.KnownBytes.{Appends-trans}
-
-nil_take : (n : ℕ) → take {A = ℕ} n [] ≡ []
-nil_take zero = refl
-nil_take (suc n) = refl
-
-pub take_both : (m n : ℕ) (xs : List ℕ) → take m xs ++ take n (drop m xs) ≡ take (m + n) xs
-take_both zero n xs = rw zero-add refl
-take_both (suc m) n [] = rw suc-add (nil_take n)
-take_both (suc m) n (x ∷ xs) = rw suc-add (ap (λ t. x ∷ t) (take_both m n xs))
+use Rattle.feed_heads.proofs.BufferFilling.{take_both}
 
 -- a part of a file grows by the block behind it
 pub range_more : (file : List ℕ) (first at len : ℕ) → first ≤ at

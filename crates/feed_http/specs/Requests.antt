@@ -1,16 +1,14 @@
 -- What a request asks of the server (RFC 9112, section 3; RFC 9110, sections 9, 13.1.5 and 14.2).
-use Rattle.std.specs.Prelude.{◌≡◌, ◌==◌, ◌&&◌, ◌||◌, not, ℕ, List, [], ◌∷◌, Bool, drop, codes, if◌then◌else◌, Option, None, is_none, position, MatchOption}
+use Rattle.std.specs.Prelude.{◌≡◌, ◌==◌, ◌||◌, not, ℕ, List, [], ◌∷◌, Bool, drop, codes, if◌then◌else◌, Option, None, position, MatchOption}
 use Rattle.std.specs.Option.{option_map_or}
-use Rattle.std.specs.Str.{bytes_eq}
 use Rattle.httparse.specs.Grammar.{RequestHead}
-use Rattle.httparse.specs.Spans.{IsRequestWithin, IsRequestAt}
 use Rattle.feed_names.specs.ReleaseName.{Name, IsName}
 use Rattle.feed_range.specs.Text.{slash, strip_prefix}
 use Rattle.feed_range.specs.Ask.{ask_of}
 use Rattle.feed_range.specs.declared.ask.RangeAsk.{RangeAsk}
 use Rattle.feed_range.specs.declared.ask.RangeAsk.TheVariants.{Whole}
-use Rattle.feed_http.specs.Fields.{values_named, only, has_any}
-use Rattle.feed_http.specs.declared.serving.request.Request.{Request}
+use Rattle.feed_heads.specs.Fields.{values_named, only, has_any}
+use Rattle.feed_heads.specs.Requests.{is_get, is_head}
 
 -- what stands from the first slash on
 abbrev pub from_slash : List ℕ → List ℕ
@@ -30,18 +28,6 @@ pub record NamesRelease (target : List ℕ) (name : Name) : Type 0 where
 abbrev pub IsNamedBy : List ℕ → Option Name → Type 0
 IsNamedBy target named = MatchOption named ((name : Name) → ¬ (NamesRelease target name)) (NamesRelease target)
 
--- a request of HTTP/1.1 has not just one Host field
-abbrev pub lacks_host : RequestHead → Bool
-lacks_host head = (head.minor == 1) && is_none (only (values_named (codes "host") head.fields))
-
--- only the head of the reply is asked for
-abbrev pub is_head : RequestHead → Bool
-is_head head = bytes_eq head.method (codes "HEAD")
-
--- the file is asked for
-abbrev pub is_get : RequestHead → Bool
-is_get head = bytes_eq head.method (codes "GET")
-
 -- the method is neither GET nor HEAD, or a coded body follows
 abbrev pub is_unsupported : RequestHead → Bool
 is_unsupported head =
@@ -56,11 +42,3 @@ range_value head =
 -- the part of a file of that length that is asked for
 abbrev pub ask_for : RequestHead → ℕ → RangeAsk
 ask_for head length = option_map_or (λ value. ask_of value length) (range_value head) Whole
-
--- the parts of a request that was read lie in its buffer
-abbrev pub IsInBuffer : Request → Type 0
-IsInBuffer request = IsRequestWithin request.buffer.now request.headers.now request.spans
-
--- the request that was read has this head
-abbrev pub HasHead : Request → RequestHead → Type 0
-HasHead request head = IsRequestAt request.buffer.now request.headers.now request.spans head

@@ -3,16 +3,14 @@
 #![tactic(auto)]
 
 mod fetching;
-mod heads;
-mod http_fault;
 mod laws;
 mod limits;
 mod serving;
 
+pub use feed_heads::HttpFault;
 pub use fetching::got::{Bytes, Got, Method};
 pub use fetching::reply::read_reply;
 pub use fetching::request_text::{is_host, write_head_request, write_request};
-pub use http_fault::HttpFault;
 pub use laws::{fetch_gives_slice, head_gives_size, part_reads_back, size_reads_back};
 pub use serving::memory_shelf::{MemoryShelf, NamedFile};
 pub use serving::serve::serve_one;

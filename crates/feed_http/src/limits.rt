@@ -1,8 +1,4 @@
-//! The limits of messages, which `specs/Limits.antt` has as numbers.
-
-pub(crate) const HEAD_LIMIT: usize = 8_192;
-
-pub(crate) const FIELD_LIMIT: usize = 64;
+//! The limits of messages, which `specs/Limits.antt` has as numbers; those of their heads are `feed_heads`'.
 
 pub(crate) const CHUNK_LINE_LIMIT: usize = 1_024;
 

@@ -9,3 +9,5 @@ mod Answering
 mod Reopened
 mod Failed
 mod Earlier
+pub mod Inserting
+pub mod ActivesReported

@@ -11,5 +11,6 @@ pub mod NextRange
 pub mod Reason
 pub mod Answered
 pub mod Feeds
+pub mod Actives
 pub mod Growth
 pub mod Committed

@@ -6,6 +6,7 @@ mod offer;
 mod piece;
 mod reopen;
 
+use crate::actives::{ActiveRelease, actives_of};
 use crate::event::Event;
 use crate::feed::reopen::reopened;
 use crate::release::Release;
@@ -58,13 +59,14 @@ pub struct Feed<K: Keep + Drop> {
 
 impl<K: Keep + Drop> Feed<K> {
     ghost use Rattle.std.specs.Prelude.{◌≢◌, ◌↔◌, ◌∷◌, []};
-    ghost use Rattle.std.specs.Prelude.{Err, map, IfOk, IfErr, OnErr, IsTrue, option_map};
+    ghost use Rattle.std.specs.Prelude.{All, Err, map, IfOk, IfErr, OnErr, IsTrue, option_map};
     ghost use Rattle.std.specs.List.{Contains};
     ghost use Rattle.feed_model.specs.History.{Answer as event_answer, History, Reports};
     ghost use Rattle.feed_model.specs.Reply.{IsRight, gone_on};
     ghost use Rattle.feed_model.specs.Sound.{IsSound};
     ghost use Rattle.feed_model.specs.Content.{IsContent};
     ghost use Rattle.feed_model.specs.Handles.{Handles};
+    ghost use Rattle.feed_releases.specs.Actives.{actives_of, IsReported};
     ghost use Rattle.feed_releases.specs.Answered.{IsAnswered};
     ghost use Rattle.feed_releases.specs.NextRange.{IsNextRange};
     ghost use Rattle.feed_releases.specs.Reason.{HasReason};
@@ -196,6 +198,15 @@ impl<K: Keep + Drop> Feed<K> {
             Ok(answer) => Ok(answer),
             Err(_) => Err(AnswerFault::Memory),
         }
+    }
+
+    /// The active releases, by their packages.
+    pub fn actives(&self) -> Result<Vec<ActiveRelease<'_>>, AllocError>
+        ensures value { IfOk result (λ actives. actives.items ≡ actives_of (releases_of self.now)) }
+        ensures reported { IfOk result (λ actives. (h : History) → IsContent (recorded self.now) h
+            → All (IsReported h) actives.items) }
+    {
+        actives_of(self.alloc, &self.releases)
     }
 
     /// Whether no release is recorded.

@@ -2,6 +2,7 @@
 //! reported and asked.
 #![tactic(auto)]
 
+mod actives;
 mod commit;
 mod event;
 mod feed;
@@ -11,6 +12,7 @@ mod release;
 mod releases;
 mod standing;
 
+pub use actives::ActiveRelease;
 pub use event::Event;
 pub use feed::{AnswerFault, Feed, OpenFault, Point};
 pub use feed_model::{Refusal, Reply};

@@ -10,9 +10,9 @@ ghost use Rattle.feed_http.specs.Chunks.{IsLineTaken, IsLineFault, AreTrailersTa
 ghost use Rattle.feed_http.specs.Chunks.{IsChunkTaken, IsChunkFault, IsBodyChunked, IsChunkedFault};
 
 use crate::fetching::body::read_sized;
-use crate::http_fault::HttpFault;
-use crate::limits::{CHUNK_LINE_LIMIT, FIELD_LIMIT, HEAD_LIMIT};
+use crate::limits::CHUNK_LINE_LIMIT;
 use arrayvec::ArrayVec;
+use feed_heads::{FIELD_LIMIT, HEAD_LIMIT, HttpFault};
 use httparse::spans::{EMPTY_HEADER_SPAN, parse_headers};
 use httparse::{Status, parse_chunk_size};
 use std::alloc::Global;

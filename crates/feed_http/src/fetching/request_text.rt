@@ -5,9 +5,9 @@ ghost use Rattle.std.specs.Io.KnownBytes.{Appends};
 ghost use Rattle.feed_names.specs.ReleaseName.{text_of};
 ghost use Rattle.feed_http.specs.RequestTexts.{is_host, is_host_byte, start_text, get_text, head_request_text};
 
-use crate::http_fault::HttpFault;
 use crate::limits::HOST_LIMIT;
 use arrayvec::ArrayVec;
+use feed_heads::HttpFault;
 use feed_names::ReleaseName;
 use feed_range::write_ask;
 use std::io;

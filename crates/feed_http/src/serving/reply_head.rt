@@ -3,8 +3,8 @@ ghost use Rattle.std.specs.Prelude.{◌≡◌, OnOk, IfOk, IsOkUnless};
 ghost use Rattle.std.specs.Io.KnownBytes.{Appends};
 ghost use Rattle.feed_http.specs.Replies.{status_of, head_text, refusal_text, IsPartInside};
 
-use crate::http_fault::HttpFault;
 use arrayvec::ArrayVec;
+use feed_heads::HttpFault;
 use std::io;
 use std::io::Write;
 

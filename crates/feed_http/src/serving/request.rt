@@ -3,101 +3,55 @@ ghost use Rattle.std.specs.Prelude.{◌≡◌, ◌==◌, IfOk, IsOkUnless, optio
 ghost use Rattle.httparse.specs.Grammar.{RequestHead};
 ghost use Rattle.feed_range.specs.Text.{slash, strip_prefix};
 ghost use Rattle.feed_range.specs.Ask.{IsInside};
-ghost use Rattle.feed_http.specs.Fields.{AreWithin, AreFieldsOf};
-ghost use Rattle.feed_http.specs.Requests.{from_slash, path_of, lacks_host, is_get, is_head, is_unsupported};
-ghost use Rattle.feed_http.specs.Requests.{range_value, ask_for, IsNamedBy, IsInBuffer, HasHead};
+ghost use Rattle.feed_heads.specs.Fields.{AreWithin, AreFieldsOf};
+ghost use Rattle.feed_heads.specs.Requests.{IsInBuffer, HasHead};
+ghost use Rattle.feed_http.specs.Requests.{from_slash, path_of, is_unsupported, range_value, ask_for, IsNamedBy};
 
-use crate::heads::fields::Fields;
-use crate::http_fault::HttpFault;
+use feed_heads::{Fields, HttpFault, Request};
 use feed_names::{NameFault, ReleaseName};
 use feed_range::RangeAsk;
-use httparse::spans::{HeaderSpan, RequestSpans};
 use std::alloc::Global;
 
-/// A request's head, in the buffer into which it was read.
-#[derive(Clone, Copy)]
-pub(crate) struct Request<'b> {
-    pub buffer: &'b [u8],
-    pub headers: &'b [HeaderSpan],
-    pub spans: RequestSpans,
+/// Whether the method is neither GET nor HEAD, or a coded body follows.
+pub(crate) fn is_unsupported(request: &Request<'_>) -> bool
+    requires { IsInBuffer request.now }
+    ensures { (head : RequestHead) → HasHead request.now head → result ≡ is_unsupported head }
+{
+    !(request.is_get() || request.is_head()) || request.fields().has_field(b"transfer-encoding")
 }
 
-impl Request<'_> {
-    fn fields(&self) -> Fields<'_>
-        requires { IsInBuffer self.now }
-        ensures within { AreWithin result }
-        ensures fields { (head : RequestHead) → HasHead self.now head → AreFieldsOf result head.fields }
-    {
-        Fields {
-            buffer: self.buffer,
-            headers: &self.headers[..self.spans.headers],
-        }
+fn range_value<'b>(fields: &Fields<'b>) -> Option<&'b [u8]>
+    requires { AreWithin fields.now }
+    ensures { (head : RequestHead) → AreFieldsOf fields.now head.fields
+        → option_copied result ≡ range_value head }
+{
+    if fields.has_field(b"if-range") {
+        return None;
     }
+    fields.sole_value(b"range")
+}
 
-    /// Whether a request of HTTP/1.1 has not just one Host field (RFC 9112, section 3.2).
-    pub(crate) fn lacks_host(&self) -> bool
-        requires { IsInBuffer self.now }
-        ensures { (head : RequestHead) → HasHead self.now head → result ≡ lacks_host head }
-    {
-        self.spans.version == 1 && self.fields().sole_value(b"host").is_none()
+/// The part of a file of that length that is asked for (RFC 9110, section 14.2).
+pub(crate) fn ask(request: &Request<'_>, length: u64) -> RangeAsk
+    requires { IsInBuffer request.now }
+    ensures value { (head : RequestHead) → HasHead request.now head
+        → result ≡ ask_for head length }
+    ensures inside { IsInside length result }
+{
+    match range_value(&request.fields()) {
+        Some(value) => RangeAsk::read(value, length),
+        None => RangeAsk::Whole,
     }
+}
 
-    /// Whether only the head of the reply is asked for (RFC 9110, section 9.3.2).
-    pub(crate) fn is_head(&self) -> bool
-        requires { IsInBuffer self.now }
-        ensures { (head : RequestHead) → HasHead self.now head → result ≡ is_head head }
-    {
-        self.spans.method.of(self.buffer) == b"HEAD".as_slice()
-    }
-
-    fn is_get(&self) -> bool
-        requires { IsInBuffer self.now }
-        ensures { (head : RequestHead) → HasHead self.now head → result ≡ is_get head }
-    {
-        self.spans.method.of(self.buffer) == b"GET".as_slice()
-    }
-
-    /// Whether the method is neither GET nor HEAD, or a coded body follows.
-    pub(crate) fn is_unsupported(&self) -> bool
-        requires { IsInBuffer self.now }
-        ensures { (head : RequestHead) → HasHead self.now head → result ≡ is_unsupported head }
-    {
-        !(self.is_get() || self.is_head()) || self.fields().has_field(b"transfer-encoding")
-    }
-
-    fn range_value(&self) -> Option<&[u8]>
-        requires { IsInBuffer self.now }
-        ensures { (head : RequestHead) → HasHead self.now head
-            → option_copied result ≡ range_value head }
-    {
-        if self.fields().has_field(b"if-range") {
-            return None;
-        }
-        self.fields().sole_value(b"range")
-    }
-
-    /// The part of a file of that length that is asked for (RFC 9110, section 14.2).
-    pub(crate) fn ask(&self, length: u64) -> RangeAsk
-        requires { IsInBuffer self.now }
-        ensures value { (head : RequestHead) → HasHead self.now head
-            → result ≡ ask_for head length }
-        ensures inside { IsInside length result }
-    {
-        match self.range_value() {
-            Some(value) => RangeAsk::read(value, length),
-            None => RangeAsk::Whole,
-        }
-    }
-
-    /// The release that the target names, if it names one.
-    pub(crate) fn name(&self, alloc: Global) -> Result<Option<ReleaseName>, HttpFault>
-        requires { IsInBuffer self.now }
-        ensures named { IfOk result (λ named. (head : RequestHead) → HasHead self.now head
-            → IsNamedBy head.target named) }
-        ensures faults { IsOkUnless result HttpFault.Memory }
-    {
-        name_in(alloc, self.spans.path.of(self.buffer))
-    }
+/// The release that the target names, if it names one.
+pub(crate) fn name(alloc: Global, request: &Request<'_>) -> Result<Option<ReleaseName>, HttpFault>
+    requires { IsInBuffer request.now }
+    ensures named { IfOk result (λ named. (head : RequestHead) → HasHead request.now head
+        → IsNamedBy head.target named) }
+    ensures faults { IsOkUnless result HttpFault.Memory }
+{
+    name_in(alloc, request.target())
 }
 
 fn name_in(alloc: Global, target: &[u8]) -> Result<Option<ReleaseName>, HttpFault>

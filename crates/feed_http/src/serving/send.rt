@@ -4,8 +4,8 @@ ghost use Rattle.std.specs.Prelude.{IfSome, IsSomeAnd, IfErr, IsErrOf, length, t
 ghost use Rattle.feed_http.specs.Shelves.{CountsFailure};
 ghost use Rattle.feed_http.specs.Served.{IsSending, IsReplyFault};
 
-use crate::http_fault::HttpFault;
 use crate::serving::shelf::Shelf;
+use feed_heads::HttpFault;
 use feed_names::ReleaseName;
 use std::alloc::Global;
 use std::io::Write;

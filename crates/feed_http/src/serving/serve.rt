@@ -6,20 +6,19 @@ ghost use Rattle.httparse.specs.Grammar.{RequestHead};
 ghost use Rattle.feed_range.specs.Ask.{IsInside};
 ghost use Rattle.feed_names.specs.ReleaseName.{Name};
 ghost use Rattle.feed_http.specs.Limits.{head_limit, field_limit};
-ghost use Rattle.feed_http.specs.RequestHeads.{BeginsWithHead};
-ghost use Rattle.feed_http.specs.Requests.{IsNamedBy, IsInBuffer, HasHead};
+ghost use Rattle.feed_heads.specs.RequestHeads.{BeginsWithHead};
+ghost use Rattle.feed_heads.specs.Requests.{IsInBuffer, HasHead};
+ghost use Rattle.feed_http.specs.Requests.{IsNamedBy};
 ghost use Rattle.feed_http.specs.Replies.{IsPartInside};
 ghost use Rattle.feed_http.specs.Shelves.{CountsFailure};
 ghost use Rattle.feed_http.specs.Served.{served, fileless, part_reply, file_reply, IsOutcomeOf, IsRefusalOf};
 ghost use Rattle.feed_http.specs.Served.{IsReplyFault, IsServingFault, reply_of};
 
-use crate::heads::request_head::read_request;
-use crate::http_fault::HttpFault;
-use crate::limits::{FIELD_LIMIT, HEAD_LIMIT};
 use crate::serving::reply_head::ReplyHead;
-use crate::serving::request::Request;
+use crate::serving::request;
 use crate::serving::send::send;
 use crate::serving::shelf::Shelf;
+use feed_heads::{FIELD_LIMIT, HEAD_LIMIT, HttpFault, Request, read_request};
 use feed_names::ReleaseName;
 use feed_range::RangeAsk;
 use httparse::spans::EMPTY_HEADER_SPAN;
@@ -111,7 +110,14 @@ fn serve_file<W: Write, S: Shelf>(
     if request.is_head() {
         return ReplyHead::Whole { length: size }.write(writer);
     }
-    serve_part(alloc, writer, shelf, name, size, request.ask(size))
+    serve_part(
+        alloc,
+        writer,
+        shelf,
+        name,
+        size,
+        request::ask(request, size),
+    )
 }
 
 fn respond<W: Write, S: Shelf>(
@@ -137,10 +143,10 @@ fn respond<W: Write, S: Shelf>(
     if request.lacks_host() {
         return ReplyHead::BadRequest.write(writer);
     }
-    if request.is_unsupported() {
+    if request::is_unsupported(request) {
         return ReplyHead::NotImplemented.write(writer);
     }
-    let Some(name) = request.name(alloc)? else {
+    let Some(name) = request::name(alloc, request)? else {
         return ReplyHead::NotFound.write(writer);
     };
     match shelf.size(&name)? {

@@ -1,0 +1,7 @@
+pub mod Limits
+pub mod RequestHeads
+pub mod HeadEnds
+pub mod Fields
+pub mod Requests
+pub mod ReplyHeads
+pub mod ReplyReads

@@ -1,0 +1,19 @@
+//! The heads of HTTP/1.1 messages (RFC 9112, sections 2 to 5): how they are read, however their bytes come, and
+//! what their fields say. Whatever reads a head of either end reads it here.
+#![tactic(auto)]
+
+mod fields;
+mod head_ends;
+mod http_fault;
+mod limits;
+mod reply_head;
+mod request;
+mod request_head;
+
+pub use fields::{Fields, is_named};
+pub use head_ends::{HeadEnd, HeadFound, find_head, head_end};
+pub use http_fault::HttpFault;
+pub use limits::{FIELD_LIMIT, HEAD_LIMIT};
+pub use reply_head::{ReplyRead, read_reply_head};
+pub use request::Request;
+pub use request_head::{RequestRead, read_request};

@@ -1,0 +1,7 @@
+//! The limits of heads, which `specs/Limits.antt` has as numbers.
+
+/// The most bytes of a request's head, and of all heads of a reply together.
+pub const HEAD_LIMIT: usize = 8_192;
+
+/// The most fields of a head.
+pub const FIELD_LIMIT: usize = 64;

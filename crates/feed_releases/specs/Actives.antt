@@ -1,0 +1,52 @@
+-- The active releases of a feed, by their packages.
+use Rattle.std.specs.Prelude.{◌≡◌, ◌<◌, ℕ, Bool, if◌then◌else◌, List, [], ◌∷◌, length, slice_index_or, option_map, Option, Some}
+use Rattle.std.specs.List.{filter_map}
+use Rattle.std.specs.Ordering.{is_lt, nat_cmp}
+use Rattle.std.specs.Cmp.Lexicographic.{slice_cmp}
+use Rattle.feed_names.specs.ReleaseName.{Name}
+use Rattle.feed_kbart.specs.HoldingsValue.{HoldingsValue}
+use Rattle.feed_kbart.specs.Files.{holdings_of}
+use Rattle.feed_model.specs.History.{History, IsFile, Reports}
+use Rattle.feed_releases.specs.ReleaseValue.{ReleaseValue, IsKnown}
+
+-- an active release: its name, and what its file holds
+pub record ActiveValue : Type 0 where
+  pub name : Name
+  pub holdings : HoldingsValue
+
+-- a release, if it is active: then alone it has holdings
+abbrev pub active_of : ReleaseValue → Option ActiveValue
+active_of release = option_map (λ holdings. record { name = release.kept.name; holdings = holdings }) release.holdings
+
+-- the package of the one comes before that of the other, by bytes
+abbrev pub comes_before : ActiveValue → ActiveValue → Bool
+comes_before a b = is_lt (slice_cmp nat_cmp a.name.stem b.name.stem)
+
+-- an active release among others, behind those whose packages come before its own
+abbrev pub insert_active : ActiveValue → List ActiveValue → List ActiveValue
+insert_active a [] = a ∷ []
+insert_active a (b ∷ others) = if comes_before b a then b ∷ insert_active a others else a ∷ b ∷ others
+
+-- active releases put among others, one after another
+abbrev pub inserted : List ActiveValue → List ActiveValue → List ActiveValue
+inserted others [] = others
+inserted others (a ∷ actives) = inserted (insert_active a others) actives
+
+-- the active ones of these releases, by their packages
+abbrev pub actives_of : List ReleaseValue → List ActiveValue
+actives_of releases = inserted [] (filter_map active_of releases)
+
+-- what is known of a release's file
+abbrev pub IsKnownRelease : ReleaseValue → Type 0
+IsKnownRelease r = IsKnown r.kept.state r.kept.size r.kept.parts r.holdings
+
+-- and of that of each of these
+abbrev pub AreKnown : List ReleaseValue → Type 0
+AreKnown releases = (k : ℕ) (d : ReleaseValue) → k < length releases → IsKnownRelease (slice_index_or releases k d)
+
+-- the release is the active one of its package, and the holdings are those of its whole file
+pub record IsReported (h : History) (active : ActiveValue) : Type 0 where
+  pub reports : Reports h active.name.stem (Some active.name)
+  pub text : List ℕ
+  pub file : IsFile h active.name text
+  pub holdings : active.holdings ≡ holdings_of text

@@ -1,0 +1,107 @@
+//! The active releases of a feed, by their packages. There are at most 256 of them.
+ghost use Rattle.std.specs.Prelude.{◌≡◌, ◌≤◌, IfOk, OnOk, length, insert};
+ghost use Rattle.feed_releases.specs.Actives.{active_of, actives_of, comes_before, insert_active};
+ghost use Rattle.feed_releases.specs.Actives.{IsKnownRelease, AreKnown};
+
+use crate::release::Release;
+use feed_kbart::Holdings;
+use feed_names::ReleaseName;
+use std::alloc::{AllocError, Global};
+use std::marker::Model;
+
+/// An active release: its name, and what its file holds.
+#[derive(Drop)]
+pub struct ActiveRelease<'a> {
+    name: &'a ReleaseName,
+    holdings: &'a Holdings,
+}
+
+impl<'a> Model for ActiveRelease<'a> {
+    ghost use Rattle.feed_releases.specs.Actives.{ActiveValue};
+
+    ghost Value = { ActiveValue };
+
+    ghost view = { λ a. record { name = a.name.now; holdings = a.holdings.now } };
+}
+
+impl<'a> ActiveRelease<'a> {
+    /// An active release of this name and these holdings.
+    pub fn new(name: &'a ReleaseName, holdings: &'a Holdings) -> ActiveRelease<'a>
+        ensures { result ≡ record { name = name.now; holdings = holdings.now } }
+    {
+        ActiveRelease { name, holdings }
+    }
+
+    /// Its name.
+    pub fn name(&self) -> &'a ReleaseName
+        ensures { result.now ≡ self.now.name }
+    {
+        self.name
+    }
+
+    /// What its file holds.
+    pub fn holdings(&self) -> &'a Holdings
+        ensures { result.now ≡ self.now.holdings }
+    {
+        self.holdings
+    }
+}
+
+fn stands_before(active: &ActiveRelease<'_>, other: &ActiveRelease<'_>) -> bool
+    ensures { result ≡ comes_before active.now other.now }
+{
+    active.name.package().cmp(&other.name.package()).is_lt()
+}
+
+fn place_for(actives: &[ActiveRelease<'_>], active: &ActiveRelease<'_>) -> usize
+    ensures within { result ≤ length actives.now }
+    ensures place { insert actives.now result active.now ≡ insert_active active.now actives.now }
+{
+    for (at, other) in actives.iter().enumerate() {
+        if !stands_before(other, active) {
+            return at;
+        }
+    }
+    actives.len()
+}
+
+fn add<'a>(
+    actives: &mut Vec<ActiveRelease<'a>>,
+    active: ActiveRelease<'a>,
+) -> Result<(), AllocError>
+    ensures { OnOk result (actives.new.items ≡ insert_active active.entry actives.old.items) }
+{
+    let place = place_for(actives, &active);
+    actives.insert(place, active)?;
+    Ok(())
+}
+
+fn active_of(release: &Release) -> Option<ActiveRelease<'_>>
+    ensures value { result ≡ active_of release.now }
+    ensures known { IsKnownRelease release.now }
+{
+    match release.holdings() {
+        Some(holdings) => Some(ActiveRelease {
+            name: release.name(),
+            holdings,
+        }),
+        None => None,
+    }
+}
+
+/// The active ones of these releases, by their packages.
+pub(crate) fn actives_of(
+    alloc: Global,
+    releases: &[Release],
+) -> Result<Vec<ActiveRelease<'_>>, AllocError>
+    ensures value { IfOk result (λ actives. actives.items ≡ actives_of releases.now) }
+    ensures known { OnOk result (AreKnown releases.now) }
+{
+    let mut actives = Vec::new(alloc);
+    for release in releases {
+        if let Some(active) = active_of(release) {
+            add(&mut actives, active)?;
+        }
+    }
+    Ok(actives)
+}

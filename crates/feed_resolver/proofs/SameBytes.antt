@@ -1,0 +1,51 @@
+-- There is one reply to a request, by the releases that are active.
+use Rattle.std.proofs.Common.{◌≡◌, ℕ, List, [], ◌∷◌, map, refl, sym, ap, ◌∙◌, inl, inr, subst}
+use Rattle.std.specs.Prelude.{All}
+use Rattle.std.specs.List.{AllByRecursion}
+use Rattle.std.proofs.lemmas.List.Elements.{recursion_from_All}
+use Rattle.httparse.specs.Grammar.{RequestHead}
+use Rattle.httparse.proofs.GrammarLemmas.{request_unique}
+use Rattle.feed_names.specs.ReleaseName.{Name}
+use Rattle.feed_kbart.specs.HoldingsValue.{HoldingsValue}
+use Rattle.feed_kbart.specs.Files.{holdings_of}
+use Rattle.feed_model.specs.History.{History}
+use Rattle.feed_releases.specs.Actives.{ActiveValue, IsReported}
+use Rattle.feed_resolver.specs.Replies.{IsResponse, response_to}
+use Rattle.feed_resolver.specs.Laws.{names_of, KeepsPublished}
+
+-- two replies to the same bytes
+one_reply : (bytes : List ℕ) (actives : List ActiveValue) (response reply : List ℕ) → IsResponse bytes actives response → IsResponse bytes actives reply → response ≡ reply
+one_reply bytes actives response reply (inl (head, begins, is)) (inl (other, also, same)) =
+    let heads : head ≡ other = (request_unique bytes head other begins.rest also.rest begins.reads also.reads).0 in
+    is ∙ ap (λ (h : RequestHead). response_to h actives) heads ∙ sym same
+one_reply bytes actives response reply (inl (head, begins, is)) (inr (none, same)) = absurd (none head begins)
+one_reply bytes actives response reply (inr (none, is)) (inl (head, begins, same)) = absurd (none head begins)
+one_reply bytes actives response reply (inr (none, is)) (inr (nor, same)) = is ∙ sym same
+
+abbrev of_name : Name → HoldingsValue → ActiveValue
+of_name name holdings = record { name = name; holdings = holdings }
+
+-- names and files tell the releases
+abbrev from_names : (Name → List ℕ) → List Name → List ActiveValue
+from_names file names = map (λ name. of_name name (holdings_of (file name))) names
+
+told_by_names : (file : Name → List ℕ) (actives : List ActiveValue) → AllByRecursion (λ (active : ActiveValue). active.holdings ≡ holdings_of (file active.name)) actives
+    → actives ≡ from_names file (names_of actives)
+told_by_names file [] all = refl
+told_by_names file (active ∷ actives) all =
+    ap (λ (h : HoldingsValue). of_name active.name h ∷ actives) all.0
+    ∙ ap (λ (more : List ActiveValue). of_name active.name (holdings_of (file active.name)) ∷ more) (told_by_names file actives all.1)
+
+-- each holds what the published file of its name says
+published : (file : Name → List ℕ) (h : History) (actives : List ActiveValue) → KeepsPublished file h → All (IsReported h) actives
+    → All (λ (active : ActiveValue). active.holdings ≡ holdings_of (file active.name)) actives
+published file h actives keeps reported = λ i d within.
+    let is = reported i d within in is.holdings ∙ ap holdings_of (keeps _ is.text is.file)
+
+pub same_bytes : (file : Name → List ℕ) (h k : History) (one other : List ActiveValue) (bytes response reply : List ℕ) → KeepsPublished file h → KeepsPublished file k
+    → All (IsReported h) one → All (IsReported k) other → names_of one ≡ names_of other
+    → IsResponse bytes one response → IsResponse bytes other reply → response ≡ reply
+same_bytes file h k one other bytes response reply keeps stores here there names is also =
+    let same : one ≡ other = told_by_names file one (recursion_from_All _ one (published file h one keeps here)) ∙ ap (from_names file) names
+    ∙ sym (told_by_names file other (recursion_from_All _ other (published file k other stores there))) in
+    one_reply bytes other response reply (subst (λ (actives : List ActiveValue). IsResponse bytes actives response) same is) also

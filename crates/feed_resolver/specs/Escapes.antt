@@ -1,0 +1,50 @@
+-- Texts in a page (WHATWG HTML, sections 13.1.4 and 13.1.2.3): how they are escaped, and how a reader undoes it.
+use Rattle.std.specs.Prelude.{ℕ, ◌==◌, ◌||◌, Bool, if◌then◌else◌, List, [], ◌∷◌, ◌++◌, codes, Option, Some, None, option_map}
+use Rattle.std.specs.List.{flat_map}
+use Rattle.std.specs.Option.{option_and_then}
+use Rattle.std.specs.Str.{bytes_eq}
+
+-- a byte of a text, as it stands in a page
+abbrev pub escape_byte : ℕ → List ℕ
+escape_byte b =
+    if b == 60 then codes "&lt;"
+    else (if b == 62 then codes "&gt;"
+    else (if b == 34 then codes "&quot;"
+    else (if b == 39 then codes "&#39;"
+    else (if b == 38 then codes "&amp;"
+    else b ∷ []))))
+
+-- a text, as it stands in a page
+abbrev pub escaped : List ℕ → List ℕ
+escaped text = flat_map escape_byte text
+
+-- `<`, `>`, `"` and `'`
+abbrev pub is_markup : ℕ → Bool
+is_markup b = (b == 60) || (b == 62) || (b == 34) || (b == 39)
+
+-- the byte that the reference of this name stands for, which is written between `&` and `;`
+abbrev pub referred : List ℕ → Option ℕ
+referred name =
+    if bytes_eq name (codes "lt") then Some 60
+    else (if bytes_eq name (codes "gt") then Some 62
+    else (if bytes_eq name (codes "quot") then Some 34
+    else (if bytes_eq name (codes "#39") then Some 39
+    else (if bytes_eq name (codes "amp") then Some 38
+    else None))))
+
+-- a text with one byte more in front
+abbrev pub with_byte : ℕ → Option (List ℕ) → Option (List ℕ)
+with_byte b text = option_map (λ bytes. b ∷ bytes) text
+
+-- what a page's text stands for, where it has no markup and each `&` begins a reference of the five; behind an `&`, its name so far
+abbrev pub undone : Option (List ℕ) → List ℕ → Option (List ℕ)
+undone None [] = Some []
+undone (Some name) [] = None
+undone None (b ∷ text) = if b == 38 then undone (Some []) text else (if is_markup b then None else with_byte b (undone None text))
+undone (Some name) (b ∷ text) =
+    if b == 59 then option_and_then (λ c. with_byte c (undone None text)) (referred name)
+    else undone (Some (name ++ b ∷ [])) text
+
+-- what the text of a page stands for
+abbrev pub unescaped : List ℕ → Option (List ℕ)
+unescaped text = undone None text

@@ -1,0 +1,12 @@
+pub mod Escapes
+pub mod JsonStrings
+pub mod Links
+pub mod Pieces
+pub mod Parts
+pub mod Accepts
+pub mod Targets
+pub mod Hits
+pub mod Answers
+pub mod Pages
+pub mod Replies
+pub mod Laws

@@ -1,0 +1,16 @@
+-- The URLs that may stand in a link and in a Location field (RFC 9110, sections 4.2 and 10.2.2).
+use Rattle.std.specs.Prelude.{ℕ, ◌&&◌, ◌||◌, Bool, nat_lt, nat_le, List, length, codes, take}
+use Rattle.std.specs.List.{list_all}
+use Rattle.std.specs.Str.{str_eq_ignore_ascii_case}
+
+-- the text begins with this one, in capital or small letters, and goes on
+abbrev pub begins_with : List ℕ → List ℕ → Bool
+begins_with front text = nat_lt (length front) (length text) && str_eq_ignore_ascii_case (take (length front) text) front
+
+-- a byte of visible ASCII: no space, no control byte, no byte above 126
+abbrev pub is_visible : ℕ → Bool
+is_visible b = nat_le 33 b && nat_le b 126
+
+-- a URL of `http` or `https` in visible ASCII
+abbrev pub is_link : List ℕ → Bool
+is_link url = (begins_with (codes "http://") url || begins_with (codes "https://") url) && list_all is_visible url

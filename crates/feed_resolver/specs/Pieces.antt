@@ -1,0 +1,19 @@
+-- The pieces of which a reply is put together.
+use Rattle.std.specs.Prelude.{ℕ, List}
+use Rattle.std.specs.List.{flat_map}
+use Rattle.std.specs.Fmt.{decimal}
+use Rattle.feed_resolver.specs.declared.piece.Piece.{Piece}
+use Rattle.feed_resolver.specs.declared.piece.Piece.TheVariants.{Plain, Escaped, Quoted, Number}
+use Rattle.feed_resolver.specs.Escapes.{escaped}
+use Rattle.feed_resolver.specs.JsonStrings.{json_string}
+
+-- what a piece writes
+abbrev pub piece_text : Piece → List ℕ
+piece_text (Plain text) = text.now
+piece_text (Escaped text) = escaped text.now
+piece_text (Quoted text) = json_string text.now
+piece_text (Number n) = decimal n
+
+-- what pieces in a row write
+abbrev pub pieces_text : List Piece → List ℕ
+pieces_text pieces = flat_map piece_text pieces

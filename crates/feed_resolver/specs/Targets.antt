@@ -1,0 +1,48 @@
+-- What the target of a request asks for (RFC 9112, section 3.2).
+use Rattle.std.specs.Prelude.{ℕ, ◌==◌, if◌then◌else◌, List, [], Bool, codes, drop, take, position}
+use Rattle.std.specs.Option.{option_map_or}
+use Rattle.std.specs.Str.{bytes_eq}
+use Rattle.feed_range.specs.Text.{slash, split_once, strip_prefix}
+use Rattle.feed_resolver.specs.declared.target.Asked.{Asked}
+use Rattle.feed_resolver.specs.declared.target.Asked.TheVariants.{Front, Status, Resolve, Package, Go, Nothing}
+
+-- what stands from the first slash on
+abbrev pub from_slash : List ℕ → List ℕ
+from_slash text = option_map_or (λ place. drop place text) (position (λ byte. byte == slash) text) []
+
+-- a target from its path on: `http://` and a host may stand in front
+abbrev pub origin_form : List ℕ → List ℕ
+origin_form target = option_map_or from_slash (strip_prefix (codes "http://") target) target
+
+-- the path of a target in that form, up to its first question mark
+abbrev pub path_in : List ℕ → List ℕ
+path_in target = option_map_or (λ parts. parts.0) (split_once 63 target) target
+
+-- and its query, behind the question mark
+abbrev pub query_in : List ℕ → List ℕ
+query_in target = option_map_or (λ parts. parts.1) (split_once 63 target) []
+
+-- the path and the query of any target
+abbrev pub path_of : List ℕ → List ℕ
+path_of target = path_in (origin_form target)
+
+abbrev pub query_of : List ℕ → List ℕ
+query_of target = query_in (origin_form target)
+
+-- the front of a path that names a package
+abbrev pub names_package : List ℕ → Bool
+names_package path = bytes_eq (take 9 path) (codes "/resolve/")
+
+-- what a path asks for
+abbrev pub asked_of : List ℕ → Asked
+asked_of path =
+    if bytes_eq path (codes "/") then Front
+    else (if bytes_eq path (codes "/status") then Status
+    else (if bytes_eq path (codes "/resolve") then Resolve
+    else (if bytes_eq path (codes "/go") then Go
+    else (if names_package path then Package
+    else Nothing))))
+
+-- the package that a path names
+abbrev pub package_of : List ℕ → List ℕ
+package_of path = drop 9 path

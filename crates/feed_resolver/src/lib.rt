@@ -1,0 +1,25 @@
+//! A link resolver over HTTP/1.1: any OpenURL (ANSI/NISO Z39.88-2004) in the target of a request, and one reply, which
+//! is a function of the request's head and of the active releases of a feed.
+#![tactic(auto)]
+
+mod answers;
+mod escape;
+mod hits;
+mod laws;
+mod link;
+mod pages;
+mod piece;
+mod reply;
+mod representation;
+mod responses;
+mod status;
+mod target;
+mod text;
+
+pub use feed_heads::{HeadEnd, head_end};
+pub use laws::{
+    escaped_has_no_markup, escaped_reads_back, json_reads_back, redirects_to_link,
+    same_releases_same_bytes,
+};
+pub use representation::Representation;
+pub use responses::{respond, respond_with};

@@ -1,0 +1,48 @@
+//! The parts that all pages have.
+ghost use Rattle.std.specs.Prelude.{◌≡◌, ◌++◌, OnOk};
+ghost use Rattle.feed_resolver.specs.Answers.{page_front, page_end};
+
+use crate::escape::put;
+use crate::piece::{Piece, put_all};
+use std::alloc::AllocError;
+
+/// Writes a page up to its heading, which is its title too.
+#[tactic(auto, unfolding(crate::specs::Answers::page_front))]
+pub(crate) fn put_front(out: &mut Vec<u8>, title: &[u8]) -> Result<(), AllocError>
+    ensures { OnOk result (out.new.items ≡ out.old.items ++ page_front title.now) }
+{
+    put_all(
+        out,
+        &[
+            Piece::Plain(
+                b"<!DOCTYPE html>\n<html lang=\"en\">\n<head>\n<meta charset=\"utf-8\">\n",
+            ),
+            Piece::Plain(
+                b"<meta name=\"viewport\" content=\"width=device-width, initial-scale=1\">\n<title>",
+            ),
+            Piece::Plain(title),
+            Piece::Plain(b"</title>\n"),
+            Piece::Plain(
+                b"<style>body{font-family:sans-serif;max-width:60em;margin:1em auto;padding:0 1em}",
+            ),
+            Piece::Plain(
+                b"table{border-collapse:collapse}th,td{text-align:left;padding:.4em;border-bottom:1px solid #999}",
+            ),
+            Piece::Plain(b"label{display:block;margin-top:.6em}.wide{overflow-x:auto}</style>\n"),
+            Piece::Plain(b"</head>\n<body>\n<main>\n<h1>"),
+            Piece::Plain(title),
+            Piece::Plain(b"</h1>\n"),
+        ],
+    )
+}
+
+/// Writes the end of a page.
+#[tactic(auto, unfolding(crate::specs::Answers::page_end))]
+pub(crate) fn put_end(out: &mut Vec<u8>) -> Result<(), AllocError>
+    ensures { OnOk result (out.new.items ≡ out.old.items ++ page_end) }
+{
+    put(
+        out,
+        b"<p><a href=\"/\">Ask again</a></p>\n</main>\n</body>\n</html>\n",
+    )
+}

@@ -1,0 +1,210 @@
+//! Which representation a request asks for.
+ghost use Rattle.std.specs.Prelude.{◌≡◌, ◌∷◌};
+ghost use Rattle.std.specs.List.{list_all};
+ghost use Rattle.std.specs.Char.{is_ascii_digit};
+ghost use Rattle.httparse.specs.Grammar.{RequestHead};
+ghost use Rattle.feed_heads.specs.Fields.{AreWithin, AreFieldsOf};
+ghost use Rattle.feed_resolver.specs.Accepts.{digit_at, thousandths, fraction, weight_value, weight_of, weight_in};
+ghost use Rattle.feed_resolver.specs.Accepts.{weight_under, wish, most_wished};
+ghost use Rattle.feed_resolver.specs.Accepts.{accepted, by_accept, format_in, format_of};
+ghost use Rattle.feed_resolver.specs.Accepts.{representation_of};
+
+use crate::text::{split_once, strip_prefix};
+use feed_heads::Fields;
+use feed_identifiers::trim_spaces;
+
+/// How an answer is written.
+#[derive(Clone, Copy, Debug, PartialEq, Eq)]
+pub enum Representation {
+    /// `text/plain`, as `Answer::write` has it.
+    Text,
+    /// `application/json`.
+    Json,
+    /// `text/html`.
+    Html,
+}
+
+fn digit_at(digits: &[u8], place: usize) -> u16
+    ensures { result ≡ digit_at digits.now place }
+{
+    match digits.get(place) {
+        Some(digit) => u16::from(digit.saturating_sub(48)),
+        None => 0,
+    }
+}
+
+fn are_digits(digits: &[u8]) -> bool
+    ensures { result ≡ list_all is_ascii_digit digits.now }
+{
+    digits.iter().all(|digit| digit.is_ascii_digit())
+}
+
+fn thousandths(digits: &[u8]) -> Option<u16>
+    ensures { result ≡ thousandths digits.now }
+{
+    if digits.len() <= 3 && are_digits(digits) {
+        Some(digit_at(digits, 0) * 100 + digit_at(digits, 1) * 10 + digit_at(digits, 2))
+    } else {
+        None
+    }
+}
+
+fn fraction(rest: &[u8]) -> Option<u16>
+    ensures { result ≡ fraction rest.now }
+{
+    match rest.split_first() {
+        None => Some(0),
+        Some((point, digits)) => {
+            if *point == b'.' {
+                thousandths(digits)
+            } else {
+                None
+            }
+        }
+    }
+}
+
+fn whole_weight(rest: &[u8]) -> Option<u16>
+    ensures { result ≡ weight_value (49 ∷ rest.now) }
+{
+    if fraction(rest)? == 0 {
+        Some(1000)
+    } else {
+        None
+    }
+}
+
+fn weight_value(text: &[u8]) -> Option<u16>
+    ensures { result ≡ weight_value text.now }
+{
+    let (first, rest) = text.split_first()?;
+    match *first {
+        b'0' => fraction(rest),
+        b'1' => whole_weight(rest),
+        _ => None,
+    }
+}
+
+fn weight_of(parameters: &[u8]) -> Option<u16>
+    ensures { result ≡ weight_of parameters.now }
+{
+    weight_value(strip_prefix(trim_spaces(parameters), b"q=")?)
+}
+
+fn weight_in(range: &[u8], element: &[u8]) -> Option<u16>
+    ensures { result ≡ weight_in range.now element.now }
+{
+    match split_once(element, b';') {
+        Some((name, parameters)) => {
+            if trim_spaces(name).eq_ignore_ascii_case(range) {
+                weight_of(parameters)
+            } else {
+                None
+            }
+        }
+        None => {
+            if trim_spaces(element).eq_ignore_ascii_case(range) {
+                Some(1000)
+            } else {
+                None
+            }
+        }
+    }
+}
+
+fn weight_under(range: &[u8], value: &[u8]) -> Option<u16>
+    ensures { result ≡ weight_under range.now value.now }
+{
+    let mut rest = value;
+    while let Some((element, more)) = split_once(rest, b',') {
+        if let Some(weight) = weight_in(range, element) {
+            return Some(weight);
+        }
+        rest = more;
+    }
+    weight_in(range, rest)
+}
+
+fn wish(name: &[u8], family: &[u8], value: &[u8]) -> u16
+    ensures { result ≡ wish name.now family.now value.now }
+{
+    if let Some(weight) = weight_under(name, value) {
+        return weight;
+    }
+    if let Some(weight) = weight_under(family, value) {
+        return weight;
+    }
+    weight_under(b"*/*", value).unwrap_or(0)
+}
+
+fn most_wished(text: u16, json: u16, html: u16) -> Representation
+    ensures { result ≡ most_wished text json html }
+{
+    if html <= text && json <= text {
+        Representation::Text
+    } else if json <= html {
+        Representation::Html
+    } else {
+        Representation::Json
+    }
+}
+
+fn accepted(value: &[u8]) -> Representation
+    ensures { result ≡ accepted value.now }
+{
+    most_wished(
+        wish(b"text/plain", b"text/*", value),
+        wish(b"application/json", b"application/*", value),
+        wish(b"text/html", b"text/*", value),
+    )
+}
+
+/// The representation that the Accept field asks for: text without one, and where there are several.
+pub(crate) fn by_accept(fields: &Fields<'_>) -> Representation
+    requires { AreWithin fields.now }
+    ensures { (head : RequestHead) → AreFieldsOf fields.now head.fields → result ≡ by_accept head }
+{
+    match fields.sole_value(b"accept") {
+        Some(value) => accepted(value),
+        None => Representation::Text,
+    }
+}
+
+fn format_in(piece: &[u8]) -> Option<Representation>
+    ensures { result ≡ format_in piece.now }
+{
+    if piece == b"format=text".as_slice() {
+        Some(Representation::Text)
+    } else if piece == b"format=json".as_slice() {
+        Some(Representation::Json)
+    } else if piece == b"format=html".as_slice() {
+        Some(Representation::Html)
+    } else {
+        None
+    }
+}
+
+fn format_of(query: &[u8]) -> Option<Representation>
+    ensures { result ≡ format_of query.now }
+{
+    let mut rest = query;
+    while let Some((piece, more)) = split_once(rest, b'&') {
+        if let Some(format) = format_in(piece) {
+            return Some(format);
+        }
+        rest = more;
+    }
+    format_in(rest)
+}
+
+/// The representation that a query names, or else the Accept field.
+pub(crate) fn representation_of(query: &[u8], fields: &Fields<'_>) -> Representation
+    requires { AreWithin fields.now }
+    ensures { (head : RequestHead) → AreFieldsOf fields.now head.fields
+        → result ≡ representation_of query.now head }
+{
+    match format_of(query) {
+        Some(format) => format,
+        None => by_accept(fields),
+    }
+}

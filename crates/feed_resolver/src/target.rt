@@ -1,0 +1,95 @@
+//! What the target of a request asks for.
+ghost use Rattle.std.specs.Prelude.{◌≡◌, ◌≤◌, length};
+ghost use Rattle.feed_resolver.specs.Targets.{from_slash, origin_form, path_in, query_in, names_package};
+ghost use Rattle.feed_resolver.specs.Targets.{asked_of, package_of};
+
+use crate::text::{place_of, split_once, strip_prefix};
+
+/// What a path asks for.
+#[derive(Clone, Copy, Debug, PartialEq, Eq)]
+pub(crate) enum Asked {
+    /// `/`: the form, and the packages.
+    Front,
+    /// `/status`: the active releases.
+    Status,
+    /// `/resolve`: the hits of all packages.
+    Resolve,
+    /// `/resolve/` and a package: its hits.
+    Package,
+    /// `/go`: a redirect to the best hit.
+    Go,
+    /// Nothing that there is.
+    Nothing,
+}
+
+fn from_slash(text: &[u8]) -> &[u8]
+    ensures { result.now ≡ from_slash text.now }
+{
+    match place_of(text, b'/') {
+        Some(place) => &text[place..],
+        None => b"",
+    }
+}
+
+/// A target from its path on: it may be a whole URI (RFC 9112, section 3.2.2).
+pub(crate) fn origin_form(target: &[u8]) -> &[u8]
+    ensures { result.now ≡ origin_form target.now }
+{
+    match strip_prefix(target, b"http://") {
+        Some(rest) => from_slash(rest),
+        None => target,
+    }
+}
+
+/// The path of a target in that form.
+pub(crate) fn path_in(target: &[u8]) -> &[u8]
+    ensures { result.now ≡ path_in target.now }
+{
+    match split_once(target, b'?') {
+        Some((path, _)) => path,
+        None => target,
+    }
+}
+
+/// The query of a target in that form, which is empty where there is none.
+pub(crate) fn query_in(target: &[u8]) -> &[u8]
+    ensures { result.now ≡ query_in target.now }
+{
+    match split_once(target, b'?') {
+        Some((_, query)) => query,
+        None => b"",
+    }
+}
+
+fn names_package(path: &[u8]) -> bool
+    ensures { result ≡ names_package path.now }
+{
+    let front = &path[..path.len().min(9)];
+    front == b"/resolve/".as_slice()
+}
+
+/// What a path asks for. Nothing in it is decoded.
+pub(crate) fn asked_of(path: &[u8]) -> Asked
+    ensures { result ≡ asked_of path.now }
+{
+    if path == b"/".as_slice() {
+        Asked::Front
+    } else if path == b"/status".as_slice() {
+        Asked::Status
+    } else if path == b"/resolve".as_slice() {
+        Asked::Resolve
+    } else if path == b"/go".as_slice() {
+        Asked::Go
+    } else if names_package(path) {
+        Asked::Package
+    } else {
+        Asked::Nothing
+    }
+}
+
+/// The package that such a path names.
+pub(crate) fn package_of(path: &[u8]) -> &[u8]
+    ensures { result.now ≡ package_of path.now }
+{
+    &path[path.len().min(9)..]
+}
