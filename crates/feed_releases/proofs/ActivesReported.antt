@@ -9,8 +9,7 @@ use Rattle.feed_kbart.specs.Files.{holdings_of}
 use Rattle.feed_model.specs.declared.state.State.{State}
 use Rattle.feed_model.specs.declared.state.State.TheVariants.{Staged, Broken, Active}
 use Rattle.feed_model.specs.History.{History, Reports}
-use Rattle.feed_model.specs.Sound.{IsText}
-use Rattle.feed_model.specs.Content.{Part, record_of, IsContent}
+use Rattle.feed_model.specs.Content.{Part, IsText, record_of, IsContent}
 use Rattle.feed_model.proofs.Reports.{file_of_record}
 use Rattle.feed_releases.specs.ReleaseValue.{ReleaseValue, content_of, IsActiveOf, IsKnown}
 use Rattle.feed_releases.specs.Actives.{ActiveValue, active_of, actives_of, comes_before, insert_active, inserted, IsReported, IsKnownRelease, AreKnown}
