@@ -138,7 +138,7 @@ right_now h (Offered n size) a other (inr (within, rest)) = inr ((λ past. withi
 right_now h (Piece n first total bytes) a other right = right
 right_now h (Lost n) a other right = right
 
-legal_now : (h : History) → IsLegalWithin earlier_limit h → IsLegal (without_refused h)
+pub legal_now : (h : History) → IsLegalWithin earlier_limit h → IsLegal (without_refused h)
 legal_now [] legal = tt
 legal_now ((e, a) ∷ h) legal = by (is_refused (e, a)) refl (legal_now h legal.1)
   where

@@ -24,4 +24,4 @@ pub mod Limits
 pub mod Held
 pub mod Soundness
 pub mod Examples
-mod Earlier
+pub mod Earlier

@@ -1,5 +1,5 @@
 -- What the answers of the selections are.
-use Rattle.std.proofs.Common.{◌≡◌, ℕ, List, [], ◌∷◌, map, filter, length, false, IsPermutation, refl, ap, subst, ◌∙◌, codes, arith}
+use Rattle.std.proofs.Common.{◌≡◌, ℕ, List, [], ◌∷◌, map, filter, length, false, IfOk, IsPermutation, refl, ap, subst, ◌∙◌, codes, arith}
 use Rattle.std.specs.List.{AllByRecursion}
 use Rattle.std.specs.List.Sorted.{IsSorted}
 use Rattle.std.specs.Ordering.{on}
@@ -11,6 +11,7 @@ use Rattle.sqlite_sql.specs.Query.{IsAnswer, key_cmp}
 use Rattle.sqlite_sql.specs.Program.{overlay}
 use Rattle.sqlite_sql.specs.Term.{Term, col, eval_all}
 use Rattle.sqlite_schema.specs.declared.command.Command.TheVariants.{Select}
+use Rattle.sqlite_resolve.specs.Compile.{first}
 use Rattle.sqlite.specs.Listing.{understood, reads_listing}
 use Rattle.sqlite.specs.State.{State, Shown}
 use Rattle.sqlite.proofs.Callers.{IsPlain, command_of, reads_as}
@@ -18,18 +19,28 @@ use Rattle.sqlite.specs.Table.{Table}
 use Rattle.sqlite_schema.specs.declared.schema.Index.{Index}
 use Rattle.feed_rows.specs.Layout.{schema_with}
 use Rattle.feed_rows.specs.Tables.{HasTables}
+use Rattle.feed_rows.proofs.ReadOnly.{IsRead}
 use Rattle.feed_rows.proofs.Rows.{table_query, passes, answered}
 use Rattle.feed_reading.specs.Texts.{releases_text, pieces_text}
 use Rattle.feed_reading.proofs.InOrder.{in_order, key, name_key, place_key}
 use Rattle.feed_reading.proofs.Widths.{release_widths, piece_widths}
 
-pub releases_plain : (more : List Table) (keys : List Index) → IsPlain (understood (schema_with more keys) releases_text)
+releases_plain : (more : List Table) (keys : List Index) → IsPlain (understood (schema_with more keys) releases_text)
 unfolding understood everything
 releases_plain more keys = (refl, refl)
 
-pub pieces_plain : (more : List Table) (keys : List Index) → IsPlain (understood (schema_with more keys) pieces_text)
+pieces_plain : (more : List Table) (keys : List Index) → IsPlain (understood (schema_with more keys) pieces_text)
 unfolding understood everything
 pieces_plain more keys = (refl, refl)
+
+-- no selection changes a row, whatever tables there are
+pub releases_read : IfOk (first releases_text) IsRead
+unfolding everything
+releases_read = λ schema base. refl
+
+pub pieces_read : IfOk (first pieces_text) IsRead
+unfolding everything
+pieces_read = λ schema base. refl
 
 abbrev pub release_terms : List Term
 release_terms = col 1 0 ∷ col 1 1 ∷ col 1 2 ∷ col 1 3 ∷ col 1 4 ∷ col 1 5 ∷ []

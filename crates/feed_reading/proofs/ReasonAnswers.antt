@@ -1,5 +1,5 @@
 -- What the selection of the reasons says of its table.
-use Rattle.std.proofs.Common.{◌≡◌, ◌≢◌, ◌++◌, ℕ, ℤ, Bool, if◌then◌else◌, true, false, List, [], ◌∷◌, map, filter, length, codes, All, IsPermutation, refl, sym, ap, subst, ◌∙◌, arith}
+use Rattle.std.proofs.Common.{◌≡◌, ◌≢◌, ◌++◌, ℕ, ℤ, Bool, if◌then◌else◌, true, false, List, [], ◌∷◌, map, filter, length, codes, All, IfOk, IsPermutation, refl, sym, ap, subst, ◌∙◌, arith}
 use Rattle.std.specs.List.{AllByRecursion, list_any}
 use Rattle.std.specs.Cmp.Lexicographic.{bytes_decides}
 use Rattle.sqlite_value.specs.declared.value.Value.TheVariants.{Null}
@@ -18,6 +18,7 @@ use Rattle.sqlite_value.specs.Keys.{plain}
 use Rattle.sqlite_rules.specs.Lists.{Has}
 use Rattle.sqlite_rules.proofs.ListLemmas.{all_has, all_from, some_has}
 use Rattle.sqlite_schema.specs.declared.command.Command.TheVariants.{Select}
+use Rattle.sqlite_resolve.specs.Compile.{first}
 use Rattle.sqlite.specs.Listing.{understood, reads_listing}
 use Rattle.sqlite.specs.Effect.{Database, IsDatabase}
 use Rattle.sqlite.specs.Given.{HasGiven}
@@ -35,6 +36,7 @@ use Rattle.feed_rows.proofs.AddedRelease.{owned_reason}
 use Rattle.feed_rows.proofs.Contents.{release_text, release_texted, texted_reasons}
 use Rattle.feed_rows.proofs.Gone.{IsTexted, equal_texts}
 use Rattle.feed_reading.proofs.Parents.{none_named}
+use Rattle.feed_rows.proofs.ReadOnly.{IsRead}
 use Rattle.feed_rows.proofs.Rows.{table_query, answered}
 use Rattle.feed_reading.specs.Texts.{reasons_text}
 use Rattle.feed_reading.specs.Reasons.{AreReasonsOf, ShowReasons}
@@ -43,7 +45,12 @@ use Rattle.feed_reading.proofs.Selected.{has_middle, has_moved}
 use Rattle.feed_reading.proofs.Streams.{whole_given}
 use Rattle.feed_reading.proofs.Widths.{reason_widths}
 
-pub reasons_plain : IsPlain (understood feed_schema reasons_text)
+-- the selection changes no row, whatever tables there are
+pub reasons_read : IfOk (first reasons_text) IsRead
+unfolding everything
+reasons_read = λ schema base. refl
+
+reasons_plain : IsPlain (understood feed_schema reasons_text)
 unfolding understood everything
 reasons_plain = (refl, refl)
 

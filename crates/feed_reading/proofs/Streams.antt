@@ -1,5 +1,5 @@
 -- Rows that are read one by one.
-use Rattle.std.proofs.Common.{◌≡◌, ◌⊎◌, inl, inr, ℕ, List, [], ◌++◌, None, Some, Err, Option, Result, IsTrue, IfErr, OnErr, refl, sym, ap, subst, ◌∙◌, arith}
+use Rattle.std.proofs.Common.{◌≡◌, ◌⊎◌, inl, inr, ℕ, List, [], ◌++◌, None, Some, IsSome, Ok, Err, Option, Result, IsTrue, IfErr, IfOk, OnErr, refl, sym, ap, subst, ◌∙◌, arith}
 use Rattle.sqlite_value.specs.Order.{Row}
 use Rattle.sqlite_schema.specs.declared.command.Returning.{Returning}
 use Rattle.sqlite_schema.specs.declared.command.Command.{Command}
@@ -10,12 +10,16 @@ use Rattle.sqlite.specs.declared.error.Error.{Error}
 use Rattle.sqlite.specs.Clock.{timed}
 use Rattle.sqlite.specs.Effect.{Database}
 use Rattle.sqlite.specs.Listing.{understood}
-use Rattle.sqlite.specs.Given.{HasGiven, HasBegun, IsRefused}
+use Rattle.sqlite_resolve.specs.declared.compiled.Compiled.{Compiled}
+use Rattle.sqlite_resolve.specs.declared.error.CompileError.{CompileError}
+use Rattle.sqlite_resolve.specs.Compile.{first}
+use Rattle.sqlite.specs.Given.{HasGiven, HasBegun, IsRefused, Returns}
 use Rattle.sqlite.specs.Held.{Held, state}
 use Rattle.sqlite.specs.State.{State, HasCleanDisk, IsUnchanged, IsRolledBack, FailsToQuery, FailsToShow, IsNotRun, Shown, ShowsRows}
 use Rattle.sqlite.proofs.Callers.{EndsIn, begins_shown, command_of, given_begin}
 use Rattle.sqlite.specs.Schema.{Schema}
-use Rattle.feed_reading.specs.Releases.{Leaves, LeavesOurs}
+use Rattle.feed_rows.proofs.ReadOnly.{IsRead, ShowsNone, read_shows_none}
+use Rattle.feed_reading.specs.Releases.{Leaves}
 
 -- rows of a query were given, of which this is known, and nothing was changed
 pub record HasRead {S : Type 0} (g : store.Ghosts S) (sql : List ℕ) (Known : List Row → Type 0) (old now : Held S) : Type 0 where
@@ -69,18 +73,6 @@ whole_given g sql now rows p names schema has none is open_now given =
     ends : (p : Program) (names : List (List ℕ)) (db : Database) (params : Row) → p.lets ≡ [] → EndsIn (Select p names) db params
     ends p names db params none = rw none tt
 
--- the same of a database of layout 2
-pub refused_leaves_ours : {S X : Type 0} (g : store.Ghosts S) (sql : List ℕ) (old new : Held S) (r : Result X Error) (e : Error) → r ≡ Err e → OnErr r (IsRefused g sql [] old r new)
-    → LeavesOurs (state g old) (state g new)
-refused_leaves_ours {X = X} g sql old new r e is held =
-    let it : IsRefused g sql [] old r new = subst (λ x. OnErr x (IsRefused g sql [] old r new)) is held in
-    let left : HasCleanDisk (state g new) → LeavesAlone (state g old) (state g new) =
-    λ clean. failed_leaves sql (state g old) (state g new) e (subst (λ (x : Result X Error). IfErr x (FailsToQuery sql [] (state g old) (state g new))) is (it.err clean)) in
-    record {
-      live = λ live. (omega (arith, it.survives.clean, live.0), was_open (state g old) (state g new) (left live.0) live.1);
-      kept = λ live has. left live.0;
-    }
-
 -- a query that does not begin leaves the database alone
 pub refused_leaves : {S X : Type 0} (g : store.Ghosts S) (sql : List ℕ) (old new : Held S) (r : Result X Error) (e : Error) → r ≡ Err e → OnErr r (IsRefused g sql [] old r new)
     → Leaves (state g old) (state g new)
@@ -90,5 +82,16 @@ refused_leaves {X = X} g sql old new r e is held =
     λ clean. failed_leaves sql (state g old) (state g new) e (subst (λ (x : Result X Error). IfErr x (FailsToQuery sql [] (state g old) (state g new))) is (it.err clean)) in
     record {
       live = λ live. (omega (arith, it.survives.clean, live.0), was_open (state g old) (state g new) (left live.0) live.1);
-      kept = λ live has. left live.0;
+      kept = λ live. left live.0;
+      limit = it.survives.limit;
     }
+
+-- a query that only reads has given nothing yet as it begins, and changes nothing
+pub begun_same : {S : Type 0} (g : store.Ghosts S) (sql : List ℕ) (old new : Held S) → IfOk (first sql) IsRead → HasBegun g sql [] old new
+    → HasGiven g sql [] new [] × IsUnchanged (state g old) (state g new)
+begun_same g sql old new read (inl h) = h
+begun_same g sql old new read (inr h) = absurd (never_both (understood old.schema sql) (read_shows_none sql read old.schema) h.0)
+  where
+    never_both : (r : Result Compiled CompileError) → IfOk r ShowsNone → Returns r → ⊥
+    never_both (Ok c) none some = absurd (let e : IsSome {T = Returning} None = subst IsSome none some in cc)
+    never_both (Err e) none some = some

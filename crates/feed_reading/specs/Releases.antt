@@ -11,18 +11,14 @@ use Rattle.sqlite.specs.Effect.{Database}
 use Rattle.sqlite.specs.State.{State, IsRolledBack, IsUnchanged}
 use Rattle.feed_keep.specs.Shown.{shown}
 use Rattle.feed_rows.specs.Live.{IsLive}
-use Rattle.feed_rows.specs.Tables.{IsOurs, IsTabled, IsReleaseRow, record_in, text_in}
+use Rattle.feed_rows.specs.Tables.{IsReleaseRow, record_in, text_in}
 use Rattle.feed_reading.specs.declared.releases.Releases.{Releases}
 
 -- a call writes nothing; where it fails, what was not committed may be undone
 pub record Leaves (old new : State) : Type 0 where
   pub live : IsLive new → IsLive old
-  pub kept : IsLive new → IsTabled old.now → IsUnchanged old new ⊎ IsRolledBack old new
-
--- the same of a database of layout 2
-pub record LeavesOurs (old new : State) : Type 0 where
-  pub live : IsLive new → IsLive old
-  pub kept : IsLive new → IsOurs old.now → IsUnchanged old new ⊎ IsRolledBack old new
+  pub kept : IsLive new → IsUnchanged old new ⊎ IsRolledBack old new
+  pub limit : new.step_limit ≡ old.step_limit
 
 -- the rows are of these releases, one after another
 pub record ShowReleases (rows : List Row) (found : Releases) : Type 0 where

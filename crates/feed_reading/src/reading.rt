@@ -31,8 +31,8 @@ pub fn read_unexplained<S: Alter>(
     requires { conn.old.in_transaction ≡ false }
     ensures idle { conn.new.in_transaction ≡ false }
     ensures live { IsLive (state S.Store conn.new) → IsLive (state S.Store conn.old) }
-    ensures same { IsLive (state S.Store conn.new) → IsTabled (state S.Store conn.old).now
-        → (state S.Store conn.new).now ≡ (state S.Store conn.old).now }
+    ensures same { IsLive (state S.Store conn.new) → (state S.Store conn.new).now ≡ (state S.Store conn.old).now }
+    ensures limit { conn.new.step_limit ≡ conn.old.step_limit }
     ensures up { IfOk result (λ found. IfSome found (λ records. AreNamesUp (names (shown records.items)))) }
     ensures distinct { IfOk result (λ found. IfSome found
         (λ records. IsDistinct name_eq (names (shown records.items)))) }
@@ -61,8 +61,8 @@ pub fn read_records<S: Alter>(
     requires { conn.old.in_transaction ≡ false }
     ensures idle { conn.new.in_transaction ≡ false }
     ensures live { IsLive (state S.Store conn.new) → IsLive (state S.Store conn.old) }
-    ensures same { IsLive (state S.Store conn.new) → IsOurs (state S.Store conn.old).now
-        → (state S.Store conn.new).now ≡ (state S.Store conn.old).now }
+    ensures same { IsLive (state S.Store conn.new) → (state S.Store conn.new).now ≡ (state S.Store conn.old).now }
+    ensures limit { conn.new.step_limit ≡ conn.old.step_limit }
     ensures distinct { IfOk result (λ found. IfSome found
         (λ records. IsDistinct name_eq (names (shown records.items)))) }
     ensures order { IfOk result (λ found. IfSome found (λ records. IsInOrder (shown records.items))) }
@@ -88,8 +88,8 @@ fn explained<S: Alter>(
     requires up { AreNamesUp (names (shown records.items)) }
     ensures idle { conn.new.in_transaction ≡ false }
     ensures live { IsLive (state S.Store conn.new) → IsLive (state S.Store conn.old) }
-    ensures same { IsLive (state S.Store conn.new) → IsOurs (state S.Store conn.old).now
-        → (state S.Store conn.new).now ≡ (state S.Store conn.old).now }
+    ensures same { IsLive (state S.Store conn.new) → (state S.Store conn.new).now ≡ (state S.Store conn.old).now }
+    ensures limit { conn.new.step_limit ≡ conn.old.step_limit }
     ensures names { IfOk result (λ found. IfSome found
         (λ told. names (shown told.items) ≡ names (shown records.items))) }
     ensures parts { IfOk result (λ found. IfSome found

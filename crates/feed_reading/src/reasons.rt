@@ -9,7 +9,7 @@ ghost use Rattle.feed_rows.specs.Live.{IsLive};
 ghost use Rattle.feed_rows.specs.Tables.{IsListed, IsOurs, IsReasonRow, earlier_content_of, text_in};
 ghost use Rattle.feed_reading.specs.Order.{AreNamesUp};
 ghost use Rattle.feed_reading.specs.Reasons.{AreReasonsOf, ShowReasons, reasoned};
-ghost use Rattle.feed_reading.specs.Releases.{LeavesOurs};
+ghost use Rattle.feed_reading.specs.Releases.{Leaves};
 
 use crate::giving::find;
 use crate::reason_row::said_in;
@@ -29,7 +29,7 @@ pub fn select_reasons<S: Alter>(
     ensures names { names (shown records.new.items) ≡ names (shown records.old.items) }
     ensures parts { map (λ r. r.parts) (shown records.new.items) ≡ map (λ r. r.parts) (shown records.old.items) }
     ensures idle { conn.old.in_transaction ≡ false → conn.new.in_transaction ≡ false }
-    ensures leaves { LeavesOurs (state S.Store conn.old) (state S.Store conn.new) }
+    ensures leaves { Leaves (state S.Store conn.old) (state S.Store conn.new) }
     ensures read { IsLive (state S.Store conn.new) → IsOurs (state S.Store conn.old).now → IfOk result
         (λ read. IsUnchanged (state S.Store conn.old) (state S.Store conn.new)
         × MatchOption read (shown records.old.items ≡ earlier_content_of (state S.Store conn.old).now

@@ -20,3 +20,4 @@ pub mod AddedReason
 pub mod AnyOrder
 pub mod ContentSet
 pub mod Stored
+pub mod ReadOnly

@@ -11,6 +11,7 @@ use Rattle.feed_kbart.specs.declared.label.Label.TheVariants.{TitleId, EmbargoIn
 use Rattle.feed_kbart.specs.declared.fault.BadFile.{BadFile}
 use Rattle.feed_kbart.specs.declared.fault.BadFile.TheVariants.{NotUtf8, TwoMarks, NoHeader, MissingLabel, LabelTwice}
 use Rattle.feed_model.specs.File.{fault_of}
+use Rattle.feed_rows.specs.Tables.{IsStored}
 use Rattle.std.specs.Str.{is_utf8}
 
 found_among : (p : Label → Bool) (xs : List Label) (x : Label) → find p xs ≡ Some x → Contains xs x
@@ -31,7 +32,7 @@ records_missing [] label e = absurd (cc)
 records_missing (header ∷ rs) label e = found_among (λ l. is_none (column l header)) required_labels label (labels_missing (first_missing header) (first_twice header) label e)
 
 -- a label that is missing is a required one
-pub missing_is_required : (text : List ℕ) (label : Label) → fault_of text ≡ Some (MissingLabel label) → Contains required_labels label
+missing_is_required : (text : List ℕ) (label : Label) → fault_of text ≡ Some (MissingLabel label) → Contains required_labels label
 unfolding fault_of bad_of
 missing_is_required text label e = by (is_utf8 text) (has_two_marks text) (records_of text) e
   where
@@ -73,3 +74,11 @@ required_early (suc (suc (suc (suc (suc (suc (suc (suc (suc (suc (suc zero))))))
 required_early (suc (suc (suc (suc (suc (suc (suc (suc (suc (suc (suc (suc zero)))))))))))) label at has = absurd (late PublicationType (λ e. cc e, (λ e. cc e, (λ e. cc e, (λ e. cc e, (λ e. cc e, (λ e. cc e, (λ e. cc e, (λ e. cc e, tt)))))))) label at has)
 required_early (suc (suc (suc (suc (suc (suc (suc (suc (suc (suc (suc (suc (suc zero))))))))))))) label at has = absurd (late AccessType (λ e. cc e, (λ e. cc e, (λ e. cc e, (λ e. cc e, (λ e. cc e, (λ e. cc e, (λ e. cc e, (λ e. cc e, tt)))))))) label at has)
 required_early (suc (suc (suc (suc (suc (suc (suc (suc (suc (suc (suc (suc (suc (suc k)))))))))))))) label at has = absurd (let e : Some label ≡ None = sym at ∙ beyond k in cc)
+
+-- a reason of a file is stored
+pub stored : (text : List ℕ) (why : BadFile) → fault_of text ≡ Some why → IsStored why
+stored text NotUtf8 e = tt
+stored text TwoMarks e = tt
+stored text NoHeader e = tt
+stored text (LabelTwice label) e = tt
+stored text (MissingLabel label) e = missing_is_required text label e

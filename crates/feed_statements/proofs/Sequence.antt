@@ -8,14 +8,13 @@ use Rattle.feed_model.specs.declared.state.State as model
 use Rattle.feed_model.specs.declared.state.State.TheVariants as states
 use Rattle.feed_model.specs.Content.{Part, Record, Content, record_of}
 use Rattle.feed_kbart.specs.declared.fault.BadFile.{BadFile}
-use Rattle.feed_kbart.specs.declared.fault.BadFile.TheVariants.{NotUtf8, TwoMarks, NoHeader, MissingLabel, LabelTwice}
-use Rattle.feed_model.specs.File.{fault_of}
+use Rattle.feed_kbart.specs.declared.fault.BadFile.TheVariants.{NoHeader}
 use Rattle.feed_model.specs.Reply.{max_file}
 use Rattle.feed_model.specs.Change.{changed, comes_before, grown, broken_with, merged, insert_part, insert_record, new_record, Add, Pieces, Break}
 use Rattle.feed_model.proofs.Names.{name_self}
 use Rattle.feed_rows.specs.Records.{bare, with_part, with_parts, with_reason, with_state}
 use Rattle.feed_rows.specs.Tables.{IsStored, content_of}
-use Rattle.feed_rows.proofs.Stored.{missing_is_required}
+use Rattle.feed_rows.proofs.Stored.{stored}
 use Rattle.feed_statements.specs.Effects.{AllowedChanges, Changes, ChangesIf, IsMade}
 
 -- one change of a record after another
@@ -163,14 +162,6 @@ staged_made n size a b some = made_as (ChangesIf (size ≤ max_file) (insert_rec
   where
     new_is : (k : ℕ) → k ≢ 0 → bare n k states.Staged ≡ new_record n k
     new_is k some = let off : eqb k 0 ≡ false = grind (arith, nat_tests) in rw off refl
-
--- a reason of a file is stored
-stored : (text : List ℕ) (why : BadFile) → fault_of text ≡ Some why → IsStored why
-stored text NotUtf8 e = tt
-stored text TwoMarks e = tt
-stored text NoHeader e = tt
-stored text (LabelTwice label) e = tt
-stored text (MissingLabel label) e = missing_is_required text label e
 
 -- parts, the state and a reason are what the change of a record is
 pub break_made : (n : Name) (ps : List Part) (why : BadFile) (a b c : State) → IsMade (Changes (changed n (grown ps states.Broken))) a b

@@ -1,1 +1,3 @@
 mod Taken
+mod Reasoned
+mod Histories

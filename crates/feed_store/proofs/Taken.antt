@@ -1,10 +1,14 @@
 -- Names that are taken in a schema.
 use Rattle.std.proofs.Common.{inl, refl}
 use Rattle.sqlite_schema.specs.Names.{same_name}
-use Rattle.feed_rows.specs.Layout.{feed_schema}
+use Rattle.feed_rows.specs.Layout.{earlier_schema, feed_schema}
 use Rattle.feed_store.specs.Adopted.{TakesAllOrNone}
 
--- the tables of a keeper have the three names
+-- the tables of a keeper have the names, in either layout
 pub ours-takes : TakesAllOrNone feed_schema
 unfolding same_name
 ours-takes = inl (refl, (refl, (refl, _)))
+
+pub earlier-takes : TakesAllOrNone earlier_schema
+unfolding same_name
+earlier-takes = inl (refl, (refl, (refl, _)))

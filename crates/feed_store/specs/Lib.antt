@@ -1,2 +1,2 @@
-pub mod Adopted
 pub mod Upgraded
+pub mod Adopted

@@ -1,5 +1,5 @@
 -- What the upgrade of a database makes of its records.
-use Rattle.std.specs.Prelude.{◌≡◌, List, [], ◌∷◌, Option, None}
+use Rattle.std.specs.Prelude.{◌≡◌, [], ◌∷◌, Option, None}
 use Rattle.sqlite.specs.Effect.{Database}
 use Rattle.feed_kbart.specs.declared.fault.BadFile.{BadFile}
 use Rattle.feed_model.specs.declared.state.State.{State}

@@ -1,20 +1,26 @@
-ghost use Rattle.std.specs.Prelude.{◌≡◌, false, IfOk, IsTrue, OnErr};
+ghost use Rattle.std.specs.Prelude.{◌≡◌, false, IfOk, IsTrue, OnErr, ℕ};
 ghost use Rattle.std.specs.List.{list_any};
+ghost use Rattle.feed_rows.specs.Layout.{earlier_schema};
+ghost use Rattle.feed_rows.specs.Tables.{IsEarlier};
 ghost use Rattle.feed_statements.specs.Effects.{IsLive, TellsNumber};
 ghost use Rattle.feed_store.specs.Adopted.{AreTaken, IsAdopted, IsLaidOut, TakesAllOrNone, is_taken};
+ghost use Rattle.feed_store.specs.Upgraded.{IsBroughtUp};
 ghost use Rattle.sqlite.specs.Held.{state};
 ghost use Rattle.sqlite.specs.State.{HasCleanDisk};
 ghost use Rattle.sqlite_schema.specs.Names.{same_name};
 
 use crate::fault::{StoreFault, fault_of};
-use feed_statements::{has_number_1, is_blank, is_laid_out, lay_out};
+use crate::reasons::reasoned;
+use feed_reading::read_unexplained;
+use feed_statements::{has_number, is_blank, is_earlier, is_laid_out, lay_out, upgrade};
 use sqlite::{Alter, Connection};
 use sqlite_schema::names::same_name;
 use sqlite_schema::schema::{Column, Kind, Schema, Table, View};
+use std::alloc::Global;
 
-/// Makes the tables in a database that has none of them, and looks at those of another one. It tells whether the
-/// database has the tables and nothing beside them.
-pub fn made_ready<S: Alter>(conn: &mut Connection<S>) -> Result<bool, StoreFault>
+/// Makes the tables in a database that has none of them, brings one of layout 1 to layout 2, and looks at those of
+/// another one. It tells whether the database has the tables and nothing beside them.
+pub fn made_ready<S: Alter>(alloc: Global, conn: &mut Connection<S>) -> Result<bool, StoreFault>
     requires { conn.old.in_transaction ≡ false }
     ensures idle { conn.new.in_transaction ≡ false }
     ensures limit { conn.new.step_limit ≡ conn.old.step_limit }
@@ -28,9 +34,12 @@ pub fn made_ready<S: Alter>(conn: &mut Connection<S>) -> Result<bool, StoreFault
         return laid_out(conn);
     }
     if is_laid_out(conn.schema()) {
-        return numbered(conn);
+        return numbered(conn, 2);
     }
-    beside_others(conn)
+    if is_earlier(conn.schema()) {
+        return brought_up(alloc, conn);
+    }
+    beside_others(alloc, conn)
 }
 
 // Makes the tables in an empty database.
@@ -49,25 +58,55 @@ fn laid_out<S: Alter>(conn: &mut Connection<S>) -> Result<bool, StoreFault>
     }
 }
 
-// Looks whether the layout's number is 1.
-fn numbered<S: Alter>(conn: &mut Connection<S>) -> Result<bool, StoreFault>
+// Looks whether this is the layout's number.
+fn numbered<S: Alter>(conn: &mut Connection<S>, number: u32) -> Result<bool, StoreFault>
     requires { conn.old.in_transaction ≡ false }
     ensures idle { conn.new.in_transaction ≡ false }
     ensures limit { conn.new.step_limit ≡ conn.old.step_limit }
-    ensures neither { IsLive (state S.Store conn.new)
-        → OnErr result ((state S.Store conn.new).now ≡ (state S.Store conn.old).now) }
+    ensures live { IsLive (state S.Store conn.new) → IsLive (state S.Store conn.old) }
+    ensures same { IsLive (state S.Store conn.new) → (state S.Store conn.new).now ≡ (state S.Store conn.old).now }
     ensures told { IfOk result (λ alone. IsTrue alone × (HasCleanDisk (state S.Store conn.new)
-        → TellsNumber (state S.Store conn.old) (state S.Store conn.new) alone)) }
+        → TellsNumber number (state S.Store conn.old) (state S.Store conn.new) alone)) }
 {
-    match has_number_1(conn) {
+    match has_number(conn, number) {
         Ok(true) => Ok(true),
         Ok(false) => Err(StoreFault::NotOurs),
         Err(error) => Err(fault_of(error)),
     }
 }
 
-// The same beside other tables: where none of the names is taken the tables are made, and else they have to be there.
-fn beside_others<S: Alter>(conn: &mut Connection<S>) -> Result<bool, StoreFault>
+// Brings a database of layout 1 to layout 2, with the reason of each broken release.
+fn brought_up<S: Alter>(alloc: Global, conn: &mut Connection<S>) -> Result<bool, StoreFault>
+    requires { conn.old.in_transaction ≡ false }
+    ensures idle { conn.new.in_transaction ≡ false }
+    ensures limit { conn.new.step_limit ≡ conn.old.step_limit }
+    ensures neither { IsLive (state S.Store conn.new)
+        → OnErr result ((state S.Store conn.new).now ≡ (state S.Store conn.old).now) }
+    ensures alone { IfOk result IsTrue }
+    ensures live { IsLive (state S.Store conn.new) → IsLive (state S.Store conn.old) }
+    ensures earlier { IfOk result (λ _. IsLive (state S.Store conn.new)
+        → (state S.Store conn.old).now.schema ≡ earlier_schema → IsEarlier (state S.Store conn.old).now) }
+    ensures moved { IfOk result (λ _. IsLive (state S.Store conn.new) → IsEarlier (state S.Store conn.old).now
+        → IsBroughtUp (state S.Store conn.old).now (state S.Store conn.new).now) }
+{
+    numbered(conn, 1)?;
+    let records = match read_unexplained(alloc, conn) {
+        Ok(Some(records)) => match reasoned(alloc, records) {
+            Ok(records) => records,
+            Err(_) => return Err(StoreFault::Memory),
+        },
+        Ok(None) => Vec::new(alloc),
+        Err(error) => return Err(fault_of(error)),
+    };
+    match upgrade(conn, &records) {
+        Ok(()) => Ok(true),
+        Err(error) => Err(fault_of(error)),
+    }
+}
+
+// The same beside other tables: where none of the names is taken the tables are made, and else those of a layout have to
+// be there.
+fn beside_others<S: Alter>(alloc: Global, conn: &mut Connection<S>) -> Result<bool, StoreFault>
     requires { conn.old.in_transaction ≡ false }
     ensures idle { conn.new.in_transaction ≡ false }
     ensures limit { conn.new.step_limit ≡ conn.old.step_limit }
@@ -77,12 +116,20 @@ fn beside_others<S: Alter>(conn: &mut Connection<S>) -> Result<bool, StoreFault>
     ensures together { IfOk result (λ _. TakesAllOrNone (state S.Store conn.old).now.schema) }
 {
     let schema = conn.schema();
-    if are_taken(schema, false) {
+    let has_reason = is_taken(schema, b"feed_reason");
+    if are_taken(schema, false) && !has_reason {
         laid_out(conn)?;
         return Ok(false);
     }
-    if are_taken(schema, true) && have_columns(schema) {
-        numbered(conn)?;
+    if !are_taken(schema, true) || !have_columns(schema) {
+        return Err(StoreFault::NotOurs);
+    }
+    if !has_reason {
+        brought_up(alloc, conn)?;
+        return Ok(false);
+    }
+    if has_table(schema, b"feed_reason", &REASON) {
+        numbered(conn, 2)?;
         return Ok(false);
     }
     Err(StoreFault::NotOurs)
@@ -105,7 +152,13 @@ const PIECE: [(&[u8], Kind); 3] = [
     (b"bytes", Kind::Blob),
 ];
 
-// Whether all three tables have their columns.
+const REASON: [(&[u8], Kind); 3] = [
+    (b"name", Kind::Text),
+    (b"reason", Kind::Integer),
+    (b"label", Kind::Integer),
+];
+
+// Whether the three tables of layout 1 have their columns.
 fn have_columns(schema: &Schema) -> bool {
     has_table(schema, b"feed_layout", &LAYOUT)
         && has_table(schema, b"feed_release", &RELEASE)
@@ -134,7 +187,7 @@ fn is_column(column: &Column, name: &[u8], kind: Kind) -> bool {
     column.is_strict && column.kind == kind && same_name(column.name.as_slice(), name)
 }
 
-// Whether each of the names of the tables is taken, or none of them is.
+// Whether each of the names of the tables of layout 1 is taken, or none of them is.
 fn are_taken(schema: &Schema, taken: bool) -> bool
     ensures { IsTrue result → AreTaken taken schema.now }
 {

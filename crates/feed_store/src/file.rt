@@ -31,7 +31,7 @@ impl<S: Start> SqlKeep<FileStore<FileFrom<S>>> {
         ensures fresh { IfOk result (λ keep. keep.1.0 ≡ 0) }
     {
         match Connection::open_from(rt, path, false, start) {
-            Ok(conn) => match SqlKeep::adopt(conn) {
+            Ok(conn) => match SqlKeep::adopt(rt.alloc(), conn) {
                 Ok(keep) => Ok(keep),
                 Err(fault) => Err(fault.cause),
             },

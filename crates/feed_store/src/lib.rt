@@ -4,7 +4,10 @@
 mod adopt;
 mod fault;
 mod file;
+mod laws;
+mod reasons;
 mod sql_keep;
 
 pub use fault::{AdoptFault, StoreFault};
+pub use laws::histories_stay;
 pub use sql_keep::SqlKeep;

@@ -41,8 +41,9 @@ impl<S: Alter> SqlKeep<S> {
     ghost use Rattle.feed_store.specs.Adopted.{IsAdopted, TakesAllOrNone};
 
     /// Takes over a connection that is in no transaction, and lifts its limit of steps. A database that has none of the
-    /// tables gets them; other tables beside them are left alone. A connection that is refused is handed back.
-    pub fn adopt(conn: Connection<S>) -> Result<SqlKeep<S>, AdoptFault<S>>
+    /// tables gets them; one of layout 1 is brought to layout 2, with the reason of each broken release, in one
+    /// transaction; other tables beside them are left alone. A connection that is refused is handed back.
+    pub fn adopt(alloc: Global, conn: Connection<S>) -> Result<SqlKeep<S>, AdoptFault<S>>
         requires { conn.in_transaction ≡ false }
         ensures adopted { IfOk result (λ keep.
             IsAdopted (state S.Store conn) (state S.Store keep.0) keep.1.1) }
@@ -56,7 +57,7 @@ impl<S: Alter> SqlKeep<S> {
     {
         let mut conn = conn;
         conn.set_step_limit(None);
-        match made_ready(&mut conn) {
+        match made_ready(alloc, &mut conn) {
             Ok(alone) => Ok(SqlKeep {
                 conn,
                 failures: 0,
@@ -158,7 +159,7 @@ impl SqlKeep<MemStore> {
         let Ok(conn) = Connection::open_in_memory(alloc) else {
             return Err(StoreFault::Memory);
         };
-        match SqlKeep::adopt(conn) {
+        match SqlKeep::adopt(alloc, conn) {
             Ok(keep) => Ok(keep),
             Err(fault) => Err(fault.cause),
         }

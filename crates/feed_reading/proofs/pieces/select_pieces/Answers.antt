@@ -1,9 +1,7 @@
 use Rattle.std.proofs.Common.{◌≢◌, rules, refl, sym, subst, arith, [], All}
-use Rattle.sqlite.specs.Given.{IsPlain}
 use Rattle.sqlite.specs.Held.{state}
-use Rattle.sqlite.specs.Listing.{understood}
 use Rattle.sqlite.specs.State.{HasCleanDisk, IsUnchanged}
-use Rattle.sqlite.proofs.Callers.{begun_plain, unchanged_then}
+use Rattle.sqlite.proofs.Callers.{unchanged_then}
 use Rattle.sqlite_rules.proofs.ListLemmas.{all_has}
 use Rattle.feed_names.specs.ReleaseName.{text_of}
 use Rattle.feed_keep.specs.Shown.{shown}
@@ -12,11 +10,11 @@ use Rattle.feed_rows.specs.Tables.{IsPieceRow, IsEarlierListed, text_in}
 use Rattle.feed_reading.specs.Texts.{pieces_text}
 use Rattle.feed_reading.specs.Pieces.{ArePieces}
 use Rattle.feed_reading.specs.Releases.{AreReleases}
-use Rattle.feed_reading.proofs.Answers.{pieces_plain}
+use Rattle.feed_reading.proofs.Answers.{pieces_read}
 use Rattle.feed_reading.proofs.GivenRows.{pieces_none}
 use Rattle.feed_reading.proofs.Parents.{no_orphan}
 use Rattle.feed_rows.proofs.Ours.{tables_in}
-use Rattle.feed_reading.proofs.Streams.{begun_open, refused_leaves}
+use Rattle.feed_reading.proofs.Streams.{begun_open, begun_same, refused_leaves}
 use Rattle.feed_reading.proofs.Selected.{are_pieces, given_stands}
 use Rattle.feed_reading.proofs.pieces.select_pieces.Goals as goal
 
@@ -32,12 +30,11 @@ rows-init g c =
       lent = refl;
       idle = made.mode;
       live = λ live. (omega (arith, made.survives.clean, live.0), begun_open g.S.Store pieces_text old new (made.begun live.0));
+      limit = made.survives.limit;
       ids = refl;
       names = refl;
-      read = λ has clean.
-          let there = tables_in (state g.S.Store old).now has in
-          let plain : IsPlain (understood old.schema pieces_text) = subst (λ k. IsPlain (understood k pieces_text)) (sym there.schema) (pieces_plain there.more there.keys) in
-          let begun = begun_plain g.S.Store pieces_text [] old new plain (made.begun clean) in
+      read = λ clean.
+          let begun = begun_same g.S.Store pieces_text old new pieces_read (made.begun clean) in
           record { rows = []; given = begun.0; same = begun.1; known = pieces_none _ _ c.new-ids.ensures.items };
     }
 
@@ -49,7 +46,7 @@ returns-in_default-clause-read g c live tabled =
     let end = state g.S.Store c.next.follows.lender-at-none.conn.now in
     let moved = c.next.follows.holds-at-none in
     let late : HasCleanDisk end = search rules in
-    let read = c.rows.invariant.read tabled (omega (arith, moved.survives.clean, late)) in
+    let read = c.rows.invariant.read (omega (arith, moved.survives.clean, late)) in
     let whole = (rw (c.in_ok-row.was, c.in_default.is) at (moved.ok late)) pieces_text [] read.rows read.given in
     let step : IsUnchanged mid end = rw c.in_ok-row.was at (moved.same late) in
     let same : IsUnchanged old end = unchanged_then old mid end read.same step in
@@ -67,7 +64,7 @@ returns-then-not-branch-clause-read g c live tabled =
     let row = c.in-Some.row.now in
     let moved = c.next.follows.holds-at-none in
     let late : HasCleanDisk end = search rules in
-    let read = c.rows.invariant.read tabled (omega (arith, moved.survives.clean, late)) in
+    let read = c.rows.invariant.read (omega (arith, moved.survives.clean, late)) in
     let given = (rw (c.in_ok-row.was, c.in-Some.is) at (moved.ok late)) pieces_text [] read.rows read.given in
     let step : IsUnchanged mid end = rw c.in_ok-row.was at (moved.same late) in
     let same : IsUnchanged old end = unchanged_then old mid end read.same step in

@@ -10,19 +10,8 @@ use Rattle.feed_reading.proofs.Explaining.{told_listed, told_order, told_records
 use Rattle.feed_reading.proofs.reading.read_records.Goals as goal
 use Rattle.feed_reading.proofs.reading.read_records.Goals.{After-explained}
 
-pub returns-in_err-records-clause-same : goal.returns-in_err-records-clause-same
-returns-in_err-records-clause-same g c live ours = c.read_unexplained.ensures.same live (tabled_ours _ ours)
-
-pub returns-in-None-clause-same : goal.returns-in-None-clause-same
-returns-in-None-clause-same g c live ours = c.read_unexplained.ensures.same live (tabled_ours _ ours)
-
 pub returns-in-None-clause-listed : goal.returns-in-None-clause-listed
 returns-in-None-clause-listed g c live ours are = (rw c.in-None.is at (c.in_ok-records.ensures.listed live (tabled_ours _ ours))) are.rows
-
-pub returns-in-Some-clause-same : goal.returns-in-Some-clause-same
-returns-in-Some-clause-same g c live ours =
-    let first = c.read_unexplained.ensures.same (c.explained.ensures.live live) (tabled_ours _ ours) in
-    c.explained.ensures.same live (subst IsOurs (sym first) ours) ∙ first
 
 pub returns-in-Some-clause-order : goal.returns-in-Some-clause-order
 returns-in-Some-clause-order g c =
@@ -33,7 +22,7 @@ returns-in-Some-clause-records g c live ours =
     let db = (state g.S.Store c.args.conn.now).now in
     let early = c.explained.ensures.live live in
     let has = tabled_ours db ours in
-    let first = c.read_unexplained.ensures.same early has in
+    let first = c.read_unexplained.ensures.same early in
     let rows : IsEarlierListed db = rw c.in-Some.is at (c.in_ok-records.ensures.listed early has) in
     let content : shown c.in-Some.records.items ≡ earlier_content_of db = rw c.in-Some.is at (c.in_ok-records.ensures.records early has) in
     let told = c.explained.ensures.told live (subst IsOurs (sym first) ours) (subst IsEarlierListed (sym first) rows) (content ∙ ap earlier_content_of (sym first)) in
@@ -44,7 +33,7 @@ returns-in-Some-clause-listed g c live ours =
     let db = (state g.S.Store c.args.conn.now).now in
     let early = c.explained.ensures.live live in
     let has = tabled_ours db ours in
-    let first = c.read_unexplained.ensures.same early has in
+    let first = c.read_unexplained.ensures.same early in
     let rows : IsEarlierListed db = rw c.in-Some.is at (c.in_ok-records.ensures.listed early has) in
     let content : shown c.in-Some.records.items ≡ earlier_content_of db = rw c.in-Some.is at (c.in_ok-records.ensures.records early has) in
     let told = c.explained.ensures.told live (subst IsOurs (sym first) ours) (subst IsEarlierListed (sym first) rows) (content ∙ ap earlier_content_of (sym first)) in

@@ -1,9 +1,7 @@
 use Rattle.std.proofs.Common.{◌≡◌, ◌≢◌, ◌∙◌, ap, rules, refl, sym, subst, arith, [], All}
-use Rattle.sqlite.specs.Given.{IsPlain}
 use Rattle.sqlite.specs.Held.{state}
-use Rattle.sqlite.specs.Listing.{understood}
 use Rattle.sqlite.specs.State.{HasCleanDisk, IsUnchanged}
-use Rattle.sqlite.proofs.Callers.{begun_plain, unchanged_then}
+use Rattle.sqlite.proofs.Callers.{unchanged_then}
 use Rattle.sqlite_rules.proofs.ListLemmas.{all_has}
 use Rattle.feed_names.specs.ReleaseName.{text_of}
 use Rattle.feed_model.specs.Content.{names}
@@ -12,14 +10,14 @@ use Rattle.feed_keep.specs.declared.record.Record.{Record}
 use Rattle.feed_rows.specs.Tables.{IsReasonRow, IsListed, earlier_content_of, text_in}
 use Rattle.feed_reading.specs.Texts.{reasons_text}
 use Rattle.feed_reading.specs.Reasons.{AreReasonsOf}
-use Rattle.feed_reading.proofs.ReasonAnswers.{are_reasons, given_reason, no_lone_reason, reasons_plain}
+use Rattle.feed_reading.proofs.ReasonAnswers.{are_reasons, given_reason, no_lone_reason, reasons_read}
 use Rattle.feed_reading.proofs.GivenReasons.{reasons_none}
-use Rattle.feed_reading.proofs.Streams.{begun_open, refused_leaves_ours}
+use Rattle.feed_reading.proofs.Streams.{begun_open, begun_same, refused_leaves}
 use Rattle.feed_reading.proofs.reasons.select_reasons.Goals as goal
 
 pub returns-in_err-rows-clause-leaves : goal.returns-in_err-rows-clause-leaves
 returns-in_err-rows-clause-leaves g c =
-    refused_leaves_ours g.S.Store reasons_text c.args.conn.now c.query.follows.lender-at-none c.query.result _ c.in_err-rows.was c.query.follows.holds-at-none
+    refused_leaves g.S.Store reasons_text c.args.conn.now c.query.follows.lender-at-none c.query.result _ c.in_err-rows.was c.query.follows.holds-at-none
 
 pub rows-init : goal.rows-init
 rows-init g c =
@@ -29,11 +27,11 @@ rows-init g c =
       lent = refl;
       idle = made.mode;
       live = λ live. (omega (arith, made.survives.clean, live.0), begun_open g.S.Store reasons_text old new (made.begun live.0));
+      limit = made.survives.limit;
       names = refl;
       parts = refl;
-      read = λ has clean.
-          let plain : IsPlain (understood old.schema reasons_text) = subst (λ k. IsPlain (understood k reasons_text)) (sym has) reasons_plain in
-          let begun = begun_plain g.S.Store reasons_text [] old new plain (made.begun clean) in
+      read = λ clean.
+          let begun = begun_same g.S.Store reasons_text old new reasons_read (made.begun clean) in
           record { rows = []; given = begun.0; same = begun.1; known = reasons_none _ _ c.new-ids.ensures.items };
     }
 
@@ -44,7 +42,7 @@ returns-in_default-clause-read g c live ours =
     let end = state g.S.Store c.next.follows.lender-at-none.conn.now in
     let moved = c.next.follows.holds-at-none in
     let late : HasCleanDisk end = search rules in
-    let read = c.rows.invariant.read ours.schema (omega (arith, moved.survives.clean, late)) in
+    let read = c.rows.invariant.read (omega (arith, moved.survives.clean, late)) in
     let whole = (rw (c.in_ok-row.was, c.in_default.is) at (moved.ok late)) reasons_text [] read.rows read.given in
     let step : IsUnchanged mid end = rw c.in_ok-row.was at (moved.same late) in
     let same : IsUnchanged old end = unchanged_then old mid end read.same step in
@@ -61,7 +59,7 @@ returns-then-not-branch-clause-read g c live ours =
     let row = c.in-Some.row.now in
     let moved = c.next.follows.holds-at-none in
     let late : HasCleanDisk end = search rules in
-    let read = c.rows.invariant.read ours.schema (omega (arith, moved.survives.clean, late)) in
+    let read = c.rows.invariant.read (omega (arith, moved.survives.clean, late)) in
     let given = (rw (c.in_ok-row.was, c.in-Some.is) at (moved.ok late)) reasons_text [] read.rows read.given in
     let step : IsUnchanged mid end = rw c.in_ok-row.was at (moved.same late) in
     let same : IsUnchanged old end = unchanged_then old mid end read.same step in

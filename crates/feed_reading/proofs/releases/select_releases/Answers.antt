@@ -1,16 +1,14 @@
 use Rattle.std.proofs.Common.{rules, refl, sym, subst, arith, []}
-use Rattle.sqlite.specs.Given.{IsPlain}
 use Rattle.sqlite.specs.Held.{state}
-use Rattle.sqlite.specs.Listing.{understood}
 use Rattle.sqlite.specs.State.{HasCleanDisk, IsUnchanged}
-use Rattle.sqlite.proofs.Callers.{begun_plain, unchanged_then}
+use Rattle.sqlite.proofs.Callers.{unchanged_then}
 use Rattle.feed_rows.specs.Tables.{IsReleaseRow, IsEarlierListed}
 use Rattle.feed_reading.specs.Texts.{releases_text}
 use Rattle.feed_reading.specs.Releases.{AreReleases}
-use Rattle.feed_reading.proofs.Answers.{releases_plain}
+use Rattle.feed_reading.proofs.Answers.{releases_read}
 use Rattle.feed_reading.proofs.More.{show_none}
 use Rattle.feed_rows.proofs.Ours.{tables_in}
-use Rattle.feed_reading.proofs.Streams.{begun_open, refused_leaves}
+use Rattle.feed_reading.proofs.Streams.{begun_open, begun_same, refused_leaves}
 use Rattle.feed_reading.proofs.Selected.{are_releases, given_listed}
 use Rattle.feed_reading.proofs.releases.select_releases.Goals as goal
 
@@ -26,10 +24,9 @@ rows-init g c =
       lent = refl;
       idle = made.mode;
       live = λ live. (omega (arith, made.survives.clean, live.0), begun_open g.S.Store releases_text old new (made.begun live.0));
-      read = λ has clean.
-          let there = tables_in (state g.S.Store old).now has in
-          let plain : IsPlain (understood old.schema releases_text) = subst (λ k. IsPlain (understood k releases_text)) (sym there.schema) (releases_plain there.more there.keys) in
-          let begun = begun_plain g.S.Store releases_text [] old new plain (made.begun clean) in
+      limit = made.survives.limit;
+      read = λ clean.
+          let begun = begun_same g.S.Store releases_text old new releases_read (made.begun clean) in
           record { rows = []; given = begun.0; same = begun.1; known = show_none _ c.new.ensures.items c.new-2.ensures.items };
     }
 
@@ -41,7 +38,7 @@ returns-in_default-clause-read g c live tabled =
     let end = state g.S.Store c.next.follows.lender-at-none.conn.now in
     let moved = c.next.follows.holds-at-none in
     let late : HasCleanDisk end = search rules in
-    let read = c.rows.invariant.read tabled (omega (arith, moved.survives.clean, late)) in
+    let read = c.rows.invariant.read (omega (arith, moved.survives.clean, late)) in
     let shown = (rw (c.in_ok-row.was, c.in_default.is) at (moved.ok late)) releases_text [] read.rows read.given in
     let step : IsUnchanged mid end = rw c.in_ok-row.was at (moved.same late) in
     let same : IsUnchanged old end = unchanged_then old mid end read.same step in
@@ -57,7 +54,7 @@ returns-then-not-branch-clause-read g c live tabled =
     let end = state g.S.Store now in
     let moved = c.next.follows.holds-at-none in
     let late : HasCleanDisk end = search rules in
-    let read = c.rows.invariant.read tabled (omega (arith, moved.survives.clean, late)) in
+    let read = c.rows.invariant.read (omega (arith, moved.survives.clean, late)) in
     let given = (rw (c.in_ok-row.was, c.in-Some.is) at (moved.ok late)) releases_text [] read.rows read.given in
     let step : IsUnchanged mid end = rw c.in_ok-row.was at (moved.same late) in
     let same : IsUnchanged old end = unchanged_then old mid end read.same step in

@@ -1,7 +1,6 @@
 use Rattle.std.proofs.Common.{◌≡◌, false}
 use Rattle.sqlite.specs.State.{HasCleanDisk}
 use Rattle.sqlite.specs.Held.{state}
-use Rattle.feed_rows.specs.Tables.{IsTabled}
 use Rattle.feed_rows.specs.Live.{IsLive}
 use Rattle.feed_reading.specs.Texts.{releases_text}
 use Rattle.feed_reading.proofs.Streams.{HasRead}
@@ -15,5 +14,6 @@ invariant-rows g l =
       lent : l.rows.conn.ghost_name ≡ l.initial.rows.conn.ghost_name;
       idle : l.fn.conn.in_transaction ≡ false → l.rows.conn.now.in_transaction ≡ false;
       live : IsLive now → IsLive old;
-      read : IsTabled old.now → HasCleanDisk now → HasRead g.S.Store releases_text (λ rows. ShowReleases rows l.found) l.fn.conn l.rows.conn.now;
+      limit : now.step_limit ≡ old.step_limit;
+      read : HasCleanDisk now → HasRead g.S.Store releases_text (λ rows. ShowReleases rows l.found) l.fn.conn l.rows.conn.now;
     }

@@ -1,0 +1,77 @@
+-- Records and the reasons that they get.
+use Rattle.std.proofs.Common.{◌≡◌, Bool, true, false, cond, if◌then◌else◌, List, [], ◌∷◌, ◌++◌, Option, Some, None, refl, sym, ap, subst, ◌∙◌}
+use Rattle.std.specs.List.{AllByRecursion, IsDistinct}
+use Rattle.std.proofs.lemmas.Map.Keys.{IsDistinct-head, IsDistinct-tail}
+use Rattle.sqlite.specs.Effect.{Database}
+use Rattle.feed_names.specs.ReleaseName.{Name, name_eq}
+use Rattle.feed_kbart.specs.declared.fault.BadFile.{BadFile}
+use Rattle.feed_model.specs.declared.state.State.{State}
+use Rattle.feed_model.specs.declared.state.State.TheVariants.{Staged, Broken, Active}
+use Rattle.feed_model.specs.Content.{Content, Record, names}
+use Rattle.feed_model.specs.Change.{changed}
+use Rattle.feed_model.proofs.Names.{name_self}
+use Rattle.feed_rows.specs.Records.{with_reason}
+use Rattle.feed_rows.specs.Tables.{earlier_content_of}
+use Rattle.feed_rows.proofs.Explained.{all_records}
+use Rattle.feed_rows.proofs.Stored.{stored}
+use Rattle.feed_statements.specs.Upgrading.{AreStored, IsStoredIf, explain, explain_by, explained_with}
+use Rattle.feed_store.specs.Upgraded.{AreReasoned, IsReasonOf, IsReasoned}
+
+-- one record more
+pub reasoned_more : (c d : Content) (r s : Record) → AreReasoned c d → IsReasoned r s → AreReasoned (c ++ r ∷ []) (d ++ s ∷ [])
+reasoned_more [] [] r s all one = (one, tt)
+reasoned_more [] (y ∷ ys) r s all one = absurd all
+reasoned_more (x ∷ xs) [] r s all one = absurd all
+reasoned_more (x ∷ xs) (y ∷ ys) r s all one = (all.0, reasoned_more xs ys r s all.1 one)
+
+pub reasoned_names : (c d : Content) → AreReasoned c d → names d ≡ names c
+reasoned_names [] [] all = refl
+reasoned_names [] (s ∷ ss) all = absurd all
+reasoned_names (r ∷ rs) [] all = absurd all
+reasoned_names (r ∷ rs) (s ∷ ss) all = rw (ap (λ (x : Record). x.name) all.0.2, reasoned_names rs ss all.1) refl
+
+-- the reason of a file can be stored
+reason_stored : (state : State) (r : Record) (o : Option BadFile) → IsReasonOf state r o → IsStoredIf o
+reason_stored Broken r (Some why) bad = stored bad.1 why bad.3
+reason_stored Broken r None bad = tt
+reason_stored Staged r o none = rw none tt
+reason_stored Active r o none = rw none tt
+
+pub all_stored : (c d : Content) → AreReasoned c d → AreStored d
+all_stored [] [] all = tt
+all_stored [] (s ∷ ss) all = absurd all
+all_stored (r ∷ rs) [] all = absurd all
+all_stored (r ∷ rs) (s ∷ ss) all =
+    (subst IsStoredIf (sym (ap (λ (x : Record). x.reason) all.0.2)) (reason_stored r.state r all.0.0 all.0.1), all_stored rs ss all.1)
+
+-- the reasons of other names leave a record as it is
+passed : (s : Record) (ds c : Content) → AllByRecursion (λ n. name_eq s.name n ≡ false) (names ds) → explained_with ds (s ∷ c) ≡ s ∷ explained_with ds c
+passed s [] c apart = refl
+passed s (d ∷ ds) c apart = ap (explained_with ds) (by d.reason) ∙ passed s ds (explain d c) apart.1
+  where
+    by : (o : Option BadFile) → explain_by d.name o (s ∷ c) ≡ s ∷ explain_by d.name o c
+    by None = refl
+    by (Some why) = rw apart.0 refl
+
+-- a record in front gets its reason
+fronted : (r : Record) (rs : Content) (o : Option BadFile) → r.reason ≡ None → explain_by r.name o (r ∷ rs) ≡ (let x : Record = record r { reason = o } in x) ∷ rs
+fronted r rs None bare = ap (λ (o : Option BadFile). let x : Record = record r { reason = o } in x ∷ rs) bare
+fronted r rs (Some why) bare = rw (name_self r.name) refl
+
+-- records that had no reason, with the reasons of these, are these
+with_all : (c d : Content) → AreReasoned c d → IsDistinct name_eq (names c) → AllByRecursion (λ r. r.reason ≡ None) c → explained_with d c ≡ d
+with_all [] [] all apart bare = refl
+with_all [] (s ∷ ss) all apart bare = absurd all
+with_all (r ∷ rs) [] all apart bare = absurd all
+with_all (r ∷ rs) (s ∷ ss) all apart bare =
+    let is : s ≡ record r { reason = all.0.0 } = all.0.2 in
+    let first : explain s (r ∷ rs) ≡ s ∷ rs = rw is (fronted r rs all.0.0 bare.0) in
+    let others : AllByRecursion (λ n. name_eq s.name n ≡ false) (names ss) = subst (λ (x : Record). AllByRecursion (λ n. name_eq x.name n ≡ false) (names ss)) (sym is)
+        (subst (AllByRecursion (λ n. name_eq r.name n ≡ false)) (sym (reasoned_names rs ss all.1)) (IsDistinct-head name_eq r.name (names rs) apart)) in
+    ap (explained_with ss) first ∙ passed s ss rs others
+    ∙ ap (λ (x : Content). s ∷ x) (with_all rs ss all.1 (IsDistinct-tail name_eq r.name (names rs) apart) bare.1)
+
+-- the content of a database of layout 1, with the reasons that its records get, is just these records
+pub all_explained : (db : Database) (d : Content) → AreReasoned (earlier_content_of db) d → IsDistinct name_eq (names (earlier_content_of db))
+    → explained_with d (earlier_content_of db) ≡ d
+all_explained db d all apart = with_all (earlier_content_of db) d all apart (all_records (λ r. r.reason ≡ None) (db.trees 3) (db.trees 1) (λ r h. refl))

@@ -1,0 +1,18 @@
+// What a database of layout 1 means when it is one of layout 2.
+ghost use Rattle.feed_model.specs.Content.{IsContent};
+ghost use Rattle.feed_model.specs.Earlier.{IsEarlierContent, without_refused};
+ghost use Rattle.feed_model.specs.History.{History};
+ghost use Rattle.feed_rows.specs.Tables.{IsEarlierListed, content_of, earlier_content_of};
+ghost use Rattle.feed_store.specs.Upgraded.{IsBroughtUp};
+ghost use Rattle.sqlite.specs.Effect.{Database};
+
+use feed_model::contents_move;
+
+/// The content of a database that is brought up is one of the same histories, but for the offers that were refused as
+/// too large. What is reported and answered is then the same, by `reports_stay` and `answers_stay`.
+pub fn histories_stay()
+    ensures { (old new : Database) (h : History) → IsEarlierListed old → IsEarlierContent (earlier_content_of old) h
+        → IsBroughtUp old new → IsContent (content_of new) (without_refused h) }
+{
+    contents_move();
+}
