@@ -2,8 +2,8 @@
 use crate::told::{Events, File, Told, printed};
 use feed_core::State;
 use feed_samples::{
-    FEBRUARY, HEADER, HEADER_WITHOUT_URL, JANUARY, MARCH, WITHOUT_URL, broken_record_of, content_of,
-    february_file, january_file, listed, record_of,
+    FEBRUARY, HEADER, HEADER_WITHOUT_URL, JANUARY, MARCH, WITHOUT_URL, broken_record_of,
+    content_of, february_file, january_file, listed, record_of,
 };
 use feed_store::SqlKeep;
 use sqlite::MemStore;

@@ -1,15 +1,14 @@
 -- What the reader says of the file of a record.
-use Rattle.std.proofs.Common.{◌≡◌, ◌<◌, ◌≤◌, ℕ, List, length, Option, Some, None, Result, Ok, Err, refl, sym, ◌∙◌, ap, arith}
+use Rattle.std.proofs.Common.{◌≡◌, ℕ, List, Some, None, Ok, Err, refl, sym, ◌∙◌, ap, arith}
 use Rattle.feed_kbart.specs.HoldingsValue.{HoldingsValue}
 use Rattle.feed_kbart.specs.Files.{IsReadOf, bad_of}
 use Rattle.feed_kbart.specs.declared.fault.BadFile.{BadFile}
 use Rattle.feed_kbart.specs.declared.fault.KbartFault.TheVariants.{Bad, TooLong}
-use Rattle.feed_limits.specs.Limits.{file_limit}
 use Rattle.feed_model.specs.File.{fault_of}
 use Rattle.feed_model.specs.Content.{Part, Record, IsText}
 use Rattle.feed_model.proofs.Tests.{same_at}
 use Rattle.feed_parts.specs.Segments.{IsFull}
-use Rattle.feed_keep.specs.BadFile.{HasFile, IsBadOf}
+use Rattle.feed_keep.specs.BadFile.{IsBadOf}
 
 pub fault_is : (text : List ℕ) → fault_of text ≡ bad_of text
 unfolding fault_of

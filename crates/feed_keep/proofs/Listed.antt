@@ -2,7 +2,7 @@
 use Rattle.std.specs.List.{IsDistinct}
 use Rattle.feed_names.specs.ReleaseName.{name_eq}
 use Rattle.feed_model.specs.Content.{Content, names}
-use Rattle.feed_model.specs.declared.state.State.TheVariants.{Staged, Broken, Active}
+use Rattle.feed_model.specs.declared.state.State.TheVariants.{Staged, Active}
 use Rattle.feed_model.specs.Change.{Change, Add, Pieces, Break, Activate, IsAllowed, after, broken_with, changed, grown, new_record}
 use Rattle.feed_model.proofs.Distinct.{distinct-changed, distinct-insert_record, distinct-without_earlier}
 use Rattle.std.proofs.Common.{refl}

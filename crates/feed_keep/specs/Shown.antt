@@ -1,7 +1,7 @@
 -- The code's values, without where they lie in memory.
 use Rattle.std.specs.Prelude.{◌≡◌, ◌<◌, ℕ, true, false, List, map, length, slice_index_or}
 use Rattle.feed_names.specs.ReleaseName.{Name, name_eq}
-use Rattle.feed_model.specs.Content.{Part, Record, Content}
+use Rattle.feed_model.specs.Content.{Record, Content}
 use Rattle.feed_model.specs.Change.{Change, Add, Pieces, Break, Activate}
 use Rattle.feed_parts.specs.Shown.{shown_parts}
 use Rattle.feed_keep.specs.declared.record.Record as code_record

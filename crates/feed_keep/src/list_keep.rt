@@ -86,7 +86,14 @@ impl Keep for ListKeep {
         let done = match change {
             Change::Add { name, size } => add(self.alloc, &mut self.records, name, *size),
             Change::Pieces { name, parts } => {
-                grow(self.alloc, &mut self.records, name, parts, State::Staged, None)
+                grow(
+                    self.alloc,
+                    &mut self.records,
+                    name,
+                    parts,
+                    State::Staged,
+                    None,
+                )
             }
             Change::Break {
                 name,
@@ -94,7 +101,14 @@ impl Keep for ListKeep {
                 reason,
             } => {
                 let reason = Some(*reason);
-                grow(self.alloc, &mut self.records, name, parts, State::Broken, reason)
+                grow(
+                    self.alloc,
+                    &mut self.records,
+                    name,
+                    parts,
+                    State::Broken,
+                    reason,
+                )
             }
             Change::Activate { name, parts } => {
                 activate(self.alloc, &mut self.records, name, parts)

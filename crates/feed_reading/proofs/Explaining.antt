@@ -1,5 +1,5 @@
 -- The content with its reasons, from what the selection of the reasons shows.
-use Rattle.std.proofs.Common.{◌≡◌, ℤ, ℕ, List, [], ◌∷◌, map, Option, Some, None, Result, Ok, Err, IfOk, IfSome, MatchOption, All, refl, sym, ap, subst, ◌∙◌}
+use Rattle.std.proofs.Common.{◌≡◌, ℤ, List, [], ◌∷◌, map, Option, Some, None, Result, Ok, Err, IfOk, IfSome, MatchOption, All, refl, sym, ap, subst, ◌∙◌}
 use Rattle.std.specs.Prelude.{Vec}
 use Rattle.std.specs.declared.alloc.Global.{Global}
 use Rattle.std.proofs.lemmas.List.Elements.{All-cons, All-head, All-nil, All-tail}
@@ -18,7 +18,7 @@ use Rattle.feed_keep.specs.declared.record.Record as code
 use Rattle.feed_keep.specs.Shown.{shown}
 use Rattle.feed_keep.specs.Order.{AreNamesInOrder, ArePartsInOrder, IsInOrder}
 use Rattle.feed_reading.specs.Selected.{Explains}
-use Rattle.feed_rows.specs.Tables.{AreReasons, IsListed, IsOurs, IsReasonRow, content_of, earlier_content_of, explained, reason_in, same_id}
+use Rattle.feed_rows.specs.Tables.{AreReasons, IsListed, IsOurs, IsReasonRow, content_of, earlier_content_of, explained, reason_in}
 use Rattle.feed_rows.proofs.Contents.{texted_reasons}
 use Rattle.feed_rows.proofs.Explained.{all_records, explained_same, reason_moved}
 use Rattle.feed_rows.proofs.Unique.{distinct_reasons}

@@ -1,22 +1,19 @@
 -- What the selection of the reasons says of its table.
-use Rattle.std.proofs.Common.{◌≡◌, ◌≢◌, ◌++◌, ℕ, ℤ, Bool, if◌then◌else◌, true, false, List, [], ◌∷◌, map, filter, length, codes, All, IfOk, IsPermutation, refl, sym, ap, subst, ◌∙◌, arith}
-use Rattle.std.specs.List.{AllByRecursion, list_any}
+use Rattle.std.proofs.Common.{◌≡◌, ◌≢◌, ◌++◌, ℕ, ℤ, Bool, if◌then◌else◌, true, false, List, [], ◌∷◌, map, codes, All, IfOk, IsPermutation, refl, sym, ap, subst, ◌∙◌}
+use Rattle.std.specs.List.{AllByRecursion}
 use Rattle.std.specs.Cmp.Lexicographic.{bytes_decides}
 use Rattle.sqlite_value.specs.declared.value.Value.TheVariants.{Null}
 use Rattle.sqlite_value.specs.Order.{Row}
-use Rattle.sqlite_value.specs.declared.keys.Key.{Key}
 use Rattle.sqlite_tied.specs.Compute.{everything}
 use Rattle.sqlite_sql.specs.Query.{IsAnswer}
 use Rattle.sqlite_sql.specs.Program.{overlay}
-use Rattle.sqlite_sql.specs.Term.{Term, col, eval_all}
-use Rattle.sqlite_trees.specs.Tree.{Trees}
+use Rattle.sqlite_sql.specs.Term.{eval_all}
 use Rattle.sqlite_trees.specs.declared.store.Store as store
-use Rattle.sqlite_trees.proofs.ListLemmas.{all-permutation}
 use Rattle.sqlite_schema.specs.declared.schema.Constraint.TheVariants.{ForeignKey}
 use Rattle.sqlite_schema.specs.Rules.{agree, passes}
 use Rattle.sqlite_value.specs.Keys.{plain}
 use Rattle.sqlite_rules.specs.Lists.{Has}
-use Rattle.sqlite_rules.proofs.ListLemmas.{all_has, all_from, some_has}
+use Rattle.sqlite_rules.proofs.ListLemmas.{all_has, some_has}
 use Rattle.sqlite_schema.specs.declared.command.Command.TheVariants.{Select}
 use Rattle.sqlite_resolve.specs.Compile.{first}
 use Rattle.sqlite.specs.Listing.{understood, reads_listing}

@@ -12,12 +12,12 @@ use Rattle.sqlite_rules.proofs.ListLemmas.{all_has}
 use Rattle.sqlite.specs.Effect.{Database}
 use Rattle.feed_names.specs.ReleaseName.{Name, IsName, text_of, name_eq}
 use Rattle.feed_kbart.specs.declared.fault.BadFile.{BadFile}
-use Rattle.feed_model.specs.Content.{Record, Content, names}
+use Rattle.feed_model.specs.Content.{Record, Content}
 use Rattle.feed_model.specs.Change.{changed}
 use Rattle.feed_model.proofs.Names.{name_is, name_self}
 use Rattle.feed_rows.specs.Layout.{reason}
 use Rattle.feed_rows.specs.Records.{with_reason}
-use Rattle.feed_rows.specs.Tables.{reason_row, IsReleaseRow, IsReasonRow, AreReasons, IsChanged, IsEarlierListed, IsListed, IsOurs, name_in, is_of, record_in}
+use Rattle.feed_rows.specs.Tables.{reason_row, IsReleaseRow, IsReasonRow, AreReasons, IsChanged, IsEarlierListed, IsListed, IsOurs, is_of, record_in}
 use Rattle.feed_rows.specs.Tables.{reason_at, reason_in, explained_by, explained, earlier_content_of, content_of}
 use Rattle.feed_rows.proofs.Basics.{same_test, zero_five, one_five, three_five}
 use Rattle.feed_rows.proofs.Unique.{same_texts, distinct_texts, distinct_reasons}

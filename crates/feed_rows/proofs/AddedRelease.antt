@@ -11,7 +11,6 @@ use Rattle.sqlite_trees.specs.Tree.{Trees, put_row, rowid}
 use Rattle.sqlite_trees.proofs.TreeLemmas.{all-put_row}
 use Rattle.sqlite_schema.specs.declared.schema.Constraint.TheVariants.{ForeignKey}
 use Rattle.sqlite_schema.specs.Rules.{passes, agree}
-use Rattle.sqlite_rules.specs.Lists.{Has}
 use Rattle.sqlite_rules.specs.Edit.{is_taken, id_in, next_rowid}
 use Rattle.sqlite_rules.proofs.ListLemmas.{all_has, all_from, some_has}
 use Rattle.sqlite_catalog.specs.Listing.{IsSound}

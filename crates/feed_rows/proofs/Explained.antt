@@ -1,5 +1,5 @@
 -- The content with its reasons, where rows are put, left or changed.
-use Rattle.std.proofs.Common.{◌≡◌, ◌⊎◌, inl, inr, ℕ, List, [], ◌∷◌, map, filter, Bool, true, false, cond, not, Option, Some, None, if◌then◌else◌}
+use Rattle.std.proofs.Common.{◌≡◌, ◌⊎◌, inl, inr, ℕ, List, [], ◌∷◌, map, filter, Bool, true, false, cond, not, Option, None, if◌then◌else◌}
 use Rattle.std.proofs.Common.{IsPermutation, length, refl, sym, ap, subst, ◌∙◌, arith}
 use Rattle.std.specs.List.{AllByRecursion, IsDistinct}
 use Rattle.std.specs.Cmp.Lexicographic.{bytes_decides}
@@ -8,8 +8,8 @@ use Rattle.std.proofs.lemmas.List.Sorted.{length_permutation}
 use Rattle.sqlite.proofs.Callers.{one_permutation}
 use Rattle.sqlite_trees.proofs.ListLemmas.{filter-filter, IsPermutation-filter}
 use Rattle.sqlite_rules.specs.Lists.{Has}
-use Rattle.sqlite_rules.proofs.ListLemmas.{all_has, all_from, some_has, has_filtered}
-use Rattle.feed_names.specs.ReleaseName.{Name, IsName, text_of, name_eq}
+use Rattle.sqlite_rules.proofs.ListLemmas.{all_has, some_has, has_filtered}
+use Rattle.feed_names.specs.ReleaseName.{Name, text_of, name_eq}
 use Rattle.feed_kbart.specs.declared.fault.BadFile.{BadFile}
 use Rattle.feed_model.specs.Content.{Record, Content, names}
 use Rattle.feed_model.specs.Change.{changed, comes_before, insert_record, is_earlier, without_earlier}

@@ -1,5 +1,5 @@
 -- The rows that a removal leaves, of the releases, of their parts and of their reasons.
-use Rattle.std.proofs.Common.{◌≡◌, ◌⊎◌, inl, inr, ◌==◌, ◌||◌, ◌&&◌, ℤ, List, [], ◌∷◌, map, filter, Bool, true, false}
+use Rattle.std.proofs.Common.{◌≡◌, inl, inr, ◌==◌, ◌||◌, ◌&&◌, ℤ, List, [], ◌∷◌, map, filter, Bool, true, false}
 use Rattle.std.proofs.Common.{cond, not, IsPermutation, refl, sym, ap, subst, ◌∙◌}
 use Rattle.std.specs.List.{AllByRecursion, IsDistinct, list_any}
 use Rattle.std.specs.Ordering.{is_eq}
@@ -15,16 +15,14 @@ use Rattle.sqlite_value.specs.Keys.{plain, first_key}
 use Rattle.sqlite_tied.specs.Compute.{everything}
 use Rattle.sqlite_value.proofs.OrderLemmas.{value_cmp_total}
 use Rattle.sqlite_trees.specs.Tree.{Trees, rowid, has_rowid}
-use Rattle.sqlite_schema.specs.declared.schema.Keys.TheVariants.{Enforced}
 use Rattle.sqlite_schema.specs.declared.schema.Table.{Table}
 use Rattle.sqlite_schema.specs.Rules.{agree, equal}
 use Rattle.sqlite_sql.specs.Ops.{binary}
-use Rattle.sqlite_rules.specs.declared.error.Rowids.TheVariants.{Given}
 use Rattle.sqlite_rules.specs.Lists.{Has}
-use Rattle.sqlite_rules.specs.Edit.{edit_of, id_in, without_all, row_at, Applies}
+use Rattle.sqlite_rules.specs.Edit.{id_in, without_all, row_at}
 use Rattle.sqlite_rules.specs.Action.{pairs, loses, is_child_of, AreChildren}
 use Rattle.sqlite_rules.proofs.ListLemmas.{all_has, all_from, some_has, some_from, has_filtered, has_kept}
-use Rattle.feed_rows.specs.Layout.{feed_schema, piece, reason}
+use Rattle.feed_rows.specs.Layout.{piece, reason}
 use Rattle.feed_rows.specs.Tables.{same_id, text_in, is_of}
 use Rattle.feed_rows.proofs.Rows.{IsKeyed, has_id, id_itself, any_moved, any_map, taken_out, text_equal}
 use Rattle.feed_rows.proofs.Basics.{same_test, and_true, three_one, one_three, one_five, three_five, five_one, five_three}
@@ -209,10 +207,10 @@ module _ (p : Row → Bool) (db next : Trees) (gone : List ℤ) (releases : AreT
   pub removed : AreLeft p db next
   removed = elim c.then [
     | inl none ↦ record {
-        releases = ap (λ (t : Trees). t 1) none.1 ∙ rows;
-        pieces = ap (λ (t : Trees). t 3) none.1 ∙ c.first.tables.1.1.0 three_one ∙ all_left none.0 (db 3);
-        reasons = ap (λ (t : Trees). t 5) none.1 ∙ c.first.tables.1.1.1.0 five_one ∙ all_left none.0 (db 5);
-      }
+      releases = ap (λ (t : Trees). t 1) none.1 ∙ rows;
+      pieces = ap (λ (t : Trees). t 3) none.1 ∙ c.first.tables.1.1.0 three_one ∙ all_left none.0 (db 3);
+      reasons = ap (λ (t : Trees). t 5) none.1 ∙ c.first.tables.1.1.1.0 five_one ∙ all_left none.0 (db 5);
+    }
     | inr (late, first, last) ↦
         let parts_there : late 3 ≡ db 3 = removes_beside reason c.olds c.mid late 3 first (λ ids it. it.tables.1.1.0 three_five) ∙ c.first.tables.1.1.0 three_one in record {
           releases = removes_beside piece c.olds late next 1 last (λ ids it. it.tables.1.0 one_three)

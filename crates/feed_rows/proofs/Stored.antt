@@ -1,5 +1,5 @@
 -- The reasons of files, and the numbers by which they are stored.
-use Rattle.std.proofs.Common.{◌≡◌, ◌≢◌, ◌<◌, ℕ, zero, suc, List, [], ◌∷◌, length, find, Bool, true, false, not, Option, Some, None, nat_le, if◌then◌else◌, is_none, refl, sym, ◌∙◌, ◌+◌, ◌-◌, eqb, subst, arith}
+use Rattle.std.proofs.Common.{◌≡◌, ◌≢◌, ℕ, zero, suc, List, [], ◌∷◌, find, Bool, true, false, not, Option, Some, None, nat_le, if◌then◌else◌, is_none, refl, sym, ◌∙◌, ◌-◌, eqb, subst, arith}
 use Rattle.std.proofs.lemmas.Bool.Decides.{nat_tests}
 use Rattle.std.specs.List.{AllByRecursion, Contains}
 use Rattle.feed_kbart.specs.Labels.{label_at, required_labels}

@@ -1,6 +1,6 @@
 -- What the statement that sets the layout's number makes of the tables.
-use Rattle.std.proofs.Common.{◌≡◌, ◌==◌, cond, not, ℕ, ℤ, List, [], ◌∷◌, map, filter, length, drop, Bool, true, false, None, Ok, pos, IsPermutation, refl, sym, ap, subst, ◌∙◌}
-use Rattle.sqlite_value.specs.declared.value.Value.TheVariants.{Null, Int, Text}
+use Rattle.std.proofs.Common.{◌≡◌, ◌==◌, cond, not, ℕ, List, [], ◌∷◌, map, filter, length, Bool, true, false, None, Ok, pos, IsPermutation, refl, sym, ap, subst, ◌∙◌}
+use Rattle.sqlite_value.specs.declared.value.Value.TheVariants.{Null, Int}
 use Rattle.sqlite_value.specs.Order.{Row}
 use Rattle.sqlite_schema.specs.declared.schema.Keys.TheVariants.{Enforced}
 use Rattle.sqlite_trees.specs.Tree.{Trees, rowid, put_row}
@@ -22,10 +22,10 @@ use Rattle.sqlite.specs.Effect.{Database, IsDatabase}
 use Rattle.sqlite.specs.State.{State, mode_of, Executes}
 use Rattle.sqlite.proofs.Callers.{IsPlain, command_of, statement_of, runs_as, one_step, one_permutation}
 use Rattle.feed_statements.specs.Texts.{upgrade_text}
-use Rattle.feed_statements.specs.Effects.{IsExtended, IsUpgraded, Renumbers}
+use Rattle.feed_statements.specs.Effects.{Renumbers}
 use Rattle.feed_statements.proofs.Runs.{went, same_value}
 use Rattle.feed_rows.specs.Layout.{feed_schema, layout}
-use Rattle.feed_rows.specs.Tables.{AreReasons, IsEarlier, earlier_content_of, content_of, explained, version_row}
+use Rattle.feed_rows.specs.Tables.{AreReasons, version_row}
 use Rattle.feed_rows.proofs.Basics.{one_zero, three_zero, five_zero}
 use Rattle.feed_rows.proofs.Cascade.{key_is}
 use Rattle.feed_rows.proofs.Inserted.{cast_int, cast_null}

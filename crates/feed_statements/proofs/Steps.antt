@@ -1,14 +1,8 @@
 -- A database that is upgraded, step by step.
-use Rattle.std.proofs.Common.{◌≡◌, List, [], ◌∷◌, ◌++◌, Option, Some, None, refl, sym, ap, ◌∙◌}
-use Rattle.std.specs.List.{AllByRecursion}
-use Rattle.sqlite.specs.Effect.{Database}
+use Rattle.std.proofs.Common.{◌≡◌, List, [], ◌∷◌, ◌++◌, None, refl, sym, ap, ◌∙◌}
 use Rattle.sqlite.specs.State.{State}
 use Rattle.feed_names.specs.ReleaseName.{Name}
-use Rattle.feed_kbart.specs.declared.fault.BadFile.{BadFile}
 use Rattle.feed_model.specs.Content.{Record, Content}
-use Rattle.feed_model.specs.Change.{changed}
-use Rattle.feed_rows.specs.Records.{with_reason}
-use Rattle.feed_rows.specs.Tables.{IsStored}
 use Rattle.feed_statements.specs.Effects.{ChangesIf, Extends, IsMade, Renumbers, UpgradesIf}
 use Rattle.feed_statements.specs.Upgrading.{AreStored, IsStoredIn, IsStoredIf, explain, explain_by, explained_with}
 

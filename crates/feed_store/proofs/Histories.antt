@@ -1,5 +1,5 @@
 -- What was a content of a history and got its reasons is explained.
-use Rattle.std.proofs.Common.{◌≡◌, ◌≢◌, ◌<◌, ℕ, List, [], ◌∷◌, length, Option, Some, None, IsSome, get_or, slice_get, refl, sym, ap, subst, ◌∙◌, arith}
+use Rattle.std.proofs.Common.{◌≡◌, ◌≢◌, ◌<◌, ℕ, List, [], ◌∷◌, suc, length, Option, Some, None, IsSome, get_or, slice_get, refl, sym, ap, subst, ◌∙◌, arith}
 use Rattle.std.specs.List.{IsDistinct}
 use Rattle.feed_names.specs.ReleaseName.{Name, name_eq}
 use Rattle.feed_kbart.specs.declared.fault.BadFile.{BadFile}
@@ -64,7 +64,7 @@ all_explained h [] [] legal each all = tt
 all_explained h [] (s ∷ ss) legal each all = absurd all
 all_explained h (r ∷ rs) [] legal each all = absurd all
 all_explained h (r ∷ rs) (s ∷ ss) legal each all =
-    (one_explained h r.name r s (each 0 r (omega arith)) legal all.0, all_explained h rs ss legal (λ k x lt. each (k + 1) x (omega (arith, lt))) all.1)
+    (one_explained h r.name r s (each 0 r (omega arith)) legal all.0, all_explained h rs ss legal (λ k x lt. each (suc k) x (omega (arith, lt))) all.1)
 
 pub explained : (h : History) (c d : Content) → IsEarlierContent c h → AreReasoned c d → AreExplained c d
 explained h c d is all = all_explained h c d (legal_now h is.legal) (λ k x lt. of_name (get_or c k x).name (get_or c k x) (record_of-at c k x is.distinct lt)) all

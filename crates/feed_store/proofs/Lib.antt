@@ -1,3 +1,4 @@
 mod Taken
 mod Reasoned
+mod Found
 mod Histories

@@ -1,5 +1,5 @@
 -- Records and the reasons that they get.
-use Rattle.std.proofs.Common.{◌≡◌, Bool, true, false, cond, if◌then◌else◌, List, [], ◌∷◌, ◌++◌, Option, Some, None, refl, sym, ap, subst, ◌∙◌}
+use Rattle.std.proofs.Common.{◌≡◌, Bool, true, false, cond, if◌then◌else◌, List, [], ◌∷◌, ◌++◌, length, Option, Some, None, refl, sym, ap, subst, ◌∙◌, arith}
 use Rattle.std.specs.List.{AllByRecursion, IsDistinct}
 use Rattle.std.proofs.lemmas.Map.Keys.{IsDistinct-head, IsDistinct-tail}
 use Rattle.sqlite.specs.Effect.{Database}
@@ -11,11 +11,13 @@ use Rattle.feed_model.specs.Content.{Content, Record, names}
 use Rattle.feed_model.specs.Change.{changed}
 use Rattle.feed_model.proofs.Names.{name_self}
 use Rattle.feed_rows.specs.Records.{with_reason}
-use Rattle.feed_rows.specs.Tables.{earlier_content_of}
+use Rattle.feed_rows.specs.Tables.{IsEarlier, IsEarlierListed, IsTabled, earlier_content_of}
 use Rattle.feed_rows.proofs.Explained.{all_records}
+use Rattle.feed_rows.proofs.Ours.{tabled_earlier}
 use Rattle.feed_rows.proofs.Stored.{stored}
+use Rattle.feed_statements.specs.Effects.{IsUpgraded, UpgradesIf}
 use Rattle.feed_statements.specs.Upgrading.{AreStored, IsStoredIf, explain, explain_by, explained_with}
-use Rattle.feed_store.specs.Upgraded.{AreReasoned, IsReasonOf, IsReasoned}
+use Rattle.feed_store.specs.Upgraded.{AreReasoned, GetsReasons, IsBroughtUp, IsReasonOf, IsReasoned}
 
 -- one record more
 pub reasoned_more : (c d : Content) (r s : Record) → AreReasoned c d → IsReasoned r s → AreReasoned (c ++ r ∷ []) (d ++ s ∷ [])
@@ -72,6 +74,35 @@ with_all (r ∷ rs) (s ∷ ss) all apart bare =
     ∙ ap (λ (x : Content). s ∷ x) (with_all rs ss all.1 (IsDistinct-tail name_eq r.name (names rs) apart) bare.1)
 
 -- the content of a database of layout 1, with the reasons that its records get, is just these records
-pub all_explained : (db : Database) (d : Content) → AreReasoned (earlier_content_of db) d → IsDistinct name_eq (names (earlier_content_of db))
-    → explained_with d (earlier_content_of db) ≡ d
-all_explained db d all apart = with_all (earlier_content_of db) d all apart (all_records (λ r. r.reason ≡ None) (db.trees 3) (db.trees 1) (λ r h. refl))
+all_explained : (db : Database) (d : Content) → GetsReasons (earlier_content_of db) d → explained_with d (earlier_content_of db) ≡ d
+all_explained db d it = with_all (earlier_content_of db) d it.reasoned it.distinct (all_records (λ r. r.reason ≡ None) (db.trees 3) (db.trees 1) (λ r h. refl))
+
+-- an upgrade with the reasons that its records get brings a database up
+pub moved : (a b c new : Database) (d : Content) → b ≡ a → c ≡ b → IsEarlier a → AreStored d → (IsTabled b → IsEarlierListed b → GetsReasons (earlier_content_of b) d)
+    → UpgradesIf (AreStored d) (explained_with d) c new → IsBroughtUp a new
+moved a b c new d same still earlier can gets upgrades =
+    let mine : IsEarlier b = subst IsEarlier (sym same) earlier in
+    let it : IsUpgraded (explained_with d) b new = subst (λ (x : Database). IsUpgraded (explained_with d) x new) still (upgrades can (subst IsEarlier (sym still) mine)) in
+    let up : IsBroughtUp b new = record {
+      ours = it.ours;
+      listed = it.listed;
+      content = λ are. let reasons = gets (tabled_earlier b mine) are in subst (AreReasoned (earlier_content_of b)) (sym (it.content are ∙ all_explained b d reasons)) reasons.reasoned;
+    } in
+    subst (λ (x : Database). IsBroughtUp x new) same up
+
+-- a list in two halves, of which the first takes one more
+pub one_yielded : {X : Type 0} (xs : List X) (x : X) (ys zs : List X) → zs ≡ x ∷ ys → (xs ++ x ∷ []) ++ ys ≡ xs ++ zs
+one_yielded [] x ys zs e = sym e
+one_yielded (w ∷ ws) x ys zs e = ap (λ l. w ∷ l) (one_yielded ws x ys zs e)
+
+-- of which the second is empty
+pub all_yielded : {X : Type 0} (xs ys zs : List X) → ys ≡ [] → xs ++ ys ≡ zs → xs ≡ zs
+all_yielded {X = X} xs ys zs none e = sym (right xs) ∙ ap (λ l. xs ++ l) (sym none) ∙ e
+  where
+    right : (l : List X) → l ++ [] ≡ l
+    right [] = refl
+    right (w ∷ ws) = ap (λ (l : List X). w ∷ l) (right ws)
+
+pub none_left : {X : Type 0} (xs : List X) → length xs ≡ 0 → xs ≡ []
+none_left [] e = refl
+none_left (x ∷ xs) e = absurd (omega (arith, e))

@@ -1,16 +1,19 @@
-ghost use Rattle.std.specs.Prelude.{◌≡◌, false, IfOk, IsTrue, OnErr, ℕ};
+ghost use Rattle.std.specs.Prelude.{◌≡◌, false, IfOk, IsTrue, OnErr};
 ghost use Rattle.std.specs.List.{list_any};
 ghost use Rattle.feed_rows.specs.Layout.{earlier_schema};
-ghost use Rattle.feed_rows.specs.Tables.{IsEarlier};
+ghost use Rattle.feed_keep.specs.Shown.{shown};
+ghost use Rattle.feed_rows.specs.Tables.{IsEarlier, IsEarlierListed, IsTabled, earlier_content_of};
 ghost use Rattle.feed_statements.specs.Effects.{IsLive, TellsNumber};
+ghost use Rattle.feed_statements.specs.Upgrading.{AreStored};
 ghost use Rattle.feed_store.specs.Adopted.{AreTaken, IsAdopted, IsLaidOut, TakesAllOrNone, is_taken};
-ghost use Rattle.feed_store.specs.Upgraded.{IsBroughtUp};
+ghost use Rattle.feed_store.specs.Upgraded.{GetsReasons, IsBroughtUp, IsFirst};
 ghost use Rattle.sqlite.specs.Held.{state};
 ghost use Rattle.sqlite.specs.State.{HasCleanDisk};
 ghost use Rattle.sqlite_schema.specs.Names.{same_name};
 
 use crate::fault::{StoreFault, fault_of};
 use crate::reasons::reasoned;
+use feed_keep::Record;
 use feed_reading::read_unexplained;
 use feed_statements::{has_number, is_blank, is_earlier, is_laid_out, lay_out, upgrade};
 use sqlite::{Alter, Connection};
@@ -84,22 +87,40 @@ fn brought_up<S: Alter>(alloc: Global, conn: &mut Connection<S>) -> Result<bool,
         → OnErr result ((state S.Store conn.new).now ≡ (state S.Store conn.old).now) }
     ensures alone { IfOk result IsTrue }
     ensures live { IsLive (state S.Store conn.new) → IsLive (state S.Store conn.old) }
-    ensures earlier { IfOk result (λ _. IsLive (state S.Store conn.new)
-        → (state S.Store conn.old).now.schema ≡ earlier_schema → IsEarlier (state S.Store conn.old).now) }
+    ensures first { IfOk result (λ _. IsLive (state S.Store conn.new)
+        → (state S.Store conn.old).now.schema ≡ earlier_schema → IsFirst (state S.Store conn.old).now) }
     ensures moved { IfOk result (λ _. IsLive (state S.Store conn.new) → IsEarlier (state S.Store conn.old).now
         → IsBroughtUp (state S.Store conn.old).now (state S.Store conn.new).now) }
 {
     numbered(conn, 1)?;
-    let records = match read_unexplained(alloc, conn) {
-        Ok(Some(records)) => match reasoned(alloc, records) {
-            Ok(records) => records,
-            Err(_) => return Err(StoreFault::Memory),
-        },
-        Ok(None) => Vec::new(alloc),
-        Err(error) => return Err(fault_of(error)),
-    };
+    let records = read_reasoned(alloc, conn)?;
     match upgrade(conn, &records) {
         Ok(()) => Ok(true),
+        Err(error) => Err(fault_of(error)),
+    }
+}
+
+// The records of a database of layout 1, with their reasons. There is none where its tables hold no list of records.
+fn read_reasoned<S: Alter>(
+    alloc: Global,
+    conn: &mut Connection<S>,
+) -> Result<Vec<Record>, StoreFault>
+    requires { conn.old.in_transaction ≡ false }
+    ensures idle { conn.new.in_transaction ≡ false }
+    ensures limit { conn.new.step_limit ≡ conn.old.step_limit }
+    ensures live { IsLive (state S.Store conn.new) → IsLive (state S.Store conn.old) }
+    ensures same { IsLive (state S.Store conn.new) → (state S.Store conn.new).now ≡ (state S.Store conn.old).now }
+    ensures stored { IfOk result (λ records. AreStored (shown records.items)) }
+    ensures read { IfOk result (λ records. IsLive (state S.Store conn.new)
+        → IsTabled (state S.Store conn.old).now → IsEarlierListed (state S.Store conn.old).now
+        → GetsReasons (earlier_content_of (state S.Store conn.old).now) (shown records.items)) }
+{
+    match read_unexplained(alloc, conn) {
+        Ok(Some(records)) => match reasoned(alloc, records) {
+            Ok(records) => Ok(records),
+            Err(_) => Err(StoreFault::Memory),
+        },
+        Ok(None) => Ok(Vec::new(alloc)),
         Err(error) => Err(fault_of(error)),
     }
 }

@@ -11,10 +11,10 @@ use std::alloc::{AllocError, Global};
 pub(crate) fn reasoned(alloc: Global, records: Vec<Record>) -> Result<Vec<Record>, AllocError>
     ensures { IfOk result (λ told. AreReasoned (shown records.items) (shown told.items)) }
 {
-    let mut told = Vec::with_capacity(alloc, records.len())?;
+    let mut told = Vec::new(alloc);
     for record in records {
         let reason = reason_of(alloc, &record)?;
-        told.push_reserved(with_reason(record, reason));
+        told.push(with_reason(record, reason))?;
     }
     Ok(told)
 }

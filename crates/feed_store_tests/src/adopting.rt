@@ -1,58 +1,15 @@
 // Databases that are taken as keepers, or refused.
 ghost use Rattle.std.specs.Prelude.{◌≡◌, false, IfOk};
 
+use crate::layouts::{LAYOUT, NUMBER, PIECE, REASON, RELEASE, SECOND, adopted, database_of, opened, seen_in};
 use feed_keep::{Keep, KeepFault, State};
 use feed_releases::{Event, Feed, OpenFault};
 use feed_samples::{JANUARY, content_of, january_file, listed, name_of, record_of};
 use feed_store::{AdoptFault, SqlKeep, StoreFault};
-use sqlite::{Alter, Connection, MemStore};
-use sqlite_disk::{Disk, Files, Memory};
-use sqlite_pager::Options;
-use sqlite_store::FileStore;
+use sqlite::Alter;
+use sqlite_disk::{Files, Memory};
 use std::alloc::Global;
 use std::test::Fail;
-
-const LAYOUT: &str = "CREATE TABLE feed_layout (version INTEGER PRIMARY KEY) STRICT;";
-
-const RELEASE: &str = "CREATE TABLE feed_release (
-  name TEXT NOT NULL PRIMARY KEY,
-  package TEXT NOT NULL,
-  day INTEGER NOT NULL,
-  size INTEGER NOT NULL,
-  state INTEGER NOT NULL,
-  CHECK (size >= 0),
-  CHECK (state BETWEEN 0 AND 2)
-) STRICT;";
-
-const PIECE: &str = "CREATE TABLE feed_piece (
-  name TEXT NOT NULL REFERENCES feed_release (name) ON DELETE CASCADE,
-  place INTEGER NOT NULL,
-  bytes BLOB NOT NULL,
-  PRIMARY KEY (name, place),
-  CHECK (place >= 0)
-) STRICT;";
-
-const NUMBER: &str = "INSERT INTO feed_layout VALUES (1);";
-
-// A database in memory over which these texts ran.
-fn database_of(alloc: Global, texts: &[&str]) -> Result<Connection<MemStore>, Fail>
-    ensures { IfOk result (λ conn. conn.in_transaction ≡ false) }
-{
-    let mut conn = Connection::open_in_memory(alloc)?;
-    for text in texts {
-        conn.execute_batch(text)?;
-    }
-    if !conn.is_autocommit() {
-        return Err(Fail::new("a transaction is open"));
-    }
-    Ok(conn)
-}
-
-fn adopted<S: Alter + Drop>(conn: Connection<S>) -> Result<SqlKeep<S>, Fail>
-    requires { conn.in_transaction ≡ false }
-{
-    SqlKeep::adopt(conn).map_err(|fault| Fail::new(fault.cause))
-}
 
 // The keeper, after a release of this size was offered to a feed over it.
 fn with_release<S: Alter + Drop>(
@@ -66,21 +23,6 @@ fn with_release<S: Alter + Drop>(
     Ok(feed.restart())
 }
 
-// The texts of the tables of a database, and the rows of its layout.
-fn seen_in<S: Alter>(alloc: Global, conn: &mut Connection<S>) -> Result<Vec<u8>, Fail>
-    requires { conn.old.in_transaction ≡ false }
-    ensures { conn.new.in_transaction ≡ false }
-{
-    let mut seen = Vec::new(alloc);
-    for row in conn.query_all("SELECT sql FROM sqlite_schema ORDER BY name", &[])? {
-        if let Some(text) = row.get::<Option<String>>(0)? {
-            seen.extend_from_slice(text.as_bytes())?;
-            seen.push(b'\n')?;
-        }
-    }
-    Ok(seen)
-}
-
 // What is seen in a database before and after it is refused, and why it is.
 fn seen_and_refused(
     alloc: Global,
@@ -88,7 +30,7 @@ fn seen_and_refused(
 ) -> Result<((Vec<u8>, Vec<u8>), StoreFault), Fail> {
     let mut conn = database_of(alloc, texts)?;
     let before = seen_in(alloc, &mut conn)?;
-    match SqlKeep::adopt(conn) {
+    match SqlKeep::adopt(alloc, conn) {
         Ok(_) => Err(Fail::new("it is taken")),
         Err(
             AdoptFault {
@@ -102,7 +44,7 @@ fn seen_and_refused(
 #[test]
 fn a_foreign_database_is_refused_and_stays_as_it_was(rt: HostRuntime) -> Result<(), Fail> {
     let alloc = rt.alloc();
-    let rows: [&[&str]; 10] = [
+    let rows: [&[&str]; 16] = [
         &["CREATE TABLE feed_layout (v TEXT)"],
         &["CREATE TABLE feed_piece (v TEXT)"],
         &["CREATE TABLE feed_release (name TEXT)"],
@@ -115,9 +57,16 @@ fn a_foreign_database_is_refused_and_stays_as_it_was(rt: HostRuntime) -> Result<
             RELEASE,
             PIECE,
             NUMBER,
-            "INSERT INTO feed_layout VALUES (2)",
+            SECOND,
         ],
-        &[LAYOUT, RELEASE, PIECE, "INSERT INTO feed_layout VALUES (2)"],
+        &[LAYOUT, RELEASE, PIECE, SECOND],
+        // The table of layout 2 without its number, and beside those of layout 1.
+        &[LAYOUT, RELEASE, PIECE, REASON, NUMBER],
+        &[LAYOUT, RELEASE, PIECE, NUMBER, "CREATE TABLE feed_reason (t TEXT)"],
+        &[LAYOUT, RELEASE, PIECE, NUMBER, "CREATE VIEW feed_reason AS SELECT 1"],
+        &["CREATE TABLE note (t TEXT)", LAYOUT, RELEASE, PIECE, REASON, NUMBER],
+        &["CREATE TABLE note (t TEXT)", LAYOUT, RELEASE, PIECE, SECOND],
+        &[REASON],
         &[
             "CREATE TABLE note (t TEXT)",
             LAYOUT,
@@ -135,22 +84,6 @@ fn a_foreign_database_is_refused_and_stays_as_it_was(rt: HostRuntime) -> Result<
     Ok(())
 }
 
-// A connection over these files, or the files where there is none.
-pub fn opened<D: Disk + Drop>(
-    alloc: Global,
-    files: Files<D>,
-) -> Result<Connection<FileStore<D>>, Files<D>>
-    ensures { IfOk result (λ conn. conn.in_transaction ≡ false) }
-{
-    if !files.may_be_used() {
-        return Err(files);
-    }
-    match Connection::open_files(alloc, files, Options::new(1)) {
-        Ok(conn) => Ok(conn),
-        Err((_, left)) => Err(left.into_files()),
-    }
-}
-
 #[test]
 fn an_empty_database_of_pages_is_taken_and_keeps_a_record(rt: HostRuntime) -> Result<(), Fail> {
     let alloc = rt.alloc();
@@ -161,7 +94,7 @@ fn an_empty_database_of_pages_is_taken_and_keeps_a_record(rt: HostRuntime) -> Re
     let Ok(conn) = opened(alloc, files) else {
         return Err(Fail::new("it does not open"));
     };
-    let mut keeper = with_release(alloc, adopted(conn)?, 10)?;
+    let mut keeper = with_release(alloc, adopted(alloc, conn)?, 10)?;
     let expected = b"X_2024-01-01.txt 10 Staged\n".as_slice();
     assert_eq!(rt; content_of(alloc, &mut keeper)?.as_slice(), expected);
     assert_eq!(rt; keeper.failures(), 0);
@@ -176,12 +109,12 @@ fn other_tables_are_left_alone(rt: HostRuntime) -> Result<(), Fail> {
         "INSERT INTO note VALUES ('one'), ('two')",
         "CREATE VIEW notes AS SELECT t FROM note",
     ];
-    let keeper = with_release(alloc, adopted(database_of(alloc, &others)?)?, 0)?;
+    let keeper = with_release(alloc, adopted(alloc, database_of(alloc, &others)?)?, 0)?;
     let mut conn = keeper.into_connection();
     let notes = conn.query_all("SELECT t FROM notes ORDER BY t", &[])?;
     assert_eq!(rt; notes.len(), 2);
     // It is taken again with all that it holds.
-    let mut keeper = adopted(conn)?;
+    let mut keeper = adopted(alloc, conn)?;
     assert_eq!(rt;
         content_of(alloc, &mut keeper)?.as_slice(),
         b"X_2024-01-01.txt 0 Broken\n".as_slice()
@@ -201,7 +134,7 @@ fn a_table_that_no_keeper_wrote_is_damaged(rt: HostRuntime) -> Result<(), Fail> 
     ];
     for row in rows {
         let conn = database_of(alloc, &[LAYOUT, RELEASE, PIECE, NUMBER, row])?;
-        let mut keeper = adopted(conn)?;
+        let mut keeper = adopted(alloc, conn)?;
         let damaged = matches!(keeper.load(alloc), Err(KeepFault::Damaged));
         assert!(rt; damaged, "{row}");
         let Err(
@@ -237,7 +170,7 @@ fn records_that_no_feed_keeps_are_damaged(rt: HostRuntime) -> Result<(), Fail> {
     ];
     for row in rows {
         let texts = [LAYOUT, RELEASE, PIECE, NUMBER, staged, first, row];
-        let Err(fault) = Feed::open(alloc, adopted(database_of(alloc, &texts)?)?) else {
+        let Err(fault) = Feed::open(alloc, adopted(alloc, database_of(alloc, &texts)?)?) else {
             return Err(Fail::new("a feed opens"));
         };
         assert_eq!(rt; fault.cause, KeepFault::Damaged, "{row}");
@@ -273,7 +206,7 @@ fn a_state_that_the_file_does_not_bear_out_is_damaged(rt: HostRuntime) -> Result
         if !conn.is_autocommit() {
             return Err(Fail::new("a transaction is open"));
         }
-        let Err(fault) = Feed::open(alloc, adopted(conn)?) else {
+        let Err(fault) = Feed::open(alloc, adopted(alloc, conn)?) else {
             return Err(Fail::new("a feed opens"));
         };
         assert_eq!(rt; fault.cause, KeepFault::Damaged, "{text}");
@@ -293,7 +226,7 @@ fn a_row_as_a_keeper_writes_it_is_a_record(rt: HostRuntime) -> Result<(), Fail> 
         "INSERT INTO feed_piece VALUES ('X_2024-01-01.txt', 4, x'3435')",
         "INSERT INTO feed_piece VALUES ('X_2024-01-01.txt', 0, x'3031')",
     ];
-    let mut keeper = adopted(database_of(alloc, &texts)?)?;
+    let mut keeper = adopted(alloc, database_of(alloc, &texts)?)?;
     let record = record_of(
         alloc,
         "X_2024-01-01.txt",

@@ -1,27 +1,29 @@
 // A store whose files stop at each of their calls.
-use crate::adopting::opened;
+use crate::layouts::opened;
 use feed_keep::{Keep, ListKeep};
 use feed_releases::{Event, Feed, Refusal};
 use feed_samples::{FEBRUARY, JANUARY, PACKAGE, content_of, february_file, january_file, name_of};
 use feed_store::SqlKeep;
 use sqlite::Connection;
-use sqlite_disk::{Crash, Disk, Files, Fuse, Memory};
+use sqlite_disk::{self, Crash, Disk, Fuse, Memory};
 use sqlite_store::FileStore;
 use std::alloc::Global;
 use std::process::Abort;
 use std::test::Fail;
 
-type File = Fuse<Memory>;
+pub type File = Fuse<Memory>;
+
+pub type Files = sqlite_disk::Files<File>;
 
 type Store = FileStore<File>;
 
-fn files_of(conn: Connection<Store>) -> Files<File> {
+pub fn files_of(conn: Connection<Store>) -> Files {
     conn.into_store().close()
 }
 
 // A feed over the database of these files, or the files as an open that failed left them.
-fn feed_over(alloc: Global, files: Files<File>) -> Result<Feed<SqlKeep<Store>>, Files<File>> {
-    let keeper = match SqlKeep::adopt(opened(alloc, files)?) {
+fn feed_over(alloc: Global, files: Files) -> Result<Feed<SqlKeep<Store>>, Files> {
+    let keeper = match SqlKeep::adopt(alloc, opened(alloc, files)?) {
         Ok(keeper) => keeper,
         Err(fault) => return Err(files_of(fault.connection)),
     };
@@ -58,11 +60,12 @@ fn contents_of(alloc: Global, events: &[Event<'_>]) -> Result<Vec<Vec<u8>>, Fail
     Ok(contents)
 }
 
-// The bytes of a file as a process finds them that is begun after the stop.
-fn as_left(alloc: Global, file: &File) -> Result<File, Fail> {
+// The bytes of a file as a process finds them that is begun after the stop. It stops after so many calls itself.
+pub fn as_left(alloc: Global, file: &File, calls: u64) -> Result<File, Fail> {
     let mut left = Memory::new(alloc);
     left.write_at(0, file.inner().bytes())?;
-    Ok(Fuse::new(left, u64::MAX))
+    left.sync()?;
+    Ok(Fuse::new(left, calls))
 }
 
 // The files open again, and hold what the first events left, with or without the one in hand. The events from that one
@@ -70,7 +73,7 @@ fn as_left(alloc: Global, file: &File) -> Result<File, Fail> {
 fn goes_on(
     rt: &impl Abort,
     alloc: Global,
-    files: Files<File>,
+    files: Files,
     events: &[Event<'_>],
     contents: &[Vec<u8>],
     count: usize,
@@ -106,7 +109,7 @@ fn goes_on(
 fn stops(
     rt: &impl Abort,
     alloc: Global,
-    files: Files<File>,
+    files: Files,
     events: &[Event<'_>],
     contents: &[Vec<u8>],
 ) -> Result<bool, Fail> {
@@ -121,8 +124,8 @@ fn stops(
         return Ok(false);
     }
     let left = Files {
-        log: as_left(alloc, &files.log)?,
-        db: as_left(alloc, &files.db)?,
+        log: as_left(alloc, &files.log, u64::MAX)?,
+        db: as_left(alloc, &files.db, u64::MAX)?,
     };
     goes_on(rt, alloc, left, events, contents, count)?;
     files.log.crash();

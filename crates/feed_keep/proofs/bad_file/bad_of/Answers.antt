@@ -1,4 +1,4 @@
-use Rattle.std.proofs.Common.{ap, ◌∙◌, sym, Some}
+use Rattle.std.proofs.Common.{ap, Some}
 use Rattle.feed_parts.specs.Shown.{shown_parts}
 use Rattle.feed_keep.specs.Shown.{shown_record}
 use Rattle.feed_keep.proofs.BadFile.{good_file, bad_file, long_file, one_text}

@@ -1,9 +1,8 @@
-use Rattle.std.proofs.Common.{◌≡◌, IfOk, IfSome, MatchOption, sym, subst, ap, ◌∙◌}
+use Rattle.std.proofs.Common.{◌≡◌, IfOk, MatchOption, sym, subst, ap, ◌∙◌}
 use Rattle.sqlite.specs.Effect.{Database}
 use Rattle.sqlite.specs.Held.{state}
 use Rattle.feed_keep.specs.Shown.{shown}
-use Rattle.feed_rows.specs.Live.{IsLive}
-use Rattle.feed_rows.specs.Tables.{IsEarlierListed, IsListed, IsOurs, content_of, earlier_content_of}
+use Rattle.feed_rows.specs.Tables.{IsEarlierListed, IsListed, IsOurs, earlier_content_of}
 use Rattle.feed_rows.proofs.Ours.{tabled_ours}
 use Rattle.feed_reading.specs.Selected.{Explains}
 use Rattle.feed_reading.proofs.Explaining.{told_listed, told_order, told_records}

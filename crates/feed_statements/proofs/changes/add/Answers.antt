@@ -1,10 +1,5 @@
-use Rattle.std.proofs.Common.{◌≡◌, ◌≢◌, rules, subst, arith}
+use Rattle.std.proofs.Common.{◌≡◌, ◌≢◌, rules, arith}
 use Rattle.sqlite.specs.Held.{state}
-use Rattle.feed_model.specs.declared.state.State.TheVariants.{Staged}
-use Rattle.feed_model.specs.Change.{insert_record}
-use Rattle.feed_model.specs.Reply.{max_file}
-use Rattle.feed_rows.specs.Records.{bare}
-use Rattle.feed_statements.specs.Effects.{ChangesIf, IsMade}
 use Rattle.feed_statements.proofs.Sequence.{staged_made}
 use Rattle.feed_statements.proofs.changes.add.Goals as goal
 

@@ -1,7 +1,6 @@
 use Rattle.std.proofs.Common.{arith}
 use Rattle.sqlite.specs.Held.{state}
 use Rattle.sqlite.specs.State.{HasCleanDisk}
-use Rattle.sqlite.proofs.InsideLemmas.{keeps_then}
 use Rattle.feed_parts.specs.Shown.{shown_parts}
 use Rattle.feed_statements.proofs.Sequence.{break_made}
 use Rattle.feed_statements.proofs.changes.break_off.Goals as goal

@@ -1,11 +1,7 @@
-use Rattle.std.proofs.Common.{◌≤◌}
 use Rattle.std.proofs.lemmas.Result.{on_ok_weaker}
 use Rattle.sqlite.specs.Held.{state}
-use Rattle.feed_model.specs.Change.{Add, insert_record, new_record}
-use Rattle.feed_model.specs.Reply.{max_file}
 use Rattle.feed_parts.specs.Shown.{shown_parts}
-use Rattle.feed_statements.specs.Effects.{AllowedChanges, ChangesIf}
-use Rattle.feed_statements.proofs.Sequence.{made_as, pieces_made}
+use Rattle.feed_statements.proofs.Sequence.{pieces_made}
 use Rattle.feed_statements.proofs.changes.make.Goals as goal
 
 pub returns-in-Add-clause-made : goal.returns-in-Add-clause-made

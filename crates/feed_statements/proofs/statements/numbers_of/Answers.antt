@@ -1,8 +1,6 @@
 use Rattle.std.proofs.Common.{◌≡◌, Some, refl, ap, ◌∙◌}
 use Rattle.std.specs.List.{Contains}
 use Rattle.feed_kbart.specs.Labels.{label_at, required_labels}
-use Rattle.feed_kbart.specs.declared.fault.BadFile.TheVariants.{MissingLabel}
-use Rattle.feed_rows.specs.Tables.{IsStored}
 use Rattle.feed_rows.proofs.Stored.{required_early}
 use Rattle.feed_statements.proofs.statements.numbers_of.Goals as goal
 

@@ -2,7 +2,6 @@ use Rattle.std.proofs.Common.{arith}
 use Rattle.std.proofs.lemmas.Result.{on_ok_weaker}
 use Rattle.sqlite.specs.Held.{state}
 use Rattle.sqlite.specs.State.{HasCleanDisk}
-use Rattle.sqlite.proofs.InsideLemmas.{keeps_then}
 use Rattle.feed_keep.specs.Shown.{shown}
 use Rattle.feed_statements.specs.Upgrading.{AreStored, explained_with}
 use Rattle.feed_statements.proofs.Steps.{upgraded}

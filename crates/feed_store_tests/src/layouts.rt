@@ -1,0 +1,95 @@
+// The tables of a keeper, as texts.
+ghost use Rattle.std.specs.Prelude.{◌≡◌, false, IfOk};
+
+use feed_store::SqlKeep;
+use sqlite::{Alter, Connection, MemStore};
+use sqlite_disk::{Disk, Files};
+use sqlite_pager::Options;
+use sqlite_store::FileStore;
+use std::alloc::Global;
+use std::test::Fail;
+
+pub const LAYOUT: &str = "CREATE TABLE feed_layout (version INTEGER PRIMARY KEY) STRICT;";
+
+pub const RELEASE: &str = "CREATE TABLE feed_release (
+  name TEXT NOT NULL PRIMARY KEY,
+  package TEXT NOT NULL,
+  day INTEGER NOT NULL,
+  size INTEGER NOT NULL,
+  state INTEGER NOT NULL,
+  CHECK (size >= 0),
+  CHECK (state BETWEEN 0 AND 2)
+) STRICT;";
+
+pub const PIECE: &str = "CREATE TABLE feed_piece (
+  name TEXT NOT NULL REFERENCES feed_release (name) ON DELETE CASCADE,
+  place INTEGER NOT NULL,
+  bytes BLOB NOT NULL,
+  PRIMARY KEY (name, place),
+  CHECK (place >= 0)
+) STRICT;";
+
+pub const REASON: &str = "CREATE TABLE feed_reason (
+  name TEXT NOT NULL PRIMARY KEY REFERENCES feed_release (name) ON DELETE CASCADE,
+  reason INTEGER NOT NULL,
+  label INTEGER NOT NULL,
+  CHECK (reason BETWEEN 1 AND 5),
+  CHECK (label BETWEEN 0 AND 13)
+) STRICT;";
+
+/// The number of layout 1.
+pub const NUMBER: &str = "INSERT INTO feed_layout VALUES (1);";
+
+/// The number of layout 2.
+pub const SECOND: &str = "INSERT INTO feed_layout VALUES (2);";
+
+// A database in memory over which these texts ran.
+pub fn database_of(alloc: Global, texts: &[&str]) -> Result<Connection<MemStore>, Fail>
+    ensures { IfOk result (λ conn. conn.in_transaction ≡ false) }
+{
+    let mut conn = Connection::open_in_memory(alloc)?;
+    for text in texts {
+        conn.execute_batch(text)?;
+    }
+    if !conn.is_autocommit() {
+        return Err(Fail::new("a transaction is open"));
+    }
+    Ok(conn)
+}
+
+pub fn adopted<S: Alter + Drop>(alloc: Global, conn: Connection<S>) -> Result<SqlKeep<S>, Fail>
+    requires { conn.in_transaction ≡ false }
+{
+    SqlKeep::adopt(alloc, conn).map_err(|fault| Fail::new(fault.cause))
+}
+
+// The texts of the tables of a database.
+pub fn seen_in<S: Alter>(alloc: Global, conn: &mut Connection<S>) -> Result<Vec<u8>, Fail>
+    requires { conn.old.in_transaction ≡ false }
+    ensures { conn.new.in_transaction ≡ false }
+{
+    let mut seen = Vec::new(alloc);
+    for row in conn.query_all("SELECT sql FROM sqlite_schema ORDER BY name", &[])? {
+        if let Some(text) = row.get::<Option<String>>(0)? {
+            seen.extend_from_slice(text.as_bytes())?;
+            seen.push(b'\n')?;
+        }
+    }
+    Ok(seen)
+}
+
+// A connection over these files, or the files where there is none.
+pub fn opened<D: Disk + Drop>(
+    alloc: Global,
+    files: Files<D>,
+) -> Result<Connection<FileStore<D>>, Files<D>>
+    ensures { IfOk result (λ conn. conn.in_transaction ≡ false) }
+{
+    if !files.may_be_used() {
+        return Err(files);
+    }
+    match Connection::open_files(alloc, files, Options::new(1)) {
+        Ok(conn) => Ok(conn),
+        Err((_, left)) => Err(left.into_files()),
+    }
+}

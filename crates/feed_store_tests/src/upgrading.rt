@@ -1,0 +1,369 @@
+// Databases of layout 1, which are brought to layout 2.
+ghost use Rattle.std.specs.Prelude.{◌≡◌, false, IfOk};
+
+use crate::layouts::{LAYOUT, NUMBER, PIECE, RELEASE, adopted, database_of, opened, seen_in};
+use crate::stops::{Files, as_left, files_of};
+use feed_kbart::BadFile;
+use feed_keep::{Keep, KeepFault, State};
+use feed_releases::{Event, Feed};
+use feed_samples::{
+    FEBRUARY, HEADER_WITHOUT_URL, JANUARY, MARCH, PACKAGE, WITHOUT_URL, broken_record_of,
+    content_of, february_file, january_file, listed, name_of, record_of,
+};
+use feed_store::SqlKeep;
+use sqlite::{Alter, Connection, MemStore, params};
+use sqlite_disk::{Crash, Fuse, Memory};
+use std::alloc::Global;
+use std::io::Write;
+use std::process::Abort;
+use std::test::Fail;
+
+// A release of the package as its rows tell it.
+#[derive(Drop)]
+struct Rows<'a> {
+    name: &'a str,
+    day: u32,
+    size: u32,
+    state: u32,
+    parts: &'a [(u32, &'a [u8])],
+}
+
+// Makes the tables of layout 1, with these releases.
+fn fill<S: Alter>(conn: &mut Connection<S>, releases: &[Rows<'_>]) -> Result<(), Fail>
+    ensures { IfOk result (λ _. conn.new.in_transaction ≡ false) }
+{
+    for text in [LAYOUT, RELEASE, PIECE, NUMBER] {
+        conn.execute_batch(text)?;
+    }
+    for rows in releases {
+        conn.execute(
+            "INSERT INTO feed_release VALUES (?1, 'Acme_Global_All', ?2, ?3, ?4)",
+            params![rows.name, rows.day, rows.size, rows.state],
+        )?;
+        for (first, bytes) in rows.parts {
+            conn.execute(
+                "INSERT INTO feed_piece VALUES (?1, ?2, ?3)",
+                params![rows.name, *first, *bytes],
+            )?;
+        }
+    }
+    if !conn.is_autocommit() {
+        return Err(Fail::new("a transaction is open"));
+    }
+    Ok(())
+}
+
+// An active release, one of which a place is missing, and a broken one.
+fn fill_with_three<S: Alter>(alloc: Global, conn: &mut Connection<S>) -> Result<(), Fail>
+    ensures { IfOk result (λ _. conn.new.in_transaction ≡ false) }
+{
+    let january = january_file(alloc)?;
+    let february = february_file(alloc)?;
+    fill(
+        conn,
+        &[
+            Rows {
+                name: JANUARY,
+                day: 19_723,
+                size: 205,
+                state: 2,
+                parts: &[(0, &january[..100]), (100, &january[100..])],
+            },
+            Rows {
+                name: FEBRUARY,
+                day: 19_754,
+                size: 243,
+                state: 0,
+                parts: &[(1, &february[1..])],
+            },
+            Rows {
+                name: MARCH,
+                day: 19_783,
+                size: 141,
+                state: 1,
+                parts: &[(0, &HEADER_WITHOUT_URL[..7]), (7, &HEADER_WITHOUT_URL[7..])],
+            },
+        ],
+    )
+}
+
+// What a keeper holds of these three in layout 2.
+fn three_records(alloc: Global) -> Result<Vec<u8>, Fail> {
+    let january = january_file(alloc)?;
+    let february = february_file(alloc)?;
+    listed(
+        alloc,
+        &[
+            record_of(
+                alloc,
+                JANUARY,
+                205,
+                State::Active,
+                &[(0, &january[..100]), (100, &january[100..])],
+            )?,
+            record_of(alloc, FEBRUARY, 243, State::Staged, &[(1, &february[1..])])?,
+            broken_record_of(
+                alloc,
+                MARCH,
+                141,
+                WITHOUT_URL,
+                &[(0, &HEADER_WITHOUT_URL[..7]), (7, &HEADER_WITHOUT_URL[7..])],
+            )?,
+        ],
+    )
+}
+
+// The number of the layout, and the reasons, each with its name, its number and the place of its label.
+fn reasons_in<S: Alter>(alloc: Global, conn: &mut Connection<S>) -> Result<Vec<u8>, Fail>
+    requires { conn.old.in_transaction ≡ false }
+    ensures { conn.new.in_transaction ≡ false }
+{
+    let mut text = Vec::new(alloc);
+    for row in conn.query_all("SELECT version FROM feed_layout", &[])? {
+        write!(text, "layout {}\n", row.get::<i64>(0)?)?;
+    }
+    let reasons = "SELECT name, reason, label FROM feed_reason ORDER BY name";
+    for row in conn.query_all(reasons, &[])? {
+        let name = row.get::<String>(0)?;
+        write!(
+            text,
+            "{name} {} {}\n",
+            row.get::<i64>(1)?,
+            row.get::<i64>(2)?
+        )?;
+    }
+    Ok(text)
+}
+
+const REASONS: &[u8] = b"layout 2\nAcme_Global_All_2024-03-01.txt 4 8\n";
+
+#[test]
+fn a_database_of_layout_1_means_what_it_meant(rt: HostRuntime) -> Result<(), Fail> {
+    let alloc = rt.alloc();
+    let mut conn = database_of(alloc, &[])?;
+    fill_with_three(alloc, &mut conn)?;
+    let mut keeper = adopted(alloc, conn)?;
+    let expected = three_records(alloc)?;
+    assert_eq!(rt; content_of(alloc, &mut keeper)?.as_slice(), expected.as_slice());
+    let mut feed = Feed::open(alloc, keeper).map_err(|fault| Fail::new(fault.cause))?;
+    let active = feed
+        .report(PACKAGE)
+        .map(|name| name.text() == JANUARY.as_bytes());
+    assert_eq!(rt; active, Some(true));
+    for (text, why) in [(JANUARY, None), (FEBRUARY, None), (MARCH, Some(WITHOUT_URL))] {
+        assert_eq!(rt; feed.reason(&name_of(alloc, text)?), why);
+    }
+    let february = name_of(alloc, FEBRUARY)?;
+    assert_eq!(rt; feed.next_range(&february, 100), Some((0, 0)));
+    let mut conn = feed.restart().into_connection();
+    assert_eq!(rt; reasons_in(alloc, &mut conn)?.as_slice(), REASONS);
+    // Taken again it stays as it is.
+    let mut keeper = adopted(alloc, conn)?;
+    assert_eq!(rt; content_of(alloc, &mut keeper)?.as_slice(), expected.as_slice());
+    let mut conn = keeper.into_connection();
+    assert_eq!(rt; reasons_in(alloc, &mut conn)?.as_slice(), REASONS);
+    Ok(())
+}
+
+#[test]
+fn it_gets_the_tables_of_a_new_one(rt: HostRuntime) -> Result<(), Fail> {
+    let alloc = rt.alloc();
+    let mut conn = database_of(alloc, &[])?;
+    fill_with_three(alloc, &mut conn)?;
+    let mut old = adopted(alloc, conn)?.into_connection();
+    let mut new = SqlKeep::open_memory(alloc)?.into_connection();
+    let texts = seen_in(alloc, &mut old)?;
+    assert_eq!(rt; texts.as_slice(), seen_in(alloc, &mut new)?.as_slice());
+    Ok(())
+}
+
+#[test]
+fn an_empty_release_has_no_header(rt: HostRuntime) -> Result<(), Fail> {
+    let alloc = rt.alloc();
+    let january = name_of(alloc, JANUARY)?;
+    let keeper = SqlKeep::open_memory(alloc)?;
+    let mut feed = Feed::open(alloc, keeper).map_err(|fault| Fail::new(fault.cause))?;
+    feed.handle(&Event::Offered {
+        name: &january,
+        size: 0,
+    })?;
+    let feed = Feed::open(alloc, feed.restart()).map_err(|fault| Fail::new(fault.cause))?;
+    assert_eq!(rt; feed.reason(&january), Some(BadFile::NoHeader));
+    Ok(())
+}
+
+// Why a feed does not open over the database.
+fn fault_over(alloc: Global, conn: Connection<MemStore>) -> Result<KeepFault, Fail>
+    requires { conn.in_transaction ≡ false }
+{
+    match Feed::open(alloc, adopted(alloc, conn)?) {
+        Ok(_) => Err(Fail::new("a feed opens")),
+        Err(fault) => Ok(fault.cause),
+    }
+}
+
+#[test]
+fn a_broken_release_with_a_good_file_gets_no_reason(rt: HostRuntime) -> Result<(), Fail> {
+    let alloc = rt.alloc();
+    let january = january_file(alloc)?;
+    let files: [&[(u32, &[u8])]; 4] = [
+        // A good file; one of which a place is missing; one that is longer than its size; and overlapping parts.
+        &[(0, &january)],
+        &[(0, &january[..204])],
+        &[(0, &january), (205, b"x")],
+        &[(0, &january[..100]), (99, &january[99..])],
+    ];
+    for parts in files {
+        let mut conn = database_of(alloc, &[])?;
+        let rows = Rows {
+            name: JANUARY,
+            day: 19_723,
+            size: 205,
+            state: 1,
+            parts,
+        };
+        fill(&mut conn, &[rows])?;
+        let mut conn = adopted(alloc, conn)?.into_connection();
+        assert_eq!(rt; reasons_in(alloc, &mut conn)?.as_slice(), b"layout 2\n".as_slice());
+        assert_eq!(rt; fault_over(alloc, conn)?, KeepFault::Damaged);
+    }
+    Ok(())
+}
+
+#[test]
+fn a_list_that_is_damaged_is_brought_up_as_it_is(rt: HostRuntime) -> Result<(), Fail> {
+    let alloc = rt.alloc();
+    let mut conn = database_of(alloc, &[])?;
+    fill_with_three(alloc, &mut conn)?;
+    conn.execute_batch("INSERT INTO feed_release VALUES ('x', 'x', 0, 1, 1)")?;
+    if !conn.is_autocommit() {
+        return Err(Fail::new("a transaction is open"));
+    }
+    let mut conn = adopted(alloc, conn)?.into_connection();
+    assert_eq!(rt; reasons_in(alloc, &mut conn)?.as_slice(), b"layout 2\n".as_slice());
+    assert_eq!(rt; fault_over(alloc, conn)?, KeepFault::Damaged);
+    Ok(())
+}
+
+#[test]
+fn a_reason_that_is_not_the_file_s_is_damaged(rt: HostRuntime) -> Result<(), Fail> {
+    let alloc = rt.alloc();
+    let changes = [
+        "UPDATE feed_reason SET reason = 3, label = 0",
+        "UPDATE feed_reason SET label = 7",
+        "UPDATE feed_reason SET label = 0",
+        "UPDATE feed_reason SET name = 'Acme_Global_All_2024-01-01.txt'",
+        "INSERT INTO feed_reason VALUES ('Acme_Global_All_2024-02-01.txt', 3, 0)",
+        "DELETE FROM feed_reason",
+    ];
+    for change in changes {
+        let mut conn = database_of(alloc, &[])?;
+        fill_with_three(alloc, &mut conn)?;
+        let mut conn = adopted(alloc, conn)?.into_connection();
+        conn.execute_batch(change)?;
+        if !conn.is_autocommit() {
+            return Err(Fail::new("a transaction is open"));
+        }
+        assert_eq!(rt; fault_over(alloc, conn)?, KeepFault::Damaged, "{change}");
+    }
+    Ok(())
+}
+
+#[test]
+fn it_is_brought_up_beside_other_tables(rt: HostRuntime) -> Result<(), Fail> {
+    let alloc = rt.alloc();
+    let others = [
+        "CREATE TABLE note (t TEXT)",
+        "INSERT INTO note VALUES ('one'), ('two')",
+    ];
+    let mut conn = database_of(alloc, &others)?;
+    fill_with_three(alloc, &mut conn)?;
+    let mut keeper = adopted(alloc, conn)?;
+    assert_eq!(rt;
+        content_of(alloc, &mut keeper)?.as_slice(),
+        three_records(alloc)?.as_slice()
+    );
+    let mut conn = keeper.into_connection();
+    assert_eq!(rt; reasons_in(alloc, &mut conn)?.as_slice(), REASONS);
+    assert_eq!(rt; conn.query_all("SELECT t FROM note", &[])?.len(), 2);
+    Ok(())
+}
+
+// What a stop left opens with one layout whole, and is brought up by the next adoption. It tells whether that was done.
+fn is_whole(
+    rt: &impl Abort,
+    alloc: Global,
+    files: Files,
+    layouts: (&[u8], &[u8]),
+) -> Result<bool, Fail> {
+    let Ok(mut conn) = opened(alloc, files) else {
+        return Err(Fail::new("it does not open"));
+    };
+    let seen = seen_in(alloc, &mut conn)?;
+    let is_new = seen.as_slice() == layouts.1;
+    assert!(rt; is_new || seen.as_slice() == layouts.0);
+    let number = if is_new { 2 } else { 1 };
+    for row in conn.query_all("SELECT version FROM feed_layout", &[])? {
+        assert_eq!(rt; row.get::<i64>(0)?, number);
+    }
+    let mut keeper = adopted(alloc, conn)?;
+    assert_eq!(rt;
+        content_of(alloc, &mut keeper)?.as_slice(),
+        three_records(alloc)?.as_slice()
+    );
+    let mut conn = keeper.into_connection();
+    assert_eq!(rt; reasons_in(alloc, &mut conn)?.as_slice(), REASONS);
+    Ok(is_new)
+}
+
+#[test]
+fn a_stop_at_any_call_leaves_one_layout_whole(rt: HostRuntime) -> Result<(), Fail> {
+    let alloc = rt.alloc();
+    let empty = Files {
+        log: Fuse::new(Memory::new(alloc), u64::MAX),
+        db: Fuse::new(Memory::new(alloc), u64::MAX),
+    };
+    let Ok(mut conn) = opened(alloc, empty) else {
+        return Err(Fail::new("it does not open"));
+    };
+    fill_with_three(alloc, &mut conn)?;
+    let old = seen_in(alloc, &mut conn)?;
+    let mut fresh = SqlKeep::open_memory(alloc)?.into_connection();
+    let new = seen_in(alloc, &mut fresh)?;
+    let first = files_of(conn);
+    let mut met = 0_u64;
+    let mut done = 0_u64;
+    for of_log in [true, false] {
+        for calls in 0..10_000_u64 {
+            let (log, db) = if of_log {
+                (calls, u64::MAX)
+            } else {
+                (u64::MAX, calls)
+            };
+            let files = Files {
+                log: as_left(alloc, &first.log, log)?,
+                db: as_left(alloc, &first.db, db)?,
+            };
+            let mut files = match opened(alloc, files) {
+                Err(files) => files,
+                Ok(conn) => match SqlKeep::adopt(alloc, conn) {
+                    Err(fault) => files_of(fault.connection),
+                    Ok(_) => break,
+                },
+            };
+            met = met.saturating_add(1);
+            let left = Files {
+                log: as_left(alloc, &files.log, u64::MAX)?,
+                db: as_left(alloc, &files.db, u64::MAX)?,
+            };
+            let layouts = (old.as_slice(), new.as_slice());
+            done = done.saturating_add(u64::from(is_whole(&rt, alloc, left, layouts)?));
+            files.log.crash();
+            files.db.crash();
+            is_whole(&rt, alloc, files, layouts)?;
+        }
+    }
+    println!(rt; "stops {met}, {done} of them when it was done")?;
+    assert!(rt; met > 10 && met < 20_000);
+    Ok(())
+}
