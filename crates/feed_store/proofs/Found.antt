@@ -1,6 +1,6 @@
 -- What an adoption says of a database that is found in either layout.
 use Rattle.std.proofs.Common.{◌≡◌, ◌≢◌, [], ◌∷◌, Bool, IsTrue, length, sym, ap, subst, ◌∙◌, arith}
-use Rattle.sqlite.specs.Effect.{Database, IsDatabase}
+use Rattle.sqlite.specs.Effect.{IsDatabase}
 use Rattle.sqlite.specs.Change.{automatics}
 use Rattle.sqlite.specs.State.{State, HasCleanDisk}
 use Rattle.feed_rows.specs.Layout.{earlier_schema, feed_schema, no_schema, reason}
@@ -27,7 +27,7 @@ module _ (old new : State) (alone : Bool) (sound : IsTrue old.is_open → IsData
         obeyed = sound (live is).1;
         version = (told.1 is.0 (reason ∷ []) (automatics reason 0 6 reason.uniques) schema).1.0 told.0;
       } in record {
-        ours = λ yes is. (subst IsOurs (sym (same is)) (mine is), live is);
+        ours = λ _ is. (subst IsOurs (sym (same is)) (mine is), live is);
         found = λ is ours. (told.0, same is);
         blank = λ is none. absurd (ours_is_some (sym schema ∙ none.schema_is));
         earlier = λ is early. absurd (ours_is_later (sym schema ∙ early.schema));
@@ -36,10 +36,10 @@ module _ (old new : State) (alone : Bool) (sound : IsTrue old.is_open → IsData
   -- one of layout 1 is brought up
   pub found_earlier : old.now.schema ≡ earlier_schema → IsTrue alone → (IsLive new → old.now.schema ≡ earlier_schema → IsFirst old.now)
       → (IsLive new → IsEarlier old.now → IsBroughtUp old.now new.now) → IsAdopted old new alone
-  found_earlier schema yes first moved =
+  found_earlier schema alone-it-is first moved =
       let mine : IsLive new → IsEarlier old.now = λ is. record { schema = schema; obeyed = sound (live is).1; version = first is schema } in record {
         ours = λ _ is. ((moved is (mine is)).ours, live is);
         found = λ is ours. absurd (ours_is_later (sym ours.schema ∙ schema));
         blank = λ is none. absurd (earlier_is_some (sym schema ∙ none.schema_is));
-        earlier = λ is early. (yes, moved is early);
+        earlier = λ is early. (alone-it-is, moved is early);
       }

@@ -1,13 +1,11 @@
 -- What was a content of a history and got its reasons is explained.
-use Rattle.std.proofs.Common.{◌≡◌, ◌≢◌, ◌<◌, ℕ, List, [], ◌∷◌, suc, length, Option, Some, None, IsSome, get_or, slice_get, refl, sym, ap, subst, ◌∙◌, arith}
-use Rattle.std.specs.List.{IsDistinct}
-use Rattle.feed_names.specs.ReleaseName.{Name, name_eq}
+use Rattle.std.proofs.Common.{◌≡◌, ◌<◌, ℕ, List, [], ◌∷◌, suc, length, Option, Some, None, IsSome, get_or, refl, sym, subst, ◌∙◌, arith}
+use Rattle.feed_names.specs.ReleaseName.{Name}
 use Rattle.feed_kbart.specs.declared.fault.BadFile.{BadFile}
 use Rattle.feed_model.specs.declared.state.State.{State}
 use Rattle.feed_model.specs.declared.state.State.TheVariants.{Staged, Broken, Active}
-use Rattle.feed_model.specs.File.{fault_of}
-use Rattle.feed_model.specs.History.{History, IsFile, kept}
-use Rattle.feed_model.specs.Content.{Content, Record, IsState, IsText, names, record_of}
+use Rattle.feed_model.specs.History.{History, IsFile}
+use Rattle.feed_model.specs.Content.{Content, Record, IsState, IsText, record_of}
 use Rattle.feed_model.specs.Earlier.{AreExplained, IsEarlierContent, IsEarlierRecord, IsExplained, IsSameRelease, without_refused}
 use Rattle.feed_model.specs.Sound.{Explains}
 use Rattle.feed_model.specs.Reply.{IsLegal}
@@ -15,7 +13,7 @@ use Rattle.feed_model.proofs.Bytes.{slice_some, within_by}
 use Rattle.feed_model.proofs.Earlier.{legal_now, release_same}
 use Rattle.feed_model.proofs.Limits.{kept_inside, size_limit}
 use Rattle.feed_model.proofs.Places.{record_of-at}
-use Rattle.feed_keep.specs.BadFile.{HasFile, IsBadOf}
+use Rattle.feed_keep.specs.BadFile.{HasFile}
 use Rattle.feed_store.specs.Upgraded.{AreReasoned, IsReasonOf, IsReasoned}
 
 module _ (h : History) (n : Name) (r : Record) (is : IsEarlierRecord h n r) (legal : IsLegal (without_refused h)) where

@@ -1,16 +1,14 @@
 -- Records and the reasons that they get.
-use Rattle.std.proofs.Common.{◌≡◌, Bool, true, false, cond, if◌then◌else◌, List, [], ◌∷◌, ◌++◌, length, Option, Some, None, refl, sym, ap, subst, ◌∙◌, arith}
+use Rattle.std.proofs.Common.{◌≡◌, false, List, [], ◌∷◌, ◌++◌, length, Option, Some, None, refl, sym, ap, subst, ◌∙◌, arith}
 use Rattle.std.specs.List.{AllByRecursion, IsDistinct}
 use Rattle.std.proofs.lemmas.Map.Keys.{IsDistinct-head, IsDistinct-tail}
 use Rattle.sqlite.specs.Effect.{Database}
-use Rattle.feed_names.specs.ReleaseName.{Name, name_eq}
+use Rattle.feed_names.specs.ReleaseName.{name_eq}
 use Rattle.feed_kbart.specs.declared.fault.BadFile.{BadFile}
 use Rattle.feed_model.specs.declared.state.State.{State}
 use Rattle.feed_model.specs.declared.state.State.TheVariants.{Staged, Broken, Active}
 use Rattle.feed_model.specs.Content.{Content, Record, names}
-use Rattle.feed_model.specs.Change.{changed}
 use Rattle.feed_model.proofs.Names.{name_self}
-use Rattle.feed_rows.specs.Records.{with_reason}
 use Rattle.feed_rows.specs.Tables.{IsEarlier, IsEarlierListed, IsTabled, earlier_content_of}
 use Rattle.feed_rows.proofs.Explained.{all_records}
 use Rattle.feed_rows.proofs.Ours.{tabled_earlier}
@@ -69,7 +67,7 @@ with_all (r ∷ rs) (s ∷ ss) all apart bare =
     let is : s ≡ record r { reason = all.0.0 } = all.0.2 in
     let first : explain s (r ∷ rs) ≡ s ∷ rs = rw is (fronted r rs all.0.0 bare.0) in
     let others : AllByRecursion (λ n. name_eq s.name n ≡ false) (names ss) = subst (λ (x : Record). AllByRecursion (λ n. name_eq x.name n ≡ false) (names ss)) (sym is)
-        (subst (AllByRecursion (λ n. name_eq r.name n ≡ false)) (sym (reasoned_names rs ss all.1)) (IsDistinct-head name_eq r.name (names rs) apart)) in
+    (subst (AllByRecursion (λ n. name_eq r.name n ≡ false)) (sym (reasoned_names rs ss all.1)) (IsDistinct-head name_eq r.name (names rs) apart)) in
     ap (explained_with ss) first ∙ passed s ss rs others
     ∙ ap (λ (x : Content). s ∷ x) (with_all rs ss all.1 (IsDistinct-tail name_eq r.name (names rs) apart) bare.1)
 

@@ -1,7 +1,9 @@
 // Databases that are taken as keepers, or refused.
 ghost use Rattle.std.specs.Prelude.{◌≡◌, false, IfOk};
 
-use crate::layouts::{LAYOUT, NUMBER, PIECE, REASON, RELEASE, SECOND, adopted, database_of, opened, seen_in};
+use crate::layouts::{
+    LAYOUT, NUMBER, PIECE, REASON, RELEASE, SECOND, adopted, database_of, opened, seen_in,
+};
 use feed_keep::{Keep, KeepFault, State};
 use feed_releases::{Event, Feed, OpenFault};
 use feed_samples::{JANUARY, content_of, january_file, listed, name_of, record_of};
@@ -52,19 +54,32 @@ fn a_foreign_database_is_refused_and_stays_as_it_was(rt: HostRuntime) -> Result<
         &[LAYOUT, NUMBER],
         &[LAYOUT, RELEASE, NUMBER],
         &[LAYOUT, RELEASE, PIECE],
+        &[LAYOUT, RELEASE, PIECE, NUMBER, SECOND],
+        &[LAYOUT, RELEASE, PIECE, SECOND],
+        // The table of layout 2 without its number, and beside those of layout 1.
+        &[LAYOUT, RELEASE, PIECE, REASON, NUMBER],
         &[
             LAYOUT,
             RELEASE,
             PIECE,
             NUMBER,
-            SECOND,
+            "CREATE TABLE feed_reason (t TEXT)",
         ],
-        &[LAYOUT, RELEASE, PIECE, SECOND],
-        // The table of layout 2 without its number, and beside those of layout 1.
-        &[LAYOUT, RELEASE, PIECE, REASON, NUMBER],
-        &[LAYOUT, RELEASE, PIECE, NUMBER, "CREATE TABLE feed_reason (t TEXT)"],
-        &[LAYOUT, RELEASE, PIECE, NUMBER, "CREATE VIEW feed_reason AS SELECT 1"],
-        &["CREATE TABLE note (t TEXT)", LAYOUT, RELEASE, PIECE, REASON, NUMBER],
+        &[
+            LAYOUT,
+            RELEASE,
+            PIECE,
+            NUMBER,
+            "CREATE VIEW feed_reason AS SELECT 1",
+        ],
+        &[
+            "CREATE TABLE note (t TEXT)",
+            LAYOUT,
+            RELEASE,
+            PIECE,
+            REASON,
+            NUMBER,
+        ],
         &["CREATE TABLE note (t TEXT)", LAYOUT, RELEASE, PIECE, SECOND],
         &[REASON],
         &[
@@ -117,7 +132,7 @@ fn other_tables_are_left_alone(rt: HostRuntime) -> Result<(), Fail> {
     let mut keeper = adopted(alloc, conn)?;
     assert_eq!(rt;
         content_of(alloc, &mut keeper)?.as_slice(),
-        b"X_2024-01-01.txt 0 Broken\n".as_slice()
+        b"X_2024-01-01.txt 0 Broken (NoHeader)\n".as_slice()
     );
     Ok(())
 }

@@ -144,13 +144,20 @@ fn a_database_of_layout_1_means_what_it_meant(rt: HostRuntime) -> Result<(), Fai
     fill_with_three(alloc, &mut conn)?;
     let mut keeper = adopted(alloc, conn)?;
     let expected = three_records(alloc)?;
-    assert_eq!(rt; content_of(alloc, &mut keeper)?.as_slice(), expected.as_slice());
+    assert_eq!(rt;
+        content_of(alloc, &mut keeper)?.as_slice(),
+        expected.as_slice()
+    );
     let mut feed = Feed::open(alloc, keeper).map_err(|fault| Fail::new(fault.cause))?;
     let active = feed
         .report(PACKAGE)
         .map(|name| name.text() == JANUARY.as_bytes());
     assert_eq!(rt; active, Some(true));
-    for (text, why) in [(JANUARY, None), (FEBRUARY, None), (MARCH, Some(WITHOUT_URL))] {
+    for (text, why) in [
+        (JANUARY, None),
+        (FEBRUARY, None),
+        (MARCH, Some(WITHOUT_URL)),
+    ] {
         assert_eq!(rt; feed.reason(&name_of(alloc, text)?), why);
     }
     let february = name_of(alloc, FEBRUARY)?;
@@ -159,7 +166,10 @@ fn a_database_of_layout_1_means_what_it_meant(rt: HostRuntime) -> Result<(), Fai
     assert_eq!(rt; reasons_in(alloc, &mut conn)?.as_slice(), REASONS);
     // Taken again it stays as it is.
     let mut keeper = adopted(alloc, conn)?;
-    assert_eq!(rt; content_of(alloc, &mut keeper)?.as_slice(), expected.as_slice());
+    assert_eq!(rt;
+        content_of(alloc, &mut keeper)?.as_slice(),
+        expected.as_slice()
+    );
     let mut conn = keeper.into_connection();
     assert_eq!(rt; reasons_in(alloc, &mut conn)?.as_slice(), REASONS);
     Ok(())
@@ -224,7 +234,10 @@ fn a_broken_release_with_a_good_file_gets_no_reason(rt: HostRuntime) -> Result<(
         };
         fill(&mut conn, &[rows])?;
         let mut conn = adopted(alloc, conn)?.into_connection();
-        assert_eq!(rt; reasons_in(alloc, &mut conn)?.as_slice(), b"layout 2\n".as_slice());
+        assert_eq!(rt;
+            reasons_in(alloc, &mut conn)?.as_slice(),
+            b"layout 2\n".as_slice()
+        );
         assert_eq!(rt; fault_over(alloc, conn)?, KeepFault::Damaged);
     }
     Ok(())
@@ -240,7 +253,10 @@ fn a_list_that_is_damaged_is_brought_up_as_it_is(rt: HostRuntime) -> Result<(), 
         return Err(Fail::new("a transaction is open"));
     }
     let mut conn = adopted(alloc, conn)?.into_connection();
-    assert_eq!(rt; reasons_in(alloc, &mut conn)?.as_slice(), b"layout 2\n".as_slice());
+    assert_eq!(rt;
+        reasons_in(alloc, &mut conn)?.as_slice(),
+        b"layout 2\n".as_slice()
+    );
     assert_eq!(rt; fault_over(alloc, conn)?, KeepFault::Damaged);
     Ok(())
 }

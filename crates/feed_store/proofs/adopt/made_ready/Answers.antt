@@ -1,6 +1,6 @@
-use Rattle.std.proofs.Common.{Err, IfOk, Ok, Result, Bool, IsTrue, subst, sym, ◌∙◌}
+use Rattle.std.proofs.Common.{Err, IfOk, Ok, Result, Bool, subst, sym, ◌∙◌}
 use Rattle.sqlite.specs.Held.{state}
-use Rattle.feed_store.specs.Adopted.{IsAdopted, TakesAllOrNone}
+use Rattle.feed_store.specs.Adopted.{TakesAllOrNone}
 use Rattle.feed_store.proofs.Found.{found_earlier, found_ours}
 use Rattle.feed_store.proofs.Taken.{earlier-takes, ours-takes}
 use Rattle.feed_store.proofs.adopt.made_ready.Goals as goal
@@ -25,7 +25,7 @@ returns-then-is_laid_out-clause-adopted g c =
     let old = state g.S.Store c.args.conn.now in
     let new = state g.S.Store c.numbered.new.conn in
     follows c.numbered.result c.numbered.ensures.told (λ alone told.
-    found_ours old new alone (λ open. (c.schema-2.ensures.live open).0) c.numbered.ensures.live
+    found_ours old new alone (λ is. (c.schema-2.ensures.live is).0) c.numbered.ensures.live
     (sym c.schema-2.ensures.value ∙ c.is_laid_out.ensures.0 c.if-is_laid_out.true) c.numbered.ensures.same told)
 
 pub returns-then-is_laid_out-clause-together : goal.returns-then-is_laid_out-clause-together
@@ -37,8 +37,8 @@ returns-then-is_earlier-clause-adopted g c =
     let old = state g.S.Store c.args.conn.now in
     let new = state g.S.Store c.brought_up.new.conn in
     let up = c.brought_up.ensures in
-    follow c.brought_up.result up.alone up.first up.moved (λ alone yes first moved.
-    found_earlier old new alone (λ open. (c.schema-3.ensures.live open).0) up.live (sym c.schema-3.ensures.value ∙ c.is_earlier.ensures.0 c.if-is_earlier.true) yes first moved)
+    follow c.brought_up.result up.alone up.first up.moved (λ alone is first moved.
+    found_earlier old new alone (λ is. (c.schema-3.ensures.live is).0) up.live (sym c.schema-3.ensures.value ∙ c.is_earlier.ensures.0 c.if-is_earlier.true) is first moved)
 
 pub returns-then-is_earlier-clause-together : goal.returns-then-is_earlier-clause-together
 returns-then-is_earlier-clause-together g c =

@@ -17,7 +17,7 @@ loop-record-preserved c =
     let next = c.with_reason.result in
     let step : c.loop-record.record-iterator.rest.items ≡ item ∷ c.next.new.self.rest.items = (rw c.in-Some.is at c.next.ensures.steps).0 in
     let more = reasoned_more (shown c.loop-record.yielded) (shown c.loop-record.told.items) (shown_record item) (shown_record next) was.told
-        (c.in_ok-reason.reason, c.in_ok-reason.ensures, c.with_reason.ensures) in
+    (c.in_ok-reason.reason, c.in_ok-reason.ensures, c.with_reason.ensures) in
     record {
       told = rw c.in_ok-push.ensures.items
           (subst (λ (l : Content). AreReasoned l (shown (c.loop-record.told.items ++ next ∷ []))) (sym (map-append shown_record c.loop-record.yielded (item ∷ [])))
