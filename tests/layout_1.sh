@@ -7,10 +7,9 @@
 # tests/layout_1.db was made so. It has an active release, a later one without a label, an empty one of another package,
 # and one of a third package of which the last bytes are missing.
 set -eu
-program=$(realpath "$1"); database=$(realpath "$2")
+PATH=$(realpath "$(dirname "$1")"):$PATH; database=$(realpath "$2")
 TESTS=$(realpath "$(dirname "$0")")
 work=$(mktemp -d); cd "$work"
-kbfeed() { "$program" "$@"; }
 . "$TESTS/lists.sh"; . "$TESTS/serving.sh"
 mkdir lists
 printf "$HEADER$ACTA" > lists/$J
@@ -24,8 +23,8 @@ fetched $J --piece 100
 fetched $F --piece 100
 fetched Borealis_2024-01-01.txt
 kill $SERVER; wait $SERVER 2> /dev/null || true
-serving lists --count 3
+serving lists --count 2
 fetched Cygnus_2024-01-01.txt --piece 100
 wait $SERVER || true
-kbfeed status "$database"
+kbfeed status "$database"; rm -f "$database-wal"
 cd /; rm -r "$work"
