@@ -263,7 +263,7 @@ def heads(draw, count, folder):
 
 # Replies.
 
-REPLY_FIELDS = [b"Content-Length: 0", b"Content-Length: 5", b"Content-Length: 67108865", b"Content-Length: +5",
+REPLY_FIELDS = [b"Content-Length: 0", b"Content-Length: 5", b"Content-Length: 268435457", b"Content-Length: +5",
                 b"Content-Length: 5, 5", b"Content-Range: bytes 0-9/10", b"Content-Range: bytes */0",
                 b"Content-Range: bytes 9-0/10", b"Content-Range: bytes 0-18446744073709551615/*",
                 b"Transfer-Encoding: chunked", b"Transfer-Encoding: gzip", b"Content-Encoding: gzip", b"Connection: x",

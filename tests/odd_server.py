@@ -50,7 +50,7 @@ REPLIES = {
     "no-length": lambda first, last, file: message("200 OK"),
     "no-range": lambda first, last, file: message("206 Partial Content", "Content-Length: 1", body=b"x"),
     "longer": lambda first, last, file: message("200 OK", f"Content-Length: {len(file) + 1}"),
-    "past-limit": lambda first, last, file: message("200 OK", "Content-Length: 67108865"),
+    "past-limit": lambda first, last, file: message("200 OK", "Content-Length: 268435457"),
     "other-total": lambda first, last, file: part(first, last, len(file) + 1, file[first:last + 1]),
     "outside": lambda first, last, file: part(len(file) - 5, len(file) + 4, "*", b"x" * 10),
     "long-part": lambda first, last, file: part(0, 1_048_576, "*", b"x" * 1_048_577),

@@ -53,12 +53,23 @@ fn fill<S: Alter>(conn: &mut Connection<S>, releases: &[Rows<'_>]) -> Result<(),
     Ok(())
 }
 
+// The bytes before a place, and those from it on.
+fn cut(bytes: &[u8], at: usize) -> Result<(&[u8], &[u8]), Fail> {
+    match bytes.split_at_checked(at) {
+        Some(halves) => Ok(halves),
+        None => Err(Fail::new("the file is short")),
+    }
+}
+
 // An active release, one of which a place is missing, and a broken one.
 fn fill_with_three<S: Alter>(alloc: Global, conn: &mut Connection<S>) -> Result<(), Fail>
     ensures { IfOk result (λ _. conn.new.in_transaction ≡ false) }
 {
     let january = january_file(alloc)?;
     let february = february_file(alloc)?;
+    let (january_start, january_end) = cut(&january, 100)?;
+    let (_, february_end) = cut(&february, 1)?;
+    let (march_start, march_end) = cut(HEADER_WITHOUT_URL, 7)?;
     fill(
         conn,
         &[
@@ -67,21 +78,21 @@ fn fill_with_three<S: Alter>(alloc: Global, conn: &mut Connection<S>) -> Result<
                 day: 19_723,
                 size: 205,
                 state: 2,
-                parts: &[(0, &january[..100]), (100, &january[100..])],
+                parts: &[(0, january_start), (100, january_end)],
             },
             Rows {
                 name: FEBRUARY,
                 day: 19_754,
                 size: 243,
                 state: 0,
-                parts: &[(1, &february[1..])],
+                parts: &[(1, february_end)],
             },
             Rows {
                 name: MARCH,
                 day: 19_783,
                 size: 141,
                 state: 1,
-                parts: &[(0, &HEADER_WITHOUT_URL[..7]), (7, &HEADER_WITHOUT_URL[7..])],
+                parts: &[(0, march_start), (7, march_end)],
             },
         ],
     )
@@ -91,6 +102,9 @@ fn fill_with_three<S: Alter>(alloc: Global, conn: &mut Connection<S>) -> Result<
 fn three_records(alloc: Global) -> Result<Vec<u8>, Fail> {
     let january = january_file(alloc)?;
     let february = february_file(alloc)?;
+    let (january_start, january_end) = cut(&january, 100)?;
+    let (_, february_end) = cut(&february, 1)?;
+    let (march_start, march_end) = cut(HEADER_WITHOUT_URL, 7)?;
     listed(
         alloc,
         &[
@@ -99,15 +113,15 @@ fn three_records(alloc: Global) -> Result<Vec<u8>, Fail> {
                 JANUARY,
                 205,
                 State::Active,
-                &[(0, &january[..100]), (100, &january[100..])],
+                &[(0, january_start), (100, january_end)],
             )?,
-            record_of(alloc, FEBRUARY, 243, State::Staged, &[(1, &february[1..])])?,
+            record_of(alloc, FEBRUARY, 243, State::Staged, &[(1, february_end)])?,
             broken_record_of(
                 alloc,
                 MARCH,
                 141,
                 WITHOUT_URL,
-                &[(0, &HEADER_WITHOUT_URL[..7]), (7, &HEADER_WITHOUT_URL[7..])],
+                &[(0, march_start), (7, march_end)],
             )?,
         ],
     )
@@ -212,35 +226,43 @@ fn fault_over(alloc: Global, conn: Connection<MemStore>) -> Result<KeepFault, Fa
     }
 }
 
-#[test]
-fn a_broken_release_with_a_good_file_gets_no_reason(rt: HostRuntime) -> Result<(), Fail> {
-    let alloc = rt.alloc();
-    let january = january_file(alloc)?;
-    let files: [&[(u32, &[u8])]; 4] = [
-        // A good file; one of which a place is missing; one that is longer than its size; and overlapping parts.
-        &[(0, &january)],
-        &[(0, &january[..204])],
-        &[(0, &january), (205, b"x")],
-        &[(0, &january[..100]), (99, &january[99..])],
-    ];
-    for parts in files {
-        let mut conn = database_of(alloc, &[])?;
-        let rows = Rows {
-            name: JANUARY,
-            day: 19_723,
-            size: 205,
-            state: 1,
-            parts,
-        };
-        fill(&mut conn, &[rows])?;
-        let mut conn = adopted(alloc, conn)?.into_connection();
-        assert_eq!(rt;
-            reasons_in(alloc, &mut conn)?.as_slice(),
-            b"layout 2\n".as_slice()
-        );
-        assert_eq!(rt; fault_over(alloc, conn)?, KeepFault::Damaged);
+// A broken release of 205 bytes.
+fn broken<'a>(parts: &'a [(u32, &'a [u8])]) -> Rows<'a> {
+    Rows {
+        name: JANUARY,
+        day: 19_723,
+        size: 205,
+        state: 1,
+        parts,
     }
+}
+
+// The release is brought up without a reason, and no feed opens over it.
+fn gets_no_reason(rt: &impl Abort, alloc: Global, releases: &[Rows<'_>]) -> Result<(), Fail> {
+    let mut conn = database_of(alloc, &[])?;
+    fill(&mut conn, releases)?;
+    let mut conn = adopted(alloc, conn)?.into_connection();
+    assert_eq!(rt;
+        reasons_in(alloc, &mut conn)?.as_slice(),
+        b"layout 2\n".as_slice()
+    );
+    assert_eq!(rt; fault_over(alloc, conn)?, KeepFault::Damaged);
     Ok(())
+}
+
+#[test]
+fn a_broken_release_without_a_bad_file_gets_no_reason(rt: HostRuntime) -> Result<(), Fail> {
+    let alloc = rt.alloc();
+    let file = january_file(alloc)?;
+    // Its file is good; a place of it is missing; it is longer than its size; its parts overlap.
+    gets_no_reason(&rt, alloc, &[broken(&[(0, &file[..])])])?;
+    gets_no_reason(&rt, alloc, &[broken(&[(0, &file[..204])])])?;
+    gets_no_reason(&rt, alloc, &[broken(&[(0, &file[..]), (205, b"x")])])?;
+    gets_no_reason(
+        &rt,
+        alloc,
+        &[broken(&[(0, &file[..100]), (99, &file[99..])])],
+    )
 }
 
 #[test]
