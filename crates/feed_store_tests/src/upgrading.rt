@@ -18,37 +18,30 @@ use std::io::Write;
 use std::process::Abort;
 use std::test::Fail;
 
-// A release of the package as its rows tell it.
-#[derive(Drop)]
-struct Rows<'a> {
-    name: &'a str,
-    day: u32,
-    size: u32,
-    state: u32,
-    parts: &'a [(u32, &'a [u8])],
-}
-
-// Makes the tables of layout 1, with these releases.
-fn fill<S: Alter>(conn: &mut Connection<S>, releases: &[Rows<'_>]) -> Result<(), Fail>
-    ensures { IfOk result (λ _. conn.new.in_transaction ≡ false) }
-{
+// Makes the tables of layout 1, without a release.
+fn lay_out<S: Alter>(conn: &mut Connection<S>) -> Result<(), Fail> {
     for text in [LAYOUT, RELEASE, PIECE, NUMBER] {
         conn.execute_batch(text)?;
     }
-    for rows in releases {
+    Ok(())
+}
+
+// Adds a release of the package, of this day, size and state, with its parts.
+fn add<S: Alter>(
+    conn: &mut Connection<S>,
+    name: &str,
+    (day, size, state): (u32, u32, u32),
+    parts: &[(u32, &[u8])],
+) -> Result<(), Fail> {
+    conn.execute(
+        "INSERT INTO feed_release VALUES (?1, 'Acme_Global_All', ?2, ?3, ?4)",
+        params![name, day, size, state],
+    )?;
+    for (first, bytes) in parts {
         conn.execute(
-            "INSERT INTO feed_release VALUES (?1, 'Acme_Global_All', ?2, ?3, ?4)",
-            params![rows.name, rows.day, rows.size, rows.state],
+            "INSERT INTO feed_piece VALUES (?1, ?2, ?3)",
+            params![name, *first, *bytes],
         )?;
-        for (first, bytes) in rows.parts {
-            conn.execute(
-                "INSERT INTO feed_piece VALUES (?1, ?2, ?3)",
-                params![rows.name, *first, *bytes],
-            )?;
-        }
-    }
-    if !conn.is_autocommit() {
-        return Err(Fail::new("a transaction is open"));
     }
     Ok(())
 }
@@ -70,32 +63,24 @@ fn fill_with_three<S: Alter>(alloc: Global, conn: &mut Connection<S>) -> Result<
     let (january_start, january_end) = cut(&january, 100)?;
     let (_, february_end) = cut(&february, 1)?;
     let (march_start, march_end) = cut(HEADER_WITHOUT_URL, 7)?;
-    fill(
+    lay_out(conn)?;
+    add(
         conn,
-        &[
-            Rows {
-                name: JANUARY,
-                day: 19_723,
-                size: 205,
-                state: 2,
-                parts: &[(0, january_start), (100, january_end)],
-            },
-            Rows {
-                name: FEBRUARY,
-                day: 19_754,
-                size: 243,
-                state: 0,
-                parts: &[(1, february_end)],
-            },
-            Rows {
-                name: MARCH,
-                day: 19_783,
-                size: 141,
-                state: 1,
-                parts: &[(0, march_start), (7, march_end)],
-            },
-        ],
-    )
+        JANUARY,
+        (19_723, 205, 2),
+        &[(0, january_start), (100, january_end)],
+    )?;
+    add(conn, FEBRUARY, (19_754, 243, 0), &[(1, february_end)])?;
+    add(
+        conn,
+        MARCH,
+        (19_783, 141, 1),
+        &[(0, march_start), (7, march_end)],
+    )?;
+    if !conn.is_autocommit() {
+        return Err(Fail::new("a transaction is open"));
+    }
+    Ok(())
 }
 
 // What a keeper holds of these three in layout 2.
@@ -226,21 +211,14 @@ fn fault_over(alloc: Global, conn: Connection<MemStore>) -> Result<KeepFault, Fa
     }
 }
 
-// A broken release of 205 bytes.
-fn broken<'a>(parts: &'a [(u32, &'a [u8])]) -> Rows<'a> {
-    Rows {
-        name: JANUARY,
-        day: 19_723,
-        size: 205,
-        state: 1,
-        parts,
-    }
-}
-
-// The release is brought up without a reason, and no feed opens over it.
-fn gets_no_reason(rt: &impl Abort, alloc: Global, releases: &[Rows<'_>]) -> Result<(), Fail> {
+// A broken release of 205 bytes with these parts is brought up without a reason, and no feed opens over it.
+fn gets_no_reason(rt: &impl Abort, alloc: Global, parts: &[(u32, &[u8])]) -> Result<(), Fail> {
     let mut conn = database_of(alloc, &[])?;
-    fill(&mut conn, releases)?;
+    lay_out(&mut conn)?;
+    add(&mut conn, JANUARY, (19_723, 205, 1), parts)?;
+    if !conn.is_autocommit() {
+        return Err(Fail::new("a transaction is open"));
+    }
     let mut conn = adopted(alloc, conn)?.into_connection();
     assert_eq!(rt;
         reasons_in(alloc, &mut conn)?.as_slice(),
@@ -254,15 +232,14 @@ fn gets_no_reason(rt: &impl Abort, alloc: Global, releases: &[Rows<'_>]) -> Resu
 fn a_broken_release_without_a_bad_file_gets_no_reason(rt: HostRuntime) -> Result<(), Fail> {
     let alloc = rt.alloc();
     let file = january_file(alloc)?;
+    let (start, _) = cut(&file, 100)?;
+    let (before_last, _) = cut(&file, 204)?;
+    let (_, overlapping) = cut(&file, 99)?;
     // Its file is good; a place of it is missing; it is longer than its size; its parts overlap.
-    gets_no_reason(&rt, alloc, &[broken(&[(0, &file[..])])])?;
-    gets_no_reason(&rt, alloc, &[broken(&[(0, &file[..204])])])?;
-    gets_no_reason(&rt, alloc, &[broken(&[(0, &file[..]), (205, b"x")])])?;
-    gets_no_reason(
-        &rt,
-        alloc,
-        &[broken(&[(0, &file[..100]), (99, &file[99..])])],
-    )
+    gets_no_reason(&rt, alloc, &[(0, file.as_slice())])?;
+    gets_no_reason(&rt, alloc, &[(0, before_last)])?;
+    gets_no_reason(&rt, alloc, &[(0, file.as_slice()), (205, b"x")])?;
+    gets_no_reason(&rt, alloc, &[(0, start), (99, overlapping)])
 }
 
 #[test]
