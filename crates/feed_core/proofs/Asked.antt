@@ -8,7 +8,7 @@ use Rattle.feed_answer.specs.Queries.{query_of}
 use Rattle.feed_answer.specs.Answers.{answer_of, answer_text}
 use Rattle.feed_model.specs.History.{History, IsFile, Reports}
 use Rattle.feed_world.specs.World.{Text, IsAsked, text_for, file_says}
-use Rattle.feed_world.proofs.Over.{reports_one}
+use Rattle.feed_model.proofs.Reports.{reports_one}
 use Rattle.feed_releases.specs.Answered.{IsAnswered}
 
 -- the text of the hits of a whole file

@@ -1,3 +1,4 @@
 pub mod Dates
 pub mod DateTexts
 pub mod DateLaw
+mod DatesWritten

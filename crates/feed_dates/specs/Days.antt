@@ -1,9 +1,11 @@
 -- Days of the Gregorian calendar from year 1 to 9999, and their dates as ISO 8601 writes them.
 use Rattle.std.specs.Prelude.{◌≡◌, ◌==◌, ◌&&◌, ℕ, zero, suc, ◌+◌, ◌-◌, ◌*◌, ◌/◌, ◌%◌, nat_le}
-use Rattle.std.specs.Prelude.{Bool, if◌then◌else◌, List, [], ◌∷◌, ◌++◌, Option, Some, None, ℤ}
+use Rattle.std.specs.Prelude.{Bool, false, if◌then◌else◌, List, [], ◌∷◌, ◌++◌, Option, Some, None, ℤ}
 use Rattle.std.specs.Prelude.{pos, unsigned_abs, ◌-ℤ◌, int_le, FitsSigned}
 use Rattle.std.specs.Int.{IsInRange, w32}
 use Rattle.std.specs.Char.{is_ascii_digit}
+use Rattle.std.specs.Option.{option_map_or}
+use Rattle.std.specs.Ordering.{int_eq}
 use Rattle.jiff_core.specs.Calendar.{days_from_civil, days_in_month}
 
 -- the calendar has this day, in a year from 1 to 9999
@@ -84,6 +86,10 @@ abbrev pub date_text : ℤ → List ℕ
 date_text day =
     written (year_of day) (month_of day)
     (unsigned_abs (day -ℤ days_from_civil (pos (year_of day)) (month_of day) 1) + 1)
+
+-- the same, if the day has one: if the text reads as that day
+abbrev pub date_of_day : ℤ → Option (List ℕ)
+date_of_day day = if option_map_or (int_eq day) (day_of_date (date_text day)) false then Some (date_text day) else None
 
 -- no text is the date of two days
 abbrev pub OneDayForDate : Type 0

@@ -1,8 +1,10 @@
 ghost use Rattle.std.specs.Prelude.{◌≡◌, ◌<◌, ℤ, pos, IfSome, MatchOption, option_map};
 ghost use Rattle.jiff.specs.Words.{IsYmd, epoch_day};
-ghost use Rattle.feed_dates.specs.Days.{IsDateOf, day_number, day_of_date, four_digits, two_digits};
+ghost use Rattle.feed_dates.specs.Days.{IsDateOf, date_of_day, day_number, day_of_date, four_digits, two, two_digits};
+ghost use Rattle.feed_dates.specs.Days.{written};
 
 use jiff::civil::Date;
+use jiff_core::civil::Date as PlainDate;
 
 /// The number of the day that `YYYY-MM-DD` names, counted from 1970-01-01. A text of another form has none, and
 /// so has a day that the calendar lacks in the years 0001 to 9999. It does not trim.
@@ -10,6 +12,36 @@ pub fn read_date(text: &[u8]) -> Option<i32>
     ensures { MatchOption result ((n : ℤ) → ¬ (IsDateOf n text.now)) (λ n. IsDateOf n text.now) }
 {
     day_of(text)
+}
+
+/// The date of a day, `YYYY-MM-DD`, by the day's number, which is counted from 1970-01-01. A day outside the years 0001
+/// to 9999 has none.
+pub fn write_date(day: i32) -> Option<[u8; 10]>
+    ensures { result ≡ date_of_day day }
+{
+    let Ok(date) = PlainDate::from_unix_epoch_day(i64::from(day)) else {
+        return None;
+    };
+    if date.year < 1 {
+        return None;
+    }
+    Some(written(date.year as u16, date.month, date.day))
+}
+
+fn written(year: u16, month: u8, day: u8) -> [u8; 10]
+    ensures { result ≡ written year month day }
+{
+    let [a, b] = two(year / 100);
+    let [c, d] = two(year);
+    let [e, f] = two(u16::from(month));
+    let [g, h] = two(u16::from(day));
+    [a, b, c, d, b'-', e, f, b'-', g, h]
+}
+
+fn two(number: u16) -> [u8; 2]
+    ensures { result ≡ two number }
+{
+    [b'0' + (number / 10 % 10) as u8, b'0' + (number % 10) as u8]
 }
 
 fn day_of(text: &[u8]) -> Option<i32>

@@ -9,6 +9,7 @@ mod limits;
 mod reply_head;
 mod request;
 mod request_head;
+mod target;
 
 pub use fields::{Fields, is_named};
 pub use head_ends::{HeadEnd, HeadFound, find_head, head_end};
@@ -17,3 +18,4 @@ pub use limits::{FIELD_LIMIT, HEAD_LIMIT};
 pub use reply_head::{ReplyRead, read_reply_head};
 pub use request::Request;
 pub use request_head::{RequestRead, read_request};
+pub use target::origin_form;

@@ -3,7 +3,8 @@ use Rattle.std.proofs.Common.{◌≡◌, List, ℕ, drop, length, codes, Option,
 use Rattle.feed_names.specs.ReleaseName.{Name, IsName, IsRefused, IsDated, IsStem}
 use Rattle.feed_names.specs.declared.name_fault.NameFault.TheVariants.{BadStem, BadDate}
 use Rattle.feed_names.proofs.NameLemmas.{one_split, one_front}
-use Rattle.feed_http.specs.Requests.{NamesRelease, IsNamedBy, path_of}
+use Rattle.feed_heads.specs.Targets.{origin_form}
+use Rattle.feed_http.specs.Requests.{NamesRelease, IsNamedBy}
 
 -- a text without a date is no name
 undated : (text : List ℕ) → IsRefused text BadDate → (name : Name) → ¬ (IsName text name)
@@ -20,20 +21,20 @@ unstemmed text refused name is =
     refused.5 (subst (λ (n : Name). IsStem n.stem) same is.is_stem)
 
 -- a target whose path is a slash and no name names no release
-no_release : (target text : List ℕ) → text ≡ drop 1 (path_of target) → ((name : Name) → ¬ (IsName text name)) → (name : Name) → ¬ (NamesRelease target name)
+no_release : (target text : List ℕ) → text ≡ drop 1 (origin_form target) → ((name : Name) → ¬ (IsName text name)) → (name : Name) → ¬ (NamesRelease target name)
 no_release target text is none name names =
     let same : names.text ≡ text = sym (is ∙ ap (drop 1) names.path) in
     none name (subst (λ (t : List ℕ). IsName t name) same names.is_name)
 
 -- what stands behind the slash
-behind : (target path text slashes : List ℕ) → path ≡ path_of target → slashes ≡ codes "/" → text ≡ drop (length slashes) path → text ≡ drop 1 (path_of target)
+behind : (target path text slashes : List ℕ) → path ≡ origin_form target → slashes ≡ codes "/" → text ≡ drop (length slashes) path → text ≡ drop 1 (origin_form target)
 behind target path text slashes p s is = is ∙ ap (λ t. drop (length t) path) s ∙ ap (drop 1) p
 
-pub no_release_undated : (target path text slashes : List ℕ) → path ≡ path_of target → slashes ≡ codes "/" → text ≡ drop (length slashes) path
+pub no_release_undated : (target path text slashes : List ℕ) → path ≡ origin_form target → slashes ≡ codes "/" → text ≡ drop (length slashes) path
     → IsRefused text BadDate → (name : Name) → ¬ (NamesRelease target name)
 no_release_undated target path text slashes p s is refused = no_release target text (behind target path text slashes p s is) (undated text refused)
 
-pub no_release_unstemmed : (target path text slashes : List ℕ) → path ≡ path_of target → slashes ≡ codes "/" → text ≡ drop (length slashes) path
+pub no_release_unstemmed : (target path text slashes : List ℕ) → path ≡ origin_form target → slashes ≡ codes "/" → text ≡ drop (length slashes) path
     → IsRefused text BadStem → (name : Name) → ¬ (NamesRelease target name)
 no_release_unstemmed target path text slashes p s is refused = no_release target text (behind target path text slashes p s is) (unstemmed text refused)
 

@@ -3,25 +3,17 @@ use Rattle.std.specs.Prelude.{◌≡◌, ◌==◌, ◌||◌, not, ℕ, List, [],
 use Rattle.std.specs.Option.{option_map_or}
 use Rattle.httparse.specs.Grammar.{RequestHead}
 use Rattle.feed_names.specs.ReleaseName.{Name, IsName}
-use Rattle.feed_range.specs.Text.{slash, strip_prefix}
 use Rattle.feed_range.specs.Ask.{ask_of}
 use Rattle.feed_range.specs.declared.ask.RangeAsk.{RangeAsk}
 use Rattle.feed_range.specs.declared.ask.RangeAsk.TheVariants.{Whole}
 use Rattle.feed_heads.specs.Fields.{values_named, only, has_any}
 use Rattle.feed_heads.specs.Requests.{is_get, is_head}
-
--- what stands from the first slash on
-abbrev pub from_slash : List ℕ → List ℕ
-from_slash text = option_map_or (λ place. drop place text) (position (λ byte. byte == slash) text) []
-
--- the path of a target, before which `http://` and a host may stand
-abbrev pub path_of : List ℕ → List ℕ
-path_of target = option_map_or from_slash (strip_prefix (codes "http://") target) target
+use Rattle.feed_heads.specs.Targets.{slash, origin_form}
 
 -- the path is a slash and the name of this release
 pub record NamesRelease (target : List ℕ) (name : Name) : Type 0 where
   pub text : List ℕ
-  pub path : path_of target ≡ slash ∷ text
+  pub path : origin_form target ≡ slash ∷ text
   pub is_name : IsName text name
 
 -- the release that the target names, if it names one

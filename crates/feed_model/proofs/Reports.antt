@@ -1,9 +1,11 @@
 -- What the records say of the active releases.
-use Rattle.std.proofs.Common.{◌≡◌, ◌≢◌, ◌<◌, ℕ, List, length, Some, None, slice_get, sym, ◌∙◌, ap, subst, arith}
+use Rattle.std.proofs.Common.{◌≡◌, ◌≢◌, ◌<◌, ◌≤ℤ◌, ℕ, ℤ, List, length, Option, Some, None, slice_get, refl, sym, ◌∙◌, ap, subst, arith}
+use Rattle.std.proofs.lemmas.Int.{ints}
 use Rattle.feed_names.specs.ReleaseName.{Name}
 use Rattle.feed_model.specs.declared.state.State.TheVariants.{Active}
 use Rattle.feed_model.specs.History.{History, IsFile, IsGood, IsActive, IsPassed, Reports}
 use Rattle.feed_model.specs.Content.{Record, Content, record_of, byte_in, IsState, IsContent}
+use Rattle.feed_model.proofs.Names.{name_by}
 use Rattle.feed_model.proofs.Lookups.{name-record_of, record_of-own}
 use Rattle.feed_model.proofs.Tests.{of_record, record_good, not_passed_active}
 
@@ -31,3 +33,17 @@ pub file_of_record : (c : Content) (h : History) (r : Record) (text : List ℕ) 
 file_of_record c h r text is found len at =
     let x = of_record c h r.name r is found in
     (x.size ∙ ap Some (sym len), λ place lt. sym (x.bytes place) ∙ at place (omega arith))
+
+same_day : (a b : ℤ) → a ≤ℤ b → b ≤ℤ a → a ≡ b
+same_day a b le ge = grind (arith, ints)
+
+-- two active releases of a package are one
+pub active_one : (h : History) (m n : Name) → m.stem ≡ n.stem → IsActive h m → IsActive h n → m ≡ n
+active_one h m n same a b = name_by m n same (same_day m.day n.day (b.1 m same a.0) (a.1 n (sym same) b.0))
+
+-- a package has one report
+pub reports_one : (h : History) (key : List ℕ) (o p : Option Name) → Reports h key o → Reports h key p → o ≡ p
+reports_one h key None None x y = refl
+reports_one h key None (Some n) x y = absurd (x n y.0 y.1.0)
+reports_one h key (Some m) None x y = absurd (y m x.0 x.1.0)
+reports_one h key (Some m) (Some n) x y = ap Some (active_one h m n (x.0 ∙ sym y.0) x.1 y.1)

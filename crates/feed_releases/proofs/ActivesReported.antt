@@ -1,22 +1,22 @@
 -- The active releases in memory are those that a feed reports, with the holdings of their whole files.
-use Rattle.std.proofs.Common.{◌≡◌, ◌<◌, ◌+◌, ℕ, zero, suc, List, [], ◌∷◌, length, get_or, Option, Some, None, Bool, true, false, refl, sym, ap, ◌∙◌, subst, arith, inl, inr}
+use Rattle.std.proofs.Common.{◌≡◌, ◌<◌, ℕ, zero, suc, List, [], ◌∷◌, length, get_or, Option, Some, None, refl, arith, inl, inr}
 use Rattle.std.specs.Prelude.{All, Result, Ok, Err, IfOk, OnOk}
 use Rattle.std.specs.List.{filter_map, AllByRecursion}
-use Rattle.std.proofs.lemmas.Bool.{cases_Bool, cases_lt}
+use Rattle.std.proofs.lemmas.Bool.{cases_Bool}
 use Rattle.std.proofs.lemmas.List.Elements.{All-from_recursion}
 use Rattle.feed_kbart.specs.HoldingsValue.{HoldingsValue}
 use Rattle.feed_kbart.specs.Files.{holdings_of}
 use Rattle.feed_model.specs.declared.state.State.{State}
 use Rattle.feed_model.specs.declared.state.State.TheVariants.{Staged, Broken, Active}
-use Rattle.feed_model.specs.History.{History, Reports}
-use Rattle.feed_model.specs.Content.{Part, IsText, record_of, IsContent}
+use Rattle.feed_model.specs.History.{History}
+use Rattle.feed_model.specs.Content.{Part, IsText, IsContent}
 use Rattle.feed_model.proofs.Reports.{file_of_record}
-use Rattle.feed_releases.specs.ReleaseValue.{ReleaseValue, content_of, IsActiveOf, IsKnown}
-use Rattle.feed_releases.specs.Actives.{ActiveValue, active_of, actives_of, comes_before, insert_active, inserted, IsReported, IsKnownRelease, AreKnown}
+use Rattle.feed_releases.specs.ReleaseValue.{ReleaseValue, content_of, IsKnown}
+use Rattle.feed_releases.specs.Actives.{ActiveValue, active_of, actives_of, comes_before, insert_active, inserted, IsReported, AreKnown}
 use Rattle.feed_releases.proofs.Finding.{own_at, reports_at}
 
 -- what is known of a release with holdings: it is active, and they are those of its text
-holds : (s : State) (size : ℕ) (parts : List Part) (o : Option HoldingsValue) (holdings : HoldingsValue) → IsKnown s size parts o → o ≡ Some holdings
+pub holds : (s : State) (size : ℕ) (parts : List Part) (o : Option HoldingsValue) (holdings : HoldingsValue) → IsKnown s size parts o → o ≡ Some holdings
     → (s ≡ Active) × (text : List ℕ) × IsText size parts text × (holdings ≡ holdings_of text)
 holds Staged size parts o holdings known held = absurd (let e : o ≡ None = known in cc)
 holds Broken size parts o holdings known held = absurd (let e : o ≡ None = known.3 in cc)
@@ -42,7 +42,7 @@ one_reported rs h i d holdings is known lt held =
     }
 
 -- what each release with holdings has, each active one has
-collected : (P : ActiveValue → Type 0) (rs : List ReleaseValue)
+pub collected : (P : ActiveValue → Type 0) (rs : List ReleaseValue)
     → ((i : ℕ) (d : ReleaseValue) (holdings : HoldingsValue) → i < length rs → (get_or rs i d).holdings ≡ Some holdings
     → P (record { name = (get_or rs i d).kept.name; holdings = holdings }))
     → AllByRecursion P (filter_map active_of rs)
@@ -54,7 +54,7 @@ collected P (r ∷ rs) each = go r.holdings refl (collected P rs (λ i d holding
     go (Some holdings) e rest = rw e (each 0 r holdings (omega arith) e, rest)
 
 -- one put among others
-put_in : (P : ActiveValue → Type 0) (a : ActiveValue) (xs : List ActiveValue) → P a → AllByRecursion P xs → AllByRecursion P (insert_active a xs)
+pub put_in : (P : ActiveValue → Type 0) (a : ActiveValue) (xs : List ActiveValue) → P a → AllByRecursion P xs → AllByRecursion P (insert_active a xs)
 put_in P a [] here all = (here, tt)
 put_in P a (x ∷ xs) here all = elim (cases_Bool (comes_before x a)) [
   | inl e ↦ rw e (all.0, put_in P a xs here all.1)

@@ -36,7 +36,7 @@ set_at (r ∷ rs) n (suc i) d x f place is = rw (place.before 0 r (omega arith))
     (ap (λ y. r.kept ∷ y) (set_at rs n i d x f (record { within = omega (arith, place.within); here = λ e. place.here e; before = λ k e lt. place.before (suc k) e (omega arith) }) is))
 
 -- each release is found under its own name
-apart_at : (n : Name) (rs : List ReleaseValue) (k : ℕ) (d : ReleaseValue) → AllByRecursion (λ y. name_eq n y ≡ false) (names (content_of rs)) → k < length rs
+pub apart_at : (n : Name) (rs : List ReleaseValue) (k : ℕ) (d : ReleaseValue) → AllByRecursion (λ y. name_eq n y ≡ false) (names (content_of rs)) → k < length rs
     → name_eq n (get_or rs k d).kept.name ≡ false
 apart_at n [] k d a lt = absurd (omega arith)
 apart_at n (r ∷ rs) zero d a lt = a.0

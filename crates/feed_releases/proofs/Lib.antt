@@ -11,3 +11,4 @@ mod Failed
 mod Earlier
 pub mod Inserting
 pub mod ActivesReported
+pub mod ByPackage

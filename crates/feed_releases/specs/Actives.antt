@@ -1,6 +1,8 @@
 -- The active releases of a feed, by their packages.
-use Rattle.std.specs.Prelude.{◌≡◌, ◌<◌, ℕ, Bool, if◌then◌else◌, List, [], ◌∷◌, length, slice_index_or, option_map, Option, Some}
+use Rattle.std.specs.Prelude.{◌≡◌, ◌↔◌, ◌<◌, ℕ, Bool, if◌then◌else◌, All, List, [], ◌∷◌, length, map, slice_index_or, option_map, Option, Some}
 use Rattle.std.specs.List.{filter_map}
+use Rattle.std.specs.List.Sorted.{IsStrictlySortedBy}
+use Rattle.std.specs.declared.cmp.Ordering.{Ordering}
 use Rattle.std.specs.Ordering.{is_lt, nat_cmp}
 use Rattle.std.specs.Cmp.Lexicographic.{slice_cmp}
 use Rattle.feed_names.specs.ReleaseName.{Name}
@@ -18,9 +20,13 @@ pub record ActiveValue : Type 0 where
 abbrev pub active_of : ReleaseValue → Option ActiveValue
 active_of release = option_map (λ holdings. record { name = release.kept.name; holdings = holdings }) release.holdings
 
--- the package of the one comes before that of the other, by bytes
+-- how the packages of two releases compare, by bytes
+abbrev pub package_cmp : ActiveValue → ActiveValue → Ordering
+package_cmp a b = slice_cmp nat_cmp a.name.stem b.name.stem
+
+-- the package of the one comes before that of the other
 abbrev pub comes_before : ActiveValue → ActiveValue → Bool
-comes_before a b = is_lt (slice_cmp nat_cmp a.name.stem b.name.stem)
+comes_before a b = is_lt (package_cmp a b)
 
 -- an active release among others, behind those whose packages come before its own
 abbrev pub insert_active : ActiveValue → List ActiveValue → List ActiveValue
@@ -50,3 +56,25 @@ pub record IsReported (h : History) (active : ActiveValue) : Type 0 where
   pub text : List ℕ
   pub file : IsFile h active.name text
   pub holdings : active.holdings ≡ holdings_of text
+
+-- one of these is the release of this name
+abbrev pub Names : List ActiveValue → Name → Type 0
+Names actives n = (k : ℕ) × (k < length actives) × ((d : ActiveValue) → (slice_index_or actives k d).name ≡ n)
+
+-- each of these is reported at the history and each release that is reported is one of these, once, by their packages
+pub record AreReported (h : History) (actives : List ActiveValue) : Type 0 where
+  pub each : All (IsReported h) actives
+  pub every : (stem : List ℕ) (n : Name) → Reports h stem (Some n) → Names actives n
+  pub by_package : IsStrictlySortedBy package_cmp actives
+
+-- the names of active releases
+abbrev pub names_of : List ActiveValue → List Name
+names_of actives = map (λ active. active.name) actives
+
+-- at the two histories the same release is reported of each package
+abbrev pub ReportAlike : History → History → Type 0
+ReportAlike h k = (stem : List ℕ) (o : Option Name) → Reports h stem o ↔ Reports k stem o
+
+-- where the same releases are reported, they are listed the same
+abbrev pub ListAlike : Type 0
+ListAlike = (h k : History) (one other : List ActiveValue) → ReportAlike h k → AreReported h one → AreReported k other → names_of one ≡ names_of other

@@ -66,7 +66,7 @@ impl<K: Keep + Drop> Feed<K> {
     ghost use Rattle.feed_model.specs.Sound.{IsSound};
     ghost use Rattle.feed_model.specs.Content.{IsContent};
     ghost use Rattle.feed_model.specs.Handles.{Handles};
-    ghost use Rattle.feed_releases.specs.Actives.{actives_of, IsReported};
+    ghost use Rattle.feed_releases.specs.Actives.{actives_of, AreReported};
     ghost use Rattle.feed_releases.specs.Answered.{IsAnswered};
     ghost use Rattle.feed_releases.specs.NextRange.{IsNextRange};
     ghost use Rattle.feed_releases.specs.Reason.{HasReason};
@@ -204,7 +204,7 @@ impl<K: Keep + Drop> Feed<K> {
     pub fn actives(&self) -> Result<Vec<ActiveRelease<'_>>, AllocError>
         ensures value { IfOk result (λ actives. actives.items ≡ actives_of (releases_of self.now)) }
         ensures reported { IfOk result (λ actives. (h : History) → IsContent (recorded self.now) h
-            → All (IsReported h) actives.items) }
+            → AreReported h actives.items) }
     {
         actives_of(self.alloc, &self.releases)
     }

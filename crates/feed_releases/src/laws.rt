@@ -1,9 +1,10 @@
-// What a feed answers on the content of a database of an earlier version.
+// What a feed answers on the content of a database of an earlier version, and how it lists its active releases.
 ghost use Rattle.std.specs.Prelude.{◌↔◌, ℕ, List, Result};
 ghost use Rattle.feed_answer.specs.QueryValue.{QueryValue};
 ghost use Rattle.feed_answer.specs.HitValue.{HitValue};
 ghost use Rattle.feed_model.specs.History.{History};
 ghost use Rattle.feed_model.specs.Earlier.{without_refused};
+ghost use Rattle.feed_releases.specs.Actives.{ListAlike};
 ghost use Rattle.feed_releases.specs.Answered.{IsAnswered};
 
 use crate::feed::AnswerFault;
@@ -17,3 +18,8 @@ pub fn answers_stay()
     reports_stay();
     releases_stay();
 }
+
+/// Two feeds that report the same releases list them the same.
+pub fn list_alike()
+    ensures { ListAlike }
+{}

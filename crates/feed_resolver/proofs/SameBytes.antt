@@ -9,9 +9,10 @@ use Rattle.feed_names.specs.ReleaseName.{Name}
 use Rattle.feed_kbart.specs.HoldingsValue.{HoldingsValue}
 use Rattle.feed_kbart.specs.Files.{holdings_of}
 use Rattle.feed_model.specs.History.{History}
-use Rattle.feed_releases.specs.Actives.{ActiveValue, IsReported}
-use Rattle.feed_resolver.specs.Replies.{IsResponse, response_to}
-use Rattle.feed_resolver.specs.Laws.{names_of, KeepsPublished}
+use Rattle.feed_releases.specs.Actives.{ActiveValue, IsReported, names_of, ReportAlike}
+use Rattle.feed_releases.proofs.ByPackage.{listed_alike}
+use Rattle.feed_resolver.specs.Replies.{IsResponse, IsResponseAt, response_to}
+use Rattle.feed_resolver.specs.Laws.{KeepsPublished}
 
 -- two replies to the same bytes
 one_reply : (bytes : List ℕ) (actives : List ActiveValue) (response reply : List ℕ) → IsResponse bytes actives response → IsResponse bytes actives reply → response ≡ reply
@@ -42,10 +43,10 @@ published : (file : Name → List ℕ) (h : History) (actives : List ActiveValue
 published file h actives keeps reported = λ i d within.
     let is = reported i d within in is.holdings ∙ ap holdings_of (keeps _ is.text is.file)
 
-pub same_bytes : (file : Name → List ℕ) (h k : History) (one other : List ActiveValue) (bytes response reply : List ℕ) → KeepsPublished file h → KeepsPublished file k
-    → All (IsReported h) one → All (IsReported k) other → names_of one ≡ names_of other
-    → IsResponse bytes one response → IsResponse bytes other reply → response ≡ reply
-same_bytes file h k one other bytes response reply keeps stores here there names is also =
-    let same : one ≡ other = told_by_names file one (recursion_from_All _ one (published file h one keeps here)) ∙ ap (from_names file) names
-    ∙ sym (told_by_names file other (recursion_from_All _ other (published file k other stores there))) in
+pub same_bytes : (file : Name → List ℕ) (h k : History) (bytes response reply : List ℕ) → KeepsPublished file h → KeepsPublished file k → ReportAlike h k
+    → IsResponseAt h bytes response → IsResponseAt k bytes reply → response ≡ reply
+same_bytes file h k bytes response reply keeps stores alike (one, here, is) (other, there, also) =
+    let names : names_of one ≡ names_of other = listed_alike h k one other alike here there in
+    let same : one ≡ other = told_by_names file one (recursion_from_All _ one (published file h one keeps here.each)) ∙ ap (from_names file) names
+    ∙ sym (told_by_names file other (recursion_from_All _ other (published file k other stores there.each))) in
     one_reply bytes other response reply (subst (λ (actives : List ActiveValue). IsResponse bytes actives response) same is) also

@@ -2,10 +2,11 @@
 use Rattle.std.proofs.Common.{◌≡◌, ℕ, List, [], ◌∷◌, ◌++◌, length, codes, ap, ◌∙◌, append_assoc}
 use Rattle.std.specs.Fmt.{decimal}
 use Rattle.feed_kbart.specs.RowValue.{RowValue}
+use Rattle.feed_answer.specs.HitValue.{HitValue}
 use Rattle.feed_releases.specs.Actives.{ActiveValue}
 use Rattle.feed_resolver.specs.JsonStrings.{json_string}
 use Rattle.feed_resolver.specs.Hits.{FoundValue}
-use Rattle.feed_resolver.specs.Answers.{joined, name_text, release_members, title_cell, other_cells, hit_row, page_front}
+use Rattle.feed_resolver.specs.Answers.{joined, name_text, release_members, grade_words, title_cell, dates_text, volumes_text, coverage_cells, text_cells, hit_row, page_front}
 use Rattle.feed_resolver.specs.Pages.{active_object, active_items, form_text, front_page}
 use Rattle.feed_resolver.specs.Replies.{status_text, status_field, type_text, reply_head}
 use Rattle.feed_resolver.specs.declared.representation.Representation.{Representation}
@@ -39,12 +40,22 @@ active_named old new key name active stem text is = is
     ∙ ap (λ n. old ++ joined (codes "{\"package\":" ∷ json_string active.name.stem ∷ codes ",\"release\":" ∷ json_string n ∷ codes "}" ∷ [])) text
 
 -- the row of a hit
-pub row_written : (old one two new : List ℕ) (row : RowValue) (found : FoundValue) → row ≡ found.hit.row → one ≡ old ++ codes "<tr><th scope=\"row\">"
-    → two ≡ one ++ title_cell row.url row.title → new ≡ two ++ other_cells found → new ≡ old ++ hit_row found
+pub row_written : (old one two three new : List ℕ) (row : RowValue) (found : FoundValue) → row ≡ found.hit.row → one ≡ old ++ codes "<tr><th scope=\"row\">"
+    → two ≡ one ++ title_cell row.url row.title → three ≡ two ++ coverage_cells found.hit → new ≡ three ++ text_cells found → new ≡ old ++ hit_row found
 unfolding hit_row
-row_written old one two new row found same first second third =
-    in_three old one two new (codes "<tr><th scope=\"row\">") (title_cell found.hit.row.url found.hit.row.title) (other_cells found) first
-    (second ∙ ap (λ (r : RowValue). one ++ title_cell r.url r.title) same) third
+row_written old one two three new row found same first second third fourth =
+    in_four old one two three new (codes "<tr><th scope=\"row\">") (title_cell found.hit.row.url found.hit.row.title) (coverage_cells found.hit) (text_cells found) first
+    (second ∙ ap (λ (r : RowValue). one ++ title_cell r.url r.title) same) third fourth
+
+-- what is covered
+pub coverage_written : (old one two three new : List ℕ) (words : List ℕ) (row volumes : RowValue) (hit : HitValue) → words ≡ grade_words hit.grade → row ≡ hit.row
+    → volumes ≡ hit.row → one ≡ old ++ joined (codes "</th><td>" ∷ words ∷ codes "</td><td>" ∷ []) → two ≡ one ++ dates_text row
+    → three ≡ two ++ codes "</td><td>" → new ≡ three ++ volumes_text volumes → new ≡ old ++ coverage_cells hit
+unfolding coverage_cells
+coverage_written old one two three new words row volumes hit said same also first second third fourth =
+    in_four old one two three new (joined (codes "</th><td>" ∷ grade_words hit.grade ∷ codes "</td><td>" ∷ [])) (dates_text hit.row) (codes "</td><td>") (volumes_text hit.row)
+    (first ∙ ap (λ w. old ++ joined (codes "</th><td>" ∷ w ∷ codes "</td><td>" ∷ [])) said)
+    (second ∙ ap (λ (r : RowValue). one ++ dates_text r) same) third (fourth ∙ ap (λ (r : RowValue). three ++ volumes_text r) also)
 
 -- the page with the form
 pub front_written : (old one two three new : List ℕ) (actives : List ActiveValue) → one ≡ old ++ page_front (codes "Find holdings")

@@ -1,7 +1,9 @@
 -- The hits of a query, as text, as JSON and as a page.
-use Rattle.std.specs.Prelude.{ℕ, ◌+◌, ◌==◌, if◌then◌else◌, List, [], ◌∷◌, ◌++◌, codes, Option, Some, None}
+use Rattle.std.specs.Prelude.{ℕ, ◌+◌, ◌==◌, if◌then◌else◌, List, [], ◌∷◌, ◌++◌, codes, Option, None, option_map}
 use Rattle.std.specs.List.{flat_map}
 use Rattle.std.specs.Fmt.{decimal}
+use Rattle.std.specs.Option.{option_and_then, option_map_or}
+use Rattle.feed_dates.specs.Days.{date_of_day}
 use Rattle.feed_names.specs.ReleaseName.{Name, text_of}
 use Rattle.feed_kbart.specs.RowValue.{RowValue}
 use Rattle.feed_answer.specs.QueryValue.{QueryValue}
@@ -90,17 +92,33 @@ title_cell url title =
     then joined (codes "<a href=\"" ∷ escaped url ∷ codes "\">" ∷ escaped title ∷ codes "</a>" ∷ [])
     else joined (escaped title ∷ [])
 
--- a number, if there is one
-abbrev pub number_text : Option ℕ → List ℕ
-number_text None = []
-number_text (Some n) = decimal n
+-- a text, or nothing where there is none
+abbrev pub or_nothing : Option (List ℕ) → List ℕ
+or_nothing o = option_map_or (λ text. text) o []
 
--- the cells behind the title
-unfoldable pub other_cells : FoundValue → List ℕ
-other_cells found = joined (
-    codes "</th><td>" ∷ grade_words found.hit.grade
-    ∷ codes "</td><td>" ∷ number_text found.hit.row.first_volume ∷ codes "&#8211;" ∷ number_text found.hit.row.last_volume
-    ∷ codes "</td><td>" ∷ escaped found.hit.row.depth
+-- from the one to the other, where either is known
+abbrev pub span_text : Option (List ℕ) → Option (List ℕ) → List ℕ
+span_text None None = []
+span_text first last = joined (or_nothing first ∷ codes "&#8211;" ∷ or_nothing last ∷ [])
+
+-- the dates of a row's first and last days
+unfoldable pub dates_text : RowValue → List ℕ
+dates_text row = span_text (option_and_then date_of_day row.first_day) (option_and_then date_of_day row.last_day)
+
+-- its first and last volumes
+unfoldable pub volumes_text : RowValue → List ℕ
+volumes_text row = span_text (option_map decimal row.first_volume) (option_map decimal row.last_volume)
+
+-- the cells that say what is covered
+unfoldable pub coverage_cells : HitValue → List ℕ
+coverage_cells hit =
+    joined (codes "</th><td>" ∷ grade_words hit.grade ∷ codes "</td><td>" ∷ [])
+    ++ (dates_text hit.row ++ (codes "</td><td>" ++ volumes_text hit.row))
+
+-- those behind them
+unfoldable pub text_cells : FoundValue → List ℕ
+text_cells found = joined (
+    codes "</td><td>" ∷ escaped found.hit.row.depth
     ∷ codes "</td><td>" ∷ escaped found.hit.row.embargo
     ∷ codes "</td><td>" ∷ escaped found.hit.row.access
     ∷ codes "</td><td>" ∷ escaped found.name.stem
@@ -108,7 +126,9 @@ other_cells found = joined (
 
 -- the row of a hit in the table
 unfoldable pub hit_row : FoundValue → List ℕ
-hit_row found = codes "<tr><th scope=\"row\">" ++ (title_cell found.hit.row.url found.hit.row.title ++ other_cells found)
+hit_row found =
+    codes "<tr><th scope=\"row\">"
+    ++ (title_cell found.hit.row.url found.hit.row.title ++ (coverage_cells found.hit ++ text_cells found))
 
 -- the front of a page with this title
 unfoldable pub page_front : List ℕ → List ℕ
@@ -128,8 +148,8 @@ page_end = codes "<p><a href=\"/\">Ask again</a></p>\n</main>\n</body>\n</html>\
 unfoldable pub table_head : List ℕ
 table_head = joined (
     codes "<div class=\"wide\">\n<table>\n<thead>\n<tr><th scope=\"col\">Title</th>" ∷ codes "<th scope=\"col\">How well it fits</th>"
-    ∷ codes "<th scope=\"col\">Volumes</th><th scope=\"col\">Depth</th><th scope=\"col\">Embargo</th>"
-    ∷ codes "<th scope=\"col\">Access</th><th scope=\"col\">Package</th></tr>\n</thead>\n<tbody>\n" ∷ [])
+    ∷ codes "<th scope=\"col\">Dates</th><th scope=\"col\">Volumes</th><th scope=\"col\">Depth</th>"
+    ∷ codes "<th scope=\"col\">Embargo</th><th scope=\"col\">Access</th><th scope=\"col\">Package</th></tr>\n</thead>\n<tbody>\n" ∷ [])
 
 -- the end of a table
 abbrev pub table_end : List ℕ

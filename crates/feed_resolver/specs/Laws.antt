@@ -1,13 +1,13 @@
 -- The laws of replies, and of the texts in them.
-use Rattle.std.specs.Prelude.{◌≡◌, ℕ, List, Some, false, true, All, map}
+use Rattle.std.specs.Prelude.{◌≡◌, ℕ, List, Some, false, true, All}
 use Rattle.feed_names.specs.ReleaseName.{Name}
 use Rattle.feed_model.specs.History.{History, IsFile}
-use Rattle.feed_releases.specs.Actives.{ActiveValue, IsReported}
+use Rattle.feed_releases.specs.Actives.{ReportAlike}
 use Rattle.feed_resolver.specs.Escapes.{escaped, is_markup, unescaped}
 use Rattle.feed_resolver.specs.JsonStrings.{json_string, read_string}
 use Rattle.feed_resolver.specs.Links.{is_link}
 use Rattle.feed_resolver.specs.Hits.{FoundValue, best_link}
-use Rattle.feed_resolver.specs.Replies.{IsResponse}
+use Rattle.feed_resolver.specs.Replies.{IsResponseAt}
 
 -- an escaped text has no `<`, `>`, `"` and `'`
 abbrev pub EscapedHasNoMarkup : Type 0
@@ -25,10 +25,6 @@ JsonReadsBack = (text : List ℕ) → read_string (json_string text) ≡ Some te
 abbrev pub RedirectsToLink : Type 0
 RedirectsToLink = (hits : List FoundValue) (url : List ℕ) → best_link hits ≡ Some url → is_link url ≡ true
 
--- the names of active releases
-abbrev pub names_of : List ActiveValue → List Name
-names_of actives = map (λ active. active.name) actives
-
 -- the whole files that a node has kept are the published ones
 abbrev pub KeepsPublished : (Name → List ℕ) → History → Type 0
 KeepsPublished file h = (n : Name) (text : List ℕ) → IsFile h n text → text ≡ file n
@@ -36,7 +32,6 @@ KeepsPublished file h = (n : Name) (text : List ℕ) → IsFile h n text → tex
 -- two nodes that report the same releases, and have kept their published files, give each request the same bytes
 abbrev pub SameReleasesSameBytes : Type 0
 SameReleasesSameBytes =
-    (file : Name → List ℕ) (h k : History) (one other : List ActiveValue) (bytes response reply : List ℕ)
-    → KeepsPublished file h → KeepsPublished file k
-    → All (IsReported h) one → All (IsReported k) other → names_of one ≡ names_of other
-    → IsResponse bytes one response → IsResponse bytes other reply → response ≡ reply
+    (file : Name → List ℕ) (h k : History) (bytes response reply : List ℕ)
+    → KeepsPublished file h → KeepsPublished file k → ReportAlike h k
+    → IsResponseAt h bytes response → IsResponseAt k bytes reply → response ≡ reply

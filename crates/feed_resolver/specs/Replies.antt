@@ -1,5 +1,5 @@
 -- The reply to a request, as a function of its head and of the active releases.
-use Rattle.std.specs.Prelude.{◌≡◌, ◌⊎◌, All, ℕ, ◌||◌, not, Bool, false, if◌then◌else◌, List, [], ◌∷◌, ◌++◌, length, codes, Result, Ok, Err, position, take, drop}
+use Rattle.std.specs.Prelude.{◌≡◌, ◌⊎◌, ℕ, ◌||◌, not, Bool, false, if◌then◌else◌, List, [], ◌∷◌, ◌++◌, length, codes, Result, Ok, Err, position, take, drop}
 use Rattle.std.specs.Fmt.{decimal}
 use Rattle.std.specs.Option.{option_map_or}
 use Rattle.std.specs.Str.{bytes_eq}
@@ -7,6 +7,7 @@ use Rattle.httparse.specs.Grammar.{RequestHead}
 use Rattle.feed_heads.specs.Limits.{head_limit, field_limit}
 use Rattle.feed_heads.specs.Fields.{values_named, has_any}
 use Rattle.feed_heads.specs.RequestHeads.{BeginsWithHead}
+use Rattle.feed_heads.specs.Targets.{origin_form}
 use Rattle.feed_heads.specs.Requests.{lacks_host, is_get, is_head}
 use Rattle.feed_answer.specs.QueryValue.{QueryValue}
 use Rattle.feed_answer.specs.Queries.{query_of}
@@ -14,9 +15,9 @@ use Rattle.feed_answer.specs.Faults.{query_fault_text}
 use Rattle.feed_answer.specs.declared.fault.QueryFault.{QueryFault}
 use Rattle.feed_answer.specs.declared.fault.QueryFault.TheVariants.{TooLong}
 use Rattle.feed_model.specs.History.{History}
-use Rattle.feed_releases.specs.Actives.{ActiveValue, IsReported}
+use Rattle.feed_releases.specs.Actives.{ActiveValue, AreReported}
 use Rattle.feed_resolver.specs.Accepts.{by_accept, representation_of}
-use Rattle.feed_resolver.specs.Targets.{origin_form, path_in, query_in, asked_of, package_of}
+use Rattle.feed_resolver.specs.Targets.{path_in, query_in, asked_of, package_of}
 use Rattle.feed_resolver.specs.Hits.{is_of, hits_among, best_link}
 use Rattle.feed_resolver.specs.Answers.{joined, answers_body}
 use Rattle.feed_resolver.specs.Pages.{status_body, front_page, fault_body}
@@ -170,6 +171,6 @@ IsReplyToNone bytes response =
 abbrev pub IsResponse : List ℕ → List ActiveValue → List ℕ → Type 0
 IsResponse bytes actives response = IsReplyToHead bytes actives response ⊎ IsReplyToNone bytes response
 
--- the reply by releases that a feed at this history reports, with the holdings of their whole files
+-- the reply by just the releases that a feed at this history reports, with the holdings of their whole files
 abbrev pub IsResponseAt : History → List ℕ → List ℕ → Type 0
-IsResponseAt h bytes response = (actives : List ActiveValue) × All (IsReported h) actives × IsResponse bytes actives response
+IsResponseAt h bytes response = (actives : List ActiveValue) × AreReported h actives × IsResponse bytes actives response

@@ -1,20 +1,13 @@
 -- What the target of a request asks for (RFC 9112, section 3.2).
-use Rattle.std.specs.Prelude.{ℕ, ◌==◌, if◌then◌else◌, List, [], Bool, codes, drop, take, position}
+use Rattle.std.specs.Prelude.{ℕ, if◌then◌else◌, List, [], Bool, codes, drop, take}
 use Rattle.std.specs.Option.{option_map_or}
 use Rattle.std.specs.Str.{bytes_eq}
-use Rattle.feed_range.specs.Text.{slash, split_once, strip_prefix}
+use Rattle.feed_range.specs.Text.{split_once}
+use Rattle.feed_heads.specs.Targets.{origin_form}
 use Rattle.feed_resolver.specs.declared.target.Asked.{Asked}
 use Rattle.feed_resolver.specs.declared.target.Asked.TheVariants.{Front, Status, Resolve, Package, Go, Nothing}
 
--- what stands from the first slash on
-abbrev pub from_slash : List ℕ → List ℕ
-from_slash text = option_map_or (λ place. drop place text) (position (λ byte. byte == slash) text) []
-
--- a target from its path on: `http://` and a host may stand in front
-abbrev pub origin_form : List ℕ → List ℕ
-origin_form target = option_map_or from_slash (strip_prefix (codes "http://") target) target
-
--- the path of a target in that form, up to its first question mark
+-- the path of a target that begins with it, up to its first question mark
 abbrev pub path_in : List ℕ → List ℕ
 path_in target = option_map_or (λ parts. parts.0) (split_once 63 target) target
 

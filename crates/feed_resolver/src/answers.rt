@@ -1,13 +1,16 @@
 //! The hits of a query, as text, as JSON and as a page.
-ghost use Rattle.std.specs.Prelude.{◌≡◌, ◌++◌, OnOk};
+ghost use Rattle.std.specs.Prelude.{◌≡◌, ◌++◌, ◌∷◌, [], OnOk, codes, option_map};
 ghost use Rattle.std.specs.List.{flat_map};
+ghost use Rattle.std.specs.Fmt.{decimal};
+ghost use Rattle.std.specs.Option.{option_and_then};
+ghost use Rattle.feed_dates.specs.Days.{date_of_day};
 ghost use Rattle.feed_answer.specs.Grades.{grade_text};
 ghost use Rattle.feed_resolver.specs.Pieces.{piece_text};
 ghost use Rattle.feed_resolver.specs.Answers.{release_text, answers_text, comma_before};
 ghost use Rattle.feed_resolver.specs.Answers.{items_from, hit_object, hits_json};
 ghost use Rattle.feed_resolver.specs.Answers.{name_text, release_members, grade_members, row_members};
-ghost use Rattle.feed_resolver.specs.Answers.{grade_words, title_cell, number_text};
-ghost use Rattle.feed_resolver.specs.Answers.{other_cells, hit_row, table_head, table_end};
+ghost use Rattle.feed_resolver.specs.Answers.{grade_words, title_cell, joined, or_nothing, dates_text, volumes_text};
+ghost use Rattle.feed_resolver.specs.Answers.{coverage_cells, text_cells, hit_row, table_head, table_end};
 ghost use Rattle.feed_resolver.specs.Answers.{hits_table, hits_part, hits_page, answers_body};
 
 use crate::escape::put;
@@ -17,6 +20,7 @@ use crate::pages::{put_end, put_front};
 use crate::piece::{Piece, put_all};
 use crate::representation::Representation;
 use feed_answer::{Grade, Query, answer};
+use feed_dates::write_date;
 use feed_kbart::Row;
 use feed_names::ReleaseName;
 use feed_releases::ActiveRelease;
@@ -191,8 +195,42 @@ fn put_title(out: &mut Vec<u8>, row: &Row) -> Result<(), AllocError>
     }
 }
 
+fn put_dash<'a>(out: &mut Vec<u8>, first: Piece<'a>, last: Piece<'a>) -> Result<(), AllocError>
+    ensures { OnOk result (out.new.items
+        ≡ out.old.items ++ joined (piece_text first.entry ∷ codes "&#8211;" ∷ piece_text last.entry ∷ [])) }
+{
+    put_all(out, &[first, Piece::Plain(b"&#8211;"), last])
+}
+
+fn date_piece(date: &Option<[u8; 10]>) -> Piece<'_>
+    ensures { piece_text result ≡ or_nothing date.now }
+{
+    match date {
+        Some(date) => Piece::Plain(date),
+        None => Piece::Plain(b""),
+    }
+}
+
+fn date_of(day: Option<i32>) -> Option<[u8; 10]>
+    ensures { result ≡ option_and_then date_of_day day }
+{
+    write_date(day?)
+}
+
+#[tactic(auto, unfolding(crate::specs::Answers::dates_text))]
+fn put_dates(out: &mut Vec<u8>, row: &Row) -> Result<(), AllocError>
+    ensures { OnOk result (out.new.items ≡ out.old.items ++ dates_text row.now) }
+{
+    let first = date_of(row.first_day());
+    let last = date_of(row.last_day());
+    if first.is_none() && last.is_none() {
+        return Ok(());
+    }
+    put_dash(out, date_piece(&first), date_piece(&last))
+}
+
 fn number_piece(number: Option<u32>) -> Piece<'static>
-    ensures { piece_text result ≡ number_text number }
+    ensures { piece_text result ≡ or_nothing (option_map decimal number) }
 {
     match number {
         Some(number) => Piece::Number(u64::from(number)),
@@ -200,20 +238,43 @@ fn number_piece(number: Option<u32>) -> Piece<'static>
     }
 }
 
-#[tactic(auto, unfolding(crate::specs::Answers::other_cells))]
-fn put_other_cells(out: &mut Vec<u8>, found: &Found<'_>) -> Result<(), AllocError>
-    ensures { OnOk result (out.new.items ≡ out.old.items ++ other_cells found.now) }
+#[tactic(auto, unfolding(crate::specs::Answers::volumes_text))]
+fn put_volumes(out: &mut Vec<u8>, row: &Row) -> Result<(), AllocError>
+    ensures { OnOk result (out.new.items ≡ out.old.items ++ volumes_text row.now) }
 {
-    let row = found.row();
+    let first = row.first_volume();
+    let last = row.last_volume();
+    if first.is_none() && last.is_none() {
+        return Ok(());
+    }
+    put_dash(out, number_piece(first), number_piece(last))
+}
+
+#[tactic(auto, unfolding(crate::specs::Answers::coverage_cells))]
+fn put_coverage(out: &mut Vec<u8>, found: &Found<'_>) -> Result<(), AllocError>
+    ensures { OnOk result (out.new.items ≡ out.old.items ++ coverage_cells found.now.hit) }
+{
     put_all(
         out,
         &[
             Piece::Plain(b"</th><td>"),
             Piece::Plain(grade_words(found.grade())),
             Piece::Plain(b"</td><td>"),
-            number_piece(row.first_volume()),
-            Piece::Plain(b"&#8211;"),
-            number_piece(row.last_volume()),
+        ],
+    )?;
+    put_dates(out, found.row())?;
+    put(out, b"</td><td>")?;
+    put_volumes(out, found.row())
+}
+
+#[tactic(auto, unfolding(crate::specs::Answers::text_cells))]
+fn put_text_cells(out: &mut Vec<u8>, found: &Found<'_>) -> Result<(), AllocError>
+    ensures { OnOk result (out.new.items ≡ out.old.items ++ text_cells found.now) }
+{
+    let row = found.row();
+    put_all(
+        out,
+        &[
             Piece::Plain(b"</td><td>"),
             Piece::Escaped(row.depth()),
             Piece::Plain(b"</td><td>"),
@@ -233,7 +294,8 @@ fn put_row(out: &mut Vec<u8>, found: &Found<'_>) -> Result<(), AllocError>
 {
     put(out, b"<tr><th scope=\"row\">")?;
     put_title(out, found.row())?;
-    put_other_cells(out, found)
+    put_coverage(out, found)?;
+    put_text_cells(out, found)
 }
 
 fn put_rows(out: &mut Vec<u8>, hits: &[Found<'_>]) -> Result<(), AllocError>
@@ -257,10 +319,10 @@ fn put_table_head(out: &mut Vec<u8>) -> Result<(), AllocError>
                   <th scope=\"col\">How well it fits</th>",
             ),
             Piece::Plain(
-                b"<th scope=\"col\">Volumes</th><th scope=\"col\">Depth</th><th scope=\"col\">Embargo</th>",
+                b"<th scope=\"col\">Dates</th><th scope=\"col\">Volumes</th><th scope=\"col\">Depth</th>",
             ),
             Piece::Plain(
-                b"<th scope=\"col\">Access</th><th scope=\"col\">Package</th></tr>\n</thead>\n<tbody>\n",
+                b"<th scope=\"col\">Embargo</th><th scope=\"col\">Access</th><th scope=\"col\">Package</th></tr>\n</thead>\n<tbody>\n",
             ),
         ],
     )

@@ -1,9 +1,9 @@
 //! What the target of a request asks for.
 ghost use Rattle.std.specs.Prelude.{◌≡◌, ◌≤◌, length};
-ghost use Rattle.feed_resolver.specs.Targets.{from_slash, origin_form, path_in, query_in, names_package};
+ghost use Rattle.feed_resolver.specs.Targets.{path_in, query_in, names_package};
 ghost use Rattle.feed_resolver.specs.Targets.{asked_of, package_of};
 
-use crate::text::{place_of, split_once, strip_prefix};
+use crate::text::split_once;
 
 /// What a path asks for.
 #[derive(Clone, Copy, Debug, PartialEq, Eq)]
@@ -22,26 +22,7 @@ pub(crate) enum Asked {
     Nothing,
 }
 
-fn from_slash(text: &[u8]) -> &[u8]
-    ensures { result.now ≡ from_slash text.now }
-{
-    match place_of(text, b'/') {
-        Some(place) => &text[place..],
-        None => b"",
-    }
-}
-
-/// A target from its path on: it may be a whole URI (RFC 9112, section 3.2.2).
-pub(crate) fn origin_form(target: &[u8]) -> &[u8]
-    ensures { result.now ≡ origin_form target.now }
-{
-    match strip_prefix(target, b"http://") {
-        Some(rest) => from_slash(rest),
-        None => target,
-    }
-}
-
-/// The path of a target in that form.
+/// The path of a target that begins with it.
 pub(crate) fn path_in(target: &[u8]) -> &[u8]
     ensures { result.now ≡ path_in target.now }
 {
@@ -51,7 +32,7 @@ pub(crate) fn path_in(target: &[u8]) -> &[u8]
     }
 }
 
-/// The query of a target in that form, which is empty where there is none.
+/// The query of such a target, which is empty where there is none.
 pub(crate) fn query_in(target: &[u8]) -> &[u8]
     ensures { result.now ≡ query_in target.now }
 {

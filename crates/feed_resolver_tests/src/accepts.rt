@@ -1,4 +1,4 @@
-// Accept as browsers, curl and fetch send it.
+// Accept as browsers, curl and others send it.
 use crate::nodes::reply_to;
 use std::test::Fail;
 
@@ -7,22 +7,32 @@ struct Case {
     media_type: &'static str,
 }
 
-const CASES: [Case; 16] = [
-    // Firefox, Chromium and Safari, for a page.
+const CASES: [Case; 18] = [
+    // As Chromium 156 sent it for a page, and for that page's icon.
     Case {
-        lines: "Accept: text/html,application/xhtml+xml,application/xml;q=0.9,image/avif,image/webp,*/*;q=0.8\r\n",
+        lines: "Accept: text/html,application/xhtml+xml,application/xml;q=0.9,image/jxl,image/avif,image/webp,image/ap\
+            ng,*/*;q=0.8,application/signed-exchange;v=b3;q=0.7\r\n",
         media_type: "text/html; charset=utf-8",
     },
     Case {
-        lines: "Accept: text/html,application/xhtml+xml,application/xml;q=0.9,image/avif,image/webp,image/apng,*/*;q=0\
-            .8,application/signed-exchange;v=b3;q=0.7\r\n",
-        media_type: "text/html; charset=utf-8",
+        lines: "Accept: image/jxl,image/avif,image/webp,image/apng,image/svg+xml,image/*,*/*;q=0.8\r\n",
+        media_type: "text/plain; charset=utf-8",
     },
+    // Firefox 153 for a page, and one before it.
     Case {
         lines: "Accept: text/html,application/xhtml+xml,application/xml;q=0.9,*/*;q=0.8\r\n",
         media_type: "text/html; charset=utf-8",
     },
-    // curl, fetch, and no field.
+    Case {
+        lines: "Accept: text/html,application/xhtml+xml,application/xml;q=0.9,image/avif,image/webp,*/*;q=0.8\r\n",
+        media_type: "text/html; charset=utf-8",
+    },
+    // Lynx 2.9, which reads text as well as pages.
+    Case {
+        lines: "Accept: text/html, text/plain, text/sgml, text/css, */*;q=0.01\r\n",
+        media_type: "text/plain; charset=utf-8",
+    },
+    // curl 7.88, Wget 1.21, `fetch` and `XMLHttpRequest` of both browsers; Python's urllib sends none.
     Case {
         lines: "Accept: */*\r\n",
         media_type: "text/plain; charset=utf-8",

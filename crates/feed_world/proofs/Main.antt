@@ -11,7 +11,8 @@ use Rattle.feed_answer.specs.Queries.{query_of}
 use Rattle.feed_world.specs.World.{World, Node, WorldEvent, Report, Ask, Line, Active, Text, Refused, node_at, start, report_line, file_says, IsRefused, IfUp, OrMemory, Happens, Shows}
 use Rattle.feed_model.specs.File.{fault_of}
 use Rattle.feed_world.specs.Headline.{file_of, IsOneMoment, Stands, Answers, IsNoOlder, IsGoodRelease, IsFrom, IsHeadline, HasAlike, IsLatest, IsUpAt}
-use Rattle.feed_world.proofs.Over.{file_published, later_report, reports_one, reports_alike, latest_active}
+use Rattle.feed_model.proofs.Reports.{reports_one}
+use Rattle.feed_world.proofs.Over.{file_published, later_report, reports_alike, latest_active}
 use Rattle.feed_world.proofs.Slices.{same_some}
 use Rattle.feed_world.proofs.Moves.{Reported, IsSound, sound_start, sound_step, quiet_step, moves}
 use Rattle.feed_world.proofs.Places.{shows_sound, shows_grows, shows_files, shows_quiet, file_of-take, IsAt, place_of, between, AreAt, places_of, gap_event}

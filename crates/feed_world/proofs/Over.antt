@@ -1,7 +1,6 @@
 -- A history over published files: what it has of a release is what is published.
 use Rattle.std.proofs.Common.{◌≡◌, ◌<◌, ◌+◌, ℕ, ℤ, ◌≤ℤ◌, Bool, true, false, List, [], ◌∷◌, length, take}
 use Rattle.std.proofs.Common.{drop, Option, Some, None, Result, Ok, Err, slice_get, nat_le, refl, sym, ◌∙◌, ap, subst, arith}
-use Rattle.std.proofs.lemmas.Int.{ints}
 use Rattle.feed_names.specs.ReleaseName.{Name}
 use Rattle.feed_world.specs.declared.line.Why as why
 use Rattle.feed_world.specs.declared.line.Why.TheVariants as whys
@@ -10,7 +9,8 @@ use Rattle.feed_model.specs.File.{fault_of}
 use Rattle.feed_model.specs.History.{Event, Offered, Piece, Lost, History, Answer, is_noted, is_taken, or_else, byte_at, size_of, kept, IsFile, IsWhole, IsGood, IsActive, Reports}
 use Rattle.feed_world.specs.World.{Shelf, file_on, Sent, Offer, Deliver, Lose, arriving, delivered}
 use Rattle.feed_world.specs.Headline.{HasAlike}
-use Rattle.feed_model.proofs.Names.{name_is, name_by}
+use Rattle.feed_model.proofs.Names.{name_is}
+use Rattle.feed_model.proofs.Reports.{reports_one}
 use Rattle.feed_world.proofs.Slices.{byte-slice, same_list, get_some, same_some}
 
 pub record IsOver (shelf : Shelf) (h : History) : Type 0 where
@@ -128,19 +128,6 @@ file_kept h k n text s f = (s.size n (length text) f.0, λ place lt. (let g = ge
 
 pub good_kept : (h k : History) (n : Name) → Keeps h k → IsGood h n → IsGood k n
 good_kept h k n s g = (g.0, file_kept h k n g.0 s g.1, g.2)
-
-same_day : (a b : ℤ) → a ≤ℤ b → b ≤ℤ a → a ≡ b
-same_day a b le ge = grind (arith, ints)
-
--- two active releases of a package are one
-pub active_one : (h : History) (m n : Name) → m.stem ≡ n.stem → IsActive h m → IsActive h n → m ≡ n
-active_one h m n same a b = name_by m n same (same_day m.day n.day (b.1 m same a.0) (a.1 n (sym same) b.0))
-
-pub reports_one : (h : History) (key : List ℕ) (o p : Option Name) → Reports h key o → Reports h key p → o ≡ p
-reports_one h key None None x y = refl
-reports_one h key None (Some n) x y = absurd (x n y.0 y.1.0)
-reports_one h key (Some m) None x y = absurd (y m x.0 x.1.0)
-reports_one h key (Some m) (Some n) x y = ap Some (active_one h m n (x.0 ∙ sym y.0) x.1 y.1)
 
 -- where a release was active, a later report names it or one of a later day
 pub later_report : (h k : History) (key : List ℕ) (n : Name) (o : Option Name) → Keeps h k → Reports h key (Some n) → Reports k key o → (m : Name) × (o ≡ Some m) × (m.stem ≡ key)

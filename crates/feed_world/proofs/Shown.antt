@@ -10,7 +10,7 @@ use Rattle.feed_world.specs.World.{World, Node, Report, Ask, Line, Active, Text,
 use Rattle.std.specs.Prelude.{MatchBool}
 use Rattle.std.proofs.lemmas.Option.{MatchOption-at_some}
 use Rattle.feed_world.proofs.Nodes.{asked_at, if_up}
-use Rattle.feed_world.proofs.Over.{reports_one}
+use Rattle.feed_model.proofs.Reports.{reports_one}
 use Rattle.feed_world.proofs.Moves.{Reported, Asked}
 
 -- there is a node of this number, it is up, and reports this

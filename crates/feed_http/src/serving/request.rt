@@ -1,13 +1,12 @@
 //! What a request asks for.
-ghost use Rattle.std.specs.Prelude.{◌≡◌, ◌==◌, IfOk, IsOkUnless, option_copied, codes, position};
+ghost use Rattle.std.specs.Prelude.{◌≡◌, IfOk, IsOkUnless, option_copied};
 ghost use Rattle.httparse.specs.Grammar.{RequestHead};
-ghost use Rattle.feed_range.specs.Text.{slash, strip_prefix};
 ghost use Rattle.feed_range.specs.Ask.{IsInside};
 ghost use Rattle.feed_heads.specs.Fields.{AreWithin, AreFieldsOf};
 ghost use Rattle.feed_heads.specs.Requests.{IsInBuffer, HasHead};
-ghost use Rattle.feed_http.specs.Requests.{from_slash, path_of, is_unsupported, range_value, ask_for, IsNamedBy};
+ghost use Rattle.feed_http.specs.Requests.{is_unsupported, range_value, ask_for, IsNamedBy};
 
-use feed_heads::{Fields, HttpFault, Request};
+use feed_heads::{Fields, HttpFault, Request, origin_form};
 use feed_names::{NameFault, ReleaseName};
 use feed_range::RangeAsk;
 use std::alloc::Global;
@@ -58,7 +57,7 @@ fn name_in(alloc: Global, target: &[u8]) -> Result<Option<ReleaseName>, HttpFaul
     ensures named { IfOk result (IsNamedBy target.now) }
     ensures faults { IsOkUnless result HttpFault.Memory }
 {
-    let Some(text) = path_of(target).strip_prefix(b"/".as_slice()) else {
+    let Some(text) = origin_form(target).strip_prefix(b"/".as_slice()) else {
         return Ok(None);
     };
     match ReleaseName::parse(alloc, text) {
@@ -68,36 +67,4 @@ fn name_in(alloc: Global, target: &[u8]) -> Result<Option<ReleaseName>, HttpFaul
         Err(NameFault::BadDate) => Ok(None),
         Err(NameFault::BadStem) => Ok(None),
     }
-}
-
-// A target may be a whole URI, with a scheme and a host before the path (RFC 9112, section 3.2.2).
-fn path_of(target: &[u8]) -> &[u8]
-    ensures { result.now ≡ path_of target.now }
-{
-    match strip_scheme(target) {
-        Some(rest) => from_slash(rest),
-        None => target,
-    }
-}
-
-fn strip_scheme(target: &[u8]) -> Option<&[u8]>
-    ensures { option_copied result ≡ strip_prefix (codes "http://") target.now }
-{
-    let (front, rest) = target.split_at_checked(7)?;
-    front.eq_ignore_ascii_case(b"http://").then_some(rest)
-}
-
-fn from_slash(text: &[u8]) -> &[u8]
-    ensures { result.now ≡ from_slash text.now }
-{
-    match first_slash(text) {
-        Some(place) => &text[place..],
-        None => b"",
-    }
-}
-
-fn first_slash(text: &[u8]) -> Option<usize>
-    ensures { result ≡ position (λ byte. byte == slash) text.now }
-{
-    text.iter().position(|byte| *byte == b'/')
 }
