@@ -137,6 +137,7 @@ page_front title = joined (
     ∷ codes "<meta name=\"viewport\" content=\"width=device-width, initial-scale=1\">\n<title>" ∷ title ∷ codes "</title>\n"
     ∷ codes "<style>body{font-family:sans-serif;max-width:60em;margin:1em auto;padding:0 1em}"
     ∷ codes "table{border-collapse:collapse}th,td{text-align:left;padding:.4em;border-bottom:1px solid #999}"
+    ∷ codes "td:nth-child(3){white-space:nowrap}input,button{font:inherit;padding:.3em}"
     ∷ codes "label{display:block;margin-top:.6em}.wide{overflow-x:auto}</style>\n"
     ∷ codes "</head>\n<body>\n<main>\n<h1>" ∷ title ∷ codes "</h1>\n" ∷ [])
 

@@ -28,6 +28,9 @@ pub(crate) fn put_front(out: &mut Vec<u8>, title: &[u8]) -> Result<(), AllocErro
             Piece::Plain(
                 b"table{border-collapse:collapse}th,td{text-align:left;padding:.4em;border-bottom:1px solid #999}",
             ),
+            Piece::Plain(
+                b"td:nth-child(3){white-space:nowrap}input,button{font:inherit;padding:.3em}",
+            ),
             Piece::Plain(b"label{display:block;margin-top:.6em}.wide{overflow-x:auto}</style>\n"),
             Piece::Plain(b"</head>\n<body>\n<main>\n<h1>"),
             Piece::Plain(title),

@@ -11,6 +11,7 @@ const HEAD: &str =
 const STYLE: &str = "</title>\n\
     <style>body{font-family:sans-serif;max-width:60em;margin:1em auto;padding:0 1em}\
     table{border-collapse:collapse}th,td{text-align:left;padding:.4em;border-bottom:1px solid #999}\
+    td:nth-child(3){white-space:nowrap}input,button{font:inherit;padding:.3em}\
     label{display:block;margin-top:.6em}.wide{overflow-x:auto}</style>\n</head>\n<body>\n<main>\n<h1>";
 
 const END: &str = "<p><a href=\"/\">Ask again</a></p>\n</main>\n</body>\n</html>\n";
@@ -26,7 +27,7 @@ struct Case {
 const CASES: [Case; 5] = [
     Case {
         target: "/resolve?rft.issn=2434561x&rft.date=1996&format=html",
-        front: "HTTP/1.1 200 OK\r\nContent-Type: text/html; charset=utf-8\r\nContent-Length: 1198",
+        front: "HTTP/1.1 200 OK\r\nContent-Type: text/html; charset=utf-8\r\nContent-Length: 1272",
         title: "Holdings",
         part: "<div class=\"wide\">\n<table>\n<thead>\n<tr><th scope=\"col\">Title</th><th scope=\"col\">How well it f\
             its</th>\
@@ -42,28 +43,28 @@ const CASES: [Case; 5] = [
     },
     Case {
         target: "/resolve/Acme?rft.issn=0000-0027&format=html",
-        front: "HTTP/1.1 200 OK\r\nContent-Type: text/html; charset=utf-8\r\nContent-Length: 521",
+        front: "HTTP/1.1 200 OK\r\nContent-Type: text/html; charset=utf-8\r\nContent-Length: 595",
         title: "Holdings",
         part: "<p>No holdings match.</p>\n",
         end: END,
     },
     Case {
         target: "/resolve?format=html",
-        front: "HTTP/1.1 400 Bad Request\r\nContent-Type: text/html; charset=utf-8\r\nContent-Length: 517",
+        front: "HTTP/1.1 400 Bad Request\r\nContent-Type: text/html; charset=utf-8\r\nContent-Length: 591",
         title: "Not answered",
         part: "<p>NoIssn</p>\n",
         end: END,
     },
     Case {
         target: "/status?format=html",
-        front: "HTTP/1.1 200 OK\r\nContent-Type: text/html; charset=utf-8\r\nContent-Length: 594",
+        front: "HTTP/1.1 200 OK\r\nContent-Type: text/html; charset=utf-8\r\nContent-Length: 668",
         title: "Active releases",
         part: "<ul>\n<li>Acme (Acme_2024-01-01.txt)</li>\n<li>Basic (Basic_2024-02-01.txt)</li>\n</ul>\n",
         end: END,
     },
     Case {
         target: "/",
-        front: "HTTP/1.1 200 OK\r\nContent-Type: text/html; charset=utf-8\r\nContent-Length: 1050",
+        front: "HTTP/1.1 200 OK\r\nContent-Type: text/html; charset=utf-8\r\nContent-Length: 1124",
         title: "Find holdings",
         part: "<form action=\"/resolve\" method=\"get\">\n<input type=\"hidden\" name=\"format\" value=\"html\">\n\
             <label for=\"issn\">ISSN of a journal</label>\n<input id=\"issn\" name=\"rft.issn\">\n\
