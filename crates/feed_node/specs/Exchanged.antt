@@ -1,0 +1,41 @@
+-- What went between a connection and its streams.
+use Rattle.std.specs.Prelude.{◌≡◌, ℕ, List, [], ◌∷◌, ◌++◌, Option}
+use Rattle.std.specs.Io.KnownBytes.{Consumes, Appends}
+use Rattle.feed_node.specs.declared.connection.Connection.{Connection}
+use Rattle.feed_node.specs.Happenings.{Happening, Came, Answered, Went, Passed, come, answers, gone}
+use Rattle.feed_node.specs.Replies.{Replies, IsReplyTo}
+use Rattle.feed_node.specs.Standing.{StandsAt}
+
+-- each reply that was made in this time is one to all that had come
+abbrev pub AreReplies : Replies → List Happening → List Happening → Type 0
+AreReplies replies [] history = Unit {0}
+AreReplies replies (Came bytes ∷ more) history = AreReplies replies more history
+AreReplies replies (Answered reply ∷ more) history = IsReplyTo replies (come (more ++ history)) reply × AreReplies replies more history
+AreReplies replies (Went bytes ∷ more) history = AreReplies replies more history
+AreReplies replies (Passed millis ∷ more) history = AreReplies replies more history
+
+-- more happened, at which the connection stands: the bytes that came are those that the reader gave, and the bytes that
+-- went are those that the writer took
+pub record GoesOn (replies : Replies) (new : Connection) (history : List Happening)
+    (unread read : Option (List ℕ)) (unwritten written : Option (List ℕ)) : Type 0 where
+  pub more : List Happening
+  pub stands : StandsAt new (more ++ history)
+  pub replies_made : AreReplies replies more history
+  pub came : Consumes unread read (come more)
+  pub went : Appends unwritten written (gone more)
+
+-- the same of the reader alone, to which nothing is written
+pub record HasHeard (replies : Replies) (new : Connection) (history : List Happening) (unread read : Option (List ℕ)) : Type 0 where
+  pub more : List Happening
+  pub stands : StandsAt new (more ++ history)
+  pub replies_made : AreReplies replies more history
+  pub came : Consumes unread read (come more)
+  pub none_went : gone more ≡ []
+
+-- the same of the writer alone
+pub record HasTold (new : Connection) (history : List Happening) (unwritten written : Option (List ℕ)) : Type 0 where
+  pub more : List Happening
+  pub stands : StandsAt new (more ++ history)
+  pub none_answered : answers more ≡ []
+  pub went : Appends unwritten written (gone more)
+  pub none_came : come more ≡ []

@@ -1,0 +1,4 @@
+pub mod Happenings
+pub mod Replies
+pub mod Standing
+pub mod Exchanged

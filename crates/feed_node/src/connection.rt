@@ -1,0 +1,232 @@
+//! One connection, without its socket.
+ghost use Rattle.std.specs.Prelude.{◌≡◌, ◌≢◌, ◌+◌, ◌<◌, ◌≤◌, List, ◌∷◌, [], length, take, OnOk, vec_len};
+ghost use Rattle.feed_node.specs.Happenings.{Happening, Came, Went, Passed};
+
+use crate::judged::{Verdict, judged};
+use crate::respond::{Respond, response};
+use feed_heads::HEAD_LIMIT;
+use std::alloc::{AllocError, Global};
+
+/// The fewest bytes of a reply that a peer has to take in the time in which it has to send its head.
+pub const SLOWEST: usize = 16_384;
+
+/// What a connection waits for.
+#[derive(Clone, Copy, Debug, PartialEq, Eq)]
+pub enum Wants {
+    /// Bytes of the peer.
+    Bytes,
+    /// Room for bytes to the peer.
+    Room,
+    /// Nothing: it is to be closed.
+    Close,
+}
+
+#[derive(Clone, Copy, Debug, PartialEq, Eq)]
+pub enum Phase {
+    /// The head has not come whole.
+    Hearing,
+    /// A part of the reply is left.
+    Telling,
+    /// The reply went whole. What the peer sends besides is thrown away until it ends its side, since one that is
+    /// closed over unread bytes may lose the reply (RFC 9112, section 9.6).
+    Lingering,
+    /// The reply went whole, and nothing is waited for.
+    Whole,
+    /// The time was up, the peer was gone, or there was no memory.
+    Cut,
+}
+
+/// A connection that takes one request and gives one reply.
+#[derive(Drop)]
+pub struct Connection {
+    phase: Phase,
+    heard: Vec<u8>,
+    reply: Vec<u8>,
+    sent: usize,
+    more_may_come: bool,
+    /// The bytes that went since the time was last counted anew.
+    since: usize,
+    /// The milliseconds since then.
+    quiet: u64,
+    limit: u64,
+    ghost bounded: { vec_len heard ≤ 8192 },
+    ghost within: { sent ≤ vec_len reply },
+    ghost slow: { since < 16384 },
+    ghost in_time: { quiet ≤ limit },
+}
+
+impl Connection {
+    ghost use Rattle.feed_node.specs.Standing.{StandsAt, ComesOn, rest_of, wants_in, IsDone};
+    ghost use Rattle.feed_node.specs.Standing.{HasTakenIn, HasBegun, lingers_in};
+
+    /// A connection of which each step may take so many milliseconds: the head, every 16,384 bytes of the reply, and the
+    /// rest.
+    pub fn new(alloc: Global, limit: u64) -> Connection
+        requires { 0 < limit }
+        ensures stands { StandsAt result [] }
+        ensures limit { result.limit ≡ limit }
+    {
+        Connection {
+            phase: Phase::Hearing,
+            heard: Vec::new(alloc),
+            reply: Vec::new(alloc),
+            sent: 0,
+            more_may_come: true,
+            since: 0,
+            quiet: 0,
+            limit,
+        }
+    }
+
+    /// What the connection waits for.
+    pub fn wants(&self) -> Wants
+        ensures { result ≡ wants_in self.now.phase }
+    {
+        match self.phase {
+            Phase::Hearing => Wants::Bytes,
+            Phase::Telling => Wants::Room,
+            Phase::Lingering => Wants::Bytes,
+            Phase::Whole => Wants::Close,
+            Phase::Cut => Wants::Close,
+        }
+    }
+
+    /// Whether the reply went and the peer may send more: then the side that was written to is to be ended.
+    pub fn is_lingering(&self) -> bool
+        ensures { result ≡ lingers_in self.now.phase }
+    {
+        match self.phase {
+            Phase::Lingering => true,
+            _ => false,
+        }
+    }
+
+    /// Bytes came. Those behind the head are thrown away.
+    pub fn came<R: Respond>(&mut self, alloc: Global, responder: &R, bytes: &[u8])
+        ensures stands { (history : List Happening) → StandsAt self.old history
+            → ComesOn (R.replies responder.now) self.new bytes.now history }
+        ensures limit { self.new.limit ≡ self.old.limit }
+    {
+        let Phase::Hearing = self.phase else {
+            return;
+        };
+        let room = HEAD_LIMIT - self.heard.len();
+        let (front, _) = bytes.split_at(bytes.len().min(room));
+        if self.take_in(alloc, responder, front).is_err() {
+            self.phase = Phase::Cut;
+        }
+    }
+
+    fn take_in<R: Respond>(
+        &mut self,
+        alloc: Global,
+        responder: &R,
+        bytes: &[u8],
+    ) -> Result<(), AllocError>
+        requires hearing { self.old.phase ≡ Phase.Hearing }
+        requires room { vec_len self.old.heard + length bytes.now ≤ HEAD_LIMIT }
+        ensures taken { OnOk result (HasTakenIn (R.replies responder.now) bytes.now self.old self.new) }
+        ensures limit { self.new.limit ≡ self.old.limit }
+    {
+        self.heard.extend_from_slice(bytes)?;
+        match judged(&self.heard) {
+            Verdict::More => Ok(()),
+            Verdict::Enough { more_may_come } => {
+                let reply = response(alloc, responder, &self.heard)?;
+                self.begin(alloc, reply, more_may_come);
+                Ok(())
+            }
+        }
+    }
+
+    fn begin(&mut self, alloc: Global, reply: Vec<u8>, more_may_come: bool)
+        ensures begun { HasBegun reply.items self.new }
+        ensures limit { self.new.limit ≡ self.old.limit }
+    {
+        self.heard = Vec::new(alloc);
+        self.reply = reply;
+        self.sent = 0;
+        self.since = 0;
+        self.quiet = 0;
+        self.more_may_come = more_may_come;
+        self.phase = if self.reply.is_empty() {
+            self.done()
+        } else {
+            Phase::Telling
+        };
+    }
+
+    // The phase after a reply that went whole.
+    fn done(&self) -> Phase
+        ensures { IsDone result }
+    {
+        if self.more_may_come {
+            Phase::Lingering
+        } else {
+            Phase::Whole
+        }
+    }
+
+    /// What is left of the reply.
+    pub fn rest(&self) -> &[u8]
+        ensures { result.now ≡ rest_of self.now }
+    {
+        match self.phase {
+            Phase::Telling => &self.reply[self.sent..],
+            _ => b"",
+        }
+    }
+
+    /// The peer took so many bytes of the rest.
+    pub fn took(&mut self, count: usize)
+        requires some { 0 < count }
+        requires within { count ≤ length (rest_of self.old) }
+        ensures stands { (history : List Happening) → StandsAt self.old history
+            → StandsAt self.new (Went (take count (rest_of self.old)) ∷ history) }
+        ensures limit { self.new.limit ≡ self.old.limit }
+    {
+        if count >= SLOWEST - self.since {
+            self.since = 0;
+            self.quiet = 0;
+        } else {
+            self.since += count;
+        }
+        self.sent += count;
+        if self.sent == self.reply.len() {
+            self.phase = self.done();
+        }
+    }
+
+    /// So many milliseconds passed.
+    pub fn passed(&mut self, millis: u64)
+        ensures stands { (history : List Happening) → StandsAt self.old history
+            → StandsAt self.new (Passed millis ∷ history) }
+        ensures kept { self.old.quiet + millis < self.old.limit → self.new.phase ≡ self.old.phase }
+        ensures limit { self.new.limit ≡ self.old.limit }
+    {
+        if self.wants() == Wants::Close {
+            return;
+        }
+        if millis >= self.limit - self.quiet {
+            self.end();
+        } else {
+            self.quiet += millis;
+        }
+    }
+
+    /// The peer is gone, or sends no more.
+    pub fn end(&mut self)
+        ensures stands { (history : List Happening) → StandsAt self.old history
+            → StandsAt self.new history }
+        ensures over { wants_in self.new.phase ≡ Wants.Close }
+        ensures limit { self.new.limit ≡ self.old.limit }
+    {
+        self.phase = match self.phase {
+            Phase::Hearing => Phase::Cut,
+            Phase::Telling => Phase::Cut,
+            Phase::Lingering => Phase::Whole,
+            Phase::Whole => Phase::Whole,
+            Phase::Cut => Phase::Cut,
+        };
+    }
+}
