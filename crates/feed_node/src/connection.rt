@@ -133,17 +133,16 @@ impl Connection {
             Verdict::More => Ok(()),
             Verdict::Enough { more_may_come } => {
                 let reply = response(alloc, responder, &self.heard)?;
-                self.begin(alloc, reply, more_may_come);
+                self.begin(reply, more_may_come);
                 Ok(())
             }
         }
     }
 
-    fn begin(&mut self, alloc: Global, reply: Vec<u8>, more_may_come: bool)
+    fn begin(&mut self, reply: Vec<u8>, more_may_come: bool)
         ensures begun { HasBegun reply.items self.new }
         ensures limit { self.new.limit ≡ self.old.limit }
     {
-        self.heard = Vec::new(alloc);
         self.reply = reply;
         self.sent = 0;
         self.since = 0;
@@ -165,6 +164,27 @@ impl Connection {
         } else {
             Phase::Whole
         }
+    }
+
+    /// What was heard: the request's head, and what came with it, or what came instead.
+    pub fn heard(&self) -> &[u8]
+        ensures { result.now ≡ self.now.heard.items }
+    {
+        &self.heard
+    }
+
+    /// The whole reply, which is empty until it is made.
+    pub fn reply(&self) -> &[u8]
+        ensures { result.now ≡ self.now.reply.items }
+    {
+        &self.reply
+    }
+
+    /// How many milliseconds it has been quiet, of those that it may be.
+    pub fn quiet(&self) -> u64
+        ensures { result ≡ self.now.quiet }
+    {
+        self.quiet
     }
 
     /// What is left of the reply.
