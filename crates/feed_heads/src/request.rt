@@ -15,7 +15,7 @@ pub struct Request<'b> {
     pub spans: RequestSpans,
 }
 
-impl Request<'_> {
+impl<'b> Request<'b> {
     /// The fields of the head.
     pub fn fields(&self) -> Fields<'_>
         requires { IsInBuffer self.now }
@@ -37,7 +37,7 @@ impl Request<'_> {
     }
 
     /// Its target's bytes (RFC 9112, section 3.2), of which none is decoded.
-    pub fn target(&self) -> &[u8]
+    pub fn target(&self) -> &'b [u8]
         requires { IsInBuffer self.now }
         ensures { (head : RequestHead) → HasHead self.now head → result.now ≡ head.target }
     {

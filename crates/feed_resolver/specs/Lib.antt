@@ -10,3 +10,4 @@ pub mod Answers
 pub mod Pages
 pub mod Replies
 pub mod Laws
+pub mod Feeding

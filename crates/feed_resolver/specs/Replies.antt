@@ -52,8 +52,10 @@ abbrev pub status_text : Status → List ℕ
 status_text status.Good = codes "200 OK"
 status_text status.Found = codes "302 Found"
 status_text status.BadRequest = codes "400 Bad Request"
+status_text status.Unauthorized = codes "401 Unauthorized"
 status_text status.NotFound = codes "404 Not Found"
 status_text status.MethodNotAllowed = codes "405 Method Not Allowed"
+status_text status.Conflict = codes "409 Conflict"
 status_text status.UriTooLong = codes "414 URI Too Long"
 status_text status.NotImplemented = codes "501 Not Implemented"
 
@@ -63,10 +65,11 @@ type_text Text = codes "text/plain; charset=utf-8"
 type_text Json = codes "application/json"
 type_text Html = codes "text/html; charset=utf-8"
 
--- the field that a status asks for (RFC 9110, sections 10.2.1 and 10.2.2)
+-- the field that a status asks for (RFC 9110, sections 10.2.1, 10.2.2 and 11.6.1)
 abbrev pub status_field : Status → List ℕ → List ℕ
 status_field status.Found location = joined (codes "\r\nLocation: " ∷ location ∷ [])
 status_field status.MethodNotAllowed location = joined (codes "\r\nAllow: GET, HEAD" ∷ [])
+status_field status.Unauthorized location = joined (codes "\r\nWWW-Authenticate: Bearer" ∷ [])
 status_field code location = []
 
 -- the head of a reply

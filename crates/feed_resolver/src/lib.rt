@@ -4,6 +4,7 @@
 
 mod answers;
 mod escape;
+mod feeding;
 mod hits;
 mod laws;
 mod link;
@@ -17,6 +18,7 @@ mod target;
 mod text;
 
 pub use feed_heads::{HeadEnd, head_end};
+pub use feeding::{Feeder, fetch_asked, respond_as_node};
 pub use laws::{
     escaped_has_no_markup, escaped_reads_back, json_reads_back, redirects_to_link,
     same_releases_same_bytes,

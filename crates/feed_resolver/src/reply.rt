@@ -19,10 +19,14 @@ pub(crate) enum Status {
     Found,
     /// 400
     BadRequest,
+    /// 401
+    Unauthorized,
     /// 404
     NotFound,
     /// 405
     MethodNotAllowed,
+    /// 409
+    Conflict,
     /// 414
     UriTooLong,
     /// 501
@@ -58,8 +62,10 @@ fn status_text(status: Status) -> &'static [u8]
         Status::Good => b"200 OK",
         Status::Found => b"302 Found",
         Status::BadRequest => b"400 Bad Request",
+        Status::Unauthorized => b"401 Unauthorized",
         Status::NotFound => b"404 Not Found",
         Status::MethodNotAllowed => b"405 Method Not Allowed",
+        Status::Conflict => b"409 Conflict",
         Status::UriTooLong => b"414 URI Too Long",
         Status::NotImplemented => b"501 Not Implemented",
     }
@@ -90,6 +96,7 @@ fn put_field(out: &mut Vec<u8>, status: Status, location: &[u8]) -> Result<(), A
             &[Piece::Plain(b"\r\nLocation: "), Piece::Plain(location)],
         ),
         Status::MethodNotAllowed => put_all(out, &[Piece::Plain(b"\r\nAllow: GET, HEAD")]),
+        Status::Unauthorized => put_all(out, &[Piece::Plain(b"\r\nWWW-Authenticate: Bearer")]),
         _ => Ok(()),
     }
 }

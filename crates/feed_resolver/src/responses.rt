@@ -228,7 +228,7 @@ fn reply_to<'a>(
     by_path(alloc, request, origin_form(request.target()), actives)
 }
 
-fn response_to(
+pub(crate) fn response_to(
     alloc: Global,
     request: &Request<'_>,
     actives: &[ActiveRelease<'_>],
@@ -241,7 +241,7 @@ fn response_to(
     reply.text(alloc, request.is_head())
 }
 
-fn response_to_none(alloc: Global) -> Result<Vec<u8>, AllocError>
+pub(crate) fn response_to_none(alloc: Global) -> Result<Vec<u8>, AllocError>
     ensures { IfOk result (λ bytes. bytes.items ≡ response_to_none) }
 {
     refusal(alloc, Status::BadRequest, Representation::Text, b"BadHead")?.text(alloc, false)
