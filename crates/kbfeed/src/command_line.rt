@@ -1,6 +1,7 @@
 //! What the words of the command line ask for.
 use crate::check_command::Manner;
 use crate::fetch_command::Fetching;
+use crate::node_command::Hosting;
 use crate::serve_command::Serving;
 use clap::{Arg, ArgAction, ArgMatches, Command, Error, value_parser};
 use feed_report::Form;
@@ -25,6 +26,11 @@ pub enum Request<'a> {
         dir: &'a str,
         addr: &'a str,
         serving: Serving,
+    },
+    Node {
+        db: &'a str,
+        addr: &'a str,
+        hosting: Hosting,
     },
     Fetch {
         db: &'a str,
@@ -123,6 +129,31 @@ Read`. It may not stand still for as long while it takes the reply, nor take mor
 The status is 0 once --count connections were served, 2 for a wrong command line, and 3 where ADDR does not bind (Bind),
 no connection is taken (Accept) or a print fails. docs/FAULTS.md has each fault, and -v says more of one.";
 
+const NODE_HELP: &str = "Answers readers over HTTP/1.1 from the database of a node: a link resolver.
+
+DB is the file that `kbfeed fetch` fills. ADDR is an IP address or a host, and a port: 127.0.0.1:8080, [::1]:8080.
+
+  $ kbfeed node node.db 127.0.0.1:8080 &
+  listening
+  $ curl 'http://127.0.0.1:8080/resolve?rft.issn=2434561x&rft.date=1996'
+
+  /                        a page with a form, and the packages
+  /resolve?QUERY           what `kbfeed ask` prints, of every package with an active release
+  /resolve/PACKAGE?QUERY   of one package
+  /go?QUERY                sends the reader to the best hit
+  /status                  the active releases
+
+QUERY is the query of an OpenURL 1.0, as for `kbfeed ask`. A browser gets pages, and who accepts application/json gets
+JSON; format=text, format=html and format=json in the query say so too.
+
+A line is printed for each request, as a common log line. A client has --timeout seconds to send its request, as many for
+every 16,384 bytes of the reply, and as many until it ends its side. Past --clients connections at a time the quietest is
+closed. The node runs until it is ended; nothing is lost by that.
+
+The status is 1 for a database that is not ours or damaged, 2 for a wrong command line, and 3 where ADDR does not bind
+(Bind), the sockets fail (Poll) or a print does, for a failing device and for want of memory. docs/FAULTS.md has each
+fault, and -v says more of one.";
+
 const FETCH_HELP: &str =
     "Fetches a release over HTTP/1.1 into the database of a node, which then answers from it (kbfeed ask).
 
@@ -214,6 +245,7 @@ pub fn read<'a>(alloc: Global, words: &'a [String]) -> Result<(bool, Request<'a>
         .subcommand(check_command(alloc)?)?
         .subcommand(answer_command(alloc)?)?
         .subcommand(serve_command(alloc)?)?
+        .subcommand(node_command(alloc)?)?
         .subcommand(fetch_command(alloc)?)?
         .subcommand(ask_command(alloc)?)?
         .subcommand(status_command(alloc)?)?
@@ -305,6 +337,32 @@ fn serve_command<'a>(alloc: Global) -> Result<Command<'a>, AllocError> {
         .arg(addr)?
         .arg(count)?
         .arg(timeout)
+}
+
+fn node_command<'a>(alloc: Global) -> Result<Command<'a>, AllocError> {
+    let addr = Arg::new(alloc, "ADDR")
+        .required(true)
+        .help("Where it listens, as 127.0.0.1:8080");
+    let clients = Arg::new(alloc, "clients")
+        .long("clients")
+        .value_name("N")
+        .value_parser(value_parser!(u64).range(1..=65_536))
+        .help("How many connections it has at a time, 1 to 65536 [default: 1024]");
+    let timeout = timeout(alloc, "How long a client may take, 1 to 3600 [default: 30]");
+    Command::new(alloc, "node")
+        .about("Answers readers over HTTP from the database of a node")
+        .long_about(NODE_HELP)
+        .arg(database(alloc))?
+        .arg(addr)?
+        .arg(clients)?
+        .arg(timeout)
+}
+
+fn hosting_of(node: &ArgMatches<'_>) -> Hosting {
+    Hosting {
+        clients: node.get_one::<u64>("clients").unwrap_or(1_024) as usize,
+        time: time_of(node),
+    }
 }
 
 fn timeout<'a>(alloc: Global, help: &'a str) -> Arg<'a> {
@@ -416,6 +474,11 @@ fn request_of<'a>(alloc: Global, matches: &ArgMatches<'a>) -> Result<Request<'a>
         Some(("answer", answer)) => Request::Answer {
             file: answer.get_str("FILE").unwrap_or(""),
             query: answer.get_str("QUERY").unwrap_or(""),
+        },
+        Some(("node", node)) => Request::Node {
+            db: node.get_str("DB").unwrap_or(""),
+            addr: node.get_str("ADDR").unwrap_or(""),
+            hosting: hosting_of(node),
         },
         Some(("serve", serve)) => Request::Serve {
             dir: serve.get_str("DIR").unwrap_or(""),

@@ -1,6 +1,7 @@
 //! kbfeed: a feed of holdings lists of serials and books (KBART files) for a fleet of OpenURL link resolvers.
 #![tactic(auto)]
 
+mod access_log;
 mod answer_command;
 mod ask_command;
 mod causes;
@@ -11,6 +12,7 @@ mod fetch_command;
 mod files;
 mod folder;
 mod input;
+mod node_command;
 mod progress;
 mod replay_command;
 mod serve_command;
@@ -89,6 +91,14 @@ fn status_of(rt: &HostRuntime) -> u8 {
         Request::Answer { file, query } => answer(rt, file, query, &mut out, &mut faults),
         Request::Serve { dir, addr, serving } => {
             serve(rt, dir, addr, serving, &mut out, &mut faults)
+        }
+        Request::Node {
+            db: path,
+            addr,
+            hosting,
+        } => {
+            let database = DatabaseFile { rt, path };
+            node_command::node_on(rt, &database, addr, hosting, &mut out, &mut faults)
         }
         Request::Fetch {
             db: path,

@@ -1,0 +1,133 @@
+//! The log of a node: a common log line for each request.
+use feed_dates::write_date;
+use feed_node::Connection;
+use feed_node_loop::Log;
+use std::io;
+use std::io::Write;
+use std::net::SocketAddr;
+use std::time::{SystemTime, UNIX_EPOCH};
+
+/// Prints a line for each connection that was answered. A fault of the print is kept.
+#[derive(Drop)]
+pub struct AccessLog<'o, O: Write> {
+    rt: &'o HostRuntime,
+    out: &'o mut O,
+    outcome: io::Result<()>,
+    is_clean: bool,
+}
+
+impl<'o, O: Write> AccessLog<'o, O> {
+    pub fn new(rt: &'o HostRuntime, out: &'o mut O) -> AccessLog<'o, O> {
+        AccessLog {
+            rt,
+            out,
+            outcome: Ok(()),
+            is_clean: true,
+        }
+    }
+
+    /// Prints what is not yet printed, and gives the first fault.
+    pub fn flushed(&mut self) -> io::Result<()> {
+        if self.is_clean {
+            return Ok(());
+        }
+        self.is_clean = true;
+        std::mem::replace(&mut self.outcome, Ok(()))?;
+        self.out.flush()
+    }
+}
+
+impl<'o, O: Write> Log for AccessLog<'o, O> {
+    fn closed(&mut self, addr: SocketAddr, connection: &Connection) {
+        if connection.reply().is_empty() {
+            return;
+        }
+        self.is_clean = false;
+        if self.outcome.is_ok() {
+            self.outcome = put_line(self.rt, self.out, addr, connection);
+        }
+    }
+}
+
+fn put_line<O: Write>(
+    rt: &HostRuntime,
+    out: &mut O,
+    addr: SocketAddr,
+    connection: &Connection,
+) -> io::Result<()> {
+    write!(out, "{} - - [", addr.ip())?;
+    let now = SystemTime::now(rt)?;
+    let seconds = match now.duration_since(UNIX_EPOCH) {
+        Ok(passed) => passed.as_secs(),
+        Err(_) => 0,
+    };
+    put_time(out, seconds)?;
+    out.write_all(b" +0000] \"")?;
+    put_escaped(out, request_line(connection.heard()))?;
+    out.write_all(b"\" ")?;
+    out.write_all(status_of(connection.reply()))?;
+    write!(out, " {}\n", body_of(connection.reply()).len())
+}
+
+const MONTHS: [&str; 12] = [
+    "Jan", "Feb", "Mar", "Apr", "May", "Jun", "Jul", "Aug", "Sep", "Oct", "Nov", "Dec",
+];
+
+// The time of so many seconds since 1970, as 25/Nov/2026:07:45:00.
+fn put_time<O: Write>(out: &mut O, seconds: u64) -> io::Result<()> {
+    let day = (seconds / 86_400).min(i32::MAX as u64) as i32;
+    if let Some([a, b, c, d, _, e, f, _, g, h]) = write_date(day) {
+        let month = usize::from(e.saturating_sub(b'0')) * 10 + usize::from(f.saturating_sub(b'0'));
+        let name = MONTHS.get(month.saturating_sub(1)).unwrap_or(&"Jan");
+        out.write_all(&[g, h, b'/'])?;
+        out.write_all(name.as_bytes())?;
+        out.write_all(&[b'/', a, b, c, d])?;
+    }
+    let time = seconds % 86_400;
+    write!(
+        out,
+        ":{:02}:{:02}:{:02}",
+        time / 3_600,
+        time / 60 % 60,
+        time % 60
+    )
+}
+
+// The first line of a head.
+fn request_line(heard: &[u8]) -> &[u8] {
+    match heard
+        .iter()
+        .position(|byte| *byte == b'\r' || *byte == b'\n')
+    {
+        Some(place) => &heard[..place],
+        None => heard,
+    }
+}
+
+fn status_of(reply: &[u8]) -> &[u8] {
+    reply.get(9..12).unwrap_or(b"-")
+}
+
+// What stands behind the head of a reply.
+fn body_of(reply: &[u8]) -> &[u8] {
+    let mut rest = reply;
+    for _ in 0..reply.len() {
+        if let Some(body) = rest.strip_prefix(b"\r\n\r\n".as_slice()) {
+            return body;
+        }
+        rest = rest.get(1..).unwrap_or(b"");
+    }
+    b""
+}
+
+// Bytes that are no visible ASCII, and those that a quoted text can't have, by their numbers.
+fn put_escaped<O: Write>(out: &mut O, text: &[u8]) -> io::Result<()> {
+    for byte in text {
+        if *byte == b'"' || *byte == b'\\' || *byte < 32 || *byte > 126 {
+            write!(out, "\\x{:02X}", *byte)?;
+        } else {
+            out.write_all(&[*byte])?;
+        }
+    }
+    Ok(())
+}
