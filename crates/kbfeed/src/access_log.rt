@@ -69,19 +69,38 @@ fn put_line<O: Write>(
     write!(out, " {}\n", body_of(connection.reply()).len())
 }
 
-const MONTHS: [&str; 12] = [
-    "Jan", "Feb", "Mar", "Apr", "May", "Jun", "Jul", "Aug", "Sep", "Oct", "Nov", "Dec",
-];
+// The name of a month by the digits of its number.
+fn month_of(tens: u8, ones: u8) -> &'static [u8] {
+    match (tens, ones) {
+        (b'0', b'1') => b"Jan",
+        (b'0', b'2') => b"Feb",
+        (b'0', b'3') => b"Mar",
+        (b'0', b'4') => b"Apr",
+        (b'0', b'5') => b"May",
+        (b'0', b'6') => b"Jun",
+        (b'0', b'7') => b"Jul",
+        (b'0', b'8') => b"Aug",
+        (b'0', b'9') => b"Sep",
+        (b'1', b'0') => b"Oct",
+        (b'1', b'1') => b"Nov",
+        _ => b"Dec",
+    }
+}
+
+// A day as 25/Nov/2026.
+fn put_day<O: Write>(out: &mut O, date: [u8; 10]) -> io::Result<()> {
+    let [a, b, c, d, _, e, f, _, g, h] = date;
+    out.write_all(&[g, h, b'/'])?;
+    out.write_all(month_of(e, f))?;
+    out.write_all(&[b'/', a, b, c, d])
+}
 
 // The time of so many seconds since 1970, as 25/Nov/2026:07:45:00.
 fn put_time<O: Write>(out: &mut O, seconds: u64) -> io::Result<()> {
     let day = (seconds / 86_400).min(i32::MAX as u64) as i32;
-    if let Some([a, b, c, d, _, e, f, _, g, h]) = write_date(day) {
-        let month = usize::from(e.saturating_sub(b'0')) * 10 + usize::from(f.saturating_sub(b'0'));
-        let name = MONTHS.get(month.saturating_sub(1)).unwrap_or(&"Jan");
-        out.write_all(&[g, h, b'/'])?;
-        out.write_all(name.as_bytes())?;
-        out.write_all(&[b'/', a, b, c, d])?;
+    match write_date(day) {
+        Some(date) => put_day(out, date)?,
+        None => {}
     }
     let time = seconds % 86_400;
     write!(
