@@ -1,13 +1,13 @@
 // Databases that are taken as keepers, or refused.
 ghost use Rattle.std.specs.Prelude.{◌≡◌, false, IfOk};
 
-use crate::layouts::{
-    LAYOUT, NUMBER, PIECE, REASON, RELEASE, SECOND, adopted, database_of, opened, seen_in,
-};
 use feed_keep::{Keep, KeepFault, State};
 use feed_releases::{Event, Feed, OpenFault};
 use feed_samples::{JANUARY, content_of, january_file, listed, name_of, record_of};
 use feed_store::{AdoptFault, SqlKeep, StoreFault};
+use feed_store_samples::{
+    LAYOUT, NUMBER, PIECE, REASON, RELEASE, SECOND, adopted, database_of, opened, seen_in,
+};
 use sqlite::Alter;
 use sqlite_disk::{Files, Memory};
 use std::alloc::Global;

@@ -18,13 +18,9 @@
 mod adopting;
 #[cfg(test)]
 mod feeds;
-#[cfg(test)]
-mod layouts;
 mod steps;
 #[cfg(test)]
 mod stops;
-#[cfg(test)]
-mod upgrading;
 
 use std::env;
 use std::test::Fail;

@@ -1,25 +1,13 @@
 // A store whose files stop at each of their calls.
-use crate::layouts::opened;
 use feed_keep::{Keep, ListKeep};
 use feed_releases::{Event, Feed, Refusal};
 use feed_samples::{FEBRUARY, JANUARY, PACKAGE, content_of, february_file, january_file, name_of};
 use feed_store::SqlKeep;
-use sqlite::Connection;
-use sqlite_disk::{self, Crash, Disk, Fuse, Memory};
-use sqlite_store::FileStore;
+use feed_store_samples::{Files, Store, as_left, files_of, opened};
+use sqlite_disk::{Crash, Fuse, Memory};
 use std::alloc::Global;
 use std::process::Abort;
 use std::test::Fail;
-
-pub type File = Fuse<Memory>;
-
-pub type Files = sqlite_disk::Files<File>;
-
-type Store = FileStore<File>;
-
-pub fn files_of(conn: Connection<Store>) -> Files {
-    conn.into_store().close()
-}
 
 // A feed over the database of these files, or the files as an open that failed left them.
 fn feed_over(alloc: Global, files: Files) -> Result<Feed<SqlKeep<Store>>, Files> {
@@ -58,14 +46,6 @@ fn contents_of(alloc: Global, events: &[Event<'_>]) -> Result<Vec<Vec<u8>>, Fail
         contents.push(content_of(alloc, &mut feed.restart())?)?;
     }
     Ok(contents)
-}
-
-// The bytes of a file as a process finds them that is begun after the stop. It stops after so many calls itself.
-pub fn as_left(alloc: Global, file: &File, calls: u64) -> Result<File, Fail> {
-    let mut left = Memory::new(alloc);
-    left.write_at(0, file.inner().bytes())?;
-    left.sync()?;
-    Ok(Fuse::new(left, calls))
 }
 
 // The files open again, and hold what the first events left, with or without the one in hand. The events from that one

@@ -1,16 +1,15 @@
-// The tables of a keeper, as texts.
+//! Databases with the tables of a keeper, as texts.
 ghost use Rattle.std.specs.Prelude.{◌≡◌, false, IfOk};
 
 use feed_store::SqlKeep;
 use sqlite::{Alter, Connection, MemStore};
-use sqlite_disk::{Disk, Files};
-use sqlite_pager::Options;
-use sqlite_store::FileStore;
 use std::alloc::Global;
 use std::test::Fail;
 
+/// The table of the number of the layout.
 pub const LAYOUT: &str = "CREATE TABLE feed_layout (version INTEGER PRIMARY KEY) STRICT;";
 
+/// That of the releases.
 pub const RELEASE: &str = "CREATE TABLE feed_release (
   name TEXT NOT NULL PRIMARY KEY,
   package TEXT NOT NULL,
@@ -21,6 +20,7 @@ pub const RELEASE: &str = "CREATE TABLE feed_release (
   CHECK (state BETWEEN 0 AND 2)
 ) STRICT;";
 
+/// That of their parts.
 pub const PIECE: &str = "CREATE TABLE feed_piece (
   name TEXT NOT NULL REFERENCES feed_release (name) ON DELETE CASCADE,
   place INTEGER NOT NULL,
@@ -29,6 +29,7 @@ pub const PIECE: &str = "CREATE TABLE feed_piece (
   CHECK (place >= 0)
 ) STRICT;";
 
+/// That of their reasons, which layout 2 has.
 pub const REASON: &str = "CREATE TABLE feed_reason (
   name TEXT NOT NULL PRIMARY KEY REFERENCES feed_release (name) ON DELETE CASCADE,
   reason INTEGER NOT NULL,
@@ -43,7 +44,7 @@ pub const NUMBER: &str = "INSERT INTO feed_layout VALUES (1);";
 /// The number of layout 2.
 pub const SECOND: &str = "INSERT INTO feed_layout VALUES (2);";
 
-// A database in memory over which these texts ran.
+/// A database in memory over which these texts ran.
 pub fn database_of(alloc: Global, texts: &[&str]) -> Result<Connection<MemStore>, Fail>
     ensures { IfOk result (λ conn. conn.in_transaction ≡ false) }
 {
@@ -57,13 +58,14 @@ pub fn database_of(alloc: Global, texts: &[&str]) -> Result<Connection<MemStore>
     Ok(conn)
 }
 
+/// The keeper over a database.
 pub fn adopted<S: Alter + Drop>(alloc: Global, conn: Connection<S>) -> Result<SqlKeep<S>, Fail>
     requires { conn.in_transaction ≡ false }
 {
     SqlKeep::adopt(alloc, conn).map_err(|fault| Fail::new(fault.cause))
 }
 
-// The texts of the tables of a database.
+/// The texts of the tables of a database.
 pub fn seen_in<S: Alter>(alloc: Global, conn: &mut Connection<S>) -> Result<Vec<u8>, Fail>
     requires { conn.old.in_transaction ≡ false }
     ensures { conn.new.in_transaction ≡ false }
@@ -76,20 +78,4 @@ pub fn seen_in<S: Alter>(alloc: Global, conn: &mut Connection<S>) -> Result<Vec<
         }
     }
     Ok(seen)
-}
-
-// A connection over these files, or the files where there is none.
-pub fn opened<D: Disk + Drop>(
-    alloc: Global,
-    files: Files<D>,
-) -> Result<Connection<FileStore<D>>, Files<D>>
-    ensures { IfOk result (λ conn. conn.in_transaction ≡ false) }
-{
-    if !files.may_be_used() {
-        return Err(files);
-    }
-    match Connection::open_files(alloc, files, Options::new(1)) {
-        Ok(conn) => Ok(conn),
-        Err((_, left)) => Err(left.into_files()),
-    }
 }

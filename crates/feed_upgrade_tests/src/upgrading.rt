@@ -1,8 +1,6 @@
 // Databases of layout 1, which are brought to layout 2.
 ghost use Rattle.std.specs.Prelude.{◌≡◌, false, IfOk};
 
-use crate::layouts::{LAYOUT, NUMBER, PIECE, RELEASE, adopted, database_of, opened, seen_in};
-use crate::stops::{Files, as_left, files_of};
 use feed_kbart::BadFile;
 use feed_keep::{Keep, KeepFault, State};
 use feed_releases::{Event, Feed};
@@ -11,6 +9,9 @@ use feed_samples::{
     content_of, february_file, january_file, listed, name_of, record_of,
 };
 use feed_store::SqlKeep;
+use feed_store_samples::{
+    Files, LAYOUT, NUMBER, PIECE, RELEASE, adopted, as_left, database_of, files_of, opened, seen_in,
+};
 use sqlite::{Alter, Connection, MemStore, params};
 use sqlite_disk::{Crash, Fuse, Memory};
 use std::alloc::Global;
@@ -60,9 +61,10 @@ fn fill_with_three<S: Alter>(alloc: Global, conn: &mut Connection<S>) -> Result<
 {
     let january = january_file(alloc)?;
     let february = february_file(alloc)?;
+    let march = Vec::from_slice(alloc, HEADER_WITHOUT_URL)?;
     let (january_start, january_end) = cut(&january, 100)?;
     let (_, february_end) = cut(&february, 1)?;
-    let (march_start, march_end) = cut(HEADER_WITHOUT_URL, 7)?;
+    let (march_start, march_end) = cut(&march, 7)?;
     lay_out(conn)?;
     add(
         conn,
