@@ -107,8 +107,8 @@ fn told_size<O: Write>(got: &Got, out: &mut O) -> Result<u64, Stop>
     }
 }
 
-// Asks for the length of the file and offers the release to the feed.
-fn offer<D: Dial, K: Keep + Drop, O: Write>(
+/// Begins a fetch: asks for the length of the file and offers the release to the feed.
+pub fn begin<D: Dial, K: Keep + Drop, O: Write>(
     alloc: Global,
     dial: &mut D,
     feed: &mut Feed<K>,
@@ -154,6 +154,32 @@ fn round<D: Dial, K: Keep + Drop, O: Write>(
     }
 }
 
+/// Goes on with a fetch that was begun: asks for the next missing range, of `piece` places at most. The result is
+/// whether one was missing.
+pub fn go_on<D: Dial, K: Keep + Drop, O: Write>(
+    alloc: Global,
+    dial: &mut D,
+    feed: &mut Feed<K>,
+    host: &[u8],
+    name: &ReleaseName,
+    piece: u64,
+    out: &mut O,
+) -> Result<bool, Stop>
+    requires host { IsTrue (is_host host.now) }
+    requires least { 1 ≤ piece }
+    requires most { piece ≤ piece_limit }
+    ensures goes { GoesOn (IsTold D.replies host.now name.now)
+        (λ k. IfErr result (λ stop. IsStoppedAt name.now stop k)) (recorded feed.old) (recorded feed.new) }
+{
+    let Some((first, last)) = feed.next_range(name, piece) else {
+        return Ok(false);
+    };
+    match round(alloc, dial, feed, host, name, first, last, out) {
+        Ok(()) => Ok(true),
+        Err(stop) => Err(stop),
+    }
+}
+
 /// Fetches the file of a release: asks for its length, offers it to the feed, and then asks for the next missing range,
 /// of `piece` places at most, until none is missing. A connection has one request. Each answer of the feed is printed
 /// to `out`, as a line.
@@ -174,7 +200,7 @@ pub fn fetch<D: Dial, K: Keep + Drop, O: Write>(
     ensures gets { (file : List ℕ) → Serves D.replies name.now file → IsFetchable file
         → Gets name.now file result (recorded feed.old) (recorded feed.new) }
 {
-    if let Err(stop) = offer(alloc, dial, feed, host, name, out) {
+    if let Err(stop) = begin(alloc, dial, feed, host, name, out) {
         return Err(stop);
     }
     // Each round fills a place, of which a file has no more.

@@ -8,9 +8,9 @@ use Rattle.feed_fetch.proofs.fetching.fetch.Goals as goal
 
 pub rounds-init : goal.rounds-init
 rounds-init g c = record {
-  goes = goes_any (IsTold g.D.Dial.replies c.args.host.now c.args.name.now) (λ k. IfErr c.offer.result (λ stop. IsStoppedAt c.args.name.now stop k)) (content_of c.args.feed.now.releases.items)
-      (content_of c.offer.new.feed.releases.items) c.offer.ensures.goes;
-  fills = λ file serves fit. fill_start (content_of c.args.feed.now.releases.items) (content_of c.offer.new.feed.releases.items) c.args.name.now file (c.in_default.ensures.opens file serves fit);
+  goes = goes_any (IsTold g.D.Dial.replies c.args.host.now c.args.name.now) (λ k. IfErr c.begin.result (λ stop. IsStoppedAt c.args.name.now stop k)) (content_of c.args.feed.now.releases.items)
+      (content_of c.begin.new.feed.releases.items) c.begin.ensures.goes;
+  fills = λ file serves fit. fill_start (content_of c.args.feed.now.releases.items) (content_of c.begin.new.feed.releases.items) c.args.name.now file (c.in_default.ensures.opens file serves fit);
 }
 
 pub returns-in_default-next_range-clause-gets : goal.returns-in_default-next_range-clause-gets

@@ -6,7 +6,7 @@ use Rattle.feed_releases.specs.ReleaseValue.{content_of}
 use Rattle.feed_fetch.specs.Fetched.{IsTold}
 use Rattle.feed_fetch.proofs.Going.{offered, goes_first}
 use Rattle.feed_fetch.proofs.Fetches.{told_size, offer_opens, offer_stops, unoffered}
-use Rattle.feed_fetch.proofs.fetching.offer.Goals as goal
+use Rattle.feed_fetch.proofs.fetching.begin.Goals as goal
 
 pub returns-in-Ok-told_size-clause-goes : goal.returns-in-Ok-told_size-clause-goes
 returns-in-Ok-told_size-clause-goes g c =
