@@ -5,6 +5,8 @@
 #[cfg(test)]
 mod accepts;
 #[cfg(test)]
+mod feeding;
+#[cfg(test)]
 mod heads;
 #[cfg(test)]
 mod hostile;
