@@ -40,7 +40,8 @@ abbrev pub grown_for : List Part → State → Option BadFile → Record → Rec
 grown_for ps state reason r = record { name = r.name; size = r.size; state = state; reason = option_or reason r.reason; parts = merged r.parts ps }
 
 lengthened_ordered : (ps : List Part) (state : State) (reason : Option BadFile) (r : Record) → ordered_record (lengthened ps state reason r) ≡ grown_for ps state reason (ordered_record r)
-lengthened_ordered ps state reason r = ap (λ (qs : List Part). let x : Record = record { name = r.name; size = r.size; state = state; reason = option_or reason r.reason; parts = qs } in x) (merged_behind [] r.parts ps)
+lengthened_ordered ps state reason r =
+    ap (λ (qs : List Part). let x : Record = record { name = r.name; size = r.size; state = state; reason = option_or reason r.reason; parts = qs } in x) (merged_behind [] r.parts ps)
 
 pub insert_ordered : (r : Record) (c : Content) → ordered (insert_record r c) ≡ insert_record (ordered_record r) (ordered c)
 insert_ordered r [] = refl
@@ -52,7 +53,8 @@ insert_ordered r (x ∷ xs) = by (comes_before x.name r.name) (insert_ordered r 
     by true again = ap (λ ys. ordered_record x ∷ ys) again
     by false again = refl
 
-pub changed_ordered : (n : Name) (ps : List Part) (state : State) (reason : Option BadFile) (c : Content) → ordered (changed n (lengthened ps state reason) c) ≡ changed n (grown_for ps state reason) (ordered c)
+pub changed_ordered : (n : Name) (ps : List Part) (state : State) (reason : Option BadFile) (c : Content)
+    → ordered (changed n (lengthened ps state reason) c) ≡ changed n (grown_for ps state reason) (ordered c)
 changed_ordered n ps state reason [] = refl
 changed_ordered n ps state reason (r ∷ rs) = by (name_eq r.name n) (changed_ordered n ps state reason rs)
   where

@@ -115,7 +115,8 @@ pub either_in_order : {T E : Type 0} (r : Result T E) (old new made : Content) �
 either_in_order (Ok x) old new made is same before after = subst (λ (c : Content). AreNamesInOrder (names c)) (sym is) after
 either_in_order (Err e) old new made is same before after = subst (λ (c : Content). AreNamesInOrder (names c)) (sym same) before
 
-pub lengthened_in_order : (n : Name) (ps : List Part) (state : State) (reason : Option BadFile) (c : Content) → AreNamesInOrder (names c) → AreNamesInOrder (names (changed n (lengthened ps state reason) c))
+pub lengthened_in_order : (n : Name) (ps : List Part) (state : State) (reason : Option BadFile) (c : Content)
+    → AreNamesInOrder (names c) → AreNamesInOrder (names (changed n (lengthened ps state reason) c))
 lengthened_in_order n ps state reason c up = subst AreNamesInOrder (sym (names-changed n (lengthened ps state reason) (λ r. refl) c)) up
 
 -- a part among others

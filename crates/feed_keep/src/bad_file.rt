@@ -8,8 +8,8 @@ use feed_kbart::{BadFile, KbartFault, read_parts};
 use feed_parts::whole_reader;
 use std::alloc::{AllocError, Global};
 
-/// Why the file of a record is bad, of which no place is missing; `None` of a good one, and where the parts are no whole
-/// file of the record's size. The state and the reason of the record are not looked at.
+/// Why the file of a record is bad, of which no place is missing; `None` of a good one, and where the parts are no
+/// whole file of the record's size. The state and the reason of the record are not looked at.
 pub fn bad_of(alloc: Global, kept: &Record) -> Result<Option<BadFile>, AllocError>
     ensures { IfOk result (IsBadOf (shown_record kept.now)) }
 {

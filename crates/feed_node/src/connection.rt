@@ -59,8 +59,8 @@ impl Connection {
     ghost use Rattle.feed_node.specs.Standing.{StandsAt, ComesOn, rest_of, wants_in, IsDone};
     ghost use Rattle.feed_node.specs.Standing.{HasTakenIn, HasBegun, lingers_in};
 
-    /// A connection of which each step may take so many milliseconds: the head, every 16,384 bytes of the reply, and the
-    /// rest.
+    /// A connection of which each step may take so many milliseconds: the head, every 16,384 bytes of the reply, and
+    /// the rest.
     pub fn new(alloc: Global, limit: u64) -> Connection
         requires { 0 < limit }
         ensures stands { StandsAt result [] }

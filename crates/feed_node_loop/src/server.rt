@@ -89,8 +89,8 @@ impl Server {
         Ok(Events::with_capacity(self.alloc, EVENTS)?)
     }
 
-    /// Waits a little for the sockets, unless there is other work to do; does what they are ready for; and closes what is
-    /// over.
+    /// Waits a little for the sockets, unless there is other work to do; does what they are ready for; and closes what
+    /// is over.
     pub fn turn<S: Respond, L: Log>(
         &mut self,
         rt: &impl Clock,
@@ -140,8 +140,8 @@ impl Server {
         }
     }
 
-    // Takes connections until none waits, or the system refuses one, which is tried again at the next turn. A flood gets a
-    // bounded share of a turn: the answer is whether it had all of it.
+    // Takes connections until none waits, or the system refuses one, which is tried again at the next turn. A flood
+    // gets a bounded share of a turn: the answer is whether it had all of it.
     fn take<S: Respond, L: Log>(&mut self, responder: &S, log: &mut L) -> bool {
         for _ in 0..EVENTS {
             if !self.waiting {

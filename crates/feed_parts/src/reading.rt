@@ -78,8 +78,8 @@ impl<'a> Read for SegmentReader<'a> {
     }
 }
 
-/// A reader of the file of this size that parts are, where they lie inside of it, in the order of their places, and none
-/// of its places is missing. `None` of other parts. It takes no memory.
+/// A reader of the file of this size that parts are, where they lie inside of it, in the order of their places, and
+/// none of its places is missing. `None` of other parts. It takes no memory.
 pub fn whole_reader(parts: &[Part], size: u64) -> Option<SegmentReader<'_>>
     ensures some { IfSome result (λ text. IsFull size (shown_parts parts.now)
         × IsText size (shown_parts parts.now) text) }

@@ -51,7 +51,8 @@ by_name = (col 1 1, key) ∷ []
 abbrev pub release_heads : List (List ℕ)
 release_heads = codes "rowid" ∷ codes "name" ∷ codes "package" ∷ codes "day" ∷ codes "size" ∷ codes "state" ∷ []
 
-pub releases_select : (more : List Table) (keys : List Index) → (command_of (understood (schema_with more keys) releases_text) ≡ Select (record { lets = []; body = table_query 1 [] release_terms by_name }) release_heads)
+pub releases_select : (more : List Table) (keys : List Index)
+    → (command_of (understood (schema_with more keys) releases_text) ≡ Select (record { lets = []; body = table_query 1 [] release_terms by_name }) release_heads)
     × (reads_listing (schema_with more keys) releases_text ≡ false)
 unfolding understood everything
 releases_select more keys = (refl, refl)
@@ -65,7 +66,8 @@ by_place = (col 1 1, key) ∷ (col 1 2, key) ∷ []
 abbrev pub piece_heads : List (List ℕ)
 piece_heads = codes "rowid" ∷ codes "name" ∷ codes "place" ∷ codes "bytes" ∷ []
 
-pub pieces_select : (more : List Table) (keys : List Index) → (command_of (understood (schema_with more keys) pieces_text) ≡ Select (record { lets = []; body = table_query 3 [] piece_terms by_place }) piece_heads)
+pub pieces_select : (more : List Table) (keys : List Index)
+    → (command_of (understood (schema_with more keys) pieces_text) ≡ Select (record { lets = []; body = table_query 3 [] piece_terms by_place }) piece_heads)
     × (reads_listing (schema_with more keys) pieces_text ≡ false)
 unfolding understood everything
 pieces_select more keys = (refl, refl)
@@ -102,7 +104,8 @@ all_same f n same (r ∷ rows) all = ap (λ (x : Row). x ∷ map f rows) (same r
 
 pub releases_shown : (old new : State) (rows : List Row) → HasTables old.now → Shown releases_text [] old new rows → IsPermutation (old.now.trees 1) rows
 releases_shown old new rows has h =
-    let got = reads_as releases_text [] old new (schema_with has.more has.keys) has.schema _ (releases_select has.more has.keys).0 (releases_plain has.more has.keys) (releases_select has.more has.keys).1 rows h in
+    let is = releases_select has.more has.keys in
+    let got = reads_as releases_text [] old new (schema_with has.more has.keys) has.schema _ is.0 (releases_plain has.more has.keys) is.1 rows h in
     let a : IsAnswer (table_query 1 [] release_terms by_name) (overlay old.now.trees []) [] rows = got.answer Null in
     let moved = answered 1 [] release_terms by_name [] old.now.trees rows refl a in
     let show : Row → Row = λ r. eval_all release_terms ([] ∷ r ∷ []) in
@@ -111,12 +114,14 @@ releases_shown old new rows has h =
 -- and they stand in the order of their names
 pub releases_order : (old new : State) (rows : List Row) → HasTables old.now → Shown releases_text [] old new rows → IsSorted (on name_key (key_cmp 0 (key ∷ []))) rows
 releases_order old new rows has h =
-    let got = reads_as releases_text [] old new (schema_with has.more has.keys) has.schema _ (releases_select has.more has.keys).0 (releases_plain has.more has.keys) (releases_select has.more has.keys).1 rows h in
+    let is = releases_select has.more has.keys in
+    let got = reads_as releases_text [] old new (schema_with has.more has.keys) has.schema _ is.0 (releases_plain has.more has.keys) is.1 rows h in
     in_order 1 release_terms by_name name_key (λ r. refl) old.now.trees rows (got.answer Null)
 
 pub pieces_shown : (old new : State) (rows : List Row) → HasTables old.now → Shown pieces_text [] old new rows → IsPermutation (old.now.trees 3) rows
 pieces_shown old new rows has h =
-    let got = reads_as pieces_text [] old new (schema_with has.more has.keys) has.schema _ (pieces_select has.more has.keys).0 (pieces_plain has.more has.keys) (pieces_select has.more has.keys).1 rows h in
+    let is = pieces_select has.more has.keys in
+    let got = reads_as pieces_text [] old new (schema_with has.more has.keys) has.schema _ is.0 (pieces_plain has.more has.keys) is.1 rows h in
     let a : IsAnswer (table_query 3 [] piece_terms by_place) (overlay old.now.trees []) [] rows = got.answer Null in
     let moved = answered 3 [] piece_terms by_place [] old.now.trees rows refl a in
     let show : Row → Row = λ r. eval_all piece_terms ([] ∷ r ∷ []) in
@@ -125,5 +130,6 @@ pieces_shown old new rows has h =
 -- and they stand in the order of their names and places
 pub pieces_order : (old new : State) (rows : List Row) → HasTables old.now → Shown pieces_text [] old new rows → IsSorted (on place_key (key_cmp 0 (key ∷ key ∷ []))) rows
 pieces_order old new rows has h =
-    let got = reads_as pieces_text [] old new (schema_with has.more has.keys) has.schema _ (pieces_select has.more has.keys).0 (pieces_plain has.more has.keys) (pieces_select has.more has.keys).1 rows h in
+    let is = pieces_select has.more has.keys in
+    let got = reads_as pieces_text [] old new (schema_with has.more has.keys) has.schema _ is.0 (pieces_plain has.more has.keys) is.1 rows h in
     in_order 3 piece_terms by_place place_key (λ r. refl) old.now.trees rows (got.answer Null)

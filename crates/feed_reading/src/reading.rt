@@ -21,9 +21,9 @@ use feed_keep::Record;
 use sqlite::{Alter, Connection, Error, ErrorCode};
 use std::alloc::Global;
 
-/// All records of a database of either layout, without reasons, ordered by the texts of their names, each with its parts
-/// ordered by their first places. Nothing where the tables hold no list of records. It writes nothing, and refuses inside
-/// a transaction. The parts are held once.
+/// All records of a database of either layout, without reasons, ordered by the texts of their names, each with its
+/// parts ordered by their first places. Nothing where the tables hold no list of records. It writes nothing, and
+/// refuses inside a transaction. The parts are held once.
 pub fn read_unexplained<S: Alter>(
     alloc: Global,
     conn: &mut Connection<S>,
@@ -52,8 +52,8 @@ pub fn read_unexplained<S: Alter>(
     }
 }
 
-/// All records of a database of layout 2, ordered by the texts of their names, each with its parts ordered by their first
-/// places. Nothing where the tables hold no list of records. It writes nothing, and refuses inside a transaction.
+/// All records of a database of layout 2, ordered by the texts of their names, each with its parts ordered by their
+/// first places. Nothing where the tables hold no list of records. It writes nothing, and refuses inside a transaction.
 pub fn read_records<S: Alter>(
     alloc: Global,
     conn: &mut Connection<S>,

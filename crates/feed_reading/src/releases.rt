@@ -27,7 +27,8 @@ pub fn select_releases<S: Alter>(
     ensures leaves { Leaves (state S.Store conn.old) (state S.Store conn.new) }
     ensures read { IsLive (state S.Store conn.new) → IsTabled (state S.Store conn.old).now → IfOk result
         (λ found. IsUnchanged (state S.Store conn.old) (state S.Store conn.new)
-        × MatchOption found (¬ (IsEarlierListed (state S.Store conn.old).now)) (AreReleases (state S.Store conn.old).now)) }
+        × MatchOption found (¬ (IsEarlierListed (state S.Store conn.old).now))
+        (AreReleases (state S.Store conn.old).now)) }
 {
     let mut found = Releases {
         ids: Vec::new(alloc),

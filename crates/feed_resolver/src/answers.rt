@@ -322,7 +322,8 @@ fn put_table_head(out: &mut Vec<u8>) -> Result<(), AllocError>
                 b"<th scope=\"col\">Dates</th><th scope=\"col\">Volumes</th><th scope=\"col\">Depth</th>",
             ),
             Piece::Plain(
-                b"<th scope=\"col\">Embargo</th><th scope=\"col\">Access</th><th scope=\"col\">Package</th></tr>\n</thead>\n<tbody>\n",
+                b"<th scope=\"col\">Embargo</th><th scope=\"col\">Access</th><th scope=\"col\">Package</th></tr>\n\
+                  </thead>\n<tbody>\n",
             ),
         ],
     )

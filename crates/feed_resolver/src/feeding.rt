@@ -86,7 +86,8 @@ fn told_head(alloc: Global) -> Result<Vec<u8>, AllocError>
 {
     Vec::from_slice(
         alloc,
-        b"HTTP/1.1 200 OK\r\nContent-Type: text/plain; charset=utf-8\r\nX-Content-Type-Options: nosniff\r\nConnection: close\r\n\r\n",
+        b"HTTP/1.1 200 OK\r\nContent-Type: text/plain; charset=utf-8\r\nX-Content-Type-Options: nosniff\r\n\
+          Connection: close\r\n\r\n",
     )
 }
 

@@ -32,7 +32,8 @@ const CASES: [Case; 5] = [
         part: "<div class=\"wide\">\n<table>\n<thead>\n<tr><th scope=\"col\">Title</th><th scope=\"col\">How well it f\
             its</th>\
             <th scope=\"col\">Dates</th><th scope=\"col\">Volumes</th><th scope=\"col\">Depth</th>\
-            <th scope=\"col\">Embargo</th><th scope=\"col\">Access</th><th scope=\"col\">Package</th></tr>\n</thead>\n<tbody>\n\
+            <th scope=\"col\">Embargo</th><th scope=\"col\">Access</th><th scope=\"col\">Package</th></tr>\n\
+            </thead>\n<tbody>\n\
             <tr><th scope=\"row\"><a href=\"http://a.example/\">Acta</a></th><td>covers all of what you asked for</td>\
             <td>1995-01-01&#8211;2001-06-30</td><td>1&#8211;7</td><td></td><td></td><td></td><td>Acme</td></tr>\n\
             <tr><th scope=\"row\"><a href=\"http://basic.example/acta\">Acta</a></th>\

@@ -152,7 +152,8 @@ module _ (p : Row → Bool) (rows : List Row) (ids : List ℤ) (keyed : AllByRec
       no_child (x ∷ xs) all e = absurd (let g : true ≡ false = sym (ap (λ b. b || list_any (λ o. loses plain (1 ∷ []) (o, [])) xs) (lost x all.0)) ∙ e in cc)
 
   -- where just the children have the rowids that are taken, the others are left
-  children_gone : (child : Table) (mid : Trees) (pieces : List Row) (ids' : List ℤ) → mid child.tree ≡ pieces → AllByRecursion IsKeyed pieces → IsDistinct same_id pieces → AllByRecursion IsTexted pieces
+  children_gone : (child : Table) (mid : Trees) (pieces : List Row) (ids' : List ℤ) → mid child.tree ≡ pieces
+      → AllByRecursion IsKeyed pieces → IsDistinct same_id pieces → AllByRecursion IsTexted pieces
       → AreChildren mid (work child (map (row_at rows) ids)) ids' → without_all (mid child.tree) ids' ≡ filter (λ r. not (is_child p rows r)) pieces
   children_gone child mid pieces ids' same pkeyed pd ptexted are =
       rw same (taken_out (is_child p rows) ids' pieces (all_from _ pieces (λ row h. same_test (list_any (λ id. has_rowid id row) ids') (is_child p rows row) (there row h) (back row h))))

@@ -54,7 +54,8 @@ late l all label e has = none_among required_labels l all (let same : label ≡ 
 beyond : (k : ℕ) → label_at (suc (suc (suc (suc (suc (suc (suc (suc (suc (suc (suc (suc (suc (suc k)))))))))))))) ≡ None
 beyond k =
     let off : eqb (suc (suc (suc (suc (suc (suc (suc (suc (suc (suc (suc (suc (suc (suc k)))))))))))))) 0 ≡ false = grind (arith, nat_tests) in
-    let before : (suc (suc (suc (suc (suc (suc (suc (suc (suc (suc (suc (suc (suc (suc k)))))))))))))) - 1 ≡ (suc (suc (suc (suc (suc (suc (suc (suc (suc (suc (suc (suc (suc k))))))))))))) = omega arith in
+    let before : (suc (suc (suc (suc (suc (suc (suc (suc (suc (suc (suc (suc (suc (suc k)))))))))))))) - 1
+        ≡ (suc (suc (suc (suc (suc (suc (suc (suc (suc (suc (suc (suc (suc k))))))))))))) = omega arith in
     rw (off, before) refl
 
 -- a required label stands at one of the first eight places
@@ -68,12 +69,18 @@ required_early (suc (suc (suc (suc (suc zero))))) label at has = refl
 required_early (suc (suc (suc (suc (suc (suc zero)))))) label at has = refl
 required_early (suc (suc (suc (suc (suc (suc (suc zero))))))) label at has = refl
 required_early (suc (suc (suc (suc (suc (suc (suc (suc zero)))))))) label at has = refl
-required_early (suc (suc (suc (suc (suc (suc (suc (suc (suc zero))))))))) label at has = absurd (late TitleId (λ e. cc e, (λ e. cc e, (λ e. cc e, (λ e. cc e, (λ e. cc e, (λ e. cc e, (λ e. cc e, (λ e. cc e, tt)))))))) label at has)
-required_early (suc (suc (suc (suc (suc (suc (suc (suc (suc (suc zero)))))))))) label at has = absurd (late EmbargoInfo (λ e. cc e, (λ e. cc e, (λ e. cc e, (λ e. cc e, (λ e. cc e, (λ e. cc e, (λ e. cc e, (λ e. cc e, tt)))))))) label at has)
-required_early (suc (suc (suc (suc (suc (suc (suc (suc (suc (suc (suc zero))))))))))) label at has = absurd (late CoverageDepth (λ e. cc e, (λ e. cc e, (λ e. cc e, (λ e. cc e, (λ e. cc e, (λ e. cc e, (λ e. cc e, (λ e. cc e, tt)))))))) label at has)
-required_early (suc (suc (suc (suc (suc (suc (suc (suc (suc (suc (suc (suc zero)))))))))))) label at has = absurd (late PublicationType (λ e. cc e, (λ e. cc e, (λ e. cc e, (λ e. cc e, (λ e. cc e, (λ e. cc e, (λ e. cc e, (λ e. cc e, tt)))))))) label at has)
-required_early (suc (suc (suc (suc (suc (suc (suc (suc (suc (suc (suc (suc (suc zero))))))))))))) label at has = absurd (late AccessType (λ e. cc e, (λ e. cc e, (λ e. cc e, (λ e. cc e, (λ e. cc e, (λ e. cc e, (λ e. cc e, (λ e. cc e, tt)))))))) label at has)
-required_early (suc (suc (suc (suc (suc (suc (suc (suc (suc (suc (suc (suc (suc (suc k)))))))))))))) label at has = absurd (let e : Some label ≡ None = sym at ∙ beyond k in cc)
+required_early (suc (suc (suc (suc (suc (suc (suc (suc (suc zero))))))))) label at has =
+    absurd (late TitleId (λ e. cc e, (λ e. cc e, (λ e. cc e, (λ e. cc e, (λ e. cc e, (λ e. cc e, (λ e. cc e, (λ e. cc e, tt)))))))) label at has)
+required_early (suc (suc (suc (suc (suc (suc (suc (suc (suc (suc zero)))))))))) label at has =
+    absurd (late EmbargoInfo (λ e. cc e, (λ e. cc e, (λ e. cc e, (λ e. cc e, (λ e. cc e, (λ e. cc e, (λ e. cc e, (λ e. cc e, tt)))))))) label at has)
+required_early (suc (suc (suc (suc (suc (suc (suc (suc (suc (suc (suc zero))))))))))) label at has =
+    absurd (late CoverageDepth (λ e. cc e, (λ e. cc e, (λ e. cc e, (λ e. cc e, (λ e. cc e, (λ e. cc e, (λ e. cc e, (λ e. cc e, tt)))))))) label at has)
+required_early (suc (suc (suc (suc (suc (suc (suc (suc (suc (suc (suc (suc zero)))))))))))) label at has =
+    absurd (late PublicationType (λ e. cc e, (λ e. cc e, (λ e. cc e, (λ e. cc e, (λ e. cc e, (λ e. cc e, (λ e. cc e, (λ e. cc e, tt)))))))) label at has)
+required_early (suc (suc (suc (suc (suc (suc (suc (suc (suc (suc (suc (suc (suc zero))))))))))))) label at has =
+    absurd (late AccessType (λ e. cc e, (λ e. cc e, (λ e. cc e, (λ e. cc e, (λ e. cc e, (λ e. cc e, (λ e. cc e, (λ e. cc e, tt)))))))) label at has)
+required_early (suc (suc (suc (suc (suc (suc (suc (suc (suc (suc (suc (suc (suc (suc k)))))))))))))) label at has =
+    absurd (let e : Some label ≡ None = sym at ∙ beyond k in cc)
 
 -- a reason of a file is stored
 pub stored : (text : List ℕ) (why : BadFile) → fault_of text ≡ Some why → IsStored why

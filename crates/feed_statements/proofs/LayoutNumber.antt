@@ -20,7 +20,8 @@ use Rattle.feed_rows.specs.Layout.{schema_with}
 use Rattle.feed_rows.proofs.Rows.{table_query, passes, answered}
 use Rattle.feed_statements.specs.Texts.{number_text}
 
-number_select : (more : List Table) (keys : List Index) → (command_of (understood (schema_with more keys) number_text) ≡ Select (record { lets = []; body = table_query 0 [] (col 1 0 ∷ []) [] }) (codes "version" ∷ []))
+number_select : (more : List Table) (keys : List Index)
+    → (command_of (understood (schema_with more keys) number_text) ≡ Select (record { lets = []; body = table_query 0 [] (col 1 0 ∷ []) [] }) (codes "version" ∷ []))
     × (reads_listing (schema_with more keys) number_text ≡ false)
 unfolding understood everything
 number_select more keys = (refl, refl)
@@ -37,7 +38,8 @@ numbered : (rows : List Row) → map (λ r. rowid r ∷ []) (filter (passes [] [
 numbered [] = refl
 numbered (r ∷ rows) = ap (λ l. (rowid r ∷ []) ∷ l) (numbered rows)
 
-shown_numbers : (more : List Table) (keys : List Index) (old new : State) (rows : List Row) → old.now.schema ≡ schema_with more keys → Shown number_text [] old new rows → IsPermutation (numbers (old.now.trees 0)) rows
+shown_numbers : (more : List Table) (keys : List Index) (old new : State) (rows : List Row) → old.now.schema ≡ schema_with more keys
+    → Shown number_text [] old new rows → IsPermutation (numbers (old.now.trees 0)) rows
 shown_numbers more keys old new rows has h =
     let got = reads_as number_text [] old new (schema_with more keys) has _ (number_select more keys).0 (number_plain more keys) (number_select more keys).1 rows h in
     let a : IsAnswer (table_query 0 [] (col 1 0 ∷ []) []) (overlay old.now.trees []) [] rows = got.answer Null in

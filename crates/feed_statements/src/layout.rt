@@ -1,6 +1,7 @@
 ghost use Rattle.std.specs.Prelude.{◌≡◌, false, IsTrue, OnErr, OnOk};
 ghost use Rattle.feed_statements.specs.Effects.{Extends, IsBlank, IsLive, Keeps, Leads, LeavesDisk, Makes};
-ghost use Rattle.feed_statements.specs.Schemas.{HasAllTables, HasLayoutTable, HasNoTable, HasPieceTable, HasReleaseTable};
+ghost use Rattle.feed_statements.specs.Schemas.{HasAllTables, HasLayoutTable, HasNoTable, HasPieceTable};
+ghost use Rattle.feed_statements.specs.Schemas.{HasReleaseTable};
 ghost use Rattle.sqlite.specs.Held.{state};
 ghost use Rattle.sqlite.specs.State.{HasCleanDisk};
 

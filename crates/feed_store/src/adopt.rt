@@ -125,8 +125,8 @@ fn read_reasoned<S: Alter>(
     }
 }
 
-// The same beside other tables: where none of the names is taken the tables are made, and else those of a layout have to
-// be there.
+// The same beside other tables: where none of the names is taken the tables are made, and else those of a layout have
+// to be there.
 fn beside_others<S: Alter>(alloc: Global, conn: &mut Connection<S>) -> Result<bool, StoreFault>
     requires { conn.old.in_transaction ≡ false }
     ensures idle { conn.new.in_transaction ≡ false }

@@ -146,9 +146,9 @@ DB is the file that `kbfeed fetch` fills. ADDR is an IP address or a host, and a
 QUERY is the query of an OpenURL 1.0, as for `kbfeed ask`. A browser gets pages, and who accepts application/json gets
 JSON; format=text, format=html and format=json in the query say so too.
 
-A line is printed for each request, as a common log line. A client has --timeout seconds to send its request, as many for
-every 16,384 bytes of the reply, and as many until it ends its side. Past --clients connections at a time the quietest is
-closed. The node runs until it is ended; nothing is lost by that.
+A line is printed for each request, as a common log line. A client has --timeout seconds to send its request, as many
+for every 16,384 bytes of the reply, and as many until it ends its side. Past --clients connections at a time the
+quietest is closed. The node runs until it is ended; nothing is lost by that.
 
 The status is 1 for a database that is not ours or damaged, 2 for a wrong command line, and 3 where ADDR does not bind
 (Bind), the sockets fail (Poll) or a print does, for a failing device and for want of memory. docs/FAULTS.md has each
@@ -220,8 +220,8 @@ const WHY_HELP: &str =
     "Prints why a release that a node has recorded is broken: `broken` and the reason of its file.
 
 DB is the file that `kbfeed fetch` fills. NAME is a release name, as Acme_Global_All_2024-01-01.txt. The reason is the
-one that `kbfeed check` prints of the file, as MissingLabel title_url. Of a release that is not recorded, not whole, good
-or passed by a later one there is none, and `none` is printed. A NAME that begins with - stands behind --.
+one that `kbfeed check` prints of the file, as MissingLabel title_url. Of a release that is not recorded, not whole,
+good or passed by a later one there is none, and `none` is printed. A NAME that begins with - stands behind --.
 
 The first fault is told of the name and of the database. The status is 0 for a reason, 1 for none and for a database
 that is not ours or damaged, 2 for a name that is none and a wrong command line, and 3 for a failing device or want of

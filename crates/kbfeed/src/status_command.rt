@@ -9,8 +9,8 @@ use std::io::Write;
 
 /// Opens the database and its feed, and prints a line for each release that is recorded, ordered by name: the name,
 /// `staged`, `active` or `broken`, the size of the file and how many bytes of it are missing, and behind these the
-/// reason of a broken one, with a tab between each two. The result is the exit status: 1 for a database that is not ours or damaged, 3 for a failing device or print
-/// and for want of memory.
+/// reason of a broken one, with a tab between each two. The result is the exit status: 1 for a database that is not
+/// ours or damaged, 3 for a failing device or print and for want of memory.
 pub fn status_on<D: Database, O: Write, F: Write + Drop>(
     alloc: Global,
     database: &D,

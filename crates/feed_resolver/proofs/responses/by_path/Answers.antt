@@ -21,6 +21,7 @@ returns-in-Package c = IfOk-weaker c.packaged.result
     (λ reply. reply ≡ packaged c.representation_of-representation.result c.package_of.result.now c.query_in-query.result.now c.args.actives.now)
     (λ reply. (head : RequestHead) → HasHead c.args.request.now head
     → reply ≡ by_path (asked_of (path_in c.args.target.now)) head c.args.target.now c.args.actives.now)
-    (λ reply is head has. is ∙ package_asked c.asked_of.result c.representation_of-representation.result c.path_in-path.result.now c.query_in-query.result.now c.package_of.result.now c.args.target.now head c.args.actives.now
+    (λ reply is head has. is ∙ package_asked c.asked_of.result c.representation_of-representation.result c.path_in-path.result.now c.query_in-query.result.now
+    c.package_of.result.now c.args.target.now head c.args.actives.now
     c.in-Package.is c.asked_of.ensures c.path_in-path.ensures c.query_in-query.ensures c.package_of.ensures (c.representation_of-representation.ensures head (c.fields.ensures.fields head has)))
     c.packaged.ensures
