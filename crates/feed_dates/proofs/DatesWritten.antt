@@ -36,7 +36,8 @@ undated n none = by (day_of_date (date_text n)) refl
 pub epoch_day_of : (n : ℤ) (text : List ℕ) → IsDateOf n text → IsEpochDay n
 epoch_day_of n text h = rw h.numbered (
   omega (arith, signed_arith, days_from_civil-day_count, day_count_bounds (pos h.year) h.month h.day (civil h.year h.month h.day h.real)),
-  omega (arith, signed_arith, days_from_civil-day_count, day_count_bounds (pos h.year) h.month h.day (civil h.year h.month h.day h.real)))
+  omega (arith, signed_arith, days_from_civil-day_count, day_count_bounds (pos h.year) h.month h.day (civil h.year h.month h.day h.real)),
+)
 
 -- and that day alone has its year
 pub year_of_date : (n : ℤ) (date : Date) (text : List ℕ) → epoch_day date ≡ n → IsDateOf n text → pos 1 ≤ℤ date.year

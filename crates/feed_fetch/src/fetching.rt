@@ -238,7 +238,8 @@ fn fault_told<F: Write, T: fmt::Display + Drop>(faults: &mut F, fault: T, status
     }
 }
 
-fn stopped<F: Write>(stop: Stop, faults: &mut F) -> u8
+/// Tells why a fetch stopped, where that is a fault, as `kbfeed: ` and its name. The result is the exit status.
+pub fn stopped<F: Write>(stop: Stop, faults: &mut F) -> u8
     ensures status { (result ≡ status_of stop) ⊎ (result ≡ 3) }
     ensures older { result ≡ 0 → stop ≡ Stop.Older }
     ensures excused { IsExcused stop → result ≡ 3 }

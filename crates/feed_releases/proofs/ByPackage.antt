@@ -145,12 +145,12 @@ among_insert : (n : Name) (a : ActiveValue) (actives : List ActiveValue) → (a.
 among_insert n a [] is = is
 among_insert n a (b ∷ actives) is = elim (cases_Bool (comes_before b a)) [
   | inl e ↦ rw e (elim is [
-      | inl same ↦ inr (among_insert n a actives (inl same))
-      | inr among ↦ elim among [
-          | inl same ↦ inl same
-          | inr later ↦ inr (among_insert n a actives (inr later))
-        ]
-    ])
+    | inl same ↦ inr (among_insert n a actives (inl same))
+    | inr among ↦ elim among [
+      | inl same ↦ inl same
+      | inr later ↦ inr (among_insert n a actives (inr later))
+    ]
+  ])
   | inr e ↦ rw e is
 ]
 
@@ -235,9 +235,9 @@ one_list (a ∷ actives) (b ∷ others) up also there back =
     let first : a.name ≡ b.name = elim (there a.name (inl refl)) [
       | inl same ↦ sym same
       | inr later ↦ elim (back b.name (inl refl)) [
-          | inl same ↦ same
-          | inr behind ↦ absurd (not_itself a (by_packages.trans a b a (below_among a b.name b.holdings actives up.0 behind) (below_among b a.name a.holdings others also.0 later)))
-        ]
+        | inl same ↦ same
+        | inr behind ↦ absurd (not_itself a (by_packages.trans a b a (below_among a b.name b.holdings actives up.0 behind) (below_among b a.name a.holdings others also.0 later)))
+      ]
     ] in
     ap₂ (λ (n : Name) (ns : List Name). n ∷ ns) first
     (one_list actives others up.1 also.1

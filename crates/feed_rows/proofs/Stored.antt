@@ -55,7 +55,7 @@ beyond : (k : ℕ) → label_at (suc (suc (suc (suc (suc (suc (suc (suc (suc (su
 beyond k =
     let off : eqb (suc (suc (suc (suc (suc (suc (suc (suc (suc (suc (suc (suc (suc (suc k)))))))))))))) 0 ≡ false = grind (arith, nat_tests) in
     let before : (suc (suc (suc (suc (suc (suc (suc (suc (suc (suc (suc (suc (suc (suc k)))))))))))))) - 1
-        ≡ (suc (suc (suc (suc (suc (suc (suc (suc (suc (suc (suc (suc (suc k))))))))))))) = omega arith in
+    ≡ (suc (suc (suc (suc (suc (suc (suc (suc (suc (suc (suc (suc (suc k))))))))))))) = omega arith in
     rw (off, before) refl
 
 -- a required label stands at one of the first eight places

@@ -11,7 +11,7 @@ returns-in_ok-asks_for-in-Whole c = IfOk-weaker c.parse.result _ (λ name. IsAsk
       begins = c.in-Whole.ensures.begins;
       text = c.in_ok-asks_for-in-Whole.field-0.now;
       asks = sym (c.in_ok-asks_for-in-Whole.ensures c.in-Whole.ensures.head
-        (rw (front_is 8192 c.min.result c.args.bytes.now (omega arith)) c.in-Whole.ensures.at));
+          (rw (front_is 8192 c.min.result c.args.bytes.now (omega arith)) c.in-Whole.ensures.at));
       is_name = is;
     })
     c.parse.ensures.named
