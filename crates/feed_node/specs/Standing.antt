@@ -113,6 +113,11 @@ abbrev pub lingers_in : Phase → Bool
 lingers_in Lingering = true
 lingers_in phase = false
 
+abbrev pub is_told_in : Phase → Bool
+is_told_in Lingering = true
+is_told_in Whole = true
+is_told_in phase = false
+
 -- what is known of a connection after any history: one reply was made at most, what went is the front of it, all of it
 -- where it is done, and past its time the connection waits for nothing
 pub record IsRightAfter (connection : Connection) (history : List Happening) : Type 0 where

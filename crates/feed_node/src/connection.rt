@@ -57,7 +57,7 @@ pub struct Connection {
 
 impl Connection {
     ghost use Rattle.feed_node.specs.Standing.{StandsAt, ComesOn, rest_of, wants_in, IsDone};
-    ghost use Rattle.feed_node.specs.Standing.{HasTakenIn, HasBegun, lingers_in};
+    ghost use Rattle.feed_node.specs.Standing.{HasTakenIn, HasBegun, lingers_in, is_told_in};
 
     /// A connection of which each step may take so many milliseconds: the head, every 16,384 bytes of the reply, and
     /// the rest.
@@ -97,6 +97,17 @@ impl Connection {
     {
         match self.phase {
             Phase::Lingering => true,
+            _ => false,
+        }
+    }
+
+    /// Whether the reply went whole.
+    pub fn is_told(&self) -> bool
+        ensures { result ≡ is_told_in self.now.phase }
+    {
+        match self.phase {
+            Phase::Lingering => true,
+            Phase::Whole => true,
             _ => false,
         }
     }

@@ -25,7 +25,7 @@ impl Peer {
     }
 
     /// Goes on until the socket would make it wait, or there is nothing left to do: then it is over.
-    pub fn advance<S: Respond>(&mut self, alloc: Global, responder: &S, buffer: &mut [u8]) -> bool {
+    pub fn advance<S: Respond>(&mut self, alloc: Global, responder: &S, buffer: &mut [u8]) {
         feed_node::advance(
             &mut self.connection,
             alloc,
@@ -34,6 +34,15 @@ impl Peer {
             &mut &self.stream,
             buffer,
         );
+    }
+
+    /// Whether the reply went whole just now.
+    pub fn is_just_told(&self) -> bool {
+        self.connection.is_told() && !self.is_ended
+    }
+
+    /// Ends the side that is written to, where the reply went. The answer is whether it is over.
+    pub fn settle(&mut self) -> bool {
         if self.connection.is_lingering() && !self.is_ended {
             self.is_ended = true;
             let _ = self.stream.shutdown(Shutdown::Write);

@@ -1,7 +1,9 @@
 //! The loop over the sockets.
 ghost use Rattle.std.specs.Prelude.{◌<◌};
 
+use crate::exchange::{Asking, Exchange};
 use crate::peer::Peer;
+use crate::telling::Telling;
 use feed_node::{Connection, Respond};
 use mio::net::{TcpListener, TcpStream};
 use mio::{Events, Interest, Poll, Token};
@@ -14,6 +16,10 @@ use std::rt::Clock;
 use std::time::{Duration, Instant};
 
 const LISTENER: Token = Token(usize::MAX);
+
+const EXCHANGE: Token = Token(usize::MAX - 1);
+
+const TELLING: Token = Token(usize::MAX - 2);
 
 // The most milliseconds that a turn waits.
 const TICK: u64 = 250;
@@ -35,8 +41,11 @@ pub struct Settings {
 
 /// What hears of each connection that is over.
 pub trait Log {
-    /// A connection of this address is closed.
+    /// A connection of this address is closed, or its peer is told more from now on.
     fn closed(&mut self, addr: SocketAddr, connection: &Connection);
+
+    /// Whether the peer of a connection whose reply went is to be told more (`Server::tell`).
+    fn keeps(&self, connection: &Connection) -> bool;
 }
 
 #[derive(Drop)]
@@ -45,6 +54,8 @@ pub struct Server {
     poll: Poll,
     listener: TcpListener,
     peers: Slab<Peer>,
+    exchange: Option<Exchange>,
+    tellings: Slab<Telling>,
     buffer: Vec<u8>,
     settings: Settings,
     before: Instant,
@@ -71,6 +82,8 @@ impl Server {
             poll,
             listener,
             peers: Slab::with_capacity(alloc, settings.clients)?,
+            exchange: None,
+            tellings: Slab::new(alloc),
             buffer: Vec::from_elem(alloc, 0, READ_BYTES)?,
             settings,
             before: Instant::now(rt)?,
@@ -89,22 +102,74 @@ impl Server {
         Ok(Events::with_capacity(self.alloc, EVENTS)?)
     }
 
-    /// Waits a little for the sockets, unless there is other work to do; does what they are ready for; and closes what
-    /// is over.
+    /// Begins an exchange with another server, in the place of one that is under way.
+    pub fn ask<R: Net + AllocGlobal>(
+        &mut self,
+        rt: &R,
+        asking: Asking,
+        request: Vec<u8>,
+    ) -> io::Result<()> {
+        let mut exchange = Exchange::begin(rt, asking, request)?;
+        let both = Interest::READABLE | Interest::WRITABLE;
+        self.poll
+            .registry()
+            .register(&mut exchange.stream, EXCHANGE, both)?;
+        self.exchange = Some(exchange);
+        Ok(())
+    }
+
+    /// The exchange that is over, once.
+    pub fn answered(&mut self) -> Option<Exchange> {
+        let exchange = self.exchange.take()?;
+        if exchange.is_over() {
+            return Some(exchange);
+        }
+        self.exchange = Some(exchange);
+        None
+    }
+
+    /// Tells the peers that were kept, until what they are told ends.
+    pub fn tell(&mut self, text: &[u8]) {
+        self.tellings.retain(|_, telling| {
+            telling.tell(text);
+            true
+        });
+        self.advance_tellings();
+    }
+
+    /// Nothing more is told to the peers that were kept.
+    pub fn end_telling(&mut self) {
+        self.tellings.retain(|_, telling| {
+            telling.end();
+            true
+        });
+        self.advance_tellings();
+    }
+
+    fn advance_tellings(&mut self) {
+        let buffer = &mut self.buffer;
+        self.tellings.retain(|_, telling| {
+            telling.advance(buffer);
+            !telling.is_over()
+        });
+    }
+
+    /// Waits a little for the sockets; does what they are ready for; and closes what is over.
     pub fn turn<S: Respond, L: Log>(
         &mut self,
         rt: &impl Clock,
         responder: &S,
-        has_work: bool,
         events: &mut Events,
         log: &mut L,
     ) -> io::Result<()> {
-        let wait = if self.pressed || has_work { 0 } else { TICK };
+        let wait = if self.pressed { 0 } else { TICK };
         self.poll.poll(events, Some(Duration::from_millis(wait)))?;
         for event in events.iter() {
             self.answer(event.token(), responder, log);
         }
-        self.pressed = self.take(responder, log);
+        let pressed = self.take(responder, log);
+        self.pressed = self.advance_exchange() || pressed;
+        self.advance_tellings();
         let now = Instant::now(rt)?;
         let passed = now
             .saturating_duration_since(self.before)
@@ -129,9 +194,36 @@ impl Server {
         let Some(peer) = self.peers.get_mut(key) else {
             return;
         };
-        if peer.advance(self.alloc, responder, &mut self.buffer) {
+        peer.advance(self.alloc, responder, &mut self.buffer);
+        if peer.is_just_told() && log.keeps(&peer.connection) {
+            if let Some(peer) = self.peers.try_remove(key) {
+                self.keep(peer, log);
+            }
+        } else if peer.settle() {
             self.close(key, log);
         }
+    }
+
+    // Goes on with the exchange. The answer is whether it had all of its share of the turn.
+    fn advance_exchange(&mut self) -> bool {
+        match &mut self.exchange {
+            Some(exchange) => exchange.advance(),
+            None => false,
+        }
+    }
+
+    // A peer whose reply went is told more from now on.
+    fn keep<L: Log>(&mut self, peer: Peer, log: &mut L) {
+        log.closed(peer.addr, &peer.connection);
+        let mut stream = peer.stream;
+        let both = Interest::READABLE | Interest::WRITABLE;
+        let registry = self.poll.registry();
+        let known = registry.reregister(&mut stream, TELLING, both);
+        if known.is_err() && registry.register(&mut stream, TELLING, both).is_err() {
+            return;
+        }
+        let telling = Telling::new(self.alloc, stream, self.settings.limit);
+        let _ = self.tellings.insert(telling);
     }
 
     fn close<L: Log>(&mut self, key: usize, log: &mut L) {
@@ -170,7 +262,12 @@ impl Server {
     ) {
         let connection = Connection::new(self.alloc, self.settings.limit);
         let mut peer = Peer::new(stream, addr, connection);
-        if peer.advance(self.alloc, responder, &mut self.buffer) {
+        peer.advance(self.alloc, responder, &mut self.buffer);
+        if peer.is_just_told() && log.keeps(&peer.connection) {
+            self.keep(peer, log);
+            return;
+        }
+        if peer.settle() {
             log.closed(peer.addr, &peer.connection);
             return;
         }
@@ -206,6 +303,13 @@ impl Server {
     }
 
     fn pass<L: Log>(&mut self, millis: u64, log: &mut L) {
+        if let Some(exchange) = &mut self.exchange {
+            exchange.passed(millis);
+        }
+        self.tellings.retain(|_, telling| {
+            telling.passed(millis);
+            !telling.is_over()
+        });
         self.peers.retain(|_, peer| {
             let is_over = peer.passed(millis);
             if is_over {

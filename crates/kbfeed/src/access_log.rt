@@ -1,4 +1,5 @@
 //! The log of a node: a common log line for each request.
+use crate::node_command::{Desk, is_post};
 use feed_dates::write_date;
 use feed_node::Connection;
 use feed_node_loop::Log;
@@ -12,15 +13,17 @@ use std::time::{SystemTime, UNIX_EPOCH};
 pub struct AccessLog<'o, O: Write> {
     rt: &'o HostRuntime,
     out: &'o mut O,
+    desk: &'o Desk,
     outcome: io::Result<()>,
     is_clean: bool,
 }
 
 impl<'o, O: Write> AccessLog<'o, O> {
-    pub fn new(rt: &'o HostRuntime, out: &'o mut O) -> AccessLog<'o, O> {
+    pub fn new(rt: &'o HostRuntime, out: &'o mut O, desk: &'o Desk) -> AccessLog<'o, O> {
         AccessLog {
             rt,
             out,
+            desk,
             outcome: Ok(()),
             is_clean: true,
         }
@@ -42,10 +45,16 @@ impl<'o, O: Write> Log for AccessLog<'o, O> {
         if connection.reply().is_empty() {
             return;
         }
+        self.desk.free(connection.reply().len());
         self.is_clean = false;
         if self.outcome.is_ok() {
             self.outcome = put_line(self.rt, self.out, addr, connection);
         }
+    }
+
+    // A POST that is not refused feeds the node.
+    fn keeps(&self, connection: &Connection) -> bool {
+        is_post(connection.heard()) && status_of(connection.reply()) == b"200".as_slice()
     }
 }
 

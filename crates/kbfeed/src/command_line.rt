@@ -31,6 +31,7 @@ pub enum Request<'a> {
         db: &'a str,
         addr: &'a str,
         hosting: Hosting,
+        from: Option<From<'a>>,
     },
     Fetch {
         db: &'a str,
@@ -50,6 +51,14 @@ pub enum Request<'a> {
         db: &'a str,
         name: &'a str,
     },
+}
+
+/// Where a node fetches from when it is told to, and the file with the token of those who may tell it.
+#[derive(Clone, Copy)]
+pub struct From<'a> {
+    pub addr: &'a str,
+    pub token: &'a str,
+    pub piece: u64,
 }
 
 const VERSION: &str = "0.1.0";
@@ -349,13 +358,46 @@ fn node_command<'a>(alloc: Global) -> Result<Command<'a>, AllocError> {
         .value_parser(value_parser!(u64).range(1..=65_536))
         .help("How many connections it has at a time, 1 to 65536 [default: 1024]");
     let timeout = timeout(alloc, "How long a client may take, 1 to 3600 [default: 30]");
+    let from = Arg::new(alloc, "from")
+        .long("from")
+        .value_name("HOST:PORT")
+        .requires_arg("token")?
+        .help("Where releases are fetched from, as 127.0.0.1:8080");
+    let token = Arg::new(alloc, "token")
+        .long("token")
+        .value_name("FILE")
+        .requires_arg("from")?
+        .help("The file whose first line those know who feed the node");
     Command::new(alloc, "node")
         .about("Answers readers over HTTP from the database of a node")
         .long_about(NODE_HELP)
         .arg(database(alloc))?
         .arg(addr)?
+        .arg(from)?
+        .arg(token)?
+        .arg(piece(alloc))?
         .arg(clients)?
         .arg(timeout)
+}
+
+fn from_of<'a>(node: &ArgMatches<'a>) -> Option<From<'a>> {
+    Some(From {
+        addr: node.get_str("from")?,
+        token: node.get_str("token")?,
+        piece: piece_of(node),
+    })
+}
+
+fn piece<'a>(alloc: Global) -> Arg<'a> {
+    Arg::new(alloc, "piece")
+        .long("piece")
+        .value_name("N")
+        .value_parser(value_parser!(u64).range(1..=1_048_576))
+        .help("How many bytes a request asks for, 1 to 1048576 [default: 262144]")
+}
+
+fn piece_of(matches: &ArgMatches<'_>) -> u64 {
+    matches.get_one::<u64>("piece").unwrap_or(262_144)
 }
 
 fn hosting_of(node: &ArgMatches<'_>) -> Hosting {
@@ -393,11 +435,6 @@ fn fetch_command<'a>(alloc: Global) -> Result<Command<'a>, AllocError> {
     let addr = Arg::new(alloc, "ADDR")
         .required(true)
         .help("Where the server listens, as 127.0.0.1:8080");
-    let piece = Arg::new(alloc, "piece")
-        .long("piece")
-        .value_name("N")
-        .value_parser(value_parser!(u64).range(1..=1_048_576))
-        .help("How many bytes a request asks for, 1 to 1048576 [default: 262144]");
     let timeout = timeout(
         alloc,
         "How long a connection may wait, 1 to 3600 [default: 30]",
@@ -408,7 +445,7 @@ fn fetch_command<'a>(alloc: Global) -> Result<Command<'a>, AllocError> {
         .arg(database(alloc))?
         .arg(addr)?
         .arg(release(alloc))?
-        .arg(piece)?
+        .arg(piece(alloc))?
         .arg(timeout)
 }
 
@@ -479,6 +516,7 @@ fn request_of<'a>(alloc: Global, matches: &ArgMatches<'a>) -> Result<Request<'a>
             db: node.get_str("DB").unwrap_or(""),
             addr: node.get_str("ADDR").unwrap_or(""),
             hosting: hosting_of(node),
+            from: from_of(node),
         },
         Some(("serve", serve)) => Request::Serve {
             dir: serve.get_str("DIR").unwrap_or(""),
@@ -490,7 +528,7 @@ fn request_of<'a>(alloc: Global, matches: &ArgMatches<'a>) -> Result<Request<'a>
             addr: fetch.get_str("ADDR").unwrap_or(""),
             name: fetch.get_str("NAME").unwrap_or(""),
             fetching: Fetching {
-                piece: fetch.get_one::<u64>("piece").unwrap_or(262_144),
+                piece: piece_of(fetch),
                 time: time_of(fetch),
             },
         },

@@ -8,6 +8,8 @@ mod causes;
 mod check_command;
 mod command_line;
 mod database;
+mod exchanged;
+mod feeding;
 mod fetch_command;
 mod files;
 mod folder;
@@ -21,21 +23,26 @@ mod status;
 mod status_command;
 mod tcp_dial;
 mod timed;
+mod token;
 mod why_command;
 
 use check_command::Manner;
 use clap::error::ErrorKind;
-use command_line::Request;
+use command_line::{From, Request};
 use database::DatabaseFile;
+use feed_http::is_host;
+use feeding::Source;
 use files::Disk;
 use folder::Folder;
+use node_command::Hosting;
 use serve_command::Serving;
-use status::{DONE, FAILED, Faults, MISUSED};
+use status::{DONE, FAILED, Faults, MISUSED, REFUSED};
 use std::fs::File;
 use std::io;
 use std::io::{BufWriter, Write};
 use std::net::TcpListener;
 use std::process::ExitCode;
+use token::read_token;
 
 fn main(rt: HostRuntime) -> ExitCode {
     ExitCode::from(status_of(&rt))
@@ -96,9 +103,10 @@ fn status_of(rt: &HostRuntime) -> u8 {
             db: path,
             addr,
             hosting,
+            from,
         } => {
             let database = DatabaseFile { rt, path };
-            node_command::node_on(rt, &database, addr, hosting, &mut out, &mut faults)
+            node(rt, &database, addr, hosting, from, &mut out, &mut faults)
         }
         Request::Fetch {
             db: path,
@@ -201,6 +209,52 @@ fn serve<O: Write, F: Write + Drop>(
         return faults.printed(Err(fault), FAILED);
     }
     serve_command::serve_on(rt, &listener, &mut folder, serving, out, faults)
+}
+
+// Answers readers from a database, and has who knows the token of a file feed it.
+fn node<O: Write, F: Write + Drop>(
+    rt: &HostRuntime,
+    database: &DatabaseFile<'_>,
+    addr: &str,
+    hosting: Hosting,
+    from: Option<From<'_>>,
+    out: &mut O,
+    faults: &mut Faults<F>,
+) -> u8 {
+    let Some(from) = from else {
+        return node_command::node_on(rt, database, addr, hosting, None, out, faults);
+    };
+    if !is_host(from.addr.as_bytes()) {
+        return faults.told_of(
+            "Host",
+            from.addr,
+            "it is no host and port, as 127.0.0.1:8080",
+            MISUSED,
+        );
+    }
+    let mut file = match opened(rt, from.token, faults) {
+        Ok(file) => file,
+        Err(status) => return status,
+    };
+    let token = match read_token(rt.alloc(), &mut file) {
+        Ok(Some(token)) => token,
+        Ok(None) => {
+            return faults.told_of(
+                "Token",
+                from.token,
+                "its first line is no token: 16 bytes at least, of visible ASCII",
+                REFUSED,
+            );
+        }
+        Err(fault) => return faults.not_read(from.token, fault),
+    };
+    let source = Source {
+        addr: from.addr,
+        token: &token,
+        piece: from.piece,
+        limit: hosting.time.as_millis().min(u64::MAX as u128) as u64,
+    };
+    node_command::node_on(rt, database, addr, hosting, Some(source), out, faults)
 }
 
 // The file at a path, or the exit status where it does not open, which is told.

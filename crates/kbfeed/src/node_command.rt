@@ -1,13 +1,16 @@
-//! `kbfeed node`: a link resolver that answers readers over HTTP from the database of a node.
+//! `kbfeed node`: a link resolver that answers readers over HTTP from the database of a node, and takes in releases.
 use crate::access_log::AccessLog;
 use crate::database::{Database, close_keeper, open_feed};
+use crate::feeding::{Feeding, Source};
 use crate::status::{DONE, FAILED, Faults};
 use feed_keep::Keep;
+use feed_names::{NameFault, ReleaseName};
 use feed_node::Respond;
 use feed_node_loop::{Server, Settings};
 use feed_releases::Feed;
-use feed_resolver::respond;
+use feed_resolver::{Feeder, fetch_asked, respond_as_node};
 use std::alloc::{AllocError, Global};
+use std::cell::{Cell, RefCell};
 use std::io;
 use std::io::Write;
 use std::net::{SocketAddr, ToSocketAddrs};
@@ -20,41 +23,123 @@ pub struct Hosting {
     pub time: Duration,
 }
 
-/// The replies of a node over its feed.
+// The most bytes of the replies that were not yet taken, besides that of one.
+const HELD_LIMIT: usize = 33_554_432;
+
+/// What the replies of a node leave behind.
 #[derive(Drop)]
-struct Resolver<'f, K: Keep + Drop> {
-    feed: &'f Feed<K>,
+pub struct Desk {
+    /// A release is fetched, or is about to be.
+    is_busy: Cell<bool>,
+    /// The release that is to be fetched.
+    asked: RefCell<Option<Result<ReleaseName, NameFault>>>,
+    /// The bytes of the replies that were not yet taken.
+    held: Cell<usize>,
 }
 
-impl<'f, K: Keep + Drop> Respond for Resolver<'f, K> {
-    ghost use Rattle.feed_releases.specs.Actives.{actives_of};
-    ghost use Rattle.feed_releases.specs.Feeds.{releases_of};
-    ghost use Rattle.feed_resolver.specs.Replies.{IsResponse};
+impl Desk {
+    fn new() -> Desk {
+        Desk {
+            is_busy: Cell::new(false),
+            asked: RefCell::new(None),
+            held: Cell::new(0),
+        }
+    }
 
-    ghost replies = { λ resolver bytes reply.
-        IsResponse bytes (actives_of (releases_of resolver.feed.now)) reply };
+    /// A reply of so many bytes is no longer held.
+    pub fn free(&self, bytes: usize) {
+        self.held.set(self.held.get().saturating_sub(bytes));
+    }
 
-    fn respond(&self, alloc: Global, bytes: &[u8]) -> Result<Vec<u8>, AllocError> {
-        respond(alloc, bytes, self.feed)
+    // Whether a reply of so many bytes may be held.
+    fn holds(&self, bytes: usize) -> bool {
+        let held = self.held.get();
+        let most = held.saturating_add(bytes);
+        if held > 0 && most > HELD_LIMIT {
+            return false;
+        }
+        self.held.set(most);
+        true
+    }
+
+    // A release is to be fetched.
+    fn put(&self, named: Result<ReleaseName, NameFault>) {
+        self.is_busy.set(true);
+        if let Ok(mut asked) = self.asked.try_borrow_mut() {
+            *asked = Some(named);
+        }
+    }
+
+    fn take(&self) -> Option<Result<ReleaseName, NameFault>> {
+        match self.asked.try_borrow_mut() {
+            Ok(mut asked) => asked.take(),
+            Err(_) => None,
+        }
     }
 }
 
-/// Opens the feed of a database and answers readers at an address, without end. A line is printed for each request, at
-/// once. The first fault is told: of the database, of the address (`Bind`), of the sockets (`Poll`) and of the print.
+/// Whether bytes begin with the head of a POST, as it may seem.
+pub fn is_post(bytes: &[u8]) -> bool {
+    bytes.trim_ascii_start().starts_with(b"POST ")
+}
+
+/// The replies of a node over its feed.
+#[derive(Drop)]
+struct Resolver<'a, K: Keep + Drop> {
+    feed: &'a Feed<K>,
+    token: Option<&'a [u8]>,
+    desk: &'a Desk,
+}
+
+impl<'a, K: Keep + Drop> Respond for Resolver<'a, K> {
+    ghost use Rattle.std.specs.Prelude.{Bool, option_copied};
+    ghost use Rattle.feed_releases.specs.Actives.{actives_of};
+    ghost use Rattle.feed_releases.specs.Feeds.{releases_of};
+    ghost use Rattle.feed_resolver.specs.Feeding.{FeederValue, IsNodeReply};
+
+    ghost replies = { λ resolver bytes reply. (is_busy : Bool) × IsNodeReply
+        (record { token = option_copied resolver.token; is_busy = is_busy }) bytes
+        (actives_of (releases_of resolver.feed.now)) reply };
+
+    fn respond(&self, alloc: Global, bytes: &[u8]) -> Result<Vec<u8>, AllocError> {
+        let feeder = Feeder {
+            token: self.token,
+            is_busy: self.desk.is_busy.get(),
+        };
+        let reply = respond_as_node(alloc, bytes, &feeder, self.feed)?;
+        if !feeder.is_busy
+            && let Some(token) = feeder.token
+            && is_post(bytes)
+            && let Some(named) = fetch_asked(alloc, bytes, token)
+        {
+            self.desk.put(named);
+        }
+        if self.desk.holds(reply.len()) {
+            Ok(reply)
+        } else {
+            Err(AllocError)
+        }
+    }
+}
+
+/// Opens the feed of a database and answers readers at an address, without end; where it has a source, who knows the
+/// token may have it fetch a release from there. A line is printed for each request, at once. The first fault is told:
+/// of the database, of the address (`Bind`), of the sockets (`Poll`) and of the print.
 pub fn node_on<D: Database, O: Write, F: Write + Drop>(
     rt: &HostRuntime,
     database: &D,
     addr: &str,
     hosting: Hosting,
+    source: Option<Source<'_>>,
     out: &mut O,
     faults: &mut Faults<F>,
 ) -> u8 {
-    let feed = match open_feed(rt.alloc(), database, faults) {
+    let mut feed = match open_feed(rt.alloc(), database, faults) {
         Ok(feed) => feed,
         Err(status) => return status,
     };
     let status = match bound(rt, addr, hosting) {
-        Ok(mut server) => answering(rt, &feed, &mut server, out, faults),
+        Ok(mut server) => answering(rt, &mut feed, &mut server, source, out, faults),
         Err(fault) => faults.told_of("Bind", addr, fault, FAILED),
     };
     close_keeper(database, feed.restart(), faults);
@@ -79,8 +164,9 @@ fn bound(rt: &HostRuntime, addr: &str, hosting: Hosting) -> io::Result<Server> {
 
 fn answering<K: Keep + Drop, O: Write, F: Write + Drop>(
     rt: &HostRuntime,
-    feed: &Feed<K>,
+    feed: &mut Feed<K>,
     server: &mut Server,
+    source: Option<Source<'_>>,
     out: &mut O,
     faults: &mut Faults<F>,
 ) -> u8 {
@@ -92,15 +178,26 @@ fn answering<K: Keep + Drop, O: Write, F: Write + Drop>(
     if let Err(fault) = announced {
         return faults.printed(Err(fault), FAILED);
     }
-    let resolver = Resolver { feed };
-    let mut log = AccessLog::new(rt, out);
+    let desk = Desk::new();
+    let mut feeding = Feeding::new(rt, source);
+    let mut log = AccessLog::new(rt, out, &desk);
     for _ in 0..u64::MAX {
-        if let Err(fault) = server.turn(rt, &resolver, false, &mut events, &mut log) {
+        let resolver = Resolver {
+            feed,
+            token: feeding.token(),
+            desk: &desk,
+        };
+        if let Err(fault) = server.turn(rt, &resolver, &mut events, &mut log) {
             return faults.told_of("Poll", "the sockets", fault, FAILED);
         }
         if let Err(fault) = log.flushed() {
             return faults.printed(Err(fault), FAILED);
         }
+        feeding.go_on(server, feed);
+        if let Some(named) = desk.take() {
+            feeding.begin(server, feed, named);
+        }
+        desk.is_busy.set(feeding.is_busy());
     }
     DONE
 }
