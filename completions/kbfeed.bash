@@ -1,15 +1,15 @@
 # Completion of kbfeed for bash. Paths are left to readline, which knows of quotes, spaces and ~.
 _kbfeed() {
-  local commands='replay check answer serve fetch ask status why help'
+  local commands='replay check answer serve node fetch ask status why help'
   local word=${COMP_WORDS[COMP_CWORD]} has_options=yes command= places=0 options= index
   COMPREPLY=()
-  case ${COMP_WORDS[COMP_CWORD - 1]} in '<' | '>' | '>>') compopt -o default; return ;; esac
+  case ${COMP_WORDS[COMP_CWORD - 1]} in '<' | '>' | '>>' | --token) compopt -o default; return ;; esac
 
   # The command, and how many words stand behind it before the cursor. Bash splits --name=VALUE at its =.
   for ((index = 1; index < COMP_CWORD; index++)); do
     case $has_options${COMP_WORDS[index]} in
       yes--) has_options= ;;
-      yes--name | yes--count | yes--timeout | yes--piece)
+      yes--name | yes--count | yes--timeout | yes--piece | yes--clients | yes--from | yes--token)
         [[ ${COMP_WORDS[index + 1]} == = ]] && ((index++))
         ((index++)) ;;
       yes-?*) ;;
@@ -22,6 +22,7 @@ _kbfeed() {
     '') options='-h --help -V --version -v --verbose' ;;
     check) options='-h --help -v --verbose --name --strict --summary --explain --json' ;;
     serve) options='-h --help -v --verbose --count --timeout' ;;
+    node) options='-h --help -v --verbose --from --token --piece --clients --timeout' ;;
     fetch) options='-h --help -v --verbose --piece --timeout' ;;
     replay | answer | ask | status | why) options='-h --help -v --verbose' ;;
   esac
@@ -30,7 +31,7 @@ _kbfeed() {
   else
     case $command/$places in
       /0 | help/0) COMPREPLY=($(compgen -W "$commands" -- "$word")) ;;
-      check/* | answer/0 | fetch/0 | ask/0 | status/0 | why/0) compopt -o default ;;
+      check/* | answer/0 | node/0 | fetch/0 | ask/0 | status/0 | why/0) compopt -o default ;;
       serve/0) compopt -o dirnames ;;
     esac
   fi

@@ -14,7 +14,7 @@ function __kbfeed_place
             switch $word
                 case --
                     set has_options no
-                case --name --count --timeout --piece
+                case --name --count --timeout --piece --clients --from --token
                     set is_value yes
                 case '-?*'
                 case '*'
@@ -38,6 +38,7 @@ complete -c kbfeed -n $is_command -a replay -d 'Replays a script of published fi
 complete -c kbfeed -n $is_command -a check -d 'Checks holdings lists'
 complete -c kbfeed -n $is_command -a answer -d 'Answers a query from a holdings list'
 complete -c kbfeed -n $is_command -a serve -d 'Serves a folder of releases over HTTP'
+complete -c kbfeed -n $is_command -a node -d 'Answers readers over HTTP from the database of a node'
 complete -c kbfeed -n $is_command -a fetch -d 'Fetches a release into the database of a node'
 complete -c kbfeed -n $is_command -a ask -d 'Answers a query from the database of a node'
 complete -c kbfeed -n $is_command -a status -d 'Prints the releases that a node has recorded'
@@ -57,8 +58,11 @@ complete -c kbfeed -n $check -l summary -d 'Prints one line for each file'
 complete -c kbfeed -n $check -l explain -d 'Prints for each record that is set aside its line, its title and why'
 complete -c kbfeed -n $check -l json -d 'Prints a JSON object for each file'
 
-complete -c kbfeed -n '__kbfeed_at answer/0 fetch/0 ask/0 status/0 why/0' -F
+complete -c kbfeed -n '__kbfeed_at answer/0 node/0 fetch/0 ask/0 status/0 why/0' -F
 complete -c kbfeed -n '__kbfeed_at serve/0' -a '(__fish_complete_directories)'
 complete -c kbfeed -n '__kbfeed_at "serve/*"' -x -l count -d 'How many connections are served'
-complete -c kbfeed -n '__kbfeed_at "fetch/*"' -x -l piece -d 'How many bytes a request asks for'
-complete -c kbfeed -n '__kbfeed_at "serve/*" "fetch/*"' -x -l timeout -d 'Seconds that a connection may take'
+complete -c kbfeed -n '__kbfeed_at "node/*"' -x -l from -d 'Where releases are fetched from'
+complete -c kbfeed -n '__kbfeed_at "node/*"' -r -F -l token -d 'The file of the token of those who feed the node'
+complete -c kbfeed -n '__kbfeed_at "node/*"' -x -l clients -d 'How many connections it has at a time'
+complete -c kbfeed -n '__kbfeed_at "node/*" "fetch/*"' -x -l piece -d 'How many bytes a request asks for'
+complete -c kbfeed -n '__kbfeed_at "serve/*" "node/*" "fetch/*"' -x -l timeout -d 'Seconds that a connection may take'

@@ -31,7 +31,7 @@ def read_help():
     texts.update((name, help_of(name)) for name in re.findall(r"^  ([a-z]+) ", texts[""], re.M))
     options = {}
     for name, text in texts.items():
-        found = re.findall(r"^ +(?:(-\w), )?(--[a-z]+)(?: <(\w+)>)?", text[text.rindex("Usage:"):], re.M)
+        found = re.findall(r"^ +(?:(-\w), )?(--[a-z]+)(?: <([\w:]+)>)?", text[text.rindex("Usage:"):], re.M)
         options[name] = {f"{it} {value}".strip() for short, long, value in found for it in (short, long) if it}
     statuses = {name: statuses_of(text) for name, text in texts.items()}
     statuses[""] = set().union(*statuses.values())

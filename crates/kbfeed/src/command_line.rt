@@ -138,11 +138,13 @@ Read`. It may not stand still for as long while it takes the reply, nor take mor
 The status is 0 once --count connections were served, 2 for a wrong command line, and 3 where ADDR does not bind (Bind),
 no connection is taken (Accept) or a print fails. docs/FAULTS.md has each fault, and -v says more of one.";
 
-const NODE_HELP: &str = "Answers readers over HTTP/1.1 from the database of a node: a link resolver.
+const NODE_HELP: &str =
+    "Answers readers over HTTP/1.1 from the database of a node: a link resolver. It takes in releases while it does.
 
-DB is the file that `kbfeed fetch` fills. ADDR is an IP address or a host, and a port: 127.0.0.1:8080, [::1]:8080.
+DB is the file that `kbfeed fetch` fills; it is made where there is none. ADDR is an IP address or a host, and a port:
+127.0.0.1:8080, [::1]:8080, localhost:8080.
 
-  $ kbfeed node node.db 127.0.0.1:8080 &
+  $ kbfeed node node.db 127.0.0.1:8080 --from lists.example:80 --token token &
   listening
   $ curl 'http://127.0.0.1:8080/resolve?rft.issn=2434561x&rft.date=1996'
 
@@ -155,13 +157,24 @@ DB is the file that `kbfeed fetch` fills. ADDR is an IP address or a host, and a
 QUERY is the query of an OpenURL 1.0, as for `kbfeed ask`. A browser gets pages, and who accepts application/json gets
 JSON; format=text, format=html and format=json in the query say so too.
 
+With --from, a POST of /feed/NAME has the node fetch the release of that name from HOST:PORT, as `kbfeed fetch` does,
+with --piece bytes at most in one request. The reply has its lines, as they come. Readers are answered meanwhile, from
+the release that the node had. The request needs the token, which is the first line of FILE, of 16 bytes at least:
+
+  $ curl -X POST -H \"Authorization: Bearer $(cat token)\" http://127.0.0.1:8080/feed/Acme_Global_All_2024-01-01.txt
+
+One release is fetched at a time. A fetch whose client goes away goes on, and one that was stopped goes on when it is
+asked for again.
+
 A line is printed for each request, as a common log line. A client has --timeout seconds to send its request, as many
 for every 16,384 bytes of the reply, and as many until it ends its side. Past --clients connections at a time the
-quietest is closed. The node runs until it is ended; nothing is lost by that.
+quietest is closed. While a node runs no other command opens its database. It runs until it is ended, and nothing is
+lost by that.
 
-The status is 1 for a database that is not ours or damaged, 2 for a wrong command line, and 3 where ADDR does not bind
-(Bind), the sockets fail (Poll) or a print does, for a failing device and for want of memory. docs/FAULTS.md has each
-fault, and -v says more of one.";
+The status is 1 for a database that is not ours or damaged and a file without a token (Token), 2 for a wrong command
+line and a HOST:PORT that is none, and 3 where FILE does not read, where ADDR does not bind (Bind), the sockets fail
+(Poll) or a print does, for a failing device and for want of memory. docs/FAULTS.md has each fault, and -v says more of
+one.";
 
 const FETCH_HELP: &str =
     "Fetches a release over HTTP/1.1 into the database of a node, which then answers from it (kbfeed ask).

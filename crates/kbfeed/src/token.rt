@@ -9,7 +9,8 @@ const FEWEST: usize = 16;
 
 const MOST: usize = 4_096;
 
-/// The first line of a file, where it is a token: at least 16 bytes of visible ASCII (RFC 6750, section 2.1, has fewer).
+/// The first line of a file, where it is a token: at least 16 bytes of visible ASCII. RFC 6750, section 2.1, allows
+/// fewer bytes of these.
 pub fn read_token<R: Read>(alloc: Global, file: &mut R) -> io::Result<Option<Vec<u8>>> {
     let bytes = read_up_to(alloc, file, MOST)?;
     let end = match bytes.iter().position(|byte| *byte == b'\n') {
