@@ -10,7 +10,8 @@ OUT = out
 
 SOURCES = crates.txt $(shell find crates -name out -prune -o \( -name '*.rt' -o -name '*.antt' \) -print)
 DOC = share/doc/kbfeed
-PAGES = README.md CHANGELOG.md $(wildcard docs/*.md samples/*.script samples/*.transcript samples/lists/*)
+PAGES = README.md CHANGELOG.md $(wildcard docs/*.md docs/*.svg docs/*.png samples/*.script samples/*.transcript \
+	samples/lists/* samples/fleet/*)
 # What is installed beside the program: each file, and its place below PREFIX.
 DATA = man/kbfeed.1:share/man/man1/kbfeed.1 \
 	completions/kbfeed.bash:share/bash-completion/completions/kbfeed \

@@ -63,7 +63,7 @@ def read_page(page):
         if section == "EXIT STATUS":
             statuses[""] = set(re.findall(r"^\.It (\d)$", part, re.M))
         for item in re.findall(r"^\.It (Fl .*)", part, re.M):
-            value = "".join(re.findall(r" Ar (\w+)", item))
+            value = "".join(re.findall(r" Ar ([\w:]+)", item))
             options[command] |= {f"-{word} {value}".strip() for word in re.findall(r"Fl (-?\w+)", item)}
     explained = {(command, it.split()[0]) for command, found in options.items() for it in found}
     return options, statuses, {it for it in named if it not in explained and ("", it[1]) not in explained}

@@ -4,6 +4,7 @@ serving() {
   folder=$1; shift
   for PORT in $(seq $((20000 + $$ % 20000)) $((20020 + $$ % 20000))); do
     ADDR=127.0.0.1:$PORT
+    : > log
     kbfeed serve "$folder" "$ADDR" "$@" > log 2> faults & SERVER=$!
     until [ -s log ] || ! kill -0 $SERVER 2> /dev/null; do sleep 0.05; done
     [ -s log ] && return
@@ -23,6 +24,7 @@ sent() { python3 "$TESTS/raw_client.py" "$ADDR" | tr -d '\r'; }
 answering() {
   for PORT in $(seq $((20000 + $$ % 20000)) $((20020 + $$ % 20000))); do
     ADDR=127.0.0.1:$PORT
+    : > access
     kbfeed node node.db "$ADDR" "$@" > access 2> faults & NODE=$!
     until [ -s access ] || ! kill -0 $NODE 2> /dev/null; do sleep 0.05; done
     [ -s access ] && return
@@ -32,4 +34,4 @@ answering() {
   return 1
 }
 
-ended() { kill -9 $NODE; wait $NODE 2> /dev/null; }
+ended() { kill -9 $NODE; wait $NODE 2> /dev/null; true; }

@@ -61,7 +61,8 @@ pub struct From<'a> {
     pub piece: u64,
 }
 
-const VERSION: &str = "0.1.0";
+// With the toolchain, as `rt version` prints it, which builds no program that it has not proved.
+const VERSION: &str = "0.1.0\nrattle-kit-13f logic dac8208d650f15bf\nproved";
 
 const REPLAY_HELP: &str = "Reads a script from standard input and prints its transcript.
 
