@@ -61,7 +61,7 @@ uninstall:
 	@for place in bin/kbfeed $(foreach file,$(DATA),$(lastword $(subst :, ,$(file)))); do \
 		rm -f "$(INTO)/$$place" || exit; \
 	done
-	@for folder in samples/lists samples docs ''; do rmdir "$(INTO)/$(DOC)/$$folder" 2> /dev/null; done; true
+	@for folder in samples/lists samples/fleet samples docs ''; do rmdir "$(INTO)/$(DOC)/$$folder" 2> /dev/null; done; true
 
 deb: $(PROGRAM)
 	@rm -rf "$(OUT)/deb"
