@@ -274,13 +274,16 @@ impl Server {
         self.make_room(log);
         let key = self.peers.vacant_key();
         let both = Interest::READABLE | Interest::WRITABLE;
-        if self
-            .poll
-            .registry()
+        let registry = self.poll.registry();
+        if registry
             .register(&mut peer.stream, Token(key), both)
-            .is_ok()
+            .is_err()
         {
-            let _ = self.peers.insert(peer);
+            log.closed(peer.addr, &peer.connection);
+            return;
+        }
+        if let Err(failed) = self.peers.insert(peer) {
+            log.closed(failed.value.addr, &failed.value.connection);
         }
     }
 

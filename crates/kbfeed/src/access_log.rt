@@ -1,7 +1,7 @@
 //! The log of a node: a common log line for each request.
 use crate::node_command::{Desk, is_post};
 use feed_dates::write_date;
-use feed_node::Connection;
+use feed_node::{Connection, UNAVAILABLE};
 use feed_node_loop::Log;
 use std::io;
 use std::io::Write;
@@ -45,7 +45,9 @@ impl<'o, O: Write> Log for AccessLog<'o, O> {
         if connection.reply().is_empty() {
             return;
         }
-        self.desk.free(connection.reply().len());
+        if connection.reply() != UNAVAILABLE {
+            self.desk.free(connection.reply().len());
+        }
         self.is_clean = false;
         if self.outcome.is_ok() {
             self.outcome = put_line(self.rt, self.out, addr, connection);

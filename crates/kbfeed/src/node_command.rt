@@ -29,8 +29,6 @@ const HELD_LIMIT: usize = 33_554_432;
 /// What the replies of a node leave behind.
 #[derive(Drop)]
 pub struct Desk {
-    /// A release is fetched, or is about to be.
-    is_busy: Cell<bool>,
     /// The release that is to be fetched.
     asked: RefCell<Option<Result<ReleaseName, NameFault>>>,
     /// The bytes of the replies that were not yet taken.
@@ -40,7 +38,6 @@ pub struct Desk {
 impl Desk {
     fn new() -> Desk {
         Desk {
-            is_busy: Cell::new(false),
             asked: RefCell::new(None),
             held: Cell::new(0),
         }
@@ -62,11 +59,17 @@ impl Desk {
         true
     }
 
-    // A release is to be fetched.
-    fn put(&self, named: Result<ReleaseName, NameFault>) {
-        self.is_busy.set(true);
-        if let Ok(mut asked) = self.asked.try_borrow_mut() {
-            *asked = Some(named);
+    // Takes in that a release is to be fetched, unless another is already.
+    fn put(&self, named: Result<ReleaseName, NameFault>) -> bool {
+        match self.asked.try_borrow_mut() {
+            Ok(mut asked) => {
+                if asked.is_some() {
+                    return false;
+                }
+                *asked = Some(named);
+                true
+            }
+            Err(_) => false,
         }
     }
 
@@ -88,32 +91,36 @@ pub fn is_post(bytes: &[u8]) -> bool {
 struct Resolver<'a, K: Keep + Drop> {
     feed: &'a Feed<K>,
     token: Option<&'a [u8]>,
+    /// A release is being fetched.
+    is_busy: bool,
     desk: &'a Desk,
 }
 
 impl<'a, K: Keep + Drop> Respond for Resolver<'a, K> {
-    ghost use Rattle.std.specs.Prelude.{Bool, option_copied};
+    ghost use Rattle.std.specs.Prelude.{option_copied};
     ghost use Rattle.feed_releases.specs.Actives.{actives_of};
     ghost use Rattle.feed_releases.specs.Feeds.{releases_of};
     ghost use Rattle.feed_resolver.specs.Feeding.{FeederValue, IsNodeReply};
 
-    ghost replies = { λ resolver bytes reply. (is_busy : Bool) × IsNodeReply
-        (record { token = option_copied resolver.token; is_busy = is_busy }) bytes
+    ghost replies = { λ resolver bytes reply. IsNodeReply
+        (record { token = option_copied resolver.token; is_busy = resolver.is_busy }) bytes
         (actives_of (releases_of resolver.feed.now)) reply };
 
     fn respond(&self, alloc: Global, bytes: &[u8]) -> Result<Vec<u8>, AllocError> {
         let feeder = Feeder {
             token: self.token,
-            is_busy: self.desk.is_busy.get(),
+            is_busy: self.is_busy,
         };
-        let reply = respond_as_node(alloc, bytes, &feeder, self.feed)?;
-        if !feeder.is_busy
-            && let Some(token) = feeder.token
+        // Of two that ask in one turn the second has to come again.
+        if !self.is_busy
+            && let Some(token) = self.token
             && is_post(bytes)
             && let Some(named) = fetch_asked(alloc, bytes, token)
+            && !self.desk.put(named)
         {
-            self.desk.put(named);
+            return Err(AllocError);
         }
+        let reply = respond_as_node(alloc, bytes, &feeder, self.feed)?;
         if self.desk.holds(reply.len()) {
             Ok(reply)
         } else {
@@ -185,6 +192,7 @@ fn answering<K: Keep + Drop, O: Write, F: Write + Drop>(
         let resolver = Resolver {
             feed,
             token: feeding.token(),
+            is_busy: feeding.is_busy(),
             desk: &desk,
         };
         if let Err(fault) = server.turn(rt, &resolver, &mut events, &mut log) {
@@ -197,7 +205,6 @@ fn answering<K: Keep + Drop, O: Write, F: Write + Drop>(
         if let Some(named) = desk.take() {
             feeding.begin(server, feed, named);
         }
-        desk.is_busy.set(feeding.is_busy());
     }
     DONE
 }
