@@ -24,7 +24,8 @@ fn status_of(
     let feeder = Feeder { token, is_busy };
     let reply = respond_as_node(alloc, &request, &feeder, &node(alloc)?)?;
     let end = reply.iter().position(|byte| *byte == b'\r').unwrap_or(0);
-    Ok(Vec::from_slice(alloc, &reply[..end])?)
+    let (line, _) = reply.split_at(end.min(reply.len()));
+    Ok(Vec::from_slice(alloc, line)?)
 }
 
 #[test]
