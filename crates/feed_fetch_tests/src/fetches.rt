@@ -3,8 +3,8 @@ use crate::dials::Turn;
 use crate::outcomes::{
     check_fetch, check_rest, check_rows, feed_of, feed_over, fetched, january, january_with,
 };
-use feed_keep::{ListKeep, State};
-use feed_samples::{ACTA, FEBRUARY, HEADER, HEADER_WITHOUT_URL, february_file, record_of};
+use feed_keep::State;
+use feed_samples::{ACTA, FEBRUARY, HEADER, HEADER_WITHOUT_URL, Row, february_file, keeper_of};
 use std::test::Fail;
 
 #[test]
@@ -101,9 +101,9 @@ fn a_file_that_is_not_wanted_is_not_asked_for(rt: HostRuntime) -> Result<(), Fai
     let alloc = rt.alloc();
     let files = [january(alloc)?];
     let later = february_file(alloc)?;
-    let active = record_of(alloc, FEBRUARY, 243, State::Active, &[(0, &later)])?;
-    let keeper = ListKeep::of(alloc, Vec::from_array(alloc, [active])?);
-    let mut feed = feed_over(alloc, keeper)?;
+    let parts = [(0, later.as_slice())];
+    let active = Row::new(FEBRUARY, 243, State::Active, &parts);
+    let mut feed = feed_over(alloc, keeper_of(alloc, &[active])?)?;
     let wanted = "size 205\nolder\n||0";
     check_fetch(&rt, &[Turn::Serves(&files)], &mut feed, 100, wanted, &[])?;
     let mut feed = feed_of(alloc)?;

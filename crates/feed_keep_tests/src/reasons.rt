@@ -1,7 +1,7 @@
 // Why the file of a record is bad.
 use feed_kbart::BadFile;
 use feed_keep::{State, bad_of};
-use feed_samples::{HEADER_WITHOUT_URL, JANUARY, WITHOUT_URL, january_file, record_of};
+use feed_samples::{HEADER_WITHOUT_URL, JANUARY, Row, WITHOUT_URL, january_file};
 use std::test::Fail;
 
 #[test]
@@ -32,7 +32,7 @@ fn a_whole_file_that_is_bad_has_a_reason(rt: HostRuntime) -> Result<(), Fail> {
     // Neither the state nor the reason of the record is looked at.
     for state in [State::Staged, State::Broken, State::Active] {
         for (size, parts, reason) in rows {
-            let record = record_of(rt.alloc(), JANUARY, size, state, parts)?;
+            let record = Row::new(JANUARY, size, state, parts).record(rt.alloc())?;
             assert_eq!(rt; bad_of(rt.alloc(), &record)?, reason, "{state:?} {size}");
         }
     }

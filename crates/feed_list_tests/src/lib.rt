@@ -6,8 +6,6 @@ mod answers;
 #[cfg(test)]
 mod books;
 #[cfg(test)]
-mod chance;
-#[cfg(test)]
 mod counts;
 #[cfg(test)]
 mod dates;
@@ -22,10 +20,6 @@ mod isbns;
 #[cfg(test)]
 mod names;
 #[cfg(test)]
-mod printed;
-#[cfg(test)]
 mod queries;
-#[cfg(test)]
-mod random;
 #[cfg(test)]
 mod utf8;

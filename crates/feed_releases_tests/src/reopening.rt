@@ -5,11 +5,12 @@ use feed_keep::{Keep, KeepFault, ListKeep, Part, Record, State};
 use feed_limits::PIECE_LIMIT;
 use feed_releases::{Feed, OpenFault, Reply};
 use feed_samples::{
-    ACTA, BETA, FEBRUARY, Failing, HEADER, HEADER_WITHOUT_URL, JANUARY, MARCH, PACKAGE,
-    WITHOUT_URL, broken_record_of, content_of, february_file, january_file, listed, name_of,
-    record_of,
+    ACTA, BETA, FEBRUARY, Failing, HEADER, HEADER_WITHOUT_URL, JANUARY, MARCH, PACKAGE, Row,
+    WITHOUT_URL, content_of, february_file, january_file, keeper_of, listed, listed_of, name_of,
+    records_of,
 };
 use std::alloc::Global;
+use std::process::Abort;
 use std::test::Fail;
 
 fn reopened<K: Keep + Drop>(alloc: Global, feed: Feed<K>) -> Result<Feed<K>, Fail> {
@@ -31,139 +32,124 @@ fn a_keeper_without_records_opens(rt: HostRuntime) -> Result<(), Fail> {
     Ok(())
 }
 
-// The records of an active release, a staged one of a later day and a broken one.
-fn three_records(alloc: Global) -> Result<Vec<Record>, Fail> {
+// An active release, a staged one of a later day and a broken one: what a keeper holds of them as text.
+fn three_listed(alloc: Global) -> Result<Vec<u8>, Fail> {
     let active = january_file(alloc)?;
     let staged = february_file(alloc)?;
-    let records = [
-        record_of(alloc, JANUARY, 205, State::Active, &[(0, &active)])?,
-        record_of(
-            alloc,
-            FEBRUARY,
-            243,
-            State::Staged,
-            &[(0, cut(&staged, 0, 200))],
-        )?,
-        broken_record_of(alloc, MARCH, 141, WITHOUT_URL, &[(0, HEADER_WITHOUT_URL)])?,
+    let active = [(0, active.as_slice())];
+    let staged = [(0, cut(&staged, 0, 200))];
+    let broken = [(0, HEADER_WITHOUT_URL)];
+    let rows = [
+        Row::new(JANUARY, 205, State::Active, &active),
+        Row::new(FEBRUARY, 243, State::Staged, &staged),
+        Row::broken(MARCH, 141, WITHOUT_URL, &broken),
     ];
-    Ok(Vec::from_array(alloc, records)?)
+    listed_of(alloc, &rows)
+}
+
+// Offers a release, and hands in its first bytes.
+fn tell_first<K: Keep + Drop>(
+    alloc: Global,
+    feed: &mut Feed<K>,
+    text: &str,
+    size: u64,
+    bytes: &[u8],
+) -> Result<(), Fail> {
+    let name = name_of(alloc, text)?;
+    offered(feed, &name, size)?;
+    told(feed, &name, 0, bytes)?;
+    Ok(())
 }
 
 // A feed of these releases that took its events itself.
 fn three_releases(alloc: Global) -> Result<Feed<ListKeep>, Fail> {
     let mut feed = feed_of(alloc)?;
-    let active = january_file(alloc)?;
     let staged = february_file(alloc)?;
-    let rows = [
-        (JANUARY, 205, active.as_slice()),
-        (FEBRUARY, 243, cut(&staged, 0, 200)),
-        (MARCH, 141, HEADER_WITHOUT_URL),
-    ];
-    for (text, size, bytes) in rows {
-        let name = name_of(alloc, text)?;
-        offered(&mut feed, &name, size)?;
-        told(&mut feed, &name, 0, bytes)?;
-    }
+    tell_first(alloc, &mut feed, JANUARY, 205, &january_file(alloc)?)?;
+    tell_first(alloc, &mut feed, FEBRUARY, 243, cut(&staged, 0, 200))?;
+    tell_first(alloc, &mut feed, MARCH, 141, HEADER_WITHOUT_URL)?;
     Ok(feed)
+}
+
+// Expects a feed to know a release of this size, its first bytes and the places that are missing.
+fn expect_known<K: Keep + Drop>(
+    rt: &impl Abort,
+    alloc: Global,
+    feed: &mut Feed<K>,
+    (text, size, missing, bytes): (&str, u64, Option<(u64, u64)>, &[u8]),
+) -> Result<(), Fail> {
+    let name = name_of(alloc, text)?;
+    assert_eq!(rt; feed.next_range(&name, 1000), missing);
+    assert_eq!(rt; offered(feed, &name, size), Ok(Reply::Known));
+    assert_eq!(rt; told(feed, &name, 0, bytes), Ok(Reply::Repeated));
+    Ok(())
+}
+
+// Expects a feed to be that of the three releases, and to go on.
+fn expect_three<K: Keep + Drop>(
+    rt: &impl Abort,
+    alloc: Global,
+    mut feed: Feed<K>,
+) -> Result<(), Fail> {
+    assert_eq!(rt; active_in(&feed), JANUARY.as_bytes());
+    let rows = [
+        (JANUARY, 205, None, HEADER),
+        (FEBRUARY, 243, Some((200, 242)), HEADER),
+        (MARCH, 141, None, HEADER_WITHOUT_URL),
+    ];
+    for row in rows {
+        expect_known(rt, alloc, &mut feed, row)?;
+    }
+    let mut keeper = feed.restart();
+    assert!(rt; content_of(alloc, &mut keeper)? == three_listed(alloc)?);
+    let mut feed = feed_over(alloc, keeper)?;
+    let file = february_file(alloc)?;
+    let february = name_of(alloc, FEBRUARY)?;
+    let completed = told(&mut feed, &february, 200, cut(&file, 200, 43));
+    assert_eq!(rt; completed, Ok(Reply::Activated));
+    assert_eq!(rt; active_in(&feed), FEBRUARY.as_bytes());
+    Ok(())
 }
 
 #[test]
 fn a_feed_is_after_a_restart_what_it_was(rt: HostRuntime) -> Result<(), Fail> {
-    let january = name_of(rt.alloc(), JANUARY)?;
-    let february = name_of(rt.alloc(), FEBRUARY)?;
-    let march = name_of(rt.alloc(), MARCH)?;
-    let file = february_file(rt.alloc())?;
-    let expected = listed(rt.alloc(), &three_records(rt.alloc())?)?;
-    let feeds = [
-        three_releases(rt.alloc())?,
-        reopened(rt.alloc(), three_releases(rt.alloc())?)?,
-        feed_over(
-            rt.alloc(),
-            ListKeep::of(rt.alloc(), three_records(rt.alloc())?),
-        )?,
-    ];
-    // Of each release the size, the places that are missing, and bytes that are kept.
-    let rows = [
-        (&january, 205, None, HEADER),
-        (&february, 243, Some((200, 242)), HEADER),
-        (&march, 141, None, HEADER_WITHOUT_URL),
-    ];
-    for mut feed in feeds {
-        assert_eq!(rt; active_in(&feed), JANUARY.as_bytes());
-        assert_eq!(rt;
-            answer_of(rt.alloc(), &feed, b"rft.issn=2434561x")?.as_slice(),
-            b"release Acme_Global_All_2024-01-01.txt hits 1\n2\tuntested\tActa\thttp://a.example/\t\t\t\t\n".as_slice()
-        );
-        assert_eq!(rt; feed.next_range(&february, 10), Some((200, 209)));
-        for (name, size, missing, bytes) in rows {
-            assert_eq!(rt; feed.next_range(name, 1000), missing);
-            assert_eq!(rt; offered(&mut feed, name, size), Ok(Reply::Known));
-            assert_eq!(rt; told(&mut feed, name, 0, bytes), Ok(Reply::Repeated));
-        }
-        let mut keeper = feed.restart();
-        assert_eq!(rt;
-            content_of(rt.alloc(), &mut keeper)?.as_slice(),
-            expected.as_slice()
-        );
-        let mut feed = feed_over(rt.alloc(), keeper)?;
-        assert_eq!(rt;
-            told(&mut feed, &february, 200, cut(&file, 200, 43)),
-            Ok(Reply::Activated)
-        );
-        assert_eq!(rt; active_in(&feed), FEBRUARY.as_bytes());
-    }
+    let alloc = rt.alloc();
+    expect_three(&rt, alloc, three_releases(alloc)?)?;
+    expect_three(&rt, alloc, reopened(alloc, three_releases(alloc)?)?)
+}
+
+#[test]
+fn a_feed_answers_after_a_restart(rt: HostRuntime) -> Result<(), Fail> {
+    let feed = reopened(rt.alloc(), three_releases(rt.alloc())?)?;
+    let answer = answer_of(rt.alloc(), &feed, b"rft.issn=2434561x")?;
+    let expected = b"release Acme_Global_All_2024-01-01.txt hits 1\n\
+        2\tuntested\tActa\thttp://a.example/\t\t\t\t\n";
+    assert_eq!(rt; answer.as_slice(), expected.as_slice());
     Ok(())
 }
 
 #[test]
 fn records_and_parts_are_put_in_order(rt: HostRuntime) -> Result<(), Fail> {
-    let file = january_file(rt.alloc())?;
-    let parts = [
-        (0, cut(&file, 0, 100)),
-        (100, cut(&file, 100, 100)),
-        (200, cut(&file, 200, 5)),
-    ];
-    let shuffled = [parts[1], parts[2], parts[0]];
+    let alloc = rt.alloc();
     // By bytes `-` stands before `_`, and this before the letters.
-    let ordered = [
-        record_of(
-            rt.alloc(),
-            "A-B_2024-03-01.txt",
-            10,
-            State::Staged,
-            &[(2, b"23"), (6, b"67")],
-        )?,
-        record_of(rt.alloc(), "A_2024-01-01.txt", 10, State::Staged, &[])?,
-        record_of(rt.alloc(), "A_2024-02-01.txt", 10, State::Staged, &[])?,
-        record_of(rt.alloc(), JANUARY, 205, State::Active, &parts)?,
+    let hyphen = "A-B_2024-03-01.txt";
+    let given = [
+        Row::new("B_2024-02-01.txt", 10, State::Staged, &[]),
+        Row::new(hyphen, 10, State::Staged, &[(6, b"67"), (2, b"23")]),
+        Row::new("A_2024-02-01.txt", 10, State::Staged, &[]),
+        Row::new("A_2024-01-01.txt", 10, State::Staged, &[]),
     ];
-    let expected = listed(rt.alloc(), &ordered)?;
-    let records = [
-        record_of(rt.alloc(), JANUARY, 205, State::Active, &shuffled)?,
-        record_of(rt.alloc(), "A_2024-02-01.txt", 10, State::Staged, &[])?,
-        record_of(
-            rt.alloc(),
-            "A-B_2024-03-01.txt",
-            10,
-            State::Staged,
-            &[(6, b"67"), (2, b"23")],
-        )?,
-        record_of(rt.alloc(), "A_2024-01-01.txt", 10, State::Staged, &[])?,
-    ];
-    let mut keeper = ListKeep::of(rt.alloc(), Vec::from_array(rt.alloc(), records)?);
-    assert_eq!(rt;
-        content_of(rt.alloc(), &mut keeper)?.as_slice(),
-        expected.as_slice()
-    );
-    let feed = feed_over(rt.alloc(), keeper)?;
-    assert_eq!(rt; active_in(&feed), JANUARY.as_bytes());
+    let expected = b"A-B_2024-03-01.txt 10 Staged 2:23 6:67\nA_2024-01-01.txt 10 Staged\n\
+        A_2024-02-01.txt 10 Staged\nB_2024-02-01.txt 10 Staged\n";
+    let mut keeper = keeper_of(alloc, &given)?;
+    let content = content_of(alloc, &mut keeper)?;
+    assert_eq!(rt; content.as_slice(), expected.as_slice());
+    let feed = feed_over(alloc, keeper)?;
     assert_eq!(rt; feed.report(b"A"), None);
-    let staged = name_of(rt.alloc(), "A-B_2024-03-01.txt")?;
+    let staged = name_of(alloc, hyphen)?;
     assert_eq!(rt; feed.next_range(&staged, 100), Some((0, 1)));
-    assert_eq!(rt;
-        content_of(rt.alloc(), &mut feed.restart())?.as_slice(),
-        expected.as_slice()
-    );
+    let content = content_of(alloc, &mut feed.restart())?;
+    assert_eq!(rt; content.as_slice(), expected.as_slice());
     Ok(())
 }
 
@@ -187,12 +173,10 @@ fn pieces_in_any_order_are_loaded_in_order(rt: HostRuntime) -> Result<(), Fail> 
     for number in 1..41u64 {
         parts.push((number * 5, cut(&file, number * 5, 5)))?;
     }
-    let staged = [record_of(rt.alloc(), JANUARY, 205, State::Staged, &parts)?];
+    let staged = Row::new(JANUARY, 205, State::Staged, &parts);
     let mut keeper = feed.restart();
-    assert_eq!(rt;
-        content_of(rt.alloc(), &mut keeper)?.as_slice(),
-        listed(rt.alloc(), &staged)?.as_slice()
-    );
+    let content = content_of(rt.alloc(), &mut keeper)?;
+    assert!(rt; content == listed_of(rt.alloc(), &[staged])?);
     let mut feed = feed_over(rt.alloc(), keeper)?;
     assert_eq!(rt;
         told(&mut feed, &name, 0, cut(&file, 0, 5)),
@@ -205,12 +189,12 @@ fn pieces_in_any_order_are_loaded_in_order(rt: HostRuntime) -> Result<(), Fail> 
 
 #[test]
 fn a_name_that_stands_twice_is_damaged(rt: HostRuntime) -> Result<(), Fail> {
-    let records = [
-        record_of(rt.alloc(), JANUARY, 205, State::Staged, &[])?,
-        record_of(rt.alloc(), FEBRUARY, 243, State::Staged, &[])?,
-        record_of(rt.alloc(), JANUARY, 10, State::Staged, &[(0, b"01")])?,
+    let rows = [
+        Row::new(JANUARY, 205, State::Staged, &[]),
+        Row::new(FEBRUARY, 243, State::Staged, &[]),
+        Row::new(JANUARY, 10, State::Staged, &[(0, b"01")]),
     ];
-    let mut keeper = ListKeep::of(rt.alloc(), Vec::from_array(rt.alloc(), records)?);
+    let mut keeper = keeper_of(rt.alloc(), &rows)?;
     assert_eq!(rt; keeper.load(rt.alloc()).err(), Some(KeepFault::Damaged));
     let Err(OpenFault { cause, mut keeper }) = Feed::open(rt.alloc(), keeper) else {
         return Err(Fail::new("the feed opens"));
@@ -225,7 +209,7 @@ fn staged_records(alloc: Global, count: u32) -> Result<Vec<Record>, Fail> {
     let mut records = Vec::new(alloc);
     for number in 0..count {
         let name = format!(in alloc; "n{number:03}_2024-01-01.txt")?;
-        records.push(record_of(alloc, &name, 1, State::Staged, &[])?)?;
+        records.push(Row::new(&name, 1, State::Staged, &[]).record(alloc)?)?;
     }
     Ok(records)
 }
@@ -251,9 +235,8 @@ fn fault_over_reason(
     reason: Option<BadFile>,
     parts: &[(u64, &[u8])],
 ) -> Result<Option<KeepFault>, Fail> {
-    let mut record = record_of(alloc, "X_2024-01-01.txt", size, state, parts)?;
-    record.reason = reason;
-    fault_over(alloc, Vec::from_array(alloc, [record])?)
+    let row = Row::new("X_2024-01-01.txt", size, state, parts).because(reason);
+    fault_over(alloc, records_of(alloc, &[row])?)
 }
 
 // The same, with a record that has no reason.
@@ -424,13 +407,11 @@ fn a_reason_is_there_after_a_restart(rt: HostRuntime) -> Result<(), Fail> {
 }
 
 // A record whose file bears out its state and its reason.
-fn sound_record(alloc: Global, name: &str, state: State) -> Result<Record, Fail> {
+fn sound_row(name: &str, state: State) -> Row<'_> {
     match state {
-        State::Staged => record_of(alloc, name, 10, state, &[(2, b"23")]),
-        State::Broken => {
-            broken_record_of(alloc, name, 141, WITHOUT_URL, &[(0, HEADER_WITHOUT_URL)])
-        }
-        State::Active => record_of(alloc, name, 205, state, &[(0, HEADER), (151, ACTA)]),
+        State::Staged => Row::new(name, 10, state, &[(2, b"23")]),
+        State::Broken => Row::broken(name, 141, WITHOUT_URL, &[(0, HEADER_WITHOUT_URL)]),
+        State::Active => Row::new(name, 205, state, &[(0, HEADER), (151, ACTA)]),
     }
 }
 
@@ -470,11 +451,8 @@ fn no_record_stands_beside_a_later_active_one(rt: HostRuntime) -> Result<(), Fai
         ),
     ];
     for (one, one_state, other, other_state, fault) in rows {
-        let records = [
-            sound_record(rt.alloc(), one, one_state)?,
-            sound_record(rt.alloc(), other, other_state)?,
-        ];
-        let records = Vec::from_array(rt.alloc(), records)?;
+        let rows = [sound_row(one, one_state), sound_row(other, other_state)];
+        let records = records_of(rt.alloc(), &rows)?;
         assert_eq!(rt;
             fault_over(rt.alloc(), records)?,
             fault,

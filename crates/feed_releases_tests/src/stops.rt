@@ -1,13 +1,14 @@
 // Feeds that stop in the middle of an event.
 use crate::feeds::{cut, feed_over};
 use feed_kbart::BadFile;
-use feed_keep::{Keep, ListKeep, Record, State};
+use feed_keep::{Keep, ListKeep, State};
 use feed_releases::{Event, Point};
 use feed_samples::{
-    FEBRUARY, Failing, HEADER, HEADER_WITHOUT_URL, JANUARY, MARCH, WITHOUT_URL, broken_record_of,
-    content_of, february_file, january_file, listed, name_of, record_of,
+    FEBRUARY, Failing, HEADER, HEADER_WITHOUT_URL, JANUARY, MARCH, Row, WITHOUT_URL, content_of,
+    february_file, january_file, keeper_of, listed_of, name_of,
 };
 use std::alloc::Global;
+use std::process::Abort;
 use std::test::Fail;
 
 const LAST_DECEMBER: &str = "Acme_Global_All_2023-12-01.txt";
@@ -18,26 +19,28 @@ const POINTS: [Point; 2] = [Point::Before, Point::After];
 
 // What a keeper holds before the event: January's release is active, and of February's and March's the last bytes are
 // missing.
-fn before(alloc: Global) -> Result<Vec<Record>, Fail> {
-    let active = january_file(alloc)?;
+fn before(alloc: Global) -> Result<ListKeep, Fail> {
+    let january = january_file(alloc)?;
     let february = february_file(alloc)?;
-    let staged = cut(&february, 0, 200);
-    let bad = cut(HEADER_WITHOUT_URL, 0, 100);
-    let records = [
-        record_of(alloc, JANUARY, 205, State::Active, &[(0, &active)])?,
-        record_of(alloc, FEBRUARY, 243, State::Staged, &[(0, staged)])?,
-        record_of(alloc, MARCH, 141, State::Staged, &[(0, bad)])?,
+    let january = [(0, january.as_slice())];
+    let february = [(0, cut(&february, 0, 200))];
+    let march = [(0, cut(HEADER_WITHOUT_URL, 0, 100))];
+    let rows = [
+        Row::new(JANUARY, 205, State::Active, &january),
+        Row::new(FEBRUARY, 243, State::Staged, &february),
+        Row::new(MARCH, 141, State::Staged, &march),
     ];
-    Ok(Vec::from_array(alloc, records)?)
+    keeper_of(alloc, &rows)
 }
 
 fn content_before(alloc: Global) -> Result<Vec<u8>, Fail> {
-    listed(alloc, &before(alloc)?)
+    content_of(alloc, &mut before(alloc)?)
 }
 
-// The content with one record more, or with another one in place of the one of its name.
-fn content_with(alloc: Global, record: Record) -> Result<Vec<u8>, Fail> {
-    let mut records = before(alloc)?;
+// That content with one record more, or with another one in place of the one of its name.
+fn content_with(alloc: Global, row: Row<'_>) -> Result<Vec<u8>, Fail> {
+    let record = row.record(alloc)?;
+    let mut records = before(alloc)?.load(alloc)?;
     records.retain(|kept| kept.name != record.name);
     records.push(record)?;
     content_of(alloc, &mut ListKeep::of(alloc, records))
@@ -45,7 +48,7 @@ fn content_with(alloc: Global, record: Record) -> Result<Vec<u8>, Fail> {
 
 // What the keeper holds after a stop in the event.
 fn stopped(alloc: Global, event: &Event<'_>, point: Point) -> Result<Vec<u8>, Fail> {
-    let feed = feed_over(alloc, ListKeep::of(alloc, before(alloc)?))?;
+    let feed = feed_over(alloc, before(alloc)?)?;
     content_of(alloc, &mut feed.stop_at(event, point))
 }
 
@@ -73,65 +76,68 @@ fn stopped_in_piece(
 
 #[test]
 fn a_stop_in_an_offer_keeps_it_or_nothing(rt: HostRuntime) -> Result<(), Fail> {
-    let kept = content_before(rt.alloc())?;
+    let alloc = rt.alloc();
     let rows = [
-        (10, record_of(rt.alloc(), APRIL, 10, State::Staged, &[])?),
-        (
-            0,
-            broken_record_of(rt.alloc(), APRIL, 0, BadFile::NoHeader, &[])?,
-        ),
+        (10, Row::new(APRIL, 10, State::Staged, &[])),
+        (0, Row::broken(APRIL, 0, BadFile::NoHeader, &[])),
     ];
-    for (size, record) in rows {
-        let committed = content_with(rt.alloc(), record)?;
-        let before = stopped_in_offer(rt.alloc(), APRIL, size, Point::Before)?;
-        assert_eq!(rt; before.as_slice(), kept.as_slice(), "{size}");
-        let after = stopped_in_offer(rt.alloc(), APRIL, size, Point::After)?;
-        assert_eq!(rt; after.as_slice(), committed.as_slice(), "{size}");
+    for (size, row) in rows {
+        let before = stopped_in_offer(alloc, APRIL, size, Point::Before)?;
+        assert!(rt; before == content_before(alloc)?, "{size}");
+        let after = stopped_in_offer(alloc, APRIL, size, Point::After)?;
+        assert!(rt; after == content_with(alloc, row)?, "{size}");
     }
+    Ok(())
+}
+
+// Expects a stop in a piece to keep nothing of it before the commit, and what is committed after it.
+fn expect_stops(
+    rt: &impl Abort,
+    alloc: Global,
+    (name, first, bytes): (&str, u64, &[u8]),
+    committed: Vec<u8>,
+) -> Result<(), Fail> {
+    let before = stopped_in_piece(alloc, name, first, bytes, Point::Before)?;
+    assert!(rt; before == content_before(alloc)?, "{name} {first}");
+    let after = stopped_in_piece(alloc, name, first, bytes, Point::After)?;
+    assert!(rt; after == committed, "{name} {first}");
     Ok(())
 }
 
 #[test]
 fn a_stop_in_a_piece_keeps_it_or_nothing(rt: HostRuntime) -> Result<(), Fail> {
-    let file = february_file(rt.alloc())?;
-    let bad_file = HEADER_WITHOUT_URL;
-    let parts = [(0, cut(&file, 0, 200)), (210, cut(&file, 210, 10))];
-    let staged = record_of(rt.alloc(), FEBRUARY, 243, State::Staged, &parts)?;
-    let parts = [(0, cut(&file, 0, 200)), (200, cut(&file, 200, 43))];
-    let active = record_of(rt.alloc(), FEBRUARY, 243, State::Active, &parts)?;
-    let parts = [(0, cut(bad_file, 0, 100)), (100, cut(bad_file, 100, 41))];
-    let broken = broken_record_of(rt.alloc(), MARCH, 141, WITHOUT_URL, &parts)?;
-    let parts = [(0, cut(bad_file, 0, 100))];
-    let other = record_of(rt.alloc(), MARCH, 141, State::Staged, &parts)?;
+    let alloc = rt.alloc();
+    let file = february_file(alloc)?;
+    let kept = cut(&file, 0, 200);
+    let piece = cut(&file, 210, 10);
+    let parts = [(0, kept), (210, piece)];
+    let staged = content_with(alloc, Row::new(FEBRUARY, 243, State::Staged, &parts))?;
+    expect_stops(&rt, alloc, (FEBRUARY, 210, piece), staged)
+}
+
+#[test]
+fn a_stop_in_the_last_piece_of_a_bad_file_keeps_it_or_nothing(rt: HostRuntime) -> Result<(), Fail> {
+    let alloc = rt.alloc();
+    let kept = cut(HEADER_WITHOUT_URL, 0, 100);
+    let piece = cut(HEADER_WITHOUT_URL, 100, 41);
+    let parts = [(0, kept), (100, piece)];
+    let broken = content_with(alloc, Row::broken(MARCH, 141, WITHOUT_URL, &parts))?;
+    expect_stops(&rt, alloc, (MARCH, 100, piece), broken)
+}
+
+// January's record goes with the switch to February's.
+#[test]
+fn a_stop_in_the_last_piece_switches_or_not(rt: HostRuntime) -> Result<(), Fail> {
+    let alloc = rt.alloc();
+    let file = february_file(alloc)?;
+    let piece = cut(&file, 200, 43);
+    let february = [(0, cut(&file, 0, 200)), (200, piece)];
+    let march = [(0, cut(HEADER_WITHOUT_URL, 0, 100))];
     let rows = [
-        (
-            FEBRUARY,
-            210,
-            cut(&file, 210, 10),
-            content_with(rt.alloc(), staged)?,
-        ),
-        (
-            MARCH,
-            100,
-            cut(bad_file, 100, 41),
-            content_with(rt.alloc(), broken)?,
-        ),
-        // January's record goes.
-        (
-            FEBRUARY,
-            200,
-            cut(&file, 200, 43),
-            listed(rt.alloc(), &[active, other])?,
-        ),
+        Row::new(FEBRUARY, 243, State::Active, &february),
+        Row::new(MARCH, 141, State::Staged, &march),
     ];
-    let kept = content_before(rt.alloc())?;
-    for (name, first, bytes, committed) in rows {
-        let before = stopped_in_piece(rt.alloc(), name, first, bytes, Point::Before)?;
-        assert_eq!(rt; before.as_slice(), kept.as_slice(), "{name} {first}");
-        let after = stopped_in_piece(rt.alloc(), name, first, bytes, Point::After)?;
-        assert_eq!(rt; after.as_slice(), committed.as_slice(), "{name} {first}");
-    }
-    Ok(())
+    expect_stops(&rt, alloc, (FEBRUARY, 200, piece), listed_of(alloc, &rows)?)
 }
 
 #[test]

@@ -10,4 +10,4 @@ pub use lists::{
     ACTA, BETA, FEBRUARY, HEADER, HEADER_WITHOUT_URL, JANUARY, MARCH, PACKAGE, WITHOUT_URL,
     february_file, january_file,
 };
-pub use records::{broken_record_of, content_of, listed, name_of, record_of};
+pub use records::{Row, content_of, keeper_of, listed, listed_of, name_of, records_of};

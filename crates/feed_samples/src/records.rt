@@ -1,5 +1,5 @@
 use feed_kbart::BadFile;
-use feed_keep::{Keep, Part, Record, State};
+use feed_keep::{Keep, ListKeep, Part, Record, State};
 use feed_names::ReleaseName;
 use std::alloc::Global;
 use std::io::Write;
@@ -10,41 +10,79 @@ pub fn name_of(alloc: Global, text: &str) -> Result<ReleaseName, Fail> {
     Ok(ReleaseName::parse(alloc, text.as_bytes())?)
 }
 
-/// A record without a reason, with these parts, given by their first places and their bytes.
-pub fn record_of(
-    alloc: Global,
-    name: &str,
+/// A record as a test writes it down: its parts are given by their first places and their bytes.
+#[derive(Clone, Copy)]
+pub struct Row<'a> {
+    name: &'a str,
     size: u64,
     state: State,
-    parts: &[(u64, &[u8])],
-) -> Result<Record, Fail> {
-    let mut kept = Vec::new(alloc);
-    for (first, bytes) in parts {
-        kept.push(Part {
-            first: *first,
-            bytes: Vec::from_slice(alloc, bytes)?,
-        })?;
-    }
-    Ok(Record {
-        name: name_of(alloc, name)?,
-        size,
-        state,
-        reason: None,
-        parts: kept,
-    })
+    reason: Option<BadFile>,
+    parts: &'a [(u64, &'a [u8])],
 }
 
-/// The record of a broken release, with this reason and these parts.
-pub fn broken_record_of(
-    alloc: Global,
-    name: &str,
-    size: u64,
-    reason: BadFile,
-    parts: &[(u64, &[u8])],
-) -> Result<Record, Fail> {
-    let mut record = record_of(alloc, name, size, State::Broken, parts)?;
-    record.reason = Some(reason);
-    Ok(record)
+impl<'a> Row<'a> {
+    /// A record without a reason.
+    pub fn new(name: &'a str, size: u64, state: State, parts: &'a [(u64, &'a [u8])]) -> Row<'a> {
+        Row {
+            name,
+            size,
+            state,
+            reason: None,
+            parts,
+        }
+    }
+
+    /// The same with this reason, or with none.
+    pub fn because(self, reason: Option<BadFile>) -> Row<'a> {
+        Row { reason, ..self }
+    }
+
+    /// The record of a broken release.
+    pub fn broken(
+        name: &'a str,
+        size: u64,
+        reason: BadFile,
+        parts: &'a [(u64, &'a [u8])],
+    ) -> Row<'a> {
+        Row::new(name, size, State::Broken, parts).because(Some(reason))
+    }
+
+    /// The record.
+    pub fn record(&self, alloc: Global) -> Result<Record, Fail> {
+        let mut parts = Vec::new(alloc);
+        for (first, bytes) in self.parts {
+            parts.push(Part {
+                first: *first,
+                bytes: Vec::from_slice(alloc, bytes)?,
+            })?;
+        }
+        Ok(Record {
+            name: name_of(alloc, self.name)?,
+            size: self.size,
+            state: self.state,
+            reason: self.reason,
+            parts,
+        })
+    }
+}
+
+/// The records of these rows.
+pub fn records_of(alloc: Global, rows: &[Row<'_>]) -> Result<Vec<Record>, Fail> {
+    let mut records = Vec::new(alloc);
+    for row in rows {
+        records.push(row.record(alloc)?)?;
+    }
+    Ok(records)
+}
+
+/// A keeper in memory that holds the records of these rows.
+pub fn keeper_of(alloc: Global, rows: &[Row<'_>]) -> Result<ListKeep, Fail> {
+    Ok(ListKeep::of(alloc, records_of(alloc, rows)?))
+}
+
+/// These rows as the text of their records.
+pub fn listed_of(alloc: Global, rows: &[Row<'_>]) -> Result<Vec<u8>, Fail> {
+    listed(alloc, &records_of(alloc, rows)?)
 }
 
 /// The records as text, to compare them: for each its name, size and state, its reason, and then its parts, as

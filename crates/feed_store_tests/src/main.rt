@@ -14,13 +14,7 @@
 //!     records                  what the keeper holds
 #![tactic(auto)]
 
-#[cfg(test)]
-mod adopting;
-#[cfg(test)]
-mod feeds;
 mod steps;
-#[cfg(test)]
-mod stops;
 
 use std::env;
 use std::test::Fail;

@@ -1,4 +1,4 @@
-//! Files that stop at a call, and databases over files.
+// Files that stop at a call, and databases over files.
 ghost use Rattle.std.specs.Prelude.{◌≡◌, false, IfOk};
 
 use sqlite::Connection;

@@ -1,8 +1,8 @@
-//! Databases with the tables of a keeper, as texts.
-ghost use Rattle.std.specs.Prelude.{◌≡◌, false, IfOk};
+// Databases with the tables of layout 1, as texts.
+ghost use Rattle.std.specs.Prelude.{◌≡◌, false};
 
 use feed_store::SqlKeep;
-use sqlite::{Alter, Connection, MemStore};
+use sqlite::{Alter, Connection};
 use std::alloc::Global;
 use std::test::Fail;
 
@@ -29,34 +29,8 @@ pub const PIECE: &str = "CREATE TABLE feed_piece (
   CHECK (place >= 0)
 ) STRICT;";
 
-/// That of their reasons, which layout 2 has.
-pub const REASON: &str = "CREATE TABLE feed_reason (
-  name TEXT NOT NULL PRIMARY KEY REFERENCES feed_release (name) ON DELETE CASCADE,
-  reason INTEGER NOT NULL,
-  label INTEGER NOT NULL,
-  CHECK (reason BETWEEN 1 AND 5),
-  CHECK (label BETWEEN 0 AND 13)
-) STRICT;";
-
 /// The number of layout 1.
 pub const NUMBER: &str = "INSERT INTO feed_layout VALUES (1);";
-
-/// The number of layout 2.
-pub const SECOND: &str = "INSERT INTO feed_layout VALUES (2);";
-
-/// A database in memory over which these texts ran.
-pub fn database_of(alloc: Global, texts: &[&str]) -> Result<Connection<MemStore>, Fail>
-    ensures { IfOk result (λ conn. conn.in_transaction ≡ false) }
-{
-    let mut conn = Connection::open_in_memory(alloc)?;
-    for text in texts {
-        conn.execute_batch(text)?;
-    }
-    if !conn.is_autocommit() {
-        return Err(Fail::new("a transaction is open"));
-    }
-    Ok(conn)
-}
 
 /// The keeper over a database.
 pub fn adopted<S: Alter + Drop>(alloc: Global, conn: Connection<S>) -> Result<SqlKeep<S>, Fail>
