@@ -6,16 +6,9 @@ use feed_kbart::{FileCount, KbartFault, count_file};
 use feed_limits::FILE_LIMIT;
 use feed_names::{NameFault, ReleaseName};
 use feed_report::{Form, Report};
+use feed_words::Manner;
 use std::alloc::Global;
 use std::io::{ErrorKind, Read, Write};
-
-/// How a list is checked.
-#[derive(Clone, Copy, Debug, PartialEq, Eq)]
-pub struct Manner {
-    pub form: Form,
-    /// A record that is set aside is refused, as a bad file is.
-    pub strict: bool,
-}
 
 /// Reads a file under its name and prints what it holds to `out`, in a form: `release NAME`, `rows N aside M`, and a
 /// line `aside NUMBER REASON` for each record that is set aside, or what `Form` says in place of it. A bad file prints

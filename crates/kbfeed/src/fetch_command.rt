@@ -3,21 +3,13 @@ use crate::causes::cause_of_name;
 use crate::database::{Database, close_keeper, open_feed};
 use crate::progress::Progress;
 use crate::status::{FAILED, Faults, MISUSED};
-use crate::tcp_dial::TcpDial;
-use crate::timed::Cause;
 use feed_fetch::fetch_with;
 use feed_http::is_host;
 use feed_limits::PIECE_LIMIT;
 use feed_names::{NameFault, ReleaseName};
+use feed_sockets::{Cause, TcpDial};
+use feed_words::Fetching;
 use std::io::{IsTerminal, Write};
-use std::time::Duration;
-
-/// How many bytes a request asks for, 1 to 1,048,576, and how long a connection may take.
-#[derive(Clone, Copy)]
-pub struct Fetching {
-    pub piece: u64,
-    pub time: Duration,
-}
 
 /// Fetches the release of a name from a host and port, as `fetch_with` does, into a database. What happens is printed
 /// to `out`, each line at once; where standard error is a terminal, a line there shows how far it is. The first fault

@@ -1,15 +1,11 @@
 //! kbfeed: a feed of holdings lists of serials and books (KBART files) for a fleet of OpenURL link resolvers.
 #![tactic(auto)]
 
-mod access_log;
 mod answer_command;
 mod ask_command;
 mod causes;
 mod check_command;
-mod command_line;
 mod database;
-mod exchanged;
-mod feeding;
 mod fetch_command;
 mod files;
 mod folder;
@@ -21,21 +17,16 @@ mod serve_command;
 mod stack;
 mod status;
 mod status_command;
-mod tcp_dial;
-mod timed;
 mod token;
 mod why_command;
 
-use check_command::Manner;
 use clap::error::ErrorKind;
-use command_line::{From, Request};
 use database::DatabaseFile;
 use feed_http::is_host;
-use feeding::Source;
+use feed_node_desk::Source;
+use feed_words::{From, Hosting, Manner, Request, Serving};
 use files::Disk;
 use folder::Folder;
-use node_command::Hosting;
-use serve_command::Serving;
 use status::{DONE, FAILED, Faults, MISUSED, REFUSED};
 use std::fs::File;
 use std::io;
@@ -61,7 +52,7 @@ fn status_of(rt: &HostRuntime) -> u8 {
     if !stack::is_taken(words.len()) {
         return faults.told("Memory", FAILED);
     }
-    let (is_verbose, request) = match command_line::read(rt.alloc(), words.as_slice()) {
+    let (is_verbose, request) = match feed_words::read(rt.alloc(), words.as_slice()) {
         Ok(read) => read,
         Err(error) if error.kind() == ErrorKind::OutOfMemory => {
             return faults.told("Memory", FAILED);

@@ -1,18 +1,12 @@
 //! `kbfeed serve`: a folder of releases for any HTTP client.
 use crate::status::{DONE, FAILED, Faults};
-use crate::timed::{TimedReader, TimedWriter};
 use feed_http::{HttpFault, Shelf, serve_one};
+use feed_sockets::{TimedReader, TimedWriter};
+use feed_words::Serving;
 use std::io;
 use std::io::{ErrorKind, Read, Write};
 use std::net::{Shutdown, TcpListener, TcpStream};
 use std::time::Duration;
-
-/// How many connections are served, and how long one may take for its request, and for its reply.
-#[derive(Clone, Copy)]
-pub struct Serving {
-    pub count: u64,
-    pub time: Duration,
-}
 
 /// Serves connections one after another from a shelf, and prints for each `served STATUS` or `fault NAME`, at once. The
 /// result is the exit status: 0 once all were served, whatever their lines are, and 3 where no connection could be

@@ -1,5 +1,6 @@
 //! The log of a node: a common log line for each request.
-use crate::node_command::{Desk, is_post};
+use crate::desk::Desk;
+use crate::resolver::is_post;
 use feed_dates::write_date;
 use feed_node::{Connection, UNAVAILABLE};
 use feed_node_loop::Log;
