@@ -1,7 +1,7 @@
 //! `kbfeed node`: a link resolver that answers readers over HTTP from the database of a node, and takes in releases.
 use crate::database::{Database, close_keeper, open_feed};
 use crate::status::{FAILED, Faults};
-use feed_node_desk::{End, Source, work};
+use feed_node_desk::{End, Source, run};
 use feed_node_loop::{Server, Settings};
 use feed_words::Hosting;
 use std::io;
@@ -26,7 +26,7 @@ pub fn node_on<D: Database, O: Write, F: Write + Drop>(
     };
     let end = match bound(rt, addr, hosting) {
         Ok(mut server) => match announced(out) {
-            Ok(()) => work(rt, &mut feed, &mut server, source, out),
+            Ok(()) => run(rt, &mut feed, &mut server, source, out),
             Err(fault) => End::Print(fault),
         },
         Err(fault) => {
