@@ -1,9 +1,9 @@
 // Worlds of published files and nodes.
 use crate::told::{Events, File, Told, printed};
-use feed_core::{Keep, Line, ListKeep, ReplayFault, Reply, State, Why, WriteFault, replay};
+use feed_core::{Keep, Line, ListKeep, Record, ReplayFault, Reply, State, Why, WriteFault, replay};
 use feed_samples::{
     FEBRUARY, Failing, HEADER, HEADER_WITHOUT_URL, JANUARY, MARCH, Row, WITHOUT_URL, content_of,
-    february_file, january_file, keeper_of, listed_of,
+    february_file, january_file, listed, listed_of,
 };
 use std::alloc::Global;
 use std::process::Abort;
@@ -40,35 +40,41 @@ fn a_world_has_1_to_16_nodes(rt: HostRuntime) -> Result<(), Fail> {
 }
 
 // Expects no world to begin whose node of this number has a keeper with this record, and to get the keeper back.
-fn expect_no_start(rt: &impl Abort, alloc: Global, number: u64, row: Row<'_>) -> Result<(), Fail> {
+fn expect_no_start(
+    rt: &impl Abort,
+    alloc: Global,
+    number: u64,
+    record: Record,
+) -> Result<(), Fail> {
+    let records = Vec::from_array(alloc, [record])?;
+    let given = listed(alloc, &records)?;
     let mut keepers = empty_keepers(alloc, number.saturating_sub(1))?;
-    keepers.push(keeper_of(alloc, &[row])?)?;
+    keepers.push(ListKeep::of(alloc, records))?;
     keepers.push(ListKeep::new(alloc))?;
     let Err(ReplayFault::Start { node, mut keeper }) = replay(alloc, keepers, &[]) else {
         return Err(Fail::new("the replay began"));
     };
     assert_eq!(rt; node as u64, number);
     let content = content_of(alloc, &mut keeper)?;
-    assert!(rt; content == listed_of(alloc, &[row])?, "{number}");
+    assert!(rt; content == given, "{number}");
     Ok(())
 }
 
 #[test]
 fn a_node_starts_on_a_keeper_that_holds_nothing(rt: HostRuntime) -> Result<(), Fail> {
     let alloc = rt.alloc();
-    let file = january_file(alloc)?;
-    let whole = [(0, file.as_slice())];
     let rows = [
         (1, Row::new(JANUARY, 10, State::Staged, &[])),
         (2, Row::new(JANUARY, 10, State::Staged, &[(2, b"23")])),
-        (3, Row::new(JANUARY, 205, State::Active, &whole)),
         // A record that no feed ever keeps.
         (2, Row::new(JANUARY, 10, State::Active, &[(2, b"23")])),
     ];
     for (number, row) in rows {
-        expect_no_start(&rt, alloc, number, row)?;
+        expect_no_start(&rt, alloc, number, row.record(alloc)?)?;
     }
-    Ok(())
+    let file = january_file(alloc)?;
+    let active = Row::new(JANUARY, 205, State::Active, &[(0, &file)]).record(alloc)?;
+    expect_no_start(&rt, alloc, 3, active)
 }
 
 #[test]
@@ -122,26 +128,24 @@ fn a_transcript_has_a_line_for_each_event(rt: HostRuntime) -> Result<(), Fail> {
     Ok(())
 }
 
-// What the three nodes of the next test keep.
-fn three_contents(alloc: Global) -> Result<Vec<Vec<u8>>, Fail> {
+// What the first node of the next test keeps.
+fn first_content(alloc: Global) -> Result<Vec<u8>, Fail> {
     let file = january_file(alloc)?;
-    let later_file = february_file(alloc)?;
-    let whole = [(0, file.as_slice())];
-    let later = [(0, later_file.as_slice())];
-    let first = [
-        Row::new(JANUARY, 205, State::Active, &whole),
-        Row::new(FEBRUARY, 243, State::Staged, &[(0, HEADER)]),
-        Row::new(MARCH, 141, State::Staged, &[]),
-    ];
-    let third = [
-        Row::new(FEBRUARY, 243, State::Active, &later),
-        Row::broken(MARCH, 141, WITHOUT_URL, &[(0, HEADER_WITHOUT_URL)]),
-    ];
-    let mut contents = Vec::new(alloc);
-    for rows in [first.as_slice(), &[], &third] {
-        contents.push(listed_of(alloc, rows)?)?;
-    }
-    Ok(contents)
+    let mut records = Vec::new(alloc);
+    records.push(Row::new(JANUARY, 205, State::Active, &[(0, &file)]).record(alloc)?)?;
+    records.push(Row::new(FEBRUARY, 243, State::Staged, &[(0, HEADER)]).record(alloc)?)?;
+    records.push(Row::new(MARCH, 141, State::Staged, &[]).record(alloc)?)?;
+    listed(alloc, &records)
+}
+
+// What the third one keeps.
+fn third_content(alloc: Global) -> Result<Vec<u8>, Fail> {
+    let file = february_file(alloc)?;
+    let bad = [(0, HEADER_WITHOUT_URL)];
+    let mut records = Vec::new(alloc);
+    records.push(Row::new(FEBRUARY, 243, State::Active, &[(0, &file)]).record(alloc)?)?;
+    records.push(Row::broken(MARCH, 141, WITHOUT_URL, &bad).record(alloc)?)?;
+    listed(alloc, &records)
 }
 
 #[test]
@@ -167,7 +171,12 @@ fn each_node_hands_back_what_it_keeps(rt: HostRuntime) -> Result<(), Fail> {
     let events = Events::of(alloc, &told)?;
     let kept = events.shown(empty_keepers(alloc, 3)?)?.into_keepers();
     assert_eq!(rt; kept.len(), 3);
-    for (mut keeper, content) in kept.into_iter().zip(three_contents(alloc)?) {
+    let expected = [
+        first_content(alloc)?,
+        Vec::new(alloc),
+        third_content(alloc)?,
+    ];
+    for (mut keeper, content) in kept.into_iter().zip(expected) {
         assert!(rt; content_of(alloc, &mut keeper)? == content);
     }
     Ok(())
@@ -315,8 +324,8 @@ fn a_node_that_is_down_hands_back_its_keeper(rt: HostRuntime) -> Result<(), Fail
     let shown = events.shown(keepers)?;
     let text: &[u8] = b"published\nnoted\nactivated\ndown Device\n";
     assert_eq!(rt; printed(alloc, &shown)?.as_slice(), text);
-    let parts = [(0, file.as_slice())];
-    let expected = listed_of(alloc, &[Row::new(JANUARY, 205, State::Active, &parts)])?;
+    let record = Row::new(JANUARY, 205, State::Active, &[(0, &file)]).record(alloc)?;
+    let expected = listed(alloc, &[record])?;
     let mut kept = shown.into_keepers();
     assert_eq!(rt; kept.len(), 1);
     for keeper in &mut kept {

@@ -6,8 +6,7 @@ use feed_limits::PIECE_LIMIT;
 use feed_releases::{Feed, OpenFault, Reply};
 use feed_samples::{
     ACTA, BETA, FEBRUARY, Failing, HEADER, HEADER_WITHOUT_URL, JANUARY, MARCH, PACKAGE, Row,
-    WITHOUT_URL, content_of, february_file, january_file, keeper_of, listed, listed_of, name_of,
-    records_of,
+    WITHOUT_URL, content_of, february_file, january_file, keeper_of, listed, name_of, records_of,
 };
 use std::alloc::Global;
 use std::process::Abort;
@@ -36,15 +35,13 @@ fn a_keeper_without_records_opens(rt: HostRuntime) -> Result<(), Fail> {
 fn three_listed(alloc: Global) -> Result<Vec<u8>, Fail> {
     let active = january_file(alloc)?;
     let staged = february_file(alloc)?;
-    let active = [(0, active.as_slice())];
-    let staged = [(0, cut(&staged, 0, 200))];
-    let broken = [(0, HEADER_WITHOUT_URL)];
-    let rows = [
-        Row::new(JANUARY, 205, State::Active, &active),
-        Row::new(FEBRUARY, 243, State::Staged, &staged),
-        Row::broken(MARCH, 141, WITHOUT_URL, &broken),
-    ];
-    listed_of(alloc, &rows)
+    let mut records = Vec::new(alloc);
+    records.push(Row::new(JANUARY, 205, State::Active, &[(0, &active)]).record(alloc)?)?;
+    records.push(Row::new(FEBRUARY, 243, State::Staged, &[(0, cut(&staged, 0, 200))]).record(
+        alloc,
+    )?)?;
+    records.push(Row::broken(MARCH, 141, WITHOUT_URL, &[(0, HEADER_WITHOUT_URL)]).record(alloc)?)?;
+    listed(alloc, &records)
 }
 
 // Offers a release, and hands in its first bytes.
@@ -132,10 +129,14 @@ fn a_feed_answers_after_a_restart(rt: HostRuntime) -> Result<(), Fail> {
 fn records_and_parts_are_put_in_order(rt: HostRuntime) -> Result<(), Fail> {
     let alloc = rt.alloc();
     // By bytes `-` stands before `_`, and this before the letters.
-    let hyphen = "A-B_2024-03-01.txt";
     let given = [
         Row::new("B_2024-02-01.txt", 10, State::Staged, &[]),
-        Row::new(hyphen, 10, State::Staged, &[(6, b"67"), (2, b"23")]),
+        Row::new(
+            "A-B_2024-03-01.txt",
+            10,
+            State::Staged,
+            &[(6, b"67"), (2, b"23")],
+        ),
         Row::new("A_2024-02-01.txt", 10, State::Staged, &[]),
         Row::new("A_2024-01-01.txt", 10, State::Staged, &[]),
     ];
@@ -146,7 +147,7 @@ fn records_and_parts_are_put_in_order(rt: HostRuntime) -> Result<(), Fail> {
     assert_eq!(rt; content.as_slice(), expected.as_slice());
     let feed = feed_over(alloc, keeper)?;
     assert_eq!(rt; feed.report(b"A"), None);
-    let staged = name_of(alloc, hyphen)?;
+    let staged = name_of(alloc, "A-B_2024-03-01.txt")?;
     assert_eq!(rt; feed.next_range(&staged, 100), Some((0, 1)));
     let content = content_of(alloc, &mut feed.restart())?;
     assert_eq!(rt; content.as_slice(), expected.as_slice());
@@ -173,10 +174,10 @@ fn pieces_in_any_order_are_loaded_in_order(rt: HostRuntime) -> Result<(), Fail> 
     for number in 1..41u64 {
         parts.push((number * 5, cut(&file, number * 5, 5)))?;
     }
-    let staged = Row::new(JANUARY, 205, State::Staged, &parts);
+    let staged = [Row::new(JANUARY, 205, State::Staged, &parts).record(rt.alloc())?];
     let mut keeper = feed.restart();
     let content = content_of(rt.alloc(), &mut keeper)?;
-    assert!(rt; content == listed_of(rt.alloc(), &[staged])?);
+    assert!(rt; content == listed(rt.alloc(), &staged)?);
     let mut feed = feed_over(rt.alloc(), keeper)?;
     assert_eq!(rt;
         told(&mut feed, &name, 0, cut(&file, 0, 5)),

@@ -1,11 +1,11 @@
 // Feeds that stop in the middle of an event.
 use crate::feeds::{cut, feed_over};
 use feed_kbart::BadFile;
-use feed_keep::{Keep, ListKeep, State};
+use feed_keep::{Keep, ListKeep, Record, State};
 use feed_releases::{Event, Point};
 use feed_samples::{
     FEBRUARY, Failing, HEADER, HEADER_WITHOUT_URL, JANUARY, MARCH, Row, WITHOUT_URL, content_of,
-    february_file, january_file, keeper_of, listed_of, name_of,
+    february_file, january_file, listed, name_of,
 };
 use std::alloc::Global;
 use std::process::Abort;
@@ -17,20 +17,29 @@ const APRIL: &str = "Acme_Global_All_2024-04-01.txt";
 
 const POINTS: [Point; 2] = [Point::Before, Point::After];
 
+// March's release, of which the last bytes are missing.
+fn march(alloc: Global) -> Result<Record, Fail> {
+    Row::new(
+        MARCH,
+        141,
+        State::Staged,
+        &[(0, cut(HEADER_WITHOUT_URL, 0, 100))],
+    )
+    .record(alloc)
+}
+
 // What a keeper holds before the event: January's release is active, and of February's and March's the last bytes are
 // missing.
 fn before(alloc: Global) -> Result<ListKeep, Fail> {
     let january = january_file(alloc)?;
     let february = february_file(alloc)?;
-    let january = [(0, january.as_slice())];
-    let february = [(0, cut(&february, 0, 200))];
-    let march = [(0, cut(HEADER_WITHOUT_URL, 0, 100))];
-    let rows = [
-        Row::new(JANUARY, 205, State::Active, &january),
-        Row::new(FEBRUARY, 243, State::Staged, &february),
-        Row::new(MARCH, 141, State::Staged, &march),
-    ];
-    keeper_of(alloc, &rows)
+    let mut records = Vec::new(alloc);
+    records.push(Row::new(JANUARY, 205, State::Active, &[(0, &january)]).record(alloc)?)?;
+    records.push(Row::new(FEBRUARY, 243, State::Staged, &[(0, cut(&february, 0, 200))]).record(
+        alloc,
+    )?)?;
+    records.push(march(alloc)?)?;
+    Ok(ListKeep::of(alloc, records))
 }
 
 fn content_before(alloc: Global) -> Result<Vec<u8>, Fail> {
@@ -131,13 +140,12 @@ fn a_stop_in_the_last_piece_switches_or_not(rt: HostRuntime) -> Result<(), Fail>
     let alloc = rt.alloc();
     let file = february_file(alloc)?;
     let piece = cut(&file, 200, 43);
-    let february = [(0, cut(&file, 0, 200)), (200, piece)];
-    let march = [(0, cut(HEADER_WITHOUT_URL, 0, 100))];
-    let rows = [
-        Row::new(FEBRUARY, 243, State::Active, &february),
-        Row::new(MARCH, 141, State::Staged, &march),
-    ];
-    expect_stops(&rt, alloc, (FEBRUARY, 200, piece), listed_of(alloc, &rows)?)
+    let mut records = Vec::new(alloc);
+    let parts = [(0, cut(&file, 0, 200)), (200, piece)];
+    records.push(Row::new(FEBRUARY, 243, State::Active, &parts).record(alloc)?)?;
+    records.push(march(alloc)?)?;
+    let switched = listed(alloc, &records)?;
+    expect_stops(&rt, alloc, (FEBRUARY, 200, piece), switched)
 }
 
 #[test]
