@@ -1,7 +1,7 @@
 //! A feed over a database file, led by the words of the command line: what the tests of the keeper over SQL, and the
 //! measurement of it, run.
 //!
-//!     feed_store_tests DATABASE STEP..
+//!     feed_store_driver DATABASE STEP..
 //!
 //! The steps:
 //!
@@ -26,7 +26,7 @@ fn main(rt: HostRuntime) -> Result<(), Fail> {
         words.push(word)?;
     }
     let [_, path, steps @ ..] = words.as_slice() else {
-        return Err(Fail::new("feed_store_tests DATABASE STEP.."));
+        return Err(Fail::new("feed_store_driver DATABASE STEP.."));
     };
     let database = DatabaseFile {
         rt: &rt,
