@@ -10,7 +10,7 @@ OUT = out
 
 SOURCES = crates.txt $(shell find crates -name out -prune -o \( -name '*.rt' -o -name '*.antt' \) -print)
 DOC = share/doc/kbfeed
-PAGES = README.md CHANGELOG.md $(wildcard docs/*.md docs/*.svg docs/*.png samples/*.script samples/*.transcript \
+PAGES = README.md CHANGELOG.md LICENSE SECURITY.md $(wildcard docs/*.md docs/*.svg docs/*.png samples/*.script samples/*.transcript \
 	samples/lists/* samples/fleet/*)
 # What is installed beside the program: each file, and its place below PREFIX.
 DATA = man/kbfeed.1:share/man/man1/kbfeed.1 \
@@ -20,17 +20,26 @@ DATA = man/kbfeed.1:share/man/man1/kbfeed.1 \
 	$(foreach page,$(PAGES),$(page):$(DOC)/$(page))
 INTO = $(DESTDIR)$(PREFIX)
 
-.PHONY: help build replay test install uninstall deb
+.PHONY: help build replay test sessions pages check fmt lint install uninstall deb
 
 help:
-	@echo "make build      proves and builds the program, and leaves it at $(BUILT)"
-	@echo "make replay     builds the program, runs the scripts of samples/ through it, and compares what it prints"
-	@echo "make test       the gate: every proof from nothing, the edits that must fail, the tests, the program's sessions"
+	@echo "make build      proves the crates side by side, builds the program, and leaves it at $(BUILT)"
+	@echo "make replay     replays the scripts of samples/ by the proved program, or, while there is none that is newer"
+	@echo "                than the sources, by a small program without proof; it compares the transcripts"
+	@echo "make test       what CI runs: the pages, every proof, the mutants that must be rejected, and the sessions"
 	@echo "make install    installs the program, its page, its completions and its docs below DESTDIR and PREFIX"
 	@echo "                ($(PREFIX)); it builds a program that is missing or older than a source, and PROGRAM=FILE"
 	@echo "                installs one as it is"
 	@echo "make uninstall  removes what make install put there"
-	@echo "make deb        makes a Debian package of it, which installs below /usr, in $(OUT)"
+	@echo "make deb        makes a Debian package of it, which installs below /usr, in $(OUT); DEBFULLNAME and DEBEMAIL"
+	@echo "                name its maintainer"
+	@echo
+	@echo "For daily work:"
+	@echo "make check CRATE=x       proves one crate over the work that earlier checks kept"
+	@echo "make sessions [ONLY=x]   runs the sessions of tests/, or one of them, with the program that is built"
+	@echo "make pages               compares the pages with the sources and the sessions"
+	@echo "make fmt                 lays out every crate's sources, as the proofs require"
+	@echo "make lint                widths and module docs, and shellcheck and a Python linter if they are installed"
 
 build:
 	@tools/build
@@ -39,17 +48,28 @@ build:
 $(BUILT): $(SOURCES)
 	@tools/build && touch $@
 
-replay: build
-	@for sample in samples/first samples/two_nodes; do \
-		echo "$$sample.script" >&2; \
-		$(BUILT) replay < $$sample.script > crates/kbfeed/out/transcript || exit; \
-		cat crates/kbfeed/out/transcript; \
-		cmp crates/kbfeed/out/transcript $$sample.transcript || exit; \
-	done
+replay:
+	@tools/replay $(REPLAY)
 
 test:
 	@began=$$(date +%s); tools/check_pages && rt ci && tests/run; status=$$?; spent=$$(($$(date +%s) - began)); \
 	echo "the gate took $$((spent / 60)) min $$((spent % 60)) s on $$(nproc) processors"; exit $$status
+
+check:
+	@[ -d "crates/$(CRATE)/src" ] || { echo "make check CRATE=NAME: a crate of crates.txt" >&2; exit 2; }
+	@cd "crates/$(CRATE)" && rt check
+
+sessions:
+	@tests/run $(if $(ONLY),$(firstword $(wildcard tests/$(ONLY).session tests/*/$(ONLY).session) tests/$(ONLY).session))
+
+pages:
+	@tools/check_pages
+
+fmt:
+	@for crate in crates/*; do (cd "$$crate" && rt fmt) || exit; done
+
+lint:
+	@tools/lint
 
 install: $(PROGRAM)
 	@put() { install -d "$${3%/*}" && install -m "$$1" "$$2" "$$3" && echo "$$3"; }; \

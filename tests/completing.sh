@@ -1,6 +1,7 @@
 # For sessions of completions. Each defines `offered LINE..`, which prints each line with all that its shell offers at
 # its end. `all_offers` prints the commands that are offered, and the options of each, as command_words.py does.
 all_offers() {
+  # shellcheck disable=SC2046 # the words apart
   set -- $(offered 'kbfeed ')
   shift
   printf 'kbfeed %s\n' "$@" > offers

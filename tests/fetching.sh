@@ -3,7 +3,7 @@
 # Waits until a file has a line, or so many, for half a minute at most.
 filled() {
   touch "$1"
-  for turn in $(seq 600); do [ $(wc -l < "$1") -ge ${2:-1} ] && return; sleep 0.05; done
+  for turn in $(seq 600); do [ "$(wc -l < "$1")" -ge "${2:-1}" ] && return; sleep 0.05; done
   echo "$1 stays short"; return 1
 }
 
