@@ -1,7 +1,10 @@
 #!/usr/bin/env python3
-"""node_hostile.py ADDR PID LONG MILLIS: a thousand clients that do a node harm if it lets them, and beside them one that
-asks as it should. LONG is a target with a long reply. The well-behaved client has to get each of its answers, none of
-them later than after MILLIS, and the node must not take more than 64 MiB beyond what it had. The clients are
+"""Runs a thousand clients that harm a node if it lets them, beside one well-behaved client.
+
+node_hostile.py [-v] ADDR PID LONG MILLIS
+
+LONG is a target with a long reply. The well-behaved client has to get each of its answers within MILLIS, and the node
+must not take more than 64 MiB beyond what it had. The clients are
 
   silent     400 that connect and send nothing
   slow       200 that send a byte of a head each second
@@ -9,7 +12,7 @@ them later than after MILLIS, and the node must not take more than 64 MiB beyond
   unread     100 that ask for LONG, and read nothing
   reset      100 that go away in the middle of a head, again and again
 
-Prints what is wrong, and the kinds; with `-v` before ADDR also the figures."""
+Prints what is wrong, and the kinds; with `-v` also the figures."""
 import socket
 import sys
 import time
