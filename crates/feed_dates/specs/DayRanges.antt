@@ -1,10 +1,10 @@
--- The days that a text of a date names.
+-- The range of days that a date text covers: a year, a month or a day.
 use Rattle.std.specs.Prelude.{◌==◌, Option, Some, None, if◌then◌else◌, option_map, ◌≡◌, ℕ, ◌⊎◌, List, [], ◌∷◌, ◌++◌, length, ℤ, pos, ◌≤ℤ◌, MatchOption}
 use Rattle.jiff_core.specs.Calendar.{days_from_civil, days_in_month}
 use Rattle.feed_dates.specs.Days.{IsDay, day_number, day_of_date, four_digits, two_digits, written}
 use Rattle.feed_dates.specs.declared.day_range.DayRange.{DayRange}
 
--- from one day to another, where both are real
+-- the range from one day to another, if both are real
 abbrev pub range : Option ℤ → Option ℤ → Option DayRange
 range (Some first) (Some last) = Some (record { first = first; last = last })
 range None last = None
@@ -26,14 +26,14 @@ days_of_month (Some year) None = None
 abbrev pub alone : ℤ → DayRange
 alone day = record { first = day; last = day }
 
--- the days of a date `YYYY`, `YYYY-MM` or `YYYY-MM-DD`, if the text is one
+-- the days of a date `YYYY`, `YYYY-MM` or `YYYY-MM-DD`; any other text has none
 abbrev pub days_of : List ℕ → Option DayRange
 days_of (a ∷ b ∷ c ∷ d ∷ []) = days_of_year (four_digits a b c d)
 days_of (a ∷ b ∷ c ∷ d ∷ h ∷ e ∷ f ∷ []) = if h == 45 then days_of_month (four_digits a b c d) (two_digits e f) else None
 days_of (a ∷ b ∷ c ∷ d ∷ h ∷ e ∷ f ∷ k ∷ i ∷ j ∷ []) = option_map alone (day_of_date (a ∷ b ∷ c ∷ d ∷ h ∷ e ∷ f ∷ k ∷ i ∷ j ∷ []))
 days_of _ = None
 
--- a date of a query: `YYYYMM` and `YYYYMMDD` are given their hyphens
+-- a date of a query, in the form of a coverage date: `YYYYMM` and `YYYYMMDD` get their hyphens
 abbrev pub hyphened : List ℕ → List ℕ
 hyphened (a ∷ b ∷ c ∷ d ∷ e ∷ f ∷ []) = a ∷ b ∷ c ∷ d ∷ 45 ∷ e ∷ f ∷ []
 hyphened (a ∷ b ∷ c ∷ d ∷ e ∷ f ∷ g ∷ h ∷ []) = a ∷ b ∷ c ∷ d ∷ 45 ∷ e ∷ f ∷ 45 ∷ g ∷ h ∷ []
@@ -65,7 +65,7 @@ pub record AreDaysOf (text : List ℕ) (days : DayRange) : Type 0 where
   pub least : (n : ℤ) → IsDayOf text n → days.first ≤ℤ n
   pub greatest : (n : ℤ) → IsDayOf text n → n ≤ℤ days.last
 
--- the days of a text are the least and the greatest whose written date begins with it; a text that is as
--- long as a date and has no days begins no day's written date
+-- the days of a text are the least and the greatest whose written date begins with it; if a text has the length
+-- of a date and no days, no day's written date begins with it
 abbrev pub DatesAreRanges : List ℕ → Type 0
 DatesAreRanges text = MatchOption (days_of text) (IsDateLength text → (n : ℤ) → ¬ IsDayOf text n) (AreDaysOf text)

@@ -31,19 +31,19 @@ pub record IsDateOf (number : ℤ) (text : List ℕ) : Type 0 where
   pub spelled : text ≡ written year month day
   pub numbered : number ≡ days_from_civil (pos year) month day
 
--- the same, computed by reading the text
+-- the same relation as a function that parses the text
 
--- the number that two digits write
+-- the number that two digits denote
 abbrev pub two_digits : ℕ → ℕ → Option ℕ
 two_digits a b = if is_ascii_digit a && is_ascii_digit b then Some ((a - 48) * 10 + (b - 48)) else None
 
--- the number that four digits write
+-- the number that four digits denote
 abbrev pub four_digits : ℕ → ℕ → ℕ → ℕ → Option ℕ
 four_digits a b c d =
     if is_ascii_digit a && is_ascii_digit b && is_ascii_digit c && is_ascii_digit d
     then Some ((a - 48) * 1000 + (b - 48) * 100 + (c - 48) * 10 + (d - 48)) else None
 
--- the calendar has this day, in a year from 1 to 9999, as a test
+-- whether the calendar has this day, in a year from 1 to 9999
 abbrev pub is_day : ℕ → ℕ → ℕ → Bool
 is_day year month day =
     nat_le 1 year && nat_le year 9999 && nat_le 1 month && nat_le month 12
@@ -53,7 +53,7 @@ is_day year month day =
 abbrev pub day_number : ℕ → ℕ → ℕ → Option ℤ
 day_number year month day = if is_day year month day then Some (days_from_civil (pos year) month day) else None
 
--- the number of the day of a year, a month and a day of it, where each was read
+-- the number of the day with this year, month and day of the month, if each was parsed
 abbrev pub day_of_parts : Option ℕ → Option ℕ → Option ℕ → Option ℤ
 day_of_parts (Some year) (Some month) (Some day) = day_number year month day
 day_of_parts None month day = None
@@ -66,9 +66,9 @@ day_of_date (a ∷ b ∷ c ∷ d ∷ h ∷ e ∷ f ∷ k ∷ i ∷ j ∷ []) =
     if (h == 45) && (k == 45) then day_of_parts (four_digits a b c d) (two_digits e f) (two_digits i j) else None
 day_of_date _ = None
 
--- and the other way, from the number to the text
+-- the inverse: from the number to the text
 
--- the greatest number up to n whose span begins on the day or before it
+-- the greatest number up to n whose span begins on or before the day
 unfoldable pub last_begun : (ℕ → ℤ) → ℕ → ℤ → ℕ
 last_begun start zero day = 0
 last_begun start (suc n) day = if int_le (start (suc n)) day then suc n else last_begun start n day
@@ -87,7 +87,7 @@ date_text day =
     written (year_of day) (month_of day)
     (unsigned_abs (day -ℤ days_from_civil (pos (year_of day)) (month_of day) 1) + 1)
 
--- the same, if the day has one: if the text reads as that day
+-- the date of a day, if it has one: the text parses as that day
 abbrev pub date_of_day : ℤ → Option (List ℕ)
 date_of_day day = if option_map_or (int_eq day) (day_of_date (date_text day)) false then Some (date_text day) else None
 

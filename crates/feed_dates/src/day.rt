@@ -1,3 +1,4 @@
+//! Parsing and writing one day as `YYYY-MM-DD`, and its number counted from 1970-01-01.
 ghost use Rattle.std.specs.Prelude.{◌≡◌, ◌<◌, ℤ, pos, IfSome, MatchOption, option_map};
 ghost use Rattle.jiff.specs.Words.{IsYmd, epoch_day};
 ghost use Rattle.feed_dates.specs.Days.{IsDateOf, date_of_day, day_number, day_of_date, four_digits, two, two_digits};
@@ -6,16 +7,16 @@ ghost use Rattle.feed_dates.specs.Days.{written};
 use jiff::civil::Date;
 use jiff_core::civil::Date as PlainDate;
 
-/// The number of the day that `YYYY-MM-DD` names, counted from 1970-01-01. A text of another form has none, and
-/// so has a day that the calendar lacks in the years 0001 to 9999. It does not trim.
+/// Parses `YYYY-MM-DD` and returns the day's number, counted from 1970-01-01. Returns `None` for a text of another
+/// form, and for a day that the calendar of the years 0001 to 9999 does not have. Does not trim.
 pub fn read_date(text: &[u8]) -> Option<i32>
     ensures { MatchOption result ((n : ℤ) → ¬ (IsDateOf n text.now)) (λ n. IsDateOf n text.now) }
 {
     day_of(text)
 }
 
-/// The date of a day, `YYYY-MM-DD`, by the day's number, which is counted from 1970-01-01. A day outside the years 0001
-/// to 9999 has none.
+/// Returns the date `YYYY-MM-DD` of the day with this number, counted from 1970-01-01, or `None` for a day outside the
+/// years 0001 to 9999.
 pub fn write_date(day: i32) -> Option<[u8; 10]>
     ensures { result ≡ date_of_day day }
 {
@@ -77,7 +78,7 @@ pub(crate) fn read_four(a: u8, b: u8, c: u8, d: u8) -> Option<u16>
     Some(u16::from(century) * 100 + u16::from(year))
 }
 
-/// The date, if it is real and its year is 1 to 9999.
+/// Returns the date, if it is real and its year is 1 to 9999.
 pub(crate) fn date_of(year: u16, month: u8, day: u8) -> Option<Date>
     requires year { year < 10000 }
     requires month { month < 100 }
@@ -94,14 +95,14 @@ pub(crate) fn date_of(year: u16, month: u8, day: u8) -> Option<Date>
     }
 }
 
-/// The number of a date's day, counted from 1970-01-01.
+/// Returns the number of a date's day, counted from 1970-01-01.
 pub(crate) fn day_number_of(date: Date) -> i32
     ensures { result ≡ epoch_day date }
 {
     date.to_plain().to_unix_epoch_day()
 }
 
-/// The number of a day, if it is real and its year is 1 to 9999.
+/// Returns the number of a day, if it is real and its year is 1 to 9999.
 pub(crate) fn number_of(year: u16, month: u8, day: u8) -> Option<i32>
     requires year { year < 10000 }
     requires month { month < 100 }

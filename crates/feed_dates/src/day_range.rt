@@ -1,3 +1,4 @@
+//! Ranges of days: what a coverage date of a KBART file or a date of an OpenURL query covers.
 ghost use Rattle.std.specs.Prelude.{◌≡◌, ◌<◌, Some, option_map};
 ghost use Rattle.jiff.specs.Words.{epoch_day};
 ghost use Rattle.feed_dates.specs.Days.{day_number};
@@ -6,7 +7,7 @@ ghost use Rattle.feed_dates.specs.DayRanges.{alone, days_of_month, days_of_year}
 use crate::day::{date_of, day_number_of, number_of, read_four, read_two};
 use jiff::civil::Date;
 
-/// Days from a first to a last, both included, each as its number from 1970-01-01.
+/// The days from a first to a last, both included, each as its number counted from 1970-01-01.
 #[derive(Clone, Copy, Debug, PartialEq, Eq)]
 pub struct DayRange {
     pub first: i32,
@@ -57,8 +58,8 @@ fn one_day(year: u16, month: u8, day: u8) -> Option<DayRange>
 impl DayRange {
     ghost use Rattle.feed_dates.specs.DayRanges.{days_of, query_days_of};
 
-    /// The days of a coverage date, `YYYY`, `YYYY-MM` or `YYYY-MM-DD` (NISO RP-9-2014), of the years
-    /// 0001 to 9999. Any other text, and a day that is not real, has none. It does not trim.
+    /// Parses a coverage date, `YYYY`, `YYYY-MM` or `YYYY-MM-DD` (NISO RP-9-2014), of the years 0001 to 9999. Returns
+    /// `None` for any other text and for a day that is not real. Does not trim.
     pub fn of_text(text: &[u8]) -> Option<DayRange>
         ensures { result ≡ days_of text.now }
     {
@@ -77,8 +78,7 @@ impl DayRange {
         }
     }
 
-    /// The days of a date in a query (Z39.88-2004): a coverage date, `YYYYMM` or `YYYYMMDD`. It does
-    /// not trim.
+    /// Parses a date of a query (Z39.88-2004): a coverage date, `YYYYMM` or `YYYYMMDD`. Does not trim.
     pub fn of_query(text: &[u8]) -> Option<DayRange>
         ensures { result ≡ query_days_of text.now }
     {

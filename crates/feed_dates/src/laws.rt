@@ -1,4 +1,4 @@
-//! Laws of dates, each the contract of a function that does nothing.
+//! Laws of dates, each stated as the contract of a function with an empty body.
 ghost use Rattle.std.specs.Prelude.{ℕ, List};
 ghost use Rattle.feed_dates.specs.Days.{DayNumbersFit, OneDateForDay, OneDayForDate};
 ghost use Rattle.feed_dates.specs.DayRanges.{DatesAreRanges};
@@ -8,7 +8,7 @@ pub fn one_day_for_date()
     ensures { OneDayForDate }
 {}
 
-/// A day has no other date than the one that its number spells.
+/// A day has no date other than the one that its number spells.
 pub fn one_date_for_day()
     ensures { OneDateForDay }
 {}
@@ -18,8 +18,8 @@ pub fn day_numbers_fit()
     ensures { DayNumbersFit }
 {}
 
-/// The days of a date text are the least and the greatest day whose written date `YYYY-MM-DD` begins with it, and
-/// a text that reads as no date begins no day's.
+/// The days of a date text are the least and the greatest day whose written date `YYYY-MM-DD` begins with it. If a
+/// text is not a date, no day's written date begins with it.
 pub fn dates_are_ranges()
     ensures { (text : List ℕ) → DatesAreRanges text }
 {}

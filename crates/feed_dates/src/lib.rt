@@ -1,4 +1,4 @@
-//! Days of the Gregorian calendar, and the texts that name them: `YYYY-MM-DD`, its fronts `YYYY` and
+//! Days of the Gregorian calendar, and the texts that name them: `YYYY-MM-DD`, its prefixes `YYYY` and
 //! `YYYY-MM` (ISO 8601), and the dates of a query.
 #![tactic(auto)]
 

@@ -1,16 +1,16 @@
--- Check characters, which an ISSN and an ISBN of ten characters have in common.
+-- Check characters, which ISSNs and ten-character ISBNs have in common.
 use Rattle.std.specs.Prelude.{ℕ, ◌-◌, ◌==◌, ◌||◌, Bool, if◌then◌else◌}
 use Rattle.std.specs.Char.{is_ascii_digit}
 
--- an x of either case
+-- whether a character is an x of either case
 abbrev pub is_x : ℕ → Bool
 is_x b = (b == 88) || (b == 120)
 
--- a check character is a digit or an x
+-- whether a character is a digit or an x
 abbrev pub is_check : ℕ → Bool
 is_check b = is_ascii_digit b || is_x b
 
--- the worth of a check character: an x counts ten
+-- the value of a check character: an x counts as ten
 abbrev pub check_value : ℕ → ℕ
 check_value b = if is_x b then 10 else b - 48
 

@@ -1,17 +1,17 @@
--- ISBNs, after ISO 2108: of thirteen digits, and the older form of ten characters, which stands for one of thirteen.
+-- ISBNs (ISO 2108): of thirteen digits, or in the older form of ten characters, which converts to thirteen digits.
 use Rattle.std.specs.Prelude.{◌≡◌, ℕ, ◌+◌, ◌-◌, ◌*◌, ◌%◌, ◌==◌, ◌&&◌, ◌||◌, not, Bool, List, [], ◌∷◌, Option, Some, None, if◌then◌else◌, slice_index}
 use Rattle.std.specs.List.{filter}
 use Rattle.std.specs.Char.{is_ascii_digit}
 use Rattle.feed_identifiers.specs.Check.{check_value, is_check}
 use Rattle.feed_identifiers.specs.Text.{trimmed}
 
--- nine digits
+-- whether all nine are digits
 abbrev pub are_nine_digits : ℕ → ℕ → ℕ → ℕ → ℕ → ℕ → ℕ → ℕ → ℕ → Bool
 are_nine_digits a b c d e f g h i =
     is_ascii_digit a && is_ascii_digit b && is_ascii_digit c && is_ascii_digit d && is_ascii_digit e
     && is_ascii_digit f && is_ascii_digit g && is_ascii_digit h && is_ascii_digit i
 
--- the sum of 978 or 979, of which this is the last digit, and nine digits, with the weights 1, 3, 1, 3 and so on
+-- the sum of 978 or 979 (`last` is its last digit) and nine digits, with the weights 1, 3, 1, 3 and so on
 abbrev pub sum_of_twelve : ℕ → ℕ → ℕ → ℕ → ℕ → ℕ → ℕ → ℕ → ℕ → ℕ → ℕ
 sum_of_twelve last a b c d e f g h i =
     9 + 3 * 7 + (last - 48) + 3 * (a - 48) + (b - 48) + 3 * (c - 48) + (d - 48) + 3 * (e - 48)
@@ -21,7 +21,7 @@ sum_of_twelve last a b c d e f g h i =
 abbrev pub check_digit : ℕ → ℕ
 check_digit sum = 48 + (10 - sum % 10) % 10
 
--- the thirteen digits of 978 or 979, of which this is the last digit, nine digits and a check digit
+-- thirteen digits: 978 or 979 (`last` is its last digit), nine digits and a check digit
 abbrev pub thirteen : ℕ → ℕ → ℕ → ℕ → ℕ → ℕ → ℕ → ℕ → ℕ → ℕ → ℕ → List ℕ
 thirteen last a b c d e f g h i check =
     57 ∷ 55 ∷ last ∷ a ∷ b ∷ c ∷ d ∷ e ∷ f ∷ g ∷ h ∷ i ∷ check ∷ []
@@ -38,24 +38,24 @@ of_thirteen first second last a b c d e f g h i check =
     && ((sum_of_twelve last a b c d e f g h i + (check - 48)) % 10 == 0)
     then Some (thirteen last a b c d e f g h i check) else None
 
--- nine digits and a check character whose sum with the weights 10 to 1 is divisible by 11, as the thirteen digits
--- that they stand for: 978, the nine digits, and the check digit of these
+-- nine digits and a check character whose sum with the weights 10 to 1 is divisible by 11, converted to
+-- thirteen digits: 978, the nine digits, and their check digit
 abbrev pub of_ten : ℕ → ℕ → ℕ → ℕ → ℕ → ℕ → ℕ → ℕ → ℕ → ℕ → Option (List ℕ)
 of_ten a b c d e f g h i check =
     if are_nine_digits a b c d e f g h i && is_check check && ((sum_of_nine a b c d e f g h i + check_value check) % 11 == 0)
     then Some (thirteen 56 a b c d e f g h i (check_digit (sum_of_twelve 56 a b c d e f g h i))) else None
 
--- the characters are thirteen or ten
+-- thirteen or ten characters, without hyphens
 abbrev pub unhyphened : List ℕ → Option (List ℕ)
 unhyphened (a ∷ b ∷ c ∷ d ∷ e ∷ f ∷ g ∷ h ∷ i ∷ check ∷ []) = of_ten a b c d e f g h i check
 unhyphened (first ∷ second ∷ last ∷ a ∷ b ∷ c ∷ d ∷ e ∷ f ∷ g ∷ h ∷ i ∷ check ∷ []) = of_thirteen first second last a b c d e f g h i check
 unhyphened _ = None
 
--- a character is no hyphen
+-- whether a character is something other than a hyphen
 abbrev pub is_no_hyphen : ℕ → Bool
 is_no_hyphen b = not (b == 45)
 
--- the thirteen digits of the ISBN that a text is, if it is one: spaces at its ends and all hyphens are dropped
+-- parses an ISBN into its thirteen digits: spaces at both ends and all hyphens are dropped
 abbrev pub isbn_of : List ℕ → Option (List ℕ)
 isbn_of text = unhyphened (filter is_no_hyphen (trimmed text))
 
@@ -74,11 +74,11 @@ pub record IsIsbn (text : List ℕ) : Type 0 where
   pub check : ℕ
   pub made : of_thirteen 57 55 last a b c d e f g h i check ≡ Some text
 
--- the worth of the digit at a place of a text
+-- the value of the digit at a place of a text
 abbrev pub digit_at : List ℕ → ℕ → ℕ
 digit_at text place = slice_index text place - 48
 
--- the number that the third digit, counted from 8, and the nine digits after it are: below 2,000,000,000
+-- the number formed by the third digit, counted from 8, and the nine digits after it: below 2,000,000,000
 abbrev pub number_of : List ℕ → ℕ
 number_of isbn =
     1000000000 * (slice_index isbn 2 - 56) + 100000000 * digit_at isbn 3 + 10000000 * digit_at isbn 4 + 1000000 * digit_at isbn 5

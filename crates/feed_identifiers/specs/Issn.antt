@@ -1,4 +1,4 @@
--- ISSNs, after ISO 3297.
+-- ISSNs (ISO 3297).
 use Rattle.std.specs.Prelude.{◌≡◌, ℕ, ◌+◌, ◌-◌, ◌*◌, ◌%◌, ◌==◌, ◌&&◌, List, [], ◌∷◌, Option, Some, None, if◌then◌else◌, slice_index}
 use Rattle.std.specs.Char.{is_ascii_digit}
 use Rattle.feed_identifiers.specs.Check.{capital, check_value, is_check}
@@ -9,7 +9,7 @@ abbrev pub weighted : ℕ → ℕ → ℕ → ℕ → ℕ → ℕ → ℕ → �
 weighted a b c d e f g check =
     8 * (a - 48) + 7 * (b - 48) + 6 * (c - 48) + 5 * (d - 48) + 4 * (e - 48) + 3 * (f - 48) + 2 * (g - 48) + check_value check
 
--- seven digits and a check character, whose weighted sum is divisible by 11, in their printed form
+-- the printed form of seven digits and a check character, if their weighted sum is divisible by 11
 abbrev pub checked : ℕ → ℕ → ℕ → ℕ → ℕ → ℕ → ℕ → ℕ → Option (List ℕ)
 checked a b c d e f g check =
     if is_ascii_digit a && is_ascii_digit b && is_ascii_digit c && is_ascii_digit d
@@ -17,7 +17,7 @@ checked a b c d e f g check =
     && (weighted a b c d e f g check % 11 == 0)
     then Some (a ∷ b ∷ c ∷ d ∷ 45 ∷ e ∷ f ∷ g ∷ capital check ∷ []) else None
 
--- a text is the printed form of an ISSN: of seven digits and a check character that agree
+-- a text is the printed form of an ISSN: seven digits and the right check character
 pub record IsIssn (text : List ℕ) : Type 0 where
   pub a : ℕ
   pub b : ℕ
@@ -35,15 +35,15 @@ unhyphened (a ∷ b ∷ c ∷ d ∷ e ∷ f ∷ g ∷ check ∷ []) = checked a 
 unhyphened (a ∷ b ∷ c ∷ d ∷ hyphen ∷ e ∷ f ∷ g ∷ check ∷ []) = if hyphen == 45 then checked a b c d e f g check else None
 unhyphened _ = None
 
--- the nine printed bytes of the ISSN that a text is, if it is one
+-- parses an ISSN into its nine printed bytes
 abbrev pub issn_of : List ℕ → Option (List ℕ)
 issn_of text = unhyphened (trimmed text)
 
--- the worth of the digit at a place of a text
+-- the value of the digit at a place of a text
 abbrev pub digit_at : List ℕ → ℕ → ℕ
 digit_at text place = slice_index text place - 48
 
--- the number that the seven digits of a printed ISSN are
+-- the number formed by the seven digits of a printed ISSN
 abbrev pub number_of : List ℕ → ℕ
 number_of issn =
     1000000 * digit_at issn 0 + 100000 * digit_at issn 1 + 10000 * digit_at issn 2 + 1000 * digit_at issn 3

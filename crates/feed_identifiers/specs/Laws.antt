@@ -3,7 +3,7 @@ use Rattle.std.specs.Prelude.{◌≡◌, ◌<◌, ℕ, List, Option, Some}
 use Rattle.feed_identifiers.specs.Issn as issn
 use Rattle.feed_identifiers.specs.Isbn as isbn
 
--- what a text reads as reads as itself
+-- the printed form of whatever parses parses as itself
 abbrev pub ReadsBack : (List ℕ → Option (List ℕ)) → Type 0
 ReadsBack read = (text printed : List ℕ) → read text ≡ Some printed → read printed ≡ Some printed
 
@@ -15,7 +15,7 @@ OneIssnForNumber = (s t : List ℕ) → issn.IsIssn s → issn.IsIssn t → issn
 abbrev pub OneIsbnForNumber : Type 0
 OneIsbnForNumber = (s t : List ℕ) → isbn.IsIsbn s → isbn.IsIsbn t → isbn.number_of s ≡ isbn.number_of t → s ≡ t
 
--- ten characters that are an ISBN are the same as thirteen digits: 978, the nine digits, and a check digit that agrees
+-- a ten-character ISBN equals the one of thirteen digits with 978, the same nine digits, and their check digit
 abbrev pub TenAreThirteen : Type 0
 TenAreThirteen =
     (a b c d e f g h i check : ℕ) (printed : List ℕ) → isbn.of_ten a b c d e f g h i check ≡ Some printed

@@ -1,11 +1,11 @@
--- Trimmed texts.
+-- Trimming the spaces of a text.
 use Rattle.std.specs.Prelude.{ℕ, ◌==◌, List, [], ◌∷◌, if◌then◌else◌, reverse}
 
--- without the spaces at its front
+-- a text without the spaces at its front
 abbrev pub skip_spaces : List ℕ → List ℕ
 skip_spaces [] = []
 skip_spaces (b ∷ bytes) = if b == 32 then skip_spaces bytes else b ∷ bytes
 
--- without the spaces at its two ends
+-- a text without the spaces at both ends
 abbrev pub trimmed : List ℕ → List ℕ
 trimmed text = reverse (skip_spaces (reverse (skip_spaces text)))

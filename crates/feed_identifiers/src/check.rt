@@ -1,22 +1,22 @@
-//! Check characters: a digit, or an x that counts ten.
+//! Check characters of ISSNs and of ten-character ISBNs: a digit, or an X that counts as ten.
 ghost use Rattle.std.specs.Prelude.{◌≡◌};
 ghost use Rattle.feed_identifiers.specs.Check.{capital, check_value, is_check, is_x};
 
-// Whether a character is an x of either case.
+// Returns whether a character is an x of either case.
 fn is_x(check: u8) -> bool
     ensures { result ≡ is_x check }
 {
     check == b'X' || check == b'x'
 }
 
-/// Whether a character is a digit or an x.
+/// Returns whether a character is a digit or an x.
 pub(crate) fn is_check(check: u8) -> bool
     ensures { result ≡ is_check check }
 {
     check.is_ascii_digit() || is_x(check)
 }
 
-/// The worth of a check character.
+/// Returns the value of a check character: an x counts as ten.
 pub(crate) fn check_value(check: u8) -> u32
     ensures { result ≡ check_value check }
 {
@@ -27,7 +27,7 @@ pub(crate) fn check_value(check: u8) -> u32
     }
 }
 
-/// A check character as it is printed.
+/// Returns a check character as it is printed, with a capital X.
 pub(crate) fn capital(check: u8) -> u8
     ensures { result ≡ capital check }
 {

@@ -1,3 +1,4 @@
+//! International Standard Book Numbers (ISO 2108): parsing, validation and the conversion of the ten-character form.
 ghost use Rattle.std.specs.Prelude.{◌≡◌, ◌≤◌, ◌<◌, IfNone, IfSome, length, slice_index, take};
 ghost use Rattle.std.specs.List.{filter};
 ghost use Rattle.feed_identifiers.specs.Isbn.{are_nine_digits, is_no_hyphen, of_ten, of_thirteen, unhyphened};
@@ -7,8 +8,8 @@ use crate::check::{check_value, is_check};
 use crate::text::trim_spaces;
 use std::marker::Model;
 
-/// An International Standard Book Number (ISO 2108) of thirteen digits, ordered by them. A number of the older form, of
-/// ten characters, is the one of thirteen digits that it stands for.
+/// An International Standard Book Number (ISO 2108) of thirteen digits, ordered by its digits. A number of the older
+/// form, of ten characters, is stored as the equivalent one of thirteen digits.
 #[derive(Clone, Copy, Debug, PartialEq, Eq, PartialOrd, Ord)]
 pub struct Isbn {
     printed: [u8; 13],
@@ -30,9 +31,9 @@ impl Model for Isbn {
 impl Isbn {
     ghost use Rattle.feed_identifiers.specs.Isbn.{IsIsbn, isbn_of, number_of};
 
-    /// Reads thirteen digits that begin with 978 or 979, or nine digits and a check character, which is a digit or an
-    /// `X` of either case. Spaces at both ends are trimmed, and all hyphens are dropped. Anything else is no ISBN, a
-    /// wrong check character among it (ISO 2108).
+    /// Parses thirteen digits that begin with 978 or 979, or nine digits and a check character, which is a digit or an
+    /// `X` of either case (ISO 2108). Trims spaces at both ends and drops all hyphens. Returns `None` for anything
+    /// else, such as a wrong check character.
     pub fn parse(text: &[u8]) -> Option<Isbn>
         ensures { result ≡ isbn_of text.now }
     {
@@ -40,15 +41,15 @@ impl Isbn {
         Some(Isbn { printed })
     }
 
-    /// The thirteen digits.
+    /// Returns the thirteen digits.
     pub fn text(&self) -> [u8; 13]
         ensures { result ≡ self.now }
     {
         self.printed
     }
 
-    /// The number that the third digit, counted from 8, and the nine digits after it are: below 2,000,000,000. They
-    /// determine the check digit.
+    /// Returns the number formed by the third digit, counted from 8, and the nine digits after it. It is below
+    /// 2,000,000,000. These digits determine the check digit.
     pub fn number(&self) -> u32
         ensures number { result ≡ number_of self.now }
         ensures small { result < 2000000000 }
@@ -70,7 +71,7 @@ impl Isbn {
     }
 }
 
-// The characters that are no hyphens, where they are at most thirteen, and their number.
+// The characters other than hyphens and their number, if they are at most thirteen.
 fn without_hyphens(text: &[u8]) -> Option<([u8; 13], usize)>
     ensures some { IfSome result (λ kept. (kept.1 ≤ 13) × (take kept.1 kept.0 ≡ filter is_no_hyphen text.now)) }
     ensures none { IfNone result (13 < length (filter is_no_hyphen text.now)) }
@@ -90,7 +91,7 @@ fn without_hyphens(text: &[u8]) -> Option<([u8; 13], usize)>
     Some((kept, count))
 }
 
-// The digits of the ISBN that a text is.
+// Parses a text into the thirteen digits of an ISBN.
 fn printed_of(text: &[u8]) -> Option<[u8; 13]>
     ensures { result ≡ isbn_of text.now }
 {
@@ -98,7 +99,7 @@ fn printed_of(text: &[u8]) -> Option<[u8; 13]>
     digits_of(&kept[..count])
 }
 
-// The digits of the ISBN that these characters are, without hyphens.
+// Parses characters without hyphens into the thirteen digits of an ISBN.
 fn digits_of(characters: &[u8]) -> Option<[u8; 13]>
     ensures { result ≡ unhyphened characters.now }
 {
@@ -113,7 +114,7 @@ fn digits_of(characters: &[u8]) -> Option<[u8; 13]>
     }
 }
 
-// Whether all nine are digits.
+// Returns whether all nine are digits.
 fn are_digits(digits: [u8; 9]) -> bool
     ensures { result ≡ are_nine_digits (slice_index digits 0) (slice_index digits 1) (slice_index digits 2)
         (slice_index digits 3) (slice_index digits 4) (slice_index digits 5)
@@ -131,7 +132,7 @@ fn are_digits(digits: [u8; 9]) -> bool
         && i.is_ascii_digit()
 }
 
-// The sum of 978 or 979, of which `last` is the last digit, and nine digits, with the weights 1, 3, 1, 3 and so on.
+// The sum of 978 or 979 (`last` is its last digit) and nine digits, with the weights 1, 3, 1, 3 and so on.
 fn sum_of_twelve(last: u8, digits: [u8; 9]) -> u32
     ensures { result ≡ sum_of_twelve last (slice_index digits 0) (slice_index digits 1) (slice_index digits 2)
         (slice_index digits 3) (slice_index digits 4) (slice_index digits 5)
@@ -178,7 +179,7 @@ fn check_digit(sum: u32) -> u8
     b'0' + ((10 - sum % 10) % 10) as u8
 }
 
-// The thirteen digits, if they begin with 978 or 979 and agree with the check digit.
+// The thirteen digits, if they begin with 978 or 979 and the check digit is right.
 fn of_thirteen(front: [u8; 3], digits: [u8; 9], check: u8) -> Option<[u8; 13]>
     ensures { result ≡ of_thirteen (slice_index front 0) (slice_index front 1) (slice_index front 2)
         (slice_index digits 0) (slice_index digits 1) (slice_index digits 2)
@@ -198,7 +199,7 @@ fn of_thirteen(front: [u8; 3], digits: [u8; 9], check: u8) -> Option<[u8; 13]>
     Some(thirteen(last, digits, check))
 }
 
-// The thirteen digits that nine digits and a check character stand for, if these agree.
+// Nine digits and a check character, converted to thirteen digits, if the check character is right.
 fn of_ten(digits: [u8; 9], check: u8) -> Option<[u8; 13]>
     ensures { result ≡ of_ten (slice_index digits 0) (slice_index digits 1) (slice_index digits 2)
         (slice_index digits 3) (slice_index digits 4) (slice_index digits 5)
@@ -213,7 +214,7 @@ fn of_ten(digits: [u8; 9], check: u8) -> Option<[u8; 13]>
     Some(thirteen(b'8', digits, check_digit(sum_of_twelve(b'8', digits))))
 }
 
-// 978 or 979, of which `last` is the last digit, nine digits and a check digit.
+// The thirteen digits: 978 or 979 (`last` is its last digit), nine digits and a check digit.
 fn thirteen(last: u8, digits: [u8; 9], check: u8) -> [u8; 13]
     ensures { result ≡ thirteen last (slice_index digits 0) (slice_index digits 1) (slice_index digits 2)
         (slice_index digits 3) (slice_index digits 4) (slice_index digits 5)

@@ -1,3 +1,4 @@
+//! International Standard Serial Numbers (ISO 3297): parsing and validation.
 ghost use Rattle.std.specs.Prelude.{◌≡◌, ◌<◌, slice_index};
 
 use crate::check::{capital, check_value, is_check};
@@ -26,14 +27,14 @@ impl Model for Issn {
 impl Issn {
     ghost use Rattle.feed_identifiers.specs.Issn.{IsIssn, checked, issn_of, number_of};
 
-    /// Reads seven digits and a check character, with or without a hyphen after the fourth digit.
-    /// Spaces at both ends are trimmed, and a check character `x` counts as `X`. Anything else is no
-    /// ISSN, a wrong check character among it (ISO 3297).
+    /// Parses seven digits and a check character, with or without a hyphen after the fourth digit (ISO 3297).
+    /// Trims spaces at both ends, and accepts a check character `x` as `X`. Returns `None` for anything else, such as a
+    /// wrong check character.
     pub fn parse(text: &[u8]) -> Option<Issn>
         ensures { result ≡ issn_of text.now }
     {
         let text = trim_spaces(text);
-        // Most fields that are none are empty.
+        // Most fields that are not an ISSN are empty.
         if text.is_empty() {
             return None;
         }
@@ -47,14 +48,14 @@ impl Issn {
         }
     }
 
-    /// The printed form, `dddd-dddc` with a capital `X`.
+    /// Returns the printed form, `dddd-dddc` with a capital `X`.
     pub fn text(&self) -> [u8; 9]
         ensures { result ≡ self.now }
     {
         self.printed
     }
 
-    /// The seven digits before the check character, as a number below 10,000,000. They determine the check
+    /// Returns the seven digits before the check character, as a number below 10,000,000. They determine the check
     /// character.
     pub fn number(&self) -> u32
         ensures number { result ≡ number_of self.now }
@@ -72,7 +73,7 @@ impl Issn {
             + value(g)
     }
 
-    // The ISSN of seven digits and a check character, if they are that and agree.
+    // The ISSN of seven digits and a check character, if the check character is right.
     fn checked(digits: [u8; 7], check: u8) -> Option<Issn>
         ensures { result ≡ checked (slice_index digits 0) (slice_index digits 1)
             (slice_index digits 2) (slice_index digits 3) (slice_index digits 4)
@@ -82,7 +83,7 @@ impl Issn {
         Some(Issn { printed })
     }
 
-    // The same, as bytes.
+    // The printed bytes of that ISSN.
     fn printed_of(digits: [u8; 7], check: u8) -> Option<[u8; 9]>
         ensures { result ≡ checked (slice_index digits 0) (slice_index digits 1)
             (slice_index digits 2) (slice_index digits 3) (slice_index digits 4)

@@ -1,31 +1,31 @@
-//! Laws of identifiers, each the contract of a function that does nothing.
+//! Laws of identifiers, each stated as the contract of a function with an empty body.
 ghost use Rattle.feed_identifiers.specs.Isbn.{isbn_of};
 ghost use Rattle.feed_identifiers.specs.Issn.{issn_of};
 ghost use Rattle.feed_identifiers.specs.Laws.{IssnNumbersAreSmall, OneIsbnForNumber, OneIssnForNumber};
 ghost use Rattle.feed_identifiers.specs.Laws.{ReadsBack, TenAreThirteen};
 
-/// The printed form of an ISSN reads as itself.
+/// The printed form of an ISSN parses as itself.
 pub fn issn_reads_back()
     ensures { ReadsBack issn_of }
 {}
 
-/// The thirteen digits of an ISBN read as themselves, also where it was written in ten characters.
+/// The thirteen digits of an ISBN parse as themselves, also if the ISBN was written in ten characters.
 pub fn isbn_reads_back()
     ensures { ReadsBack isbn_of }
 {}
 
-/// An ISBN of ten characters is the same as the one of thirteen digits that begins with 978, has its nine digits and
-/// a check digit that agrees.
+/// An ISBN of ten characters equals the one of thirteen digits that begins with 978, has the same nine digits and the
+/// right check digit.
 pub fn an_isbn_10_is_its_isbn_13()
     ensures { TenAreThirteen }
 {}
 
-/// The number of an ISSN tells which it is.
+/// The number of an ISSN determines the ISSN.
 pub fn one_issn_for_number()
     ensures { OneIssnForNumber }
 {}
 
-/// The number of an ISBN tells which it is.
+/// The number of an ISBN determines the ISBN.
 pub fn one_isbn_for_number()
     ensures { OneIsbnForNumber }
 {}

@@ -1,4 +1,5 @@
-//! Identifiers of serials and books: ISSNs (ISO 3297) and ISBNs (ISO 2108), and the numbers that tell them apart.
+//! Identifiers of serials and books: ISSNs (ISO 3297) and ISBNs (ISO 2108), with a number for each that an index can
+//! use.
 #![tactic(auto)]
 
 mod check;

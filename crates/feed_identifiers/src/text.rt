@@ -1,7 +1,8 @@
+//! Trimming the spaces of a field.
 ghost use Rattle.std.specs.Prelude.{◌≡◌};
 ghost use Rattle.feed_identifiers.specs.Text.{trimmed};
 
-/// The text without the spaces (byte 20 hexadecimal) at its two ends. Other white space stays.
+/// Returns the text without the spaces (byte 20 hexadecimal) at both ends. Keeps other white space.
 pub fn trim_spaces(text: &[u8]) -> &[u8]
     ensures { result.now ≡ trimmed text.now }
 {

@@ -1,11 +1,12 @@
-//! The limits that each crate of a feed has in common. No standard fixes them. `specs/Limits.antt` has them as numbers.
+//! The limits that all crates of a feed share, with their numbers for contracts in `specs/Limits.antt`. No standard
+//! sets them.
 #![tactic(auto)]
 
 /// The most bytes that a file may have: 256 MiB.
 pub const FILE_LIMIT: usize = 268_435_456;
 
-/// A piece, and so a part, has 1 to this many bytes: 1 MiB.
+/// The most bytes that a piece, and so a stored part, may have: 1 MiB. It has at least one.
 pub const PIECE_LIMIT: usize = 1_048_576;
 
-/// A feed records at most this many releases, of all packages together.
+/// The most releases that a feed records, over all packages.
 pub const RELEASE_LIMIT: usize = 256;

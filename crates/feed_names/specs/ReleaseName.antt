@@ -7,7 +7,7 @@ use Rattle.feed_dates.specs.Days.{IsDateOf, date_text}
 use Rattle.feed_names.specs.declared.name_fault.NameFault.{NameFault}
 use Rattle.feed_names.specs.declared.name_fault.NameFault.TheVariants.{BadStem, BadDate, BadEnding, Memory}
 
--- what a release is called: its package, and its day counted from 1970-01-01
+-- a release: its package, and its day counted from 1970-01-01
 pub record Name : Type 0 where
   pub stem : List ℕ
   pub day : ℤ
@@ -21,7 +21,7 @@ abbrev pub BeginsWithDot : List ℕ → Type 0
 BeginsWithDot [] = ⊥
 BeginsWithDot (b ∷ bytes) = b ≡ 46
 
--- 1 to 100 such bytes, of which the first is no dot
+-- 1 to 100 such bytes; the first is not a dot
 pub record IsStem (stem : List ℕ) : Type 0 where
   pub least : 1 ≤ length stem
   pub most : length stem ≤ 100
@@ -45,7 +45,8 @@ pub record IsName (text : List ℕ) (name : Name) : Type 0 where
   pub is_dated : IsDated front name.stem name.day
   pub is_stem : IsStem name.stem
 
--- why a text is no name: the ending is judged first, then the date, then the stem; want of memory is no such reason
+-- why a text is not a name: the ending is checked first, then the date, then the stem; `Memory` is an allocation
+-- failure
 abbrev pub IsRefused : List ℕ → NameFault → Type 0
 IsRefused text BadEnding = (front : List ℕ) → ¬ (EndsInTxt text front)
 IsRefused text BadDate = (front : List ℕ) × EndsInTxt text front × ((stem : List ℕ) (day : ℤ) → ¬ (IsDated front stem day))
@@ -60,7 +61,7 @@ text_of name = name.stem ++ (95 ∷ date_text name.day) ++ codes ".txt"
 abbrev pub IsEarlier : Name → Name → Type 0
 IsEarlier m n = (m.stem ≡ n.stem) × (m.day <ℤ n.day)
 
--- the same release, as a test
+-- whether two names are of the same release
 abbrev pub name_eq : Name → Name → Bool
 name_eq = eq_of_both (on (λ n. n.stem) (pointwise ◌==◌)) (on (λ n. n.day) int_eq)
 

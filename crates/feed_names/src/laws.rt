@@ -1,4 +1,4 @@
-//! Laws of names, each the contract of a function that changes nothing.
+//! Laws of release names, each stated as the contract of a function that changes nothing.
 ghost use Rattle.feed_names.specs.ReleaseName.{OneReleaseForText, OneTextForRelease};
 
 use feed_dates::{one_date_for_day, one_day_for_date};
@@ -10,7 +10,7 @@ pub fn one_release_for_text()
     one_day_for_date();
 }
 
-/// A release has no other name than the one that its package and its day spell.
+/// A release has no name other than the one that its package and its day spell.
 pub fn one_text_for_release()
     ensures { OneTextForRelease }
 {

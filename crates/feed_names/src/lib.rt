@@ -1,4 +1,4 @@
-//! Names of releases, as `Acme_Global_All_2024-01-01.txt`: a package and the day of a release.
+//! Release names such as `Acme_Global_All_2024-01-01.txt`: the package and the day of a release.
 #![tactic(auto)]
 
 mod laws;

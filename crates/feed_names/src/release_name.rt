@@ -1,3 +1,4 @@
+//! `ReleaseName`, a validated file name of the form `PACKAGE_YYYY-MM-DD.txt`.
 ghost use Rattle.std.specs.Prelude.{◌≡◌, ◌↔◌, ℕ, ℤ, List, MatchOption, IsTrue, IfOk, IfErr};
 ghost use Rattle.feed_names.specs.ReleaseName.{IsStem, IsDated, IsName, IsRefused, IsEarlier, is_stem_byte, text_of};
 
@@ -6,15 +7,15 @@ use feed_dates::{day_numbers_fit, one_date_for_day, read_date};
 use std::alloc::{AllocError, Global};
 use std::marker::Model;
 
-// `_` and the date, without and with `.txt`
+// The length of `_` and the date, without and with `.txt`.
 const DATE_LENGTH: usize = 11;
 
 const TAIL_LENGTH: usize = 15;
 
 const LONGEST_STEM: usize = 100;
 
-/// The name of a release, as `Acme_Global_All_2024-01-01.txt`: the package, `_`, the release's day and `.txt`.
-/// What stands before the last `_` is not taken apart, and is the key of the package.
+/// The name of a release, such as `Acme_Global_All_2024-01-01.txt`: the package, `_`, the release's day and `.txt`. The
+/// text before the last `_` is not interpreted. It is the key of the package.
 #[derive(Debug, Drop)]
 pub struct ReleaseName {
     text: Vec<u8>,
@@ -35,7 +36,7 @@ impl Model for ReleaseName {
 }
 
 impl ReleaseName {
-    /// Reads a name. It takes memory for the text alone, once the text is known to be a name.
+    /// Parses a name. Allocates memory for the text only, and only once the text is known to be a name.
     pub fn parse(alloc: Global, text: &[u8]) -> Result<ReleaseName, NameFault>
         ensures named { IfOk result (IsName text.now) }
         ensures refused { IfErr result (IsRefused text.now) }
@@ -56,7 +57,7 @@ impl ReleaseName {
         }
     }
 
-    /// The key of the package: the bytes before `_` and the date.
+    /// Returns the key of the package: the bytes before `_` and the date.
     pub fn package(&self) -> &[u8]
         ensures value { result.now ≡ self.now.stem }
         ensures stem { IsStem self.now.stem }
@@ -64,14 +65,14 @@ impl ReleaseName {
         &self.text[..self.text.len() - TAIL_LENGTH]
     }
 
-    /// The release's day, counted from 1970-01-01 and negative before it.
+    /// Returns the release's day, counted from 1970-01-01. It is negative before that day.
     pub fn day(&self) -> i32
         ensures { result ≡ self.now.day }
     {
         self.day
     }
 
-    /// The name as it is written.
+    /// Returns the name as text.
     pub fn text(&self) -> &[u8]
         ensures name { IsName result.now self.now }
         ensures value { result.now ≡ text_of self.now }
@@ -80,14 +81,14 @@ impl ReleaseName {
         &self.text
     }
 
-    /// Whether both are releases of one package, and this one is of an earlier day.
+    /// Returns whether both are releases of one package and this one is of an earlier day.
     pub fn earlier_than(&self, other: &ReleaseName) -> bool
         ensures { IsTrue result ↔ IsEarlier self.now other.now }
     {
         self.day < other.day && self.package() == other.package()
     }
 
-    /// The same name once more.
+    /// Copies the name.
     pub fn try_clone(&self) -> Result<ReleaseName, AllocError>
         ensures { IfOk result (λ name. name ≡ self.now) }
     {
@@ -98,7 +99,7 @@ impl ReleaseName {
     }
 }
 
-// The text before `_` and a date at its end, and the day of that date.
+// Splits off `_` and a date at the end of a text: what precedes them, and the day of the date.
 fn split_date(front: &[u8]) -> Option<(&[u8], i32)>
     ensures { MatchOption result
         ((stem : List ℕ) (day : ℤ) → ¬ (IsDated front.now stem day))
@@ -129,7 +130,7 @@ fn is_stem_byte(byte: u8) -> bool
     byte.is_ascii_alphanumeric() || byte == b'-' || byte == b'_' || byte == b'.'
 }
 
-/// Two names are equal where their packages and their days are.
+/// Two names are equal if their packages and their days are equal.
 impl PartialEq for ReleaseName {
     ghost use Rattle.std.proofs.Common.{rules};
     ghost use Rattle.std.specs.Cmp.Rules.{comparing};
