@@ -1,4 +1,4 @@
--- The bytes of a file, as they come in pieces.
+-- The bytes of a file, which are read in pieces.
 use Rattle.std.specs.Prelude.{◌≡◌, ℕ, ◌≤◌, true, false, List, length, min, take, Option, Result, Ok, Err}
 use Rattle.std.specs.Io.KnownBytes.{Consumes}
 use Rattle.std.specs.Str.{is_utf8}
@@ -13,18 +13,18 @@ use Rattle.feed_kbart.specs.declared.judge.TextJudge.{TextJudge}
 abbrev pub IsText : List ℕ → Type 0
 IsText text = (length text ≤ file_limit) × (is_utf8 text ≡ true) × (has_two_marks text ≡ false)
 
--- what reading bytes may give: such a text, or a fault
+-- what reading bytes may return: success for such a text, or a fault
 abbrev pub IsTextOf : List ℕ → Result (Unit {0}) KbartFault → Type 0
 IsTextOf text (Ok done) = IsText text
 IsTextOf text (Err fault) = IsFaultOf text fault
 
--- what a judge knows of the bytes that it was fed
+-- the state of the text checks after these bytes
 pub record IsJudgeOf (text : List ℕ) (judge : TextJudge) : Type 0 where
   pub checked : IsCheckOf text judge.check
   pub size : judge.total ≡ length text
   pub front : take (min (length text) 6) judge.front ≡ take 6 text
 
--- a reader gave a text up to here, and it was judged
+-- a reader has returned a text so far, and all of it was checked
 pub record IsReadTo (given now : Option (List ℕ)) (judge : TextJudge) : Type 0 where
   pub text : List ℕ
   pub read : Consumes given now text

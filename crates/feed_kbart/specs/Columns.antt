@@ -1,4 +1,4 @@
--- Where the labels stand in a header, and what is wrong with it.
+-- The columns of the labels in a header, and the faults of a header.
 use Rattle.std.specs.Prelude.{ℕ, nat_lt, List, [], Option, Some, None, is_none, unwrap_or, count_by, find}
 use Rattle.std.specs.List.{position_from}
 use Rattle.csv.specs.Records.{field_at}
@@ -13,7 +13,7 @@ use Rattle.feed_kbart.specs.declared.label.Label.TheVariants as label
 abbrev pub column : Label → List (List ℕ) → Option ℕ
 column label header = position_from (is_label label) 0 header
 
--- the field in a column, which is empty where there is none
+-- the field in a column; empty if the record or the header does not have it
 abbrev pub cell : Option ℕ → List (List ℕ) → List ℕ
 cell None fields = []
 cell (Some place) fields = unwrap_or (field_at fields place) []
@@ -36,20 +36,20 @@ columns_of header = record {
   access = column label.AccessType header;
 }
 
--- the first required label that no field is
+-- the first required label that no field has
 abbrev pub first_missing : List (List ℕ) → Option Label
 first_missing header = find (λ l. is_none (column l header)) required_labels
 
--- the first label that two fields are
+-- the first label that two fields have
 abbrev pub first_twice : List (List ℕ) → Option Label
 first_twice header = find (λ l. nat_lt 1 (count_by (is_label l) header)) used_labels
 
--- a missing label counts before a double one
+-- a missing label takes precedence over a repeated one
 abbrev pub bad_labels : Option Label → Option Label → Option BadFile
 bad_labels (Some missing) twice = Some (MissingLabel missing)
 bad_labels None (Some twice) = Some (LabelTwice twice)
 bad_labels None None = None
 
--- the first reason why a header is bad, or nothing where it is good
+-- the first reason why a header is bad, or nothing if it is good
 abbrev pub bad_header : List (List ℕ) → Option BadFile
 bad_header header = bad_labels (first_missing header) (first_twice header)

@@ -1,4 +1,4 @@
--- What a record covers: identifiers, days and volumes, and why a record is set aside.
+-- The identifiers, days and volumes that a record covers, and the reasons to skip a record.
 use Rattle.std.specs.Prelude.{◌||◌, ◌&&◌, not, nat_lt, ℕ, Bool, true, false, List, [], ◌∷◌, Option, Some, None, if◌then◌else◌, is_none, is_some, option_map, codes, int_lt}
 use Rattle.std.specs.Str.{str_eq_ignore_ascii_case}
 use Rattle.feed_identifiers.specs.Text.{trimmed}
@@ -16,24 +16,24 @@ use Rattle.feed_kbart.specs.declared.identifiers.Identifiers.TheVariants.{Serial
 use Rattle.feed_kbart.specs.declared.identifiers.Kind.{Kind}
 use Rattle.feed_kbart.specs.declared.identifiers.Kind.TheVariants as of
 
--- a text without bytes
+-- whether a text is empty
 abbrev pub is_empty : List ℕ → Bool
 is_empty [] = true
 is_empty (b ∷ bytes) = false
 
--- a publication type tells a serial where it is empty or `serial`, and a book where it is `monograph`, but for spaces at
--- its ends and the case of ASCII letters
+-- a publication type is a serial's if it is empty or `serial`, and a book's if it is `monograph`, ignoring spaces at
+-- both ends and the case of ASCII letters
 abbrev pub kind_of : List ℕ → Option Kind
 kind_of text =
     if is_empty (trimmed text) || str_eq_ignore_ascii_case (trimmed text) (codes "serial") then Some of.Serial
     else if str_eq_ignore_ascii_case (trimmed text) (codes "monograph") then Some of.Book
     else None
 
--- the days of a coverage date, but for spaces at its ends; an empty date has none and is an open side
+-- the days of a coverage date, ignoring spaces at both ends; an empty date has none and leaves its side open
 abbrev pub coverage_days : List ℕ → Option DayRange
 coverage_days text = days_of (trimmed text)
 
--- a coverage date is empty or reads
+-- a coverage date is empty or valid
 abbrev pub is_coverage_date : List ℕ → Bool
 is_coverage_date text = is_empty (trimmed text) || is_some (coverage_days text)
 
@@ -43,7 +43,7 @@ is_reversed (Some begin) (Some end) = int_lt end.last begin.first
 is_reversed None end = false
 is_reversed (Some begin) None = false
 
--- why a serial's record is set aside, or nothing where it is a row
+-- why a serial's record is skipped, or nothing if it is a row
 abbrev pub serial_reason : Columns → List (List ℕ) → Option Reason
 serial_reason columns fields =
     if is_none (issn_of (cell columns.print fields)) && is_none (issn_of (cell columns.online fields)) then Some NoIssn
@@ -51,22 +51,22 @@ serial_reason columns fields =
     else if is_reversed (coverage_days (cell columns.first_date fields)) (coverage_days (cell columns.last_date fields)) then Some Reversed
     else None
 
--- why a book's record is set aside, or nothing where it is a row
+-- why a book's record is skipped, or nothing if it is a row
 abbrev pub book_reason : Columns → List (List ℕ) → Option Reason
 book_reason columns fields =
     if is_none (isbn_of (cell columns.print fields)) && is_none (isbn_of (cell columns.online fields)) then Some NoIsbn else None
 
--- why a record of this kind is set aside: one of neither kind is, for its type
+-- why a record of this kind is skipped; a record of neither kind is skipped because of its type
 abbrev pub reason_by : Option Kind → Columns → List (List ℕ) → Option Reason
 reason_by (Some of.Serial) columns fields = serial_reason columns fields
 reason_by (Some of.Book) columns fields = book_reason columns fields
 reason_by None columns fields = Some OtherType
 
--- why a record is set aside, or nothing where it is a row
+-- why a record is skipped, or nothing if it is a row
 abbrev pub reason_of : Columns → List (List ℕ) → Option Reason
 reason_of columns fields = reason_by (kind_of (cell columns.publication_type fields)) columns fields
 
--- the first and the last volume; neither counts where the first exceeds the last
+-- the first and the last volume; neither counts if the first exceeds the last
 abbrev pub volumes : Option ℕ → Option ℕ → Option ℕ × Option ℕ
 volumes (Some first) (Some last) = if nat_lt last first then (None, None) else (Some first, Some last)
 volumes None last = (None, last)
@@ -87,7 +87,7 @@ serial_coverage columns fields = record {
   last_volume = (coverage_volumes columns fields).1;
 }
 
--- the ISBNs of a book's record, of which neither dates nor volumes are read
+-- the ISBNs of a book's record; its dates and volumes are ignored
 abbrev pub book_coverage : Columns → List (List ℕ) → Coverage
 book_coverage columns fields = record {
   identifiers = Book (isbn_of (cell columns.print fields)) (isbn_of (cell columns.online fields));

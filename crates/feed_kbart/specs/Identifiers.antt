@@ -7,37 +7,37 @@ use Rattle.feed_kbart.specs.declared.identifiers.Identifiers.TheVariants.{Serial
 use Rattle.feed_kbart.specs.declared.identifiers.Kind.{Kind}
 use Rattle.feed_kbart.specs.declared.identifiers.Kind.TheVariants as of
 
--- whose they are
+-- the kind of title that identifiers belong to
 abbrev pub kind : Identifiers → Kind
 kind (Serial print online) = of.Serial
 kind (Book print online) = of.Book
 
--- the ISSN in print, which a book has not
+-- the ISSN in print; a book has none
 abbrev pub print_issn : Identifiers → Option (List ℕ)
 print_issn (Serial print online) = print
 print_issn (Book print online) = None
 
--- the ISSN online, which a book has not
+-- the ISSN online; a book has none
 abbrev pub online_issn : Identifiers → Option (List ℕ)
 online_issn (Serial print online) = online
 online_issn (Book print online) = None
 
--- the ISBN in print, which a serial has not
+-- the ISBN in print; a serial has none
 abbrev pub print_isbn : Identifiers → Option (List ℕ)
 print_isbn (Serial print online) = None
 print_isbn (Book print online) = print
 
--- the ISBN online, which a serial has not
+-- the ISBN online; a serial has none
 abbrev pub online_isbn : Identifiers → Option (List ℕ)
 online_isbn (Serial print online) = None
 online_isbn (Book print online) = online
 
--- what is there are printed ISSNs, or printed ISBNs
+-- the identifiers present are printed ISSNs or printed ISBNs
 abbrev pub AreIdentifiers : Identifiers → Type 0
 AreIdentifiers (Serial print online) = IfSome print issn.IsIssn × IfSome online issn.IsIssn
 AreIdentifiers (Book print online) = IfSome print isbn.IsIsbn × IfSome online isbn.IsIsbn
 
--- the number of an ISBN in the index, where those of ISSNs, which have seven digits, stand below it
+-- the number of an ISBN in the index; it is above those of ISSNs, which have seven digits
 abbrev pub isbn_number : List ℕ → ℕ
 isbn_number digits = 10000000 + isbn.number_of digits
 

@@ -1,4 +1,4 @@
--- An index of rows by identifier.
+-- The index of rows by identifier.
 use Rattle.std.specs.Prelude.{◌≡◌, ℕ, ◌+◌, ◌==◌, List, [], ◌∷◌, ◌++◌, length, map, Option, Some, None, if◌then◌else◌}
 use Rattle.std.specs.List.Sorted.{IsNonDecreasing}
 use Rattle.feed_identifiers.specs.Issn.{IsIssn, number_of}
@@ -9,29 +9,29 @@ use Rattle.feed_kbart.specs.RowValue.{RowValue}
 use Rattle.feed_kbart.specs.declared.index.Entry.{Entry}
 use Rattle.feed_kbart.specs.declared.index.Index.{Index}
 
--- the places that stand beside a number
+-- the places paired with a number
 abbrev pub places_beside : ℕ → List ℕ → List ℕ → List ℕ
 places_beside number [] places = []
 places_beside number (one ∷ numbers) [] = []
 places_beside number (one ∷ numbers) (place ∷ places) =
     if one == number then place ∷ places_beside number numbers places else places_beside number numbers places
 
--- beside each number stands a place, and the numbers ascend
+-- each number is paired with a place, and the numbers ascend
 pub record IsTable (index : Index) : Type 0 where
   pub even : length index.places.items ≡ length index.numbers.items
   pub ascending : IsNonDecreasing index.numbers.items
 
--- an index of rows: beside the number of an identifier stand the places of the rows that have it
+-- an index of rows: the number of an identifier is paired with the places of the rows that have it
 pub record IsIndexOf (rows : List RowValue) (index : Index) : Type 0 where
   pub table : IsTable index
   pub issns : (issn : List ℕ) → IsIssn issn → places_beside (number_of issn) index.numbers.items index.places.items ≡ places_with issn rows
   pub isbns : (isbn : List ℕ) → IsIsbn isbn → places_beside (isbn_number isbn) index.numbers.items index.places.items ≡ places_with_isbn isbn rows
 
--- what a row has as its identifiers are printed ones
+-- the identifiers of a row are in printed form
 abbrev pub HasIdentifiers : RowValue → Type 0
 HasIdentifiers row = AreIdentifiers row.identifiers
 
--- the numbers that are there, each once
+-- the numbers present, each once
 abbrev pub each_once : Option ℕ → Option ℕ → List ℕ
 each_once None None = []
 each_once (Some number) None = number ∷ []
@@ -43,7 +43,7 @@ abbrev pub entries_of : ℕ → RowValue → List Entry
 entries_of place row =
     map (λ number. record { number = number; place = place }) (each_once (numbers row.identifiers).0 (numbers row.identifiers).1)
 
--- the entries of rows, of which the first is at this place
+-- the entries of rows, the first of them at this place
 abbrev pub entries_from : ℕ → List RowValue → List Entry
 entries_from place [] = []
 entries_from place (row ∷ rows) = entries_of place row ++ entries_from (place + 1) rows

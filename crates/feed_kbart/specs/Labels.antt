@@ -23,13 +23,13 @@ label_text CoverageDepth = codes "coverage_depth"
 label_text PublicationType = codes "publication_type"
 label_text AccessType = codes "access_type"
 
--- the labels that a file must have, in their order
+-- the labels that a file must have, in order
 abbrev pub required_labels : List Label
 required_labels =
     PublicationTitle ∷ PrintIdentifier ∷ OnlineIdentifier ∷ DateFirstIssueOnline
     ∷ NumFirstVolOnline ∷ DateLastIssueOnline ∷ NumLastVolOnline ∷ TitleUrl ∷ []
 
--- the labels that are read, in their order: those that a file must have stand first
+-- the labels in use, in order: first those that a file must have
 abbrev pub used_labels : List Label
 used_labels =
     PublicationTitle ∷ PrintIdentifier ∷ OnlineIdentifier ∷ DateFirstIssueOnline
@@ -40,6 +40,6 @@ used_labels =
 abbrev pub label_at : ℕ → Option Label
 label_at place = if place == 0 then None else slice_get used_labels (place - 1)
 
--- a field is a label if it equals it, but for spaces at its ends and the case of ASCII letters
+-- a field is a label if they are equal, ignoring spaces at both ends and the case of ASCII letters
 abbrev pub is_label : Label → List ℕ → Bool
 is_label label field = str_eq_ignore_ascii_case (trimmed field) (label_text label)

@@ -1,28 +1,28 @@
--- Which rows have an identifier.
+-- The places of the rows that have an identifier.
 use Rattle.std.specs.Prelude.{ℕ, ◌||◌, Bool, false, List, Option, Some, None, if◌then◌else◌}
 use Rattle.std.specs.List.{enumerate_from, filter_map}
 use Rattle.std.specs.Str.{bytes_eq}
 use Rattle.feed_kbart.specs.Identifiers.{online_isbn, online_issn, print_isbn, print_issn}
 use Rattle.feed_kbart.specs.RowValue.{RowValue}
 
--- a column's identifier is this one
+-- whether a column's identifier is this one
 abbrev pub is_own : List ℕ → Option (List ℕ) → Bool
 is_own identifier None = false
 is_own identifier (Some own) = bytes_eq identifier own
 
--- a row has this ISSN, in print or online
+-- whether a row has this ISSN, in print or online
 abbrev pub has_issn : List ℕ → RowValue → Bool
 has_issn issn row = is_own issn (print_issn row.identifiers) || is_own issn (online_issn row.identifiers)
 
--- a row has this ISBN, in print or online
+-- whether a row has this ISBN, in print or online
 abbrev pub has_isbn : List ℕ → RowValue → Bool
 has_isbn isbn row = is_own isbn (print_isbn row.identifiers) || is_own isbn (online_isbn row.identifiers)
 
--- the place of a row that passes
+-- the place of a row that passes a test
 abbrev pub place_by : (RowValue → Bool) → ℕ × RowValue → Option ℕ
 place_by test placed = if test placed.1 then Some placed.0 else None
 
--- the places of the rows that pass, counted from 0, in file order
+-- the places of the rows that pass a test, counted from 0, in file order
 unfoldable pub places_by : (RowValue → Bool) → List RowValue → List ℕ
 places_by test rows = filter_map (place_by test) (enumerate_from 0 rows)
 

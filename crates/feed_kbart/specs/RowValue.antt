@@ -1,10 +1,10 @@
--- What is seen of a row.
+-- The model value of a row.
 use Rattle.std.specs.Prelude.{ℕ, List, Option, ℤ}
 use Rattle.feed_kbart.specs.Texts.{TextsValue}
 use Rattle.feed_kbart.specs.declared.coverage.Coverage.{Coverage}
 use Rattle.feed_kbart.specs.declared.identifiers.Identifiers.{Identifiers}
 
--- what is seen of a row: its numbers, its texts and the printed bytes of its identifiers
+-- a row: its number, its texts and the printed bytes of its identifiers
 pub record RowValue : Type 0 where
   pub number : ℕ
   pub title : List ℕ

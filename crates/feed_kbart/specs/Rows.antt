@@ -1,4 +1,4 @@
--- The row that a record is.
+-- The row of a record.
 use Rattle.std.specs.Prelude.{ℕ, List}
 use Rattle.feed_kbart.specs.Columns.{cell}
 use Rattle.feed_kbart.specs.Coverage.{coverage_of}
@@ -6,7 +6,7 @@ use Rattle.feed_kbart.specs.RowValue.{RowValue, row_with}
 use Rattle.feed_kbart.specs.Texts.{TextsValue}
 use Rattle.feed_kbart.specs.declared.header.Columns.{Columns}
 
--- the texts of a record that are handed on as they are
+-- the texts of a record, which are passed on unchanged
 abbrev pub texts_of : Columns → List (List ℕ) → TextsValue
 texts_of columns fields = record {
   title = cell columns.title fields;
@@ -17,6 +17,6 @@ texts_of columns fields = record {
   access = cell columns.access fields;
 }
 
--- the row that a record is
+-- the row of a record
 abbrev pub row_of : Columns → ℕ → List (List ℕ) → RowValue
 row_of columns number fields = row_with number (coverage_of columns fields) (texts_of columns fields)

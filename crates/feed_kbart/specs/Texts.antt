@@ -1,7 +1,7 @@
--- What is seen of a row's texts.
+-- The model value of a row's texts.
 use Rattle.std.specs.Prelude.{ℕ, List}
 
--- the texts of a row that are handed on as they are in the file
+-- the texts of a row, unchanged from the file
 pub record TextsValue : Type 0 where
   pub title : List ℕ
   pub url : List ℕ

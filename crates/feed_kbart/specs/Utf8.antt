@@ -1,7 +1,7 @@
--- What a few bytes tell of a text that is read in pieces: whether it is UTF-8, whatever comes next.
+-- Checking UTF-8 incrementally: the few bytes that decide it, whatever comes next.
 use Rattle.std.specs.Prelude.{ℕ, ◌↔◌, List, ◌++◌, Option, None, Some, IsUtf8}
 
--- with whatever comes next, the text is UTF-8 just where the kept bytes are
+-- whatever comes next, the text is UTF-8 exactly if the kept bytes are
 abbrev pub StandsFor : List ℕ → List ℕ → Type 0
 StandsFor kept text = (next : List ℕ) → (IsUtf8 (text ++ next) ↔ IsUtf8 (kept ++ next))
 
@@ -9,7 +9,7 @@ StandsFor kept text = (next : List ℕ) → (IsUtf8 (text ++ next) ↔ IsUtf8 (k
 abbrev pub IsSpoiled : List ℕ → Type 0
 IsSpoiled text = (next : List ℕ) → IsUtf8 (text ++ next) → ⊥
 
--- a check of a text tells that the text is spoiled, or keeps the bytes that stand for it
+-- a check of a text either reports that the text is spoiled, or keeps bytes that stand for it
 abbrev pub IsCheckOf : List ℕ → Option (List ℕ) → Type 0
 IsCheckOf text None = IsSpoiled text
 IsCheckOf text (Some kept) = StandsFor kept text

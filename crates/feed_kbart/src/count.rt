@@ -1,3 +1,4 @@
+//! Counting the rows of a file without keeping them.
 ghost use Rattle.std.specs.Prelude.{◌≡◌, length};
 
 use crate::coverage::Coverage;
@@ -7,7 +8,7 @@ use csv::ByteRecord;
 use std::alloc::{AllocError, Global};
 use std::marker::Model;
 
-/// How many rows a good file has, and the records that are set aside.
+/// The number of rows of a good file, and its skipped records.
 #[derive(Debug, Drop)]
 pub struct FileCount {
     rows: u32,
@@ -22,7 +23,7 @@ impl Model for FileCount {
     ghost view = { λ c. record { rows = c.rows; aside = c.aside.items } };
 }
 
-/// Counts rows, and keeps nothing else of them.
+/// A row counter, which keeps nothing else of the rows.
 #[derive(Drop)]
 pub(crate) struct RowCount {
     pub(crate) rows: u32,
@@ -54,14 +55,14 @@ impl FileCount {
         }
     }
 
-    /// How many rows there are.
+    /// Returns the number of rows.
     pub fn rows(&self) -> u32
         ensures { result ≡ self.now.rows }
     {
         self.rows
     }
 
-    /// The records that are set aside, in file order.
+    /// Returns the skipped records, in file order.
     pub fn aside(&self) -> &[Aside]
         ensures { result.now ≡ self.now.aside }
     {

@@ -1,3 +1,4 @@
+//! The identifiers, days and volumes that a record covers, and the reasons to skip a record.
 ghost use Rattle.std.specs.Prelude.{◌≡◌, true, false, MatchResult};
 ghost use Rattle.csv.specs.Records.{fields_of};
 ghost use Rattle.feed_kbart.specs.Coverage.{book_coverage, book_reason, coverage_days, coverage_of, coverage_volumes};
@@ -23,7 +24,7 @@ pub(crate) struct Coverage {
     pub(crate) last_volume: Option<u32>,
 }
 
-// What a publication type tells a row to be: a serial where it is empty or `serial`, a book where it is `monograph`.
+// The kind of a publication type: a serial if it is empty or `serial`, a book if it is `monograph`.
 fn read_kind(text: &[u8]) -> Option<Kind>
     ensures { result ≡ kind_of text.now }
 {
@@ -37,7 +38,7 @@ fn read_kind(text: &[u8]) -> Option<Kind>
     }
 }
 
-// The days of a coverage date; an empty date is an open side.
+// The days of a coverage date. An empty date leaves its side open.
 fn read_date(text: &[u8]) -> Result<Option<DayRange>, Reason>
     ensures { MatchResult result
         (λ days. (is_coverage_date text.now ≡ true) × (days ≡ coverage_days text.now))
@@ -53,7 +54,7 @@ fn read_date(text: &[u8]) -> Result<Option<DayRange>, Reason>
     }
 }
 
-// Whether the one side begins after the other has ended.
+// Returns whether the one side begins after the other has ended.
 fn is_reversed(first: Option<DayRange>, last: Option<DayRange>) -> bool
     ensures { result ≡ is_reversed first last }
 {
@@ -63,7 +64,7 @@ fn is_reversed(first: Option<DayRange>, last: Option<DayRange>) -> bool
     }
 }
 
-// The volumes; neither counts where the first exceeds the last.
+// The volumes. Neither counts if the first exceeds the last.
 fn volumes_of(columns: &Columns, fields: &ByteRecord) -> (Option<u32>, Option<u32>)
     ensures { result ≡ coverage_volumes columns.now (fields_of fields.now) }
 {
@@ -76,7 +77,7 @@ fn volumes_of(columns: &Columns, fields: &ByteRecord) -> (Option<u32>, Option<u3
 }
 
 impl Coverage {
-    /// What a record covers, or the first reason to set it aside.
+    /// Returns what a record covers, or the first reason to skip it.
     pub(crate) fn of(columns: &Columns, fields: &ByteRecord) -> Result<Coverage, Reason>
         ensures { MatchResult result
             (λ coverage. (reason_of columns.now (fields_of fields.now) ≡ None)
@@ -90,7 +91,7 @@ impl Coverage {
         }
     }
 
-    // What a serial's record covers, or the first reason to set it aside.
+    // Returns what a serial's record covers, or the first reason to skip it.
     fn of_serial(columns: &Columns, fields: &ByteRecord) -> Result<Coverage, Reason>
         ensures { MatchResult result
             (λ coverage. (serial_reason columns.now (fields_of fields.now) ≡ None)
@@ -117,7 +118,7 @@ impl Coverage {
         })
     }
 
-    // What a book's record covers: of a book neither dates nor volumes are read.
+    // Returns what a book's record covers, or the first reason to skip it. Ignores its dates and volumes.
     fn of_book(columns: &Columns, fields: &ByteRecord) -> Result<Coverage, Reason>
         ensures { MatchResult result
             (λ coverage. (book_reason columns.now (fields_of fields.now) ≡ None)

@@ -1,3 +1,4 @@
+//! The errors of reading a file, and the reasons to skip a record.
 ghost use Rattle.std.specs.Prelude.{◌≡◌};
 ghost use Rattle.feed_kbart.specs.declared.fault.KbartFault.TheVariants as fault;
 
@@ -6,14 +7,14 @@ use std::alloc::{AllocError, AllocFailed};
 use std::fmt;
 use thiserror::Error;
 
-/// Why a file is bad: the first of these that holds.
+/// Why a file is bad. The first applicable reason is reported.
 #[derive(Clone, Copy, Debug, PartialEq, Eq)]
 pub enum BadFile {
     /// The bytes are not UTF-8, anywhere in the file.
     NotUtf8,
     /// The text begins with two byte-order marks.
     TwoMarks,
-    /// There is no record.
+    /// The file has no record.
     NoHeader,
     /// The first required label, in their order, that no column has.
     MissingLabel(Label),
@@ -46,13 +47,13 @@ pub enum KbartFault {
     /// The whole file was read, and it is bad.
     #[error("{0}")]
     Bad(BadFile),
-    /// Want of memory.
+    /// Memory ran out.
     #[error("Memory")]
     Memory,
-    /// The reader failed; `Interrupted` is a failure.
+    /// The reader failed. `Interrupted` counts as a failure.
     #[error("Read")]
     Read,
-    /// The reader gave more bytes than a file may have.
+    /// The reader returned more bytes than a file may have.
     #[error("TooLong")]
     TooLong,
 }
@@ -81,16 +82,16 @@ impl From<BadFile> for KbartFault {
     }
 }
 
-/// Why a record is set aside: the first of these that holds.
+/// Why a record is skipped. The first applicable reason is reported.
 #[derive(Clone, Copy, Debug, PartialEq, Eq)]
 pub enum Reason {
     /// `publication_type` is neither empty, `serial` nor `monograph`.
     OtherType,
-    /// Of a serial neither identifier reads as an ISSN.
+    /// Neither identifier of a serial is a valid ISSN.
     NoIssn,
-    /// Of a book neither identifier reads as an ISBN.
+    /// Neither identifier of a book is a valid ISBN.
     NoIsbn,
-    /// A coverage date is not empty and does not read.
+    /// A coverage date is neither empty nor valid.
     BadDate,
     /// The first day of the first date is after the last day of the last.
     Reversed,

@@ -1,3 +1,4 @@
+//! Reading a whole file: from bytes to holdings, to counts, or to the first reason why the file is bad.
 ghost use Rattle.std.specs.Prelude.{◌≡◌, [], IfOk, IfSome};
 ghost use Rattle.feed_kbart.specs.Files.{IsCountOf, IsReadOf};
 ghost use Rattle.feed_kbart.specs.Kept.{HasFewRows, IsKeptOf};
@@ -13,7 +14,7 @@ use std::alloc::Global;
 use std::io::Read;
 use std::marker::Brand;
 
-// Reads the records of a file, judges its bytes on the way, and goes on to its end where the header is bad.
+// Reads the records of a file and checks its bytes on the way. If the header is bad, it still reads to the end.
 fn read_rows<R: Read + Drop, K: KeepRows + Drop, G: Given>(
     alloc: Global,
     reader: R,
@@ -31,13 +32,16 @@ fn read_rows<R: Read + Drop, K: KeepRows + Drop, G: Given>(
     kept
 }
 
-/// Reads a file to its end and judges it (NISO RP-9-2014).
+/// Reads a file to its end and validates it (NISO RP-9-2014).
 ///
-/// A file is UTF-8, with at most one byte-order mark at its front. Its records end at LF, CR or CRLF,
-/// empty lines are dropped, and tabs separate the fields; a quote is an ordinary character. The first
-/// record holds the labels, in any order. The fault is `Read` where the reader fails, `Interrupted`
-/// among its failures, and `TooLong` as soon as it gave more than `FILE_LIMIT` bytes; `Memory` may
-/// take the place of any other outcome.
+/// A file is UTF-8, with at most one byte-order mark at its front. Its records end at LF, CR or CRLF, and
+/// empty lines are dropped. Tabs separate the fields, and a quote is an ordinary character. The first
+/// record holds the labels, in any order.
+///
+/// # Errors
+///
+/// `Bad` with the first reason if the file is bad; `Read` if the reader fails (`Interrupted` counts as a failure);
+/// `TooLong` as soon as the reader has returned more than `FILE_LIMIT` bytes. `Memory` may replace any other outcome.
 pub fn read_file<R: Read + Drop>(alloc: Global, reader: R) -> Result<Holdings, KbartFault>
     ensures { IfSome (R.remaining reader) (λ text. IsReadOf text result) }
 {
@@ -45,8 +49,8 @@ pub fn read_file<R: Read + Drop>(alloc: Global, reader: R) -> Result<Holdings, K
     Ok(Holdings::of(alloc, kept)?)
 }
 
-/// The same, but that the rows are counted and not kept. Beside the records that are set aside it takes memory for the
-/// longest line alone.
+/// Reads a file like `read_file`, but counts the rows and does not keep them. Apart from the skipped records it
+/// allocates memory for the longest line only.
 pub fn count_file<R: Read + Drop>(alloc: Global, reader: R) -> Result<FileCount, KbartFault>
     ensures { IfSome (R.remaining reader) (λ text. IsCountOf text result) }
 {
@@ -54,8 +58,9 @@ pub fn count_file<R: Read + Drop>(alloc: Global, reader: R) -> Result<FileCount,
     Ok(FileCount::of(kept))
 }
 
-/// The same of a file that two readers give alike: the first is read to its end and judged, the second gives the
-/// records, and no more than a block of the text is held at once. The fault is `Read` where either reader fails.
+/// Reads a file like `read_file` from two readers that return the same bytes. It reads the first to its end to check
+/// the text, and takes the records from the second. It holds at most one block of the text at a time. The error is
+/// `Read` if either reader fails.
 pub fn read_parts<R: Read + Drop>(alloc: Global, check: R, read: R) -> Result<Holdings, KbartFault>
     requires same { R.remaining check ≡ R.remaining read }
     ensures { IfSome (R.remaining check) (λ text. IsReadOf text result) }

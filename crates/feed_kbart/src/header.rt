@@ -1,3 +1,4 @@
+//! The header of a file: which column has which label, and what is wrong with it.
 ghost use Rattle.std.specs.Prelude.{◌≡◌, Ok, Err, Some, None, MatchResult, count_by};
 ghost use Rattle.csv.specs.Records.{fields_of};
 ghost use Rattle.feed_kbart.specs.Columns.{bad_header, cell, column, columns_of, first_missing, first_twice};
@@ -7,7 +8,7 @@ use crate::fault::BadFile;
 use crate::label::{Label, REQUIRED_LABELS, USED};
 use csv::ByteRecord;
 
-/// The places of the used labels' columns, counted from 0.
+/// The columns of the labels in use, counted from 0.
 #[derive(Clone, Copy)]
 pub(crate) struct Columns {
     pub(crate) title: Option<usize>,
@@ -39,7 +40,7 @@ fn column_of(header: &ByteRecord, label: Label) -> Option<usize>
     None
 }
 
-// How many fields are the label.
+// The number of fields that are the label.
 fn count_of(header: &ByteRecord, label: Label) -> usize
     ensures { result ≡ count_by (is_label label) (fields_of header.now) }
 {
@@ -54,7 +55,7 @@ fn count_of(header: &ByteRecord, label: Label) -> usize
     count
 }
 
-// The first required label that no field is.
+// The first required label that no field has.
 fn missing_label(header: &ByteRecord) -> Option<Label>
     ensures { result ≡ first_missing (fields_of header.now) }
 {
@@ -64,7 +65,7 @@ fn missing_label(header: &ByteRecord) -> Option<Label>
         .find(|label| column_of(header, *label).is_none())
 }
 
-// The first label that two fields are.
+// The first label that two fields have.
 fn double_label(header: &ByteRecord) -> Option<Label>
     ensures { result ≡ first_twice (fields_of header.now) }
 {
@@ -73,7 +74,7 @@ fn double_label(header: &ByteRecord) -> Option<Label>
         .find(|label| count_of(header, *label) > 1)
 }
 
-/// The field in a column, which is empty where a record is short or the column is absent.
+/// Returns the field in a column. It is empty if the record is short or the column is absent.
 pub(crate) fn cell_of(fields: &ByteRecord, column: Option<usize>) -> &[u8]
     ensures { result.now ≡ cell column (fields_of fields.now) }
 {
@@ -83,7 +84,7 @@ pub(crate) fn cell_of(fields: &ByteRecord, column: Option<usize>) -> &[u8]
     }
 }
 
-/// The columns of a good header, or the first reason why it is bad.
+/// Returns the columns of a good header, or the first reason why it is bad.
 pub(crate) fn read_header(header: &ByteRecord) -> Result<Columns, BadFile>
     ensures { MatchResult result
         (λ columns. (bad_header (fields_of header.now) ≡ None)

@@ -1,3 +1,4 @@
+//! The holdings of a file: its rows with an index by identifier, and its skipped records.
 ghost use Rattle.std.specs.Prelude.{◌≡◌, ◌≤◌, ◌<◌, ◌++◌, List, [], ◌∷◌, IfOk, OnOk, length};
 ghost use Rattle.csv.specs.Records.{fields_of};
 ghost use Rattle.feed_kbart.specs.Kept.{IsKept};
@@ -14,7 +15,7 @@ use feed_identifiers::{Isbn, Issn};
 use std::alloc::{AllocError, Global};
 use std::marker::Model;
 
-/// A record that is set aside, and why.
+/// A record that was skipped, and why.
 #[derive(Clone, Copy, Debug, PartialEq, Eq)]
 pub struct Aside {
     /// The number of the record in its file. The header has number 1, and empty lines have none.
@@ -22,7 +23,7 @@ pub struct Aside {
     pub reason: Reason,
 }
 
-/// What a good file holds.
+/// The holdings of a good file: its rows, with an index by identifier, and its skipped records.
 #[derive(Debug, Drop)]
 pub struct Holdings {
     rows: Vec<Row>,
@@ -41,12 +42,12 @@ impl Model for Holdings {
     ghost invariant = { λ h. IsIndexOf h.rows.items h.index };
 }
 
-/// What is kept of the rows of a file, which are added in file order.
+/// A collector of a file's rows, which are added in file order.
 pub(crate) trait KeepRows {
     ghost use Rattle.feed_kbart.specs.RowValue.{RowValue, row_with};
     ghost use Rattle.feed_kbart.specs.Rows.{texts_of};
 
-    /// Just these rows were added.
+    /// These rows were added, and no others.
     ghost keeps: { List RowValue → Self → Type 0 };
 
     fn add(
@@ -76,7 +77,7 @@ impl KeepRows for Vec<Row> {
     }
 }
 
-/// What is kept of the records so far.
+/// The rows and the skipped records so far.
 #[derive(Drop)]
 pub(crate) struct HoldingsBuilder<K> {
     pub(crate) rows: K,
@@ -97,7 +98,7 @@ impl<K: KeepRows> HoldingsBuilder<K> {
         }
     }
 
-    /// Takes in a record, as a row or set aside.
+    /// Adds a record, as a row or as a skipped record.
     pub(crate) fn add(
         &mut self,
         alloc: Global,
@@ -119,7 +120,7 @@ impl<K: KeepRows> HoldingsBuilder<K> {
 impl Holdings {
     ghost use Rattle.feed_kbart.specs.Places.{places_with, places_with_isbn};
 
-    /// The holdings of rows and of records set aside, with an index of the rows.
+    /// Builds holdings from rows and skipped records, and indexes the rows.
     pub(crate) fn of(alloc: Global, kept: HoldingsBuilder<Vec<Row>>) -> Result<Holdings, AllocError>
         requires { length kept.rows.items ≤ file_limit }
         ensures { IfOk result (λ holdings. holdings
@@ -130,28 +131,28 @@ impl Holdings {
         Ok(Holdings { rows, aside, index })
     }
 
-    /// The rows, in file order.
+    /// Returns the rows, in file order.
     pub fn rows(&self) -> &[Row]
         ensures { result.now ≡ self.now.rows }
     {
         &self.rows
     }
 
-    /// The places in `rows` of the rows that have an ISSN, in print or online. They ascend, and each is there once.
+    /// Returns the places in `rows` of the rows that have an ISSN, in print or online. They ascend, each once.
     pub fn with_issn(&self, issn: &Issn) -> &[u32]
         ensures { result.now ≡ places_with issn.now self.now.rows }
     {
         self.index.places_beside(issn.number())
     }
 
-    /// The places in `rows` of the rows that have an ISBN, in print or online. They ascend, and each is there once.
+    /// Returns the places in `rows` of the rows that have an ISBN, in print or online. They ascend, each once.
     pub fn with_isbn(&self, isbn: &Isbn) -> &[u32]
         ensures { result.now ≡ places_with_isbn isbn.now self.now.rows }
     {
         self.index.places_beside(isbn_number(isbn))
     }
 
-    /// The records that are set aside, in file order.
+    /// Returns the skipped records, in file order.
     pub fn aside(&self) -> &[Aside]
         ensures { result.now ≡ self.now.aside }
     {

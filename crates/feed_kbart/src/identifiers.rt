@@ -1,3 +1,4 @@
+//! The identifiers of a row, and their numbers in the index.
 ghost use Rattle.std.specs.Prelude.{◌≡◌, ◌<◌, IfSome, option_map};
 ghost use Rattle.feed_identifiers.specs.Isbn.{IsIsbn};
 ghost use Rattle.feed_identifiers.specs.Issn.{IsIssn, number_of};
@@ -5,7 +6,7 @@ ghost use Rattle.feed_kbart.specs.Identifiers.{isbn_number};
 
 use feed_identifiers::{Isbn, Issn};
 
-/// What a row is about.
+/// The kind of a row's title.
 #[derive(Clone, Copy, Debug, PartialEq, Eq)]
 pub enum Kind {
     /// A serial: `publication_type` is empty or `serial`.
@@ -14,7 +15,7 @@ pub enum Kind {
     Book,
 }
 
-/// The identifiers of a row, in print and online: a serial's are ISSNs, a book's are ISBNs.
+/// The identifiers of a row, in print and online: ISSNs for a serial, ISBNs for a book.
 #[derive(Clone, Copy, Debug)]
 pub(crate) enum Identifiers {
     Serial {
@@ -27,7 +28,7 @@ pub(crate) enum Identifiers {
     },
 }
 
-/// The number of an ISBN in the index, where those of ISSNs stand below it.
+/// Returns the number of an ISBN in the index. It is above those of all ISSNs.
 pub(crate) fn isbn_number(isbn: &Isbn) -> u32
     ensures number { result ≡ isbn_number isbn.now }
     ensures printed { IsIsbn isbn.now }
@@ -57,7 +58,7 @@ impl Identifiers {
     ghost use Rattle.feed_kbart.specs.Identifiers.{AreIdentifiers, kind, numbers, online_isbn, online_issn, print_isbn};
     ghost use Rattle.feed_kbart.specs.Identifiers.{print_issn};
 
-    /// Whose they are.
+    /// Returns the kind of title that they belong to.
     pub(crate) fn kind(self) -> Kind
         ensures { result ≡ kind self }
     {
@@ -67,7 +68,7 @@ impl Identifiers {
         }
     }
 
-    /// The ISSN of a serial in print.
+    /// Returns the ISSN of a serial in print.
     pub(crate) fn print_issn(self) -> Option<Issn>
         ensures { result ≡ print_issn self }
     {
@@ -77,7 +78,7 @@ impl Identifiers {
         }
     }
 
-    /// The ISSN of a serial online.
+    /// Returns the ISSN of a serial online.
     pub(crate) fn online_issn(self) -> Option<Issn>
         ensures { result ≡ online_issn self }
     {
@@ -87,7 +88,7 @@ impl Identifiers {
         }
     }
 
-    /// The ISBN of a book in print.
+    /// Returns the ISBN of a book in print.
     pub(crate) fn print_isbn(self) -> Option<Isbn>
         ensures { result ≡ print_isbn self }
     {
@@ -97,7 +98,7 @@ impl Identifiers {
         }
     }
 
-    /// The ISBN of a book online.
+    /// Returns the ISBN of a book online.
     pub(crate) fn online_isbn(self) -> Option<Isbn>
         ensures { result ≡ online_isbn self }
     {
@@ -107,7 +108,7 @@ impl Identifiers {
         }
     }
 
-    /// Their numbers in the index.
+    /// Returns their numbers in the index.
     pub(crate) fn numbers(self) -> (Option<u32>, Option<u32>)
         ensures numbers { result ≡ numbers self }
         ensures printed { AreIdentifiers self }

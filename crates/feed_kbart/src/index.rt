@@ -1,3 +1,4 @@
+//! The index of rows by identifier: two parallel arrays, sorted by the identifiers' numbers.
 ghost use Rattle.std.specs.Prelude.{◌≡◌, ◌≤◌, ◌++◌, IfOk, OnOk, length, map};
 ghost use Rattle.std.specs.List.{All};
 ghost use Rattle.feed_kbart.specs.Index.{HasIdentifiers, IsIndexOf, IsTable, entries_from, entries_of, places_beside};
@@ -14,14 +15,14 @@ struct Entry {
     place: u32,
 }
 
-/// The places of rows by identifier: beside the number of each stands the place of a row that has it.
+/// The places of rows by identifier. Each number is paired with the place of a row that has the identifier.
 #[derive(Debug, Drop)]
 pub(crate) struct Index {
     numbers: Vec<u32>,
     places: Vec<u32>,
 }
 
-// Adds the entries of a row.
+// Appends the entries of a row.
 fn add_row(entries: &mut Vec<Entry>, place: u32, row: &Row) -> Result<(), AllocError>
     ensures added { OnOk result (entries.new.items ≡ entries.old.items ++ entries_of place row.now) }
     ensures printed { HasIdentifiers row.now }
@@ -56,7 +57,7 @@ fn entries_of(alloc: Global, rows: &[Row]) -> Result<Vec<Entry>, AllocError>
     Ok(entries)
 }
 
-// The entries as columns.
+// Splits the entries into two columns.
 fn columns_of(alloc: Global, entries: &[Entry]) -> Result<Index, AllocError>
     ensures numbers { IfOk result (λ index. index.numbers.items ≡ map (λ entry. entry.number) entries.now) }
     ensures places { IfOk result (λ index. index.places.items ≡ map (λ entry. entry.place) entries.now) }
@@ -80,12 +81,12 @@ impl Index {
         one_isbn_for_number();
         issn_numbers_are_small();
         let mut entries = entries_of(alloc, rows)?;
-        // Rows of one identifier keep their order.
+        // The sort is stable, so the rows of one identifier keep their order.
         entries.sort_by_key(|entry| entry.number)?;
         columns_of(alloc, &entries)
     }
 
-    /// The places beside a number.
+    /// Returns the places paired with a number.
     pub(crate) fn places_beside(&self, number: u32) -> &[u32]
         requires { IsTable self.now }
         ensures { result.now ≡ places_beside number self.now.numbers.items self.now.places.items }

@@ -1,3 +1,4 @@
+//! Checks the bytes of a text as they are read: UTF-8, and at most one byte-order mark.
 ghost use Rattle.std.specs.Prelude.{◌≡◌, ◌≤◌, ◌+◌, ◌-◌, ◌++◌, ℕ, List, [], length, min, take};
 ghost use Rattle.feed_kbart.specs.Bytes.{IsJudgeOf, IsTextOf};
 ghost use Rattle.feed_limits.specs.Limits.{file_limit};
@@ -8,7 +9,7 @@ use crate::utf8::Utf8Check;
 // Two byte-order marks of UTF-8.
 const TWO_MARKS: [u8; 6] = [0xEF, 0xBB, 0xBF, 0xEF, 0xBB, 0xBF];
 
-/// Judges the bytes of a text that comes in pieces.
+/// Checks the bytes of a text that is read in pieces.
 #[derive(Drop)]
 pub(crate) struct TextJudge {
     check: Utf8Check,
@@ -16,7 +17,7 @@ pub(crate) struct TextJudge {
     pub(crate) total: usize,
 }
 
-// The front of a text, of which so many bytes are known, with those that come next.
+// Appends the next bytes to the first `known` bytes of a text, up to six in all.
 fn with_next(front: [u8; 6], known: usize, bytes: &[u8]) -> [u8; 6]
     requires { known ≤ 6 }
     ensures { take (min (known + length bytes.now) 6) result ≡ take known front ++ take (6 - known) bytes.now }
@@ -28,7 +29,7 @@ fn with_next(front: [u8; 6], known: usize, bytes: &[u8]) -> [u8; 6]
 }
 
 impl TextJudge {
-    /// A judge of no bytes.
+    /// Returns a check that has seen no bytes.
     pub(crate) fn new() -> TextJudge
         ensures { IsJudgeOf [] result }
     {
@@ -39,7 +40,7 @@ impl TextJudge {
         }
     }
 
-    /// Takes in the bytes that come next.
+    /// Checks the next bytes.
     pub(crate) fn feed(&mut self, bytes: &[u8])
         requires { self.old.total ≤ file_limit }
         ensures judged { (text : List ℕ) → IsJudgeOf text self.old → IsJudgeOf (text ++ bytes.now) self.new }
@@ -50,7 +51,7 @@ impl TextJudge {
         self.total += bytes.len();
     }
 
-    /// Why the bytes of a whole text are bad, if they are.
+    /// Returns why the bytes of a whole text are bad, if they are.
     pub(crate) fn judged(self) -> Result<(), KbartFault>
         requires { self.total ≤ file_limit }
         ensures { (text : List ℕ) → IsJudgeOf text self → IsTextOf text result }

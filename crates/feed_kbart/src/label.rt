@@ -1,10 +1,11 @@
+//! The column labels of a file (NISO RP-9-2014), in the order in which a header is checked for them.
 ghost use Rattle.std.specs.Prelude.{◌≡◌, Some};
 
 use feed_identifiers::trim_spaces;
 use std::fmt;
 
-/// A column label that is read, in the order in which a file is checked for them. The first eight
-/// must stand in every file (NISO RP-9-2014).
+/// A column label in use. The variants are in the order in which a header is checked for them. Every file must have
+/// the first eight (NISO RP-9-2014).
 #[derive(Clone, Copy, Debug, PartialEq, Eq)]
 pub enum Label {
     PublicationTitle,
@@ -34,7 +35,7 @@ pub const REQUIRED_LABELS: [Label; 8] = [
     Label::TitleUrl,
 ];
 
-/// The labels that are read, in order.
+/// The labels in use, in order.
 pub(crate) const USED: [Label; 13] = [
     Label::PublicationTitle,
     Label::PrintIdentifier,
@@ -54,7 +55,7 @@ pub(crate) const USED: [Label; 13] = [
 impl Label {
     ghost use Rattle.feed_kbart.specs.Labels.{is_label, label_at, label_text};
 
-    /// The label as it is written, in small letters.
+    /// Returns the label as it is written, in lower case.
     pub fn text(self) -> &'static [u8]
         ensures { result.now ≡ label_text self }
     {
@@ -81,14 +82,14 @@ impl Label {
         }
     }
 
-    /// The place of the label in its order, from 1 to 13.
+    /// Returns the place of the label in its order, from 1 to 13.
     pub fn place(self) -> u8
         ensures { label_at result ≡ Some self }
     {
         self as u8 + 1
     }
 
-    /// The label at a place from 1 to 13.
+    /// Returns the label at a place from 1 to 13.
     pub fn of_place(place: u8) -> Option<Label>
         ensures { result ≡ label_at place }
     {
@@ -110,8 +111,7 @@ impl Label {
         }
     }
 
-    /// Whether a field of a header is the label: it equals it without the spaces at its ends and without regard to the
-    /// case of ASCII letters.
+    /// Returns whether a field of a header is the label, ignoring spaces at both ends and the case of ASCII letters.
     pub fn is(self, field: &[u8]) -> bool
         ensures { result ≡ is_label self field.now }
     {

@@ -1,3 +1,4 @@
+//! Reading the records of a file: the header, then a row or a skipped record for each line.
 ghost use Rattle.std.specs.Prelude.{IfOk, IfSome, ◌≡◌, ◌≤◌, ◌⊎◌, [], length};
 ghost use Rattle.csv.specs.Reading.{source_of};
 ghost use Rattle.feed_kbart.specs.Kept.{HasFewRows, IsBuilt};
@@ -24,8 +25,8 @@ fn fault_of(error: csv::Error) -> KbartFault
     }
 }
 
-/// A reader of the records of a holdings list, the header among them: lines of fields between tabs, without quoting
-/// (NISO RP-9-2014). It drops empty lines, and a byte-order mark at the front.
+/// Returns a reader of the records of a holdings list, including the header: lines of fields between tabs, without
+/// quoting (NISO RP-9-2014). It drops empty lines, and a byte-order mark at the front.
 pub fn record_reader<R: Read + Drop>(alloc: Global, source: R) -> Result<Reader<R>, AllocError>
     ensures { IfOk result (λ reader. IsRecordReader R.remaining source reader) }
 {
@@ -34,15 +35,15 @@ pub fn record_reader<R: Read + Drop>(alloc: Global, source: R) -> Result<Reader<
         .quoting(false)
         .flexible(true)
         .from_reader(alloc, source);
-    // The reader would keep two copies of the first record, for callers that ask for a header row.
+    // By default the reader would keep two copies of the first record, for callers that ask for a header row.
     match reader.set_byte_headers(ByteRecord::new(alloc)) {
         Ok(()) => Ok(reader),
         Err(_) => Err(AllocError),
     }
 }
 
-/// What is kept of the records of a text whose bytes are UTF-8 and begin with at most one byte-order mark, or why its
-/// header is bad. The reader has not read yet.
+/// Reads the records of a text that is UTF-8 and begins with at most one byte-order mark. Returns the rows and the
+/// skipped records, or why the header is bad. The reader must be unused.
 pub(crate) fn read_records<R: Read, K: KeepRows + Drop>(
     alloc: Global,
     reader: &mut Reader<R>,

@@ -1,3 +1,4 @@
+//! A row of a file: the holdings of one title.
 ghost use Rattle.std.specs.Prelude.{◌≡◌, IfOk};
 ghost use Rattle.csv.specs.Records.{fields_of};
 
@@ -10,8 +11,8 @@ use feed_identifiers::{Isbn, Issn};
 use std::alloc::{AllocError, Global};
 use std::marker::Model;
 
-/// A row of a file: the holdings of one serial, or a book. Its texts are as in the file, untrimmed; a text of an
-/// absent column is empty. Of a book neither dates nor volumes are read: they are absent.
+/// A row of a file: the holdings of one serial or one book. Its texts are as in the file, untrimmed; the text of an
+/// absent column is empty. The dates and volumes of a book are ignored, so they are absent.
 #[derive(Debug, Drop)]
 pub struct Row {
     number: u32,
@@ -33,7 +34,7 @@ impl Row {
     ghost use Rattle.feed_kbart.specs.RowValue.{row_with};
     ghost use Rattle.feed_kbart.specs.Rows.{texts_of};
 
-    /// The row of a record that covers this.
+    /// Builds the row of a record with this coverage.
     pub(crate) fn of(
         alloc: Global,
         number: u32,
@@ -60,56 +61,56 @@ impl Row {
         })
     }
 
-    /// The number of the record in its file. The header has number 1, and empty lines have none.
+    /// Returns the number of the record in its file. The header has number 1, and empty lines have none.
     pub fn number(&self) -> u32
         ensures { result ≡ self.now.number }
     {
         self.number
     }
 
-    /// `publication_title`.
+    /// Returns `publication_title`.
     pub fn title(&self) -> &[u8]
         ensures { result.now ≡ self.now.title }
     {
         self.texts.title()
     }
 
-    /// Whether it is a serial's or a book's.
+    /// Returns whether the row is a serial's or a book's.
     pub fn kind(&self) -> Kind
         ensures { result ≡ kind self.now.identifiers }
     {
         self.coverage.identifiers.kind()
     }
 
-    /// The ISSN of a serial's `print_identifier`, where it reads as one.
+    /// Returns the ISSN of a serial's `print_identifier`, if it is valid.
     pub fn print(&self) -> Option<Issn>
         ensures { result ≡ print_issn self.now.identifiers }
     {
         self.coverage.identifiers.print_issn()
     }
 
-    /// The ISSN of a serial's `online_identifier`, where it reads as one.
+    /// Returns the ISSN of a serial's `online_identifier`, if it is valid.
     pub fn online(&self) -> Option<Issn>
         ensures { result ≡ online_issn self.now.identifiers }
     {
         self.coverage.identifiers.online_issn()
     }
 
-    /// The ISBN of a book's `print_identifier`, where it reads as one.
+    /// Returns the ISBN of a book's `print_identifier`, if it is valid.
     pub fn print_isbn(&self) -> Option<Isbn>
         ensures { result ≡ print_isbn self.now.identifiers }
     {
         self.coverage.identifiers.print_isbn()
     }
 
-    /// The ISBN of a book's `online_identifier`, where it reads as one.
+    /// Returns the ISBN of a book's `online_identifier`, if it is valid.
     pub fn online_isbn(&self) -> Option<Isbn>
         ensures { result ≡ online_isbn self.now.identifiers }
     {
         self.coverage.identifiers.online_isbn()
     }
 
-    /// The numbers of its identifiers in the index.
+    /// Returns the numbers of its identifiers in the index.
     pub(crate) fn numbers(&self) -> (Option<u32>, Option<u32>)
         ensures numbers { result ≡ numbers self.now.identifiers }
         ensures printed { AreIdentifiers self.now.identifiers }
@@ -117,64 +118,65 @@ impl Row {
         self.coverage.identifiers.numbers()
     }
 
-    /// The first day of `date_first_issue_online`, counted from 1970-01-01. None is an open side.
+    /// Returns the first day of `date_first_issue_online`, counted from 1970-01-01, or `None` if coverage has no
+    /// beginning.
     pub fn first_day(&self) -> Option<i32>
         ensures { result ≡ self.now.first_day }
     {
         self.coverage.first_day
     }
 
-    /// The last day of `date_last_issue_online`, counted from 1970-01-01. None is an open side:
-    /// coverage to the present (NISO RP-9-2014).
+    /// Returns the last day of `date_last_issue_online`, counted from 1970-01-01, or `None` if coverage extends to the
+    /// present (NISO RP-9-2014).
     pub fn last_day(&self) -> Option<i32>
         ensures { result ≡ self.now.last_day }
     {
         self.coverage.last_day
     }
 
-    /// The number of `num_first_vol_online`, at most 999,999,999.
+    /// Returns the number of `num_first_vol_online`, at most 999,999,999.
     pub fn first_volume(&self) -> Option<u32>
         ensures { result ≡ self.now.first_volume }
     {
         self.coverage.first_volume
     }
 
-    /// The number of `num_last_vol_online`, at most 999,999,999.
+    /// Returns the number of `num_last_vol_online`, at most 999,999,999.
     pub fn last_volume(&self) -> Option<u32>
         ensures { result ≡ self.now.last_volume }
     {
         self.coverage.last_volume
     }
 
-    /// `title_url`.
+    /// Returns `title_url`.
     pub fn url(&self) -> &[u8]
         ensures { result.now ≡ self.now.url }
     {
         self.texts.url()
     }
 
-    /// `title_id`.
+    /// Returns `title_id`.
     pub fn title_id(&self) -> &[u8]
         ensures { result.now ≡ self.now.title_id }
     {
         self.texts.title_id()
     }
 
-    /// `coverage_depth`.
+    /// Returns `coverage_depth`.
     pub fn depth(&self) -> &[u8]
         ensures { result.now ≡ self.now.depth }
     {
         self.texts.depth()
     }
 
-    /// `embargo_info`.
+    /// Returns `embargo_info`.
     pub fn embargo(&self) -> &[u8]
         ensures { result.now ≡ self.now.embargo }
     {
         self.texts.embargo()
     }
 
-    /// `access_type`.
+    /// Returns `access_type`.
     pub fn access(&self) -> &[u8]
         ensures { result.now ≡ self.now.access }
     {

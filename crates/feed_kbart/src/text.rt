@@ -1,7 +1,8 @@
+//! Parsing volume numbers.
 ghost use Rattle.std.specs.Prelude.{◌≡◌};
 ghost use Rattle.feed_kbart.specs.Text.{volume_of};
 
-/// The number of a volume, where the text is 1 to 9 ASCII digits. It does not trim.
+/// Parses a volume number: 1 to 9 ASCII digits. Does not trim.
 pub fn read_volume(text: &[u8]) -> Option<u32>
     ensures { result ≡ volume_of text.now }
 {

@@ -1,3 +1,4 @@
+//! A reader that checks a text while it is read: UTF-8, byte-order marks and size.
 ghost use Rattle.std.specs.Prelude.{◌≡◌, Option, List, ℕ, None, IfSome};
 ghost use Rattle.feed_kbart.specs.Bytes.{IsReadTo, IsTextOf};
 
@@ -9,10 +10,10 @@ use std::io;
 use std::io::{ErrorKind, Read};
 use std::marker::{Brand, PhantomData};
 
-// How many bytes are read at once.
+// The number of bytes read at once.
 const BLOCK: usize = 65_536;
 
-/// Which text is read, where it is known. Each call picks it.
+/// The text that is being read, if it is known. Each call chooses it. It exists in contracts only.
 pub(crate) trait Given {
     ghost given: { Option (List ℕ) };
 }
@@ -21,7 +22,7 @@ impl Given for Brand {
     ghost given = { None };
 }
 
-/// Reads a text, and judges its bytes on the way.
+/// Reads a text and checks its bytes on the way.
 #[derive(Drop)]
 pub(crate) struct TextReader<R: Read, G: Given> {
     reader: R,
@@ -31,7 +32,7 @@ pub(crate) struct TextReader<R: Read, G: Given> {
     ghost read: { ∥ IsReadTo G.given (R.remaining reader) judge ∥₁ },
 }
 
-/// Reads what is left of a text, and judges all of it.
+/// Reads the rest of a text and checks all of it.
 pub(crate) fn judge_rest<R: Read + Drop>(
     alloc: Global,
     reader: R,
@@ -66,7 +67,7 @@ impl<R: Read + Drop, G: Given> TextReader<R, G> {
         }
     }
 
-    /// Reads what is left, and tells why the text's bytes are bad, or why they were not read.
+    /// Reads the rest, and returns why the text's bytes are bad or could not be read.
     pub(crate) fn finish(self, alloc: Global) -> Result<(), KbartFault>
         ensures { IfSome G.given (λ text. IsTextOf text result) }
     {

@@ -1,3 +1,4 @@
+//! The texts of a row, stored in one buffer.
 ghost use Rattle.std.specs.Prelude.{◌≡◌, IfOk};
 
 use std::alloc::{AllocError, Global};
@@ -35,7 +36,7 @@ impl Model for Texts {
 }
 
 impl Texts {
-    /// The texts, copied into one buffer.
+    /// Copies the texts into one buffer.
     pub(crate) fn of(
         alloc: Global,
         title: &[u8],

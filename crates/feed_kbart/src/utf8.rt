@@ -1,14 +1,15 @@
+//! Incremental validation of UTF-8.
 ghost use Rattle.std.specs.Prelude.{◌≡◌, ◌≤◌, ◌+◌, ◌-◌, ◌++◌, ◌↔◌, ℕ, List, []};
 ghost use Rattle.std.specs.Prelude.{IfSome, IsTrue, IsUtf8, MatchOption, drop, length, take};
 ghost use Rattle.feed_kbart.specs.Utf8.{IsCheckOf, IsSpoiled, StandsFor};
 
 use std::marker::Model;
 
-// The longest character has four bytes, so that more than these are not kept of one that is begun.
+// The longest character has four bytes, so an incomplete one has at most three.
 const KEPT: usize = 3;
 
-/// Tells whether bytes that come in pieces are UTF-8 (RFC 3629), however they are cut. It keeps none of them but the
-/// at most three of a character that is begun, and takes no memory.
+/// Checks whether bytes are UTF-8 (RFC 3629) as they arrive, wherever they are cut. Stores only the bytes of an
+/// incomplete character, at most three, and does not allocate.
 #[derive(Drop)]
 pub struct Utf8Check {
     kept: [u8; KEPT],
@@ -26,7 +27,7 @@ impl Model for Utf8Check {
     ghost invariant = { λ c. c.count ≤ 3 };
 }
 
-// How many bytes at the end stand for all of them, or `None` where they are spoiled.
+// The number of bytes at the end that stand for all of them, or `None` if the text is spoiled.
 fn count_to_keep(bytes: &[u8]) -> Option<usize>
     ensures spoiled { MatchOption result (IsSpoiled bytes.now)
         (λ count. StandsFor (drop (length bytes.now - count) bytes.now) bytes.now) }
@@ -61,14 +62,14 @@ fn join(left: &[u8], right: &[u8]) -> [u8; 2 * KEPT]
 }
 
 impl Utf8Check {
-    /// A check that was fed nothing yet.
+    /// Returns a check that has seen no bytes.
     pub fn new() -> Utf8Check
         ensures { IsCheckOf [] result }
     {
         Utf8Check::of(&[])
     }
 
-    // A check that was fed these bytes alone.
+    // Returns a check that has seen these bytes.
     fn of(bytes: &[u8]) -> Utf8Check
         ensures { IsCheckOf bytes.now result }
     {
@@ -90,7 +91,7 @@ impl Utf8Check {
         }
     }
 
-    /// Takes in the bytes that come next.
+    /// Checks the next bytes.
     pub fn feed(&mut self, bytes: &[u8])
         ensures { (text : List ℕ) → IsCheckOf text self.old → IsCheckOf (text ++ bytes.now) self.new }
     {
@@ -111,7 +112,7 @@ impl Utf8Check {
         }
     }
 
-    /// Whether all that was fed is UTF-8.
+    /// Returns whether all bytes so far are UTF-8.
     pub fn finish(self) -> bool
         ensures { (text : List ℕ) → IsCheckOf text self → (IsTrue result ↔ IsUtf8 text) }
     {
