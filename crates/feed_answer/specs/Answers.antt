@@ -20,7 +20,7 @@ answer_of holdings query = filter_map (hit_by query) holdings.rows
 abbrev pub after_tab : List ℕ → List ℕ
 after_tab field = 9 ∷ field
 
--- the line of a hit: its fields, with a tab between each two, and a line feed
+-- the line of a hit: its fields, joined by tabs, and a line feed
 abbrev pub hit_line : HitValue → List ℕ
 hit_line hit =
     decimal hit.row.number
@@ -30,7 +30,7 @@ hit_line hit =
     )
     ++ codes "\n"
 
--- the line before the hits: the name of the release, and how many they are
+-- the line before the hits: the name of the release, and the number of hits
 abbrev pub head_line : List ℕ → ℕ → List ℕ
 head_line name count = codes "release " ++ name ++ codes " hits " ++ decimal count ++ codes "\n"
 

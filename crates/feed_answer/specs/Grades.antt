@@ -1,4 +1,4 @@
--- Which rows match a query, and how well.
+-- The rows that match a query, and how well they match.
 use Rattle.std.specs.Prelude.{ℕ, ◌&&◌, ◌||◌, nat_le, Bool, true, false, List, Option, Some, None, if◌then◌else◌, codes, ℤ, int_le}
 use Rattle.feed_kbart.specs.Identifiers.{kind, online_isbn, online_issn, print_isbn, print_issn}
 use Rattle.feed_kbart.specs.RowValue.{RowValue}
@@ -10,7 +10,7 @@ use Rattle.feed_answer.specs.QueryValue.{QueryValue}
 use Rattle.feed_answer.specs.declared.grade.Grade.{Grade}
 use Rattle.feed_answer.specs.declared.grade.Grade.TheVariants.{Untested, Overlap, Inside}
 
--- how a grade is written
+-- the printed name of a grade
 abbrev pub grade_text : Grade → List ℕ
 grade_text Untested = codes "untested"
 grade_text Overlap = codes "overlap"
@@ -21,45 +21,45 @@ abbrev pub begins_by : Option ℤ → ℤ → Bool
 begins_by None day = true
 begins_by (Some first) day = int_le first day
 
--- coverage lasts to a day; without a last day it lasts to the present, and on
+-- coverage lasts to a day; without a last day it has no end
 abbrev pub lasts_to : Option ℤ → ℤ → Bool
 lasts_to None day = true
 lasts_to (Some last) day = int_le day last
 
--- the grade of coverage that is tested: the days of the query meet it, and may lie in it
+-- the grade by dates, if they are tested: `Inside` if coverage includes all of the query's days, `Overlap` if only some
 abbrev pub tested_days : Option ℤ → Option ℤ → DayRange → Option Grade
 tested_days first last days =
     if begins_by first days.last && lasts_to last days.first
     then Some (if begins_by first days.first && lasts_to last days.last then Inside else Overlap)
     else None
 
--- the grade by the dates alone: they are tested where the query has one and the row has one
+-- the grade by the dates alone; they are tested if both the query and the row have one
 abbrev pub days_grade : Option ℤ → Option ℤ → Option DayRange → Option Grade
 days_grade first last None = Some Untested
 days_grade None None (Some days) = Some Untested
 days_grade first last (Some days) = tested_days first last days
 
--- a volume is not below a first one; a side that is absent is open
+-- a volume is not below a first one; without a first one the side is open
 abbrev pub not_below : Option ℕ → ℕ → Bool
 not_below None volume = true
 not_below (Some first) volume = nat_le first volume
 
--- a volume is not above a last one; a side that is absent is open
+-- a volume is not above a last one; without a last one the side is open
 abbrev pub not_above : Option ℕ → ℕ → Bool
 not_above None volume = true
 not_above (Some last) volume = nat_le volume last
 
--- the grade of volumes that are tested: the query's lies between them
+-- the grade by volumes, if they are tested: the query's is between the row's
 abbrev pub tested_volume : Option ℕ → Option ℕ → ℕ → Option Grade
 tested_volume first last volume = if not_below first volume && not_above last volume then Some Inside else None
 
--- the grade by the volumes alone: they are tested where the query has one and the row has one
+-- the grade by the volumes alone; they are tested if both the query and the row have one
 abbrev pub volume_grade : Option ℕ → Option ℕ → Option ℕ → Option Grade
 volume_grade first last None = Some Untested
 volume_grade None None (Some volume) = Some Untested
 volume_grade first last (Some volume) = tested_volume first last volume
 
--- the grade by both, where both pass: that of the dates where they were tested, else that of the volumes
+-- the grade by both, if both pass: that of the dates if they were tested, otherwise that of the volumes
 abbrev pub both_grades : Option Grade → Option Grade → Option Grade
 both_grades None by_volume = None
 both_grades (Some by_days) None = None
@@ -67,7 +67,7 @@ both_grades (Some Untested) (Some by_volume) = Some by_volume
 both_grades (Some Overlap) (Some by_volume) = Some Overlap
 both_grades (Some Inside) (Some by_volume) = Some Inside
 
--- an identifier is one of those that are asked for
+-- a row's identifier is among those asked for
 abbrev pub is_named : Option (List ℕ) → List (List ℕ) → Bool
 is_named None identifiers = false
 is_named (Some identifier) identifiers = is_among identifier identifiers
@@ -79,7 +79,7 @@ serial_grade query row =
     then both_grades (days_grade row.first_day row.last_day query.days) (volume_grade row.first_volume row.last_volume query.volume)
     else None
 
--- the grade of a book's row, if it matches: one of its ISBNs is asked for, and nothing is tested
+-- the grade of a book's row, if it matches: one of its ISBNs is asked for; dates and volumes are not tested
 abbrev pub book_grade : QueryValue → RowValue → Option Grade
 book_grade query row =
     if is_named (print_isbn row.identifiers) query.isbns || is_named (online_isbn row.identifiers) query.isbns then Some Untested else None

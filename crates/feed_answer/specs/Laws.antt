@@ -9,22 +9,22 @@ use Rattle.feed_answer.specs.declared.grade.Grade.TheVariants.{Inside}
 abbrev pub SetHasJustItsIdentifiers : Type 0
 SetHasJustItsIdentifiers = (identifiers : List (List ℕ)) (one : List ℕ) → is_among one (identifier_set identifiers) ≡ is_among one identifiers
 
--- a day is covered from a first day to a last; a side that is absent is open
+-- a day is covered from a first day to a last; a missing side is open
 pub record IsCovered (first last : Option ℤ) (day : ℤ) : Type 0 where
   pub begun : begins_by first day ≡ true
   pub lasting : lasts_to last day ≡ true
 
--- a day is one of those asked for
+-- a day is among those asked for
 pub record IsAsked (days : DayRange) (day : ℤ) : Type 0 where
   pub not_before : days.first ≤ℤ day
   pub not_after : day ≤ℤ days.last
 
--- coverage that has a day is graded by the days: none where no day asked for is covered, inside where each is
+-- coverage with at least one day is graded by the days: no grade if no day asked for is covered, inside if each is
 pub record AreGradedByDays (first last : Option ℤ) (days : DayRange) : Type 0 where
   pub apart : (tested_days first last days ≡ None) ↔ ((day : ℤ) → IsAsked days day → ¬ (IsCovered first last day))
   pub inside : (tested_days first last days ≡ Some Inside) ↔ ((day : ℤ) → IsAsked days day → IsCovered first last day)
 
--- of every coverage that has a day, and all days of a query
+-- for all coverage with at least one day, and all days of a query
 abbrev pub GradesSpeakOfDays : Type 0
 GradesSpeakOfDays =
     (first last : Option ℤ) (days : DayRange) (some : ℤ) → IsCovered first last some → days.first ≤ℤ days.last

@@ -1,4 +1,4 @@
--- How long a query may be.
+-- The size limit of a query.
 use Rattle.std.specs.Prelude.{ℕ}
 
 -- the most bytes that a query may have

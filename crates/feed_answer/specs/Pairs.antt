@@ -1,4 +1,4 @@
--- What the pairs of a query say (ANSI/NISO Z39.88-2004, key/value formats of journals and books).
+-- The meaning of a query's key/value pairs (ANSI/NISO Z39.88-2004, key/value formats of journals and books).
 use Rattle.std.specs.Prelude.{ℕ, ◌&&◌, ◌||◌, not, Bool, true, false, List, [], ◌∷◌, Option, Some, None, if◌then◌else◌, take, drop, length, codes}
 use Rattle.std.specs.List.{filter_map}
 use Rattle.std.specs.Str.{bytes_eq, str_eq_ignore_ascii_case}
@@ -14,16 +14,16 @@ use Rattle.feed_answer.specs.IdentifierSet.{identifier_set}
 abbrev pub has_key : List ℕ → List ℕ × List ℕ → Bool
 has_key key pair = bytes_eq pair.0 key
 
--- there is nothing in a list
+-- a list is empty
 abbrev pub is_empty : {A : Type 0} → List A → Bool
 is_empty [] = true
 is_empty (x ∷ xs) = false
 
--- the pair has this key, and a value that is neither empty nor the one that is wanted
+-- a pair has this key, and a value that is neither empty nor the expected one
 abbrev pub is_other : List ℕ → List ℕ → List ℕ × List ℕ → Bool
 is_other key wanted pair = has_key key pair && not (is_empty pair.1) && not (bytes_eq pair.1 wanted)
 
--- the version of the standard is another
+-- a pair names another version of the standard
 abbrev pub is_other_version : List ℕ × List ℕ → Bool
 is_other_version pair =
     is_other (codes "url_ver") (codes "Z39.88-2004") pair || is_other (codes "ctx_ver") (codes "Z39.88-2004") pair
@@ -35,15 +35,15 @@ journal_format = codes "info:ofi/fmt:kev:mtx:journal"
 abbrev pub book_format : List ℕ
 book_format = codes "info:ofi/fmt:kev:mtx:book"
 
--- the pair tells this format
+-- a pair names this format
 abbrev pub tells_format : List ℕ → List ℕ × List ℕ → Bool
 tells_format format pair = has_key (codes "rft_val_fmt") pair && bytes_eq pair.1 format
 
--- the format is neither that of journals nor that of books
+-- a pair names a format that is neither that of journals nor that of books
 abbrev pub is_other_format : List ℕ × List ℕ → Bool
 is_other_format pair = is_other (codes "rft_val_fmt") journal_format pair && not (bytes_eq pair.1 book_format)
 
--- the text begins with this front, in any case of ASCII letters
+-- a text begins with this prefix, ignoring the case of ASCII letters
 abbrev pub is_begun_by : List ℕ → List ℕ → Bool
 is_begun_by front text = str_eq_ignore_ascii_case (take (length front) text) front
 
@@ -70,23 +70,23 @@ isbn_of_pair pair = if has_key (codes "rft.isbn") pair then isbn_of pair.1 else 
 abbrev pub isbns_among : List (List ℕ × List ℕ) → List (List ℕ)
 isbns_among pairs = identifier_set (filter_map isbn_of_pair pairs)
 
--- the days of a pair whose value, trimmed, reads as a date
+-- the days of a date pair whose value, trimmed, is a valid date
 abbrev pub days_of_pair : List ℕ × List ℕ → Option DayRange
 days_of_pair pair = if has_key (codes "rft.date") pair then query_days_of (trimmed pair.1) else None
 
--- the number of a pair whose value, trimmed, reads as a volume
+-- the number of a volume pair whose value, trimmed, is a valid volume
 abbrev pub volume_of_pair : List ℕ × List ℕ → Option ℕ
 volume_of_pair pair = if has_key (codes "rft.volume") pair then volume_of (trimmed pair.1) else None
 
--- the first of what is there
+-- the first element
 abbrev pub first : {A : Type 0} → List A → Option A
 first [] = None
 first (x ∷ xs) = Some x
 
--- the days of the first date that reads
+-- the days of the first valid date
 abbrev pub first_days : List (List ℕ × List ℕ) → Option DayRange
 first_days pairs = first (filter_map days_of_pair pairs)
 
--- the number of the first volume that reads
+-- the number of the first valid volume
 abbrev pub first_volume : List (List ℕ × List ℕ) → Option ℕ
 first_volume pairs = first (filter_map volume_of_pair pairs)

@@ -8,11 +8,11 @@ use Rattle.feed_answer.specs.Answers.{hit_by}
 use Rattle.feed_answer.specs.HitValue.{HitValue}
 use Rattle.feed_answer.specs.QueryValue.{QueryValue}
 
--- the places of the rows that have one of these ISSNs, ISSN by ISSN
+-- the places of the rows that have an ISSN in the list, ISSN by ISSN
 abbrev pub places_of_issns : List (List ℕ) → List RowValue → List ℕ
 places_of_issns issns rows = flat_map (λ issn. places_with issn rows) issns
 
--- the places of the rows that have one of these ISBNs, ISBN by ISBN
+-- the places of the rows that have an ISBN in the list, ISBN by ISBN
 abbrev pub places_of_isbns : List (List ℕ) → List RowValue → List ℕ
 places_of_isbns isbns rows = flat_map (λ isbn. places_with_isbn isbn rows) isbns
 
@@ -20,6 +20,6 @@ places_of_isbns isbns rows = flat_map (λ isbn. places_with_isbn isbn rows) isbn
 abbrev pub places_among : QueryValue → List RowValue → List ℕ
 places_among query rows = places_of_issns query.issns rows ++ places_of_isbns query.isbns rows
 
--- the row at a place with its grade, if it is there and matches
+-- the row at a place with its grade, if the row exists and matches
 abbrev pub hit_at : QueryValue → List RowValue → ℕ → Option HitValue
 hit_at query rows place = option_and_then (hit_by query) (slice_get rows place)

@@ -1,4 +1,4 @@
--- What a query asks for, or why it is refused.
+-- Parsing a query: what it asks for, or why it is rejected.
 use Rattle.std.specs.Prelude.{◌≡◌, ◌≤◌, ◌&&◌, ◌||◌, nat_lt, ℕ, Bool, List, [], length, Result, Ok, Err, if◌then◌else◌}
 use Rattle.std.specs.List.{list_any}
 use Rattle.form_urlencoded.specs.Form as form
@@ -9,44 +9,44 @@ use Rattle.feed_answer.specs.Limits.{query_limit}
 use Rattle.feed_answer.specs.declared.fault.QueryFault.{QueryFault}
 use Rattle.feed_answer.specs.declared.fault.QueryFault.TheVariants.{TooLong, Version, OtherFormat, NoIssn, NoIsbn, Memory}
 
--- the format of journals is told
+-- the query names the format of journals
 abbrev pub tells_journal : List (List ℕ × List ℕ) → Bool
 tells_journal pairs = list_any (tells_format journal_format) pairs
 
--- the format of books is told
+-- the query names the format of books
 abbrev pub tells_book : List (List ℕ × List ℕ) → Bool
 tells_book pairs = list_any (tells_format book_format) pairs
 
--- the formats are none that is answered: another is told, or both are
+-- the query names an unsupported format, or both supported ones
 abbrev pub has_other_format : List (List ℕ × List ℕ) → Bool
 has_other_format pairs = list_any is_other_format pairs || (tells_journal pairs && tells_book pairs)
 
--- the ISSNs that are asked for, which do not count in the format of books
+-- the ISSNs asked for; in the format of books they do not count
 abbrev pub issns_asked : List (List ℕ × List ℕ) → List (List ℕ)
 issns_asked pairs = if tells_book pairs then [] else issns_among pairs
 
--- the ISBNs that are asked for, which do not count in the format of journals
+-- the ISBNs asked for; in the format of journals they do not count
 abbrev pub isbns_asked : List (List ℕ × List ℕ) → List (List ℕ)
 isbns_asked pairs = if tells_journal pairs then [] else isbns_among pairs
 
--- a query asks for the rows of these identifiers, and is refused where there are none
+-- a query for these identifiers; it is rejected if there are none
 abbrev pub asked_for : List (List ℕ) → List (List ℕ) → List (List ℕ × List ℕ) → Result QueryValue QueryFault
 asked_for issns isbns pairs =
     if is_empty issns && is_empty isbns then Err (if tells_book pairs then NoIsbn else NoIssn)
     else Ok (record { issns = issns; isbns = isbns; days = first_days pairs; volume = first_volume pairs })
 
--- what the decoded pairs ask for: the version is judged first, then the format, then the identifiers
+-- what the decoded pairs ask for: the version is checked first, then the format, then the identifiers
 abbrev pub asked_by : List (List ℕ × List ℕ) → Result QueryValue QueryFault
 asked_by pairs =
     if list_any is_other_version pairs then Err Version
     else if has_other_format pairs then Err OtherFormat
     else asked_for (issns_asked pairs) (isbns_asked pairs) pairs
 
--- what a query asks for, or the first reason to refuse it
+-- what a query asks for, or the first reason to reject it
 unfoldable pub query_of : List ℕ → Result QueryValue QueryFault
 query_of text = if nat_lt query_limit (length text) then Err TooLong else asked_by (form.parse text)
 
--- what reading a query may give: want of memory may take the place of any outcome but `TooLong`
+-- what parsing a query may return; an allocation failure may replace any outcome but `TooLong`
 abbrev pub IsReadOf : List ℕ → Result QueryValue QueryFault → Type 0
 IsReadOf text (Err Memory) = length text ≤ query_limit
 IsReadOf text outcome = outcome ≡ query_of text

@@ -1,4 +1,4 @@
--- What lists and queries said before books were read. The answers on serials are still those.
+-- The meaning of lists and queries in the versions that had serials only. Their answers on serials have not changed.
 use Rattle.std.specs.Prelude.{◌≡◌, ◌&&◌, ◌||◌, nat_lt, ℕ, Bool, true, false, List, [], ◌∷◌, length, Option, Some, None, Ok, if◌then◌else◌, is_none, option_map, codes}
 use Rattle.std.specs.List.{enumerate_from, filter, filter_map, list_any}
 use Rattle.std.specs.Str.{str_eq_ignore_ascii_case}
@@ -23,38 +23,38 @@ use Rattle.feed_answer.specs.Pairs.{first_days, first_volume, is_empty, is_other
 use Rattle.feed_answer.specs.Queries.{query_of}
 use Rattle.feed_answer.specs.QueryValue.{QueryValue}
 
--- the publication type is empty or `serial`; every other one was set aside
+-- the publication type is empty or `serial`; records of any other type were skipped
 abbrev pub is_serial_type : List ℕ → Bool
 is_serial_type text = coverage.is_empty (trimmed text) || str_eq_ignore_ascii_case (trimmed text) (codes "serial")
 
--- the row that a numbered record was under a header, unless it was set aside
+-- the row of a numbered record under a header, unless it was skipped
 abbrev pub serial_row_at : List (List ℕ) → ℕ × List (List ℕ) → Option RowValue
 serial_row_at header numbered =
     if is_serial_type (cell (columns_of header).publication_type numbered.1) && is_none (serial_reason (columns_of header) numbered.1)
     then Some (row_with numbered.0 (serial_coverage (columns_of header) numbered.1) (texts_of (columns_of header) numbered.1)) else None
 
--- the rows that records were, of which the first is the header
+-- the rows of records after the header, which is the first
 abbrev pub serial_rows_in : List (List (List ℕ)) → List RowValue
 serial_rows_in [] = []
 serial_rows_in (header ∷ records) = filter_map (serial_row_at header) (enumerate_from 2 records)
 
--- what a query asked for
+-- a query for serials
 pub record SerialQuery : Type 0 where
   pub issns : List (List ℕ)
   pub days : Option DayRange
   pub volume : Option ℕ
 
--- the format was another than that of journals
+-- the format is another than that of journals
 abbrev pub is_other_than_journal : List ℕ × List ℕ → Bool
 is_other_than_journal pair = is_other (codes "rft_val_fmt") journal_format pair
 
--- what pairs asked for, unless they were refused
+-- the query that pairs make, unless it was rejected
 abbrev pub serial_query_by : List (List ℕ × List ℕ) → Option SerialQuery
 serial_query_by pairs =
     if list_any is_other_version pairs || (list_any is_other_than_journal pairs || is_empty (issns_among pairs)) then None
     else Some (record { issns = issns_among pairs; days = first_days pairs; volume = first_volume pairs })
 
--- what a query asked for, unless it was refused
+-- the query of a text, unless it was rejected
 unfoldable pub serial_query_of : List ℕ → Option SerialQuery
 serial_query_of text = if nat_lt query_limit (length text) then None else serial_query_by (form.parse text)
 
@@ -66,7 +66,7 @@ serial_hit_by query row = option_map (λ grade. record { row = row; grade = grad
     else None
     )
 
--- the answer that a text gave
+-- the answer of a text to a query
 unfoldable pub serial_answer_of : List ℕ → SerialQuery → List HitValue
 serial_answer_of text query = filter_map (serial_hit_by query) (serial_rows_in (records_of text))
 
@@ -79,7 +79,7 @@ is_serial Book = false
 abbrev pub is_serial_hit : HitValue → Bool
 is_serial_hit hit = is_serial (kind hit.row.identifiers)
 
--- every query that was read is read, and in every list its hits on serials are those that it had, with their grades
+-- every query that was accepted is still accepted, and in every list its hits on serials and their grades are the same
 abbrev pub SerialAnswersStay : Type 0
 SerialAnswersStay =
     (text query : List ℕ) (old : SerialQuery) → serial_query_of query ≡ Some old

@@ -1,3 +1,4 @@
+//! Decoding the key/value pairs of a query (`application/x-www-form-urlencoded`).
 ghost use Rattle.std.specs.Prelude.{◌≡◌, IfOk, map};
 ghost use Rattle.std.specs.Cow.{cow_slice_items};
 ghost use Rattle.form_urlencoded.specs.Form as form;
@@ -29,8 +30,8 @@ fn unescaped(alloc: Global, text: &[u8]) -> Result<Vec<u8>, AllocError>
     Ok(bytes)
 }
 
-// The bytes that an encoded key or value stands for: `+` is a space, and `%` with two hexadecimal
-// digits is a byte. A `%` without them is itself. A text without either is borrowed.
+// Decodes a key or a value: `+` is a space, and `%` with two hexadecimal digits is a byte. Any other `%` is
+// itself. A text that has neither is borrowed.
 fn decoded(alloc: Global, text: &[u8]) -> Result<CowSlice<'_, u8, Global>, AllocError>
     ensures { IfOk result (λ v. cow_slice_items v ≡ form.decode text.now) }
 {
@@ -41,8 +42,7 @@ fn decoded(alloc: Global, text: &[u8]) -> Result<CowSlice<'_, u8, Global>, Alloc
     Ok(CowSlice::Owned(unescaped(alloc, &spaced)?))
 }
 
-/// The pairs of a query, in order. An empty piece between `&` is no pair, and a key without `=` has
-/// the empty value.
+/// Returns the pairs of a query, in order. Skips empty pieces between `&`. A key without `=` has the empty value.
 pub(crate) fn decoded_pairs(alloc: Global, text: &[u8]) -> Result<Vec<Pair<'_>>, AllocError>
     ensures { IfOk result (λ pairs. pairs.items ≡ form.parse text.now) }
 {

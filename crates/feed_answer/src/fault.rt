@@ -1,3 +1,4 @@
+//! The errors of parsing a query and of writing an answer.
 ghost use Rattle.std.specs.Prelude.{◌≡◌};
 ghost use Rattle.feed_answer.specs.declared.fault.QueryFault.TheVariants as query_fault;
 ghost use Rattle.feed_answer.specs.declared.fault.WriteFault.TheVariants as write_fault;
@@ -6,21 +7,21 @@ use std::alloc::AllocError;
 use std::{fmt, io};
 use thiserror::Error;
 
-/// Why a query was not read: the first of these that holds, but for `Memory`.
+/// Why a query was rejected. The first applicable reason is reported, except that `Memory` may replace it.
 #[derive(Clone, Copy, Debug, PartialEq, Eq)]
 pub enum QueryFault {
     /// The query has more than `QUERY_LIMIT` bytes.
     TooLong,
     /// A `url_ver` or `ctx_ver` is neither empty nor `Z39.88-2004`.
     Version,
-    /// A `rft_val_fmt` is neither empty, `info:ofi/fmt:kev:mtx:journal` nor `info:ofi/fmt:kev:mtx:book`, or one is the
-    /// first of these and one the second.
+    /// A `rft_val_fmt` is neither empty, `info:ofi/fmt:kev:mtx:journal` nor `info:ofi/fmt:kev:mtx:book`, or the query
+    /// names both formats.
     OtherFormat,
     /// No value that counts names an ISSN or an ISBN.
     NoIssn,
-    /// In the format of books no value names an ISBN.
+    /// In the format of books, no value names an ISBN.
     NoIsbn,
-    /// Want of memory, in place of any outcome but `TooLong`.
+    /// Memory ran out. This may replace any outcome but `TooLong`.
     Memory,
 }
 
@@ -52,7 +53,7 @@ impl From<AllocError> for QueryFault {
     }
 }
 
-/// Why an answer was not written whole. Nothing is said of how much went out.
+/// Why an answer was not written completely. It is unspecified how much was written.
 #[derive(Clone, Copy, Debug, PartialEq, Eq, Error)]
 pub enum WriteFault {
     /// The writer failed.

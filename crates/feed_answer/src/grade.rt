@@ -1,3 +1,4 @@
+//! Grades: how well a row covers the days or the volume that a query asks for.
 ghost use Rattle.std.specs.Prelude.{◌≡◌, Some};
 ghost use Rattle.feed_answer.specs.Grades.{begins_by, book_grade, days_grade, grade_of, is_named};
 ghost use Rattle.feed_answer.specs.Grades.{lasts_to, serial_grade, volume_grade};
@@ -7,14 +8,14 @@ use feed_identifiers::{Isbn, Issn};
 use feed_kbart::{DayRange, Kind, Row};
 use std::fmt;
 
-/// How well a row that matches covers what the query asks for.
+/// How well a matching row covers what the query asks for.
 #[derive(Clone, Copy, Debug, PartialEq, Eq)]
 pub enum Grade {
-    /// Neither date nor volume was tested: the query or the row does not tell it, or the row is a book.
+    /// Neither date nor volume was tested: the query or the row has none, or the row is a book.
     Untested,
-    /// The row covers some of the query's days, and not all.
+    /// The row covers some of the query's days, but not all.
     Overlap,
-    /// The row covers all of the query's days, or its volume where no date was tested.
+    /// The row covers all of the query's days, or its volume if no date was tested.
     Inside,
 }
 
@@ -32,21 +33,21 @@ impl fmt::Display for Grade {
     }
 }
 
-// Whether coverage has begun by a day. Without a first day it always has.
+// Returns whether coverage has begun by a day. Without a first day it always has.
 fn begins_by(first: Option<i32>, day: i32) -> bool
     ensures { result ≡ begins_by first day }
 {
     first.is_none_or(|first| first <= day)
 }
 
-// Whether coverage lasts to a day. Without a last day it lasts to the present, and on.
+// Returns whether coverage lasts to a day. Without a last day it has no end.
 fn lasts_to(last: Option<i32>, day: i32) -> bool
     ensures { result ≡ lasts_to last day }
 {
     last.is_none_or(|last| day <= last)
 }
 
-// The grade by the dates alone, or none where the days do not meet.
+// The grade by the dates alone, or `None` if the days are not covered at all.
 fn days_grade(row: &Row, days: Option<DayRange>) -> Option<Grade>
     ensures { result ≡ days_grade row.now.first_day row.now.last_day days }
 {
@@ -65,8 +66,7 @@ fn days_grade(row: &Row, days: Option<DayRange>) -> Option<Grade>
     }
 }
 
-// The grade by the volumes alone, or none where the volume lies outside. A side that is absent is
-// open.
+// The grade by the volumes alone, or `None` if the volume is outside. A missing side is open.
 fn volume_grade(row: &Row, volume: Option<u32>) -> Option<Grade>
     ensures { result ≡ volume_grade row.now.first_volume row.now.last_volume volume }
 {
@@ -83,14 +83,14 @@ fn volume_grade(row: &Row, volume: Option<u32>) -> Option<Grade>
     }
 }
 
-// Whether a row's ISSN, if it has one, is among those that are asked for.
+// Returns whether a row's ISSN, if it has one, is among those asked for.
 fn is_issn_named(issn: Option<Issn>, issns: &[Issn]) -> bool
     ensures { result ≡ is_named issn issns.now }
 {
     issn.is_some_and(|issn| issns.contains(&issn))
 }
 
-// Whether a row's ISBN, if it has one, is among those that are asked for.
+// Returns whether a row's ISBN, if it has one, is among those asked for.
 fn is_isbn_named(isbn: Option<Isbn>, isbns: &[Isbn]) -> bool
     ensures { result ≡ is_named isbn isbns.now }
 {
@@ -112,7 +112,7 @@ fn serial_grade(row: &Row, query: &Query) -> Option<Grade>
     }
 }
 
-// The grade of a book's row: one of its ISBNs is asked for, and nothing is tested.
+// The grade of a book's row: one of its ISBNs is asked for. Dates and volumes are not tested.
 fn book_grade(row: &Row, query: &Query) -> Option<Grade>
     ensures { result ≡ book_grade query.now row.now }
 {
@@ -125,7 +125,7 @@ fn book_grade(row: &Row, query: &Query) -> Option<Grade>
     }
 }
 
-/// The grade of a row under a query, if the row matches.
+/// Returns the grade of a row under a query, if the row matches.
 pub(crate) fn grade_of(row: &Row, query: &Query) -> Option<Grade>
     ensures { result ≡ grade_of query.now row.now }
 {

@@ -1,3 +1,4 @@
+//! The answer to a query: the matching rows, and their text.
 ghost use Rattle.std.specs.Prelude.{◌≡◌, OnOk, map};
 ghost use Rattle.std.specs.Io.KnownBytes.{Appends};
 ghost use Rattle.feed_names.specs.ReleaseName.{text_of};
@@ -35,14 +36,14 @@ impl<'a> Model for Answer<'a> {
 }
 
 impl<'a> Answer<'a> {
-    /// The rows that match, in file order.
+    /// Returns the rows that match, in file order.
     pub fn hits(&self) -> &[Hit<'a>]
         ensures { map hit_of result.now ≡ self.now }
     {
         &self.hits
     }
 
-    /// Writes the answer of a release: a line `release NAME hits COUNT`, and for each hit the number
+    /// Writes the answer of a release: a line `release NAME hits COUNT`, and for each hit a line with the number
     /// of its record, grade, title, URL, title id, depth, embargo and access, joined by tabs. Each
     /// line ends in LF. The texts are as in the file.
     pub fn write<W: Write>(&self, out: &mut W, name: &ReleaseName) -> Result<(), WriteFault>

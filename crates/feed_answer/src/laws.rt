@@ -1,4 +1,4 @@
-//! Laws of queries and grades, each the contract of a function that does nothing.
+//! Laws of queries and grades, each stated as the contract of a function with an empty body.
 ghost use Rattle.feed_answer.specs.Laws.{GradesSpeakOfDays, SetHasJustItsIdentifiers};
 ghost use Rattle.feed_answer.specs.Serials.{SerialAnswersStay};
 
@@ -7,14 +7,14 @@ pub fn set_has_just_its_identifiers()
     ensures { SetHasJustItsIdentifiers }
 {}
 
-/// By its dates alone, a row is left out just where no day that is asked for is covered, and it is
-/// `Inside` just where each is.
+/// By its dates alone, a row does not match exactly if no day asked for is covered, and it is `Inside` exactly if
+/// each is.
 pub fn grades_speak_of_days()
     ensures { GradesSpeakOfDays }
 {}
 
-/// The answers on serials are those from before books were read: every query that was read is read, and in every list
-/// its hits on serials' rows are the same, with the same grades.
+/// The answers on serials are the same as in the versions that had serials only: every query that was accepted is
+/// still accepted, and in every list its hits on serials' rows are the same, with the same grades.
 pub fn serial_answers_stay()
     ensures { SerialAnswersStay }
 {}

@@ -1,7 +1,7 @@
-//! Which holdings answer a query of an OpenURL for serials or books (ANSI/NISO Z39.88-2004).
+//! Answers OpenURL queries for serials and books from a holdings list (ANSI/NISO Z39.88-2004).
 //!
-//! `Query::read` reads what a query asks for, `answer` gives the rows of a holdings list that match,
-//! each with its grade, and `Answer::write` writes them as text.
+//! `Query::read` parses a query, `answer` returns the matching rows of a holdings list, each with its grade, and
+//! `Answer::write` writes them as text.
 #![tactic(auto)]
 
 mod decode;

@@ -1,3 +1,4 @@
+//! Finds the rows of a holdings list that match a query, by the list's index.
 ghost use Rattle.std.specs.Prelude.{◌≡◌, ◌++◌, ℕ, IfOk, OnOk, option_map};
 ghost use Rattle.std.specs.List.{Contains, filter_map};
 ghost use Rattle.std.specs.List.Sorted.{IsStrictlyIncreasing};
@@ -12,7 +13,7 @@ use feed_identifiers::{Isbn, Issn};
 use feed_kbart::{Holdings, Row};
 use std::alloc::{AllocError, Global};
 
-// Adds the places of the rows that have one of these ISSNs, ISSN by ISSN.
+// Appends the places of the rows that have an ISSN in the list, ISSN by ISSN.
 fn add_issns(places: &mut Vec<u32>, holdings: &Holdings, issns: &[Issn]) -> Result<(), AllocError>
     ensures { OnOk result (places.new.items ≡ places.old.items ++ places_of_issns issns.now holdings.now.rows) }
 {
@@ -22,7 +23,7 @@ fn add_issns(places: &mut Vec<u32>, holdings: &Holdings, issns: &[Issn]) -> Resu
     Ok(())
 }
 
-// Adds the places of the rows that have one of these ISBNs, ISBN by ISBN.
+// Appends the places of the rows that have an ISBN in the list, ISBN by ISBN.
 fn add_isbns(places: &mut Vec<u32>, holdings: &Holdings, isbns: &[Isbn]) -> Result<(), AllocError>
     ensures { OnOk result (places.new.items ≡ places.old.items ++ places_of_isbns isbns.now holdings.now.rows) }
 {
@@ -46,7 +47,7 @@ fn places_of(alloc: Global, holdings: &Holdings, query: &Query) -> Result<Vec<u3
     Ok(places)
 }
 
-// The row at a place with its grade, if it is there and matches.
+// The row at a place with its grade, if the row exists and matches.
 fn hit_at<'a>(rows: &'a [Row], place: u32, query: &Query) -> Option<Hit<'a>>
     ensures { option_map hit_of result ≡ hit_at query.now rows.now place }
 {
@@ -73,8 +74,8 @@ fn hits_at<'a>(
     Ok(Answer { hits })
 }
 
-/// The rows of a holdings list that match a query, each with its grade, in file order. Only those that have one
-/// of its identifiers are looked at.
+/// Returns the rows of a holdings list that match a query, each with its grade, in file order. Looks only at rows
+/// that have one of its identifiers.
 pub fn answer<'a>(
     alloc: Global,
     holdings: &'a Holdings,

@@ -1,3 +1,4 @@
+//! One key/value pair of a query, and its meaning (ANSI/NISO Z39.88-2004).
 ghost use Rattle.std.specs.Prelude.{◌≡◌};
 ghost use Rattle.feed_answer.specs.Pairs.{days_of_pair, has_key, is_other, is_other_format, is_other_version};
 ghost use Rattle.feed_answer.specs.Pairs.{isbn_of_pair, issn_of_pair, issn_of_urn, tells_format, volume_of_pair};
@@ -16,7 +17,7 @@ pub(crate) const JOURNAL: &str = "info:ofi/fmt:kev:mtx:journal";
 /// The format of books, as a value of `rft_val_fmt`.
 pub(crate) const BOOK: &str = "info:ofi/fmt:kev:mtx:book";
 
-/// A decoded key and its value. Their bytes need not be UTF-8.
+/// A decoded key and its value. They need not be UTF-8.
 #[derive(Drop)]
 pub(crate) struct Pair<'a> {
     key: CowSlice<'a, u8, Global>,
@@ -41,14 +42,14 @@ impl<'a> Pair<'a> {
         Pair { key, value }
     }
 
-    /// Whether the key is this text.
+    /// Returns whether the key is this text.
     pub(crate) fn has_key(&self, key: &str) -> bool
         ensures { result ≡ has_key key.now self.now }
     {
         self.key.as_slice() == key.as_bytes()
     }
 
-    // Whether it has this key, and a value that is neither empty nor the one that is wanted.
+    // Returns whether it has this key, and a value that is neither empty nor the expected one.
     fn is_other(&self, key: &str, wanted: &str) -> bool
         ensures { result ≡ is_other key.now wanted.now self.now }
     {
@@ -56,28 +57,28 @@ impl<'a> Pair<'a> {
         self.has_key(key) && !value.is_empty() && value != wanted.as_bytes()
     }
 
-    /// Whether it tells another version of the standard.
+    /// Returns whether it names another version of the standard.
     pub(crate) fn is_other_version(&self) -> bool
         ensures { result ≡ is_other_version self.now }
     {
         self.is_other("url_ver", VERSION) || self.is_other("ctx_ver", VERSION)
     }
 
-    /// Whether it tells this format.
+    /// Returns whether it names this format.
     pub(crate) fn tells_format(&self, format: &str) -> bool
         ensures { result ≡ tells_format format.now self.now }
     {
         self.has_key("rft_val_fmt") && self.value.as_slice() == format.as_bytes()
     }
 
-    /// Whether it tells another format than those of journals and of books.
+    /// Returns whether it names a format other than those of journals and of books.
     pub(crate) fn is_other_format(&self) -> bool
         ensures { result ≡ is_other_format self.now }
     {
         self.is_other("rft_val_fmt", JOURNAL) && self.value.as_slice() != BOOK.as_bytes()
     }
 
-    /// The ISSN that it names, if it names one.
+    /// Returns the ISSN that it names, if any.
     pub(crate) fn issn(&self) -> Option<Issn>
         ensures { result ≡ issn_of_pair self.now }
     {
@@ -90,7 +91,7 @@ impl<'a> Pair<'a> {
         }
     }
 
-    /// The ISBN that it names, if it names one.
+    /// Returns the ISBN that it names, if any.
     pub(crate) fn isbn(&self) -> Option<Isbn>
         ensures { result ≡ isbn_of_pair self.now }
     {
@@ -101,7 +102,7 @@ impl<'a> Pair<'a> {
         }
     }
 
-    /// The days of its date, if it has one that reads.
+    /// Returns the days of its date, if it has a valid one.
     pub(crate) fn days(&self) -> Option<DayRange>
         ensures { result ≡ days_of_pair self.now }
     {
@@ -112,7 +113,7 @@ impl<'a> Pair<'a> {
         }
     }
 
-    /// The number of its volume, if it has one that reads.
+    /// Returns the number of its volume, if it has a valid one.
     pub(crate) fn volume(&self) -> Option<u32>
         ensures { result ≡ volume_of_pair self.now }
     {

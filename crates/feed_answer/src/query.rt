@@ -1,3 +1,4 @@
+//! Parsing the query of an OpenURL.
 ghost use Rattle.std.specs.Prelude.{◌≡◌, IfOk, OnOk, if◌then◌else◌};
 ghost use Rattle.std.specs.List.{list_any};
 ghost use Rattle.std.specs.BTreeSet.{insert_key};
@@ -19,7 +20,7 @@ use std::marker::Model;
 /// The most bytes that a query may have.
 pub const QUERY_LIMIT: usize = 4096;
 
-/// What a query for serials or books asks for (ANSI/NISO Z39.88-2004, key/value format).
+/// A query for serials or books (ANSI/NISO Z39.88-2004, key/value format).
 #[derive(Drop)]
 pub struct Query {
     issns: Vec<Issn>,
@@ -43,17 +44,20 @@ impl Query {
     ghost use Rattle.feed_answer.specs.IdentifierSet.{IsAscending};
     ghost use Rattle.feed_answer.specs.Queries.{IsReadOf};
 
-    /// Reads the bytes after the `?` of an OpenURL: pairs of `application/x-www-form-urlencoded` text,
-    /// whose keys are compared exactly.
+    /// Parses the bytes after the `?` of an OpenURL: pairs of `application/x-www-form-urlencoded` text. Keys are
+    /// compared exactly.
     ///
-    /// Every `rft.issn`, `rft.eissn` and `rft_id` that names an ISSN counts, and every `rft.isbn` that names an ISBN;
-    /// of `rft.date` and `rft.volume` the first that reads. In the format of journals,
-    /// `rft_val_fmt=info:ofi/fmt:kev:mtx:journal`, ISBNs do not count; in that of books,
-    /// `info:ofi/fmt:kev:mtx:book`, ISSNs do not.
+    /// Every `rft.issn`, `rft.eissn` and `rft_id` that names an ISSN counts, and every `rft.isbn` that names an ISBN.
+    /// The first valid `rft.date` and the first valid `rft.volume` count. In the format of journals,
+    /// `rft_val_fmt=info:ofi/fmt:kev:mtx:journal`, ISBNs do not count; in that of books, `info:ofi/fmt:kev:mtx:book`,
+    /// ISSNs do not.
     ///
-    /// A `url_ver` or `ctx_ver` other than `Z39.88-2004` is `Version`, a `rft_val_fmt` other than these two is
-    /// `OtherFormat`, and so are both together; an empty value of these counts as absent. A query without an
-    /// identifier that counts is `NoIsbn` in the format of books, else `NoIssn`.
+    /// # Errors
+    ///
+    /// `TooLong` for more than `QUERY_LIMIT` bytes; `Version` for a `url_ver` or `ctx_ver` other than `Z39.88-2004`;
+    /// `OtherFormat` for a `rft_val_fmt` other than these two, and for both together. An empty value of these keys
+    /// counts as absent. A query without an identifier that counts is `NoIsbn` in the format of books, otherwise
+    /// `NoIssn`.
     #[tactic(auto, unfolding(crate::specs::Queries::query_of))]
     pub fn read(alloc: Global, text: &[u8]) -> Result<Query, QueryFault>
         ensures { IsReadOf text.now result }
@@ -81,7 +85,7 @@ impl Query {
         })
     }
 
-    /// The ISSNs that are asked for, ascending by their nine printed bytes, each once.
+    /// Returns the ISSNs asked for, ascending by their nine printed bytes, each once.
     pub fn issns(&self) -> &[Issn]
         ensures value { result.now ≡ self.now.issns }
         ensures ascending { IsAscending self.now.issns }
@@ -89,7 +93,7 @@ impl Query {
         &self.issns
     }
 
-    /// The ISBNs that are asked for, ascending by their thirteen digits, each once.
+    /// Returns the ISBNs asked for, ascending by their thirteen digits, each once.
     pub fn isbns(&self) -> &[Isbn]
         ensures value { result.now ≡ self.now.isbns }
         ensures ascending { IsAscending self.now.isbns }
@@ -97,14 +101,14 @@ impl Query {
         &self.isbns
     }
 
-    /// The days that are asked for, both ends included.
+    /// Returns the days asked for, both ends included.
     pub fn days(&self) -> Option<DayRange>
         ensures { result ≡ self.now.days }
     {
         self.days
     }
 
-    /// The volume that is asked for, at most 999,999,999.
+    /// Returns the volume asked for, at most 999,999,999.
     pub fn volume(&self) -> Option<u32>
         ensures { result ≡ self.now.volume }
     {
@@ -118,14 +122,14 @@ fn has_other_version(pairs: &[Pair<'_>]) -> bool
     pairs.iter().any(|pair| pair.is_other_version())
 }
 
-// Whether one of the pairs tells this format.
+// Returns whether one of the pairs names this format.
 fn tells_format(pairs: &[Pair<'_>], format: &str) -> bool
     ensures { result ≡ list_any (tells_format format.now) pairs.now }
 {
     pairs.iter().any(|pair| pair.tells_format(format))
 }
 
-// Whether one of the pairs tells neither the format of journals nor that of books.
+// Returns whether one of the pairs names a format other than those of journals and of books.
 fn tells_neither(pairs: &[Pair<'_>]) -> bool
     ensures { result ≡ list_any is_other_format pairs.now }
 {
@@ -138,7 +142,7 @@ fn has_other_format(pairs: &[Pair<'_>]) -> bool
     tells_neither(pairs) || (tells_format(pairs, JOURNAL) && tells_format(pairs, BOOK))
 }
 
-// Why a query without identifiers is refused.
+// The error for a query without identifiers.
 fn without_identifiers(pairs: &[Pair<'_>]) -> QueryFault
     ensures { result ≡ (if tells_book pairs.now then fault.NoIsbn else fault.NoIssn) }
 {
@@ -149,7 +153,7 @@ fn without_identifiers(pairs: &[Pair<'_>]) -> QueryFault
     }
 }
 
-// Puts an identifier in its place among those that ascend, unless it is there.
+// Inserts an identifier in its place among ascending ones, unless it is there.
 fn add<T: Ord + Copy>(identifiers: &mut Vec<T>, identifier: T) -> Result<(), AllocError>
     ensures { OnOk result (identifiers.new.items ≡ insert_key T.cmp identifiers.old.items identifier) }
 {
@@ -163,8 +167,7 @@ fn add<T: Ord + Copy>(identifiers: &mut Vec<T>, identifier: T) -> Result<(), All
     Ok(identifiers.push(identifier)?)
 }
 
-// The set of the ISSNs that pairs name. A query has room for some three hundred of them, and mostly
-// one.
+// The set of the ISSNs that pairs name. A query has room for about three hundred, and usually has one.
 fn issns_among(alloc: Global, pairs: &[Pair<'_>]) -> Result<Vec<Issn>, AllocError>
     ensures value { IfOk result (λ issns. issns.items ≡ issns_among pairs.now) }
     ensures ascending { IfOk result (λ issns. IsAscending issns.items) }
@@ -192,7 +195,7 @@ fn isbns_among(alloc: Global, pairs: &[Pair<'_>]) -> Result<Vec<Isbn>, AllocErro
     Ok(isbns)
 }
 
-// The ISSNs that are asked for: in the format of books they do not count.
+// The ISSNs asked for. In the format of books they do not count.
 fn issns_asked(alloc: Global, pairs: &[Pair<'_>]) -> Result<Vec<Issn>, AllocError>
     ensures value { IfOk result (λ issns. issns.items ≡ issns_asked pairs.now) }
     ensures ascending { IfOk result (λ issns. IsAscending issns.items) }
@@ -203,7 +206,7 @@ fn issns_asked(alloc: Global, pairs: &[Pair<'_>]) -> Result<Vec<Issn>, AllocErro
     issns_among(alloc, pairs)
 }
 
-// The ISBNs that are asked for: in the format of journals they do not count.
+// The ISBNs asked for. In the format of journals they do not count.
 fn isbns_asked(alloc: Global, pairs: &[Pair<'_>]) -> Result<Vec<Isbn>, AllocError>
     ensures value { IfOk result (λ isbns. isbns.items ≡ isbns_asked pairs.now) }
     ensures ascending { IfOk result (λ isbns. IsAscending isbns.items) }
@@ -214,7 +217,7 @@ fn isbns_asked(alloc: Global, pairs: &[Pair<'_>]) -> Result<Vec<Isbn>, AllocErro
     isbns_among(alloc, pairs)
 }
 
-// The days of the first date that reads.
+// The days of the first valid date.
 fn first_days(pairs: &[Pair<'_>]) -> Option<DayRange>
     ensures { result ≡ first_days pairs.now }
 {
@@ -226,7 +229,7 @@ fn first_days(pairs: &[Pair<'_>]) -> Option<DayRange>
     None
 }
 
-// The number of the first volume that reads.
+// The number of the first valid volume.
 fn first_volume(pairs: &[Pair<'_>]) -> Option<u32>
     ensures { result ≡ first_volume pairs.now }
 {
