@@ -17,12 +17,12 @@ pub data Change : Type 0 where
   Break : (name : Name) (parts : List Part) (reason : BadFile) → Change
   Activate : (name : Name) (parts : List Part) → Change
 
--- the part among others, in front of the first that begins later
+-- inserts a part among others, in front of the first that begins later
 abbrev pub insert_part : Part → List Part → List Part
 insert_part p [] = p ∷ []
 insert_part p (q ∷ qs) = if nat_lt p.first q.first then p ∷ q ∷ qs else q ∷ insert_part p qs
 
--- parts put among others, one after another
+-- inserts parts among others, one after another
 abbrev pub merged : List Part → List Part → List Part
 merged parts [] = parts
 merged parts (p ∷ ps) = merged (insert_part p parts) ps
@@ -31,20 +31,20 @@ merged parts (p ∷ ps) = merged (insert_part p parts) ps
 abbrev pub grown : List Part → State → Record → Record
 grown ps state r = record { name = r.name; size = r.size; state = state; reason = r.reason; parts = merged r.parts ps }
 
--- the record with these parts too, which is broken for this reason
+-- the record with these parts too, broken for this reason
 abbrev pub broken_with : List Part → BadFile → Record → Record
 broken_with ps why r = record { name = r.name; size = r.size; state = Broken; reason = Some why; parts = merged r.parts ps }
 
--- the text of the one name comes before that of the other
+-- the text of the one name is less than that of the other
 abbrev pub comes_before : Name → Name → Bool
 comes_before m n = is_lt (slice_cmp nat_cmp (text_of m) (text_of n))
 
--- the record among others, behind those whose names come before its own
+-- inserts a record among others, behind those whose names are less than its own
 abbrev pub insert_record : Record → Content → Content
 insert_record r [] = r ∷ []
 insert_record r (x ∷ xs) = if comes_before x.name r.name then x ∷ insert_record r xs else r ∷ x ∷ xs
 
--- the content with another record under the name
+-- the content with the record of this name changed
 abbrev pub changed : Name → (Record → Record) → Content → Content
 changed n f [] = []
 changed n f (r ∷ rs) = if name_eq r.name n then f r ∷ rs else r ∷ changed n f rs
@@ -52,11 +52,11 @@ changed n f (r ∷ rs) = if name_eq r.name n then f r ∷ rs else r ∷ changed 
 abbrev pub is_earlier : Name → Name → Bool
 is_earlier m n = pointwise ◌==◌ m.stem n.stem && int_lt m.day n.day
 
--- without the package's records of earlier days
+-- the content without the package's records of earlier days
 abbrev pub without_earlier : Name → Content → Content
 without_earlier n c = filter (λ r. not (is_earlier r.name n)) c
 
--- what is recorded of a release that is offered: an empty file is whole, and bad
+-- the record of a release that is offered: an empty file is complete, and bad
 abbrev pub new_record : Name → ℕ → Record
 new_record n size = record {
   name = n;
@@ -82,11 +82,11 @@ pub record TakesParts (c : Content) (n : Name) (ps : List Part) (r : Record) : T
   pub apart : AreParts (merged r.parts ps)
   pub inside : All (λ p. end_of p ≤ r.size) ps
 
--- no place of it is missing with these parts
+-- with these parts no place is missing
 abbrev pub Completes : List Part → Record → Type 0
 Completes ps r = (place : ℕ) → place < r.size → IsSome (byte_in (merged r.parts ps) place)
 
--- with these parts its file is bad for this reason
+-- with these parts the file is bad for this reason
 abbrev pub IsBadWith : List Part → BadFile → Record → Type 0
 IsBadWith ps why r = (text : List ℕ) × IsText r.size (merged r.parts ps) text × (fault_of text ≡ Some why)
 
@@ -94,7 +94,7 @@ IsBadWith ps why r = (text : List ℕ) × IsText r.size (merged r.parts ps) text
 abbrev pub NoneIsLater : Content → Name → Type 0
 NoneIsLater c n = (a : Record) → record_of c a.name ≡ Some a → a.state ≡ Active → ¬ (IsEarlier n a.name)
 
--- what the caller of a change owes
+-- the precondition of a change
 abbrev pub IsAllowed : Change → Content → Type 0
 IsAllowed (Add n size) c = (record_of c n ≡ None) × (length c < max_held) × (size ≤ max_file)
 IsAllowed (Pieces n ps) c = (r : Record) × TakesParts c n ps r

@@ -1,4 +1,4 @@
--- What a keeper contains, and when this is a content of a history.
+-- The content of a keeper, and whether it is right for a history.
 use Rattle.std.specs.Prelude.{◌≡◌, ◌<◌, ◌≤◌, ◌+◌, ℕ, if◌then◌else◌, List, [], ◌∷◌, length, map, slice_get, Option, Some, None, MatchOption}
 use Rattle.std.specs.List.{IsDistinct}
 use Rattle.feed_names.specs.ReleaseName.{Name, name_eq}
@@ -14,11 +14,11 @@ pub record Part : Type 0 where
   pub first : ℕ
   pub bytes : List ℕ
 
--- the place after the last of them
+-- the place after the last byte
 abbrev pub end_of : Part → ℕ
 end_of part = part.first + length part.bytes
 
--- what is kept of a release
+-- what a keeper stores of a release
 pub record Record : Type 0 where
   pub name : Name
   pub size : ℕ
@@ -43,12 +43,12 @@ abbrev pub byte_in : List Part → ℕ → Option ℕ
 byte_in [] place = None
 byte_in (p ∷ ps) place = or_else (byte_at p.first p.bytes place) (byte_in ps place)
 
--- the parts are this text, from its first place to its last
+-- the parts have the bytes of this text at every place
 pub record IsText (size : ℕ) (parts : List Part) (text : List ℕ) : Type 0 where
   pub count : length text ≡ size
   pub bytes : (place : ℕ) → place < size → byte_in parts place ≡ slice_get text place
 
--- each part has 1 to 1,048,576 bytes, and none begins before the one in front of it ends
+-- each part has 1 to 1,048,576 bytes, and none begins before the previous one ends
 abbrev pub ArePartsFrom : ℕ → List Part → Type 0
 ArePartsFrom place [] = Unit {0}
 ArePartsFrom place (p ∷ ps) = (place ≤ p.first) × (0 < length p.bytes) × (length p.bytes ≤ max_piece) × ArePartsFrom (end_of p) ps
@@ -56,13 +56,13 @@ ArePartsFrom place (p ∷ ps) = (place ≤ p.first) × (0 < length p.bytes) × (
 abbrev pub AreParts : List Part → Type 0
 AreParts parts = ArePartsFrom 0 parts
 
--- what the state says
+-- the state is right for the history
 abbrev pub IsState : History → Name → State → Type 0
 IsState h n Staged = ¬ (IsWhole h n)
 IsState h n Active = IsActive h n
 IsState h n Broken = IsBad h n
 
--- why the file is bad, of a broken release; of any other there is no reason
+-- the reason is why the file of a broken release is bad; any other release has no reason
 abbrev pub IsReason : History → Name → State → Option BadFile → Type 0
 IsReason h n Staged reason = reason ≡ None
 IsReason h n Active reason = reason ≡ None
@@ -77,7 +77,7 @@ pub record IsRecord (h : History) (n : Name) (r : Record) : Type 0 where
   pub state : IsState h n r.state
   pub reason : IsReason h n r.state r.reason
 
--- just the releases that are held have a record
+-- exactly the releases that are held have a record
 pub record IsContent (c : Content) (h : History) : Type 0 where
   pub legal : IsLegal h
   pub distinct : IsDistinct name_eq (names c)

@@ -1,4 +1,4 @@
--- What was right before a file could have 256 MiB and a record a reason, and what such a content is now.
+-- A right content by the rules of layout 1, with files of up to 64 MiB and no reasons, and its meaning today.
 use Rattle.std.specs.Prelude.{◌≡◌, ◌↔◌, ℕ, Bool, true, false, not, List, [], ◌∷◌, filter, Some, MatchOption, Err}
 use Rattle.std.specs.List.{IsDistinct}
 use Rattle.feed_names.specs.ReleaseName.{Name, name_eq}
@@ -12,7 +12,7 @@ use Rattle.feed_model.specs.Sound.{Explains}
 abbrev pub earlier_limit : ℕ
 earlier_limit = 67108864
 
--- the record had what the history has of the release; of a reason nothing is said
+-- the record had what the history has of the release; its reason is unspecified
 pub record IsEarlierRecord (h : History) (n : Name) (r : Record) : Type 0 where
   pub held : IsHeld h n
   pub size : size_of h n ≡ Some r.size
@@ -20,7 +20,7 @@ pub record IsEarlierRecord (h : History) (n : Name) (r : Record) : Type 0 where
   pub parts : AreParts r.parts
   pub state : IsState h n r.state
 
--- just the releases that were held had a record, in a history that was legal under that limit
+-- exactly the releases that were held had a record, in a history that was legal under that limit
 pub record IsEarlierContent (c : Content) (h : History) : Type 0 where
   pub legal : IsLegalWithin earlier_limit h
   pub distinct : IsDistinct name_eq (names c)
@@ -35,7 +35,7 @@ is_refused _ = false
 abbrev pub without_refused : History → History
 without_refused h = filter (λ step. not (is_refused step)) h
 
--- the same record; with the reason of its file if it is broken, and with none if it is not
+-- the same record, with the reason if its file is bad, and otherwise without one
 pub record IsExplained (r s : Record) : Type 0 where
   pub name : s.name ≡ r.name
   pub size : s.size ≡ r.size
@@ -43,14 +43,14 @@ pub record IsExplained (r s : Record) : Type 0 where
   pub parts : s.parts ≡ r.parts
   pub reason : Explains s.state s.size s.parts s.reason
 
--- one after another
+-- each record is explained by the one at the same place
 abbrev pub AreExplained : Content → Content → Type 0
 AreExplained [] [] = Unit {0}
 AreExplained (r ∷ rs) (s ∷ ss) = IsExplained r s × AreExplained rs ss
 AreExplained [] (s ∷ ss) = ⊥
 AreExplained (r ∷ rs) [] = ⊥
 
--- what a release is stays: its size, the bytes that are kept of it, and its file
+-- a release keeps its size, its stored bytes and its file
 pub record IsSameRelease (h k : History) (n : Name) : Type 0 where
   pub size : size_of k n ≡ size_of h n
   pub bytes : (place : ℕ) → kept k n place ≡ kept h n place

@@ -1,4 +1,4 @@
--- What an answer makes of a content, whatever came before.
+-- The effect of an answer on a content, for every history that the content may have.
 use Rattle.std.specs.Prelude.{◌≡◌, List, ◌∷◌, length, Some}
 use Rattle.feed_names.specs.ReleaseName.{Name, IsEarlier}
 use Rattle.feed_model.specs.declared.state.State.TheVariants.{Active}
@@ -6,7 +6,8 @@ use Rattle.feed_model.specs.History.{Event, Answer, History}
 use Rattle.feed_model.specs.Reply.{IsRight, gone_on}
 use Rattle.feed_model.specs.Content.{Record, Content, record_of, IsContent}
 
--- whatever history the content c is a content of, the answer is right after it, and c' is a content of the history with the event and the answer added
+-- for every history that has the content c, the answer is right, and c' is a content of the history with the event and
+-- the answer added
 abbrev pub Handles : Content → Event → Answer → Content → Type 0
 Handles c event answer c' = (h : History) → IsContent c h → IsRight h event answer × IsContent c' ((event, answer) ∷ h)
 
@@ -14,7 +15,7 @@ Handles c event answer c' = (h : History) → IsContent c h → IsRight h event 
 abbrev pub HasLaterActive : Content → Name → Type 0
 HasLaterActive c n = (a : Record) × (record_of c a.name ≡ Some a) × (a.state ≡ Active) × IsEarlier n a.name
 
--- whatever history the content c is a content of, c' is a content of the history that goes on by these events and answers
+-- for every history that has the content c, c' is a content of the history continued by these events and answers
 pub record Runs (c : Content) (events : List Event) (answers : List Answer) (c' : Content) : Type 0 where
   pub each : length events ≡ length answers
   pub content : (h : History) → IsContent c h → IsContent c' (gone_on h events answers)

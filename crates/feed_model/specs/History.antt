@@ -1,4 +1,4 @@
--- What a feed was told and answered, and what this makes of each release.
+-- The history of a feed (its events and answers), and the state of each release that follows from it.
 use Rattle.std.specs.Prelude.{◌≡◌, ◌≢◌, ◌<◌, ◌-◌, ℕ, Bool, true, false, ◌&&◌, if◌then◌else◌, nat_le, List}
 use Rattle.std.specs.Prelude.{[], ◌∷◌, length, Option, Some, None, Result, Ok, slice_get, IsSome, MatchOption, ◌≤ℤ◌}
 use Rattle.feed_names.specs.ReleaseName.{Name, name_eq, IsEarlier}
@@ -7,7 +7,7 @@ use Rattle.feed_model.specs.declared.reply.Reply.TheVariants.{Noted, Stored, Act
 use Rattle.feed_model.specs.declared.reply.Refusal.{Refusal}
 use Rattle.feed_model.specs.File.{fault_of}
 
--- what comes to a feed
+-- an event of a feed
 pub data Event : Type 0 where
   Offered : (name : Name) (size : ℕ) → Event
   Piece : (name : Name) (first : ℕ) (total : Option ℕ) (bytes : List ℕ) → Event
@@ -33,7 +33,7 @@ is_taken (Ok Activated) = true
 is_taken (Ok (Broken why)) = true
 is_taken _ = false
 
--- the first, or else the second
+-- the first, or otherwise the second
 abbrev pub or_else : {A : Type 0} → Option A → Option A → Option A
 or_else (Some x) o = Some x
 or_else None o = o
@@ -49,29 +49,29 @@ size_of ((Offered m size, answer) ∷ h) n = if is_noted answer && name_eq m n t
 size_of ((Piece m first total bytes, answer) ∷ h) n = size_of h n
 size_of ((Lost m, answer) ∷ h) n = size_of h n
 
--- the byte that is kept at a place: that of the first piece that was kept and has the place
+-- the byte kept at a place: that of the first piece that was kept and has the place
 abbrev pub kept : History → Name → ℕ → Option ℕ
 kept [] n place = None
 kept ((Offered m size, answer) ∷ h) n place = kept h n place
 kept ((Piece m first total bytes, answer) ∷ h) n place = if is_taken answer && name_eq m n then or_else (kept h n place) (byte_at first bytes place) else kept h n place
 kept ((Lost m, answer) ∷ h) n place = kept h n place
 
--- the text is the whole file of the release: it has the size, and at each place the kept byte
+-- the text is the complete file of the release: it has the size, and at each place the kept byte
 abbrev pub IsFile : History → Name → List ℕ → Type 0
 IsFile h n text = (size_of h n ≡ Some (length text)) × ((place : ℕ) → place < length text → kept h n place ≡ slice_get text place)
 
 abbrev pub IsWhole : History → Name → Type 0
 IsWhole h n = (text : List ℕ) × IsFile h n text
 
--- it is whole, and its file is good
+-- the release is complete, and its file is good
 abbrev pub IsGood : History → Name → Type 0
 IsGood h n = (text : List ℕ) × IsFile h n text × (fault_of text ≡ None)
 
--- it is whole, and its file is bad
+-- the release is complete, and its file is bad
 abbrev pub IsBad : History → Name → Type 0
 IsBad h n = (text : List ℕ) × IsFile h n text × (fault_of text ≢ None)
 
--- of the releases of its package that are whole and good, it has the latest day
+-- the release has the latest day of all complete and good releases of its package
 abbrev pub IsActive : History → Name → Type 0
 IsActive h n = IsGood h n × ((m : Name) → m.stem ≡ n.stem → IsGood h m → m.day ≤ℤ n.day)
 
@@ -83,6 +83,6 @@ Reports h stem o = MatchOption o ((m : Name) → m.stem ≡ stem → IsGood h m 
 abbrev pub IsPassed : History → Name → Type 0
 IsPassed h n = (a : Name) × IsActive h a × IsEarlier n a
 
--- it was recorded, and is not passed
+-- the release was recorded, and no later release of its package is active
 abbrev pub IsHeld : History → Name → Type 0
 IsHeld h n = IsSome (size_of h n) × ¬ (IsPassed h n)

@@ -1,4 +1,4 @@
--- Which answers are right.
+-- The right answer to each event.
 use Rattle.std.specs.Prelude.{◌≡◌, ◌≢◌, ◌<◌, ◌+◌, ◌⊎◌, ◌↔◌, ℕ, zero, suc, is_none, if◌then◌else◌}
 use Rattle.std.specs.Prelude.{List, [], ◌∷◌, length, Option, Some, None, Ok, Err, slice_get, IsSome, IsSomeAnd}
 use Rattle.std.specs.List.{IsDistinct, Contains}
@@ -12,11 +12,11 @@ use Rattle.feed_model.specs.declared.reply.Refusal.TheVariants as refusals
 use Rattle.feed_model.specs.File.{fault_of}
 use Rattle.feed_model.specs.History.{Event, Offered, Piece, Lost, Answer, History, or_else, byte_at, size_of, kept, IsPassed, IsHeld}
 
--- Where the case holds, it decides; else what comes after it.
+-- if the case holds, it decides; otherwise the cases after it do
 abbrev pub Case : Type 0 → Type 0 → Type 0 → Type 0
 Case holds here after = (holds × here) ⊎ ((¬ holds) × after)
 
--- this answer, or want of memory or a fault of the device in its place
+-- this answer; or, in its place, running out of memory or a failed device
 abbrev pub OrRefused : Answer → Type 0 → Type 0
 OrRefused answer right = right ⊎ ((answer ≡ Err refusals.Memory) ⊎ (answer ≡ Err refusals.Device))
 
@@ -33,20 +33,20 @@ max_piece = piece_limit
 abbrev pub max_held : ℕ
 max_held = release_limit
 
--- so many releases are held
+-- exactly this many releases are held
 abbrev pub HoldsNumber : History → ℕ → Type 0
 HoldsNumber h k = (ns : List Name) × IsDistinct name_eq ns × ((n : Name) → IsHeld h n ↔ Contains ns n) × (length ns ≡ k)
 
--- how many places below a size have no byte
+-- the number of places below a size that have no byte
 abbrev pub missing_below : (ℕ → Option ℕ) → ℕ → ℕ
 missing_below at zero = 0
 missing_below at (suc n) = missing_below at n + (if is_none (at n) then 1 else 0)
 
--- what is kept, and the bytes of a piece beside it
+-- the kept byte at a place, or otherwise that of a piece
 abbrev pub kept_with : History → Name → ℕ → List ℕ → ℕ → Option ℕ
 kept_with h n first bytes place = or_else (kept h n place) (byte_at first bytes place)
 
--- the piece has another byte than the one that is kept
+-- the piece differs from a kept byte
 abbrev pub Differs : History → Name → ℕ → List ℕ → Type 0
 Differs h n first bytes = (place x y : ℕ) × (kept h n place ≡ Some x) × (byte_at first bytes place ≡ Some y) × (x ≢ y)
 
@@ -54,19 +54,19 @@ Differs h n first bytes = (place x y : ℕ) × (kept h n place ≡ Some x) × (b
 abbrev pub IsKept : History → Name → ℕ → List ℕ → Type 0
 IsKept h n first bytes = (place : ℕ) → IsSome (byte_at first bytes place) → IsSome (kept h n place)
 
--- what a whole file is answered
+-- the answer for a complete file
 abbrev pub verdict : Option BadFile → Reply
 verdict None = replies.Activated
 verdict (Some why) = replies.Broken why
 
--- a piece that brings a new byte: how many places are missing now; or, with the file whole, whether it is good
+-- a piece with a new byte: the number of places still missing; or, once the file is complete, whether it is good
 abbrev pub Stores : History → Name → ℕ → List ℕ → Answer → Type 0
 Stores h n first bytes answer = OrRefused answer ((size : ℕ) × (size_of h n ≡ Some size) ×
     Case (0 < missing_below (kept_with h n first bytes) size)
     (answer ≡ Ok (replies.Stored (missing_below (kept_with h n first bytes) size)))
     ((text : List ℕ) × (length text ≡ size) × ((place : ℕ) → place < size → kept_with h n first bytes place ≡ slice_get text place) × (answer ≡ Ok (verdict (fault_of text)))))
 
--- the answer is right after this history, where a file may have at most so many bytes: the first case that holds decides
+-- the answer is right after this history, if a file may have at most this many bytes: the first case that holds decides
 abbrev pub IsRightWithin : ℕ → History → Event → Answer → Type 0
 IsRightWithin most h (Offered n size) answer =
     Case (most < size) (answer ≡ Err refusals.TooLarge)
@@ -89,7 +89,7 @@ IsRightWithin most h (Lost n) answer = answer ≡ Ok replies.Nothing
 abbrev pub IsRight : History → Event → Answer → Type 0
 IsRight h event answer = IsRightWithin max_file h event answer
 
--- each answer is right after what came before it
+-- each answer is right after the events and answers before it
 abbrev pub IsLegalWithin : ℕ → History → Type 0
 IsLegalWithin most [] = Unit {0}
 IsLegalWithin most ((event, answer) ∷ h) = IsRightWithin most h event answer × IsLegalWithin most h
@@ -97,7 +97,7 @@ IsLegalWithin most ((event, answer) ∷ h) = IsRightWithin most h event answer �
 abbrev pub IsLegal : History → Type 0
 IsLegal h = IsLegalWithin max_file h
 
--- the history goes on by these events and answers, in order
+-- the history continued by these events and answers, in order
 abbrev pub gone_on : History → List Event → List Answer → History
 gone_on h (event ∷ events) (answer ∷ answers) = gone_on ((event, answer) ∷ h) events answers
 gone_on h _ _ = h

@@ -1,4 +1,4 @@
--- What holds of every content of a feed, whatever its history.
+-- The properties of every content of a feed, whatever its history.
 use Rattle.std.specs.Prelude.{◌≡◌, ◌≢◌, ◌<◌, ◌≤◌, ℕ, List, Option, None, length, All}
 use Rattle.std.specs.List.{IsDistinct}
 use Rattle.feed_names.specs.ReleaseName.{name_eq}
@@ -10,19 +10,20 @@ use Rattle.feed_model.specs.Reply.{max_file, max_held, missing_below}
 use Rattle.feed_model.specs.Content.{Part, Record, Content, names, byte_in, end_of, IsText, AreParts}
 use Rattle.feed_model.specs.Handles.{HasLaterActive}
 
--- the parts bear the state out: of a staged release a place is missing; those of a broken one are a bad file, those of an active one a good file
+-- the parts match the state: a staged release misses a place; a broken one has a complete, bad file; an active one has
+-- a complete, good file
 abbrev pub BearsOut : State → ℕ → List Part → Type 0
 BearsOut Staged size parts = 0 < missing_below (byte_in parts) size
 BearsOut Broken size parts = (text : List ℕ) × IsText size parts text × (fault_of text ≢ None)
 BearsOut Active size parts = (text : List ℕ) × IsText size parts text × (fault_of text ≡ None)
 
--- the parts of a broken release are bad for this reason; any other has none
+-- the parts of a broken release are bad for this reason; any other release has no reason
 abbrev pub Explains : State → ℕ → List Part → Option BadFile → Type 0
 Explains Staged size parts reason = reason ≡ None
 Explains Broken size parts reason = (text : List ℕ) × IsText size parts text × (fault_of text ≡ reason)
 Explains Active size parts reason = reason ≡ None
 
--- the size is permitted, the parts are in order and inside of it, and they bear out the state and the reason
+-- the size is permitted, the parts are in order and fit in it, and they match the state and the reason
 pub record IsSoundRecord (r : Record) : Type 0 where
   pub size : r.size ≤ max_file
   pub parts : AreParts r.parts
@@ -30,7 +31,8 @@ pub record IsSoundRecord (r : Record) : Type 0 where
   pub state : BearsOut r.state r.size r.parts
   pub reason : Explains r.state r.size r.parts r.reason
 
--- one record for each name, and at most as many as a feed may have; and none of an earlier day than an active one of its package, so of each package one at most is active
+-- each name has one record, at most as many as a feed may have; none is of an earlier day than an active one of its
+-- package, so each package has at most one active
 pub record IsSound (c : Content) : Type 0 where
   pub distinct : IsDistinct name_eq (names c)
   pub few : length c ≤ max_held

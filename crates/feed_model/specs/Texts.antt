@@ -1,4 +1,4 @@
--- How replies and faults are printed.
+-- The printed forms of replies and refusals.
 use Rattle.std.specs.Prelude.{◌++◌, ℕ, List, codes}
 use Rattle.std.specs.Fmt.{decimal}
 use Rattle.feed_kbart.specs.Reasons.{bad_file_text}

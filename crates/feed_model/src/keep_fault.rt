@@ -1,14 +1,15 @@
+//! The errors of a keeper, the storage of a feed.
 use std::error::Error;
 use std::fmt;
 
-/// Why a keeper refused.
+/// Why a keeper refused a call.
 #[derive(Clone, Copy, Debug, PartialEq, Eq)]
 pub enum KeepFault {
-    /// Want of memory.
+    /// Memory ran out.
     Memory,
-    /// The device failed; the keeper has counted it.
+    /// The device failed, and the keeper has counted the failure.
     Device,
-    /// The store holds what is no list of records, or what no feed ever keeps.
+    /// The store does not hold a list of records, or it holds one that no feed can produce.
     Damaged,
 }
 

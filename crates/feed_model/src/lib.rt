@@ -1,4 +1,4 @@
-//! What a feed may answer: its replies and refusals, and the model that says which of them is right after which events.
+//! The answers of a feed, its replies and refusals, and the model that defines the right answer to each event.
 #![tactic(auto)]
 
 mod keep_fault;

@@ -1,21 +1,22 @@
+//! The replies and refusals with which a feed answers an event.
 use feed_kbart::BadFile;
 use std::error::Error;
 use std::fmt;
 
-/// What a feed made of an event.
+/// The effect of an event that a feed accepted.
 #[derive(Clone, Copy, Debug, PartialEq, Eq)]
 pub enum Reply {
     /// The offer is recorded.
     Noted,
     /// The release was recorded before, with the same size.
     Known,
-    /// The new bytes are kept, and so many places of the file are missing yet.
+    /// The new bytes are kept, and this many places of the file are still missing.
     Stored { missing: u64 },
     /// Every byte of the piece was kept before.
     Repeated,
-    /// The file is whole and good, and its release is the active one of its package.
+    /// The file is complete and good, and its release is the active one of its package.
     Activated,
-    /// The file is whole and bad.
+    /// The file is complete and bad.
     Broken(BadFile),
     /// A later release of the package is active.
     Older,
@@ -43,26 +44,26 @@ impl fmt::Display for Reply {
     }
 }
 
-/// Why a feed refused an event, which then changed nothing.
+/// Why a feed refused an event. A refused event has changed nothing.
 #[derive(Clone, Copy, Debug, PartialEq, Eq)]
 pub enum Refusal {
     /// The offered size is above the limit of a file.
     TooLarge,
     /// The release was recorded with another size.
     WrongSize,
-    /// As many releases are recorded as a feed may have.
+    /// The feed already has the maximum number of releases.
     Full,
     /// The piece is empty or above the limit of a piece.
     BadPiece,
     /// The release is not recorded.
     Unknown,
-    /// The piece reaches past the end of the file.
+    /// The piece extends past the end of the file.
     Outside,
-    /// Another byte is kept at a place of the piece.
+    /// The piece differs from a kept byte.
     Conflict,
-    /// There was no memory, in place of an answer that keeps something.
+    /// Memory ran out. This replaces an answer that keeps something.
     Memory,
-    /// The keeper's device failed, in place of an answer that keeps something.
+    /// The keeper's device failed. This replaces an answer that keeps something.
     Device,
 }
 

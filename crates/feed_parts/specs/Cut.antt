@@ -1,8 +1,8 @@
--- Parts that are cut out of a piece.
+-- Cutting parts out of a piece.
 use Rattle.std.specs.Prelude.{◌-◌, ℕ, if◌then◌else◌, nat_lt, List, [], ◌∷◌, take, drop}
 use Rattle.feed_model.specs.Content.{Part}
 
--- the bytes of a piece at the places from one up to another
+-- the bytes of a piece at the places from `low` up to `high`
 abbrev pub cut : ℕ → List ℕ → ℕ → ℕ → Part
 cut first bytes low high = record { first = low; bytes = take (high - low) (drop (low - first) bytes) }
 

@@ -1,3 +1,4 @@
+//! Finding the first gap of an incomplete file.
 ghost use Rattle.feed_model.specs.Content.{byte_in};
 ghost use Rattle.feed_model.specs.Parts.{AreWithin};
 ghost use Rattle.feed_parts.specs.Segments.{IsFirstGap};
@@ -5,14 +6,14 @@ ghost use Rattle.feed_parts.specs.Shown.{shown_parts};
 
 use crate::part::{Part, end_of};
 
-/// Places of a file that no part has: from `first` up to `end`, `end` not included.
+/// Places of a file that no part has: from `first` up to `end`, which is not included.
 #[derive(Clone, Copy, Debug, PartialEq, Eq)]
 pub struct Gap {
     pub first: u64,
     pub end: u64,
 }
 
-// The first gap of a file that has these parts.
+// Returns the first gap of a file that has these parts.
 pub(crate) fn next_gap(parts: &[Part], size: u64) -> Option<Gap>
     requires { AreWithin size (shown_parts parts.now) }
     ensures { IsFirstGap (byte_in (shown_parts parts.now)) size result }

@@ -1,4 +1,4 @@
-//! What is kept of a file that is not whole yet: what a piece brings to it, and what is missing.
+//! The stored bytes of an incomplete file: which bytes of a piece are new, and which places are missing.
 #![tactic(auto)]
 
 mod gaps;

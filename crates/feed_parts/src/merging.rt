@@ -1,3 +1,4 @@
+//! Merging new parts into the stored ones.
 ghost use Rattle.std.specs.Prelude.{◌≡◌, ◌+◌, ◌≤◌, []};
 ghost use Rattle.std.specs.Prelude.{IfOk, take, drop, length, vec_len, vec_capacity, IsPermutation};
 ghost use Rattle.std.specs.List.Sorted.{IsNonDecreasingBy};
@@ -8,8 +9,8 @@ ghost use Rattle.feed_parts.specs.Shown.{shown_parts};
 use crate::part::{Part, copied};
 use std::alloc::{AllocError, Global};
 
-// Puts new parts, which are in order, among the kept ones. There is room for them, so this takes no memory. What
-// follows the new parts is moved once, and no more is sorted than they lie among.
+// Merges new parts, which are in order, into the stored ones. There is room for them, so this does not allocate. It
+// moves the parts behind the new ones once, and sorts only the range that the new ones fall in.
 pub(crate) fn merge(parts: &mut Vec<Part>, mut new: Vec<Part>)
     requires room { vec_len parts.old + vec_len new ≤ vec_capacity parts.old }
     requires order { AreParts (shown_parts new.items) }
@@ -23,7 +24,7 @@ pub(crate) fn merge(parts: &mut Vec<Part>, mut new: Vec<Part>)
     }
 }
 
-// Sorts parts of which the first `kept` are in order, and the others too.
+// Merges two sorted runs in place: the first `kept` parts, and the others.
 fn merge_runs(parts: &mut [Part], kept: usize)
     requires within { kept ≤ length parts.old }
     requires front { IsNonDecreasingBy (λ p. p.first) (take kept parts.old) }
@@ -44,7 +45,7 @@ fn merge_runs(parts: &mut [Part], kept: usize)
     parts[begin..end + count].sort_unstable_by_key(|part| part.first);
 }
 
-/// The parts once more, in order: those that begin at one place stay as they stood.
+/// Copies the parts and sorts them. Parts that begin at the same place keep their order.
 pub fn copied_in_order(alloc: Global, parts: &[Part]) -> Result<Vec<Part>, AllocError>
     ensures { IfOk result (λ copy. shown_parts copy.items ≡ merged [] (shown_parts parts.now)) }
 {

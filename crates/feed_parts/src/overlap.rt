@@ -1,4 +1,4 @@
-//! A piece beside the parts that are kept.
+//! Comparing a piece with the stored parts: conflicting bytes, new bytes, and covered places.
 ghost use Rattle.std.specs.Prelude.{◌≡◌, ◌+◌, ◌-◌, ◌<◌, ◌≤◌, ◌^◌};
 ghost use Rattle.std.specs.Prelude.{◌++◌, ℕ, [], ◌∷◌};
 ghost use Rattle.std.specs.Prelude.{false, length, vec_len, All, IsTrue, IfOk, OnOk};
@@ -13,7 +13,7 @@ ghost use Rattle.feed_parts.specs.Shown.{shown_part, shown_parts};
 use crate::part::{Part, end_of};
 use std::alloc::{AllocError, Global};
 
-// The parts that have a place from `first` up to `end`, `end` not included.
+// The parts that have a place from `first` up to `end`, which is not included.
 fn meeting(parts: &[Part], first: u64, end: u64) -> &[Part]
     requires order { AreSegments (shown_parts parts.now) }
     ensures order { AreSegments (shown_parts result.now) }
@@ -27,7 +27,7 @@ fn meeting(parts: &[Part], first: u64, end: u64) -> &[Part]
     &rest[..to]
 }
 
-// Whether a kept byte is another one than the piece has at its place.
+// Returns whether the piece differs from a stored byte.
 pub(crate) fn conflicts(parts: &[Part], first: u64, bytes: &[u8]) -> bool
     requires order { AreSegments (shown_parts parts.now) }
     requires inside { first + length bytes.now < 2 ^ 64 }
@@ -43,7 +43,7 @@ pub(crate) fn conflicts(parts: &[Part], first: u64, bytes: &[u8]) -> bool
     false
 }
 
-// Whether a byte of the part is another one than the piece has at its place.
+// Returns whether the piece differs from a byte of the part.
 fn differs(part: &Part, first: u64, bytes: &[u8]) -> bool
     requires part { part.now.first + vec_len part.now.bytes < 2 ^ 64 }
     requires piece { first + length bytes.now < 2 ^ 64 }
@@ -65,7 +65,7 @@ fn slice_at(bytes: &[u8], first: u64, low: u64, high: u64) -> &[u8]
     &bytes[(low - first) as usize..(high - first) as usize]
 }
 
-// Whether each place of the piece is kept.
+// Returns whether each place of the piece is stored.
 pub(crate) fn covers(parts: &[Part], first: u64, bytes: &[u8]) -> bool
     requires order { AreSegments (shown_parts parts.now) }
     requires inside { first + length bytes.now < 2 ^ 64 }
@@ -83,7 +83,7 @@ pub(crate) fn covers(parts: &[Part], first: u64, bytes: &[u8]) -> bool
     end <= place
 }
 
-// The bytes of the piece at whose places none is kept, a part for each gap, in order.
+// The bytes of the piece at places that are not stored, a part for each gap, in order.
 pub(crate) fn new_parts(
     alloc: Global,
     parts: &[Part],
@@ -108,7 +108,7 @@ pub(crate) fn new_parts(
     Ok(new)
 }
 
-// Adds the piece's bytes at the places from `low` up to `high` as a part, if there are any.
+// Appends the piece's bytes at the places from `low` up to `high` as a part, if there are any.
 fn push_cut(
     alloc: Global,
     new: &mut Vec<Part>,
@@ -130,7 +130,7 @@ fn push_cut(
     Ok(())
 }
 
-// How many bytes parts have.
+// The number of bytes that parts have.
 pub(crate) fn byte_count(parts: &[Part]) -> u64
     requires { AreSegments (shown_parts parts.now) }
     ensures { result ≡ total_length (shown_parts parts.now) }

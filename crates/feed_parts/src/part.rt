@@ -1,3 +1,4 @@
+//! A part: consecutive bytes of a file.
 ghost use Rattle.std.specs.Prelude.{◌≡◌, ◌↔◌, ◌+◌, ◌-◌, ◌^◌, min, IfOk, IsTrue, vec_len};
 ghost use Rattle.feed_parts.specs.Shown.{shown_parts};
 ghost use Rattle.feed_model.specs.Parts.{AreWithin};
@@ -5,21 +6,21 @@ ghost use Rattle.feed_model.specs.Parts.{AreWithin};
 use feed_limits::PIECE_LIMIT;
 use std::alloc::{AllocError, Global};
 
-/// Bytes of a file, and the place of the first of them, from 0.
+/// Bytes of a file, and the place of the first of them, counted from 0.
 #[derive(Debug, Drop)]
 pub struct Part {
     pub first: u64,
     pub bytes: Vec<u8>,
 }
 
-/// The place after the part's last byte, or the last place of all where it lies beyond.
+/// Returns the place after the part's last byte, or the greatest place if it is beyond.
 pub(crate) fn end_of(part: &Part) -> u64
     ensures { result ≡ min (part.now.first + vec_len part.now.bytes) (2 ^ 64 - 1) }
 {
     part.first.saturating_add(part.bytes.len() as u64)
 }
 
-/// The parts once more.
+/// Copies the parts.
 pub fn copied(alloc: Global, parts: &[Part]) -> Result<Vec<Part>, AllocError>
     ensures { IfOk result (λ copy. shown_parts copy.items ≡ shown_parts parts.now) }
 {
@@ -33,7 +34,7 @@ pub fn copied(alloc: Global, parts: &[Part]) -> Result<Vec<Part>, AllocError>
     Ok(copy)
 }
 
-// Whether the parts are in order, each of 1 to 1,048,576 bytes, and none reaches past the size of the file.
+// Returns whether the parts are in order, each of 1 to 1,048,576 bytes, and none extends past the size of the file.
 pub(crate) fn are_within(parts: &[Part], size: u64) -> bool
     ensures { IsTrue result ↔ AreWithin size (shown_parts parts.now) }
 {

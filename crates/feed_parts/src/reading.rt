@@ -1,4 +1,4 @@
-//! The text of a file, read from its parts where they lie.
+//! Reading the text of a file from its parts, without copying them together first.
 ghost use Rattle.std.specs.Prelude.{◌≡◌, ◌∷◌, [], IfSome, IfNone};
 ghost use Rattle.feed_model.specs.Content.{AreParts, IsText};
 ghost use Rattle.feed_model.specs.Change.{merged};
@@ -11,7 +11,7 @@ use crate::part::{Part, are_within};
 use std::io::{self, Read};
 use std::marker::Model;
 
-/// Reads the bytes of kept and new parts, in the order of their places.
+/// Reads the bytes of stored and new parts, in the order of their places.
 #[derive(Drop)]
 pub struct SegmentReader<'a> {
     front: &'a [u8],
@@ -35,7 +35,7 @@ impl<'a> Model for SegmentReader<'a> {
 }
 
 impl<'a> SegmentReader<'a> {
-    // Of kept and new parts, both in order.
+    // Both lists of parts are in order.
     pub(crate) fn new(kept: &'a [Part], new: &'a [Part]) -> SegmentReader<'a>
         requires order { AreParts (shown_parts new.now) }
         requires apart { AreParts (merged (shown_parts kept.now) (shown_parts new.now)) }
@@ -57,7 +57,7 @@ impl<'a> Read for SegmentReader<'a> {
 
     ghost remaining = { λ r. Some r };
 
-    /// It takes no memory, and does not fail.
+    /// Does not allocate, and never fails.
     fn read(&mut self, buf: &mut [u8]) -> io::Result<usize>
         ensures bound { ReadsAtMost result buf.new }
         ensures bytes { ReadConsumes (Some self.old) (Some self.exit.now) result buf.new }
@@ -78,8 +78,8 @@ impl<'a> Read for SegmentReader<'a> {
     }
 }
 
-/// A reader of the file of this size that parts are, where they lie inside of it, in the order of their places, and
-/// none of its places is missing. `None` of other parts. It takes no memory.
+/// Returns a reader of a complete file of this size, in the order of its places. Returns `None` if the parts are not
+/// inside the file or a place is missing. Does not allocate.
 pub fn whole_reader(parts: &[Part], size: u64) -> Option<SegmentReader<'_>>
     ensures some { IfSome result (λ text. IsFull size (shown_parts parts.now)
         × IsText size (shown_parts parts.now) text) }
@@ -91,7 +91,7 @@ pub fn whole_reader(parts: &[Part], size: u64) -> Option<SegmentReader<'_>>
     Some(SegmentReader::new(parts, &[]))
 }
 
-// The part that begins first, and the other kept and new parts.
+// Splits off the part that begins first, and returns the other stored and new parts.
 fn split_first<'a>(kept: &'a [Part], new: &'a [Part]) -> Option<(&'a Part, &'a [Part], &'a [Part])>
     requires { AreParts (shown_parts new.now) }
     ensures first { IfSome result (λ split. merged (shown_parts kept.now) (shown_parts new.now)

@@ -1,4 +1,4 @@
-//! What is kept of a file: a finite map from places to bytes.
+//! `Segments`, the stored bytes of a file: a finite map from places to bytes.
 ghost use Rattle.std.specs.Prelude.{◌≡◌, ◌≤◌, ◌<◌, ◌+◌, ◌-◌, ◌^◌, ◌↔◌, ℕ, [], length};
 ghost use Rattle.std.specs.Prelude.{false, IfOk, IfSome, IfNone, IsOk, IsTrue, OnErr, OnOk};
 ghost use Rattle.feed_model.specs.Reply.{max_piece, missing_below};
@@ -17,8 +17,8 @@ use crate::reading::SegmentReader;
 use std::alloc::{AllocError, Global};
 use std::marker::Model;
 
-/// The bytes of a file that are kept, as parts in the order of their places, none of which has a place of another; and
-/// how many they are. Parts that touch are not joined.
+/// The stored bytes of a file and their number, as parts in the order of their places. No two parts overlap, and
+/// parts that touch are not joined.
 #[derive(Drop)]
 pub struct Segments {
     parts: Vec<Part>,
@@ -43,7 +43,7 @@ impl Model for Segments {
 }
 
 impl Segments {
-    /// Nothing is kept yet. It takes no memory.
+    /// Returns segments without bytes. Does not allocate.
     pub fn new(alloc: Global) -> Segments
         ensures { result.parts ≡ [] }
     {
@@ -53,8 +53,9 @@ impl Segments {
         }
     }
 
-    /// Of parts in the order of their places, each of 1 to 1,048,576 bytes, of which none begins before the one in
-    /// front of it ends or reaches past the greatest number of 64 bits. `None` for others. It takes no memory.
+    /// Returns segments with exactly the given parts, or `None` unless the parts are in the order of their places, each of 1
+    /// to 1,048,576 bytes, and none begins before the previous one ends or extends past the greatest 64-bit number.
+    /// Does not allocate.
     pub fn of(parts: Vec<Part>) -> Option<Segments>
         ensures some { IfSome result (λ segments. segments.parts ≡ shown_parts parts.items) }
         ensures none { IfNone result (¬ (AreSegments (shown_parts parts.items))) }
@@ -66,7 +67,7 @@ impl Segments {
         Some(Segments { parts, count })
     }
 
-    /// The parts, in the order of their places.
+    /// Returns the parts, in the order of their places.
     pub fn parts(&self) -> &[Part]
         ensures value { shown_parts result.now ≡ self.now.parts }
         ensures order { AreSegments self.now.parts }
@@ -74,14 +75,14 @@ impl Segments {
         &self.parts
     }
 
-    /// How many bytes are kept. They are not counted anew.
+    /// Returns the number of stored bytes, in constant time.
     pub fn count(&self) -> u64
         ensures { result ≡ total_length self.now.parts }
     {
         self.count
     }
 
-    /// How many places of a file of this size are missing. They are not counted anew.
+    /// Returns the number of missing places of a file of this size, in constant time.
     pub fn missing(&self, size: u64) -> u64
         requires { AreWithin size self.now.parts }
         ensures { result ≡ missing_below (byte_in self.now.parts) size }
@@ -89,15 +90,15 @@ impl Segments {
         size.saturating_sub(self.count)
     }
 
-    /// Whether no part reaches past the size of a file.
+    /// Returns whether no part extends past the size of a file.
     pub fn are_within(&self, size: u64) -> bool
         ensures { IsTrue result ↔ AreWithin size self.now.parts }
     {
         are_within(&self.parts, size)
     }
 
-    /// The index of the last part that begins at a place or before it. Each look at the first place of a part is a
-    /// probe, and is added to those that were made. It takes no memory.
+    /// Returns the index of the last part that begins at a place or before it. Adds to `probes` the number of parts
+    /// whose first place it looked at. Does not allocate.
     pub fn find(&self, place: u64, probes: &mut u32) -> Option<usize>
         requires { probes.old ≤ 1000000 }
         ensures found { IsLastFrom self.now.parts place result }
@@ -107,8 +108,8 @@ impl Segments {
         find(&self.parts, place, probes)
     }
 
-    /// The first gap of a file that has them: the least missing place, and the first place after it that is kept, or
-    /// the size. It takes no memory.
+    /// Returns the first gap of a file that has these segments: from the least missing place to the next one that is
+    /// stored, or to the size. Does not allocate.
     pub fn next_gap(&self, size: u64) -> Option<Gap>
         requires { AreWithin size self.now.parts }
         ensures { IsFirstGap (byte_in self.now.parts) size result }
@@ -116,7 +117,7 @@ impl Segments {
         gaps::next_gap(&self.parts, size)
     }
 
-    /// Whether a kept byte is another one than a piece has at its place. It takes no memory.
+    /// Returns whether a piece differs from a stored byte. Does not allocate.
     pub fn conflicts(&self, first: u64, bytes: &[u8]) -> bool
         requires { first + length bytes.now < 2 ^ 64 }
         ensures differs { IsTrue result → DiffersIn self.now.parts first bytes.now }
@@ -125,7 +126,7 @@ impl Segments {
         overlap::conflicts(&self.parts, first, bytes)
     }
 
-    /// Whether each place of a piece is kept. It takes no memory.
+    /// Returns whether each place of a piece is stored. Does not allocate.
     pub fn covers(&self, first: u64, bytes: &[u8]) -> bool
         requires { first + length bytes.now < 2 ^ 64 }
         ensures covers { IsTrue result → Covers self.now.parts first bytes.now }
@@ -134,7 +135,7 @@ impl Segments {
         overlap::covers(&self.parts, first, bytes)
     }
 
-    /// The bytes of a piece at whose places none is kept, a part for each gap.
+    /// Returns the bytes of a piece at places that are not stored, a part for each gap.
     pub fn new_parts(&self, alloc: Global, first: u64, bytes: &[u8]) -> Result<Segments, AllocError>
         requires inside { first + length bytes.now < 2 ^ 64 }
         requires piece { length bytes.now ≤ max_piece }
@@ -148,7 +149,7 @@ impl Segments {
         Ok(Segments { parts, count })
     }
 
-    /// Makes room for other segments among these. It takes memory where the room is not there yet.
+    /// Makes room for other segments. Allocates if there is not enough room yet.
     pub fn reserve(&mut self, new: &Segments) -> Result<(), AllocError>
         ensures same { self.new.parts ≡ self.old.parts }
         ensures room { OnOk result (length new.now.parts ≤ self.new.room) }
@@ -158,7 +159,7 @@ impl Segments {
         Ok(self.parts.reserve(new.parts.len())?)
     }
 
-    /// Takes others in, for which there is room, so that this takes no memory; no kept byte is moved.
+    /// Inserts other segments, for which there is room. Does not allocate or move a stored byte.
     pub fn insert(&mut self, new: Segments)
         requires room { length new.parts ≤ self.old.room }
         requires apart { AreSegments (merged self.old.parts new.parts) }
@@ -169,7 +170,7 @@ impl Segments {
         self.count = self.count.saturating_add(count);
     }
 
-    /// A reader of the bytes, in the order of their places. It takes no memory.
+    /// Returns a reader of the bytes, in the order of their places. Does not allocate.
     pub fn reader(&self) -> SegmentReader<'_>
         ensures bytes { result ≡ joined self.now.parts }
         ensures text { IsTextOf self.now.parts result }
@@ -177,7 +178,7 @@ impl Segments {
         SegmentReader::new(&self.parts, &[])
     }
 
-    /// A reader of these bytes and others, in the order of their places. It takes no memory.
+    /// Returns a reader of these bytes and the new ones, in the order of their places. Does not allocate.
     pub fn reader_with<'a>(&'a self, new: &'a Segments) -> SegmentReader<'a>
         requires { AreSegments (merged self.now.parts new.now.parts) }
         ensures bytes { result ≡ joined (merged self.now.parts new.now.parts) }
