@@ -1,23 +1,23 @@
--- When a fault of a device is told.
+-- When a keeper reports a device failure: only if its count of failures rose.
 use Rattle.std.specs.Prelude.{◌≡◌, ◌<◌, ◌≤◌, ◌⊎◌, ℕ}
 
 -- the greatest value of a count of failures
 abbrev pub most_failures : ℕ
 most_failures = 18446744073709551615
 
--- the count rose, or stands at its greatest value
+-- the count rose, or has its greatest value
 abbrev pub HasFailed : ℕ → ℕ → Type 0
 HasFailed before now = (before < now) ⊎ (now ≡ most_failures)
 
--- over several calls the count rose, or came to stand at its greatest value, which no count exceeds
+-- over several calls the count rose, or has reached its greatest value, which no count exceeds
 abbrev pub HasFailedSince : ℕ → ℕ → Type 0
 HasFailedSince before now = (before < now) ⊎ (most_failures ≤ now)
 
--- the count never falls, and where a failure is told it rose, or stands at its greatest value
+-- the count never falls; if a failure is reported, it rose or has its greatest value
 abbrev pub HasCounted : Type 0 → ℕ → ℕ → Type 0
 HasCounted told before now = (before ≤ now) × (told → HasFailed before now)
 
--- the count never falls; where a failure is told it rose, or stands at its greatest value, and else it stays as it was
+-- the count never falls; it rises (or has its greatest value) if a failure is reported, and otherwise stays the same
 pub record IsCounted (told : Type 0) (before now : ℕ) : Type 0 where
   pub rises : before ≤ now
   pub failed : told → HasFailed before now

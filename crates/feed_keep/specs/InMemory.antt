@@ -1,4 +1,4 @@
--- The content of a list in memory.
+-- The content of a list of records in memory.
 use Rattle.std.specs.List.{IsDistinct}
 use Rattle.feed_names.specs.ReleaseName.{name_eq}
 use Rattle.feed_model.specs.Content.{Content, names}
@@ -10,6 +10,6 @@ use Rattle.feed_keep.specs.Arranged.{ordered}
 abbrev pub content_of_list : ListKeep → Content
 content_of_list keeper = ordered (shown keeper.records.items)
 
--- no name stands twice
+-- no name appears twice
 abbrev pub IsListed : ListKeep → Type 0
 IsListed keeper = IsDistinct name_eq (names (content_of_list keeper))

@@ -1,3 +1,4 @@
+//! The trait `Keep`: what a feed requires of the storage of its records.
 ghost use Rattle.std.specs.Prelude.{◌≡◌, ℕ, Err, IfOk, OnOk, OnErr, IsErrOf};
 ghost use Rattle.std.specs.List.{IsDistinct};
 ghost use Rattle.feed_names.specs.ReleaseName.{name_eq};
@@ -14,57 +15,57 @@ use feed_names::ReleaseName;
 use feed_parts::Part;
 use std::alloc::Global;
 
-/// A change of what is kept, made whole or not at all. Parts are in order, disjoint from one another and from the kept
-/// ones, and each has 1 to `PIECE_LIMIT` bytes.
+/// A change of the stored records. It is made completely or not at all. Parts are in order, disjoint from one another
+/// and from the stored ones, and each has 1 to `PIECE_LIMIT` bytes.
 #[derive(Clone, Copy)]
 pub enum Change<'a> {
-    /// A new record without parts: staged, or broken where the size is 0.
+    /// A new record without parts: staged, or broken if the size is 0.
     Add {
         name: &'a ReleaseName,
         size: u64,
     },
-    /// More parts of a staged release, which is not whole with them.
+    /// More parts of a staged release, which is still incomplete with them.
     Pieces {
         name: &'a ReleaseName,
         parts: &'a [Part],
     },
-    /// The last parts of a staged release whose file is bad, and why it is.
+    /// The last parts of a staged release whose file is bad, and why it is bad.
     Break {
         name: &'a ReleaseName,
         parts: &'a [Part],
         reason: BadFile,
     },
-    /// The last parts of a staged release whose file is good. The package's records of earlier days go.
+    /// The last parts of a staged release whose file is good. Removes the package's records of earlier days.
     Activate {
         name: &'a ReleaseName,
         parts: &'a [Part],
     },
 }
 
-/// What keeps the records of a feed from one run of its node to the next.
+/// A store of the records of a feed, which persists them between two runs of its node.
 ///
-/// Its content is what was committed. What a call says of the content holds where the keeper is `clean` as the call
-/// ends, and then it was clean as the call began: memory always is, a file while nobody else writes it and the disk
-/// gives back what was written.
+/// Its content is the committed records. A clause about the content holds if the keeper is `clean` at the end of the
+/// call, and then it was clean at its start. Memory is always clean. A file is clean as long as nobody else writes it
+/// and the disk returns what was written.
 pub trait Keep {
     /// The records: one for each name, in the store of a feed.
     ghost content: { Self → Content };
 
     ghost clean: { Self → Type 0 };
 
-    /// Whether the store holds a list of records, one for each name. In memory a name may stand twice; a table may hold
-    /// what is no record.
+    /// The store holds a list of records, one for each name. A list in memory may have a name twice, and a table may
+    /// have rows that are not a record.
     ghost listed: { Self → Type 0 };
 
-    /// How often the device has failed.
+    /// The number of device failures so far.
     ghost failed: { Self → ℕ };
 
-    /// How often the device has failed; it stays at its greatest value.
+    /// Returns the number of device failures so far. It saturates at its greatest value.
     fn failures(&self) -> u64
         ensures { result ≡ failed self.now };
 
-    /// All records, ordered by the texts of their names, each with its parts ordered by their first places. `Damaged`
-    /// where the store holds no list of records. It stays as it is.
+    /// Returns all records, ordered by the texts of their names, each with its parts ordered by their first places.
+    /// Does not change the store. The error is `Damaged` if the store does not hold a list of records.
     fn load(&mut self, alloc: Global) -> Result<Vec<Record>, KeepFault>
         ensures records { IfOk result (λ records. clean self.new → shown records.items ≡ content self.old) }
         ensures distinct { IfOk result (λ records. IsDistinct name_eq (names (shown records.items))) }
@@ -76,8 +77,8 @@ pub trait Keep {
         ensures clean { clean self.new → clean self.old }
         ensures device { IsCounted (result ≡ Err KeepFault.Device) (failed self.old) (failed self.new) };
 
-    /// Makes the whole change, or refuses and changes nothing. It is asked only of a store that holds a list of
-    /// records, leaves it one, and never answers `Damaged`.
+    /// Makes the whole change, or returns an error and changes nothing. The store must hold a list of records. It still
+    /// holds one afterwards, and the error is never `Damaged`.
     fn commit(&mut self, change: &Change<'_>) -> Result<(), KeepFault>
         requires listed { clean self.old → ∥ listed self.old ∥₁ }
         requires allowed { clean self.old → IsAllowed (shown_change change.now) (content self.old) }

@@ -1,5 +1,5 @@
-//! What keeps the releases of a feed from one run of its node to the next: the records, the changes that are made to
-//! them, what a keeper promises, and the plain keeper in memory.
+//! The storage of a feed: its records, the changes to them, the trait `Keep` that a store implements, and an
+//! implementation in memory.
 #![tactic(auto)]
 
 mod bad_file;

@@ -1,3 +1,4 @@
+//! `ListKeep`, the implementation of `Keep` in memory.
 ghost use Rattle.std.specs.Prelude.{◌≡◌, ◌↔◌, ◌≤◌, []};
 ghost use Rattle.std.specs.Prelude.{false, Some, None, IfOk, IfSome, IfNone, OnOk, OnErr, length};
 ghost use Rattle.std.specs.Prelude.{insert, not, IsPermutation};
@@ -23,8 +24,8 @@ use feed_parts::{Part, copied, copied_in_order};
 use std::alloc::{AllocError, Global};
 use std::cmp::Ordering;
 
-/// The plain keeper: the records in memory, ordered by the texts of their names, each with its parts as they came. They
-/// are put in order as they are loaded. It has no device that fails.
+/// A keeper in memory. Its records are ordered by the texts of their names, each with its parts in the order in which
+/// they were committed. `load` sorts the parts. It has no device, so it never fails.
 #[derive(Drop)]
 pub struct ListKeep {
     alloc: Global,
@@ -36,7 +37,7 @@ impl ListKeep {
     ghost use Rattle.feed_keep.specs.Arranged.{IsArranged};
     ghost use Rattle.feed_keep.specs.InMemory.{content_of_list};
 
-    /// A keeper of no records. It takes no memory.
+    /// Returns a keeper without records. Does not allocate.
     pub fn new(alloc: Global) -> ListKeep
         ensures { content_of_list result ≡ [] }
     {
@@ -46,7 +47,7 @@ impl ListKeep {
         }
     }
 
-    /// A keeper of these records, which it puts in order. It takes no memory. Where a name stands twice, `load` answers
+    /// Returns a keeper of the given records, which it sorts. Does not allocate. If a name appears twice, `load` returns
     /// `Damaged`.
     pub fn of(alloc: Global, records: Vec<Record>) -> ListKeep
         ensures { IsArranged (shown records.items) (content_of_list result) }
@@ -220,7 +221,7 @@ fn sort_by_name(records: &mut Vec<Record>)
     );
 }
 
-// Whether a name stands twice.
+// Returns whether a name appears twice.
 fn has_twice(records: &[Record]) -> bool
     ensures { result ≡ false ↔ IsDistinct name_eq (names (shown records.now)) }
 {
@@ -232,7 +233,7 @@ fn has_twice(records: &[Record]) -> bool
     false
 }
 
-// The records once more, each with its parts in order.
+// Copies the records, and sorts the parts of each.
 fn copied_records(alloc: Global, records: &[Record]) -> Result<Vec<Record>, AllocError>
     ensures { IfOk result (λ copy. shown copy.items ≡ ordered (shown records.now)) }
 {

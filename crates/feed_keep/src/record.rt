@@ -1,11 +1,12 @@
+//! The stored record of a release.
 use feed_kbart::BadFile;
 use feed_model::State;
 use feed_names::ReleaseName;
 use feed_parts::Part;
 use std::alloc::Global;
 
-/// What is kept of a release: the size of its file in bytes, why the file is bad where the release is broken, and the
-/// parts of it, ordered by their first places.
+/// A stored record of a release: the size of its file in bytes, its state, why the file is bad if the release is
+/// broken, and the parts of the file, ordered by their first places.
 #[derive(Debug, Drop)]
 pub struct Record {
     pub name: ReleaseName,
@@ -20,8 +21,8 @@ impl Record {
     ghost use Rattle.feed_model.specs.Change.{new_record};
     ghost use Rattle.feed_keep.specs.Shown.{shown_record};
 
-    /// The record of a release that is offered: nothing of it is kept yet, and a file of size 0 is whole, and bad. It
-    /// takes no memory.
+    /// Returns the record of a newly offered release, without parts. A file of size 0 is complete, and bad. Does not
+    /// allocate.
     pub fn new(alloc: Global, name: ReleaseName, size: u64) -> Record
         ensures { shown_record result ≡ new_record name size }
     {

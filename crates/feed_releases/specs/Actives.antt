@@ -1,4 +1,4 @@
--- The active releases of a feed, by their packages.
+-- The active releases of a feed, ordered by package.
 use Rattle.std.specs.Prelude.{◌≡◌, ◌↔◌, ◌<◌, ℕ, Bool, if◌then◌else◌, All, List, [], ◌∷◌, length, map, slice_index_or, option_map, Option, Some}
 use Rattle.std.specs.List.{filter_map}
 use Rattle.std.specs.List.Sorted.{IsStrictlySortedBy}
@@ -11,57 +11,57 @@ use Rattle.feed_kbart.specs.Files.{holdings_of}
 use Rattle.feed_model.specs.History.{History, IsFile, Reports}
 use Rattle.feed_releases.specs.ReleaseValue.{ReleaseValue, IsKnown}
 
--- an active release: its name, and what its file holds
+-- an active release: its name, and its holdings
 pub record ActiveValue : Type 0 where
   pub name : Name
   pub holdings : HoldingsValue
 
--- a release, if it is active: then alone it has holdings
+-- a release, if it is active; only then does it have holdings
 abbrev pub active_of : ReleaseValue → Option ActiveValue
 active_of release = option_map (λ holdings. record { name = release.kept.name; holdings = holdings }) release.holdings
 
--- how the packages of two releases compare, by bytes
+-- compares the packages of two releases, by bytes
 abbrev pub package_cmp : ActiveValue → ActiveValue → Ordering
 package_cmp a b = slice_cmp nat_cmp a.name.stem b.name.stem
 
--- the package of the one comes before that of the other
+-- the package of the one is less than that of the other
 abbrev pub comes_before : ActiveValue → ActiveValue → Bool
 comes_before a b = is_lt (package_cmp a b)
 
--- an active release among others, behind those whose packages come before its own
+-- inserts an active release among others, behind those whose packages are less than its own
 abbrev pub insert_active : ActiveValue → List ActiveValue → List ActiveValue
 insert_active a [] = a ∷ []
 insert_active a (b ∷ others) = if comes_before b a then b ∷ insert_active a others else a ∷ b ∷ others
 
--- active releases put among others, one after another
+-- inserts active releases among others, one after another
 abbrev pub inserted : List ActiveValue → List ActiveValue → List ActiveValue
 inserted others [] = others
 inserted others (a ∷ actives) = inserted (insert_active a others) actives
 
--- the active ones of these releases, by their packages
+-- the active releases among all, ordered by package
 abbrev pub actives_of : List ReleaseValue → List ActiveValue
 actives_of releases = inserted [] (filter_map active_of releases)
 
--- what is known of a release's file
+-- the holdings of a release agree with its file
 abbrev pub IsKnownRelease : ReleaseValue → Type 0
 IsKnownRelease r = IsKnown r.kept.state r.kept.size r.kept.parts r.holdings
 
--- and of that of each of these
+-- the holdings of each release agree with its file
 abbrev pub AreKnown : List ReleaseValue → Type 0
 AreKnown releases = (k : ℕ) (d : ReleaseValue) → k < length releases → IsKnownRelease (slice_index_or releases k d)
 
--- the release is the active one of its package, and the holdings are those of its whole file
+-- the release is the active one of its package, and the holdings are those of its complete file
 pub record IsReported (h : History) (active : ActiveValue) : Type 0 where
   pub reports : Reports h active.name.stem (Some active.name)
   pub text : List ℕ
   pub file : IsFile h active.name text
   pub holdings : active.holdings ≡ holdings_of text
 
--- one of these is the release of this name
+-- one of the active releases has this name
 abbrev pub Names : List ActiveValue → Name → Type 0
 Names actives n = (k : ℕ) × (k < length actives) × ((d : ActiveValue) → (slice_index_or actives k d).name ≡ n)
 
--- each of these is reported at the history and each release that is reported is one of these, once, by their packages
+-- the list has exactly the active releases of the history, each once, ordered by package
 pub record AreReported (h : History) (actives : List ActiveValue) : Type 0 where
   pub each : All (IsReported h) actives
   pub every : (stem : List ℕ) (n : Name) → Reports h stem (Some n) → Names actives n
@@ -71,10 +71,10 @@ pub record AreReported (h : History) (actives : List ActiveValue) : Type 0 where
 abbrev pub names_of : List ActiveValue → List Name
 names_of actives = map (λ active. active.name) actives
 
--- at the two histories the same release is reported of each package
+-- the two histories report the same release for each package
 abbrev pub ReportAlike : History → History → Type 0
 ReportAlike h k = (stem : List ℕ) (o : Option Name) → Reports h stem o ↔ Reports k stem o
 
--- where the same releases are reported, they are listed the same
+-- if two histories report the same releases, their lists are the same
 abbrev pub ListAlike : Type 0
 ListAlike = (h k : History) (one other : List ActiveValue) → ReportAlike h k → AreReported h one → AreReported k other → names_of one ≡ names_of other

@@ -1,4 +1,4 @@
--- What a feed answers a query.
+-- The answer of a feed to a query.
 use Rattle.std.specs.Prelude.{◌≡◌, ℕ, List, Some, None, Result, Ok, Err}
 use Rattle.feed_names.specs.ReleaseName.{Name}
 use Rattle.feed_kbart.specs.Files.{holdings_of}
@@ -9,7 +9,8 @@ use Rattle.feed_model.specs.History.{History, IsFile, Reports}
 use Rattle.feed_releases.specs.declared.feed.AnswerFault.{AnswerFault}
 use Rattle.feed_releases.specs.declared.feed.AnswerFault.TheVariants.{NoRelease, Memory}
 
--- the package has an active release, and its whole file gives these hits; or it has none; or memory is short where it has one
+-- the package has an active release, whose complete file gives these hits; or it has none; or it has one and memory ran
+-- out
 abbrev pub IsAnswered : History → List ℕ → QueryValue → Result (List HitValue) AnswerFault → Type 0
 IsAnswered h stem query (Ok hits) = (n : Name) × (text : List ℕ) × Reports h stem (Some n) × IsFile h n text × (hits ≡ answer_of (holdings_of text) query)
 IsAnswered h stem query (Err NoRelease) = Reports h stem None

@@ -1,4 +1,4 @@
--- What is seen of a feed, and how it answers an event.
+-- The model of a feed, and its answer to an event.
 use Rattle.std.specs.Prelude.{◌≡◌, List, length, Ok, Err, OnErr}
 use Rattle.feed_model.specs.declared.reply.Refusal.TheVariants.{Device, Full}
 use Rattle.feed_model.specs.declared.reply.Reply.TheVariants as replies
@@ -11,19 +11,19 @@ use Rattle.feed_keep.specs.declared.keep.Keep.{Ghosts}
 use Rattle.feed_releases.specs.declared.feed.Feed.{Feed}
 use Rattle.feed_releases.specs.ReleaseValue.{ReleaseValue, content_of}
 
--- its keeper
+-- the feed's keeper
 abbrev pub keeper_of : {K : Type 0} {k : Ghosts K} → Feed K k → K
 keeper_of feed = feed.keeper
 
--- its releases in memory
+-- the feed's releases in memory
 abbrev pub releases_of : {K : Type 0} {k : Ghosts K} → Feed K k → List ReleaseValue
 releases_of feed = feed.releases.items
 
--- the content that its releases in memory are
+-- the content formed by the releases in memory
 abbrev pub recorded : {K : Type 0} {k : Ghosts K} → Feed K k → Content
 recorded feed = content_of (releases_of feed)
 
--- an answer to an event that commits nothing: each refusal, and each reply that brings nothing new
+-- an answer to an event that commits nothing: each refusal, and each reply without new bytes
 abbrev pub CommitsNothing : Answer → Type 0
 CommitsNothing (Err refusal) = Unit {0}
 CommitsNothing (Ok replies.Known) = Unit {0}
@@ -32,9 +32,9 @@ CommitsNothing (Ok replies.Repeated) = Unit {0}
 CommitsNothing (Ok replies.Nothing) = Unit {0}
 CommitsNothing (Ok reply) = ⊥
 
--- the answer is right after whatever history the feed stands at, and the feed then stands at the longer one; after an
--- answer that commits nothing its releases are as before; it is full only with the most releases; its keeper was clean if
--- it is; and a fault of the device is told just where it failed
+-- the answer is right after every history that the feed may have, and the feed then has that history with the event and
+-- the answer added; after an answer that commits nothing its releases are as before; it is full only with the most
+-- releases; if its keeper is clean, it was clean before; and it reports a device failure exactly if the device failed
 pub record IsAnsweredBy {K : Type 0} {k : Ghosts K} (old new : Feed K k) (event : Event) (answer : Answer) : Type 0 where
   pub right : Handles (recorded old) event answer (recorded new)
   pub refused : OnErr answer (releases_of new ≡ releases_of old)

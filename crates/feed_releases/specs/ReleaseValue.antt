@@ -1,4 +1,4 @@
--- What is seen of a recorded release.
+-- The model value of a recorded release.
 use Rattle.std.specs.Prelude.{◌≡◌, ◌≢◌, ◌<◌, ◌≤◌, ℕ, true, false, List, Option, Some, None, map, length, slice_index_or}
 use Rattle.feed_names.specs.ReleaseName.{Name, name_eq, IsEarlier}
 use Rattle.feed_kbart.specs.HoldingsValue.{HoldingsValue}
@@ -14,22 +14,23 @@ use Rattle.feed_releases.specs.declared.standing.Standing.{Standing}
 use Rattle.feed_releases.specs.declared.overlap.Overlap.{Overlap}
 use Rattle.feed_releases.specs.declared.overlap.Overlap.TheVariants.{Conflict, Kept, New}
 
--- its record, and what its file holds if it is active
+-- its record, and its holdings if it is active
 pub record ReleaseValue : Type 0 where
   pub kept : Record
   pub holdings : Option HoldingsValue
 
--- what is known of the file: of an active release that it is good, and its holdings; of a broken one that it is bad
+-- the holdings agree with the file: an active release has a good file with these holdings, a broken one a bad file and
+-- no holdings
 abbrev pub IsKnown : State → ℕ → List Part → Option HoldingsValue → Type 0
 IsKnown Staged size parts holdings = holdings ≡ None
 IsKnown Broken size parts holdings = (text : List ℕ) × IsText size parts text × (fault_of text ≢ None) × (holdings ≡ None)
 IsKnown Active size parts holdings = (text : List ℕ) × IsText size parts text × (fault_of text ≡ None) × (holdings ≡ Some (holdings_of text))
 
--- the record of a release whose file stands so
+-- the record of a release whose file has this status
 abbrev pub record_with : Name → ℕ → Standing → List Part → Record
 record_with name size standing parts = record { name = name; size = size; state = state_of standing; reason = reason_of standing; parts = parts }
 
--- the parts lie inside the file, which is within the limit and stands so
+-- the parts are inside the file, whose size is within the limit, and the file has this status
 pub record IsRelease (size : ℕ) (parts : List Part) (standing : Standing) : Type 0 where
   pub within : AreWithin size parts
   pub limit : size ≤ max_file
@@ -39,7 +40,7 @@ pub record IsRelease (size : ℕ) (parts : List Part) (standing : Standing) : Ty
 abbrev pub content_of : List ReleaseValue → Content
 content_of releases = map (λ r. r.kept) releases
 
--- the first release of the name stands at this place
+-- the first release of the name is at this place
 pub record IsPlaceOf (releases : List ReleaseValue) (n : Name) (i : ℕ) : Type 0 where
   pub within : i < length releases
   pub here : (d : ReleaseValue) → name_eq (slice_index_or releases i d).kept.name n ≡ true
@@ -53,7 +54,7 @@ IsActiveAfter n r = (r.kept.state ≡ Active) × IsEarlier n r.kept.name
 abbrev pub IsActiveOf : List ℕ → ReleaseValue → Type 0
 IsActiveOf stem r = (r.kept.state ≡ Active) × (r.kept.name.stem ≡ stem)
 
--- how a piece lies over what is kept of a release
+-- how a piece overlaps the stored bytes of a release
 abbrev pub LiesOver : Record → ℕ → List ℕ → Overlap → Type 0
 LiesOver r first bytes Conflict = DiffersIn r.parts first bytes
 LiesOver r first bytes Kept = AgreesIn r.parts first bytes × Covers r.parts first bytes

@@ -1,4 +1,4 @@
--- How the file of a release stands, and what follows from that.
+-- The status of a release's file, and what follows from it.
 use Rattle.std.specs.Prelude.{◌≡◌, ◌<◌, ℕ, List, Option, Some, None, Ok, Err}
 use Rattle.feed_names.specs.ReleaseName.{Name}
 use Rattle.feed_kbart.specs.HoldingsValue.{HoldingsValue}
@@ -14,7 +14,7 @@ use Rattle.feed_releases.specs.Judged.{IsJudged}
 use Rattle.feed_releases.specs.declared.standing.Standing.{Standing}
 use Rattle.feed_releases.specs.declared.standing.Standing.TheVariants.{Partial, Bad, Good}
 
--- the state of a release whose file stands so
+-- the state of a release whose file has this status
 abbrev pub state_of : Standing → State
 state_of Partial = states.Staged
 state_of (Bad why) = states.Broken
@@ -26,31 +26,32 @@ reason_of Partial = None
 reason_of (Bad why) = Some why
 reason_of (Good holdings) = None
 
--- what is kept of its file's rows
+-- the rows of its file
 abbrev pub rows_of : Standing → Option HoldingsValue
 rows_of Partial = None
 rows_of (Bad why) = None
 rows_of (Good holdings) = Some holdings
 
--- the answer to the piece after which it stands so
+-- the answer to the piece that leads to this status
 abbrev pub reply_of : ℕ → Standing → Reply
 reply_of missing Partial = replies.Stored missing
 reply_of missing (Bad why) = replies.Broken why
 reply_of missing (Good holdings) = replies.Activated
 
--- the change that keeps the parts with which it stands so
+-- the change that stores the parts that lead to this status
 abbrev pub change_to : Standing → Name → List Part → Change
 change_to Partial n ps = Pieces n ps
 change_to (Bad why) n ps = Break n ps why
 change_to (Good holdings) n ps = Activate n ps
 
--- what this change makes of the release's record
+-- the release's record after this change
 abbrev pub stood : List Part → Standing → Record → Record
 stood ps Partial r = grown ps states.Staged r
 stood ps (Bad why) r = broken_with ps why r
 stood ps (Good holdings) r = grown ps states.Active r
 
--- the parts stand so: places are missing; or none is, and the text that they are is bad, for this reason, or good, with these rows
+-- the parts have this status: places are missing; or none is, and their text is bad for this reason, or good with these
+-- rows
 abbrev pub StandsSo : ℕ → List Part → ℕ → Standing → Type 0
 StandsSo size parts missing Partial = 0 < missing
 StandsSo size parts missing (Bad why) = (missing ≡ 0) × IsJudged size parts (Err (faults.Bad why))

@@ -1,4 +1,4 @@
-//! The active releases of a feed, by their packages. There are at most 256 of them.
+//! The active releases of a feed, ordered by package. There are at most 256 of them.
 ghost use Rattle.std.specs.Prelude.{◌≡◌, ◌≤◌, IfOk, OnOk, length, insert};
 ghost use Rattle.feed_releases.specs.Actives.{active_of, actives_of, comes_before, insert_active};
 ghost use Rattle.feed_releases.specs.Actives.{IsKnownRelease, AreKnown};
@@ -9,7 +9,7 @@ use feed_names::ReleaseName;
 use std::alloc::{AllocError, Global};
 use std::marker::Model;
 
-/// An active release: its name, and what its file holds.
+/// An active release: its name and its holdings.
 #[derive(Drop)]
 pub struct ActiveRelease<'a> {
     name: &'a ReleaseName,
@@ -25,21 +25,21 @@ impl<'a> Model for ActiveRelease<'a> {
 }
 
 impl<'a> ActiveRelease<'a> {
-    /// An active release of this name and these holdings.
+    /// Returns an active release with this name and these holdings.
     pub fn new(name: &'a ReleaseName, holdings: &'a Holdings) -> ActiveRelease<'a>
         ensures { result ≡ record { name = name.now; holdings = holdings.now } }
     {
         ActiveRelease { name, holdings }
     }
 
-    /// Its name.
+    /// Returns its name.
     pub fn name(&self) -> &'a ReleaseName
         ensures { result.now ≡ self.now.name }
     {
         self.name
     }
 
-    /// What its file holds.
+    /// Returns its holdings.
     pub fn holdings(&self) -> &'a Holdings
         ensures { result.now ≡ self.now.holdings }
     {
@@ -89,7 +89,7 @@ fn active_of(release: &Release) -> Option<ActiveRelease<'_>>
     }
 }
 
-/// The active ones of these releases, by their packages.
+/// Returns the active ones among all releases, ordered by package.
 pub(crate) fn actives_of(
     alloc: Global,
     releases: &[Release],

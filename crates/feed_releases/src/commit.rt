@@ -1,3 +1,4 @@
+//! Commits a change to the keeper of a feed.
 ghost use Rattle.feed_model.specs.Change.{IsAllowed};
 ghost use Rattle.feed_keep.specs.Shown.{shown_change};
 ghost use Rattle.feed_releases.specs.Committed.{IsCommitted};
@@ -5,7 +6,7 @@ ghost use Rattle.feed_releases.specs.Committed.{IsCommitted};
 use feed_keep::{Change, Keep};
 use feed_model::{KeepFault, Refusal};
 
-/// Commits a change, and names the fault as a feed does.
+/// Commits a change, and converts the keeper's error to a refusal of the feed.
 pub(crate) fn commit<K: Keep>(keeper: &mut K, change: &Change<'_>) -> Result<(), Refusal>
     requires listed { K.clean keeper.old → ∥ K.listed keeper.old ∥₁ }
     requires allowed { K.clean keeper.old → IsAllowed (shown_change change.now) (K.content keeper.old) }

@@ -1,3 +1,4 @@
+//! The feed of a node: it handles events, reports active releases and answers queries.
 ghost use Rattle.std.specs.Prelude.{◌≡◌, ◌≤◌, length};
 ghost use Rattle.feed_model.specs.Reply.{max_held};
 ghost use Rattle.feed_releases.specs.ReleaseValue.{content_of};
@@ -19,7 +20,7 @@ use feed_names::ReleaseName;
 use std::alloc::{AllocError, Global};
 use thiserror::Error;
 
-/// Why a feed could not be opened, with the keeper as it was.
+/// Why a feed could not be opened, with the unchanged keeper.
 #[derive(Drop)]
 pub struct OpenFault<K: Drop> {
     pub cause: KeepFault,
@@ -29,20 +30,20 @@ pub struct OpenFault<K: Drop> {
 /// Why a feed gives no answer.
 #[derive(Clone, Copy, Debug, PartialEq, Eq, Error)]
 pub enum AnswerFault {
-    /// The package has no whole and good release.
+    /// The package has no complete and good release.
     #[error("NoRelease")]
     NoRelease,
-    /// Want of memory.
+    /// Memory ran out.
     #[error("Memory")]
     Memory,
 }
 
-/// Where in an event a feed stops.
+/// The point of an event at which a feed stops.
 #[derive(Clone, Copy, Debug, PartialEq, Eq)]
 pub enum Point {
     /// Before its commit.
     Before,
-    /// After its commit, and before its answer.
+    /// After its commit, before its answer.
     After,
 }
 
@@ -74,10 +75,13 @@ impl<K: Keep + Drop> Feed<K> {
     ghost use Rattle.feed_keep.specs.Cause.{HasFailedSince, IsCounted};
     ghost use Rattle.feed_releases.specs.Feeds.{CommitsNothing, keeper_of, recorded, releases_of};
 
-    /// Opens a feed on what a keeper holds. `Damaged` where this is nothing that a feed ever keeps: a name that stands
-    /// twice, more than 256 releases, a size above the limit of a file, parts that are empty, above the limit of a
-    /// piece, out of order or outside of the file, a release beside a later active one of its package, or a state or a
-    /// reason that its file does not bear out. The file of each whole release is judged and read.
+    /// Opens a feed on the records of a keeper. Validates and reads the file of each complete release.
+    ///
+    /// # Errors
+    ///
+    /// `Damaged` if no feed can have produced the records: a name appears twice; there are more than 256 releases; a
+    /// size is above the limit of a file; parts are empty, above the limit of a piece, out of order or outside the
+    /// file; a release has a later active one in its package; or a state or a reason does not match its file.
     pub fn open(alloc: Global, mut keeper: K) -> Result<Feed<K>, OpenFault<K>>
         ensures content { IfOk result (λ feed. K.clean (keeper_of feed) → recorded feed ≡ K.content keeper) }
         ensures sound { IfOk result (λ feed. IsSound (recorded feed)) }
@@ -108,9 +112,9 @@ impl<K: Keep + Drop> Feed<K> {
         }
     }
 
-    /// Takes one event. Whatever history the feed stands at, the answer is right after it, and the feed then stands at
-    /// the history with the event and the answer added. After a refusal, and a reply that brings nothing new, the feed
-    /// is as before. `Full` is answered only where as many releases are recorded as may be.
+    /// Handles one event. The answer is right after every history that the feed may have, and the feed then has that
+    /// history with the event and the answer added. After a refusal, and after a reply without new bytes, the feed is
+    /// as before. It answers `Full` only if it already has the most releases that it may record.
     pub fn handle(&mut self, event: &Event<'_>) -> Result<Reply, Refusal>
         ensures right { Handles (recorded self.old) (told event.now) result (recorded self.new) }
         ensures refused { OnErr result (releases_of self.new ≡ releases_of self.old) }
@@ -132,8 +136,8 @@ impl<K: Keep + Drop> Feed<K> {
         }
     }
 
-    /// Takes the events in order. Each answer is right after the history and the answers before it. Where there is no
-    /// memory for the list of answers, no event was taken.
+    /// Handles the events in order. Each answer is right after the history and the answers before it. If there is no
+    /// memory for the list of answers, the feed has handled no event.
     pub fn run(&mut self, events: &[Event<'_>]) -> Result<Vec<Result<Reply, Refusal>>, AllocError>
         ensures right { IfOk result (λ answers. (h : History) → IsContent (recorded self.old) h
             → IsContent (recorded self.new) (gone_on h (map told events.now) answers.items)) }
@@ -151,7 +155,7 @@ impl<K: Keep + Drop> Feed<K> {
         Ok(answers)
     }
 
-    /// The active release of a package: of its whole and good ones, the one with the latest day.
+    /// Returns the active release of a package: the complete and good one with the latest day.
     pub fn report(&self, package: &[u8]) -> Option<&ReleaseName>
         ensures { (h : History) → IsContent (recorded self.now) h
             → Reports h «package».now (option_map (λ name. name.now) result) }
@@ -162,8 +166,8 @@ impl<K: Keep + Drop> Feed<K> {
         }
     }
 
-    /// The first missing places of a release's file, at most `max` of them: the first one and the last one. There are
-    /// none of a release that is not recorded, is whole or is passed.
+    /// Returns the first and the last place of the first missing range of a release's file, at most `max` places.
+    /// Returns `None` if the release is not recorded, is complete, or is older than the active one.
     pub fn next_range(&self, name: &ReleaseName, max: u64) -> Option<(u64, u64)>
         ensures { (h : History) → IsContent (recorded self.now) h → IsNextRange h name.now max result }
     {
@@ -173,8 +177,8 @@ impl<K: Keep + Drop> Feed<K> {
         }
     }
 
-    /// Why a release is broken: the reason of its file. There is none of a release that is not recorded, is not whole,
-    /// is good or is passed. It takes no memory.
+    /// Returns why a release is broken. Returns `None` if the release is not recorded, is not complete, is good, or is
+    /// older than the active one. Does not allocate.
     pub fn reason(&self, name: &ReleaseName) -> Option<BadFile>
         ensures { (h : History) → IsContent (recorded self.now) h → HasReason h name.now result }
     {
@@ -184,7 +188,7 @@ impl<K: Keep + Drop> Feed<K> {
         }
     }
 
-    /// The rows of a package's active release that match a query: those of its file as a whole.
+    /// Returns the rows of a package's active release that match a query, from its complete file.
     pub fn answer(&self, package: &[u8], query: &Query) -> Result<Answer<'_>, AnswerFault>
         ensures { (h : History) → IsContent (recorded self.now) h → IsAnswered h «package».now query.now result }
     {
@@ -200,7 +204,7 @@ impl<K: Keep + Drop> Feed<K> {
         }
     }
 
-    /// The active releases, by their packages.
+    /// Returns the active releases, ordered by package.
     pub fn actives(&self) -> Result<Vec<ActiveRelease<'_>>, AllocError>
         ensures value { IfOk result (λ actives. actives.items ≡ actives_of (releases_of self.now)) }
         ensures reported { IfOk result (λ actives. (h : History) → IsContent (recorded self.now) h
@@ -209,14 +213,14 @@ impl<K: Keep + Drop> Feed<K> {
         actives_of(self.alloc, &self.releases)
     }
 
-    /// Whether no release is recorded.
+    /// Returns whether no release is recorded.
     pub fn is_empty(&self) -> bool
         ensures { IsTrue result ↔ (recorded self.now ≡ []) }
     {
         self.releases.is_empty()
     }
 
-    /// Stops between two events: the keeper, with its content.
+    /// Stops between two events, and returns the keeper with its content.
     pub fn restart(self) -> K
         ensures same { result ≡ keeper_of self }
         ensures content { K.clean result → K.content result ≡ recorded self }
@@ -230,8 +234,8 @@ impl<K: Keep + Drop> Feed<K> {
         keeper
     }
 
-    /// Stops in the middle of an event: the keeper as it was before the commit, or as it is after it. An event that
-    /// commits nothing, or whose commit is refused, leaves it as it was.
+    /// Stops in the middle of an event, and returns the keeper as it was before the commit or as it is after it. An
+    /// event that commits nothing, or whose commit is refused, leaves it as it was.
     pub fn stop_at(self, event: &Event<'_>, point: Point) -> K
         ensures before { point ≡ Point.Before → (result ≡ keeper_of self)
             × (K.clean result → K.content result ≡ recorded self) }

@@ -1,4 +1,4 @@
-// What a feed answers on the content of a database of an earlier version, and how it lists its active releases.
+//! Laws of feeds: upgraded databases answer queries as before, and equal reports are listed alike.
 ghost use Rattle.std.specs.Prelude.{◌↔◌, ℕ, List, Result};
 ghost use Rattle.feed_answer.specs.QueryValue.{QueryValue};
 ghost use Rattle.feed_answer.specs.HitValue.{HitValue};
@@ -10,7 +10,7 @@ ghost use Rattle.feed_releases.specs.Answered.{IsAnswered};
 use crate::feed::AnswerFault;
 use feed_model::{releases_stay, reports_stay};
 
-/// Without the offers that were refused as too large each query is answered the same.
+/// Without the offers that were refused as too large, each query has the same answer.
 pub fn answers_stay()
     ensures { (h : History) (stem : List ℕ) (query : QueryValue) (answer : Result (List HitValue) AnswerFault)
         → IsAnswered h stem query answer ↔ IsAnswered (without_refused h) stem query answer }
@@ -19,7 +19,7 @@ pub fn answers_stay()
     releases_stay();
 }
 
-/// Two feeds that report the same releases list them the same.
+/// Two feeds that report the same releases list them in the same way.
 pub fn list_alike()
     ensures { ListAlike }
 {}

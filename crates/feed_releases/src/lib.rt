@@ -1,5 +1,5 @@
-//! The feed of a node: releases kept in pieces over any keeper, the latest whole and good one of each package
-//! reported and asked.
+//! The feed of a node: it stores releases in pieces over any keeper, and reports and queries the latest complete and
+//! good one of each package.
 #![tactic(auto)]
 
 mod actives;

@@ -1,10 +1,12 @@
-/// How a piece lies over what is kept of its release.
+//! The overlap of a piece with stored bytes.
+
+/// How a piece overlaps the stored bytes of its release.
 #[derive(Clone, Copy, Debug, PartialEq, Eq)]
 pub(crate) enum Overlap {
-    /// A kept byte is another one.
+    /// The piece differs from a stored byte.
     Conflict,
-    /// Every byte of the piece is kept.
+    /// Every byte of the piece is stored.
     Kept,
-    /// Some bytes are new, and the others are kept.
+    /// Some bytes are new, and the others are stored.
     New,
 }

@@ -1,3 +1,4 @@
+//! A recorded release in memory.
 ghost use Rattle.std.specs.Prelude.{◌≡◌, ◌≤◌, ◌+◌, length, None, option_map};
 ghost use Rattle.feed_model.specs.Reply.{max_file};
 ghost use Rattle.feed_model.specs.Content.{byte_in};
@@ -17,7 +18,7 @@ use feed_parts::Segments;
 use std::alloc::Global;
 use std::marker::Model;
 
-/// A recorded release in memory: what is kept of its file, and how the file stands.
+/// A recorded release in memory: the stored bytes of its file, and the status of the file.
 #[derive(Drop)]
 pub(crate) struct Release {
     name: ReleaseName,
@@ -41,7 +42,7 @@ impl Model for Release {
 }
 
 impl Release {
-    /// A release of which nothing is kept yet.
+    /// Returns a release without stored bytes.
     pub(crate) fn new(alloc: Global, name: ReleaseName, size: u64) -> Release
         requires { size ≤ max_file }
         ensures { result ≡ record { kept = new_record name size; holdings = None } }
@@ -78,14 +79,14 @@ impl Release {
         self.standing.state()
     }
 
-    /// Why the file is bad, of a broken release.
+    /// Returns why the file of a broken release is bad.
     pub(crate) fn reason(&self) -> Option<BadFile>
         ensures { result ≡ self.now.kept.reason }
     {
         self.standing.reason()
     }
 
-    /// What the file holds, of an active release.
+    /// Returns the holdings of an active release.
     pub(crate) fn holdings(&self) -> Option<&Holdings>
         ensures value { option_map (λ holdings. holdings.now) result ≡ self.now.holdings }
         ensures known { IsKnown self.now.kept.state self.now.kept.size self.now.kept.parts self.now.holdings }
@@ -93,7 +94,7 @@ impl Release {
         self.standing.holdings()
     }
 
-    /// The first missing places of the file, at most `max` of them: the first one and the last one.
+    /// Returns the first and the last place of the first missing range of the file, at most `max` places.
     pub(crate) fn next_range(&self, max: u64) -> Option<(u64, u64)>
         ensures { IsNextOf (byte_in self.now.kept.parts) self.now.kept.size max result }
     {
@@ -104,7 +105,7 @@ impl Release {
         Some((gap.first, gap.first + (gap.end - gap.first).min(max) - 1))
     }
 
-    /// How a piece that lies inside the file lies over what is kept. It takes no memory.
+    /// Returns how a piece inside the file overlaps the stored bytes. Does not allocate.
     pub(crate) fn overlap(&self, first: u64, bytes: &[u8]) -> Overlap
         requires inside { first + length bytes.now ≤ self.now.kept.size }
         ensures { LiesOver self.now.kept first bytes.now result }

@@ -1,4 +1,4 @@
-//! What a list of releases says of a name or a package. There are at most 256 of them.
+//! Looking up releases by name or by package in a feed's list, which has at most 256 of them.
 ghost use Rattle.std.specs.Prelude.{◌≡◌, ◌<◌, ◌≤◌, ℕ};
 ghost use Rattle.std.specs.Prelude.{false, None, IsTrue, IfSome, IfNone, MatchOption, length};
 ghost use Rattle.std.specs.Prelude.{slice_index_or, insert, not};
@@ -11,7 +11,7 @@ use feed_keep::{is_before, stands_before};
 use feed_model::State;
 use feed_names::ReleaseName;
 
-/// The place of a name's release.
+/// Returns the place of a name's release.
 pub(crate) fn find(releases: &[Release], name: &ReleaseName) -> Option<usize>
     ensures found { IfSome result (λ i. IsPlaceOf releases.now name.now i) }
     ensures none { IfNone result (record_of (content_of releases.now) name.now ≡ None) }
@@ -24,7 +24,7 @@ pub(crate) fn find(releases: &[Release], name: &ReleaseName) -> Option<usize>
     None
 }
 
-/// Whether the active release of the name's package is of a later day.
+/// Returns whether the active release of the name's package is of a later day.
 pub(crate) fn is_passed(releases: &[Release], name: &ReleaseName) -> bool
     ensures later { IsTrue result → (k : ℕ) × (k < length releases.now)
         × ((d : ReleaseValue) → IsActiveAfter name.now (slice_index_or releases.now k d)) }
@@ -39,7 +39,7 @@ pub(crate) fn is_passed(releases: &[Release], name: &ReleaseName) -> bool
     false
 }
 
-/// The place of a package's active release.
+/// Returns the place of a package's active release.
 pub(crate) fn active_of(releases: &[Release], package: &[u8]) -> Option<usize>
     ensures found { IfSome result (λ i. (i < length releases.now)
         × ((d : ReleaseValue) → IsActiveOf «package».now (slice_index_or releases.now i d))) }
@@ -54,7 +54,7 @@ pub(crate) fn active_of(releases: &[Release], package: &[u8]) -> Option<usize>
     None
 }
 
-/// Where a new release stands among the others: behind those whose names come before its own.
+/// Returns the place for a new release: behind those whose names are less than its own.
 pub(crate) fn place_for(releases: &[Release], name: &ReleaseName) -> usize
     ensures within { result ≤ length releases.now }
     ensures place { (r : ReleaseValue) → r.kept.name ≡ name.now
@@ -68,7 +68,7 @@ pub(crate) fn place_for(releases: &[Release], name: &ReleaseName) -> usize
     releases.len()
 }
 
-/// Drops the releases of the name's package that are of earlier days. It takes no memory.
+/// Removes the releases of the name's package that are of earlier days. Does not allocate.
 pub(crate) fn drop_earlier(releases: &mut Vec<Release>, name: &ReleaseName)
     ensures dropped { content_of releases.new.items ≡ without_earlier name.now (content_of releases.old.items) }
     ensures fewer { length releases.new.items ≤ length releases.old.items }

@@ -1,4 +1,4 @@
-//! How the file of a release stands, and what follows from that.
+//! The status of a release's file: incomplete, bad or good, and what follows from it.
 ghost use Rattle.std.specs.Prelude.{◌≡◌, ◌↔◌, IsTrue, option_map};
 ghost use Rattle.feed_parts.specs.Shown.{shown_parts};
 ghost use Rattle.feed_keep.specs.Shown.{shown_change};
@@ -10,14 +10,14 @@ use feed_model::{Reply, State};
 use feed_names::ReleaseName;
 use feed_parts::Part;
 
-/// How a file stands.
+/// The status of a file.
 #[derive(Drop)]
 pub(crate) enum Standing {
     /// Places are missing.
     Partial,
-    /// It is whole, and bad.
+    /// It is complete, and bad.
     Bad(BadFile),
-    /// It is whole and good, and holds this.
+    /// It is complete and good, with these holdings.
     Good(Holdings),
 }
 
@@ -32,7 +32,7 @@ impl Standing {
         }
     }
 
-    /// Why the file is bad, of one that is whole and bad.
+    /// Returns why a complete file is bad.
     pub(crate) fn reason(&self) -> Option<BadFile>
         ensures { result ≡ reason_of self.now }
     {
@@ -42,14 +42,14 @@ impl Standing {
         }
     }
 
-    /// Whether a release of this state and reason is one whose file stands so.
+    /// Returns whether this state and this reason match the status.
     pub(crate) fn bears_out(&self, state: State, reason: Option<BadFile>) -> bool
         ensures { IsTrue result ↔ ((state_of self.now ≡ state) × (reason_of self.now ≡ reason)) }
     {
         self.state() == state && self.reason() == reason
     }
 
-    /// What the file holds, of one that is whole and good.
+    /// Returns the holdings of a complete and good file.
     pub(crate) fn holdings(&self) -> Option<&Holdings>
         ensures { option_map (λ holdings. holdings.now) result ≡ rows_of self.now }
     {
@@ -59,7 +59,7 @@ impl Standing {
         }
     }
 
-    /// The answer to the piece after which the file stands so, with so many places missing.
+    /// Returns the answer to the piece that led to this status, with this many places missing.
     pub(crate) fn reply(&self, missing: u64) -> Reply
         ensures { result ≡ reply_of missing self.now }
     {
@@ -70,7 +70,7 @@ impl Standing {
         }
     }
 
-    /// The change that keeps the parts with which the file of the name stands so.
+    /// Returns the change that stores the parts that led to this status.
     pub(crate) fn change<'a>(&self, name: &'a ReleaseName, parts: &'a [Part]) -> Change<'a>
         ensures { shown_change result ≡ change_to self.now name.now (shown_parts parts.now) }
     {

@@ -1,4 +1,4 @@
--- The tables of the keeper.
+-- The tables of a feed's database.
 use Rattle.std.specs.Prelude.{true, false, [], ◌∷◌, ◌++◌, None, Some, codes, List, ℕ, pos}
 use Rattle.sqlite_value.specs.declared.value.Value.TheVariants.{Null, Int}
 use Rattle.sqlite.specs.Collation.TheVariants.{Binary}
@@ -37,15 +37,15 @@ no_table = record {
   is_counted = false;
 }
 
--- a column that holds this kind of value, and no NULL
+-- a column with this kind of value, which is never NULL
 abbrev pub column_of : Kind → List ℕ → Column
 column_of kind name = record { name = name; kind = kind; is_strict = true; not_null = true; default = Null; collation = Binary }
 
--- the column at this place compares so with a number
+-- compares the column at this place with a number
 abbrev pub bound_by : CompareOp → ℕ → ℕ → Term
 bound_by how place n = op2 (Compare how Binary) (col 1 place) (lit (Int (pos n)))
 
--- the column at this place lies between two numbers
+-- the column at this place is between two numbers, both included
 abbrev pub between : ℕ → ℕ → ℕ → Term
 between place least most = op2 And (bound_by Ge place least) (bound_by Le place most)
 
@@ -58,7 +58,7 @@ layout = record no_table {
   primary = 0 ∷ [];
 }
 
--- a row for each release: its name, the package and the day of that, the size of its file, and its state
+-- a row for each release: its name, the package and the day in the name, the size of its file, and its state
 abbrev pub release : Table
 release = record no_table {
   name = codes "feed_release";
@@ -71,7 +71,7 @@ release = record no_table {
   checks = bound_by Ge 4 0 ∷ between 5 0 2 ∷ [];
 }
 
--- a part or a reason goes with its release
+-- deleting a release deletes its parts and its reason
 abbrev pub owner : Reference
 owner = record {
   columns = 1 ∷ [];
@@ -95,7 +95,7 @@ piece = record no_table {
   references = owner ∷ [];
 }
 
--- a row for each broken release: its name, the number of the reason, and the place of the label that it names
+-- a row for each broken release: its name, the number of the reason, and the place of the label that the reason names
 abbrev pub reason : Table
 reason = record no_table {
   name = codes "feed_reason";
@@ -108,7 +108,7 @@ reason = record no_table {
   references = owner ∷ [];
 }
 
--- the first three tables and more behind them, with the indexes that their unique keys have
+-- the first three tables and more after them, with the indexes of their unique keys
 abbrev pub schema_with : List Table → List Index → Schema
 schema_with more keys = record {
   tables = layout ∷ release ∷ piece ∷ more;
@@ -116,10 +116,10 @@ schema_with more keys = record {
   views = [];
 }
 
--- layout 1: the three tables and no other
+-- layout 1: exactly three tables
 abbrev pub earlier_schema : Schema
 earlier_schema = schema_with [] []
 
--- layout 2: the four tables and no other
+-- layout 2: exactly four tables
 abbrev pub feed_schema : Schema
 feed_schema = schema_with (reason ∷ []) (automatics reason 0 6 reason.uniques)

@@ -1,4 +1,4 @@
--- Records without parts, with more parts, and with another state.
+-- Records without parts, with more parts, and with another state or reason.
 use Rattle.std.specs.Prelude.{ℕ, List, [], Some, None}
 use Rattle.feed_kbart.specs.declared.fault.BadFile.{BadFile}
 use Rattle.feed_names.specs.ReleaseName.{Name}

@@ -1,4 +1,4 @@
-//! What the tables of a database hold of the records of a feed.
+//! The tables of a feed's database: their schema, and the records that their rows mean.
 #![tactic(auto)]
 
 mod laws;

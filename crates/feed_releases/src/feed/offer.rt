@@ -1,4 +1,4 @@
-//! How a feed answers an offer.
+//! The answer of a feed to an offer.
 ghost use Rattle.std.specs.Prelude.{◌≡◌, ◌≤◌, ◌<◌, None, length};
 ghost use Rattle.feed_model.specs.History.{Offered};
 ghost use Rattle.feed_model.specs.Reply.{max_file, max_held};
@@ -20,7 +20,7 @@ impl<K: Keep + Drop> Feed<K> {
     ghost use Rattle.feed_keep.specs.Cause.{IsCounted};
     ghost use Rattle.feed_releases.specs.Feeds.{IsAnsweredBy, keeper_of, recorded, releases_of};
 
-    /// Answers an offer: the first case that holds decides.
+    /// Answers an offer. The first case that holds decides.
     pub(crate) fn offer(&mut self, name: &ReleaseName, size: u64) -> Result<Reply, Refusal>
         ensures { IsAnsweredBy self.old self.new (Offered name.now size) result }
     {
@@ -48,7 +48,7 @@ impl<K: Keep + Drop> Feed<K> {
         })
     }
 
-    // Records a release that is not recorded yet. All memory is taken before the commit.
+    // Records a release that is not recorded yet. Allocates before the commit only.
     fn add(&mut self, name: &ReleaseName, size: u64) -> Result<(), Refusal>
         requires absent { record_of (recorded self.old) name.now ≡ None }
         requires room { length (releases_of self.old) < max_held }

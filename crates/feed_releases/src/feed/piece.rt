@@ -1,4 +1,4 @@
-//! How a feed answers a piece.
+//! The answer of a feed to a piece.
 ghost use Rattle.std.specs.Prelude.{◌≡◌};
 
 use crate::feed::Feed;
@@ -17,7 +17,7 @@ impl<K: Keep + Drop> Feed<K> {
     ghost use Rattle.feed_releases.specs.ReleaseValue.{IsPlaceOf, LiesOver};
     ghost use Rattle.feed_releases.specs.Feeds.{IsAnsweredBy, recorded, releases_of};
 
-    /// Answers a piece: the first case that holds decides.
+    /// Answers a piece. The first case that holds decides.
     pub(crate) fn piece(
         &mut self,
         name: &ReleaseName,
@@ -51,7 +51,7 @@ impl<K: Keep + Drop> Feed<K> {
         }
     }
 
-    // Keeps the new bytes of a piece, of which there are some. All memory is taken before the commit.
+    // Stores the new bytes of a piece, which has some. Allocates before the commit only.
     fn take_in(
         &mut self,
         name: &ReleaseName,

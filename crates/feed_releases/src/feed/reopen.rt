@@ -1,4 +1,4 @@
-//! The releases of a feed that is opened on what its keeper holds.
+//! Rebuilds the releases of a feed from the records of its keeper.
 ghost use Rattle.std.specs.Prelude.{◌≡◌, ◌↔◌, ◌⊎◌, All, IfOk, IfErr, IsTrue};
 ghost use Rattle.std.specs.List.{IsDistinct};
 ghost use Rattle.feed_names.specs.ReleaseName.{name_eq};
@@ -15,7 +15,7 @@ use feed_limits::RELEASE_LIMIT;
 use feed_model::KeepFault;
 use std::alloc::Global;
 
-/// The releases that a keeper's records are of, in their order.
+/// Returns the releases of a keeper's records, in their order.
 pub(crate) fn reopened(alloc: Global, records: Vec<Record>) -> Result<Vec<Release>, KeepFault>
     requires distinct { IsDistinct name_eq (names (shown records.items)) }
     ensures content { IfOk result (λ releases. content_of releases.items ≡ shown records.items) }
@@ -41,7 +41,7 @@ pub(crate) fn reopened(alloc: Global, records: Vec<Record>) -> Result<Vec<Releas
     Ok(releases)
 }
 
-// Whether no release stands beside a later active one of its package.
+// Returns whether no release has a later active one in its package.
 fn are_current(releases: &[Release]) -> bool
     requires distinct { IsDistinct name_eq (names (content_of releases.now)) }
     ensures { IsTrue result ↔ All (λ r. ¬ (HasLaterActive (content_of releases.now) r.name))

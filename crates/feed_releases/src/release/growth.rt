@@ -1,4 +1,4 @@
-//! What a piece makes of a release, and how the release takes it in.
+//! Adding the new bytes of a piece to a release: preparing them, and committing them.
 ghost use Rattle.std.specs.Prelude.{◌≡◌, ◌≤◌, ◌+◌, ℕ, List, length, IfOk, OnOk, OnErr};
 ghost use Rattle.feed_model.specs.Reply.{max_piece};
 ghost use Rattle.feed_model.specs.Change.{IsAllowed};
@@ -17,7 +17,7 @@ use feed_model::{Refusal, Reply};
 use feed_parts::Segments;
 use std::alloc::Global;
 
-/// The new bytes of a piece; how many places are missing with them; and how the file stands then.
+/// The new bytes of a piece, the number of places still missing with them, and the status of the file then.
 #[derive(Drop)]
 pub(crate) struct Growth {
     pub(crate) new: Segments,
@@ -26,7 +26,7 @@ pub(crate) struct Growth {
 }
 
 impl Release {
-    /// What a piece that brings new bytes makes of the release. Only want of memory refuses it.
+    /// Prepares the new bytes of a piece. The only error is running out of memory.
     pub(crate) fn growth(&self, alloc: Global, first: u64, bytes: &[u8]) -> Result<Growth, Refusal>
         requires inside { first + length bytes.now ≤ self.now.kept.size }
         requires piece { length bytes.now ≤ max_piece }
@@ -45,7 +45,8 @@ impl Release {
             match read_parts(alloc, check, self.kept.reader_with(&new)) {
                 Ok(holdings) => Standing::Good(holdings),
                 Err(KbartFault::Bad(why)) => Standing::Bad(why),
-                // Parts in memory are within the limit of a file and read to their end, so only memory is left.
+                // Parts in memory are within the limit of a file and are always read to their end, so only memory can
+                // fail.
                 Err(_) => return Err(Refusal::Memory),
             }
         };
@@ -56,7 +57,7 @@ impl Release {
         })
     }
 
-    /// Commits what a piece makes of the release, and then takes it in. All memory is taken before the commit.
+    /// Commits the new bytes, and then adds them to the release. Allocates before the commit only.
     pub(crate) fn grow<K: Keep>(&mut self, keeper: &mut K, growth: Growth) -> Result<Reply, Refusal>
         requires growth { (first : ℕ) × (bytes : List ℕ) × IsGrowth self.old.kept first bytes growth }
         requires listed { K.clean keeper.old → ∥ K.listed keeper.old ∥₁ }

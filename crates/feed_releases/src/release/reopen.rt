@@ -1,4 +1,4 @@
-//! A release that is opened again.
+//! Rebuilds a release from its stored record.
 ghost use Rattle.std.specs.Prelude.{◌≡◌, ◌⊎◌, IfOk, IfErr};
 ghost use Rattle.feed_model.specs.Reply.{missing_below};
 ghost use Rattle.feed_model.specs.Content.{byte_in};
@@ -17,8 +17,8 @@ use feed_parts::Segments;
 use std::alloc::{AllocError, Global};
 
 impl Release {
-    /// The release that a record is of. `Damaged` where no feed ever keeps such a record; the file of one that is whole
-    /// is read for that.
+    /// Returns the release of a record. The error is `Damaged` if no feed can have produced the record. Reads the file
+    /// of a complete release to check this.
     pub(crate) fn reopened(alloc: Global, kept: Record) -> Result<Release, KeepFault>
         ensures ok { IfOk result (λ release. (release.kept ≡ shown_record kept)
             × IsSoundRecord (shown_record kept)) }
@@ -53,7 +53,7 @@ impl Release {
     }
 }
 
-// How the file stands of which these bytes are kept. A whole one is read.
+// Returns the status of a file with these stored bytes. Reads a complete file.
 fn standing_of(alloc: Global, size: u64, kept: &Segments) -> Result<Standing, AllocError>
     requires { AreWithin size kept.now.parts }
     ensures { IfOk result (λ standing.
@@ -65,7 +65,7 @@ fn standing_of(alloc: Global, size: u64, kept: &Segments) -> Result<Standing, Al
     match read_parts(alloc, kept.reader(), kept.reader()) {
         Ok(holdings) => Ok(Standing::Good(holdings)),
         Err(KbartFault::Bad(why)) => Ok(Standing::Bad(why)),
-        // Parts in memory are within the limit of a file and read to their end, so only memory is left.
+        // Parts in memory are within the limit of a file and are always read to their end, so only memory can fail.
         Err(_) => Err(AllocError),
     }
 }
