@@ -1,4 +1,4 @@
--- A node as a world sees it.
+-- The model of a node in a world.
 use Rattle.std.specs.Prelude.{◌≡◌, ◌≢◌, ◌⊎◌, ℕ, Bool, true, false, List, [], Result, Ok, Err}
 use Rattle.feed_model.specs.declared.keep_fault.KeepFault as cause
 use Rattle.feed_model.specs.declared.keep_fault.KeepFault.TheVariants as causes
@@ -9,21 +9,22 @@ use Rattle.feed_world.specs.World.{Line, Text, Refused}
 use Rattle.feed_releases.specs.declared.event.Event as code_event
 use Rattle.feed_releases.specs.Told.{told}
 
--- the node is up, or down for want of memory or for its device; and it stands at this history
+-- the node is up, or it is down because memory ran out or its device failed; either way it has this history
 abbrev pub Comes : {U : Type 0} → (Bool → History → Type 0) → History → Result U cause.KeepFault → Type 0
 Comes stands h (Ok u) = stands true h
 Comes stands h (Err fault) = ((fault ≡ causes.Memory) ⊎ (fault ≡ causes.Device)) × stands false h
 
--- the line that shows what a query is answered
+-- the line that shows the outcome of a query
 abbrev pub shown_outcome : {T : Type 0} → (T → List ℕ) → Result T why.Why → Line
 shown_outcome bytes (Ok text) = Text (bytes text)
 shown_outcome bytes (Err why) = Refused why
 
--- what arrives at a node, or why nothing does
+-- the model value of what arrives at a node, or why nothing does
 abbrev pub shown_arrived : Result code_event.Event why.Why → Result Event why.Why
 shown_arrived (Ok event) = Ok (told event)
 shown_arrived (Err why) = Err why
 
--- why a node does not start, but for want of memory: its device failed; or, where its keeper is clean and holds a list of records, there are some
+-- why a node does not start, except for running out of memory: its device failed; or its keeper is clean and has
+-- records
 abbrev pub IsStartRefused : Type 0 → Type 0 → Type 0 → Content → Type 0
 IsStartRefused failed clean listed content = failed ⊎ (clean → listed → content ≢ [])

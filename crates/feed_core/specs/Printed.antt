@@ -1,4 +1,4 @@
--- How a line of a transcript is printed.
+-- The printed form of a line of a transcript.
 use Rattle.std.specs.Prelude.{ℕ, List}
 use Rattle.feed_world.specs.declared.line.Line as code_line
 use Rattle.feed_world.specs.Shown.{shown_line}

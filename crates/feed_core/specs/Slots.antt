@@ -7,17 +7,18 @@ use Rattle.feed_core.specs.declared.slot.Slot.{Slot}
 use Rattle.feed_core.specs.declared.slot.Slot.TheVariants.{Up, Down}
 use Rattle.feed_releases.specs.Feeds.{keeper_of, recorded}
 
--- the content of its keeper is promised
+-- the content of its keeper is as promised
 abbrev pub IsSlotClean : {K : Type 0} {k : Ghosts K} → (K → Type 0) → Slot K k → Type 0
 IsSlotClean clean (Up feed) = clean (keeper_of feed)
 IsSlotClean clean (Down keeper) = clean keeper
 
--- a feed is up, and its releases are a content of the history; a keeper is down, its content is one, and it holds a list of records
+-- the node is up, and its feed's releases are a content of the history; or it is down, and so is its keeper's content,
+-- which is a list of records
 abbrev pub SlotStands : {K : Type 0} {k : Ghosts K} → (K → Content) → (K → Type 0) → Slot K k → Bool → History → Type 0
 SlotStands content listed (Up feed) up h = (up ≡ true) × IsContent (recorded feed) h
 SlotStands content listed (Down keeper) up h = (up ≡ false) × IsContent (content keeper) h × ∥ listed keeper ∥₁
 
--- how often the device of its keeper has failed
+-- the number of failures of its keeper's device
 abbrev pub slot_failed : {K : Type 0} {k : Ghosts K} → (K → ℕ) → Slot K k → ℕ
 slot_failed failed (Up feed) = failed (keeper_of feed)
 slot_failed failed (Down keeper) = failed keeper

@@ -1,4 +1,4 @@
--- What a step makes of the nodes and files of the code, and what it shows of those of a world.
+-- The effect of an event on the nodes of the code, compared with the nodes of a world.
 use Rattle.std.specs.Prelude.{◌≡◌, ◌<◌, ◌≤◌, ◌⊎◌, ℕ, Bool, true, false, length, Result, Ok, Err, List}
 use Rattle.std.specs.Prelude.{[], ◌∷◌, option_map, slice_get, suc, slice_set, slice_index_or, Option, Some}
 use Rattle.std.specs.Borrow.{Bor}
@@ -18,19 +18,19 @@ use Rattle.feed_world.specs.declared.line.Why as why
 use Rattle.feed_world.specs.declared.line.Why.TheVariants as whys
 use Rattle.feed_world.specs.World.{World, Node, WorldEvent, Sent, Line, Shelf, Happens, Shows, arriving, start, file_on}
 
--- the content of each keeper is promised
+-- the content of each keeper is as promised
 abbrev pub AllClean : {M : Type 0} → (M → Type 0) → List M → Type 0
 AllClean clean [] = Unit {0}
 AllClean clean (x ∷ xs) = clean x × AllClean clean xs
 
--- each stands at the history of the world's node
+-- each node has the history of the world's node
 abbrev pub AreNodes : {M : Type 0} → (M → Bool → History → Type 0) → List M → List Node → Type 0
 AreNodes stands [] [] = Unit {0}
 AreNodes stands (x ∷ xs) (y ∷ ys) = stands x y.up y.history × AreNodes stands xs ys
 AreNodes stands [] (y ∷ ys) = ⊥
 AreNodes stands (x ∷ xs) [] = ⊥
 
--- one node is another one now, of which this holds, and it was clean if it is
+-- exactly one node is replaced, the law holds for it, and it was clean before if it is now
 pub record Changes {M : Type 0} (clean : M → Type 0) (law : M → M → Type 0) (old new : List M) (at : ℕ) : Type 0 where
   pub before : M
   pub after : M
@@ -39,20 +39,20 @@ pub record Changes {M : Type 0} (clean : M → Type 0) (law : M → M → Type 0
   pub still : clean after → clean before
   pub goes : law before after
 
--- the node of this number is at this place, and up
+-- the node with this number is at this place, and up
 pub record IsReady {M : Type 0} (stands : M → Bool → History → Type 0) (nodes : List M) (node at : ℕ) : Type 0 where
   pub number : node ≡ suc at
   pub within : at < length nodes
   pub up : (x : M) → x ≡ slice_index_or nodes at x → (up : Bool) (h : History) → stands x up h → up ≡ true
 
--- there is a node of this number, and what arrives is this reason why nothing does
+-- a node has this number, and this is why nothing arrives at it
 pub record IsTurnedAway {M T : Type 0} (nodes : List M) (node : ℕ) (arrived : Result T why.Why) (reason : why.Why) : Type 0 where
   pub at : ℕ
   pub number : node ≡ suc at
   pub within : at < length nodes
   pub told : arrived ≡ Err reason
 
--- there is a node of this number, and it is down
+-- a node has this number, and it is down
 pub record IsNotUp {M T : Type 0} (stands : M → Bool → History → Type 0) (nodes : List M) (node : ℕ) (arrived : Result T why.Why) : Type 0 where
   pub at : ℕ
   pub number : node ≡ suc at
@@ -61,24 +61,25 @@ pub record IsNotUp {M T : Type 0} (stands : M → Bool → History → Type 0) (
   pub came : arrived ≡ Ok what
   pub up : (x : M) → x ≡ slice_index_or nodes at x → (up : Bool) (h : History) → stands x up h → up ≡ false
 
--- why nothing happens at a node: there is none of this number, nothing arrives, or it is down
+-- why nothing happens at a node: no node has this number, nothing arrives, or it is down
 abbrev pub IsAway : {M T : Type 0} → (M → Bool → History → Type 0) → List M → ℕ → Result T why.Why → why.Why → Type 0
 IsAway stands nodes node arrived reason =
     ((reason ≡ whys.NoNode) × ((node ≡ 0) ⊎ (length nodes < node)))
     ⊎ (IsTurnedAway nodes node arrived reason ⊎ ((reason ≡ whys.Down) × IsNotUp stands nodes node arrived))
 
--- Where all nodes are clean now, they were clean, and from each world at which they stood, and whose published files fit, the event may be shown by this line, and leave a world at which they stand.
+-- If all nodes are clean now, they were clean before; and from each world that they represent, whose published files
+-- fit, the event may be shown by this line and lead to a world that they represent.
 abbrev pub Goes : {M : Type 0} → (M → Type 0) → (M → Bool → History → Type 0) → (Shelf → Type 0) → List M → List M → WorldEvent → Line → Type 0
 Goes clean stands fits old new event line =
     AllClean clean new → AllClean clean old × ((w : World) → fits w.shelf → AreNodes stands old w.nodes → (v : World) × Happens w event line v × (v.shelf ≡ w.shelf)
     × AreNodes stands new v.nodes)
 
--- the same of what is sent to a node, where the files give what arrived
+-- the same for a message to a node, given what arrives of it
 abbrev pub Takes : {M : Type 0} → (M → Type 0) → (M → Bool → History → Type 0) → Result code_event.Event why.Why → List M → List M → (Sent → WorldEvent) → Line → Type 0
 Takes clean stands arrived old new telling line =
     (sent : Sent) → Goes clean stands (λ shelf. arriving shelf sent ≡ shown_arrived arrived) old new (telling sent) line
 
--- the file that is found by the text of a name
+-- the file found by the text of a name
 abbrev pub file_at : List (Bor (List ℕ) × Bor (List ℕ)) → Bor (List ℕ) → Option (List ℕ)
 file_at files key = option_map (λ f. f.now) (lookup (is_at (λ k. slice_cmp nat_cmp key.now k.now)) files)
 
@@ -86,28 +87,29 @@ file_at files key = option_map (λ f. f.now) (lookup (is_at (λ k. slice_cmp nat
 abbrev pub IsShelf : List (Bor (List ℕ) × Bor (List ℕ)) → Shelf → Type 0
 IsShelf files shelf = (n : Name) (key : Bor (List ℕ)) → IsName key.now n → file_on shelf n ≡ file_at files key
 
--- the same, where more may be published
+-- the same, with a shelf on which more may be published
 abbrev pub GoesTo : {M : Type 0} → (M → Type 0) → (M → Bool → History → Type 0) → List (Bor (List ℕ) × Bor (List ℕ)) → List (Bor (List ℕ) × Bor (List ℕ)) → List M
     → List M → WorldEvent → Line → Type 0
 GoesTo clean stands before files old new event line =
     AllClean clean new → AllClean clean old × ((w : World) → IsShelf before w.shelf → AreNodes stands old w.nodes → (v : World) × Happens w event line v × IsShelf files v.shelf
     × AreNodes stands new v.nodes)
 
--- Where all nodes are clean, the lines so far show the events so far, and the nodes stand where they lead.
+-- If all nodes are clean, the lines so far show the events so far, and the nodes represent the world that they lead to.
 abbrev pub HasShown : {M : Type 0} → (M → Type 0) → (M → Bool → History → Type 0) → ℕ → List WorldEvent → List Line → List (Bor (List ℕ) × Bor (List ℕ)) → List M
     → Type 0
 HasShown clean stands count events lines files nodes =
     AllClean clean nodes → (w : World) × Shows (start count) events lines w × IsShelf files w.shelf × AreNodes stands nodes w.nodes
 
--- each keeper holds a content of the history of the world's node
+-- each keeper has a content of the history of the world's node
 abbrev pub AreKept : {K : Type 0} → (K → Content) → List K → List Node → Type 0
 AreKept content [] [] = Unit {0}
 AreKept content (k ∷ ks) (y ∷ ys) = IsContent (content k) y.history × AreKept content ks ys
 AreKept content [] (y ∷ ys) = ⊥
 AreKept content (k ∷ ks) [] = ⊥
 
--- the node that did not start, counted from 1: its device failed, or its keeper held no list of records, or one that was not empty; the keeper comes back with its content, was clean if
--- it is, and its count of failures did not fall
+-- the node that did not start, counted from 1: its device failed, or its keeper did not hold a list of records, or it
+-- held a nonempty one; the keeper is returned with its content, was clean if it is now, and its count of failures did
+-- not fall
 pub record IsNoStart {K : Type 0} (clean : K → Type 0) (content : K → Content) (listed : K → Type 0) (failed : K → ℕ) (keepers : List K) (node : ℕ) (keeper : K) : Type 0 where
   pub before : K
   pub at : ℕ
@@ -118,7 +120,7 @@ pub record IsNoStart {K : Type 0} (clean : K → Type 0) (content : K → Conten
   pub rises : failed before ≤ failed keeper
   pub refused : IsStartRefused (HasFailed (failed before) (failed keeper)) (clean keeper) ∥ listed before ∥₁ (content before)
 
--- what a fault of a replay says of the keepers
+-- what a fault of a replay says about the keepers
 abbrev pub IsStart : {K : Type 0} → (K → Type 0) → (K → Content) → (K → Type 0) → (K → ℕ) → List K → ReplayFault K → Type 0
 IsStart clean content listed failed keepers (faults.Start node keeper) = IsNoStart clean content listed failed keepers node keeper
 IsStart clean content listed failed keepers faults.Memory = Unit {0}

@@ -1,4 +1,4 @@
--- What is seen of a transcript.
+-- The model of a transcript.
 use Rattle.std.specs.Prelude.{List}
 use Rattle.feed_world.specs.declared.line.Line as code_line
 use Rattle.feed_core.specs.declared.transcript.Transcript.{Transcript}

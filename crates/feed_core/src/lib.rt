@@ -1,5 +1,5 @@
-//! The feed of a node: releases kept in pieces over any keeper, the latest whole and good one of each package
-//! reported and asked; and a world of published files and nodes, replayed from a list of events.
+//! The feed of a node, which stores releases in pieces over any keeper and reports and queries the latest complete and
+//! good one of each package; and a world of published files and nodes, replayed from a list of events.
 #![tactic(auto)]
 
 mod node;

@@ -1,3 +1,4 @@
+//! The trait `Node`: a node of a replayed world.
 ghost use Rattle.std.specs.Prelude.{◌≡◌, ◌≢◌, ◌∷◌, ℕ, Bool, true, Err, option_map};
 ghost use Rattle.feed_model.specs.History.{History, Answer, Reports};
 ghost use Rattle.feed_model.specs.Reply.{IsRight};
@@ -12,32 +13,32 @@ use feed_releases::Event;
 use feed_world::Why;
 use std::alloc::Global;
 
-/// A node of a world, up or down. What a call says of its history is said where it is `clean` as the call ends.
+/// A node of a world, up or down. A clause about its history holds if it is `clean` at the end of the call.
 pub trait Node {
-    /// Whether its keeper's content is promised.
+    /// Its keeper's content is as promised.
     ghost clean: { Self → Type 0 };
 
-    /// Whether it is up, and the history at which it stands.
+    /// Whether it is up, and its history.
     ghost stands: { Self → Bool → History → Type 0 };
 
-    /// How often the device of its keeper has failed.
+    /// The number of failures of its keeper's device.
     ghost failed: { Self → ℕ };
 
     fn is_up(&self) -> bool
         ensures { (up : Bool) (h : History) → stands self.now up h → result ≡ up };
 
-    /// The active release of a package.
+    /// Returns the active release of a package.
     fn report(&self, package: &[u8]) -> Option<&ReleaseName>
         ensures { (h : History) → stands self.now true h → Reports h «package».now
             (option_map (λ name. name.now) result) };
 
-    /// The text that answers a query about a package, or why there is none.
+    /// Returns the text that answers a query about a package, or why there is none.
     fn ask(&self, alloc: Global, package: &[u8], query: &[u8]) -> Result<Vec<u8>, Why>
         ensures asked { (h : History) → stands self.now true h
             → IsAsked h «package».now query.now (shown_outcome (λ text. text.items) result) }
         ensures device { result ≢ Err (Why.Feed Refusal.Device) };
 
-    /// Takes an event.
+    /// Handles an event.
     fn handle(&mut self, event: &Event<'_>) -> Result<Reply, Refusal>
         ensures clean { clean self.new → clean self.old }
         ensures right { (h : History) → stands self.old true h → IsRight h (told event.now) result

@@ -20,7 +20,7 @@ pub(crate) struct Shelf<'a> {
 }
 
 impl<'a> Shelf<'a> {
-    /// A shelf without files.
+    /// Returns a shelf without files.
     pub(crate) fn new(alloc: Global) -> Shelf<'a>
         ensures { IsShelf result.files.entries [] }
     {
@@ -29,7 +29,7 @@ impl<'a> Shelf<'a> {
         }
     }
 
-    /// Publishes a file. A name stands for one file for ever.
+    /// Publishes a file. A name belongs to one file for ever.
     pub(crate) fn publish(
         &mut self,
         name: &'a ReleaseName,
@@ -51,7 +51,7 @@ impl<'a> Shelf<'a> {
         Ok(Line::Published)
     }
 
-    // The file that is published under a name.
+    // Returns the file published under a name.
     fn file_of(&self, name: &'a ReleaseName) -> Option<&'a [u8]>
         ensures { (shelf : files) → IsShelf self.now.files.entries shelf
             → file_on shelf name.now ≡ option_map (λ file. file.now) result }
@@ -62,7 +62,7 @@ impl<'a> Shelf<'a> {
         }
     }
 
-    /// An offer of a published release, as it arrives at a node: with the size of its file.
+    /// Returns an offer of a published release as it arrives at a node: with the size of its file.
     pub(crate) fn offer(&self, name: &'a ReleaseName) -> Result<Event<'a>, Why>
         ensures arrives { (shelf : files) → IsShelf self.now.files.entries shelf
             → arriving shelf (Offer name.now) ≡ shown_arrived result }
@@ -77,7 +77,7 @@ impl<'a> Shelf<'a> {
         }
     }
 
-    /// A delivery as it arrives at a node: the slice of the published file, and the size of the file.
+    /// Returns a delivery as it arrives at a node: the slice of the published file, and the size of the file.
     pub(crate) fn deliver(
         &self,
         name: &'a ReleaseName,
@@ -106,7 +106,7 @@ impl<'a> Shelf<'a> {
         })
     }
 
-    /// A loss as it arrives at a node.
+    /// Returns a loss as it arrives at a node.
     pub(crate) fn lose(&self, name: &'a ReleaseName) -> Result<Event<'a>, Why>
         ensures arrives { (shelf : files) → IsShelf self.now.files.entries shelf
             → arriving shelf (Lose name.now) ≡ shown_arrived result }
@@ -118,7 +118,7 @@ impl<'a> Shelf<'a> {
         }
     }
 
-    /// What is on its way to a node as it stops.
+    /// Returns the event during which a node stops.
     pub(crate) fn sent(&self, what: &'a Sent) -> Result<Event<'a>, Why>
         ensures arrives { (shelf : files) → IsShelf self.now.files.entries shelf
             → arriving shelf (shown_sent what.now) ≡ shown_arrived result }

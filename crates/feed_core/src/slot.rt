@@ -1,3 +1,4 @@
+//! A node over a keeper: a feed while it is up, or only its keeper while it is down.
 ghost use Rattle.std.specs.Prelude.{◌≡◌, ◌≢◌, ◌≤◌, Bool, true, [], Err, IfOk, IfErr};
 ghost use Rattle.feed_model.specs.History.{History};
 ghost use Rattle.feed_model.specs.Content.{IsContent};
@@ -30,7 +31,7 @@ pub enum Slot<K: Keep + Drop> {
 }
 
 impl<K: Keep + Drop> Slot<K> {
-    /// A node on a keeper that holds nothing. A keeper that holds something is handed back.
+    /// Starts a node on an empty keeper. The error returns a keeper that is not empty.
     pub fn start(alloc: Global, keeper: K) -> Result<Slot<K>, OpenFault<K>>
         ensures ok { IfOk result (λ s. SlotStands K.content K.listed s true []) }
         ensures counted { IfOk result (λ s. K.failed keeper ≤ slot_failed K.failed s) }
@@ -56,7 +57,7 @@ impl<K: Keep + Drop> Slot<K> {
         }
     }
 
-    /// The keeper of the node, up or down.
+    /// Returns the keeper of the node, up or down.
     pub fn into_keeper(self) -> K
         ensures clean { K.clean result → IsSlotClean K.clean self }
         ensures content { K.clean result → (up : Bool) (h : History) → SlotStands K.content K.listed self up h
@@ -70,7 +71,7 @@ impl<K: Keep + Drop> Slot<K> {
     }
 }
 
-// Opens a keeper, and says why the node is down if it can't.
+// Opens a keeper, and returns why the node is down if this fails.
 fn opened<K: Keep + Drop>(alloc: Global, keeper: K) -> (Slot<K>, Result<(), KeepFault>)
     ensures clean { IsSlotClean K.clean result.0 → K.clean keeper }
     ensures same { (h : History) → IsSlotClean K.clean result.0 → IsContent (K.content keeper) h
@@ -130,7 +131,7 @@ impl<K: Keep + Drop> Node for Slot<K> {
     }
 }
 
-// The text of a feed's answer. The query's own fault comes first.
+// Returns the text of a feed's answer. An error of the query takes precedence.
 fn asked<K: Keep + Drop>(
     alloc: Global,
     feed: &Feed<K>,

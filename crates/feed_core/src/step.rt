@@ -1,4 +1,4 @@
-//! What a world makes of one event at one node.
+//! The effect of one event at one node of a world.
 ghost use Rattle.std.specs.Prelude.{◌≡◌, ◌≢◌, ◌+◌, ◌<◌, ◌≤◌, ◌⊎◌, ◌∷◌};
 ghost use Rattle.std.specs.Prelude.{Bool, true, Ok, Err, IfOk, IfErr, IfSome};
 ghost use Rattle.std.specs.Prelude.{IfNone, insert, length, vec_len, vec_capacity};
@@ -18,7 +18,7 @@ use feed_releases::Event;
 use feed_world::{Line, Why};
 use std::alloc::{AllocError, Global};
 
-// The place of the node of a number.
+// Returns the place of the node with this number.
 fn place(count: usize, node: u64) -> Option<usize>
     ensures found { IfSome result (λ at. (node ≡ at + 1) × (at < count)) }
     ensures none { IfNone result ((node ≡ 0) ⊎ (count < node)) }
@@ -31,8 +31,8 @@ fn place(count: usize, node: u64) -> Option<usize>
     }
 }
 
-// The place of the node of a number that is up, with what arrives at it; or why nothing happens there, the first of
-// these that holds: there is no such node, nothing arrives, the node is down.
+// Returns the place of the node with this number, which is up, with what arrives at it; or why nothing happens there,
+// in this order: no node has the number, nothing arrives, the node is down.
 fn ready_at<N: Node, T: Drop>(
     nodes: &[N],
     node: u64,
@@ -51,7 +51,7 @@ fn ready_at<N: Node, T: Drop>(
     Ok((at, what))
 }
 
-// Puts a node back to the place from which it was taken.
+// Puts a node back at the place from which it was taken.
 fn put_back<N: Node + Drop>(nodes: &mut Vec<N>, at: usize, node: N)
     requires within { at ≤ vec_len nodes.old }
     requires room { vec_len nodes.old < vec_capacity nodes.old }
@@ -108,7 +108,7 @@ pub(crate) fn restart_at<N: Node + Drop>(alloc: Global, nodes: &mut Vec<N>, node
     }
 }
 
-/// Tells a node what arrives at it.
+/// Sends a node what arrives at it.
 pub(crate) fn tell_at<N: Node>(
     nodes: &mut Vec<N>,
     node: u64,
@@ -176,7 +176,7 @@ pub(crate) fn stop_after_at<N: Node + Drop>(
     }
 }
 
-/// The active release of a package at a node.
+/// Reports the active release of a package at a node.
 pub(crate) fn report_at<N: Node>(nodes: &[N], node: u64, package: &[u8]) -> Result<Line, AllocError>
     ensures step { IfOk result (λ line. Goes N.clean N.stands (λ _. Unit {0})
         nodes.now nodes.now (Report node «package».now) (shown_line line)) }
@@ -192,7 +192,7 @@ pub(crate) fn report_at<N: Node>(nodes: &[N], node: u64, package: &[u8]) -> Resu
     }
 }
 
-/// What a node answers a query about a package.
+/// Answers a query about a package at a node.
 pub(crate) fn ask_at<N: Node>(
     alloc: Global,
     nodes: &[N],

@@ -1,8 +1,9 @@
+//! A writer into memory.
 use std::alloc::{AllocError, Global};
 use std::io;
 use std::io::Write;
 
-/// Text in memory, as a writer that takes each piece whole.
+/// A text in memory, as a writer that accepts each piece completely.
 #[derive(Drop)]
 pub(crate) struct Text {
     pub(crate) bytes: Vec<u8>,
@@ -11,7 +12,7 @@ pub(crate) struct Text {
 impl Text {
     ghost use Rattle.std.specs.Prelude.{◌≡◌, [], IfOk};
 
-    /// No text, with room for this many bytes.
+    /// Returns an empty text, with room for this many bytes.
     pub(crate) fn with_capacity(alloc: Global, room: usize) -> Result<Text, AllocError>
         ensures { IfOk result (λ text. text.bytes.items ≡ []) }
     {
@@ -19,7 +20,7 @@ impl Text {
         Ok(Text { bytes })
     }
 
-    /// Its bytes, without the room that is left over: they are kept as long as the transcript.
+    /// Returns the bytes and frees the unused room, because they are kept as long as the transcript.
     pub(crate) fn into_bytes(self) -> Vec<u8>
         ensures { result.items ≡ self.bytes.items }
     {

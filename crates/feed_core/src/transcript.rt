@@ -1,3 +1,4 @@
+//! The transcript of a replay.
 ghost use Rattle.std.specs.Prelude.{◌≡◌, OnOk};
 ghost use Rattle.std.specs.List.{flat_map};
 ghost use Rattle.std.specs.Io.KnownBytes.{Appends};
@@ -8,7 +9,7 @@ use feed_answer::WriteFault;
 use feed_world::Line;
 use std::io::Write;
 
-/// What a replay showed: a line for each event, and the keepers of the nodes as they are then.
+/// The result of a replay: a line for each event, and the keepers of the nodes at its end.
 #[derive(Drop)]
 pub struct Transcript<K: Drop> {
     lines: Vec<Line>,
@@ -23,14 +24,14 @@ impl<K: Drop> Transcript<K> {
         Transcript { lines, keepers }
     }
 
-    /// A line for each event, in order.
+    /// Returns a line for each event, in order.
     pub fn lines(&self) -> &[Line]
         ensures { result.now ≡ lines_of self.now }
     {
         &self.lines
     }
 
-    /// Writes the lines, each ended by LF. Where the writer fails, nothing is said of how much it took.
+    /// Writes the lines, each ended by LF. If the writer fails, it is unspecified how much it has accepted.
     pub fn write<W: Write>(&self, writer: &mut W) -> Result<(), WriteFault>
         ensures { OnOk result (Appends (W.contents writer.old) (W.contents writer.new)
             (flat_map printed (lines_of self.now))) }
@@ -44,7 +45,7 @@ impl<K: Drop> Transcript<K> {
         Ok(())
     }
 
-    /// The keepers, in the order of the nodes.
+    /// Returns the keepers, in the order of the nodes.
     pub fn into_keepers(self) -> Vec<K>
         ensures { result.items ≡ keepers_of self }
     {

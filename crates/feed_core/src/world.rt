@@ -1,3 +1,4 @@
+//! `replay`: runs a list of events over nodes, and shows each event by a line.
 ghost use Rattle.std.specs.Prelude.{◌≡◌, ◌≢◌, ◌<◌, ◌≤◌, ◌+◌, ◌⊎◌, ◌↔◌, []};
 ghost use Rattle.std.specs.Prelude.{List, Bool, length, map, IfOk, IfErr};
 ghost use Rattle.std.specs.Prelude.{IsErrOf, vec_len, vec_capacity, slice_get, Some};
@@ -23,13 +24,13 @@ use feed_releases::OpenFault;
 use feed_world::{Line, WorldEvent, headline};
 use std::alloc::{AllocError, Global};
 
-/// A world has 1 to this many nodes.
+/// The most nodes that a world may have. It has at least one.
 pub const NODE_LIMIT: usize = 16;
 
-/// Why a replay could not begin, or not go on.
+/// Why a replay could not begin or continue.
 #[derive(Drop)]
 pub enum ReplayFault<K: Drop> {
-    /// Want of memory.
+    /// Memory ran out.
     Memory,
     /// There were no keepers, or more than 16.
     Nodes,
@@ -37,8 +38,8 @@ pub enum ReplayFault<K: Drop> {
     Start { node: usize, keeper: K },
 }
 
-/// Shows what happens to nodes over these keepers, event by event. Each keeper is opened once, in order, before the
-/// first event.
+/// Replays events over nodes on these keepers, and shows each event by a line. Opens each keeper once, in order,
+/// before the first event.
 pub fn replay<K: Keep + Drop>(
     alloc: Global,
     keepers: Vec<K>,
@@ -68,7 +69,7 @@ pub fn replay<K: Keep + Drop>(
     }
 }
 
-// Nodes on keepers that hold nothing.
+// Starts nodes on empty keepers.
 fn start_all<K: Keep + Drop>(alloc: Global, keepers: Vec<K>) -> Result<Vec<Slot<K>>, ReplayFault<K>>
     ensures count { IfOk result (λ nodes. length nodes.items ≡ vec_len keepers) }
     ensures started { IfOk result (λ nodes. AreNodes (SlotStands K.content K.listed) nodes.items
@@ -94,7 +95,7 @@ fn start_all<K: Keep + Drop>(alloc: Global, keepers: Vec<K>) -> Result<Vec<Slot<
     Ok(nodes)
 }
 
-// Why the node of this number did not start.
+// Returns why the node with this number did not start.
 fn not_started<K: Keep + Drop>(fault: OpenFault<K>, node: usize) -> ReplayFault<K>
     ensures { ((fault.cause ≡ KeepFault.Memory) × (result ≡ ReplayFault.Memory))
         ⊎ ((fault.cause ≢ KeepFault.Memory) × (result ≡ ReplayFault.Start node fault.keeper)) }
@@ -108,7 +109,7 @@ fn not_started<K: Keep + Drop>(fault: OpenFault<K>, node: usize) -> ReplayFault<
     }
 }
 
-// The keepers of the nodes, in their order, in the room that was made for them.
+// Returns the keepers of the nodes, in their order, in the vector that was reserved for them.
 fn keepers_back<K: Keep + Drop>(room: Vec<K>, nodes: Vec<Slot<K>>) -> Vec<K>
     requires empty { room.items ≡ [] }
     requires room { vec_len nodes ≤ vec_capacity room }

@@ -1,4 +1,4 @@
--- What is promised of every transcript, over its events and lines alone.
+-- The headline theorem: a promise about every transcript, stated over its events and lines alone.
 use Rattle.std.specs.Prelude.{◌≡◌, ◌≢◌, ◌<◌, ◌≤◌, ◌⊎◌, ℕ, ◌≤ℤ◌, min, max, if◌then◌else◌, List, [], ◌∷◌, take, Option, Some, None, true, slice_get}
 use Rattle.feed_names.specs.ReleaseName.{Name}
 use Rattle.feed_world.specs.declared.line.Why.TheVariants as whys
@@ -14,7 +14,7 @@ file_of [] n = None
 file_of (Publish m bytes ∷ events) n = if name_eq m n then Some bytes else file_of events n
 file_of (event ∷ events) n = file_of events n
 
--- the event is none that may change this node
+-- the event cannot change this node
 abbrev pub IsQuiet : ℕ → WorldEvent → Type 0
 IsQuiet node (Tell i sent) = i ≢ node
 IsQuiet node (Restart i) = i ≢ node
@@ -22,16 +22,16 @@ IsQuiet node (StopBefore i sent) = i ≢ node
 IsQuiet node (StopAfter i sent) = i ≢ node
 IsQuiet node event = Unit {0}
 
--- from one place of the list to the other, whichever comes first, no event may change this node
+-- between the two places of the list, in either order, no event can change this node
 abbrev pub IsOneMoment : List WorldEvent → ℕ → ℕ → ℕ → Type 0
 IsOneMoment events node j k = (m : ℕ) (event : WorldEvent) → min j k ≤ m → m ≤ max j k → slice_get events m ≡ Some event → IsQuiet node event
 
--- at this place stands this event, shown by this line
+-- at this place the list has this event, and the transcript this line
 pub record Stands (events : List WorldEvent) (lines : List Line) (place : ℕ) (event : WorldEvent) (line : Line) : Type 0 where
   pub happened : slice_get events place ≡ Some event
   pub shown : slice_get lines place ≡ Some line
 
--- at this place the node is asked, and gives this line; and a report of the same moment shows this release
+-- at this place the node is queried and answers with this line, and a report of the same moment shows this release
 pub record Answers (events : List WorldEvent) (lines : List Line) (place node : ℕ) (stem : List ℕ) (name : Name) (query : List ℕ) (line : Line) : Type 0 where
   pub asked : Stands events lines place (Ask node stem query) line
   pub report : ℕ
@@ -43,24 +43,24 @@ pub record Answers (events : List WorldEvent) (lines : List Line) (place node : 
 abbrev pub IsNoOlder : Name → Name → Type 0
 IsNoOlder n m = (m.stem ≡ n.stem) × (n.day ≤ℤ m.day)
 
--- the release is one of the package, and its file, which is good, was published before this place
+-- the release belongs to the package, and its file is good and was published before this place
 pub record IsGoodRelease (events : List WorldEvent) (place : ℕ) (stem : List ℕ) (name : Name) : Type 0 where
   pub its_package : name.stem ≡ stem
   pub its_file : List ℕ
   pub published : file_of (take place events) name ≡ Some its_file
   pub good : fault_of its_file ≡ None
 
--- a line of text is the answer of such a release, which stands in order with every report of its node
+-- a line of text is the answer of such a release; this is in order with all reports of the node
 pub record IsFrom (events : List WorldEvent) (lines : List Line) (place node : ℕ) (stem : List ℕ) (query : List ℕ) (text : List ℕ) (name : Name) : Type 0 where
   pub release : IsGoodRelease events place stem name
   pub whole : Text text ≡ file_says name release.its_file (query_of query)
   pub before : (j : ℕ) (n : Name) → j < place → Stands events lines j (Report node stem) (Active n) → IsNoOlder n name
   pub after : (j : ℕ) (n : Name) → place < j → Stands events lines j (Report node stem) (Active n) → IsNoOlder name n
 
--- Any two nodes that report the same release of a package give every query the same answer, the one which that release's published file as a whole defines; and no later report of a node
--- names an older release.
--- Besides, a report holds until the next event of its node, and names a good release that was published before; and each text is the answer of such a release, no older than
--- what the node said before.
+-- Any two nodes that report the same release of a package give every query the same answer, the one which that
+-- release's published file as a whole defines; and no later report of a node names an older release. Besides, a report
+-- holds until the next event of its node, and names a good release that was published before; and each text is the
+-- answer of such a release, no older than any that the node reported before.
 pub record IsHeadline (events : List WorldEvent) (lines : List Line) : Type 0 where
   pub same : (j k a b : ℕ) (stem : List ℕ) (n : Name) (query : List ℕ) (x y : Line) → Answers events lines j a stem n query x → Answers events lines k b stem n query y → x ≡ y
   pub whole : (j a : ℕ) (stem : List ℕ) (n : Name) (query : List ℕ) (x : Line) → Answers events lines j a stem n query x
@@ -78,7 +78,7 @@ pub record HasAlike (h k : History) (stem : List ℕ) : Type 0 where
   pub size : (n : Name) → n.stem ≡ stem → size_of h n ≡ size_of k n
   pub bytes : (n : Name) → n.stem ≡ stem → (place : ℕ) → kept h n place ≡ kept k n place
 
--- of the published good files of its package, this release's is the latest
+-- the release is the latest of its package with a good published file
 pub record IsLatest (events : List WorldEvent) (n : Name) : Type 0 where
   pub file : List ℕ
   pub published : file_of events n ≡ Some file

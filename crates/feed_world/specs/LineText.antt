@@ -1,4 +1,4 @@
--- How a line is printed.
+-- The printed form of a line.
 use Rattle.std.specs.Prelude.{◌++◌, ℕ, List, codes}
 use Rattle.feed_names.specs.ReleaseName.{text_of}
 use Rattle.feed_answer.specs.Faults.{query_fault_text}
@@ -7,7 +7,7 @@ use Rattle.feed_world.specs.declared.line.Why.{Why}
 use Rattle.feed_world.specs.declared.line.Why.TheVariants as whys
 use Rattle.feed_world.specs.World.{Line, Published, Replied, Restarted, Stopped, IsDown, Active, Inactive, Text, Refused}
 
--- why an event is refused
+-- the printed name of a reason why an event is refused
 abbrev pub why_text : Why → List ℕ
 why_text whys.Republished = codes "Republished"
 why_text whys.NoNode = codes "NoNode"

@@ -1,4 +1,4 @@
--- The code's events and lines, without where they lie in memory.
+-- The model values of events and lines, without their addresses in memory.
 use Rattle.feed_world.specs.declared.event.Sent as code_sent
 use Rattle.feed_world.specs.declared.event.Sent.TheVariants as sents
 use Rattle.feed_world.specs.declared.event.WorldEvent as code_event
@@ -8,12 +8,12 @@ use Rattle.feed_world.specs.declared.line.Line.TheVariants as lines
 use Rattle.feed_world.specs.World.{Sent, Offer, Deliver, Lose, WorldEvent, Publish, Tell, Restart, StopBefore, StopAfter, Report, Ask, Line, Published, Replied, Restarted, Stopped, IsDown}
 use Rattle.feed_world.specs.World.{Active, Inactive, Text, Refused}
 
--- what is sent, as the world has it
+-- the model value of what is sent
 abbrev pub shown_sent : code_sent.Sent → Sent
 shown_sent (sents.Offer n) = Offer n
 shown_sent (sents.Deliver n first len) = Deliver n first len
 
--- the event of the world that an event of the code is
+-- the model value of an event
 abbrev pub shown_event : code_event.WorldEvent → WorldEvent
 shown_event (events.Publish n bytes) = Publish n bytes.items
 shown_event (events.Offer i n) = Tell i (Offer n)
@@ -25,7 +25,7 @@ shown_event (events.StopAfter i what) = StopAfter i (shown_sent what)
 shown_event (events.Report i stem) = Report i stem.items
 shown_event (events.Ask i stem query) = Ask i stem.items query.items
 
--- the line of the world that a line of the code is
+-- the model value of a line
 abbrev pub shown_line : code_line.Line → Line
 shown_line lines.Published = Published
 shown_line (lines.Replied reply) = Replied reply

@@ -1,4 +1,4 @@
--- A world of published files and of nodes that may be up or down: what may happen in it, and how it is shown.
+-- A world of published files and of nodes that may be up or down: its events, and the lines that show them.
 use Rattle.std.specs.Prelude.{◌≡◌, ◌+◌, ◌⊎◌, ◌++◌, ℕ, zero, suc, Bool, true, false, nat_le, if◌then◌else◌}
 use Rattle.std.specs.Prelude.{List, [], ◌∷◌, length, take, drop, replicate, Option, Some, None, Result, Ok, Err}
 use Rattle.std.specs.Prelude.{slice_get, slice_set, MatchOption, MatchResult, MatchBool}
@@ -16,13 +16,13 @@ use Rattle.feed_answer.specs.Queries.{query_of}
 use Rattle.feed_answer.specs.Answers.{answer_of, answer_text}
 use Rattle.feed_kbart.specs.Files.{holdings_of}
 
--- what is on its way to a node; a node of the code stops in an offer or a delivery alone
+-- a message to a node; in the code a node stops during an offer or a delivery only
 pub data Sent : Type 0 where
   Offer : (name : Name) → Sent
   Deliver : (name : Name) (first len : ℕ) → Sent
   Lose : (name : Name) → Sent
 
--- what may happen; a node is named by its number, from 1 on, and a package by its stem
+-- an event of the world; a node is identified by its number, counted from 1, and a package by its stem
 pub data WorldEvent : Type 0 where
   Publish : (name : Name) (bytes : List ℕ) → WorldEvent
   Tell : (node : ℕ) (sent : Sent) → WorldEvent
@@ -32,7 +32,7 @@ pub data WorldEvent : Type 0 where
   Report : (node : ℕ) (stem : List ℕ) → WorldEvent
   Ask : (node : ℕ) (stem : List ℕ) (query : List ℕ) → WorldEvent
 
--- how it is shown
+-- a line of a transcript
 pub data Line : Type 0 where
   Published : Line
   Replied : (reply : reply.Reply) → Line
@@ -48,36 +48,36 @@ pub data Line : Type 0 where
 abbrev pub Shelf : Type 0
 Shelf = List (Name × List ℕ)
 
--- the file of a name, where it is published
+-- the file of a name, if it is published
 abbrev pub file_on : Shelf → Name → Option (List ℕ)
 file_on [] n = None
 file_on (f ∷ fs) n = if name_eq f.0 n then Some f.1 else file_on fs n
 
--- what a node was told and answered, and whether it is up
+-- a node: its events with their answers, and whether it is up
 pub record Node : Type 0 where
   pub up : Bool
   pub history : History
 
--- what is published, and the nodes in the order of their numbers
+-- the published files, and the nodes in the order of their numbers
 pub record World : Type 0 where
   pub shelf : Shelf
   pub nodes : List Node
 
--- the node of a number, from 1 on
+-- the node with this number, counted from 1
 abbrev pub node_at : List Node → ℕ → Option Node
 node_at nodes zero = None
 node_at nodes (suc i) = slice_get nodes i
 
--- the nodes with this one under the number
+-- replaces the node with this number
 abbrev pub set_node : List Node → ℕ → Node → List Node
 set_node nodes zero x = nodes
 set_node nodes (suc i) x = slice_set nodes i x
 
--- the world with this node under the number
+-- the world with another node under this number
 abbrev pub with_node : World → ℕ → Bool → History → World
 with_node w i up history = record { shelf = w.shelf; nodes = set_node w.nodes i (record { up = up; history = history }) }
 
--- so many nodes are up, and nothing has happened
+-- this many nodes are up, and nothing has happened
 abbrev pub start : ℕ → World
 start count = record { shelf = []; nodes = replicate count (record { up = true; history = [] }) }
 
@@ -96,7 +96,7 @@ abbrev pub lost : Name → Option (List ℕ) → Result Event why.Why
 lost n None = Err whys.Unpublished
 lost n (Some file) = Ok (Lost n)
 
--- what arrives at a node of what is sent, or why nothing does
+-- the feed's event for what is sent to a node, or why nothing arrives
 abbrev pub arriving : Shelf → Sent → Result Event why.Why
 arriving shelf (Offer n) = offered n (file_on shelf n)
 arriving shelf (Deliver n first len) = delivered n first len (file_on shelf n)
@@ -106,19 +106,19 @@ arriving shelf (Lose n) = lost n (file_on shelf n)
 abbrev pub IsRefused : why.Why → World → Line → World → Type 0
 IsRefused why w line v = (line ≡ Refused why) × (v ≡ w)
 
--- there is a node of this number, and this holds of it; else the event is refused
+-- a node has this number, and the statement holds for it; otherwise the event is refused
 abbrev pub AtNode : ℕ → World → Line → World → (Node → Type 0) → Type 0
 AtNode i w line v Here = MatchOption (node_at w.nodes i) (IsRefused whys.NoNode w line v) Here
 
--- it can be sent, and this holds of the feed's event; else the event is refused
+-- the message can be sent, and the statement holds for the feed's event; otherwise the event is refused
 abbrev pub Arrives : Sent → World → Line → World → (Event → Type 0) → Type 0
 Arrives sent w line v Here = MatchResult (arriving w.shelf sent) Here (λ why. IsRefused why w line v)
 
--- the node is up, and this holds; else the event is refused
+-- the node is up, and the statement holds; otherwise the event is refused
 abbrev pub IfUp : Node → World → Line → World → Type 0 → Type 0
 IfUp x w line v Here = MatchBool x.up Here (IsRefused whys.Down w line v)
 
--- the node was opened again, or is down for want of memory or for its device
+-- the node is open again; or it is down because memory ran out or its device failed
 abbrev pub Reopens : ℕ → History → Line → World → Line → World → Type 0
 Reopens i history done w line v =
     ((line ≡ done) × (v ≡ with_node w i true history))
@@ -138,26 +138,26 @@ report_line (Some n) = Active n
 unfoldable pub text_for : Name → List ℕ → QueryValue → List ℕ
 text_for n file query = answer_text (text_of n) (answer_of (holdings_of file) query)
 
--- what a query is answered from no release: the query's own fault comes first
+-- the answer without a release: an error of the query takes precedence
 abbrev pub none_says : Result QueryValue QueryFault → Line
 none_says (Err fault) = Refused (whys.Query fault)
 none_says (Ok query) = Refused whys.NoRelease
 
--- what it is answered from the file of a release as a whole
+-- the answer from the complete file of a release
 abbrev pub file_says : Name → List ℕ → Result QueryValue QueryFault → Line
 file_says n file (Err fault) = Refused (whys.Query fault)
 file_says n file (Ok query) = Text (text_for n file query)
 
--- this line, or want of memory in its place
+-- this line; or, in its place, running out of memory
 abbrev pub OrMemory : Line → Type 0 → Type 0
 OrMemory line right = right ⊎ (line ≡ Refused whys.Memory)
 
--- a line that a query may be answered at this history
+-- a right answer to a query at this history
 abbrev pub IsAsked : History → List ℕ → List ℕ → Line → Type 0
 IsAsked h stem query line = (o : Option Name) × Reports h stem o × OrMemory line
     (MatchOption o (line ≡ none_says (query_of query)) (λ n. (file : List ℕ) × IsFile h n file × (line ≡ file_says n file (query_of query))))
 
--- the event may be shown by this line, and leave this world
+-- the event may be shown by this line, and may turn one world into the other
 abbrev pub Happens : World → WorldEvent → Line → World → Type 0
 Happens w (Publish n bytes) line v =
     MatchOption (file_on w.shelf n)

@@ -1,7 +1,8 @@
+//! The events of a world of published files and nodes.
 use feed_names::ReleaseName;
 
-/// What is on its way to a node as the node stops: an offer with the size of the published file, or the `len` bytes of
-/// the published file from the place `first` on.
+/// The event during which a node stops: an offer with the size of the published file, or the `len` bytes of the
+/// published file from the place `first` on.
 #[derive(Drop)]
 pub enum Sent {
     Offer {
@@ -14,10 +15,10 @@ pub enum Sent {
     },
 }
 
-/// What happens in a world of published files and nodes. Nodes are numbered from 1.
+/// An event of a world of published files and nodes. Nodes are numbered from 1.
 #[derive(Drop)]
 pub enum WorldEvent {
-    /// A file is published under a name. A name stands for one file for ever.
+    /// A file is published under a name. A name belongs to one file for ever.
     Publish {
         name: ReleaseName,
         bytes: Vec<u8>,
@@ -27,19 +28,20 @@ pub enum WorldEvent {
         node: u64,
         name: ReleaseName,
     },
-    /// A node is given the `len` bytes of the published file from the place `first` on, and the size of the file.
+    /// A node receives the `len` bytes of the published file from the place `first` on, and the size of the file.
     Deliver {
         node: u64,
         name: ReleaseName,
         first: u64,
         len: u64,
     },
-    /// A piece that a node asked for does not come.
+    /// A piece that a node requested does not arrive.
     Lose {
         node: u64,
         name: ReleaseName,
     },
-    /// A node stops between two events, and is opened again on what its keeper holds. So is one that is down.
+    /// A node stops between two events, and is opened again on the records of its keeper. A node that is down is opened
+    /// again too.
     Restart {
         node: u64,
     },
@@ -53,12 +55,12 @@ pub enum WorldEvent {
         node: u64,
         what: Sent,
     },
-    /// A node says which release of a package is active.
+    /// A node reports which release of a package is active.
     Report {
         node: u64,
         package: Vec<u8>,
     },
-    /// A node is asked a query about a package.
+    /// A node answers a query about a package.
     Ask {
         node: u64,
         package: Vec<u8>,

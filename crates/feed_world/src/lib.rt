@@ -1,5 +1,5 @@
 //! A world of published files and of nodes that may stop and restart: its events, the lines that show them, and the
-//! model that says which lines are right. The laws of the model are public functions with empty bodies.
+//! model that defines the right lines. The laws of the model are public functions with empty bodies.
 #![tactic(auto)]
 
 mod event;

@@ -1,3 +1,4 @@
+//! The lines of a transcript.
 ghost use Rattle.std.specs.Prelude.{OnOk};
 ghost use Rattle.std.specs.Io.KnownBytes.{Appends};
 ghost use Rattle.feed_world.specs.Shown.{shown_line};
@@ -10,7 +11,7 @@ use std::error::Error;
 use std::io::Write;
 use std::{fmt, io};
 
-/// Why an event of a world was refused. Nothing changed.
+/// Why an event of a world was refused. A refused event changes nothing.
 #[derive(Clone, Copy, Debug, PartialEq, Eq)]
 pub enum Why {
     /// Another file is published under the name.
@@ -19,15 +20,15 @@ pub enum Why {
     NoNode,
     /// No file is published under the name.
     Unpublished,
-    /// The bytes do not lie inside the published file.
+    /// The bytes are not inside the published file.
     NoSlice,
-    /// The node is down: it could not be opened when it stopped last.
+    /// The node is down: it could not be opened when it last stopped.
     Down,
     /// The feed of the node refused.
     Feed(Refusal),
-    /// The query is none.
+    /// The query is invalid.
     Query(QueryFault),
-    /// The package has no whole and good release at the node.
+    /// The package has no complete and good release at the node.
     NoRelease,
     /// There was no memory for an answer.
     Memory,
@@ -56,12 +57,12 @@ impl fmt::Display for Why {
 
 impl Error for Why {}
 
-/// How an event of a world is shown.
+/// A line of a transcript, which shows the effect of an event.
 #[derive(Debug, Drop)]
 pub enum Line {
     /// The file is published, now or before.
     Published,
-    /// The feed of a node took the event.
+    /// The feed of a node accepted the event.
     Replied(Reply),
     /// The node was opened again after a restart.
     Restarted,
@@ -71,7 +72,7 @@ pub enum Line {
     Down(KeepFault),
     /// A report: the active release.
     Active(ReleaseName),
-    /// A report: there is no active release.
+    /// A report: no release is active.
     Inactive,
     /// The text of an answer, a line for the release and one for each hit.
     Text(Vec<u8>),
