@@ -1,4 +1,4 @@
--- The fields of a head by name, in capital or small letters (RFC 9110, section 5.1).
+-- The fields of a head by name, ignoring case (RFC 9110, section 5.1).
 use Rattle.std.specs.Prelude.{ℕ, List, [], ◌∷◌, map, length, All, Bool, true, false, not, ◌||◌, Option, Some, None}
 use Rattle.std.specs.List.{filter}
 use Rattle.std.specs.Str.{str_eq_ignore_ascii_case}
@@ -12,7 +12,7 @@ use Rattle.feed_heads.specs.declared.fields.Fields.{Fields}
 abbrev pub values_named : List ℕ → List Field → List (List ℕ)
 values_named name fields = map field_value (filter (λ field. str_eq_ignore_ascii_case field.name name) fields)
 
--- the value, if there is just one
+-- the value, if there is exactly one
 abbrev pub only : {A : Type 0} → List A → Option A
 only [] = None
 only (value ∷ []) = Some value
@@ -28,13 +28,13 @@ abbrev pub first_of : {A : Type 0} → List A → Option A
 first_of [] = None
 first_of (value ∷ values) = Some value
 
--- the same of the spans that the parser answers
+-- the same for the spans that the parser returns
 
 -- the header's name is this one
 abbrev pub is_named : List ℕ → List ℕ → HeaderSpan → Bool
 is_named buffer name header = str_eq_ignore_ascii_case (span_bytes buffer header.name) name
 
--- where the values of the fields of that name stand
+-- the places of the values of the fields of that name
 abbrev pub spans_named : List ℕ → List ℕ → List HeaderSpan → List Span
 spans_named buffer name headers = map (λ header. header.value) (filter (is_named buffer name) headers)
 
@@ -42,7 +42,7 @@ spans_named buffer name headers = map (λ header. header.value) (filter (is_name
 abbrev pub agrees : (List ℕ → Bool) → List ℕ → List ℕ → HeaderSpan → Bool
 agrees test buffer name header = not (is_named buffer name header) || test (span_bytes buffer header.value)
 
--- the headers lie in the buffer
+-- the headers are inside the buffer
 abbrev pub AreWithin : Fields → Type 0
 AreWithin found = All (IsHeaderWithin (length found.buffer.now)) found.headers.now
 

@@ -1,4 +1,4 @@
--- What bytes that are there have of the head of a request (RFC 9112, section 3).
+-- Where the head of a request ends in the bytes received so far (RFC 9112, section 3).
 use Rattle.std.specs.Prelude.{◌≡◌, ℕ, List, length, take}
 use Rattle.httparse.specs.Grammar.{RequestHead, print_request}
 use Rattle.httparse.specs.Spans.{IsRequestWithin, IsRequestAt}
@@ -10,14 +10,14 @@ use Rattle.feed_heads.specs.declared.head_ends.HeadFound.{HeadFound}
 use Rattle.feed_heads.specs.declared.head_ends.HeadFound.TheVariants as found
 use Rattle.feed_heads.specs.RequestHeads.{BeginsWithHead, NeverBeginsWithHead, IsUnfinished}
 
--- a head of so many bytes stands in front; none yet; or none, whatever follows
+-- the bytes begin with a head of this length; or not yet; or never, whatever follows
 abbrev pub IsHeadEnd : ℕ → ℕ → List ℕ → HeadEnd → Type 0
 IsHeadEnd bytes fields text (end.Whole size) =
     (head : RequestHead) × BeginsWithHead bytes fields text head × (size ≡ length (print_request head))
 IsHeadEnd bytes fields text end.Unfinished = IsUnfinished bytes text
 IsHeadEnd bytes fields text end.Never = NeverBeginsWithHead bytes fields text
 
--- the spans cover the parts of the head that stands in front
+-- the spans cover the parts of the head at the front
 pub record IsHeadInFront (bytes fields : ℕ) (text : List ℕ) (headers : List HeaderSpan) (spans : RequestSpans) : Type 0 where
   pub within : IsRequestWithin (take bytes text) headers spans
   pub head : RequestHead

@@ -1,4 +1,4 @@
--- A reply's head in a buffer.
+-- The head of a reply in a buffer.
 use Rattle.std.specs.Prelude.{◌≡◌, ℕ, List, take, drop, All, false, Option, IfSome, [], ⊤}
 use Rattle.httparse.specs.Grammar.{ResponseHead}
 use Rattle.httparse.specs.Spans.{IsResponseAt}
@@ -8,12 +8,12 @@ use Rattle.feed_heads.specs.declared.http_fault.HttpFault.{HttpFault}
 use Rattle.feed_heads.specs.declared.http_fault.HttpFault.TheVariants.{Read, Short}
 use Rattle.feed_heads.specs.ReplyHeads.{print_heads, is_interim, IsInterimHead}
 
--- interim heads of at most so many fields stand before the start
+-- the buffer begins with interim heads up to the start, each with at most this many fields
 pub record AreInterimTo (fields : ℕ) (buffer : List ℕ) (start : ℕ) (interim : List ResponseHead) : Type 0 where
   pub skipped : All (IsInterimHead fields) interim
   pub front : print_heads interim ≡ take start buffer
 
--- behind them stands a head that is not interim, whose parts the spans cover
+-- a head that is not interim follows them, and the spans cover its parts
 pub record IsReplyIn (fields : ℕ) (buffer : List ℕ) (headers : List HeaderSpan) (start : ℕ) (spans : ResponseSpans) : Type 0 where
   pub interim : List ResponseHead
   pub before : AreInterimTo fields buffer start interim

@@ -1,4 +1,4 @@
--- What the head of a request says whatever its target is (RFC 9112, section 3; RFC 9110, section 9).
+-- Properties of a request's head that do not depend on its target (RFC 9112, section 3; RFC 9110, section 9).
 use Rattle.std.specs.Prelude.{◌==◌, ◌&&◌, Bool, codes, is_none}
 use Rattle.std.specs.Str.{bytes_eq}
 use Rattle.httparse.specs.Grammar.{RequestHead}
@@ -6,22 +6,22 @@ use Rattle.httparse.specs.Spans.{IsRequestWithin, IsRequestAt}
 use Rattle.feed_heads.specs.Fields.{values_named, only}
 use Rattle.feed_heads.specs.declared.request.Request.{Request}
 
--- a request of HTTP/1.1 has not just one Host field
+-- a request of HTTP/1.1 does not have exactly one Host field
 abbrev pub lacks_host : RequestHead → Bool
 lacks_host head = (head.minor == 1) && is_none (only (values_named (codes "host") head.fields))
 
--- only the head of the reply is asked for
+-- the method is HEAD
 abbrev pub is_head : RequestHead → Bool
 is_head head = bytes_eq head.method (codes "HEAD")
 
--- what the target names is asked for
+-- the method is GET
 abbrev pub is_get : RequestHead → Bool
 is_get head = bytes_eq head.method (codes "GET")
 
--- the parts of a request that was read lie in its buffer
+-- the parts of a parsed request are inside its buffer
 abbrev pub IsInBuffer : Request → Type 0
 IsInBuffer request = IsRequestWithin request.buffer.now request.headers.now request.spans
 
--- the request that was read has this head
+-- the parsed request has this head
 abbrev pub HasHead : Request → RequestHead → Type 0
 HasHead request head = IsRequestAt request.buffer.now request.headers.now request.spans head

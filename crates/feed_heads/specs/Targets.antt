@@ -7,14 +7,14 @@ use Rattle.std.specs.Str.{str_eq_ignore_ascii_case}
 abbrev pub slash : ℕ
 slash = 47
 
--- what stands from the first slash on
+-- the text from its first slash on
 abbrev pub from_slash : List ℕ → List ℕ
 from_slash text = option_map_or (λ place. drop place text) (position (λ byte. byte == slash) text) []
 
--- what follows `http://`, if it stands in front, in capital or small letters
+-- the text after a leading `http://`, ignoring case
 abbrev pub behind_scheme : List ℕ → Option (List ℕ)
 behind_scheme target = if str_eq_ignore_ascii_case (take 7 target) (codes "http://") then Some (drop 7 target) else None
 
--- a target from its path on: `http://` and a host may stand in front
+-- a target from its path on, without a leading `http://` and host
 abbrev pub origin_form : List ℕ → List ℕ
 origin_form target = option_map_or from_slash (behind_scheme target) target

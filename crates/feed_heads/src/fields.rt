@@ -1,4 +1,4 @@
-//! The fields of a head by name (RFC 9110, section 5.1).
+//! Finding the fields of a head by name (RFC 9110, section 5.1).
 ghost use Rattle.std.specs.Prelude.{◌≡◌, List, length, All, IfSome, option_copied};
 ghost use Rattle.std.specs.List.{list_all};
 ghost use Rattle.std.specs.Str.{str_eq_ignore_ascii_case};
@@ -9,7 +9,7 @@ ghost use Rattle.feed_heads.specs.Fields.{AreWithin, AreFieldsOf};
 
 use httparse::spans::{HeaderSpan, Span};
 
-/// Where the fields of a head stand in the buffer into which it was read.
+/// The fields of a head, as places in the buffer into which it was read.
 #[derive(Clone, Copy)]
 pub struct Fields<'b> {
     pub buffer: &'b [u8],
@@ -48,7 +48,7 @@ impl<'b> Fields<'b> {
         found
     }
 
-    /// The value of the field of that name, if there is just one such field.
+    /// Returns the value of the field of this name, if there is exactly one such field.
     pub fn sole_value(&self, name: &[u8]) -> Option<&'b [u8]>
         requires { AreWithin self.now }
         ensures { (fields : List Field) → AreFieldsOf self.now fields
@@ -60,7 +60,7 @@ impl<'b> Fields<'b> {
         }
     }
 
-    /// Whether there is a field of that name.
+    /// Returns whether there is a field of this name.
     pub fn has_field(&self, name: &[u8]) -> bool
         requires { AreWithin self.now }
         ensures { (fields : List Field) → AreFieldsOf self.now fields
@@ -74,7 +74,7 @@ impl<'b> Fields<'b> {
         false
     }
 
-    /// Where the value of the first field of that name stands.
+    /// Returns the place of the value of the first field of this name.
     pub fn first_span(&self, name: &[u8]) -> Option<Span>
         requires { AreWithin self.now }
         ensures first { result ≡ first_of (spans_named self.now.buffer.now name.now self.now.headers.now) }
@@ -88,7 +88,7 @@ impl<'b> Fields<'b> {
         None
     }
 
-    /// Whether each value of the fields of that name is this text, in any case.
+    /// Returns whether each value of the fields of this name is this text, ignoring case.
     pub fn all_values_are(&self, name: &[u8], text: &[u8]) -> bool
         requires { AreWithin self.now }
         ensures { (fields : List Field) → AreFieldsOf self.now fields

@@ -1,4 +1,4 @@
-//! Where the head of a request ends, in bytes that are there already.
+//! Finding the end of a request's head in the bytes received so far.
 ghost use Rattle.std.specs.Prelude.{length};
 ghost use Rattle.feed_heads.specs.Limits.{head_limit, field_limit};
 ghost use Rattle.feed_heads.specs.HeadEnds.{IsHeadEnd, IsHeadFound};
@@ -7,18 +7,18 @@ use crate::limits::{FIELD_LIMIT, HEAD_LIMIT};
 use httparse::Status;
 use httparse::spans::{EMPTY_HEADER_SPAN, HeaderSpan, RequestSpans, parse_request};
 
-/// What the bytes so far have of the head of a request.
+/// Whether bytes begin with the head of a request.
 #[derive(Clone, Copy, Debug, PartialEq, Eq)]
 pub enum HeadEnd {
-    /// A head stands in front, and has so many bytes.
+    /// They begin with a head of this many bytes.
     Whole(usize),
-    /// There is no whole head yet.
+    /// They do not yet begin with a complete head.
     Unfinished,
-    /// Whatever bytes follow, no head within the limits stands in front.
+    /// Whatever follows, they do not begin with a head within the limits.
     Never,
 }
 
-/// The same, with the places of the head's parts.
+/// Whether bytes begin with the head of a request, and the places of its parts.
 #[derive(Clone, Copy, Debug)]
 pub enum HeadFound {
     Whole(RequestSpans),
@@ -26,8 +26,8 @@ pub enum HeadFound {
     Never,
 }
 
-/// Looks for the head of a request in front of the bytes, of which at most 8,192 are looked at. The head has at
-/// most as many fields as there are headers.
+/// Finds the head of a request at the front of the bytes. Looks at no more than 8,192 bytes. The head may have as many
+/// fields as there are headers.
 pub fn find_head(bytes: &[u8], headers: &mut [HeaderSpan]) -> HeadFound
     ensures { IsHeadFound head_limit (length headers.old) bytes.now headers.new result }
 {
@@ -45,8 +45,8 @@ pub fn find_head(bytes: &[u8], headers: &mut [HeaderSpan]) -> HeadFound
     }
 }
 
-/// Whether the bytes begin with a whole head of at most 8,192 bytes and 64 fields (RFC 9112, section 3), and where
-/// it ends; with none yet; or with none, whatever follows.
+/// Returns where the head at the front of the bytes ends, with at most 8,192 bytes and 64 fields (RFC 9112, section 3),
+/// or whether more bytes could still complete one.
 pub fn head_end(bytes: &[u8]) -> HeadEnd
     ensures { IsHeadEnd head_limit field_limit bytes.now result }
 {

@@ -1,39 +1,40 @@
+//! The errors of an HTTP exchange.
 use thiserror::Error;
 
-/// Why an exchange came to nothing.
+/// Why an exchange failed.
 #[derive(Clone, Copy, Debug, PartialEq, Eq, Error)]
 pub enum HttpFault {
     /// The reader failed.
     #[error("Read")]
     Read,
-    /// The writer refused some of the bytes.
+    /// The writer did not accept all bytes.
     #[error("Write")]
     Write,
-    /// The head of a message is longer than 8,192 bytes, those of its interim heads included.
+    /// The head of a message is longer than 8,192 bytes, including its interim heads.
     #[error("HeadTooLong")]
     HeadTooLong,
-    /// The bytes are no head of a message, or the head has more than 64 fields.
+    /// The bytes are not a head of a message, or the head has more than 64 fields.
     #[error("BadHead")]
     BadHead,
-    /// The reply has a status that is neither success nor one that says where the file is.
+    /// The status of the reply is neither a success nor one that says where the file is.
     #[error("Status {0}")]
     Status(u16),
-    /// The body is coded in a way that is not read, or its chunks do not read.
+    /// The body has a coding that is not supported, or its chunks are invalid.
     #[error("Coding")]
     Coding,
-    /// The length that the reply states is none, or is not that of its body.
+    /// The reply does not state a valid length, or its body has another one.
     #[error("Length")]
     Length,
-    /// The reply does not say in one Content-Range field which places it holds.
+    /// The reply does not state its range in exactly one Content-Range field.
     #[error("Range")]
     Range,
-    /// The message breaks off.
+    /// The message is incomplete.
     #[error("Short")]
     Short,
     /// The body is longer than a file or a piece may be.
     #[error("BodyTooLong")]
     BodyTooLong,
-    /// There was no memory.
+    /// Memory ran out.
     #[error("Memory")]
     Memory,
     /// The device of the shelf failed.

@@ -1,5 +1,5 @@
-//! The heads of HTTP/1.1 messages (RFC 9112, sections 2 to 5): how they are read, however their bytes come, and
-//! what their fields say. Whatever reads a head of either end reads it here.
+//! The heads of HTTP/1.1 messages (RFC 9112, sections 2 to 5): parsing them, however their bytes arrive, and reading
+//! their fields. Clients and servers share this crate.
 #![tactic(auto)]
 
 mod fields;

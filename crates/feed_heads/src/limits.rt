@@ -1,4 +1,4 @@
-//! The limits of heads, which `specs/Limits.antt` has as numbers.
+//! The limits of heads, with their numbers for contracts in `specs/Limits.antt`.
 
 /// The most bytes of a request's head, and of all heads of a reply together.
 pub const HEAD_LIMIT: usize = 8_192;

@@ -1,4 +1,4 @@
-//! Reply heads (RFC 9112, section 4).
+//! Reading the head of a reply (RFC 9112, section 4).
 ghost use Rattle.std.specs.Prelude.{◌≡◌, ◌≤◌, ◌<◌, length, take, drop, IfOk, IfErr, IfSome, IsErrOf};
 ghost use Rattle.std.specs.Io.KnownBytes.{Consumes, IsAtEnd};
 ghost use Rattle.httparse.specs.Spans.{IsResponseWithin};
@@ -15,9 +15,9 @@ use std::io::Read;
 #[derive(Clone, Copy)]
 pub struct ReplyRead {
     pub spans: ResponseSpans,
-    /// Where the head begins, behind the interim heads.
+    /// The place where the head begins, after the interim heads.
     pub start: usize,
-    /// How many bytes of the buffer were read: the heads, and what came with them.
+    /// The number of bytes read into the buffer: the heads, and the bytes that arrived with them.
     pub filled: usize,
 }
 
@@ -41,8 +41,7 @@ fn read_some<R: Read>(reader: &mut R, space: &mut [u8]) -> Result<usize, HttpFau
     }
 }
 
-/// Reads into the buffer until a head that is not interim is whole, however the reader cuts its
-/// bytes.
+/// Reads into the buffer until a head that is not interim is complete, however the reader splits its bytes.
 pub fn read_reply_head<R: Read>(
     reader: &mut R,
     buffer: &mut [u8],

@@ -1,4 +1,4 @@
-//! A request's head, where it was read.
+//! A request's head, in the buffer into which it was read.
 ghost use Rattle.std.specs.Prelude.{◌≡◌};
 ghost use Rattle.httparse.specs.Grammar.{RequestHead};
 ghost use Rattle.feed_heads.specs.Fields.{AreWithin, AreFieldsOf};
@@ -16,7 +16,7 @@ pub struct Request<'b> {
 }
 
 impl<'b> Request<'b> {
-    /// The fields of the head.
+    /// Returns the fields of the head.
     pub fn fields(&self) -> Fields<'_>
         requires { IsInBuffer self.now }
         ensures within { AreWithin result }
@@ -28,7 +28,7 @@ impl<'b> Request<'b> {
         }
     }
 
-    /// Its method's bytes (RFC 9110, section 9.1): they are compared in their own case.
+    /// Returns the method (RFC 9110, section 9.1). It is case-sensitive.
     pub fn method(&self) -> &[u8]
         requires { IsInBuffer self.now }
         ensures { (head : RequestHead) → HasHead self.now head → result.now ≡ head.method }
@@ -36,7 +36,7 @@ impl<'b> Request<'b> {
         self.spans.method.of(self.buffer)
     }
 
-    /// Its target's bytes (RFC 9112, section 3.2), of which none is decoded.
+    /// Returns the target (RFC 9112, section 3.2), which is not decoded.
     pub fn target(&self) -> &'b [u8]
         requires { IsInBuffer self.now }
         ensures { (head : RequestHead) → HasHead self.now head → result.now ≡ head.target }
@@ -44,7 +44,7 @@ impl<'b> Request<'b> {
         self.spans.path.of(self.buffer)
     }
 
-    /// Whether a request of HTTP/1.1 has not just one Host field (RFC 9112, section 3.2).
+    /// Returns whether a request of HTTP/1.1 does not have exactly one Host field (RFC 9112, section 3.2).
     pub fn lacks_host(&self) -> bool
         requires { IsInBuffer self.now }
         ensures { (head : RequestHead) → HasHead self.now head → result ≡ lacks_host head }
@@ -52,7 +52,7 @@ impl<'b> Request<'b> {
         self.spans.version == 1 && self.fields().sole_value(b"host").is_none()
     }
 
-    /// Whether only the head of the reply is asked for (RFC 9110, section 9.3.2).
+    /// Returns whether the method is HEAD (RFC 9110, section 9.3.2).
     pub fn is_head(&self) -> bool
         requires { IsInBuffer self.now }
         ensures { (head : RequestHead) → HasHead self.now head → result ≡ is_head head }
@@ -60,7 +60,7 @@ impl<'b> Request<'b> {
         self.spans.method.of(self.buffer) == b"HEAD".as_slice()
     }
 
-    /// Whether what the target names is asked for (RFC 9110, section 9.3.1).
+    /// Returns whether the method is GET (RFC 9110, section 9.3.1).
     pub fn is_get(&self) -> bool
         requires { IsInBuffer self.now }
         ensures { (head : RequestHead) → HasHead self.now head → result ≡ is_get head }

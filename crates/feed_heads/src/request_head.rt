@@ -1,4 +1,4 @@
-//! Request heads (RFC 9112, section 3).
+//! Reading the head of a request (RFC 9112, section 3).
 ghost use Rattle.std.specs.Prelude.{◌≤◌, length, take, IfOk, IfErr, IfSome};
 ghost use Rattle.std.specs.Io.KnownBytes.{Consumes};
 ghost use Rattle.httparse.specs.Spans.{IsRequestWithin, IsRequestOf};
@@ -13,11 +13,11 @@ use std::io::Read;
 #[derive(Clone, Copy)]
 pub struct RequestRead {
     pub spans: RequestSpans,
-    /// How many bytes of the buffer were read: the head, and what came with it.
+    /// The number of bytes read into the buffer: the head, and the bytes that arrived with it.
     pub filled: usize,
 }
 
-/// Reads into the buffer until a head is whole, however the reader cuts its bytes.
+/// Reads into the buffer until a head is complete, however the reader splits its bytes.
 pub fn read_request<R: Read>(
     reader: &mut R,
     buffer: &mut [u8],

@@ -1,9 +1,9 @@
-//! The target of a request.
+//! Finding the path in the target of a request.
 ghost use Rattle.std.specs.Prelude.{◌≡◌, ◌==◌, option_copied, position};
 ghost use Rattle.feed_heads.specs.Targets.{slash, from_slash, behind_scheme, origin_form};
 
-/// A target from its path on. It may be a whole URI, with a scheme and a host before the path (RFC 9112, section
-/// 3.2.2).
+/// Returns a target from its path on. A target may be a complete URI, with a scheme and a host before the path
+/// (RFC 9112, section 3.2.2).
 pub fn origin_form(target: &[u8]) -> &[u8]
     ensures { result.now ≡ origin_form target.now }
 {

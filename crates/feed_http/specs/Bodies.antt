@@ -1,20 +1,20 @@
--- Bodies by their length, and bodies that end with the stream (RFC 9112, section 6.3).
+-- Bodies with a length, and bodies that end with the stream (RFC 9112, section 6.3).
 use Rattle.std.specs.Prelude.{◌<◌, ℕ, List, length, Option, IfSome, ⊤}
 use Rattle.feed_heads.specs.declared.http_fault.HttpFault.{HttpFault}
 use Rattle.feed_heads.specs.declared.http_fault.HttpFault.TheVariants.{Read, Short, BodyTooLong, Memory}
 
--- so many bytes were not there, or the reader failed
+-- the reader ended before this many bytes, or failed
 abbrev pub IsFillFault : ℕ → Option (List ℕ) → HttpFault → Type 0
 IsFillFault size remaining Read = ⊤
 IsFillFault size remaining Short = IfSome remaining (λ text. length text < size)
 IsFillFault size remaining _ = ⊥
 
--- the same, or there was no memory
+-- the same, or memory ran out
 abbrev pub IsSizedFault : ℕ → Option (List ℕ) → HttpFault → Type 0
 IsSizedFault size remaining Memory = ⊤
 IsSizedFault size remaining fault = IsFillFault size remaining fault
 
--- there were fewer bytes, or more, or no memory, or the reader failed
+-- there were fewer bytes, or more, or memory ran out, or the reader failed
 abbrev pub IsEndlessFault : ℕ → ℕ → Option (List ℕ) → HttpFault → Type 0
 IsEndlessFault least most remaining Read = ⊤
 IsEndlessFault least most remaining Memory = ⊤

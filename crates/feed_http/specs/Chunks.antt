@@ -1,4 +1,5 @@
--- Chunked bodies (RFC 9112, section 7.1): a tree, its text and its bytes, and why a text has none.
+-- Chunked bodies (RFC 9112, section 7.1): their structure, text and bytes, and the faults of a text that has no such
+-- body.
 use Rattle.std.specs.Prelude.{◌≡◌, ◌≤◌, ◌<◌, ◌+◌, ◌-◌, ◌⊎◌, ℕ, zero, suc, List, ◌++◌, length, All, Option, IfSome, ⊤}
 use Rattle.std.specs.List.{flat_map}
 use Rattle.std.specs.Io.KnownBytes.{Consumes}
@@ -8,7 +9,7 @@ use Rattle.feed_http.specs.Limits.{chunk_line_limit, head_limit, field_limit}
 use Rattle.feed_heads.specs.declared.http_fault.HttpFault.{HttpFault}
 use Rattle.feed_heads.specs.declared.http_fault.HttpFault.TheVariants.{Read, Short, Coding, Length, BodyTooLong, Memory}
 
--- a line that is not too long
+-- a chunk line within the limit
 pub record IsLine (line : ChunkLine) : Type 0 where
   pub valid : IsChunkLine line
   pub short : length (print_chunk_line line) ≤ chunk_line_limit
@@ -22,13 +23,13 @@ pub record Chunk : Type 0 where
 abbrev pub print_chunk : Chunk → List ℕ
 print_chunk chunk = print_chunk_line chunk.line ++ (chunk.bytes ++ crlf_bytes)
 
--- the line says how many bytes follow, which is not 0
+-- the line states the number of bytes that follow, which is not 0
 pub record IsChunk (chunk : Chunk) : Type 0 where
   pub line : IsLine chunk.line
   pub size : length chunk.bytes ≡ chunk_size chunk.line
   pub some : 0 < length chunk.bytes
 
--- the text of chunks in a row
+-- the text of consecutive chunks
 abbrev pub print_chunks : List Chunk → List ℕ
 print_chunks chunks = flat_map print_chunk chunks
 
@@ -36,7 +37,7 @@ print_chunks chunks = flat_map print_chunk chunks
 abbrev pub bytes_of : List Chunk → List ℕ
 bytes_of chunks = flat_map (λ chunk. chunk.bytes) chunks
 
--- a trailer section, which has not too many fields and bytes
+-- a trailer section within the limits of fields and bytes
 pub record IsTrailers (fields : List Field) (last : LineEnd) : Type 0 where
   pub valid : All IsField fields
   pub few : length fields ≤ field_limit
@@ -54,40 +55,41 @@ pub record IsChunked (text : List ℕ) (chunks : List Chunk) : Type 0 where
   pub rest : List ℕ
   pub text_is : text ≡ print_chunks chunks ++ (print_chunk_line last ++ (print_section fields end ++ rest))
 
--- whatever bytes follow, the text begins with no line that is not too long
+-- whatever follows, the text does not begin with a line within the limit
 abbrev pub NeverBeginsWithLine : List ℕ → Type 0
 NeverBeginsWithLine text = (more : List ℕ) (line : ChunkLine) (rest : List ℕ) → IsLine line → text ++ more ≡ print_chunk_line line ++ rest → ⊥
 
--- the text begins with no whole line, but may come to be one
+-- the text does not begin with a complete line, but may become one
 pub record IsUnfinishedLine (text : List ℕ) : Type 0 where
   pub short : length text < chunk_line_limit
   pub not_whole : HasNoChunkLine text
   pub may_become : MayBecomeChunkLine text
 
--- whatever bytes follow, the text begins with no trailer section
+-- whatever follows, the text does not begin with a trailer section
 abbrev pub NeverBeginsWithTrailers : List ℕ → Type 0
 NeverBeginsWithTrailers text = (more : List ℕ) (fields : List Field) (end : LineEnd) (rest : List ℕ) → IsTrailers fields end → text ++ more ≡ print_section fields end ++ rest → ⊥
 
--- the text begins with no whole section, but may come to be one
+-- the text does not begin with a complete section, but may become one
 pub record IsUnfinishedTrailers (text : List ℕ) : Type 0 where
   pub short : length text < head_limit
   pub not_whole : HasNoSection text
   pub may_become : MayBecomeSection text
 
--- whatever bytes follow, the text does not begin with CR LF
+-- whatever follows, the text does not begin with CR LF
 abbrev pub NeverBeginsWithEnd : List ℕ → Type 0
 NeverBeginsWithEnd text = (more rest : List ℕ) → text ++ more ≡ crlf_bytes ++ rest → ⊥
 
--- behind a chunk's line so many bytes and CR LF are wanted: what breaks off, and what is wrong
+-- after this many bytes of a chunk, the text does not continue with CR LF
 abbrev pub IsBadChunk : ℕ → List ℕ → Type 0
 IsBadChunk size text = (bytes : List ℕ) × (rest : List ℕ) × (length bytes ≡ size) × (text ≡ bytes ++ rest) × NeverBeginsWithEnd rest
 
--- what stands behind a line of that size breaks off: the trailers behind the last line, the bytes and CR LF behind another
+-- the text after a line of this size is incomplete: the trailers after the last line, the bytes and CR LF after any
+-- other
 abbrev pub IsUnfinishedBehind : ℕ → List ℕ → Type 0
 IsUnfinishedBehind zero text = IsUnfinishedTrailers text
 IsUnfinishedBehind (suc size) text = length text < suc size + 2
 
--- what stands behind a line of that size is wrong
+-- the text after a line of this size is invalid
 abbrev pub IsBadBehind : ℕ → List ℕ → Type 0
 IsBadBehind zero text = NeverBeginsWithTrailers text
 IsBadBehind (suc size) text = IsBadChunk (suc size) text
@@ -97,17 +99,17 @@ pub record IsLineBefore (text : List ℕ) (line : ChunkLine) (rest : List ℕ) :
   pub valid : IsLine line
   pub text_is : text ≡ print_chunk_line line ++ rest
 
--- the text begins with a line, of whose size and of what follows it this holds
+-- the text begins with a line, and the statement holds for its size and for what follows it
 abbrev pub BeginsWithLine : (ℕ → List ℕ → Type 0) → List ℕ → Type 0
 BeginsWithLine Holds text = (line : ChunkLine) × (rest : List ℕ) × IsLineBefore text line rest × Holds (chunk_size line) rest
 
--- the size of a line fits: that of the last chunk where no byte is missing, and another where there is room for it
+-- the size of a line is acceptable: 0 if no byte is missing, or any other size that there is room for
 abbrev pub IsFitting : ℕ → ℕ → ℕ → Type 0
 IsFitting missing room zero = missing ≡ 0
 IsFitting missing room (suc size) = suc size ≤ room
 
--- why no chunk and no end follows, where so many bytes are missing yet and there is room for so many: the fault that is met first.
--- Nothing behind a line is looked at, and no memory asked for, unless its size fits
+-- why neither a chunk nor the end follows, with this many bytes missing and room for this many: the first fault met.
+-- If the size of a line is not acceptable, nothing after it is read and no memory is allocated
 abbrev pub IsWhyNoChunk : ℕ → ℕ → HttpFault → List ℕ → Type 0
 IsWhyNoChunk missing room Short text =
     IsUnfinishedLine text ⊎ BeginsWithLine (λ size rest. IsFitting missing room size × IsUnfinishedBehind size rest) text
@@ -118,8 +120,8 @@ IsWhyNoChunk missing room BodyTooLong text = BeginsWithLine (λ size rest. room 
 IsWhyNoChunk missing room Length text = BeginsWithLine (λ size rest. (size ≡ 0) × (0 < missing)) text
 IsWhyNoChunk missing room _ text = ⊥
 
--- the text begins with chunks of at most `most` bytes together, behind which there is neither a chunk nor the end of a body of at least
--- `least` bytes
+-- the text begins with chunks of at most `most` bytes together, followed by neither a chunk nor the end of a body of at
+-- least `least` bytes
 pub record IsNotChunked (least most : ℕ) (fault : HttpFault) (text : List ℕ) : Type 0 where
   pub chunks : List Chunk
   pub rest : List ℕ
@@ -128,12 +130,12 @@ pub record IsNotChunked (least most : ℕ) (fault : HttpFault) (text : List ℕ)
   pub text_is : text ≡ print_chunks chunks ++ rest
   pub why : IsWhyNoChunk (least - length (bytes_of chunks)) (most - length (bytes_of chunks)) fault rest
 
--- the same of a reader's bytes; a reader that fails says nothing
+-- the same for a reader's bytes; if the reader fails, they are unspecified
 abbrev pub IsChunkedFault : ℕ → ℕ → Option (List ℕ) → HttpFault → Type 0
 IsChunkedFault least most remaining Read = ⊤
 IsChunkedFault least most remaining fault = IfSome remaining (IsNotChunked least most fault)
 
--- the faults of reading a line; here and below a reader that fails says nothing
+-- the faults of reading a line; here and below, a failed reader leaves its bytes unspecified
 abbrev pub IsLineFault : Option (List ℕ) → HttpFault → Type 0
 IsLineFault remaining Read = ⊤
 IsLineFault remaining Short = IfSome remaining IsUnfinishedLine
@@ -154,7 +156,7 @@ IsEndFault remaining Short = IfSome remaining (λ text. length text < 2)
 IsEndFault remaining Coding = IfSome remaining NeverBeginsWithEnd
 IsEndFault remaining _ = ⊥
 
--- the faults of reading so many bytes and CR LF
+-- the faults of reading this many bytes and CR LF
 abbrev pub IsChunkFault : ℕ → Option (List ℕ) → HttpFault → Type 0
 IsChunkFault size remaining Read = ⊤
 IsChunkFault size remaining Memory = ⊤
@@ -162,27 +164,27 @@ IsChunkFault size remaining Short = IfSome remaining (λ text. length text < siz
 IsChunkFault size remaining Coding = IfSome remaining (IsBadChunk size)
 IsChunkFault size remaining _ = ⊥
 
--- the reader gave a line of that size
+-- the reader returned a line of this size
 pub record IsLineTaken (old new : Option (List ℕ)) (size : ℕ) : Type 0 where
   pub line : ChunkLine
   pub valid : IsLine line
   pub size_is : size ≡ chunk_size line
   pub taken : Consumes old new (print_chunk_line line)
 
--- the reader gave a trailer section
+-- the reader returned a trailer section
 pub record AreTrailersTaken (old new : Option (List ℕ)) : Type 0 where
   pub fields : List Field
   pub end : LineEnd
   pub valid : IsTrailers fields end
   pub taken : Consumes old new (print_section fields end)
 
--- the reader gave that many bytes and CR LF, which the body has more
+-- the reader returned this many bytes and CR LF, and the bytes were appended to the body
 pub record IsChunkTaken (old new : Option (List ℕ)) (size : ℕ) (before after : List ℕ) : Type 0 where
   pub bytes : List ℕ
   pub size_is : length bytes ≡ size
   pub added : after ≡ before ++ bytes
   pub taken : Consumes old new (bytes ++ crlf_bytes)
 
--- the bytes of the body that the text begins with
+-- the text begins with a chunked body with these bytes
 abbrev pub IsBodyChunked : List ℕ → List ℕ → Type 0
 IsBodyChunked body text = (chunks : List Chunk) × IsChunked text chunks × (body ≡ bytes_of chunks)

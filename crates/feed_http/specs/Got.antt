@@ -1,4 +1,4 @@
--- What a reply gives (RFC 9110, sections 15.3.7 and 15.5.17; RFC 9112, section 6.3).
+-- The result of a reply (RFC 9110, sections 15.3.7 and 15.5.17; RFC 9112, section 6.3).
 use Rattle.std.specs.Prelude.{◌≡◌, ◌<◌, ◌≤◌, ◌⊎◌, ℕ, List, length, take, Result, Ok, Err, ⊤}
 use Rattle.httparse.specs.Grammar.{ResponseHead}
 use Rattle.feed_heads.specs.declared.http_fault.HttpFault.{HttpFault}
@@ -16,7 +16,7 @@ use Rattle.feed_heads.specs.ReplyHeads.{BeginsWithHeads, IsNoReply}
 use Rattle.feed_http.specs.Judgements.{judged}
 use Rattle.feed_http.specs.Chunks.{IsBodyChunked, IsNotChunked}
 
--- the body at the front of the text, by how it ends, or what is wrong with it; one that does not say its length beforehand has from
+-- the body at the front of the text, by its framing, or what is wrong with it; a body without a stated length has from
 -- `least` to `most` bytes
 abbrev pub IsBody : Framing → ℕ → ℕ → List ℕ → Result (List ℕ) HttpFault → Type 0
 IsBody framing least most text (Err Read) = ⊤
@@ -32,19 +32,19 @@ IsBody ToEnd least most text (Err _) = ⊥
 IsBody Chunked least most text (Ok body) = (least ≤ length body) × (length body ≤ most) × IsBodyChunked body text
 IsBody Chunked least most text (Err fault) = IsNotChunked least most fault text
 
--- the body of a part, which has just so many bytes: one that is longer has the wrong length
+-- the body of a part, which has exactly this many bytes; a longer one has the wrong length
 abbrev pub IsPartBody : Framing → ℕ → List ℕ → Result (List ℕ) HttpFault → Type 0
 IsPartBody framing count text (Ok body) = IsBody framing count count text (Ok body)
 IsPartBody framing count text (Err Length) = IsBody framing count count text (Err Length) ⊎ IsBody framing count count text (Err BodyTooLong)
 IsPartBody framing count text (Err BodyTooLong) = ⊥
 IsPartBody framing count text (Err fault) = IsBody framing count count text (Err fault)
 
--- what is given of a body, or its fault
+-- the result of a body, or its fault
 abbrev pub IsGivenBy : (Result (List ℕ) HttpFault → Type 0) → (List ℕ → Got) → Result Got HttpFault → Type 0
 IsGivenBy IsRead gives (Ok given) = (body : List ℕ) × (given ≡ gives body) × IsRead (Ok body)
 IsGivenBy IsRead gives (Err fault) = IsRead (Err fault)
 
--- what the head's judgement and the bytes behind the head give
+-- the result of a validated head and the bytes after it
 abbrev pub IsGot : Judgement → List ℕ → Result Got HttpFault → Type 0
 IsGot Missing text result = result ≡ Ok got.Missing
 IsGot (Unsatisfied total) text result = result ≡ Ok (got.Unsatisfied total)
@@ -52,12 +52,12 @@ IsGot (Size length) text result = result ≡ Ok (got.Size length)
 IsGot (Part first total count framing) text result = IsGivenBy (IsPartBody framing count text) (got.Piece first total) result
 IsGot (Whole framing) text result = IsGivenBy (IsBody framing 0 file_limit text) got.Whole result
 
--- the first fault of the head, or what it says is given
+-- the first fault of the head, or the result that it announces
 abbrev pub IsJudged : Result Judgement HttpFault → List ℕ → Result Got HttpFault → Type 0
 IsJudged (Ok judgement) text result = IsGot judgement text result
 IsJudged (Err fault) text result = result ≡ Err fault
 
--- the text begins with heads, by the last of which the result is judged
+-- the text begins with heads, and the last one determines the result
 pub record IsReplyGot (method : Method) (text : List ℕ) (result : Result Got HttpFault) : Type 0 where
   pub interim : List ResponseHead
   pub head : ResponseHead
@@ -70,7 +70,7 @@ abbrev pub IsHeadFailure : List ℕ → Result Got HttpFault → Type 0
 IsHeadFailure text (Ok given) = ⊥
 IsHeadFailure text (Err fault) = IsNoReply head_limit field_limit fault text
 
--- what the reply at the front of the text gives to a request of this method
+-- the result of the reply at the front of the text, for a request with this method
 abbrev pub IsReply : Method → List ℕ → Result Got HttpFault → Type 0
 IsReply method text result = IsReplyGot method text result ⊎ IsHeadFailure text result
 

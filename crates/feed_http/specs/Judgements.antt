@@ -1,4 +1,4 @@
--- What the head of a reply says (RFC 9110, sections 8.4, 8.6, 14.4 and 15; RFC 9112, sections 6 and 7).
+-- Validating the head of a reply (RFC 9110, sections 8.4, 8.6, 14.4 and 15; RFC 9112, sections 6 and 7).
 use Rattle.std.specs.Prelude.{◌==◌, ◌+◌, ◌-◌, ◌&&◌, ◌||◌, not, ℕ, List, [], ◌∷◌, Bool, true, false, nat_lt, codes, if◌then◌else◌, Option, None, Some, Result, Ok, Err}
 use Rattle.std.specs.Result.{result_ok}
 use Rattle.std.specs.Option.{option_and_then, option_map_or}
@@ -22,7 +22,7 @@ use Rattle.feed_http.specs.declared.fetching.judge.Framing.TheVariants.{Chunked,
 use Rattle.feed_http.specs.declared.fetching.judge.Judgement.{Judgement}
 use Rattle.feed_http.specs.declared.fetching.judge.Judgement.TheVariants.{Missing, Unsatisfied, Size, Part, Whole}
 
--- the file is asked for, and not its head alone
+-- the request is for the file, not for its head alone
 abbrev pub is_get : Method → Bool
 is_get Get = true
 is_get Head = false
@@ -31,11 +31,11 @@ is_get Head = false
 abbrev pub values : List ℕ → ResponseHead → List (List ℕ)
 values name head = values_named name head.fields
 
--- a status by which the reply gives the file or a part of it
+-- the status announces the file or a part of it
 abbrev pub gives_file : Method → ResponseHead → Bool
 gives_file method head = (status_code head == 200) || ((status_code head == 206) && is_get method)
 
--- each content coding is `identity`, in any case
+-- each content coding is `identity`, ignoring case
 abbrev pub is_identity : ResponseHead → Bool
 is_identity head = list_all (λ value. str_eq_ignore_ascii_case value (codes "identity")) (values (codes "content-encoding") head)
 
@@ -45,25 +45,25 @@ is_chunked head =
     (head.minor == 1)
     && option_map_or (λ value. str_eq_ignore_ascii_case value (codes "chunked")) (only (values (codes "transfer-encoding") head)) false
 
--- the body is coded for the transfer
+-- the body has a transfer coding
 abbrev pub is_transfer_coded : ResponseHead → Bool
 is_transfer_coded head = has_any (values (codes "transfer-encoding") head)
 
--- a coding that is not read
+-- the body has a coding that is not supported
 abbrev pub is_coded_otherwise : Method → ResponseHead → Bool
 is_coded_otherwise method head = not (is_identity head) || (is_get method && is_transfer_coded head && not (is_chunked head))
 
--- the value writes this length
+-- the value denotes this length
 abbrev pub writes : ℕ → List ℕ → Bool
 writes length value = option_map_or (λ other. other == length) (number_in_64_bits value) false
 
--- the length that the first value writes, if they all write it
+-- the length of the first value, if all values denote it
 abbrev pub agreed : List (List ℕ) → Option ℕ
 agreed all =
     option_and_then (λ length. if list_all (writes length) all then Some length else None)
     (option_and_then number_in_64_bits (first_of all))
 
--- the length that Content-Length fields state, where there is one
+-- the length that Content-Length fields state, if there are any
 abbrev pub stated_of : List (List ℕ) → Result (Option ℕ) HttpFault
 stated_of [] = Ok None
 stated_of (value ∷ more) = option_map_or (λ length. Ok (Some length)) (agreed (value ∷ more)) (Err fault.Length)
@@ -72,58 +72,58 @@ stated_of (value ∷ more) = option_map_or (λ length. Ok (Some length)) (agreed
 abbrev pub content_length : List ℕ
 content_length = codes "content-length"
 
--- the same of a head
+-- the same for a head
 abbrev pub stated_length : ResponseHead → Result (Option ℕ) HttpFault
 stated_length head = stated_of (values content_length head)
 
--- a body ends by its length, or with the stream
+-- the framing of a body by its length, or up to the end of the stream
 abbrev pub framed_by_length : Result (Option ℕ) HttpFault → Result Framing HttpFault
 framed_by_length (Ok (Some length)) = Ok (Sized length)
 framed_by_length (Ok None) = Ok ToEnd
 framed_by_length (Err e) = Err e
 
--- how the body of a GET ends: by its chunks, or else as its length says
+-- the framing of the body of a GET: by chunks, or otherwise by its length
 abbrev pub framing_of : ResponseHead → Result Framing HttpFault
 framing_of head = if is_transfer_coded head then Ok Chunked else framed_by_length (stated_length head)
 
--- what the Content-Range field says, if there is just one and it reads
+-- the value of the Content-Range field, if it is the only one and valid
 abbrev pub range_of : ResponseHead → Option ContentRange
 range_of head = option_and_then (λ value. result_ok (content_range value)) (only (values (codes "content-range") head))
 
--- a part has just the length of its places
+-- a part must have the length of its range
 abbrev pub part_framed : ℕ → Option ℕ → ℕ → Result Framing HttpFault → Result Judgement HttpFault
 part_framed first total count (Ok Chunked) = Ok (Part first total count Chunked)
 part_framed first total count (Ok ToEnd) = Ok (Part first total count ToEnd)
 part_framed first total count (Ok (Sized length)) = if length == count then Ok (Part first total count (Sized length)) else Err fault.Length
 part_framed first total count (Err e) = Err e
 
--- a part names its places, of which a piece may not have too many
+-- a part must state its range, which is at most as long as a piece may be
 abbrev pub part_judged : Option ContentRange → Result Framing HttpFault → Result Judgement HttpFault
 part_judged (Some (range.Part first last total)) framing =
     if nat_lt piece_limit (last - first + 1) then Err fault.BodyTooLong else part_framed first total (last - first + 1) framing
 part_judged (Some (range.Unsatisfied total)) framing = Err fault.Range
 part_judged None framing = Err fault.Range
 
--- a whole file, which may not be too long
+-- a complete file, which must be within the limit
 abbrev pub whole_judged : Result Framing HttpFault → Result Judgement HttpFault
 whole_judged (Ok Chunked) = Ok (Whole Chunked)
 whole_judged (Ok ToEnd) = Ok (Whole ToEnd)
 whole_judged (Ok (Sized length)) = if nat_lt file_limit length then Err fault.BodyTooLong else Ok (Whole (Sized length))
 whole_judged (Err e) = Err e
 
--- the length of the file, which the reply to a HEAD has to state
+-- the length of the file, which the reply to a HEAD must state
 abbrev pub size_judged : Result (Option ℕ) HttpFault → Result Judgement HttpFault
 size_judged (Ok (Some length)) = Ok (Size length)
 size_judged (Ok None) = Err fault.Length
 size_judged (Err e) = Err e
 
--- the length of a file that has none of the places, if it is told
+-- the length of a file that has no byte of the range, if stated
 abbrev pub unsatisfied_judged : Option ContentRange → Result Judgement HttpFault
 unsatisfied_judged (Some (range.Unsatisfied total)) = Ok (Unsatisfied (Some total))
 unsatisfied_judged (Some (range.Part first last total)) = Err fault.Range
 unsatisfied_judged None = Err fault.Range
 
--- the same of a head, which may tell none
+-- the same for a head, which need not state one
 abbrev pub unsatisfied_part : ResponseHead → Result Judgement HttpFault
 unsatisfied_part head =
     if has_any (values (codes "content-range") head) then unsatisfied_judged (range_of head) else Ok (Unsatisfied None)
@@ -136,7 +136,7 @@ file_judged method head =
     else (if status_code head == 206 then part_judged (range_of head) (framing_of head)
     else whole_judged (framing_of head)))
 
--- what the head says: an answer, how a body is to be read, or the first fault
+-- the result of validating the head: an answer, the framing of a body, or the first fault
 abbrev pub judged : Method → ResponseHead → Result Judgement HttpFault
 judged method head =
     if status_code head == 404 then Ok Missing
@@ -144,10 +144,10 @@ judged method head =
     else (if not (gives_file method head) then Err (fault.Status (status_code head))
     else file_judged method head))
 
--- the parts of a reply that was read lie in its buffer
+-- the parts of a parsed reply are inside its buffer
 abbrev pub IsInBuffer : Reply → Type 0
 IsInBuffer reply = IsResponseWithin reply.buffer.now reply.headers.now reply.spans
 
--- the reply that was read has this head
+-- the parsed reply has this head
 abbrev pub HasHead : Reply → ResponseHead → Type 0
 HasHead reply head = IsResponseAt reply.buffer.now reply.headers.now reply.spans head

@@ -1,4 +1,4 @@
--- The laws over both ends: what is asked for is served, and what is served is read back.
+-- Laws over both ends: the server serves what a node requests, and the node reads back what the server sends.
 use Rattle.std.specs.Prelude.{◌≡◌, ◌≤◌, ◌<◌, ◌+◌, ◌-◌, ◌^◌, ℕ, List, length, min, slice_range, IsTrue, Some, Result, Ok, Err, ⊤}
 use Rattle.httparse.specs.Grammar.{RequestHead}
 use Rattle.feed_names.specs.ReleaseName.{Name, IsName, text_of}
@@ -17,27 +17,27 @@ use Rattle.feed_http.specs.declared.fetching.got.Got.TheVariants.{Piece, Size}
 use Rattle.feed_http.specs.Served.{reply_of, head_alone, reply_text, served}
 use Rattle.feed_http.specs.Got.{IsReply}
 
--- this is given, unless the reader failed or there was no memory
+-- this is the result, unless the reader failed or memory ran out
 abbrev pub IsGiven : Got → Result Got HttpFault → Type 0
 IsGiven wanted (Ok given) = given ≡ wanted
 IsGiven wanted (Err Read) = ⊤
 IsGiven wanted (Err Memory) = ⊤
 IsGiven wanted (Err _) = ⊥
 
--- what a GET gives of the reply with a part of a file is the piece with its place, the file's length and its bytes
+-- a GET whose reply is a part of a file reads the piece with its first place, the file's length and the bytes
 abbrev pub PartReadsBack : Type 0
 PartReadsBack = (first last size : ℕ) (body : List ℕ) (result : Result Got HttpFault)
     → first ≤ last → last < size → size < 2 ^ 64 → last - first + 1 ≤ piece_limit → length body ≡ last - first + 1
     → IsReply Get (reply_text (reply_of (Part first last size) body)) result
     → IsGiven (Piece first (Some size) body) result
 
--- what a HEAD gives of the reply with the fields of a whole file is its length
+-- a HEAD whose reply has the fields of a complete file reads its length
 abbrev pub SizeReadsBack : Type 0
 SizeReadsBack = (size : ℕ) (result : Result Got HttpFault) → size < 2 ^ 64
     → IsReply Head (reply_text (head_alone (Whole size))) result → IsGiven (Size size) result
 
--- what a GET asks of a server with this file, where it has the first place, is its slice: the text that is written begins with a head
--- that names the release, and the reply that is served to it is read as the piece
+-- a GET from a server with this file reads a slice of it, if the file has the first place: the request text begins with
+-- a head that names the release, and the reply served to it is read as the piece
 abbrev pub FetchGivesSlice : Type 0
 FetchGivesSlice = (files : Files) (host : List ℕ) (name : Name) (file : List ℕ) (first last : ℕ)
     → IsTrue (is_host host) → IsName (text_of name) name → files name ≡ Some file
@@ -46,7 +46,7 @@ FetchGivesSlice = (files : Files) (host : List ℕ) (name : Name) (file : List �
     × ((result : Result Got HttpFault) → IsReply Get (reply_text (served files head (Some name))) result
     → IsGiven (Piece first (Some (length file)) (slice_range file first (min last (length file - 1) + 1))) result)
 
--- and what a HEAD asks of it is its length
+-- a HEAD to that server reads the file's length
 abbrev pub HeadGivesSize : Type 0
 HeadGivesSize = (files : Files) (host : List ℕ) (name : Name) (file : List ℕ)
     → IsTrue (is_host host) → IsName (text_of name) name → files name ≡ Some file → length file < 2 ^ 64

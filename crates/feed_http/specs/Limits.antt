@@ -1,4 +1,5 @@
--- The limits of messages. No standard fixes them: RFC 9110 (section 5.4) and RFC 9112 (section 7.1) leave them to each end.
+-- The limits of messages. No standard sets them: RFC 9110 (section 5.4) and RFC 9112 (section 7.1) leave them to each
+-- end.
 use Rattle.std.specs.Prelude.{ℕ}
 pub use Rattle.feed_heads.specs.Limits.{head_limit, field_limit}
 

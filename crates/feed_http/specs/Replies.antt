@@ -14,7 +14,7 @@ status_of NotFound = 404
 status_of (Unsatisfied length) = 416
 status_of NotImplemented = 501
 
--- the pieces of a line in a row, and then the rest
+-- the concatenated pieces of a line, and then the rest
 abbrev pub line_then : List (List ℕ) → List ℕ → List ℕ
 line_then [] rest = rest
 line_then (piece ∷ pieces) rest = piece ++ line_then pieces rest
@@ -28,14 +28,14 @@ head_of (line ∷ lines) = line_then line (crlf_bytes ++ head_of lines)
 abbrev pub line : List ℕ → List (List ℕ)
 line text = text ∷ []
 
--- the lines of a refusal with that status
+-- the lines of an error reply with this status
 abbrev pub refusal_lines : List ℕ → List (List (List ℕ))
 refusal_lines status =
     (codes "HTTP/1.1 " ∷ status ∷ [])
     ∷ line (codes "Content-Length: 0")
     ∷ line (codes "Connection: close") ∷ []
 
--- the text of such a refusal
+-- the text of such a reply
 abbrev pub refusal_text : List ℕ → List ℕ
 refusal_text status = head_of (refusal_lines status)
 
@@ -68,7 +68,7 @@ head_lines NotImplemented = refusal_lines (codes "501 Not Implemented")
 abbrev pub head_text : ReplyHead → List ℕ
 head_text head = head_of (head_lines head)
 
--- the places of a part are in order, and inside the file
+-- the range of a part is in order, and inside the file
 abbrev pub IsPartInside : ReplyHead → Type 0
 IsPartInside (Part first last length) = (first ≤ last) × (last < length)
 IsPartInside _ = ⊤

@@ -11,7 +11,7 @@ use Rattle.feed_http.specs.Replies.{line, line_then, head_of}
 abbrev pub is_host_byte : ℕ → Bool
 is_host_byte b = is_ascii_alphanumeric b || (b == 46) || (b == 45) || (b == 58) || (b == 91) || (b == 93)
 
--- such bytes, at least one and not too many
+-- one or more such bytes, within the limit
 abbrev pub is_host : List ℕ → Bool
 is_host host = nat_lt 0 (length host) && nat_le (length host) host_limit && list_all is_host_byte host
 
@@ -25,7 +25,7 @@ start_then method host name rest =
 abbrev pub start_text : List ℕ → List ℕ → List ℕ → List ℕ
 start_text method host name = start_then method host name []
 
--- the field lines with which each request ends
+-- the last field lines of each request
 abbrev pub last_lines : List (List (List ℕ))
 last_lines = line (codes "Accept-Encoding: identity") ∷ line (codes "Connection: close") ∷ []
 

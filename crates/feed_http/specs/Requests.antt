@@ -1,4 +1,4 @@
--- What a request asks of the server (RFC 9112, section 3; RFC 9110, sections 9, 13.1.5 and 14.2).
+-- Interpreting a request on the server (RFC 9112, section 3; RFC 9110, sections 9, 13.1.5 and 14.2).
 use Rattle.std.specs.Prelude.{◌≡◌, ◌==◌, ◌||◌, not, ℕ, List, [], ◌∷◌, Bool, drop, codes, if◌then◌else◌, Option, None, position, MatchOption}
 use Rattle.std.specs.Option.{option_map_or}
 use Rattle.httparse.specs.Grammar.{RequestHead}
@@ -16,7 +16,7 @@ pub record NamesRelease (target : List ℕ) (name : Name) : Type 0 where
   pub path : origin_form target ≡ slash ∷ text
   pub is_name : IsName text name
 
--- the release that the target names, if it names one
+-- the release that the target names, if any
 abbrev pub IsNamedBy : List ℕ → Option Name → Type 0
 IsNamedBy target named = MatchOption named ((name : Name) → ¬ (NamesRelease target name)) (NamesRelease target)
 
@@ -25,12 +25,12 @@ abbrev pub is_unsupported : RequestHead → Bool
 is_unsupported head =
     not (is_get head || is_head head) || has_any (values_named (codes "transfer-encoding") head.fields)
 
--- the Range value that counts: the only one, and under no condition
+-- the Range value that counts: the only one, in a request without If-Range
 abbrev pub range_value : RequestHead → Option (List ℕ)
 range_value head =
     if has_any (values_named (codes "if-range") head.fields) then None
     else only (values_named (codes "range") head.fields)
 
--- the part of a file of that length that is asked for
+-- the part of a file of this length that the request asks for
 abbrev pub ask_for : RequestHead → ℕ → RangeAsk
 ask_for head length = option_map_or (λ value. ask_of value length) (range_value head) Whole

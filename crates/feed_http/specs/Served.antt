@@ -1,4 +1,4 @@
--- What the server replies to a request, and what is written of it.
+-- The server's reply to a request, and how much of it is written.
 use Rattle.std.specs.Prelude.{◌≡◌, ℕ, ◌+◌, ◌⊎◌, List, [], ◌++◌, length, take, slice_range, if◌then◌else◌, Option, None, Some, Result, Ok, Err, ⊤}
 use Rattle.std.specs.Option.{option_and_then, option_map_or}
 use Rattle.std.specs.Io.KnownBytes.{Keeps, Appends}
@@ -39,7 +39,7 @@ part_reply ask.Whole file = reply_of (Whole (length file)) file
 part_reply (ask.Part first last) file = reply_of (Part first last (length file)) (slice_range file first (last + 1))
 part_reply ask.Unsatisfied file = head_alone (Unsatisfied (length file))
 
--- the reply to a request for this file, if it is on the shelf
+-- the reply to a request for this file, or for one that the shelf does not have
 abbrev pub file_reply : RequestHead → Option (List ℕ) → Reply
 file_reply head None = head_alone NotFound
 file_reply head (Some file) =
@@ -53,19 +53,19 @@ served files head named =
     else (if is_unsupported head then head_alone NotImplemented
     else file_reply head (option_and_then files named))
 
--- the reply that is the same whatever files there are: the request is refused, or names no release
+-- the reply that does not depend on the files: the request is rejected, or does not name a release
 abbrev pub fileless : RequestHead → Option Name → Option Reply
 fileless head named =
     if lacks_host head then Some (head_alone BadRequest)
     else (if is_unsupported head then Some (head_alone NotImplemented)
     else option_map_or (λ name. None) named (Some (head_alone NotFound)))
 
--- the shelf failed: nothing was written, or the head and so many bytes of the body
+-- the shelf failed: nothing was written, or the head and this many bytes of the body
 abbrev pub IsCutShort : Reply → Option (List ℕ) → Option (List ℕ) → Type 0
 IsCutShort reply old new =
     Keeps old new ⊎ ((sent : ℕ) × Appends old new (head_text reply.head ++ take sent reply.body))
 
--- what was written where a request was answered with this fault
+-- what was written if the exchange ended with this fault
 abbrev pub IsFaultOf : Reply → HttpFault → Option (List ℕ) → Option (List ℕ) → Type 0
 IsFaultOf reply Read old new = Keeps old new
 IsFaultOf reply Write old new = ⊤
@@ -73,12 +73,13 @@ IsFaultOf reply Memory old new = IsCutShort reply old new
 IsFaultOf reply Shelf old new = IsCutShort reply old new
 IsFaultOf reply _ old new = ⊥
 
--- the reply was written and its status given, or the exchange failed
+-- the reply was written and its status returned, or the exchange failed
 abbrev pub IsOutcomeOf : Reply → Result ℕ HttpFault → Option (List ℕ) → Option (List ℕ) → Type 0
 IsOutcomeOf reply (Ok status) old new = (status ≡ status_of reply.head) × Appends old new (reply_text reply)
 IsOutcomeOf reply (Err fault) old new = IsFaultOf reply fault old new
 
--- the same where the text begins with no head within the limits: it is refused, and never can, or breaks off
+-- the outcome for a text that does not begin with a head within the limits: it is rejected if it never can, or it is
+-- incomplete
 abbrev pub IsRefusalOf : ℕ → ℕ → List ℕ → Result ℕ HttpFault → Option (List ℕ) → Option (List ℕ) → Type 0
 IsRefusalOf bytes fields text (Ok status) old new =
     NeverBeginsWithHead bytes fields text × (status ≡ 400) × Appends old new (reply_text (head_alone BadRequest))
@@ -87,7 +88,7 @@ IsRefusalOf bytes fields text (Err Read) old new = Keeps old new
 IsRefusalOf bytes fields text (Err Write) old new = ⊤
 IsRefusalOf bytes fields text (Err _) old new = ⊥
 
--- places of a file were sent, or as many of them as the shelf gave
+-- the range of a file was sent, or as much of it as the shelf returned
 abbrev pub IsSending : List ℕ → Result (Unit {0}) HttpFault → Option (List ℕ) → Option (List ℕ) → Type 0
 IsSending body (Ok done) old new = Appends old new body
 IsSending body (Err Write) old new = ⊤

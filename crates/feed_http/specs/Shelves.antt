@@ -1,4 +1,4 @@
--- What a shelf holds, and the count of its failures.
+-- The files of a shelf, and the count of its failures.
 use Rattle.std.specs.Prelude.{◌≡◌, ◌<◌, ◌⊎◌, ◌^◌, ◌-◌, ℕ, List, Option}
 use Rattle.feed_names.specs.ReleaseName.{Name}
 use Rattle.feed_heads.specs.declared.http_fault.HttpFault.{HttpFault}
@@ -6,15 +6,15 @@ use Rattle.feed_heads.specs.declared.http_fault.HttpFault.TheVariants as http
 use Rattle.feed_http.specs.declared.serving.shelf.ShelfFault.{ShelfFault}
 use Rattle.feed_http.specs.declared.serving.shelf.ShelfFault.TheVariants.{Device, Memory}
 
--- the file of each release, if it stands on the shelf
+-- the file of each release, if the shelf has it
 abbrev pub Files : Type 0
 Files = Name → Option (List ℕ)
 
--- the count of failures rose, or stands at its greatest value
+-- the count of failures rose, or has its greatest value
 abbrev pub CountsFailure : ℕ → ℕ → Type 0
 CountsFailure old new = (old < new) ⊎ (new ≡ 2 ^ 64 - 1)
 
--- what a fault of the shelf is in an exchange
+-- the fault of an exchange whose shelf failed
 abbrev pub http_fault_of : ShelfFault → HttpFault
 http_fault_of Device = http.Shelf
 http_fault_of Memory = http.Memory

@@ -1,4 +1,4 @@
-//! The node end of an exchange.
+//! The client end of an exchange, which a node uses to fetch files.
 
 pub(crate) mod body;
 pub(crate) mod chunks;

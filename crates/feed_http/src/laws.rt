@@ -1,25 +1,25 @@
-//! Laws over both ends, each the contract of a function that does nothing.
+//! Laws over both ends, each stated as the contract of a function with an empty body.
 ghost use Rattle.feed_http.specs.Laws.{FetchGivesSlice, HeadGivesSize, PartReadsBack, SizeReadsBack};
 
-/// What `read_reply` gives to a GET of the reply that the server writes with a part of a file is
-/// the piece with its first place, the file's length and its bytes.
+/// If the reply to a GET is a part of a file, as the server writes it, `read_reply` returns the piece with its first
+/// place, the file's length and the bytes.
 pub fn part_reads_back()
     ensures { PartReadsBack }
 {}
 
-/// What `write_request` asks for, `serve_one` serves and `read_reply` reads back is the slice of
-/// the file, for a host that `is_host` accepts, a release whose file is on the shelf, and a first
-/// place that the file has.
+/// If `write_request` writes a request, `serve_one` serves it and `read_reply` reads the reply, the result is the slice
+/// of the file, for a host that `is_host` accepts, a release whose file is on the shelf, and a first place that the
+/// file has.
 pub fn fetch_gives_slice()
     ensures { FetchGivesSlice }
 {}
 
-/// What `read_reply` gives to a HEAD of the reply that the server writes to one is the length.
+/// If the reply to a HEAD is as the server writes it, `read_reply` returns the length.
 pub fn size_reads_back()
     ensures { SizeReadsBack }
 {}
 
-/// What `write_head_request` asks for, `serve_one` serves and `read_reply` reads back is the
+/// If `write_head_request` writes a request, `serve_one` serves it and `read_reply` reads the reply, the result is the
 /// length of the file, for a host that `is_host` accepts and a release whose file is on the shelf.
 pub fn head_gives_size()
     ensures { HeadGivesSize }

@@ -1,4 +1,4 @@
-//! The limits of messages, which `specs/Limits.antt` has as numbers; those of their heads are `feed_heads`'.
+//! The limits of messages, with their numbers for contracts in `specs/Limits.antt`. `feed_heads` has those of heads.
 
 pub(crate) const CHUNK_LINE_LIMIT: usize = 1_024;
 

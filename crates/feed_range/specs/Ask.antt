@@ -18,25 +18,25 @@ places_between first last size =
 abbrev pub places_from : ℕ → ℕ → RangeAsk
 places_from first size = if nat_le size first then Unsatisfied else Part first (size - 1)
 
--- -suffix: as many places at the end, or all where the file has no more
+-- -suffix: this many places at the end, or the whole file if it is shorter
 abbrev pub last_places : ℕ → ℕ → RangeAsk
 last_places suffix size =
     if suffix == 0 then Unsatisfied
     else (if size == 0 then Whole else Part (size - suffix) (size - 1))
 
--- the form is known by which of the texts round the dash write a number; the other text is empty
+-- the form depends on which of the texts around the dash is a number; the other text is empty
 abbrev pub places_by_form : List ℕ → List ℕ → Option ℕ → Option ℕ → ℕ → RangeAsk
 places_by_form before after (Some first) (Some last) size = places_between first last size
 places_by_form before after (Some first) None size = if length after == 0 then places_from first size else Whole
 places_by_form before after None (Some suffix) size = if length before == 0 then last_places suffix size else Whole
 places_by_form before after None None size = Whole
 
--- what the texts round the dash ask for, where a number past 64 bits counts as the greatest that fits
+-- what the texts around the dash ask for; a number past 64 bits counts as the greatest that fits
 abbrev pub places_of : List ℕ → List ℕ → ℕ → RangeAsk
 places_of before after size =
     places_by_form before after (option_map capped_number (number_of before)) (option_map capped_number (number_of after)) size
 
--- what the value asks for of a file of that size
+-- what the value asks for, from a file of this size
 abbrev pub ask_of : List ℕ → ℕ → RangeAsk
 ask_of value size =
     option_map_or (λ parts. places_of parts.0 parts.1 size)
@@ -46,13 +46,13 @@ ask_of value size =
 abbrev pub ask_text : ℕ → ℕ → List ℕ
 ask_text first last = codes "bytes=" ++ decimal first ++ codes "-" ++ decimal last
 
--- the places that are asked for are in a file of that size
+-- the requested range is inside a file of this size
 abbrev pub IsInside : ℕ → RangeAsk → Type 0
 IsInside size Whole = ⊤
 IsInside size (Part first last) = (first ≤ last) × (last < size)
 IsInside size Unsatisfied = ⊤
 
--- the value is `bytes=`, in capital or small letters, and these texts round a dash
+-- the value is `bytes=`, ignoring case, and these texts around a dash
 pub record IsRangeValue (value before after : List ℕ) : Type 0 where
   pub unit : List ℕ
   pub is_unit : str_eq_ignore_ascii_case unit (codes "bytes=") ≡ true
@@ -71,13 +71,13 @@ AsksFrom value first = (before : List ℕ) × IsRangeValue value before [] × (n
 abbrev pub AsksLast : List ℕ → ℕ → Type 0
 AsksLast value suffix = (after : List ℕ) × IsRangeValue value [] after × (number_of after ≡ Some suffix)
 
--- the value is none of these
+-- the value has none of the three forms
 pub record IsOtherValue (value : List ℕ) : Type 0 where
   pub not_between : (first last : ℕ) → ¬ (AsksBetween value first last)
   pub not_from : (first : ℕ) → ¬ (AsksFrom value first)
   pub not_last : (suffix : ℕ) → ¬ (AsksLast value suffix)
 
--- what a value asks for goes by its form, and any other value asks for the whole file
+-- what a value asks for depends on its form; a value of any other form asks for the whole file
 pub record AsksByForm (value : List ℕ) (size : ℕ) : Type 0 where
   pub between : (first last : ℕ) → AsksBetween value first last → ask_of value size ≡ places_between (capped_number first) (capped_number last) size
   pub from : (first : ℕ) → AsksFrom value first → ask_of value size ≡ places_from (capped_number first) size

@@ -1,4 +1,4 @@
--- What a Content-Range value says (RFC 9110, section 14.4).
+-- Parsing and writing Content-Range values (RFC 9110, section 14.4).
 use Rattle.std.specs.Prelude.{ℕ, ◌≤◌, ◌<◌, ◌^◌, List, ◌++◌, Bool, true, false, ◌&&◌, ◌||◌, nat_lt}
 use Rattle.std.specs.Prelude.{nat_le, codes, if◌then◌else◌, Option, Some, None, Result, Ok, Err, IfSome, ⊤}
 use Rattle.std.specs.Option.{option_and_then, option_map, option_map_or}
@@ -14,11 +14,11 @@ use Rattle.feed_range.specs.declared.content.RangeFault.TheVariants.{BadSyntax, 
 abbrev pub is_star : List ℕ → Bool
 is_star text = bytes_eq text (codes "*")
 
--- the length of the whole, if the text is a number or `*`, which stands for a length that is not told
+-- the length of the whole, if the text is a number or `*`, which means that the length is unknown
 abbrev pub total_of : List ℕ → Option (Option ℕ)
 total_of text = if is_star text then Some None else option_map Some (number_of text)
 
--- the length of the whole fits in 64 bits, if it is told
+-- the length of the whole fits in 64 bits, if it is known
 abbrev pub total_fits : Option ℕ → Bool
 total_fits total = option_map_or fits total true
 
@@ -26,38 +26,38 @@ total_fits total = option_map_or fits total true
 abbrev pub total_in_64_bits : Option ℕ → Option (Option ℕ)
 total_in_64_bits total = if total_fits total then Some total else None
 
--- the part from first to last, unless last is below first or the total not above last
+-- the part from first to last, unless last is below first or the total is not above last
 abbrev pub part_in_order : ℕ → ℕ → Option ℕ → Result ContentRange RangeFault
 part_in_order first last total =
     if nat_lt last first || option_map_or (λ length. nat_le length last) total false
     then Err Invalid
     else Ok (Part first last total)
 
--- first-last/total, by the numbers that the three texts write
+-- first-last/total, from the numbers of the three texts
 abbrev pub part_of : Option ℕ → Option ℕ → Option (Option ℕ) → Result ContentRange RangeFault
 part_of (Some first) (Some last) (Some total) =
     if fits first && fits last && total_fits total then part_in_order first last total else Err TooBig
 part_of first last total = Err BadSyntax
 
--- */total, by the number that the text writes
+-- */total, from the number of the text
 abbrev pub unsatisfied_of : Option ℕ → Result ContentRange RangeFault
 unsatisfied_of (Some total) = if fits total then Ok (Unsatisfied total) else Err TooBig
 unsatisfied_of None = Err BadSyntax
 
--- what the texts before the slash and after it say
+-- the range given by the texts before and after the slash
 abbrev pub range_of : List ℕ → List ℕ → Result ContentRange RangeFault
 range_of places total =
     if is_star places then unsatisfied_of (number_of total)
     else option_map_or (λ parts. part_of (number_of parts.0) (number_of parts.1) (total_of total))
     (split_once dash places) (Err BadSyntax)
 
--- what the value says
+-- the range that the value denotes
 abbrev pub content_range : List ℕ → Result ContentRange RangeFault
 content_range text =
     option_map_or (λ parts. range_of parts.0 parts.1)
     (option_and_then (split_once slash) (strip_prefix (codes "bytes ") text)) (Err BadSyntax)
 
--- the value that says it
+-- the value that denotes the range
 abbrev pub content_range_text : ContentRange → List ℕ
 content_range_text (Part first last (Some total)) =
     codes "bytes " ++ decimal first ++ codes "-" ++ decimal last ++ codes "/" ++ decimal total
@@ -70,7 +70,7 @@ abbrev pub range_in_order : ContentRange → Result ContentRange RangeFault
 range_in_order (Part first last total) = part_in_order first last total
 range_in_order (Unsatisfied total) = Ok (Unsatisfied total)
 
--- first is not above last, and last below the total, if that is told
+-- first is not above last, and last is below the total, if that is known
 abbrev pub IsInOrder : ContentRange → Type 0
 IsInOrder (Part first last total) = (first ≤ last) × IfSome total (λ length. last < length)
 IsInOrder (Unsatisfied total) = ⊤

@@ -1,4 +1,4 @@
-//! What a request asks for: the Range field (RFC 9110, sections 14.1.2 and 14.2).
+//! The Range field of a request (RFC 9110, sections 14.1.2 and 14.2).
 ghost use Rattle.std.specs.Prelude.{◌≡◌, ◌≤◌, ◌<◌, ◌-◌, ◌^◌, ℕ, List, min, OnOk};
 ghost use Rattle.std.specs.Io.KnownBytes.{Appends};
 ghost use Rattle.feed_range.specs.declared.ask.RangeAsk.TheVariants.{Part};
@@ -14,19 +14,18 @@ use std::io::Write;
 pub enum RangeAsk {
     /// The whole file, as without a Range field.
     Whole,
-    /// The places from the first to the last, both included. Places count from 0.
+    /// The range from the first to the last place, both included. Places count from 0.
     Part(u64, u64),
-    /// Places of which the file has none: status 416.
+    /// A range without a byte of the file: status 416.
     Unsatisfied,
 }
 
 impl RangeAsk {
-    /// Reads a Range value for a file of that length, in bytes.
+    /// Parses a Range value for a file of this length, in bytes.
     ///
-    /// A value is `bytes=` in any case and one of `first-last`, `first-` and `-suffix`, in
-    /// digits. What is none of these, lists of ranges and other units too, asks for the whole
-    /// file, since a server may ignore a Range field. A number past 64 bits counts as
-    /// `u64::MAX`.
+    /// A value is `bytes=` in any case and one of `first-last`, `first-` and `-suffix`, in digits. Any other value,
+    /// including lists of ranges and other units, asks for the whole file, because a server may ignore a Range field. A
+    /// number past 64 bits counts as `u64::MAX`.
     pub fn read(value: &[u8], length: u64) -> RangeAsk
         ensures value { result ≡ ask_of value.now length }
         ensures inside { IsInside length result }
@@ -92,8 +91,9 @@ fn last_places(suffix: u64, length: u64) -> RangeAsk
 
 /// Writes the Range value `bytes=first-last`.
 ///
-/// It answers `Write` if the writer does not take all of it. Nothing is then promised of how
-/// much of it went out.
+/// # Errors
+///
+/// `Write` if the writer does not accept all of it. It is unspecified how much was then written.
 pub fn write_ask<W: Write>(writer: &mut W, first: u64, last: u64) -> Result<(), WriteFault>
     ensures { OnOk result
         (Appends (W.contents writer.old) (W.contents writer.new) (ask_text first last)) }
@@ -101,15 +101,14 @@ pub fn write_ask<W: Write>(writer: &mut W, first: u64, last: u64) -> Result<(), 
     write!(writer, "bytes={first}-{last}").map_err(|_| WriteFault::Write)
 }
 
-/// A law, with nothing to run: what `write_ask` writes asks for these places, as far as the file
-/// has them.
+/// A law without code: a value that `write_ask` writes asks for that range, as far as the file has it.
 pub fn ask_reads_back()
     ensures { (first last size : ℕ) → first ≤ last → last < 2 ^ 64 → first < size
         → ask_of (ask_text first last) size ≡ Part first (min last (size - 1)) }
 {}
 
-/// A law, with nothing to run: a value of one of the three forms asks for what its numbers say,
-/// and any other value for the whole file.
+/// A law without code: a value of one of the three forms asks for the range of its numbers, and any other value for
+/// the whole file.
 pub fn asks_by_form()
     ensures { (value : List ℕ) (size : ℕ) → AsksByForm value size }
 {}

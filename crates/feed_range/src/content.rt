@@ -1,4 +1,4 @@
-//! What a reply says that it holds: the Content-Range field (RFC 9110, section 14.4).
+//! The Content-Range field of a reply (RFC 9110, section 14.4).
 ghost use Rattle.std.specs.Prelude.{◌≡◌, IsTrue, IfOk, OnOk, is_some};
 ghost use Rattle.std.specs.Io.KnownBytes.{Appends};
 ghost use Rattle.std.specs.Option.{option_and_then};
@@ -13,22 +13,22 @@ use crate::text::{is_number, parse_number, split_once, strip_prefix};
 use std::io::Write;
 use thiserror::Error;
 
-/// The places that a reply holds, both ends included, and the length of the whole in bytes.
+/// The range that a reply has, both ends included, and the length of the whole in bytes.
 #[derive(Clone, Copy, Debug, PartialEq, Eq)]
 pub enum ContentRange {
-    /// `first-last/total`, or `first-last/*` where the length is not told.
+    /// `first-last/total`, or `first-last/*` if the length is unknown.
     Part {
         first: u64,
         last: u64,
         total: Option<u64>,
     },
-    /// `*/total`: the places that were asked for are not in the file.
+    /// `*/total`: the requested range is not in the file.
     Unsatisfied {
         total: u64,
     },
 }
 
-/// What is wrong with a Content-Range value.
+/// Why a Content-Range value is invalid.
 #[derive(Clone, Copy, Debug, PartialEq, Eq, Error)]
 pub enum RangeFault {
     /// It is not in one of the three forms, or its unit is not `bytes`.
@@ -43,11 +43,12 @@ pub enum RangeFault {
 }
 
 impl ContentRange {
-    /// Reads a Content-Range value: `bytes` in any case, one space, then `first-last/total`,
-    /// `first-last/*` or `*/total`, in digits.
+    /// Parses a Content-Range value: `bytes` in any case, one space, then `first-last/total`, `first-last/*` or
+    /// `*/total`, in digits.
     ///
-    /// A value that is wrong in several ways is `BadSyntax` before `TooBig`, and that before
-    /// `Invalid`.
+    /// # Errors
+    ///
+    /// If several apply, `BadSyntax` comes before `TooBig`, and `TooBig` before `Invalid`.
     pub fn read(text: &[u8]) -> Result<ContentRange, RangeFault>
         ensures value { result ≡ content_range text.now }
         ensures in_order { IfOk result IsInOrder }
@@ -133,10 +134,11 @@ fn part_in_order(first: u64, last: u64, total: Option<u64>) -> Result<ContentRan
     Ok(ContentRange::Part { first, last, total })
 }
 
-/// Writes a Content-Range value, whatever the order of its numbers.
+/// Writes a Content-Range value. Does not check the order of its numbers.
 ///
-/// It answers `Write` if the writer does not take all of it. Nothing is then promised of how
-/// much of it went out.
+/// # Errors
+///
+/// `Write` if the writer does not accept all of it. It is unspecified how much was then written.
 pub fn write_content_range<W: Write>(writer: &mut W, range: &ContentRange) -> Result<(), WriteFault>
     ensures { OnOk result
         (Appends (W.contents writer.old) (W.contents writer.new) (content_range_text range.now)) }
@@ -157,8 +159,8 @@ pub fn write_content_range<W: Write>(writer: &mut W, range: &ContentRange) -> Re
     .map_err(|_| WriteFault::Write)
 }
 
-/// A law, with nothing to run: what `write_content_range` writes reads as that value, or as
-/// `Invalid` where last is below first or the total not above last.
+/// A law without code: a value that `write_content_range` writes parses as the same range, or as `Invalid` if last is
+/// below first or the total is not above last.
 pub fn content_range_reads_back()
     ensures { (range : ContentRange) → FitsIn64Bits range
         → content_range (content_range_text range) ≡ range_in_order range }

@@ -1,5 +1,5 @@
-//! Byte ranges of HTTP (RFC 9110, section 14): what a request asks for, and what a reply says
-//! that it holds. Both ends of the feed speak through this crate. Nothing in it allocates.
+//! Byte ranges of HTTP (RFC 9110, section 14): the Range field of a request and the Content-Range field of a reply.
+//! Clients and servers share this crate. Nothing in it allocates.
 #![tactic(auto)]
 
 use thiserror::Error;
@@ -15,7 +15,7 @@ pub use text::read_number;
 /// Why a value was not written.
 #[derive(Clone, Copy, Debug, PartialEq, Eq, Error)]
 pub enum WriteFault {
-    /// The writer refused some of the bytes.
+    /// The writer did not accept all bytes.
     #[error("Write")]
     Write,
 }

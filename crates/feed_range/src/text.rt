@@ -1,4 +1,4 @@
-//! The parts of a field value: its prefix, what stands round a byte, and numbers.
+//! Splitting a field value: its prefix, the texts around a byte, and numbers.
 ghost use Rattle.std.specs.Prelude.{◌≡◌, ◌==◌, IsTrue, option_copied};
 ghost use Rattle.std.specs.Char.{is_ascii_digit};
 ghost use Rattle.std.specs.List.{list_all, position};
@@ -7,7 +7,7 @@ ghost use Rattle.std.specs.Str.Parse.{digits_value};
 ghost use Rattle.feed_range.specs.Text.{strip_prefix, split_once, is_number, number_of, in_64_bits, number_in_64_bits};
 ghost use Rattle.feed_range.specs.Text.{capped_number};
 
-/// What follows the prefix, at the front of the text in any case.
+/// Returns the text after a leading prefix, ignoring case.
 pub(crate) fn strip_prefix<'a>(text: &'a [u8], prefix: &[u8]) -> Option<&'a [u8]>
     ensures { option_copied result ≡ strip_prefix prefix.now text.now }
 {
@@ -21,7 +21,7 @@ fn place_of(text: &[u8], byte: u8) -> Option<usize>
     text.iter().position(|other| *other == byte)
 }
 
-/// What stands before the first such byte, and what stands after it.
+/// Returns the texts before and after the first such byte.
 pub(crate) fn split_once(text: &[u8], byte: u8) -> Option<(&[u8], &[u8])>
     ensures { option_map (λ parts. (parts.0.now, parts.1.now)) result ≡ split_once byte text.now }
 {
@@ -35,14 +35,14 @@ fn has_digits_alone(text: &[u8]) -> bool
     text.iter().all(|byte| byte.is_ascii_digit())
 }
 
-/// Whether the text is a number: one digit or more.
+/// Returns whether the text is a number: one digit or more.
 pub(crate) fn is_number(text: &[u8]) -> bool
     ensures { result ≡ is_number text.now }
 {
     !text.is_empty() && has_digits_alone(text)
 }
 
-/// The number that the digits write, or `None` past 64 bits.
+/// Returns the number that the digits denote, or `None` past 64 bits.
 pub(crate) fn parse_number(digits: &[u8]) -> Option<u64>
     requires { IsTrue (is_number digits.now) }
     ensures { result ≡ in_64_bits (digits_value 10 digits.now) }
@@ -53,7 +53,7 @@ pub(crate) fn parse_number(digits: &[u8]) -> Option<u64>
     text.parse().ok()
 }
 
-/// The number that the text writes in digits, or `None` where it is no number or does not fit in 64
+/// Returns the number that the digits of the text denote, or `None` if the text is not a number or does not fit in 64
 /// bits.
 pub fn read_number(text: &[u8]) -> Option<u64>
     ensures { result ≡ number_in_64_bits text.now }
@@ -64,7 +64,7 @@ pub fn read_number(text: &[u8]) -> Option<u64>
     parse_number(text)
 }
 
-/// The number that the text writes, if it is one, where one past 64 bits counts as the greatest.
+/// Returns the number that the text denotes, if it is one. A number past 64 bits counts as the greatest that fits.
 pub(crate) fn read_capped(text: &[u8]) -> Option<u64>
     ensures { result ≡ option_map capped_number (number_of text.now) }
 {

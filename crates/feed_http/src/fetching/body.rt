@@ -1,4 +1,4 @@
-//! Bodies by their length, and bodies that end with the stream (RFC 9112, section 6.3).
+//! Reading bodies with a length, and bodies that end with the stream (RFC 9112, section 6.3).
 ghost use Rattle.std.specs.Prelude.{◌≡◌, ◌≤◌, ◌<◌, length, OnOk, IfOk, IfErr};
 ghost use Rattle.std.specs.Io.KnownBytes.{Consumes, IsAtEnd};
 ghost use Rattle.feed_http.specs.Bodies.{IsFillFault, IsSizedFault, IsEndlessFault};
@@ -9,7 +9,7 @@ use std::io::Read;
 
 const BLOCK: usize = 8_192;
 
-/// Fills the buffer, however the reader cuts its bytes.
+/// Fills the buffer, however the reader splits its bytes.
 pub(crate) fn fill<R: Read>(reader: &mut R, buffer: &mut [u8]) -> Result<(), HttpFault>
     ensures taken { OnOk result
         (Consumes (R.remaining reader.old) (R.remaining reader.new) buffer.new) }
@@ -28,7 +28,7 @@ pub(crate) fn fill<R: Read>(reader: &mut R, buffer: &mut [u8]) -> Result<(), Htt
     Ok(())
 }
 
-/// Reads a body of so many bytes.
+/// Reads a body of this many bytes.
 pub(crate) fn read_sized<R: Read>(
     alloc: Global,
     reader: &mut R,
@@ -46,7 +46,7 @@ pub(crate) fn read_sized<R: Read>(
     Ok(body)
 }
 
-/// Reads all bytes up to the end of the stream, of which there may be from `least` to `most`.
+/// Reads all bytes up to the end of the stream, which must be from `least` to `most`.
 pub(crate) fn read_to_end<R: Read>(
     alloc: Global,
     reader: &mut R,

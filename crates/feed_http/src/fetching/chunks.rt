@@ -1,4 +1,4 @@
-//! Chunked bodies (RFC 9112, section 7.1).
+//! Reading chunked bodies (RFC 9112, section 7.1).
 ghost use Rattle.std.specs.Prelude.{◌≡◌, ◌≢◌, ◌≤◌, ◌<◌, [], ◌∷◌};
 ghost use Rattle.std.specs.Prelude.{length, Some, OnOk, IfOk, IfErr, IfSome, MatchOption};
 ghost use Rattle.std.specs.Io.KnownBytes.{Consumes};
@@ -32,7 +32,7 @@ fn read_byte<R: Read>(reader: &mut R) -> Result<Option<u8>, HttpFault>
     }
 }
 
-/// Reads the line of a chunk, and no byte more, and gives its size.
+/// Reads the line of a chunk, and no byte after it, and returns its size.
 fn read_line<R: Read>(reader: &mut R) -> Result<u64, HttpFault>
     ensures line { IfOk result (IsLineTaken (R.remaining reader.old) (R.remaining reader.new)) }
     ensures faults { IfErr result (IsLineFault (R.remaining reader.old)) }
@@ -54,7 +54,7 @@ fn read_line<R: Read>(reader: &mut R) -> Result<u64, HttpFault>
     Err(HttpFault::Coding)
 }
 
-// A line that can't be ended is wrong, even where it breaks off.
+// A line that cannot become valid is a `Coding` error, even if the stream ends inside it.
 fn fault_of_line(line: &[u8]) -> HttpFault
     requires short { length line.now < chunk_line_limit }
     requires not_whole { HasNoChunkLine line.now }
@@ -139,8 +139,8 @@ fn read_chunk<R: Read>(
     Ok(())
 }
 
-/// Reads a chunked body and its trailer fields, which are dropped. The body may have from `least`
-/// to `most` bytes, which is judged by the size in front of each chunk.
+/// Reads a chunked body and its trailer fields, which it drops. The body must have from `least` to `most` bytes. The
+/// limit is checked against the size in front of each chunk.
 pub(crate) fn read_chunked<R: Read>(
     alloc: Global,
     reader: &mut R,

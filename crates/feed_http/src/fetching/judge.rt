@@ -1,4 +1,4 @@
-//! What the head of a reply says (RFC 9110, sections 8.4, 8.6, 14.4 and 15; RFC 9112, section 6).
+//! Validating the head of a reply (RFC 9110, sections 8.4, 8.6, 14.4 and 15; RFC 9112, section 6).
 ghost use Rattle.std.specs.Prelude.{◌≡◌, IfSome};
 ghost use Rattle.feed_range.specs.Content.{IsInOrder};
 ghost use Rattle.httparse.specs.Grammar.{ResponseHead};
@@ -19,13 +19,13 @@ use httparse::spans::{HeaderSpan, ResponseSpans};
 #[derive(Clone, Copy, Debug, PartialEq, Eq)]
 pub(crate) enum Framing {
     Chunked,
-    /// After so many bytes.
+    /// After this many bytes.
     Sized(u64),
     /// With the stream.
     ToEnd,
 }
 
-/// What a reply's head says: an answer, or which body follows.
+/// The result of validating a reply's head: an answer, or which body follows.
 #[derive(Clone, Copy, Debug, PartialEq, Eq)]
 pub(crate) enum Judgement {
     Missing,
@@ -170,7 +170,7 @@ impl Reply<'_> {
         judge_whole(self.framing())
     }
 
-    /// What the head says of the reply to a request by that method, or the first fault.
+    /// Validates the head of a reply to a request with this method. Returns the result, or the first fault.
     pub(crate) fn judge(&self, method: Method) -> Result<Judgement, HttpFault>
         requires { IsInBuffer self.now }
         ensures value { (head : ResponseHead) → HasHead self.now head

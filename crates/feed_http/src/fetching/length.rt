@@ -31,7 +31,7 @@ fn all_lengths_are(found: &Fields<'_>, size: u64) -> bool
     true
 }
 
-/// The length that the Content-Length fields state, if there is one and all state the same.
+/// Returns the length that the Content-Length fields state, if there is one and all state the same.
 pub(crate) fn agreed_length(found: &Fields<'_>) -> Option<u64>
     requires { AreWithin found.now }
     ensures { (fields : List Field) → AreFieldsOf found.now fields

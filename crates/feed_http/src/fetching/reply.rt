@@ -1,4 +1,4 @@
-//! The node end: one reply in.
+//! Reads one reply at the client end.
 ghost use Rattle.std.specs.Prelude.{IfSome, IfErr};
 ghost use Rattle.feed_http.specs.Got.{IsBody, IsPartBody, IsGot, IsReply, IsReadingFault};
 
@@ -73,21 +73,19 @@ fn read_got<R: Read>(alloc: Global, reader: &mut R, judgement: Judgement) -> Res
     }
 }
 
-/// Reads one reply to a request of that method: its heads, and its body where the head says that
-/// one is to be read. Heads with a status from 100 to 199 are skipped. It may read past the
-/// reply.
+/// Reads one reply to a request with this method: its heads, and its body if the head announces one. Skips heads with
+/// a status from 100 to 199. May read past the reply.
 ///
-/// A `Piece` and a `Whole` are given only where all of their bytes came.
+/// Returns a `Piece` or a `Whole` only if all of their bytes have arrived.
 ///
 /// # Errors
 ///
-/// The first that holds. Of the heads: `Read`, `Short`, `HeadTooLong`, `BadHead`. `Status` where
-/// the status is neither 200, 404 nor, on GET, 206 or 416. `Coding` where there is a content
-/// coding other than `identity` or, on GET, a transfer coding other than `chunked`. `Range` where
-/// a 206 has not just one Content-Range that names places, or a 416 one that does not tell the
-/// length. `BodyTooLong` where there are more than 1,048,576 places, or more than 268,435,456
-/// bytes of a file. `Length` where Content-Length does not state one length, that of the places
-/// on 206, or the body is of another. Of the body: `Read`, `Short`, `Coding` and `Memory`.
+/// The first that applies. For the heads: `Read`, `Short`, `HeadTooLong`, `BadHead`. `Status` if the status is neither
+/// 200 nor 404 nor, for GET, 206 or 416. `Coding` for a content coding other than `identity` or, for GET, a transfer
+/// coding other than `chunked`. `Range` if a 206 does not have exactly one Content-Range with a range, or if a 416 has
+/// a Content-Range without the length. `BodyTooLong` for a range of more than 1,048,576 bytes, or a file of more than
+/// 268,435,456 bytes. `Length` if Content-Length does not state one length (that of the range for a 206), or if the
+/// body has another one. For the body: `Read`, `Short`, `Coding` and `Memory`.
 pub fn read_reply<R: Read>(alloc: Global, reader: &mut R, method: Method) -> Result<Got, HttpFault>
     ensures reply { IfSome (R.remaining reader.old) (λ text. IsReply method text result) }
     ensures faults { IfErr result IsReadingFault }

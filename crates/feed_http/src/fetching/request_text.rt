@@ -1,4 +1,4 @@
-//! The requests that a node sends (RFC 9112, section 3).
+//! Writes the requests that a node sends (RFC 9112, section 3).
 ghost use Rattle.std.specs.Prelude.{◌≡◌, IsTrue, OnOk, IsOkUnless};
 ghost use Rattle.std.specs.List.{list_all};
 ghost use Rattle.std.specs.Io.KnownBytes.{Appends};
@@ -33,8 +33,8 @@ fn has_host_bytes_alone(host: &[u8]) -> bool
     host.iter().all(|byte| is_host_byte(*byte))
 }
 
-/// Whether the bytes may stand in the Host field of a request: 1 to 255 ASCII letters, digits,
-/// `.`, `-`, `:`, `[` and `]`.
+/// Returns whether the bytes are a valid Host field of a request: 1 to 255 ASCII letters, digits, `.`, `-`, `:`, `[`
+/// and `]`.
 pub fn is_host(host: &[u8]) -> bool
     ensures { result ≡ is_host host.now }
 {
@@ -102,10 +102,12 @@ fn format_head_request<W: Write>(
     Ok(())
 }
 
-/// Writes a GET for the places from the first to the last of the file of that name, both
-/// included. It is written at once, and takes no memory.
+/// Writes a GET for the range from the first to the last place of the file of this name, both included. Writes it at
+/// once, and does not allocate.
 ///
-/// It answers `Write` if the writer does not take all of it. Nothing is then promised of how
+/// # Errors
+///
+/// `Write` if the writer does not accept all of it. It is unspecified how much was then written.
 /// much of it went out.
 pub fn write_request<W: Write>(
     writer: &mut W,
@@ -127,10 +129,11 @@ pub fn write_request<W: Write>(
     Ok(())
 }
 
-/// Writes a HEAD for the file of that name, at once and without taking memory.
+/// Writes a HEAD for the file of this name, at once and without allocating.
 ///
-/// It answers `Write` if the writer does not take all of it. Nothing is then promised of how
-/// much of it went out.
+/// # Errors
+///
+/// `Write` if the writer does not accept all of it. It is unspecified how much was then written.
 pub fn write_head_request<W: Write>(
     writer: &mut W,
     host: &[u8],

@@ -1,3 +1,4 @@
+//! A shelf of files in memory.
 use crate::serving::shelf::{Shelf, ShelfFault};
 use feed_names::ReleaseName;
 use std::alloc::Global;
@@ -9,8 +10,8 @@ pub struct NamedFile {
     pub bytes: Vec<u8>,
 }
 
-/// A shelf over files in memory, which it tells. The first of a name counts. It has no device, so
-/// it fails only for want of memory.
+/// A shelf of files in memory. Its contracts name the files. If a name appears twice, the first file counts. It has no
+/// device, so its only fault is running out of memory.
 #[derive(Clone, Copy, Debug)]
 pub struct MemoryShelf<'a> {
     pub files: &'a [NamedFile],

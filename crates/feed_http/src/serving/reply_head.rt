@@ -1,4 +1,4 @@
-//! The heads of replies (RFC 9112, section 4).
+//! Writes the heads of replies (RFC 9112, section 4).
 ghost use Rattle.std.specs.Prelude.{◌≡◌, OnOk, IfOk, IsOkUnless};
 ghost use Rattle.std.specs.Io.KnownBytes.{Appends};
 ghost use Rattle.feed_http.specs.Replies.{status_of, head_text, refusal_text, IsPartInside};
@@ -13,19 +13,19 @@ const LONGEST_HEAD: usize = 512;
 /// The head of a reply. Lengths are in bytes, and places count from 0.
 #[derive(Clone, Copy, Debug, PartialEq, Eq)]
 pub(crate) enum ReplyHead {
-    /// The whole file follows, unless only its head was asked for.
+    /// The complete file follows, unless the request is a HEAD.
     Whole { length: u64 },
-    /// The places from the first to the last follow, both included.
+    /// The range from the first to the last place follows, both included.
     Part { first: u64, last: u64, length: u64 },
     BadRequest,
     NotFound,
-    /// The file has none of the places that were asked for.
+    /// The file has no byte of the requested range.
     Unsatisfied { length: u64 },
     NotImplemented,
 }
 
 impl ReplyHead {
-    /// The status code (RFC 9110, section 15).
+    /// Returns the status code (RFC 9110, section 15).
     pub(crate) fn status(self) -> u16
         ensures { result ≡ status_of self }
     {
@@ -39,7 +39,7 @@ impl ReplyHead {
         }
     }
 
-    /// Writes the head, all of it at once, and gives its status.
+    /// Writes the head, all of it at once, and returns its status.
     pub(crate) fn write<W: Write>(self, writer: &mut W) -> Result<u16, HttpFault>
         requires { IsPartInside self }
         ensures status { IfOk result (λ status. status ≡ status_of self) }

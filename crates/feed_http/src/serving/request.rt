@@ -1,4 +1,4 @@
-//! What a request asks for.
+//! Interprets a request on the server: its method, range and target.
 ghost use Rattle.std.specs.Prelude.{◌≡◌, IfOk, IsOkUnless, option_copied};
 ghost use Rattle.httparse.specs.Grammar.{RequestHead};
 ghost use Rattle.feed_range.specs.Ask.{IsInside};
@@ -11,7 +11,7 @@ use feed_names::{NameFault, ReleaseName};
 use feed_range::RangeAsk;
 use std::alloc::Global;
 
-/// Whether the method is neither GET nor HEAD, or a coded body follows.
+/// Returns whether the method is neither GET nor HEAD, or a coded body follows.
 pub(crate) fn is_unsupported(request: &Request<'_>) -> bool
     requires { IsInBuffer request.now }
     ensures { (head : RequestHead) → HasHead request.now head → result ≡ is_unsupported head }
@@ -30,7 +30,7 @@ fn range_value<'b>(fields: &Fields<'b>) -> Option<&'b [u8]>
     fields.sole_value(b"range")
 }
 
-/// The part of a file of that length that is asked for (RFC 9110, section 14.2).
+/// Returns the part of a file of this length that the request asks for (RFC 9110, section 14.2).
 pub(crate) fn ask(request: &Request<'_>, length: u64) -> RangeAsk
     requires { IsInBuffer request.now }
     ensures value { (head : RequestHead) → HasHead request.now head
@@ -43,7 +43,7 @@ pub(crate) fn ask(request: &Request<'_>, length: u64) -> RangeAsk
     }
 }
 
-/// The release that the target names, if it names one.
+/// Returns the release that the target names, if any.
 pub(crate) fn name(alloc: Global, request: &Request<'_>) -> Result<Option<ReleaseName>, HttpFault>
     requires { IsInBuffer request.now }
     ensures named { IfOk result (λ named. (head : RequestHead) → HasHead request.now head

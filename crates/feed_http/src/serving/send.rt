@@ -1,4 +1,4 @@
-//! The bodies of replies.
+//! Sends the bodies of replies.
 ghost use Rattle.std.specs.Prelude.{◌≡◌, ◌≤◌, ◌+◌};
 ghost use Rattle.std.specs.Prelude.{IfSome, IsSomeAnd, IfErr, IsErrOf, length, take, drop, slice_range};
 ghost use Rattle.feed_http.specs.Shelves.{CountsFailure};
@@ -38,7 +38,7 @@ fn send_block<W: Write, S: Shelf>(
     Ok(())
 }
 
-/// Sends the places of a file from the first up to the end, in blocks.
+/// Sends the range of a file from the first place up to the end, in blocks.
 pub(crate) fn send<W: Write, S: Shelf>(
     alloc: Global,
     writer: &mut W,

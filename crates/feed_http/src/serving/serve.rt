@@ -1,4 +1,4 @@
-//! The server end: one request in, one reply out.
+//! Serves one request: reads its head and writes one reply.
 ghost use Rattle.std.specs.Prelude.{◌≡◌, ◌≤◌, ◌+◌, ◌⊎◌};
 ghost use Rattle.std.specs.Prelude.{IfSome, IsSomeAnd, IfErr, IsErrOf, Option, length, slice_range};
 ghost use Rattle.std.specs.Io.KnownBytes.{Keeps};
@@ -155,39 +155,37 @@ fn respond<W: Write, S: Shelf>(
     }
 }
 
-/// Reads the head of one request, writes one reply, and gives its status. It may read past the
-/// head, and reads no body.
+/// Reads the head of one request, writes one reply, and returns its status. May read past the head, and does not read
+/// a body.
 ///
-/// A request is refused with status 400 where its head does not read, is longer than 8,192 bytes
-/// or has more than 64 fields, or where it is of HTTP/1.1 and has not just one Host field; with
-/// 501 where its method is neither GET nor HEAD, or it has a Transfer-Encoding field; with 404
-/// where its target names no file of the shelf.
+/// The reply is 400 if the head is invalid, longer than 8,192 bytes or has more than 64 fields, or if a request of
+/// HTTP/1.1 does not have exactly one Host field; 501 if the method is neither GET nor HEAD, or there is a
+/// Transfer-Encoding field; and 404 if the target does not name a file of the shelf.
 ///
 /// # Errors
 ///
-/// `Read` where the reader fails and `Short` where it ends inside the head; nothing is then
-/// written. `Shelf` or `Memory` where the shelf fails, or there is no memory for a name: then
-/// nothing was written, or the head of the reply and some of its body. `Write` where the writer
-/// refuses bytes.
+/// `Read` if the reader fails and `Short` if it ends inside the head; then nothing is written. `Shelf` or `Memory` if
+/// the shelf fails or memory for a name runs out; then nothing is written, or the head of the reply and some of its
+/// body. `Write` if the writer refuses bytes.
 pub fn serve_one<R: Read, W: Write, S: Shelf>(
     alloc: Global,
     reader: &mut R,
     writer: &mut W,
     shelf: &mut S,
 ) -> Result<u16, HttpFault>
-    // Where the bytes begin with a head within the limits, and the shelf tells its files.
+    // If the bytes begin with a head within the limits, and the contracts of the shelf name its files.
     ensures served { IfSome (R.remaining reader.old) (λ text. IfSome (S.files shelf.old) (λ files.
         (head : RequestHead) → BeginsWithHead head_limit field_limit text head
         → (named : Option Name) → IsNamedBy head.target named
         → IsOutcomeOf (served files head named) result (W.contents writer.old) (W.contents writer.new))) }
 
-    // The same of any shelf, where the reply needs no file.
+    // The same for any shelf, if the reply does not need a file.
     ensures fileless { IfSome (R.remaining reader.old) (λ text.
         (head : RequestHead) → BeginsWithHead head_limit field_limit text head
         → (named : Option Name) → IsNamedBy head.target named → IfSome (fileless head named) (λ reply.
         IsOutcomeOf reply result (W.contents writer.old) (W.contents writer.new))) }
 
-    // Where they do not.
+    // If the bytes do not begin with such a head.
     ensures refused { IfSome (R.remaining reader.old) (λ text.
         ((head : RequestHead) → ¬ (BeginsWithHead head_limit field_limit text head))
         → IsRefusalOf head_limit field_limit text result (W.contents writer.old) (W.contents writer.new)) }
@@ -196,7 +194,7 @@ pub fn serve_one<R: Read, W: Write, S: Shelf>(
     ensures unread { IsErrOf result HttpFault.Read → Keeps (W.contents writer.old) (W.contents writer.new) }
     ensures short { IsErrOf result HttpFault.Short → Keeps (W.contents writer.old) (W.contents writer.new) }
 
-    // The shelf keeps its files, and is to blame for its own faults alone.
+    // The shelf keeps its files, and the exchange reports `Shelf` only for faults of the shelf.
     ensures kept { S.files shelf.new ≡ S.files shelf.old }
     ensures rises { S.failed shelf.old ≤ S.failed shelf.new }
     ensures device { IsErrOf result HttpFault.Shelf

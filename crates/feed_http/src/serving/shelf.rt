@@ -1,3 +1,4 @@
+//! The trait `Shelf`: where a server finds the files of releases.
 ghost use Rattle.std.specs.Prelude.{◌≡◌, ◌≤◌, ◌+◌, ℕ};
 ghost use Rattle.std.specs.Prelude.{Option, None, IfSome, IsSomeAnd, IfOk, IsErrOf, length, take};
 ghost use Rattle.std.specs.Prelude.{drop};
@@ -10,13 +11,13 @@ use feed_names::ReleaseName;
 use std::alloc::Global;
 use thiserror::Error;
 
-/// Why a shelf gave no answer.
+/// Why a shelf could not answer.
 #[derive(Clone, Copy, Debug, PartialEq, Eq, Error)]
 pub enum ShelfFault {
-    /// The device failed, which the shelf counts.
+    /// The device failed. The shelf counts its failures.
     #[error("Device")]
     Device,
-    /// There was no memory.
+    /// Memory ran out.
     #[error("Memory")]
     Memory,
 }
@@ -34,22 +35,22 @@ impl From<ShelfFault> for HttpFault {
     }
 }
 
-/// Where the files of releases stand.
+/// A store of the files of releases.
 ///
-/// A shelf over memory tells its files, so that contracts name what is served. A shelf over a
-/// directory tells none.
+/// The contracts of a shelf in memory name its files, so those of the server name what it serves. A directory may
+/// change at any time, so its shelf does not name them.
 pub trait Shelf {
-    // The files by name, where the shelf tells them.
+    // The files by name, if the contracts of the shelf name them.
     ghost files: { Self → Option Files } = { λ _. None };
 
-    // How often the device has failed.
+    // The number of device failures so far.
     ghost failed: { Self → ℕ };
 
-    /// How often the device has failed. The count stays at its greatest value.
+    /// Returns the number of device failures so far. It saturates at its greatest value.
     fn failures(&self) -> u64
         ensures { result ≡ failed self.now };
 
-    /// The length in bytes of the file of that name, if it stands here.
+    /// Returns the length in bytes of the file of this name, if the shelf has it.
     fn size(&mut self, name: &ReleaseName) -> Result<Option<u64>, ShelfFault>
         ensures kept { files self.new ≡ files self.old }
         ensures size { IfSome (files self.old) (λ files.
@@ -57,7 +58,7 @@ pub trait Shelf {
         ensures rises { failed self.old ≤ failed self.new }
         ensures device { IsErrOf result Device → CountsFailure (failed self.old) (failed self.new) };
 
-    /// The bytes of the file of that name from place `first` on, just so many.
+    /// Returns exactly as many bytes as asked for of the file of this name, from the place `first`.
     fn read(
         &mut self,
         alloc: Global,
