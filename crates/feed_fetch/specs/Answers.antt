@@ -1,4 +1,4 @@
--- What a fetch makes of a feed's answers.
+-- How a fetch reacts to a feed's answers.
 use Rattle.feed_kbart.specs.declared.fault.BadFile.{BadFile}
 use Rattle.feed_names.specs.ReleaseName.{Name}
 use Rattle.std.specs.Prelude.{Bool, true, false, ◌∷◌, Result, Ok, Err, ⊤, ◌≡◌, ◌⊎◌, ℕ}
@@ -13,45 +13,47 @@ use Rattle.feed_fetch.specs.declared.stop.Unasked.TheVariants.{Dial, Http}
 use Rattle.feed_fetch.specs.declared.stop.Stop.{Stop}
 use Rattle.feed_fetch.specs.declared.stop.Stop.TheVariants as stops
 
--- whether a fetch goes on after this answer, and why not
+-- whether a fetch continues after this answer, or why it stops
 abbrev pub goes_on : Answer → Result Reply Stop
 goes_on (Ok replies.Older) = Err stops.Older
 goes_on (Ok (replies.Broken why)) = Err stops.Broken
 goes_on (Ok reply) = Ok reply
 goes_on (Err refusal) = Err (stops.Refused refusal)
 
--- the reply says that something new was kept
+-- the reply reports new bytes
 abbrev pub brings_new : Reply → Bool
 brings_new (replies.Stored missing) = true
 brings_new replies.Activated = true
 brings_new _ = false
 
--- whether a piece with this answer brought something new
+-- whether a piece with this answer had new bytes
 abbrev pub is_news : Result Reply Stop → Result Bool Stop
 is_news (Ok reply) = Ok (brings_new reply)
 is_news (Err stop) = Err stop
 
--- whether it is done
+-- whether the event was accepted
 abbrev pub is_done : Result Reply Stop → Result (Unit {0}) Stop
 is_done (Ok reply) = Ok tt
 is_done (Err stop) = Err stop
 
--- a round that brought nothing new stops the fetch
+-- a round without new bytes stops the fetch
 abbrev pub is_settled : Result Bool Stop → Result (Unit {0}) Stop
 is_settled (Ok true) = Ok tt
 is_settled (Ok false) = Err stops.NoProgress
 is_settled (Err stop) = Err stop
 
--- whatever history c is a content of, a right answer is given to the event, which comes out so, and c' is a content with both added
+-- for every history that has the content c, the event gets a right answer, which meets the condition, and c' is a
+-- content of the history with both added
 abbrev pub Tells : (Answer → Type 0) → Content → Event → Content → Type 0
 Tells ComesOut c event c' =
     (h : History) → IsContent c h → (answer : Answer) × IsRight h event answer × ComesOut answer × IsContent c' ((event, answer) ∷ h)
 
--- the feed was told this last, and answered so
+-- this was the feed's last event, with this answer
 abbrev pub IsLast : Event → Answer → History → Type 0
 IsLast e a k = (before : History) × (k ≡ (e, a) ∷ before)
 
--- where a fetch that stops so leaves the feed: a later release is active, or the stop is what the feed answered last; and after a request that came to nothing it was told the loss
+-- the feed after a fetch that stops for this reason: a later release is active, or the reason is the feed's last
+-- answer; and after a failed request its last event is the loss
 abbrev pub IsStoppedAt : Name → Stop → History → Type 0
 IsStoppedAt n stops.Older k = IsPassed k n
 IsStoppedAt n stops.Broken k = (e : Event) × (why : BadFile) × IsLast e (Ok (replies.Broken why)) k
@@ -59,7 +61,8 @@ IsStoppedAt n (stops.Refused refusal) k = (e : Event) × IsLast e (Err refusal) 
 IsStoppedAt n (stops.Unasked (Http fault)) k = IsLast (Lost n) (Ok replies.Nothing) k
 IsStoppedAt n _ k = ⊤
 
--- a later release is reported: 0; want of memory, or a failing device, connection, reader, writer or print: 3; else the peer or the file is to blame: 1
+-- 0 if a later release is reported; 3 if memory ran out, or a device, connection, reader, writer or print failed;
+-- otherwise 1, because of the peer or the file
 abbrev pub status_of : Stop → ℕ
 status_of stops.Older = 0
 status_of (stops.Refused refusals.Memory) = 3
@@ -72,12 +75,12 @@ status_of (stops.Unasked (Http http.Memory)) = 3
 status_of stops.Print = 3
 status_of _ = 1
 
--- the status of a stop, or 3 where a print failed; and where nothing is missing, whether the release is reported
+-- the status of a stop, or 3 if a print failed; if nothing is missing, it depends on whether the release is reported
 abbrev pub IsStatusOf : Result (Unit {0}) Stop → ℕ → Type 0
 IsStatusOf (Ok done) status = (status ≡ 0) ⊎ ((status ≡ 1) ⊎ (status ≡ 3))
 IsStatusOf (Err stop) status = (status ≡ status_of stop) ⊎ (status ≡ 3)
 
--- want of memory, or a failing device, connection, reader or writer
+-- memory ran out, or a device, connection, reader or writer failed
 abbrev pub IsExcused : Stop → Type 0
 IsExcused (stops.Refused refusals.Memory) = ⊤
 IsExcused (stops.Refused refusals.Device) = ⊤

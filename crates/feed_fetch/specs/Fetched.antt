@@ -1,4 +1,4 @@
--- What a fetch makes of a feed.
+-- The effect of a fetch on a feed.
 use Rattle.std.specs.Prelude.{◌≡◌, ◌<◌, ◌≤◌, ◌+◌, ◌⊎◌, ◌++◌, ℕ, List, length, slice_range, slice_get, All, Option, None, Some, Result, Ok, IfSome, IfErr, MatchResult}
 use Rattle.feed_names.specs.ReleaseName.{Name, IsName}
 use Rattle.feed_http.specs.RequestTexts.{get_text, head_request_text}
@@ -15,7 +15,7 @@ use Rattle.feed_model.specs.History.{Event, Offered, Piece, Lost, History, size_
 use Rattle.feed_model.specs.Reply.{HoldsNumber, missing_below, max_file, max_piece, max_held}
 use Rattle.feed_model.specs.Content.{Content, IsContent}
 
--- just the piece that the reply gave, or some places of the whole file that it gave, with its length
+-- exactly the piece that the reply gave, or some range of the complete file that it gave, with its length
 abbrev pub IsPieceOf : Got → ℕ → Option ℕ → List ℕ → Type 0
 IsPieceOf (got.Piece place size all) first total bytes = (first ≡ place) × (total ≡ size) × (bytes ≡ all)
 IsPieceOf (got.Whole all) first total bytes = (total ≡ Some (length all)) × (first + length bytes ≤ length all) × (bytes ≡ slice_range all first (first + length bytes))
@@ -33,12 +33,13 @@ IsTold replies host n (Piece m first total bytes) =
     (m ≡ n) × IfKnown replies (λ IsReplyTo. (low high : ℕ) × (given : Got) × IsReplied IsReplyTo Get (get_text host (text_of n) low high) (Ok given) × IsPieceOf given first total bytes)
 IsTold replies host n (Lost m) = m ≡ n
 
--- whatever history c is a content of, c' is a content of it with more events in front, each of them so, which stands so
+-- for every history that has the content c, c' is a content of it with more events added, each of them permitted, and
+-- the result meets the condition
 abbrev pub GoesOn : (Event → Type 0) → (History → Type 0) → Content → Content → Type 0
 GoesOn IsOne Stands c c' =
     (h : History) → IsContent c h → (added : History) × All (λ told. IsOne told.0) added × Stands (added ++ h) × IsContent c' (added ++ h)
 
--- whatever history of this kind c is a content of, c' is a content of one that is so to it
+-- for every history that has the content c and meets the first condition, c' is a content of one that is related to it
 abbrev pub Leads : (History → Type 0) → (History → History → Type 0) → Content → Content → Type 0
 Leads Before After c c' = (h : History) → IsContent c h → Before h → (k : History) × After h k × IsContent c' k
 
@@ -46,11 +47,12 @@ Leads Before After c c' = (h : History) → IsContent c h → Before h → (k : 
 abbrev pub IsCurrent : Name → History → Type 0
 IsCurrent n h = Reports h n.stem (Some n) ⊎ IsPassed h n
 
--- a fetch ends with this status: 0 only where the release is reported, or a later one; and the stop that it ended by, if any, is borne out and has its status
+-- a fetch ends with this status: 0 only if the release is reported, or a later one; and if a stop ended it, the feed
+-- agrees with the stop, which has this status
 abbrev pub EndsWith : Name → ℕ → History → Type 0
 EndsWith n status k = (status ≡ 0 → IsCurrent n k) × ((outcome : Result (Unit {0}) Stop) × IfErr outcome (λ stop. IsStoppedAt n stop k) × IsStatusOf outcome status)
 
--- what a peer replies is known, and it serves this file of the release
+-- the replies of a peer are known, and it serves this file of the release
 abbrev pub Serves : Replies → Name → List ℕ → Type 0
 Serves Unknown n file = ⊥
 Serves (Known IsReplyTo) n file = (files : Files) × IsServer files IsReplyTo × (files n ≡ Some file) × IsName (text_of n) n
@@ -60,24 +62,25 @@ pub record IsFetchable (file : List ℕ) : Type 0 where
   pub small : length file ≤ max_file
   pub good : fault_of file ≡ None
 
--- what is kept of the release is of this file
+-- the stored bytes of the release are those of this file
 abbrev pub IsOfFile : Name → List ℕ → History → Type 0
 IsOfFile n file h = (place byte : ℕ) → kept h n place ≡ Some byte → slice_get file place ≡ Some byte
 
--- the release may be offered with this file: it is not passed, it has this size if it was recorded, else there is room for it, and what is kept of it is of the file
+-- the release may be offered with this file: no later release is active, its size agrees if it was recorded, otherwise
+-- there is room for it, and its stored bytes are those of the file
 pub record IsOpenTo (n : Name) (file : List ℕ) (h : History) : Type 0 where
   pub current : ¬ (IsPassed h n)
   pub size : IfSome (size_of h n) (λ size. size ≡ length file)
   pub bytes : IsOfFile n file h
   pub room : IsHeld h n ⊎ (¬ (HoldsNumber h max_held))
 
--- it was, and is filled with the file
+-- it was offered, and its stored bytes are those of the file
 pub record IsFilling (n : Name) (file : List ℕ) (h : History) : Type 0 where
   pub current : ¬ (IsPassed h n)
   pub size : size_of h n ≡ Some (length file)
   pub bytes : IsOfFile n file h
 
--- places of it are asked for, the first of which is missing
+-- a range of it is requested, whose first place is missing
 pub record IsAskedNext (n : Name) (file : List ℕ) (first last : ℕ) (h : History) : Type 0 where
   pub filling : IsFilling n file h
   pub order : first ≤ last
@@ -85,11 +88,11 @@ pub record IsAskedNext (n : Name) (file : List ℕ) (first last : ℕ) (h : Hist
   pub few : last < first + max_piece
   pub missing : kept h n first ≡ None
 
--- how many places of the file are missing
+-- the number of missing places of the file
 abbrev pub missing_of : Name → List ℕ → History → ℕ
 missing_of n file h = missing_below (kept h n) (length file)
 
--- so it stands, or there is an excuse
+-- this holds, unless an excused stop ended the call
 abbrev pub OrExcused : Result (Unit {0}) Stop → Type 0 → Type 0
 OrExcused result stands = MatchResult result (λ done. stands) IsExcused
 
@@ -102,6 +105,6 @@ Filled n file first last result = Leads (IsAskedNext n file first last) (λ h k.
 abbrev pub Gets : Name → List ℕ → Result (Unit {0}) Stop → Content → Content → Type 0
 Gets n file result = Leads (IsOpenTo n file) (λ h k. OrExcused result (IsFilling n file k × IsFile k n file))
 
--- after so many rounds, each of which filled a place
+-- after this many rounds, each with at least one new place
 abbrev pub HasFilled : Name → List ℕ → ℕ → Content → Content → Type 0
 HasFilled n file rounds = Leads (IsOpenTo n file) (λ h k. IsFilling n file k × (missing_of n file k + rounds ≤ length file))

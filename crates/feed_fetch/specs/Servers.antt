@@ -1,4 +1,4 @@
--- What is read as the reply to a request.
+-- The replies that a peer sends to requests.
 use Rattle.std.specs.Prelude.{◌≡◌, ◌⊎◌, ℕ, List, Option, Result, Ok, Err, ⊤}
 use Rattle.httparse.specs.Grammar.{RequestHead}
 use Rattle.feed_names.specs.ReleaseName.{Name}
@@ -14,17 +14,17 @@ use Rattle.feed_http.specs.Got.{IsReply}
 use Rattle.feed_fetch.specs.declared.stop.Unasked.{Unasked}
 use Rattle.feed_fetch.specs.declared.stop.Unasked.TheVariants.{Dial, Http}
 
--- what a peer replies: nothing is known of it, or which texts may be left to be read after a text was written
+-- the replies of a peer: unknown, or a relation between what is written to it and what can then be read
 pub data Replies : Type 1 where
   Unknown : Replies
   Known : (List ℕ → List ℕ → Type 0) → Replies
 
--- it is so, where it is known
+-- the statement holds, if the replies are known
 abbrev pub IfKnown : Replies → ((List ℕ → List ℕ → Type 0) → Type 0) → Type 0
 IfKnown Unknown P = ⊤
 IfKnown (Known IsReplyTo) P = P IsReplyTo
 
--- where the text begins with the head of a request, the reply is that of a server with these files
+-- if the text begins with the head of a request, the reply is that of a server with these files
 abbrev pub IsServed : Files → List ℕ → List ℕ → Type 0
 IsServed files text reply =
     (head : RequestHead) (named : Option Name) → BeginsWithHead 8192 64 text head → IsNamedBy head.target named
@@ -34,11 +34,11 @@ IsServed files text reply =
 abbrev pub IsServer : Files → (List ℕ → List ℕ → Type 0) → Type 0
 IsServer files IsReplyTo = (text reply : List ℕ) → IsReplyTo text reply → IsServed files text reply
 
--- some reply to this text gives the result
+-- some reply to this text has the result
 abbrev pub IsReplied : (List ℕ → List ℕ → Type 0) → Method → List ℕ → Result Got HttpFault → Type 0
 IsReplied IsReplyTo method text result = (reply : List ℕ) × IsReplyTo text reply × IsReply method reply result
 
--- what a request with this text gives
+-- the result of a request with this text
 abbrev pub IsReadOf : (List ℕ → List ℕ → Type 0) → Method → List ℕ → Result Got Unasked → Type 0
 IsReadOf IsReplyTo method text (Ok got) = IsReplied IsReplyTo method text (Ok got)
 IsReadOf IsReplyTo method text (Err (Dial fault)) = ⊤

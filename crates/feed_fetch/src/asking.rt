@@ -1,4 +1,4 @@
-//! One request on a connection of its own, and what its reply gives.
+//! Sends one request on a connection of its own, and reads the reply.
 ghost use Rattle.std.specs.Prelude.{IsTrue};
 ghost use Rattle.feed_names.specs.ReleaseName.{text_of};
 ghost use Rattle.feed_http.specs.RequestTexts.{is_host, get_text, head_request_text};
@@ -10,7 +10,7 @@ use feed_http::{Got, HttpFault, Method, read_reply, write_head_request, write_re
 use feed_names::ReleaseName;
 use std::alloc::Global;
 
-/// Asks for the length of the file.
+/// Requests the length of the file.
 pub fn ask_size<D: Dial>(
     alloc: Global,
     dial: &mut D,
@@ -34,7 +34,7 @@ pub fn ask_size<D: Dial>(
     }
 }
 
-/// Asks for the places from the first to the last of the file, both included.
+/// Requests the range from the first to the last place of the file, both included.
 pub fn ask_places<D: Dial>(
     alloc: Global,
     dial: &mut D,

@@ -1,32 +1,34 @@
+//! The trait `Dial`: makes the connections of a fetch.
 use std::io::{Read, Write};
 use thiserror::Error;
 
-/// Why there is no connection.
+/// Why a connection could not be made.
 #[derive(Clone, Copy, Debug, PartialEq, Eq, Error)]
 pub enum DialFault {
-    /// The peer does not take it.
+    /// The peer did not accept the connection.
     #[error("Connect")]
     Connect,
-    /// There was no memory.
+    /// Memory ran out.
     #[error("Memory")]
     Memory,
 }
 
-/// What makes the connections of a fetch, one for each request.
+/// Makes the connections of a fetch, one for each request.
 pub trait Dial {
     type Conn: Read + Write + Drop;
 
     ghost use Rattle.std.specs.Prelude.{◌≡◌, [], List, ℕ, Some, IfOk, IsSomeAnd};
     ghost use Rattle.feed_fetch.specs.Servers.{Replies, IfKnown};
 
-    /// What is read from a connection after a request was written to it, where that is known of all of them.
+    /// The replies that can be read from a connection after a request, if they are known for all connections.
     ghost replies: { Replies };
 
-    /// Makes a connection. Nothing was written to it.
+    /// Makes a connection. Nothing has been written to it.
     fn dial(&mut self) -> Result<Self::Conn, DialFault>
         ensures fresh { IfOk result (λ conn. IfKnown replies (λ IsReplyTo. Self.Conn.contents conn ≡ Some [])) };
 
-    /// Where a connection tells what was written to it, what is left to be read is told too, and is a reply to this.
+    /// If the contracts of a connection name what was written to it, they also name what is left to be read, which is a
+    /// reply to it.
     ghost answers: { (conn : Self.Conn) (text : List ℕ) → IfKnown replies (λ IsReplyTo.
         Self.Conn.contents conn ≡ Some text → IsSomeAnd (Self.Conn.remaining conn) (IsReplyTo text)) };
 }

@@ -1,4 +1,4 @@
-//! The loop of a fetch.
+//! The loop of a fetch: request the size, offer the release, then request missing ranges until none is left.
 ghost use Rattle.std.specs.Prelude.{ℕ, List, ◌≡◌, ◌≤◌, ◌⊎◌, IsTrue, Some, Ok, Err, IfOk, IfErr};
 ghost use Rattle.feed_names.specs.ReleaseName.{text_of};
 ghost use Rattle.feed_model.specs.History.{History, Lost, Offered, IsGood, IsPassed, Reports};
@@ -40,7 +40,7 @@ use std::alloc::Global;
 use std::fmt;
 use std::io::Write;
 
-// Tells the feed that a request came to nothing, unless there was no connection.
+// Reports a failed request to the feed, unless there was no connection.
 fn lose<K: Keep + Drop, O: Write>(
     feed: &mut Feed<K>,
     name: &ReleaseName,
@@ -75,7 +75,7 @@ fn offer_size<K: Keep + Drop, O: Write>(
     Ok(())
 }
 
-// A round that brought nothing new stops the fetch.
+// A round without new bytes stops the fetch.
 fn settled(taken: Result<bool, Stop>) -> Result<(), Stop>
     ensures { result ≡ is_settled taken }
 {
@@ -86,7 +86,7 @@ fn settled(taken: Result<bool, Stop>) -> Result<(), Stop>
     }
 }
 
-// Prints the length that a reply to a HEAD gave.
+// Prints the length that the reply to a HEAD stated.
 fn told_size<O: Write>(got: &Got, out: &mut O) -> Result<u64, Stop>
     ensures printed { (size : ℕ) → got.now ≡ Got.Size size
         → (result ≡ Ok size) ⊎ (result ≡ Err Stop.Print) }
@@ -107,7 +107,7 @@ fn told_size<O: Write>(got: &Got, out: &mut O) -> Result<u64, Stop>
     }
 }
 
-/// Begins a fetch: asks for the length of the file and offers the release to the feed.
+/// Begins a fetch: requests the length of the file and offers the release to the feed.
 pub fn begin<D: Dial, K: Keep + Drop, O: Write>(
     alloc: Global,
     dial: &mut D,
@@ -131,7 +131,7 @@ pub fn begin<D: Dial, K: Keep + Drop, O: Write>(
     }
 }
 
-// Asks for places of the file and tells the feed what came.
+// Requests a range of the file and passes the bytes received to the feed.
 fn round<D: Dial, K: Keep + Drop, O: Write>(
     alloc: Global,
     dial: &mut D,
@@ -154,8 +154,7 @@ fn round<D: Dial, K: Keep + Drop, O: Write>(
     }
 }
 
-/// Goes on with a fetch that was begun: asks for the next missing range, of `piece` places at most. The result is
-/// whether one was missing.
+/// Continues a fetch: requests the next missing range, of at most `piece` places. Returns whether one was missing.
 pub fn go_on<D: Dial, K: Keep + Drop, O: Write>(
     alloc: Global,
     dial: &mut D,
@@ -180,9 +179,9 @@ pub fn go_on<D: Dial, K: Keep + Drop, O: Write>(
     }
 }
 
-/// Fetches the file of a release: asks for its length, offers it to the feed, and then asks for the next missing range,
-/// of `piece` places at most, until none is missing. A connection has one request. Each answer of the feed is printed
-/// to `out`, as a line.
+/// Fetches the file of a release: requests its length, offers it to the feed, and then requests the next missing range,
+/// of at most `piece` places, until none is missing. Uses one connection for each request. Prints each answer of the
+/// feed to `out`, as a line.
 pub fn fetch<D: Dial, K: Keep + Drop, O: Write>(
     alloc: Global,
     dial: &mut D,
@@ -203,7 +202,7 @@ pub fn fetch<D: Dial, K: Keep + Drop, O: Write>(
     if let Err(stop) = begin(alloc, dial, feed, host, name, out) {
         return Err(stop);
     }
-    // Each round fills a place, of which a file has no more.
+    // Each round fills a place, so a file needs no more rounds than this.
     'rounds: for _ in 0..FILE_LIMIT {
         let Some((first, last)) = feed.next_range(name, piece) else {
             return Ok(());
@@ -215,7 +214,7 @@ pub fn fetch<D: Dial, K: Keep + Drop, O: Write>(
     Ok(())
 }
 
-// Whether the release is the active one of its package.
+// Returns whether the release is the active one of its package.
 fn is_reported<K: Keep + Drop>(feed: &Feed<K>, name: &ReleaseName) -> bool
     ensures reported { (h : History) → IsContent (recorded feed.now) h → IsTrue result
         → Reports h name.now.stem (Some name.now) }
@@ -238,7 +237,7 @@ fn fault_told<F: Write, T: fmt::Display + Drop>(faults: &mut F, fault: T, status
     }
 }
 
-/// Tells why a fetch stopped, where that is a fault, as `kbfeed: ` and its name. The result is the exit status.
+/// Prints why a fetch stopped, if that is a fault, as `kbfeed: ` and its name. Returns the exit status.
 pub fn stopped<F: Write>(stop: Stop, faults: &mut F) -> u8
     ensures status { (result ≡ status_of stop) ⊎ (result ≡ 3) }
     ensures older { result ≡ 0 → stop ≡ Stop.Older }
@@ -262,11 +261,11 @@ pub fn stopped<F: Write>(stop: Stop, faults: &mut F) -> u8
     }
 }
 
-/// Fetches the file of a release as `fetch` does, from a host, 1 to 255 bytes of `is_host`, by requests of 1 to
-/// 1,048,576 places. What the feed answers is printed to `out`, and a fault to `faults`, as `kbfeed: ` and its name.
-/// The result is the exit status: 0 where the release is reported then, or a later one; 1 where the peer or the file is
-/// to blame; 3 for a failing connection, device or print, and for want of memory. What came is kept: a further fetch
-/// goes on from there.
+/// Fetches the file of a release as `fetch` does, from a host that `is_host` accepts (1 to 255 bytes), with requests of
+/// 1 to 1,048,576 places. Prints the answers of the feed to `out`, and a fault to `faults`, as `kbfeed: ` and its name.
+/// Returns the exit status: 0 if the release, or a later one, is then reported; 1 because of the peer or the file; 3 if
+/// a connection, device or print failed, or memory ran out. The bytes received are stored, and a further fetch resumes
+/// from there.
 pub fn fetch_with<D: Dial, K: Keep + Drop, O: Write, F: Write>(
     alloc: Global,
     dial: &mut D,

@@ -1,3 +1,4 @@
+//! Why a request or a fetch stopped.
 use crate::dial::DialFault;
 use feed_http::HttpFault;
 use feed_releases::Refusal;
@@ -7,24 +8,24 @@ use feed_releases::Refusal;
 pub enum Unasked {
     /// There was no connection.
     Dial(DialFault),
-    /// The exchange came to nothing.
+    /// The exchange failed.
     Http(HttpFault),
 }
 
-/// Why a fetch stopped before all places of the file were there.
+/// Why a fetch stopped before the file was complete.
 #[derive(Clone, Copy, Debug, PartialEq, Eq)]
 pub enum Stop {
     /// A later release of the package is active.
     Older,
-    /// The file is whole and bad.
+    /// The file is complete and bad.
     Broken,
-    /// The feed refused what it was told.
+    /// The feed refused an event.
     Refused(Refusal),
     /// The peer does not have the file.
     Missing,
-    /// The peer's file has none of the places.
+    /// The peer's file has no byte of the range.
     Unsatisfied,
-    /// A reply brought nothing new.
+    /// A reply had no new bytes.
     NoProgress,
     /// A request got no answer.
     Unasked(Unasked),

@@ -1,4 +1,4 @@
-//! What the feed is told of a reply, and what this prints.
+//! Passes replies to the feed as events, and prints its answers.
 ghost use Rattle.std.specs.Prelude.{ℕ, List, Option, ◌≡◌, ◌⊎◌, Err, IfErr};
 ghost use Rattle.feed_model.specs.History.{Piece};
 ghost use Rattle.feed_releases.specs.Feeds.{recorded};
@@ -14,7 +14,7 @@ use feed_names::ReleaseName;
 use feed_releases::{Event, Feed, Reply};
 use std::io::Write;
 
-/// Tells the feed an event, and prints its answer.
+/// Passes an event to the feed, and prints its answer.
 pub fn tell<K: Keep + Drop, O: Write>(
     feed: &mut Feed<K>,
     event: &Event<'_>,
@@ -43,7 +43,7 @@ pub fn tell<K: Keep + Drop, O: Write>(
     }
 }
 
-// Whether the feed says that something new was kept.
+// Returns whether the feed reports new bytes.
 fn brings_new(reply: Reply) -> bool
     ensures { result ≡ brings_new reply }
 {
@@ -53,7 +53,7 @@ fn brings_new(reply: Reply) -> bool
     }
 }
 
-// Tells the feed a piece, and whether it brought something new.
+// Passes a piece to the feed, and returns whether it had new bytes.
 fn take_piece<K: Keep + Drop, O: Write>(
     feed: &mut Feed<K>,
     name: &ReleaseName,
@@ -75,7 +75,8 @@ fn take_piece<K: Keep + Drop, O: Write>(
     Ok(brings_new(reply))
 }
 
-// Tells the feed the whole file in pieces, in order, up to the first answer that is neither `stored` nor `repeated`.
+// Passes the whole file to the feed in pieces, in order, up to the first answer that is neither `stored` nor
+// `repeated`.
 fn take_whole<K: Keep + Drop, O: Write>(
     feed: &mut Feed<K>,
     name: &ReleaseName,
@@ -107,7 +108,7 @@ fn take_whole<K: Keep + Drop, O: Write>(
     Ok(is_new)
 }
 
-/// Tells the feed what a reply to a GET gave, and whether it brought something new.
+/// Passes the result of a GET to the feed, and returns whether it had new bytes.
 pub fn take<K: Keep + Drop, O: Write>(
     feed: &mut Feed<K>,
     name: &ReleaseName,

@@ -1,4 +1,4 @@
--- What a connection to a server in memory tells.
+-- The contracts of a connection to a server in memory.
 use Rattle.std.specs.Prelude.{◌≡◌, ℕ, Bool, true, false, List, [], length, Option, Some, None, IsSomeAnd, refl}
 use Rattle.std.proofs.Common.{subst, arith, ap, length-append}
 use Rattle.httparse.specs.Grammar.{print_request}
@@ -10,7 +10,7 @@ abbrev pub unless_read : Bool → List ℕ → Option (List ℕ)
 unless_read true written = None
 unless_read false written = Some written
 
--- where it tells what was written, the reply to this is left
+-- if what was written is known, the rest to read is the reply to it
 pub IsSomeAnd-unless_read : (is_read : Bool) (written reply text : List ℕ) (files : Files) → (is_read ≡ false → IsServed files written reply)
     → unless_read is_read written ≡ Some text → IsSomeAnd (Some reply) (IsServed files text)
 IsSomeAnd-unless_read true written reply text files replied told = absurd (cc)
@@ -18,7 +18,7 @@ IsSomeAnd-unless_read false written reply text files replied told =
     let same : written ≡ text = cc in
     subst (λ (t : List ℕ). IsServed files t reply) same (replied refl)
 
--- no head of a request begins nothing
+-- an empty text does not begin with the head of a request
 pub IsServed-nothing : (files : Files) (reply : List ℕ) → IsServed files [] reply
 unfolding print_request
 IsServed-nothing files reply head named begins of =

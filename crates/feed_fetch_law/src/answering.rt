@@ -1,4 +1,4 @@
-//! What a server over files in memory replies.
+//! The replies of a server over files in memory.
 ghost use Rattle.std.specs.Prelude.{◌≡◌, ◌++◌, IfOk};
 ghost use Rattle.feed_http.specs.MemoryShelves.{file_named};
 ghost use Rattle.feed_fetch.specs.Servers.{IsServed};
@@ -9,7 +9,7 @@ use std::collections::VecDeque;
 use std::io;
 use std::io::ErrorKind;
 
-/// What was written, and then more.
+/// Appends more bytes to a copy of what was written.
 pub(crate) fn joined(alloc: Global, written: &[u8], more: &[u8]) -> Result<Vec<u8>, AllocError>
     ensures { IfOk result (λ text. text.items ≡ written.now ++ more.now) }
 {
@@ -18,7 +18,7 @@ pub(crate) fn joined(alloc: Global, written: &[u8], more: &[u8]) -> Result<Vec<u
     Ok(text)
 }
 
-/// The reply to a text, which is empty where the text breaks off inside the head of a request.
+/// Returns the reply to a text. It is empty if the text ends inside the head of a request.
 pub(crate) fn reply_to(alloc: Global, files: &[NamedFile], text: &[u8]) -> io::Result<VecDeque<u8>>
     ensures { IfOk result (λ reply. IsServed (file_named files.now) text.now reply.items) }
 {

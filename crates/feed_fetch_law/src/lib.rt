@@ -1,4 +1,4 @@
-//! What `feed_fetch` says of a peer that is known, of one that there is: a server over files in memory.
+//! Shows that the promises of `feed_fetch` about a known peer apply: to a server over files in memory.
 #![tactic(auto)]
 
 mod answering;

@@ -1,4 +1,4 @@
-//! A dial whose peer is a server over files in memory.
+//! Connections to a server over files in memory.
 ghost use Rattle.std.specs.Prelude.{◌≡◌, false};
 ghost use Rattle.feed_http.specs.MemoryShelves.{file_named};
 ghost use Rattle.feed_http.specs.Shelves.{Files};
@@ -13,7 +13,7 @@ use std::io;
 use std::io::{Read, Write};
 use std::marker::{Brand, PhantomData};
 
-/// Stands for a list of files among the types, so that what a dial replies is a constant of its type.
+/// A type that represents a list of files, so that the replies of a dial are a constant of its type.
 pub(crate) trait Archive: Drop {
     // The file of each release, if there is one.
     ghost files: { Files };
@@ -46,7 +46,7 @@ impl<'a, A: Archive> MemoryDial<'a, A> {
     }
 }
 
-/// A connection to the server. What is written is replied to at once, and the reply is left to be read.
+/// A connection to the server. It replies at once to what is written, and the reply can then be read.
 #[derive(Drop)]
 pub(crate) struct MemoryConn<'a, A: Archive> {
     alloc: Global,
@@ -70,7 +70,7 @@ impl<A: Archive> Read for MemoryConn<'_, A> {
     }
 }
 
-/// It tells what was written until something is read. After a write that failed it is as before.
+/// Its contracts name what was written until something is read. A write that fails changes nothing.
 impl<A: Archive> Write for MemoryConn<'_, A> {
     ghost use Rattle.feed_fetch_law.specs.MemoryConns.{unless_read};
 

@@ -38,15 +38,14 @@ fn fetch_from<A: Archive, K: Keep + Drop, O: Write, F: Write>(
     ensures gets { (file : List ℕ) → A.files name.now ≡ Some file → IsFetchable file → (h : History)
         → IsContent (recorded feed.old) h → IsOpenTo name.now file h → (result ≡ 0) ⊎ (result ≡ 3) }
 {
-    // The requests ask for this text, and it names the release.
+    // The requests have this text, which names the release.
     let _text = name.text();
     let mut dial = MemoryDial::<A>::new(alloc, files);
     fetch_with(alloc, &mut dial, feed, host, name, piece, out, faults)
 }
 
-/// Fetches the file of a release by `fetch_with` from a server over these files, of which the first of a name counts.
-/// Its contract is that of `fetch_with` where what the peer replies is known: that of such a peer asks for no premise
-/// of the peer.
+/// Fetches the file of a release with `fetch_with` from a server over these files. If a name appears twice, the first
+/// file counts. Its contract is that of `fetch_with` for a known peer, here without a premise about the peer.
 pub fn fetch_from_memory<K: Keep + Drop, O: Write, F: Write>(
     alloc: Global,
     files: &[NamedFile],
@@ -63,7 +62,7 @@ pub fn fetch_from_memory<K: Keep + Drop, O: Write, F: Write>(
     ensures goes { GoesOn (IsTold (Known (IsServed (file_named files.now))) host.now name.now)
         (EndsWith name.now result) (recorded feed.old) (recorded feed.new) }
 
-    // Where the file is there and good and the feed is open to it, the fetch ends with 0, or with 3 for a failure.
+    // If the file is there and good and the feed is open to it, the fetch ends with 0, or with 3 for a failure.
     ensures gets { (file : List ℕ) → file_named files.now name.now ≡ Some file → IsFetchable file → (h : History)
         → IsContent (recorded feed.old) h → IsOpenTo name.now file h → (result ≡ 0) ⊎ (result ≡ 3) }
 
