@@ -12,23 +12,23 @@ use Rattle.feed_resolver.specs.Parts.{parts_at}
 use Rattle.feed_resolver.specs.declared.representation.Representation.{Representation}
 use Rattle.feed_resolver.specs.declared.representation.Representation.TheVariants.{Text, Json, Html}
 
--- the first, or else the second
+-- the first, or otherwise the second
 abbrev pub or_else : {A : Type 0} → Option A → Option A → Option A
 or_else (Some x) other = Some x
 or_else None other = other
 
--- the digit at a place, or 0 where there is none
+-- the digit at a place, or 0 if there is none
 abbrev pub digit_at : List ℕ → ℕ → ℕ
 digit_at digits place = option_map_or (λ digit. digit - 48) (slice_get digits place) 0
 
--- the thousandths that at most three digits behind a point write
+-- the thousandths that at most three digits after a decimal point denote
 abbrev pub thousandths : List ℕ → Option ℕ
 thousandths digits =
     if nat_le (length digits) 3 && list_all is_ascii_digit digits
     then Some (digit_at digits 0 * 100 + digit_at digits 1 * 10 + digit_at digits 2)
     else None
 
--- the thousandths behind the first digit of a weight: nothing follows, or a point and digits
+-- the thousandths after the first digit of a weight: nothing follows, or a point and digits
 abbrev pub fraction : List ℕ → Option ℕ
 fraction [] = Some 0
 fraction (point ∷ digits) = if point == 46 then thousandths digits else None
@@ -45,41 +45,42 @@ weight_value (first ∷ rest) =
 abbrev pub weight_of : List ℕ → Option ℕ
 weight_of parameters = option_and_then weight_value (strip_prefix (codes "q=") (trimmed parameters))
 
--- the weight that an element gives the range, if it is of this range; where other parameters stand, it is of another one
+-- the weight that an element gives the range, if it is for this range; an element with other parameters is for another
+-- one
 abbrev pub weight_in : List ℕ → List ℕ → Option ℕ
 weight_in range element = option_map_or
     (λ parts. if str_eq_ignore_ascii_case (trimmed parts.0) range then weight_of parts.1 else None)
     (split_once 59 element)
     (if str_eq_ignore_ascii_case (trimmed element) range then Some 1000 else None)
 
--- that of the first element that gives it one
+-- the weight by the first element that gives one
 abbrev pub first_weight : List ℕ → List (List ℕ) → Option ℕ
 first_weight range [] = None
 first_weight range (element ∷ elements) = or_else (weight_in range element) (first_weight range elements)
 
--- the weight that a field's value gives a range; its elements stand between commas
+-- the weight that a field's value gives a range; its elements are separated by commas
 abbrev pub weight_under : List ℕ → List ℕ → Option ℕ
 weight_under range value = first_weight range (parts_at 44 value)
 
--- how much a media type is wished for: by its own range, else by that of its family, else by that of all types
+-- the weight of a media type: that of its own range, otherwise that of its family, otherwise that of all types
 abbrev pub wish : List ℕ → List ℕ → List ℕ → ℕ
 wish type family value = option_map_or (λ weight. weight)
     (or_else (weight_under type value) (or_else (weight_under family value) (weight_under (codes "*/*") value))) 0
 
--- the one that is wished for most; of equals text comes first, then HTML
+-- the representation with the greatest weight; of equals text comes first, then HTML
 abbrev pub most_wished : ℕ → ℕ → ℕ → Representation
 most_wished text json html =
     if nat_le html text && nat_le json text then Text
     else (if nat_le json html then Html else Json)
 
--- the representation that the value of an Accept field asks for
+-- the representation that the value of an Accept field prefers
 abbrev pub accepted : List ℕ → Representation
 accepted value = most_wished
     (wish (codes "text/plain") (codes "text/*") value)
     (wish (codes "application/json") (codes "application/*") value)
     (wish (codes "text/html") (codes "text/*") value)
 
--- that of a request: text, unless it has one Accept field that asks for another
+-- the representation that a request prefers: text, unless it has exactly one Accept field and that prefers another
 abbrev pub by_accept : RequestHead → Representation
 by_accept head = option_map_or accepted (only (values_named (codes "accept") head.fields)) Text
 
@@ -91,15 +92,15 @@ format_in piece =
     else (if bytes_eq piece (codes "format=html") then Some Html
     else None))
 
--- that of the first piece that names one
+-- the representation that the first such piece names
 abbrev pub first_format : List (List ℕ) → Option Representation
 first_format [] = None
 first_format (piece ∷ pieces) = or_else (format_in piece) (first_format pieces)
 
--- the representation that a query names, whose pieces stand between `&`
+-- the representation that a query names, whose pieces are separated by `&`
 abbrev pub format_of : List ℕ → Option Representation
 format_of query = first_format (parts_at 38 query)
 
--- that of a request with this query
+-- the representation for a request with this query
 abbrev pub representation_of : List ℕ → RequestHead → Representation
 representation_of query head = option_map_or (λ named. named) (format_of query) (by_accept head)

@@ -1,4 +1,4 @@
--- The hits of a query, as text, as JSON and as a page.
+-- The hits of a query, as text, as JSON and as HTML.
 use Rattle.std.specs.Prelude.{ℕ, ◌+◌, ◌==◌, if◌then◌else◌, List, [], ◌∷◌, ◌++◌, codes, Option, None, option_map}
 use Rattle.std.specs.List.{flat_map}
 use Rattle.std.specs.Fmt.{decimal}
@@ -20,27 +20,27 @@ use Rattle.feed_resolver.specs.Hits.{FoundValue, hits_among}
 use Rattle.feed_resolver.specs.declared.representation.Representation.{Representation}
 use Rattle.feed_resolver.specs.declared.representation.Representation.TheVariants.{Text, Json, Html}
 
--- texts in a row
+-- the concatenation of texts
 abbrev pub joined : List (List ℕ) → List ℕ
 joined texts = flat_map (λ text. text) texts
 
--- the name of a release, as it is written
+-- the text of a release's name
 unfoldable pub name_text : Name → List ℕ
 name_text name = text_of name
 
--- the answer of a release, as `Answer::write` has it
+-- the answer of a release, as `Answer::write` prints it
 unfoldable pub release_text : QueryValue → ActiveValue → List ℕ
 release_text query active = answer_text (text_of active.name) (answer_of active.holdings query)
 
--- the answers of releases
+-- the answers of all releases
 abbrev pub answers_text : QueryValue → List ActiveValue → List ℕ
 answers_text query actives = flat_map (release_text query) actives
 
--- what stands before the item at this place of a list in JSON
+-- the separator in front of the item at this place of a JSON list
 abbrev pub comma_before : ℕ → List ℕ
 comma_before place = if place == 0 then codes "\n" else codes ",\n"
 
--- the items from this place on, each behind its comma
+-- the items from this place on, each after its separator
 abbrev pub items_from : {A : Type 0} → (A → List ℕ) → ℕ → List A → List ℕ
 items_from item place [] = []
 items_from item place (x ∷ xs) = (comma_before place ++ item x) ++ items_from item (place + 1) xs
@@ -49,13 +49,13 @@ items_from item place (x ∷ xs) = (comma_before place ++ item x) ++ items_from 
 abbrev pub json_list : {A : Type 0} → (A → List ℕ) → List A → List ℕ
 json_list item xs = codes "[" ++ (items_from item 0 xs ++ codes "\n]\n")
 
--- the members of a hit's object that say of which release it is
+-- the members of a hit's object that identify its release
 unfoldable pub release_members : FoundValue → List ℕ
 release_members found = joined (
     codes "{\"package\":" ∷ json_string found.name.stem
     ∷ codes ",\"release\":" ∷ json_string (name_text found.name) ∷ [])
 
--- those of its row
+-- the members for its row
 unfoldable pub row_members : RowValue → List ℕ
 row_members row = joined (
     codes ",\"title\":" ∷ json_string row.title
@@ -66,37 +66,37 @@ row_members row = joined (
     ∷ codes ",\"access\":" ∷ json_string row.access
     ∷ codes "}" ∷ [])
 
--- and of its record and grade
+-- the members for its record and grade
 unfoldable pub grade_members : HitValue → List ℕ
 grade_members hit = joined (
     codes ",\"record\":" ∷ decimal hit.row.number ∷ codes ",\"grade\":" ∷ json_string (grade_text hit.grade) ∷ [])
 
--- a hit as an object
+-- a hit as a JSON object
 unfoldable pub hit_object : FoundValue → List ℕ
 hit_object found = release_members found ++ (grade_members found.hit ++ row_members found.hit.row)
 
--- the hits as a list of objects
+-- the hits as a JSON list of objects
 unfoldable pub hits_json : List FoundValue → List ℕ
 hits_json hits = json_list hit_object hits
 
--- a grade in words that a reader understands
+-- a grade in words for readers
 abbrev pub grade_words : Grade → List ℕ
 grade_words Inside = codes "covers all of what you asked for"
 grade_words Overlap = codes "covers a part of your date"
 grade_words Untested = codes "has the title; no date or volume was compared"
 
--- a title, which is a link where its URL may be one
+-- a title, which is a link if its URL is safe to link to
 unfoldable pub title_cell : List ℕ → List ℕ → List ℕ
 title_cell url title =
     if is_link url
     then joined (codes "<a href=\"" ∷ escaped url ∷ codes "\">" ∷ escaped title ∷ codes "</a>" ∷ [])
     else joined (escaped title ∷ [])
 
--- a text, or nothing where there is none
+-- a text, or nothing if there is none
 abbrev pub or_nothing : Option (List ℕ) → List ℕ
 or_nothing o = option_map_or (λ text. text) o []
 
--- from the one to the other, where either is known
+-- from the one to the other, if either is known
 abbrev pub span_text : Option (List ℕ) → Option (List ℕ) → List ℕ
 span_text None None = []
 span_text first last = joined (or_nothing first ∷ codes "&#8211;" ∷ or_nothing last ∷ [])
@@ -109,13 +109,13 @@ dates_text row = span_text (option_and_then date_of_day row.first_day) (option_a
 unfoldable pub volumes_text : RowValue → List ℕ
 volumes_text row = span_text (option_map decimal row.first_volume) (option_map decimal row.last_volume)
 
--- the cells that say what is covered
+-- the cells for the coverage
 unfoldable pub coverage_cells : HitValue → List ℕ
 coverage_cells hit =
     joined (codes "</th><td>" ∷ grade_words hit.grade ∷ codes "</td><td>" ∷ [])
     ++ (dates_text hit.row ++ (codes "</td><td>" ++ volumes_text hit.row))
 
--- those behind them
+-- the cells after them
 unfoldable pub text_cells : FoundValue → List ℕ
 text_cells found = joined (
     codes "</td><td>" ∷ escaped found.hit.row.depth
@@ -130,7 +130,7 @@ hit_row found =
     codes "<tr><th scope=\"row\">"
     ++ (title_cell found.hit.row.url found.hit.row.title ++ (coverage_cells found.hit ++ text_cells found))
 
--- the front of a page with this title
+-- the beginning of a page with this title
 unfoldable pub page_front : List ℕ → List ℕ
 page_front title = joined (
     codes "<!DOCTYPE html>\n<html lang=\"en\">\n<head>\n<meta charset=\"utf-8\">\n"
@@ -160,16 +160,16 @@ table_end = codes "</tbody>\n</table>\n</div>\n"
 unfoldable pub hits_table : List FoundValue → List ℕ
 hits_table hits = table_head ++ (flat_map hit_row hits ++ table_end)
 
--- the same, or that there are none
+-- the table, or the statement that nothing matches
 abbrev pub hits_part : List FoundValue → List ℕ
 hits_part [] = codes "<p>No holdings match.</p>\n"
 hits_part (found ∷ more) = hits_table (found ∷ more)
 
--- the hits as a page
+-- the hits as an HTML page
 unfoldable pub hits_page : List FoundValue → List ℕ
 hits_page hits = page_front (codes "Holdings") ++ (hits_part hits ++ page_end)
 
--- the answer of these releases
+-- the body of an answer from these releases
 unfoldable pub answers_body : Representation → QueryValue → List ActiveValue → List ℕ
 answers_body Text query actives = answers_text query actives
 answers_body Json query actives = hits_json (hits_among query actives)

@@ -1,10 +1,10 @@
--- Texts in a page (WHATWG HTML, sections 13.1.4 and 13.1.2.3): how they are escaped, and how a reader undoes it.
+-- Escaping texts in an HTML page (WHATWG HTML, sections 13.1.4 and 13.1.2.3), and how a browser decodes them.
 use Rattle.std.specs.Prelude.{ℕ, ◌==◌, ◌||◌, Bool, if◌then◌else◌, List, [], ◌∷◌, ◌++◌, codes, Option, Some, None, option_map}
 use Rattle.std.specs.List.{flat_map}
 use Rattle.std.specs.Option.{option_and_then}
 use Rattle.std.specs.Str.{bytes_eq}
 
--- a byte of a text, as it stands in a page
+-- a byte of a text, escaped for a page
 abbrev pub escape_byte : ℕ → List ℕ
 escape_byte b =
     if b == 60 then codes "&lt;"
@@ -14,7 +14,7 @@ escape_byte b =
     else (if b == 38 then codes "&amp;"
     else b ∷ []))))
 
--- a text, as it stands in a page
+-- a text, escaped for a page
 abbrev pub escaped : List ℕ → List ℕ
 escaped text = flat_map escape_byte text
 
@@ -22,7 +22,7 @@ escaped text = flat_map escape_byte text
 abbrev pub is_markup : ℕ → Bool
 is_markup b = (b == 60) || (b == 62) || (b == 34) || (b == 39)
 
--- the byte that the reference of this name stands for, which is written between `&` and `;`
+-- the byte of the character reference with this name, which is written between `&` and `;`
 abbrev pub referred : List ℕ → Option ℕ
 referred name =
     if bytes_eq name (codes "lt") then Some 60
@@ -32,11 +32,12 @@ referred name =
     else (if bytes_eq name (codes "amp") then Some 38
     else None))))
 
--- a text with one byte more in front
+-- a text with one more byte in front
 abbrev pub with_byte : ℕ → Option (List ℕ) → Option (List ℕ)
 with_byte b text = option_map (λ bytes. b ∷ bytes) text
 
--- what a page's text stands for, where it has no markup and each `&` begins a reference of the five; behind an `&`, its name so far
+-- decodes the text of a page, if it has no markup and each `&` begins one of the five references; after an `&`, with
+-- the name read so far
 abbrev pub undone : Option (List ℕ) → List ℕ → Option (List ℕ)
 undone None [] = Some []
 undone (Some name) [] = None
@@ -45,6 +46,6 @@ undone (Some name) (b ∷ text) =
     if b == 59 then option_and_then (λ c. with_byte c (undone None text)) (referred name)
     else undone (Some (name ++ b ∷ [])) text
 
--- what the text of a page stands for
+-- decodes the text of a page
 abbrev pub unescaped : List ℕ → Option (List ℕ)
 unescaped text = undone None text

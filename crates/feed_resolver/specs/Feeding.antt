@@ -1,4 +1,4 @@
--- What feeds a node over HTTP, and what it is replied.
+-- Fetch requests to a node over HTTP, and their replies.
 use Rattle.std.specs.Prelude.{◌≡◌, ◌⊎◌, ℕ, Bool, false, if◌then◌else◌, List, codes, take, drop, Option, Some, None}
 use Rattle.std.specs.Option.{option_map_or}
 use Rattle.std.specs.Str.{bytes_eq}
@@ -17,16 +17,16 @@ use Rattle.feed_resolver.specs.Replies.{refusal, reply_text, response_to, IsRepl
 use Rattle.feed_resolver.specs.declared.representation.Representation.TheVariants.{Text}
 use Rattle.feed_resolver.specs.declared.reply.Status.TheVariants as status
 
--- who may feed a node: who knows the token, where there is one, and while no other feeds it
+-- the authorization to fetch: the token that a client needs, if one is configured, and whether a fetch is under way
 pub record FeederValue : Type 0 where
   pub token : Option (List ℕ)
   pub is_busy : Bool
 
--- what follows `/feed/` in a path
+-- the path after `/feed/`
 abbrev pub behind_feed : List ℕ → Option (List ℕ)
 behind_feed path = if bytes_eq (take 6 path) (codes "/feed/") then Some (drop 6 path) else None
 
--- the release whose file is to be fetched, as a POST names it
+-- the release to fetch, as a POST names it
 abbrev pub fed_text : RequestHead → Option (List ℕ)
 fed_text head = if bytes_eq head.method (codes "POST") then behind_feed (path_in (origin_form head.target)) else None
 
@@ -34,19 +34,19 @@ fed_text head = if bytes_eq head.method (codes "POST") then behind_feed (path_in
 abbrev pub has_token : List ℕ → List ℕ → Bool
 has_token token value = option_map_or (λ rest. bytes_eq (trimmed rest) token) (strip_prefix (codes "Bearer ") value) false
 
--- the only Authorization field is that
+-- the request's only Authorization field has the token
 abbrev pub knows : List ℕ → RequestHead → Bool
 knows token head = option_map_or (has_token token) (only (values_named (codes "authorization") head.fields)) false
 
--- the head of the reply behind which the fetch is told as it goes
+-- the head of the reply that reports the progress of the fetch
 unfoldable pub told_head : List ℕ
 told_head = codes "HTTP/1.1 200 OK\r\nContent-Type: text/plain; charset=utf-8\r\nX-Content-Type-Options: nosniff\r\nConnection: close\r\n\r\n"
 
--- the reply to who knows the token
+-- the reply to a client that has the token
 abbrev pub known_reply : Bool → List ℕ
 known_reply is_busy = if is_busy then reply_text false (refusal status.Conflict Text (codes "Busy")) else told_head
 
--- the reply to who would feed the node
+-- the reply to a client that requests a fetch
 abbrev pub fed_reply : FeederValue → RequestHead → List ℕ
 fed_reply feeder head = option_map_or
     (λ token. if knows token head then known_reply feeder.is_busy else reply_text false (refusal status.Unauthorized Text (codes "Unauthorized")))
@@ -58,17 +58,17 @@ node_reply feeder actives head =
     if lacks_host head then response_to head actives
     else option_map_or (λ text. fed_reply feeder head) (fed_text head) (response_to head actives)
 
--- and to bytes
+-- the reply of a node to the bytes of a request
 abbrev pub IsNodeReply : FeederValue → List ℕ → List ActiveValue → List ℕ → Type 0
 IsNodeReply feeder bytes actives reply =
     ((head : RequestHead) × BeginsWithHead head_limit field_limit bytes head × (reply ≡ node_reply feeder actives head))
     ⊎ IsReplyToNone bytes reply
 
--- the request asks for this release to be fetched, and may
+-- the release that an authorized request asks to fetch
 abbrev pub asks_for : List ℕ → RequestHead → Option (List ℕ)
 asks_for token head = if lacks_host head then None else (if knows token head then fed_text head else None)
 
--- the bytes begin with such a request, of this release
+-- the bytes begin with such a request for this release
 pub record IsAskedBy (token bytes : List ℕ) (name : Name) : Type 0 where
   pub head : RequestHead
   pub begins : BeginsWithHead head_limit field_limit bytes head

@@ -12,7 +12,7 @@ use Rattle.feed_releases.specs.Actives.{ActiveValue}
 use Rattle.feed_resolver.specs.Links.{is_link}
 use Rattle.feed_resolver.specs.Accepts.{or_else}
 
--- a hit, and the release of which it is
+-- a hit, and its release
 pub record FoundValue : Type 0 where
   pub name : Name
   pub hit : HitValue
@@ -25,21 +25,21 @@ found_of name hit = record { name = name; hit = hit }
 abbrev pub found_in : QueryValue → ActiveValue → List FoundValue
 found_in query active = map (found_of active.name) (answer_of active.holdings query)
 
--- and in all these releases, in their order
+-- the hits in all the releases, in their order
 abbrev pub hits_among : QueryValue → List ActiveValue → List FoundValue
 hits_among query actives = flat_map (found_in query) actives
 
--- the release is one of the package
+-- the release belongs to the package
 abbrev pub is_of : List ℕ → ActiveValue → Bool
 is_of stem active = bytes_eq active.name.stem stem
 
--- how good a grade is
+-- the rank of a grade
 abbrev pub rank_of : Grade → ℕ
 rank_of Inside = 2
 rank_of Overlap = 1
 rank_of Untested = 0
 
--- the hit has this grade, and a URL that may be linked to
+-- the hit has this rank, and a URL that is safe to link to
 abbrev pub is_linked : ℕ → FoundValue → Bool
 is_linked rank found = (rank_of found.hit.grade == rank) && is_link found.hit.row.url
 
@@ -48,6 +48,6 @@ abbrev pub first_link : ℕ → List FoundValue → Option (List ℕ)
 first_link rank [] = None
 first_link rank (found ∷ more) = if is_linked rank found then Some found.hit.row.url else first_link rank more
 
--- the URL of the best hit: inside before overlap before untested, and of equals the first
+-- the URL of the best hit: inside before overlap before untested; of equals the first
 abbrev pub best_link : List FoundValue → Option (List ℕ)
 best_link hits = or_else (first_link 2 hits) (or_else (first_link 1 hits) (first_link 0 hits))

@@ -1,4 +1,4 @@
--- Strings of JSON (RFC 8259, section 7): how a text is written as one, and how one is read.
+-- Strings of JSON (RFC 8259, section 7): writing a text as one, and reading one.
 use Rattle.std.specs.Prelude.{ℕ, zero, suc, ◌+◌, ◌*◌, ◌/◌, ◌%◌, ◌-◌, ◌==◌, ◌||◌, ◌&&◌, nat_lt, nat_le, if◌then◌else◌, List, [], ◌∷◌, ◌++◌}
 use Rattle.std.specs.Prelude.{Option, Some, None, option_map, encode_utf8}
 use Rattle.std.specs.List.{flat_map}
@@ -8,7 +8,7 @@ use Rattle.std.specs.Option.{option_and_then}
 abbrev pub hex_digit : ℕ → ℕ
 hex_digit n = if nat_lt n 10 then 48 + n else 87 + n
 
--- a byte of a text, as it stands in a string
+-- a byte of a text, as written in a string
 abbrev pub json_byte : ℕ → List ℕ
 json_byte b =
     if b == 34 then 92 ∷ 34 ∷ []
@@ -28,7 +28,7 @@ digit_value d =
     else (if nat_le 65 d && nat_le d 70 then Some (d - 55)
     else None))
 
--- what stands behind a reverse solidus, but `u`
+-- the byte of an escape other than `\u`
 abbrev pub short_escape : ℕ → Option ℕ
 short_escape e =
     if (e == 34) || (e == 92) || (e == 47) then Some e
@@ -39,22 +39,23 @@ short_escape e =
     else (if e == 116 then Some 9
     else None)))))
 
--- where a reader stands: among characters, behind a reverse solidus, or before so many digits and one more, with the number so far
+-- the state of a reader: among characters, after a reverse solidus, or with this many and one more hexadecimal digits
+-- to read and the number so far
 pub data Place : Type 0 where
   Among : Place
   Behind : Place
   Digits : (more : ℕ) (number : ℕ) → Place
 
--- bytes before what follows
+-- bytes in front of a text
 abbrev pub with_bytes : List ℕ → Option (List ℕ) → Option (List ℕ)
 with_bytes front text = option_map (λ bytes. front ++ bytes) text
 
--- the quotation mark has to be the last byte
+-- the quotation mark must be the last byte
 abbrev pub ended : List ℕ → Option (List ℕ)
 ended [] = Some []
 ended (b ∷ more) = None
 
--- the bytes that stand up to the closing quotation mark, which is the last byte; half of a surrogate pair is not read
+-- the bytes up to the closing quotation mark, which is the last byte; an unpaired surrogate is invalid
 abbrev pub characters : Place → List ℕ → Option (List ℕ)
 characters place [] = None
 characters Among (b ∷ text) =

@@ -1,4 +1,4 @@
--- The laws of replies, and of the texts in them.
+-- Laws of replies, and of the texts in them.
 use Rattle.std.specs.Prelude.{◌≡◌, ℕ, List, Some, false, true, All}
 use Rattle.feed_names.specs.ReleaseName.{Name}
 use Rattle.feed_model.specs.History.{History, IsFile}
@@ -13,11 +13,11 @@ use Rattle.feed_resolver.specs.Replies.{IsResponseAt}
 abbrev pub EscapedHasNoMarkup : Type 0
 EscapedHasNoMarkup = (text : List ℕ) → All (λ b. is_markup b ≡ false) (escaped text)
 
--- undoing it gives the text back, so each `&` in it begins one of the five references that are written
+-- decoding an escaped text returns the text, so each `&` in it begins one of the five references
 abbrev pub EscapedReadsBack : Type 0
 EscapedReadsBack = (text : List ℕ) → unescaped (escaped text) ≡ Some text
 
--- a string of JSON reads as the text of which it was written
+-- a JSON string reads as the text from which it was written
 abbrev pub JsonReadsBack : Type 0
 JsonReadsBack = (text : List ℕ) → read_string (json_string text) ≡ Some text
 
@@ -25,11 +25,11 @@ JsonReadsBack = (text : List ℕ) → read_string (json_string text) ≡ Some te
 abbrev pub RedirectsToLink : Type 0
 RedirectsToLink = (hits : List FoundValue) (url : List ℕ) → best_link hits ≡ Some url → is_link url ≡ true
 
--- the whole files that a node has kept are the published ones
+-- the complete files that a node has stored are the published ones
 abbrev pub KeepsPublished : (Name → List ℕ) → History → Type 0
 KeepsPublished file h = (n : Name) (text : List ℕ) → IsFile h n text → text ≡ file n
 
--- two nodes that report the same releases, and have kept their published files, give each request the same bytes
+-- two nodes that report the same releases, and have stored their published files, give each request the same bytes
 abbrev pub SameReleasesSameBytes : Type 0
 SameReleasesSameBytes =
     (file : Name → List ℕ) (h k : History) (bytes response reply : List ℕ)

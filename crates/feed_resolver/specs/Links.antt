@@ -1,9 +1,9 @@
--- The URLs that may stand in a link and in a Location field (RFC 9110, sections 4.2 and 10.2.2).
+-- The URLs that are safe in a link and in a Location field (RFC 9110, sections 4.2 and 10.2.2).
 use Rattle.std.specs.Prelude.{ℕ, ◌&&◌, ◌||◌, Bool, nat_lt, nat_le, List, length, codes, take}
 use Rattle.std.specs.List.{list_all}
 use Rattle.std.specs.Str.{str_eq_ignore_ascii_case}
 
--- the text begins with this one, in capital or small letters, and goes on
+-- the text begins with this prefix, ignoring case, and is longer
 abbrev pub begins_with : List ℕ → List ℕ → Bool
 begins_with front text = nat_lt (length front) (length text) && str_eq_ignore_ascii_case (take (length front) text) front
 

@@ -1,4 +1,4 @@
--- The other bodies: the form, the active releases, and why a request is not answered.
+-- The other bodies: the form, the active releases, and errors.
 use Rattle.std.specs.Prelude.{ℕ, List, [], ◌∷◌, ◌++◌, codes}
 use Rattle.std.specs.List.{flat_map}
 use Rattle.feed_releases.specs.Actives.{ActiveValue}
@@ -21,7 +21,7 @@ active_items actives = codes "<ul>\n" ++ (flat_map active_item actives ++ codes 
 unfoldable pub active_line : ActiveValue → List ℕ
 active_line active = name_text active.name ++ codes "\n"
 
--- and as an object
+-- an active release as a JSON object
 unfoldable pub active_object : ActiveValue → List ℕ
 active_object active = joined (
     codes "{\"package\":" ∷ json_string active.name.stem ∷ codes ",\"release\":" ∷ json_string (name_text active.name) ∷ codes "}" ∷ [])
@@ -48,11 +48,11 @@ unfoldable pub front_page : List ActiveValue → List ℕ
 front_page actives =
     page_front (codes "Find holdings") ++ (form_text ++ (active_items actives ++ codes "</main>\n</body>\n</html>\n"))
 
--- a paragraph with the name of a fault
+-- a paragraph with the name of an error
 unfoldable pub fault_part : List ℕ → List ℕ
 fault_part name = joined (codes "<p>" ∷ name ∷ codes "</p>\n" ∷ [])
 
--- the name of a fault
+-- the body with the name of an error
 unfoldable pub fault_body : Representation → List ℕ → List ℕ
 fault_body Text name = joined (name ∷ codes "\n" ∷ [])
 fault_body Json name = joined (codes "{\"fault\":" ∷ json_string name ∷ codes "}\n" ∷ [])

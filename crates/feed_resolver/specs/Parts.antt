@@ -6,11 +6,11 @@ use Rattle.std.specs.List.{slice_split}
 abbrev pub parts_at : ℕ → List ℕ → List (List ℕ)
 parts_at byte text = slice_split (λ other. other == byte) text
 
--- the first part, and what stands behind the byte that ends it
+-- the first part, and the text after the byte that ends it
 pub record IsFirstPart (byte : ℕ) (text part rest : List ℕ) : Type 0 where
   pub parts : parts_at byte text ≡ part ∷ parts_at byte rest
   pub less : length rest < length text
 
--- no such byte stands there
+-- the text has no such byte
 abbrev pub IsOnePart : ℕ → List ℕ → Type 0
 IsOnePart byte text = parts_at byte text ≡ text ∷ []

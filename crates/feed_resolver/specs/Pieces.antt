@@ -1,4 +1,4 @@
--- The pieces of which a reply is put together.
+-- The pieces of a reply.
 use Rattle.std.specs.Prelude.{ℕ, List}
 use Rattle.std.specs.List.{flat_map}
 use Rattle.std.specs.Fmt.{decimal}
@@ -7,13 +7,13 @@ use Rattle.feed_resolver.specs.declared.piece.Piece.TheVariants.{Plain, Escaped,
 use Rattle.feed_resolver.specs.Escapes.{escaped}
 use Rattle.feed_resolver.specs.JsonStrings.{json_string}
 
--- what a piece writes
+-- the text of a piece
 abbrev pub piece_text : Piece → List ℕ
 piece_text (Plain text) = text.now
 piece_text (Escaped text) = escaped text.now
 piece_text (Quoted text) = json_string text.now
 piece_text (Number n) = decimal n
 
--- what pieces in a row write
+-- the text of consecutive pieces
 abbrev pub pieces_text : List Piece → List ℕ
 pieces_text pieces = flat_map piece_text pieces

@@ -28,22 +28,22 @@ use Rattle.feed_resolver.specs.declared.representation.Representation.TheVariant
 use Rattle.feed_resolver.specs.declared.reply.Status.{Status}
 use Rattle.feed_resolver.specs.declared.reply.Status.TheVariants as status
 
--- a reply: its status, where it sends the reader, if anywhere, and its body
+-- a reply: its status, the location of a redirect, if any, its representation, and its body
 pub record ReplyValue : Type 0 where
   pub status : Status
   pub location : List ℕ
   pub representation : Representation
   pub body : List ℕ
 
--- a reply that sends the reader nowhere
+-- a reply that is not a redirect
 abbrev pub reply_with : Status → Representation → List ℕ → ReplyValue
 reply_with code representation body = record { status = code; location = []; representation = representation; body = body }
 
--- one that does
+-- a redirect
 abbrev pub redirect_to : List ℕ → ReplyValue
 redirect_to url = record { status = status.Found; location = url; representation = Text; body = [] }
 
--- one that tells a fault
+-- an error reply
 abbrev pub refusal : Status → Representation → List ℕ → ReplyValue
 refusal code representation name = reply_with code representation (fault_body representation name)
 
@@ -82,21 +82,21 @@ reply_head reply =
     ∷ codes "\r\nContent-Length: " ∷ decimal (length reply.body)
     ∷ codes "\r\nVary: Accept\r\nX-Content-Type-Options: nosniff\r\nConnection: close\r\n\r\n" ∷ []))
 
--- the bytes of a reply, of which a HEAD asks for the head alone
+-- the bytes of a reply; the reply to a HEAD has no body
 abbrev pub reply_text : Bool → ReplyValue → List ℕ
 reply_text head_alone reply = reply_head reply ++ (if head_alone then [] else reply.body)
 
--- the status of a query that is refused
+-- the status for a query that is rejected
 abbrev pub refused_status : QueryFault → Status
 refused_status TooLong = status.UriTooLong
 refused_status fault = status.BadRequest
 
--- what a query gives, by what it asks for or why it is refused
+-- the reply to a query, or the error if it is rejected
 abbrev pub by_query : Representation → (QueryValue → ReplyValue) → Result QueryValue QueryFault → ReplyValue
 by_query representation reply (Ok query) = reply query
 by_query representation reply (Err fault) = refusal (refused_status fault) representation (query_fault_text fault)
 
--- the hits of these releases
+-- the hits in the given releases
 abbrev pub answered : Status → Representation → List ActiveValue → QueryValue → ReplyValue
 answered code representation actives query = reply_with code representation (answers_body representation query actives)
 
@@ -113,12 +113,12 @@ abbrev pub packaged : Representation → List ℕ → List ℕ → List ActiveVa
 packaged representation stem text actives = option_map_or (resolved_at representation text actives)
     (position (is_of stem) actives) (refusal status.NotFound representation (codes "NoRelease"))
 
--- the way to the best hit, or the answer where no hit has one
+-- a redirect to the best hit, or the answer if no hit has a link
 abbrev pub sent_on : Representation → List ActiveValue → QueryValue → ReplyValue
 sent_on representation actives query = option_map_or redirect_to
     (best_link (hits_among query actives)) (answered status.NotFound representation actives query)
 
--- what is asked for by its path
+-- the reply by the kind of path
 abbrev pub by_path : Asked → RequestHead → List ℕ → List ActiveValue → ReplyValue
 by_path asked.Front head target actives = reply_with status.Good Html (front_page actives)
 by_path asked.Status head target actives =
@@ -139,7 +139,7 @@ is_other_method method =
     bytes_eq method (codes "POST") || bytes_eq method (codes "PUT") || bytes_eq method (codes "DELETE")
     || bytes_eq method (codes "CONNECT") || bytes_eq method (codes "OPTIONS") || bytes_eq method (codes "TRACE")
 
--- a body follows whose length is not told beforehand
+-- a body of unknown length follows
 abbrev pub has_coded_body : RequestHead → Bool
 has_coded_body head = has_any (values_named (codes "transfer-encoding") head.fields)
 
@@ -156,24 +156,24 @@ reply_to head actives =
 abbrev pub response_to : RequestHead → List ActiveValue → List ℕ
 response_to head actives = reply_text (is_head head) (reply_to head actives)
 
--- and of the reply to bytes that are none
+-- the bytes of the reply to bytes without a valid head
 abbrev pub response_to_none : List ℕ
 response_to_none = reply_text false (refusal status.BadRequest Text (codes "BadHead"))
 
--- the reply to the head that stands in front, within the limits
+-- the reply to the head at the front of the bytes, within the limits
 abbrev pub IsReplyToHead : List ℕ → List ActiveValue → List ℕ → Type 0
 IsReplyToHead bytes actives response =
     (head : RequestHead) × BeginsWithHead head_limit field_limit bytes head × (response ≡ response_to head actives)
 
--- the reply where none stands there
+-- the reply if the bytes have no such head
 abbrev pub IsReplyToNone : List ℕ → List ℕ → Type 0
 IsReplyToNone bytes response =
     ((head : RequestHead) → ¬ (BeginsWithHead head_limit field_limit bytes head)) × (response ≡ response_to_none)
 
--- the reply to bytes
+-- the reply to the bytes of a request
 abbrev pub IsResponse : List ℕ → List ActiveValue → List ℕ → Type 0
 IsResponse bytes actives response = IsReplyToHead bytes actives response ⊎ IsReplyToNone bytes response
 
--- the reply by just the releases that a feed at this history reports, with the holdings of their whole files
+-- the reply from exactly the releases that a feed with this history reports, with the holdings of their complete files
 abbrev pub IsResponseAt : History → List ℕ → List ℕ → Type 0
 IsResponseAt h bytes response = (actives : List ActiveValue) × AreReported h actives × IsResponse bytes actives response

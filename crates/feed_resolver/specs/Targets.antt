@@ -1,4 +1,4 @@
--- What the target of a request asks for (RFC 9112, section 3.2).
+-- Interpreting the target of a request (RFC 9112, section 3.2).
 use Rattle.std.specs.Prelude.{ℕ, if◌then◌else◌, List, [], Bool, codes, drop, take}
 use Rattle.std.specs.Option.{option_map_or}
 use Rattle.std.specs.Str.{bytes_eq}
@@ -11,7 +11,7 @@ use Rattle.feed_resolver.specs.declared.target.Asked.TheVariants.{Front, Status,
 abbrev pub path_in : List ℕ → List ℕ
 path_in target = option_map_or (λ parts. parts.0) (split_once 63 target) target
 
--- and its query, behind the question mark
+-- the query of such a target, after the question mark
 abbrev pub query_in : List ℕ → List ℕ
 query_in target = option_map_or (λ parts. parts.1) (split_once 63 target) []
 
@@ -22,11 +22,11 @@ path_of target = path_in (origin_form target)
 abbrev pub query_of : List ℕ → List ℕ
 query_of target = query_in (origin_form target)
 
--- the front of a path that names a package
+-- whether a path begins with `/resolve/`, and so names a package
 abbrev pub names_package : List ℕ → Bool
 names_package path = bytes_eq (take 9 path) (codes "/resolve/")
 
--- what a path asks for
+-- the kind of resource that a path names
 abbrev pub asked_of : List ℕ → Asked
 asked_of path =
     if bytes_eq path (codes "/") then Front

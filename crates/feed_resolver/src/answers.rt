@@ -1,4 +1,4 @@
-//! The hits of a query, as text, as JSON and as a page.
+//! Writes the hits of a query as text, as JSON and as HTML.
 ghost use Rattle.std.specs.Prelude.{◌≡◌, ◌++◌, ◌∷◌, [], OnOk, codes, option_map};
 ghost use Rattle.std.specs.List.{flat_map};
 ghost use Rattle.std.specs.Fmt.{decimal};
@@ -357,7 +357,7 @@ fn put_page(out: &mut Vec<u8>, hits: &[Found<'_>]) -> Result<(), AllocError>
     put_end(out)
 }
 
-/// The answer of these releases to a query.
+/// Writes the answer of the given releases to a query.
 #[tactic(auto, unfolding(crate::specs::Answers::answers_body))]
 pub(crate) fn put_answer(
     alloc: Global,

@@ -1,4 +1,4 @@
-//! Texts in pages and in JSON.
+//! Escapes texts for HTML pages and for JSON.
 ghost use Rattle.std.specs.Prelude.{◌≡◌, ◌<◌, ◌++◌, ◌∷◌, [], OnOk, codes};
 ghost use Rattle.std.specs.List.{flat_map};
 ghost use Rattle.feed_resolver.specs.Escapes.{escape_byte, escaped};
@@ -25,7 +25,7 @@ fn put_escaped_byte(out: &mut Vec<u8>, byte: u8) -> Result<(), AllocError>
     }
 }
 
-/// Writes a text as it stands in the text or an attribute's value of a page (WHATWG HTML, section 13.1.4).
+/// Writes a text escaped for an HTML page, as text or as an attribute's value (WHATWG HTML, section 13.1.4).
 pub(crate) fn put_escaped(out: &mut Vec<u8>, text: &[u8]) -> Result<(), AllocError>
     ensures { OnOk result (out.new.items ≡ out.old.items ++ escaped text.now) }
 {

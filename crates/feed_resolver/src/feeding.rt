@@ -1,4 +1,4 @@
-//! What feeds a node over HTTP: a POST of `/feed/` and the name of a release, by who knows the token.
+//! Fetch requests to a node: an authorized POST of `/feed/` and the name of a release.
 ghost use Rattle.std.specs.Prelude.{◌≡◌, IfOk, IfSome, option_copied};
 ghost use Rattle.httparse.specs.Grammar.{RequestHead};
 ghost use Rattle.feed_heads.specs.Requests.{IsInBuffer, HasHead};
@@ -21,12 +21,12 @@ use httparse::spans::EMPTY_HEADER_SPAN;
 use std::alloc::{AllocError, Global};
 use std::marker::Model;
 
-/// Who may feed a node.
+/// The authorization to make a node fetch.
 #[derive(Drop)]
 pub struct Feeder<'t> {
-    /// What they have to know. Without it nobody may.
+    /// The token that a client needs. Without one, no client may make the node fetch.
     pub token: Option<&'t [u8]>,
-    /// Somebody does, so that another may not.
+    /// Whether a fetch is under way, which excludes another one.
     pub is_busy: bool,
 }
 
@@ -168,11 +168,11 @@ fn node_reply_with(
     }
 }
 
-/// What a node replies to a request: to one that would feed it, by who may; to any other as `respond`.
+/// Returns the reply of a node to a request: to a fetch request by its authorization, and to any other as `respond`.
 ///
 /// # Errors
 ///
-/// Want of memory.
+/// Running out of memory.
 pub fn respond_as_node<K: Keep + Drop>(
     alloc: Global,
     bytes: &[u8],
@@ -198,7 +198,7 @@ fn asks_for<'b>(token: &[u8], request: &Request<'b>) -> Option<&'b [u8]>
     }
 }
 
-/// The release that a request asks to be fetched, if it may, or why the text behind `/feed/` names none.
+/// Returns the release that an authorized request asks to fetch, or why the text after `/feed/` is not a release name.
 pub fn fetch_asked(
     alloc: Global,
     bytes: &[u8],

@@ -1,4 +1,4 @@
-//! The hits of a query among active releases.
+//! Finds the hits of a query in the active releases, and the best link among them.
 ghost use Rattle.std.specs.Prelude.{◌≡◌, ◌++◌, IfOk, OnOk, map, option_copied};
 ghost use Rattle.feed_answer.specs.HitValue.{hit_of};
 ghost use Rattle.feed_resolver.specs.Hits.{found_of, found_in, hits_among, rank_of, is_linked, first_link, best_link};
@@ -11,7 +11,7 @@ use feed_releases::ActiveRelease;
 use std::alloc::{AllocError, Global};
 use std::marker::Model;
 
-/// A hit, and the release of which it is.
+/// A hit, and its release.
 #[derive(Drop)]
 pub(crate) struct Found<'a> {
     name: &'a ReleaseName,
@@ -82,7 +82,7 @@ fn add_release<'a>(
     add_hits(found, active.name(), answer.hits())
 }
 
-/// The hits of a query in these releases, in their order.
+/// Returns the hits of a query in the releases, in their order.
 pub(crate) fn hits_among<'a>(
     alloc: Global,
     actives: &[ActiveRelease<'a>],
@@ -124,7 +124,7 @@ fn first_link<'a>(hits: &[Found<'a>], rank: u8) -> Option<&'a [u8]>
     None
 }
 
-/// The URL of the best hit that has one: inside before overlap before untested, and of equals the first.
+/// Returns the URL of the best hit that has a link: inside before overlap before untested; of equals the first.
 pub(crate) fn best_link<'a>(hits: &[Found<'a>]) -> Option<&'a [u8]>
     ensures { option_copied result ≡ best_link hits.now }
 {

@@ -1,5 +1,5 @@
-//! A link resolver over HTTP/1.1: any OpenURL (ANSI/NISO Z39.88-2004) in the target of a request, and one reply, which
-//! is a function of the request's head and of the active releases of a feed.
+//! A link resolver over HTTP/1.1: the target of a request is an OpenURL (ANSI/NISO Z39.88-2004), and the reply is a
+//! function of the request's head and of the active releases of a feed.
 #![tactic(auto)]
 
 mod answers;

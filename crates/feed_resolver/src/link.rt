@@ -1,4 +1,4 @@
-//! Which URLs are linked to.
+//! Decides which URLs are safe to link to.
 ghost use Rattle.std.specs.Prelude.{◌≡◌};
 ghost use Rattle.std.specs.List.{list_all};
 ghost use Rattle.feed_resolver.specs.Links.{begins_with, is_link, is_visible};
@@ -21,7 +21,7 @@ fn is_all_visible(url: &[u8]) -> bool
     url.iter().all(|byte| is_visible(*byte))
 }
 
-/// Whether a text is a URL of `http` or `https` in visible ASCII, so that it may stand in a link and in a
+/// Returns whether a text is a URL of `http` or `https` in visible ASCII, so that it is safe in a link and in a
 /// Location field (RFC 9110, section 10.2.2).
 pub(crate) fn is_link(url: &[u8]) -> bool
     ensures { result ≡ is_link url.now }

@@ -1,4 +1,4 @@
-//! The parts that all pages have.
+//! The beginning and the end of every HTML page.
 ghost use Rattle.std.specs.Prelude.{◌≡◌, ◌++◌, OnOk};
 ghost use Rattle.feed_resolver.specs.Answers.{page_front, page_end};
 
@@ -6,7 +6,7 @@ use crate::escape::put;
 use crate::piece::{Piece, put_all};
 use std::alloc::AllocError;
 
-/// Writes a page up to its heading, which is its title too.
+/// Writes a page up to and including its heading, which is also its title.
 #[tactic(auto, unfolding(crate::specs::Answers::page_front))]
 pub(crate) fn put_front(out: &mut Vec<u8>, title: &[u8]) -> Result<(), AllocError>
     ensures { OnOk result (out.new.items ≡ out.old.items ++ page_front title.now) }

@@ -1,4 +1,4 @@
-//! The pieces of which a reply is put together.
+//! Writes a reply piece by piece, with the escaping that each needs.
 ghost use Rattle.std.specs.Prelude.{◌≡◌, ◌++◌, OnOk};
 ghost use Rattle.feed_resolver.specs.Pieces.{piece_text, pieces_text};
 
@@ -11,9 +11,9 @@ use std::io::Write;
 pub(crate) enum Piece<'a> {
     /// These bytes.
     Plain(&'a [u8]),
-    /// A text of a page.
+    /// A text, escaped for a page.
     Escaped(&'a [u8]),
-    /// A string of JSON.
+    /// A text, as a JSON string.
     Quoted(&'a [u8]),
     /// A number in decimal digits.
     Number(u64),
@@ -41,7 +41,7 @@ impl Piece<'_> {
     }
 }
 
-/// Writes the pieces, one behind another.
+/// Writes the pieces, one after another.
 pub(crate) fn put_all(out: &mut Vec<u8>, pieces: &[Piece<'_>]) -> Result<(), AllocError>
     ensures { OnOk result (out.new.items ≡ out.old.items ++ pieces_text pieces.now) }
 {

@@ -1,4 +1,4 @@
-//! The bytes of replies.
+//! Replies, and their bytes.
 ghost use Rattle.std.specs.Prelude.{◌≡◌, ◌++◌, IfOk, OnOk, length};
 ghost use Rattle.feed_resolver.specs.Replies.{ReplyValue, reply_head, reply_text, reply_with, refusal, redirect_to};
 ghost use Rattle.feed_resolver.specs.Replies.{status_text, status_field, type_text};
@@ -33,7 +33,7 @@ pub(crate) enum Status {
     NotImplemented,
 }
 
-/// A reply: where it sends the reader is empty unless its status is `Found`.
+/// A reply. Its location is empty unless its status is `Found`.
 #[derive(Drop)]
 pub(crate) struct Reply<'a> {
     status: Status,
@@ -154,7 +154,7 @@ impl<'a> Reply<'a> {
         )
     }
 
-    /// The bytes of the reply, without its body where only its head is asked for.
+    /// Returns the bytes of the reply, without its body if only the head was requested.
     pub(crate) fn text(&self, alloc: Global, head_alone: bool) -> Result<Vec<u8>, AllocError>
         ensures { IfOk result (λ text. text.items ≡ reply_text head_alone self.now) }
     {
@@ -167,7 +167,7 @@ impl<'a> Reply<'a> {
     }
 }
 
-/// A reply that tells a fault.
+/// Returns an error reply.
 pub(crate) fn refusal(
     alloc: Global,
     status: Status,

@@ -1,4 +1,4 @@
-//! Which representation a request asks for.
+//! Chooses the representation that a request prefers (RFC 9110, sections 12.4.2 and 12.5.1).
 ghost use Rattle.std.specs.Prelude.{◌≡◌, ◌∷◌};
 ghost use Rattle.std.specs.List.{list_all};
 ghost use Rattle.std.specs.Char.{is_ascii_digit};
@@ -13,10 +13,10 @@ use crate::text::{split_once, strip_prefix};
 use feed_heads::Fields;
 use feed_identifiers::trim_spaces;
 
-/// How an answer is written.
+/// The format of an answer.
 #[derive(Clone, Copy, Debug, PartialEq, Eq)]
 pub enum Representation {
-    /// `text/plain`, as `Answer::write` has it.
+    /// `text/plain`, as `Answer::write` prints it.
     Text,
     /// `application/json`.
     Json,
@@ -159,7 +159,7 @@ fn accepted(value: &[u8]) -> Representation
     )
 }
 
-/// The representation that the Accept field asks for: text without one, and where there are several.
+/// Returns the representation that the Accept field prefers. It is text if there is no such field, or several.
 pub(crate) fn by_accept(fields: &Fields<'_>) -> Representation
     requires { AreWithin fields.now }
     ensures { (head : RequestHead) → AreFieldsOf fields.now head.fields → result ≡ by_accept head }
@@ -197,7 +197,7 @@ fn format_of(query: &[u8]) -> Option<Representation>
     format_in(rest)
 }
 
-/// The representation that a query names, or else the Accept field.
+/// Returns the representation that a query names, or otherwise that of the Accept field.
 pub(crate) fn representation_of(query: &[u8], fields: &Fields<'_>) -> Representation
     requires { AreWithin fields.now }
     ensures { (head : RequestHead) → AreFieldsOf fields.now head.fields

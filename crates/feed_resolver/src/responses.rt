@@ -1,4 +1,4 @@
-//! From the head of a request to the bytes of its reply.
+//! Computes the reply to the head of a request.
 ghost use Rattle.std.specs.Prelude.{◌≡◌, IfOk, position};
 ghost use Rattle.httparse.specs.Grammar.{RequestHead};
 ghost use Rattle.feed_heads.specs.Requests.{IsInBuffer, HasHead};
@@ -247,7 +247,7 @@ pub(crate) fn response_to_none(alloc: Global) -> Result<Vec<u8>, AllocError>
     refusal(alloc, Status::BadRequest, Representation::Text, b"BadHead")?.text(alloc, false)
 }
 
-/// The reply to the head in front of the bytes, by these releases.
+/// Returns the reply to the head at the front of the bytes, from the given releases.
 pub fn respond_with(
     alloc: Global,
     bytes: &[u8],
@@ -270,12 +270,12 @@ pub fn respond_with(
     }
 }
 
-/// The whole reply to a request, whose head stands in front of the bytes: what follows the head is not looked at.
-/// Of the feed its active releases alone are looked at. It reads and writes nothing, and keeps nothing.
+/// Returns the whole reply to a request, whose head is at the front of the bytes. Ignores what follows the head, and
+/// uses only the active releases of the feed. Reads and writes nothing, and stores nothing.
 ///
 /// # Errors
 ///
-/// Want of memory, which whoever runs it may tell as 503.
+/// Running out of memory, which the caller may report as status 503.
 pub fn respond<K: Keep + Drop>(
     alloc: Global,
     bytes: &[u8],
@@ -283,7 +283,8 @@ pub fn respond<K: Keep + Drop>(
 ) -> Result<Vec<u8>, AllocError>
     ensures value { IfOk result (λ response. IsResponse bytes.now (actives_of (releases_of feed.now)) response.items) }
 
-    // Whatever history the feed stands at: by the releases that it reports, with the holdings of their whole files.
+    // For every history that the feed may have: from the releases that it reports, with the holdings of their complete
+    // files.
     ensures reported { IfOk result (λ response. (h : History) → IsContent (recorded feed.now) h
         → IsResponseAt h bytes.now response.items) }
 {

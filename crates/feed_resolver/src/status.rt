@@ -1,4 +1,4 @@
-//! The other bodies: the form, the active releases, and why a request is not answered.
+//! Writes the other bodies: the form, the active releases, and errors.
 ghost use Rattle.std.specs.Prelude.{◌≡◌, ◌++◌, OnOk};
 ghost use Rattle.std.specs.List.{flat_map};
 ghost use Rattle.feed_resolver.specs.Answers.{items_from, json_list};
@@ -108,7 +108,7 @@ fn put_page(out: &mut Vec<u8>, actives: &[ActiveRelease<'_>]) -> Result<(), Allo
     put_end(out)
 }
 
-/// The active releases.
+/// Writes the active releases.
 #[tactic(auto, unfolding(crate::specs::Pages::status_body))]
 pub(crate) fn put_status(
     out: &mut Vec<u8>,
@@ -154,7 +154,7 @@ fn put_form(out: &mut Vec<u8>) -> Result<(), AllocError>
     )
 }
 
-/// The page with the form and the packages.
+/// Writes the page with the form and the packages.
 #[tactic(auto, unfolding(crate::specs::Pages::front_page))]
 pub(crate) fn put_front_page(
     out: &mut Vec<u8>,
@@ -191,7 +191,7 @@ fn put_fault_page(out: &mut Vec<u8>, name: &[u8]) -> Result<(), AllocError>
     put_end(out)
 }
 
-/// Why a request is not answered.
+/// Writes the name of an error.
 #[tactic(auto, unfolding(crate::specs::Pages::fault_body))]
 pub(crate) fn put_fault(
     out: &mut Vec<u8>,

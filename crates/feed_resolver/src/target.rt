@@ -1,11 +1,11 @@
-//! What the target of a request asks for.
+//! Interprets the target of a request.
 ghost use Rattle.std.specs.Prelude.{◌≡◌, ◌≤◌, length};
 ghost use Rattle.feed_resolver.specs.Targets.{path_in, query_in, names_package};
 ghost use Rattle.feed_resolver.specs.Targets.{asked_of, package_of};
 
 use crate::text::split_once;
 
-/// What a path asks for.
+/// The kind of resource that a path names.
 #[derive(Clone, Copy, Debug, PartialEq, Eq)]
 pub(crate) enum Asked {
     /// `/`: the form, and the packages.
@@ -18,11 +18,11 @@ pub(crate) enum Asked {
     Package,
     /// `/go`: a redirect to the best hit.
     Go,
-    /// Nothing that there is.
+    /// No resource.
     Nothing,
 }
 
-/// The path of a target that begins with it.
+/// Returns the path of a target that begins with it.
 pub(crate) fn path_in(target: &[u8]) -> &[u8]
     ensures { result.now ≡ path_in target.now }
 {
@@ -32,7 +32,7 @@ pub(crate) fn path_in(target: &[u8]) -> &[u8]
     }
 }
 
-/// The query of such a target, which is empty where there is none.
+/// Returns the query of such a target. It is empty if there is none.
 pub(crate) fn query_in(target: &[u8]) -> &[u8]
     ensures { result.now ≡ query_in target.now }
 {
@@ -49,7 +49,7 @@ fn names_package(path: &[u8]) -> bool
     front == b"/resolve/".as_slice()
 }
 
-/// What a path asks for. Nothing in it is decoded.
+/// Returns the kind of resource that a path names. Decodes nothing.
 pub(crate) fn asked_of(path: &[u8]) -> Asked
     ensures { result ≡ asked_of path.now }
 {
@@ -68,7 +68,7 @@ pub(crate) fn asked_of(path: &[u8]) -> Asked
     }
 }
 
-/// The package that such a path names.
+/// Returns the package that such a path names.
 pub(crate) fn package_of(path: &[u8]) -> &[u8]
     ensures { result.now ≡ package_of path.now }
 {

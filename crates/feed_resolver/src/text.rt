@@ -1,4 +1,4 @@
-//! The parts of a text.
+//! Splitting texts.
 ghost use Rattle.std.specs.Prelude.{◌≡◌, ◌==◌, All, false, IfNone, IfSome, option_map, option_copied, position};
 ghost use Rattle.feed_range.specs.Text.{split_once, strip_prefix};
 ghost use Rattle.feed_resolver.specs.Parts.{IsFirstPart, IsOnePart};
@@ -10,7 +10,7 @@ pub(crate) fn place_of(text: &[u8], byte: u8) -> Option<usize>
     text.iter().position(|other| *other == byte)
 }
 
-/// What stands before the first such byte, and what behind it.
+/// Returns the texts before and after the first such byte.
 pub(crate) fn split_once(text: &[u8], byte: u8) -> Option<(&[u8], &[u8])>
     ensures value { option_map (λ parts. (parts.0.now, parts.1.now)) result ≡ split_once byte text.now }
     ensures parts { IfSome result (λ parts. IsFirstPart byte text.now parts.0.now parts.1.now) }
@@ -22,7 +22,7 @@ pub(crate) fn split_once(text: &[u8], byte: u8) -> Option<(&[u8], &[u8])>
     }
 }
 
-/// What follows the prefix, if it stands in front, in capital or small letters.
+/// Returns the text after a leading prefix, ignoring case.
 pub(crate) fn strip_prefix<'t>(text: &'t [u8], prefix: &[u8]) -> Option<&'t [u8]>
     ensures { option_copied result ≡ strip_prefix prefix.now text.now }
 {
