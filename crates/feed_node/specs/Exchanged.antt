@@ -1,4 +1,4 @@
--- What went between a connection and its streams.
+-- The bytes exchanged between a connection and its reader and writer.
 use Rattle.std.specs.Prelude.{◌≡◌, ℕ, List, [], ◌∷◌, ◌++◌, Option}
 use Rattle.std.specs.Io.KnownBytes.{Consumes, Appends}
 use Rattle.feed_node.specs.declared.connection.Connection.{Connection}
@@ -6,7 +6,7 @@ use Rattle.feed_node.specs.Happenings.{Happening, Came, Answered, Went, Passed, 
 use Rattle.feed_node.specs.Replies.{Replies, IsReplyTo}
 use Rattle.feed_node.specs.Standing.{StandsAt}
 
--- each reply that was made in this time is one to all that had come
+-- each reply made in this period answers all bytes received until then
 abbrev pub AreReplies : Replies → List Happening → List Happening → Type 0
 AreReplies replies [] history = Unit {0}
 AreReplies replies (Came bytes ∷ more) history = AreReplies replies more history
@@ -14,8 +14,8 @@ AreReplies replies (Answered reply ∷ more) history = IsReplyTo replies (come (
 AreReplies replies (Went bytes ∷ more) history = AreReplies replies more history
 AreReplies replies (Passed millis ∷ more) history = AreReplies replies more history
 
--- more happened, at which the connection stands: the bytes that came are those that the reader gave, and the bytes that
--- went are those that the writer took
+-- more happened, and the connection has reached that state: the bytes received are those that the reader returned, and
+-- the bytes sent are those that the writer accepted
 pub record GoesOn (replies : Replies) (new : Connection) (history : List Happening)
     (unread read : Option (List ℕ)) (unwritten written : Option (List ℕ)) : Type 0 where
   pub more : List Happening
@@ -24,7 +24,7 @@ pub record GoesOn (replies : Replies) (new : Connection) (history : List Happeni
   pub came : Consumes unread read (come more)
   pub went : Appends unwritten written (gone more)
 
--- the same of the reader alone, to which nothing is written
+-- the same for the reader alone; nothing is sent
 pub record HasHeard (replies : Replies) (new : Connection) (history : List Happening) (unread read : Option (List ℕ)) : Type 0 where
   pub more : List Happening
   pub stands : StandsAt new (more ++ history)
@@ -32,7 +32,7 @@ pub record HasHeard (replies : Replies) (new : Connection) (history : List Happe
   pub came : Consumes unread read (come more)
   pub none_went : gone more ≡ []
 
--- the same of the writer alone
+-- the same for the writer alone
 pub record HasTold (new : Connection) (history : List Happening) (unwritten written : Option (List ℕ)) : Type 0 where
   pub more : List Happening
   pub stands : StandsAt new (more ++ history)

@@ -1,4 +1,4 @@
--- What bytes of a request are answered.
+-- The replies to the bytes of a request.
 use Rattle.std.specs.Prelude.{◌≡◌, ◌⊎◌, ℕ, List, ◌++◌, codes}
 use Rattle.httparse.specs.Grammar.{RequestHead}
 use Rattle.feed_heads.specs.Limits.{head_limit, field_limit}
@@ -6,30 +6,30 @@ use Rattle.feed_heads.specs.RequestHeads.{BeginsWithHead, NeverBeginsWithHead, I
 use Rattle.feed_node.specs.declared.judged.Verdict.{Verdict}
 use Rattle.feed_node.specs.declared.judged.Verdict.TheVariants.{More, Enough}
 
--- the reply where there is no memory for another (RFC 9110, section 15.6.4)
+-- the reply if memory for any other runs out (RFC 9110, section 15.6.4)
 abbrev pub unavailable : List ℕ
 unavailable =
     codes "HTTP/1.1 503 Service Unavailable\r\nContent-Type: text/plain; charset=utf-8\r\n"
     ++ codes "Content-Length: 7\r\nRetry-After: 1\r\nConnection: close\r\n\r\nMemory\n"
 
--- which reply bytes of a request have
+-- a relation between the bytes of a request and its reply
 abbrev pub Replies : Type 1
 Replies = List ℕ → List ℕ → Type 0
 
--- the bytes begin with a head within the limits, or whatever follows with none
+-- the bytes begin with a head within the limits, or never will, whatever follows
 abbrev pub IsEnough : List ℕ → Type 0
 IsEnough bytes = ((head : RequestHead) × BeginsWithHead head_limit field_limit bytes head) ⊎ NeverBeginsWithHead head_limit field_limit bytes
 
--- what a verdict says of the bytes
+-- the verdict on the bytes is right
 abbrev pub IsVerdictOn : List ℕ → Verdict → Type 0
 IsVerdictOn bytes More = IsUnfinished head_limit bytes
 IsVerdictOn bytes (Enough more_may_come) = IsEnough bytes
 
--- the reply is one to these bytes, or tells that there is no memory for one
+-- the reply answers these bytes, or says that memory ran out
 abbrev pub IsRespondedTo : Replies → List ℕ → List ℕ → Type 0
 IsRespondedTo replies bytes reply = replies bytes reply ⊎ (reply ≡ unavailable)
 
--- it is one to the front of what came, which ends with the head or is enough to tell that there is none
+-- the reply answers the first of the bytes received, which end with the head, or show that there is none
 pub record IsReplyTo (replies : Replies) (came reply : List ℕ) : Type 0 where
   pub front : List ℕ
   pub back : List ℕ

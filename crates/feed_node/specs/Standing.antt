@@ -1,4 +1,4 @@
--- Where a connection stands after what happened.
+-- The state of a connection, as determined by its events.
 use Rattle.std.specs.Prelude.{◌≡◌, ◌≤◌, ◌<◌, ◌⊎◌, ℕ, Bool, true, false, List, [], ◌∷◌, ◌++◌, length, take, drop}
 use Rattle.feed_heads.specs.Limits.{head_limit}
 use Rattle.feed_heads.specs.RequestHeads.{IsUnfinished}
@@ -10,23 +10,23 @@ use Rattle.feed_node.specs.declared.connection.Wants.TheVariants.{Bytes, Room, C
 use Rattle.feed_node.specs.Happenings.{Happening, Came, Answered, come, answers, gone, since, quiet}
 use Rattle.feed_node.specs.Replies.{Replies, IsEnough, IsRespondedTo, IsReplyTo}
 
--- just this reply was made
+-- exactly this reply was made
 abbrev pub IsAnswered : List Happening → List ℕ → Type 0
 IsAnswered history reply = answers history ≡ reply ∷ []
 
--- no reply was made and nothing went, or the first bytes of the one that was made
+-- no reply was made and nothing was sent, or the first bytes of the only reply were sent
 abbrev pub IsPartOfReply : List Happening → Type 0
 IsPartOfReply history =
     ((answers history ≡ []) × (gone history ≡ []))
     ⊎ ((reply : List ℕ) × (sent : ℕ) × IsAnswered history reply × (gone history ≡ take sent reply))
 
--- the time is counted, with the bytes that count it anew, and is not up
+-- the timer and the bytes that restart it are right, and time is left
 pub record IsInTime (connection : Connection) (history : List Happening) : Type 0 where
   pub counted : connection.quiet ≡ quiet history
   pub took : connection.since ≡ since history
   pub left : connection.quiet < connection.limit
 
--- nothing was answered, and what came is kept and may come to be a head
+-- no reply was made, and the bytes received are kept and may become a head
 pub record StandsHearing (connection : Connection) (history : List Happening) : Type 0 where
   pub kept : connection.heard.items ≡ come history
   pub none : answers history ≡ []
@@ -34,14 +34,14 @@ pub record StandsHearing (connection : Connection) (history : List Happening) : 
   pub unfinished : IsUnfinished head_limit (come history)
   pub in_time : IsInTime connection history
 
--- a part of the reply is left
+-- a part of the reply remains to be sent
 pub record StandsTelling (connection : Connection) (history : List Happening) : Type 0 where
   pub answered : IsAnswered history connection.reply.items
   pub went : gone history ≡ take connection.sent connection.reply.items
   pub more : connection.sent < length connection.reply.items
   pub in_time : IsInTime connection history
 
--- the whole reply went
+-- the whole reply was sent
 pub record StandsLingering (connection : Connection) (history : List Happening) : Type 0 where
   pub whole : IsAnswered history (gone history)
   pub in_time : IsInTime connection history
@@ -53,11 +53,11 @@ StandsIn Lingering connection history = StandsLingering connection history
 StandsIn Whole connection history = IsAnswered history (gone history)
 StandsIn Cut connection history = IsPartOfReply history
 
--- the connection stands where this history leads
+-- the connection has the state that this history determines
 abbrev pub StandsAt : Connection → List Happening → Type 0
 StandsAt connection history = StandsIn connection.phase connection history
 
--- bytes came, and a reply to all that came may have been made
+-- bytes were received, and a reply to all of them may have been made
 abbrev pub ComesOn : Replies → Connection → List ℕ → List Happening → Type 0
 ComesOn replies connection bytes history =
     StandsAt connection (Came bytes ∷ history)
@@ -80,20 +80,20 @@ pub record HasBegun (reply : List ℕ) (new : Connection) : Type 0 where
   pub since : new.since ≡ 0
   pub quiet : new.quiet ≡ 0
 
--- the connection goes on hearing
+-- the connection continues to receive
 pub record HasKept (heard : List ℕ) (old new : Connection) : Type 0 where
   pub bytes : new.heard.items ≡ heard
   pub phase : new.phase ≡ Hearing
   pub since : new.since ≡ old.since
   pub quiet : new.quiet ≡ old.quiet
 
--- after these bytes the connection goes on hearing, or begins the reply to all that it heard
+-- after these bytes the connection continues to receive, or begins the reply to all bytes received
 abbrev pub HasTakenIn : Replies → List ℕ → Connection → Connection → Type 0
 HasTakenIn replies bytes old new =
     (IsUnfinished head_limit (old.heard.items ++ bytes) × HasKept (old.heard.items ++ bytes) old new)
     ⊎ ((reply : List ℕ) × IsEnough (old.heard.items ++ bytes) × IsRespondedTo replies (old.heard.items ++ bytes) reply × HasBegun reply new)
 
--- what is left of the reply
+-- the rest of the reply
 abbrev pub rest_in : Phase → Connection → List ℕ
 rest_in Telling connection = drop connection.sent connection.reply.items
 rest_in phase connection = []
@@ -101,7 +101,7 @@ rest_in phase connection = []
 abbrev pub rest_of : Connection → List ℕ
 rest_of connection = rest_in connection.phase connection
 
--- what a connection waits for
+-- the event that a connection waits for
 abbrev pub wants_in : Phase → Wants
 wants_in Hearing = Bytes
 wants_in Telling = Room
@@ -118,8 +118,8 @@ is_told_in Lingering = true
 is_told_in Whole = true
 is_told_in phase = false
 
--- what is known of a connection after any history: one reply was made at most, what went is the front of it, all of it
--- where it is done, and past its time the connection waits for nothing
+-- the properties of a connection after any history: it made at most one reply; the bytes sent are the front of the
+-- reply, or all of it if the connection is done; and past its time limit it waits for nothing
 pub record IsRightAfter (connection : Connection) (history : List Happening) : Type 0 where
   pub front : IsPartOfReply history
   pub whole : IsDone connection.phase → IsAnswered history (gone history)

@@ -1,4 +1,4 @@
-//! One connection, without its socket.
+//! The state machine of one connection of a node, without its socket.
 ghost use Rattle.std.specs.Prelude.{◌≡◌, ◌≢◌, ◌+◌, ◌<◌, ◌≤◌, List, ◌∷◌, [], length, take, OnOk, vec_len};
 ghost use Rattle.feed_node.specs.Happenings.{Happening, Came, Went, Passed};
 
@@ -7,36 +7,36 @@ use crate::respond::{Respond, response};
 use feed_heads::HEAD_LIMIT;
 use std::alloc::{AllocError, Global};
 
-/// The fewest bytes of a reply that a peer has to take in the time in which it has to send its head.
+/// The number of bytes of a reply that a peer must accept within the time in which it has to send its head.
 pub const SLOWEST: usize = 16_384;
 
-/// What a connection waits for.
+/// The event that a connection waits for.
 #[derive(Clone, Copy, Debug, PartialEq, Eq)]
 pub enum Wants {
-    /// Bytes of the peer.
+    /// Bytes from the peer.
     Bytes,
     /// Room for bytes to the peer.
     Room,
-    /// Nothing: it is to be closed.
+    /// Nothing: close it.
     Close,
 }
 
 #[derive(Clone, Copy, Debug, PartialEq, Eq)]
 pub enum Phase {
-    /// The head has not come whole.
+    /// The head is incomplete.
     Hearing,
-    /// A part of the reply is left.
+    /// A part of the reply remains to be sent.
     Telling,
-    /// The reply went whole. What the peer sends besides is thrown away until it ends its side, since one that is
-    /// closed over unread bytes may lose the reply (RFC 9112, section 9.6).
+    /// The whole reply was sent. Further bytes from the peer are dropped until it closes its side, because closing a
+    /// connection with unread bytes may lose the reply (RFC 9112, section 9.6).
     Lingering,
-    /// The reply went whole, and nothing is waited for.
+    /// The whole reply was sent, and the connection waits for nothing.
     Whole,
-    /// The time was up, the peer was gone, or there was no memory.
+    /// The time was up, the peer was gone, or memory ran out.
     Cut,
 }
 
-/// A connection that takes one request and gives one reply.
+/// A connection that receives one request and sends one reply.
 #[derive(Drop)]
 pub struct Connection {
     phase: Phase,
@@ -44,7 +44,7 @@ pub struct Connection {
     reply: Vec<u8>,
     sent: usize,
     more_may_come: bool,
-    /// The bytes that went since the time was last counted anew.
+    /// The bytes sent since the timer was last restarted.
     since: usize,
     /// The milliseconds since then.
     quiet: u64,
@@ -59,8 +59,8 @@ impl Connection {
     ghost use Rattle.feed_node.specs.Standing.{StandsAt, ComesOn, rest_of, wants_in, IsDone};
     ghost use Rattle.feed_node.specs.Standing.{HasTakenIn, HasBegun, lingers_in, is_told_in};
 
-    /// A connection of which each step may take so many milliseconds: the head, every 16,384 bytes of the reply, and
-    /// the rest.
+    /// Returns a connection in which each step may take `limit` milliseconds: receiving the head, sending every 16,384
+    /// bytes of the reply, and sending the rest.
     pub fn new(alloc: Global, limit: u64) -> Connection
         requires { 0 < limit }
         ensures stands { StandsAt result [] }
@@ -78,7 +78,7 @@ impl Connection {
         }
     }
 
-    /// What the connection waits for.
+    /// Returns what the connection waits for.
     pub fn wants(&self) -> Wants
         ensures { result ≡ wants_in self.now.phase }
     {
@@ -91,7 +91,7 @@ impl Connection {
         }
     }
 
-    /// Whether the reply went and the peer may send more: then the side that was written to is to be ended.
+    /// Returns whether the reply was sent and the peer may send more. If so, the caller shuts down the sending side.
     pub fn is_lingering(&self) -> bool
         ensures { result ≡ lingers_in self.now.phase }
     {
@@ -101,7 +101,7 @@ impl Connection {
         }
     }
 
-    /// Whether the reply went whole.
+    /// Returns whether the whole reply was sent.
     pub fn is_told(&self) -> bool
         ensures { result ≡ is_told_in self.now.phase }
     {
@@ -112,7 +112,7 @@ impl Connection {
         }
     }
 
-    /// Bytes came. Those behind the head are thrown away.
+    /// Takes bytes received. Drops those after the head.
     pub fn came<R: Respond>(&mut self, alloc: Global, responder: &R, bytes: &[u8])
         ensures stands { (history : List Happening) → StandsAt self.old history
             → ComesOn (R.replies responder.now) self.new bytes.now history }
@@ -166,7 +166,7 @@ impl Connection {
         };
     }
 
-    // The phase after a reply that went whole.
+    // The phase after the whole reply was sent.
     fn done(&self) -> Phase
         ensures { IsDone result }
     {
@@ -177,28 +177,28 @@ impl Connection {
         }
     }
 
-    /// What was heard: the request's head, and what came with it, or what came instead.
+    /// Returns the bytes received: the request's head and what arrived with it, or bytes that are not a head.
     pub fn heard(&self) -> &[u8]
         ensures { result.now ≡ self.now.heard.items }
     {
         &self.heard
     }
 
-    /// The whole reply, which is empty until it is made.
+    /// Returns the whole reply. It is empty until the reply is made.
     pub fn reply(&self) -> &[u8]
         ensures { result.now ≡ self.now.reply.items }
     {
         &self.reply
     }
 
-    /// How many milliseconds it has been quiet, of those that it may be.
+    /// Returns the milliseconds since the timer was last restarted.
     pub fn quiet(&self) -> u64
         ensures { result ≡ self.now.quiet }
     {
         self.quiet
     }
 
-    /// What is left of the reply.
+    /// Returns the rest of the reply.
     pub fn rest(&self) -> &[u8]
         ensures { result.now ≡ rest_of self.now }
     {
@@ -208,7 +208,7 @@ impl Connection {
         }
     }
 
-    /// The peer took so many bytes of the rest.
+    /// Records that the peer accepted this many bytes of the rest.
     pub fn took(&mut self, count: usize)
         requires some { 0 < count }
         requires within { count ≤ length (rest_of self.old) }
@@ -228,7 +228,7 @@ impl Connection {
         }
     }
 
-    /// So many milliseconds passed.
+    /// Records that this many milliseconds have passed.
     pub fn passed(&mut self, millis: u64)
         ensures stands { (history : List Happening) → StandsAt self.old history
             → StandsAt self.new (Passed millis ∷ history) }
@@ -245,7 +245,7 @@ impl Connection {
         }
     }
 
-    /// The peer is gone, or sends no more.
+    /// Ends the connection: the peer is gone, or sends no more.
     pub fn end(&mut self)
         ensures stands { (history : List Happening) → StandsAt self.old history
             → StandsAt self.new history }

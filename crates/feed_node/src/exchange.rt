@@ -1,4 +1,4 @@
-//! A connection over a reader and a writer that may make it wait.
+//! Runs a connection over a nonblocking reader and writer.
 ghost use Rattle.std.specs.Prelude.{◌≡◌, List};
 ghost use Rattle.feed_node.specs.Happenings.{Happening};
 ghost use Rattle.feed_node.specs.Standing.{StandsAt, wants_in};
@@ -9,7 +9,7 @@ use crate::respond::Respond;
 use std::alloc::Global;
 use std::io::{ErrorKind, Read, Write};
 
-/// Goes on until the reader or the writer would make it wait, or there is nothing left to do.
+/// Receives and sends until the reader or the writer would block, or there is nothing left to do.
 pub fn advance<S: Respond, R: Read, W: Write>(
     connection: &mut Connection,
     alloc: Global,
@@ -29,7 +29,7 @@ pub fn advance<S: Respond, R: Read, W: Write>(
     }
 }
 
-// Whether to go on.
+// Returns whether to continue.
 fn step<S: Respond, R: Read, W: Write>(
     connection: &mut Connection,
     alloc: Global,
@@ -49,7 +49,7 @@ fn step<S: Respond, R: Read, W: Write>(
     }
 }
 
-// Whether to go on.
+// Returns whether to continue.
 fn hear<S: Respond, R: Read>(
     connection: &mut Connection,
     alloc: Global,
@@ -74,7 +74,7 @@ fn hear<S: Respond, R: Read>(
     }
 }
 
-// Whether to go on.
+// Returns whether to continue.
 fn tell<W: Write>(connection: &mut Connection, writer: &mut W) -> bool
     requires { wants_in connection.old.phase ≡ Wants.Room }
     ensures { (history : List Happening) → StandsAt connection.old history
@@ -93,7 +93,7 @@ fn tell<W: Write>(connection: &mut Connection, writer: &mut W) -> bool
     }
 }
 
-// Whether to try again at once. A fault other than a wait ends the connection.
+// Returns whether to try again at once. A fault other than `WouldBlock` or `Interrupted` ends the connection.
 fn goes_on(connection: &mut Connection, fault: ErrorKind) -> bool
     ensures { (history : List Happening) → StandsAt connection.old history
         → StandsAt connection.new history }

@@ -1,4 +1,4 @@
-//! What the bytes so far have of a request.
+//! Decides whether the bytes received so far are enough for a reply.
 ghost use Rattle.std.specs.Prelude.{◌≤◌, length};
 ghost use Rattle.feed_heads.specs.Requests.{IsInBuffer};
 ghost use Rattle.feed_node.specs.Replies.{IsVerdictOn};
@@ -8,9 +8,10 @@ use httparse::spans::EMPTY_HEADER_SPAN;
 
 #[derive(Clone, Copy)]
 pub(crate) enum Verdict {
-    /// No head yet.
+    /// The head is incomplete.
     More,
-    /// A head, or never one. The peer may send more where that is told, or where nothing is known of it.
+    /// The head is complete, or never will be. The peer may send more bytes if the head announces a body, if bytes
+    /// follow the head, or if the head is invalid.
     Enough { more_may_come: bool },
 }
 

@@ -1,8 +1,8 @@
-//! What follows from where a connection stands. Nothing is done here.
+//! Laws of connections, each stated as the contract of a function with an empty body.
 ghost use Rattle.feed_node.specs.Standing.{StandingIsRight};
 
-/// What went is the front of a reply to what came, the whole of it where the reply is done; and past its time a
-/// connection waits for nothing.
+/// The bytes sent are the front of a reply to the bytes received, and all of it if the reply is done. Past its time
+/// limit a connection waits for nothing.
 pub fn standing_is_right()
     ensures { StandingIsRight }
 {}

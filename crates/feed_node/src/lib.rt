@@ -1,5 +1,5 @@
-//! One connection of a node, without its socket: bytes come, bytes go, time passes. It takes one request, gives one
-//! reply, and is closed.
+//! One connection of a node, without its socket. Its inputs are bytes received, bytes sent and time passed. It receives
+//! one request, sends one reply, and is closed.
 #![tactic(auto)]
 
 mod connection;

@@ -1,26 +1,27 @@
+//! The trait `Respond`: makes the replies of a node.
 ghost use Rattle.std.specs.Prelude.{IfOk};
 ghost use Rattle.feed_node.specs.Replies.{IsRespondedTo};
 
 use std::alloc::{AllocError, Global};
 
-/// The reply where there is no memory for another (RFC 9110, section 15.6.4).
+/// The reply if memory for any other runs out (RFC 9110, section 15.6.4).
 pub const UNAVAILABLE: &[u8] =
     b"HTTP/1.1 503 Service Unavailable\r\nContent-Type: text/plain; charset=utf-8\r\n\
     Content-Length: 7\r\nRetry-After: 1\r\nConnection: close\r\n\r\nMemory\n";
 
-/// What makes the replies of a node.
+/// Makes the replies of a node.
 pub trait Respond {
     ghost use Rattle.std.specs.Prelude.{List, ℕ, IfOk};
 
-    /// Whether these bytes, of a request, have that reply.
+    /// These bytes of a request have this reply.
     ghost replies: { Self → List ℕ → List ℕ → Type 0 };
 
-    /// The reply to bytes that begin with the head of a request, or whatever follows with none within the limits.
+    /// Returns the reply to bytes that begin with the head of a request, or that never will, whatever follows.
     fn respond(&self, alloc: Global, bytes: &[u8]) -> Result<Vec<u8>, AllocError>
         ensures { IfOk result (λ reply. replies self.now bytes.now reply.items) };
 }
 
-/// The reply that it makes, or else the one that tells why there is none.
+/// Returns the reply, or `UNAVAILABLE` if memory runs out.
 pub(crate) fn response<R: Respond>(
     alloc: Global,
     responder: &R,

@@ -1,9 +1,10 @@
+//! A keeper whose device fails on demand.
 ghost use Rattle.feed_keep.specs.InMemory.{IsListed, content_of_list};
 
 use feed_keep::{Change, Keep, KeepFault, ListKeep, Record};
 use std::alloc::Global;
 
-/// A keeper over a list, with a device that fails at one load, at one commit, or at every commit after so many.
+/// A keeper in memory, with a device that fails at one load, at one commit, or at every commit after some number.
 #[derive(Drop)]
 pub struct Failing {
     list: ListKeep,
@@ -14,7 +15,7 @@ pub struct Failing {
 }
 
 impl Failing {
-    /// The load after so many others fails, and no other one.
+    /// Returns a keeper that fails at the load after `loads_before` others, and at no other one.
     pub fn at_load(alloc: Global, loads_before: u64) -> Failing {
         Failing {
             list: ListKeep::new(alloc),
@@ -25,7 +26,7 @@ impl Failing {
         }
     }
 
-    /// The commit after so many others fails, and no other one.
+    /// Returns a keeper that fails at the commit after `commits_before` others, and at no other one.
     pub fn at_commit(alloc: Global, commits_before: u64) -> Failing {
         Failing {
             list: ListKeep::new(alloc),
@@ -36,7 +37,7 @@ impl Failing {
         }
     }
 
-    /// Every commit after so many fails.
+    /// Returns a keeper that fails at every commit after the first `commits_before`.
     pub fn after_commits(alloc: Global, commits_before: u64) -> Failing {
         Failing {
             list: ListKeep::new(alloc),

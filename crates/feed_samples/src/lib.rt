@@ -1,4 +1,4 @@
-//! What the tests of feeds and worlds share: sample lists, records of them, and a keeper whose device fails.
+//! Shared fixtures for tests of feeds and worlds: sample lists, their records, and a keeper whose device fails.
 #![tactic(auto)]
 
 mod failing;

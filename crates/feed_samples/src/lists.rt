@@ -1,3 +1,4 @@
+//! Sample holdings lists.
 use feed_kbart::{BadFile, Label};
 use std::alloc::{AllocError, Global};
 
@@ -9,7 +10,7 @@ pub const HEADER: &[u8] = b"publication_title\tprint_identifier\tonline_identifi
 pub const HEADER_WITHOUT_URL: &[u8] = b"publication_title\tprint_identifier\tonline_identifier\t\
     date_first_issue_online\tnum_first_vol_online\tdate_last_issue_online\tnum_last_vol_online\n";
 
-/// Why that file is bad.
+/// The reason why that file is bad.
 pub const WITHOUT_URL: BadFile = BadFile::MissingLabel(Label::TitleUrl);
 
 /// A record with a print ISSN.
@@ -30,14 +31,14 @@ pub const FEBRUARY: &str = "Acme_Global_All_2024-02-01.txt";
 /// The third release of the package.
 pub const MARCH: &str = "Acme_Global_All_2024-03-01.txt";
 
-/// The file of January: the labels and one record, 205 bytes. The error is a want of memory.
+/// Returns the file of January: the labels and one record, 205 bytes.
 pub fn january_file(alloc: Global) -> Result<Vec<u8>, AllocError> {
     let mut file = Vec::from_slice(alloc, HEADER)?;
     file.extend_from_slice(ACTA)?;
     Ok(file)
 }
 
-/// The file of February: that of January and one record more, 243 bytes. The error is a want of memory.
+/// Returns the file of February: that of January and one record more, 243 bytes.
 pub fn february_file(alloc: Global) -> Result<Vec<u8>, AllocError> {
     let mut file = january_file(alloc)?;
     file.extend_from_slice(BETA)?;

@@ -1,3 +1,4 @@
+//! Writing records in tests, and comparing them as text.
 use feed_kbart::BadFile;
 use feed_keep::{Keep, ListKeep, Part, Record, State};
 use feed_names::ReleaseName;
@@ -5,12 +6,12 @@ use std::alloc::Global;
 use std::io::Write;
 use std::test::Fail;
 
-/// The name that the text is.
+/// Parses a release name.
 pub fn name_of(alloc: Global, text: &str) -> Result<ReleaseName, Fail> {
     Ok(ReleaseName::parse(alloc, text.as_bytes())?)
 }
 
-/// A record as a test writes it down: its parts are given by their first places and their bytes.
+/// A record in the notation of tests: each part is given by its first place and its bytes.
 #[derive(Clone, Copy)]
 pub struct Row<'a> {
     name: &'a str,
@@ -21,7 +22,7 @@ pub struct Row<'a> {
 }
 
 impl<'a> Row<'a> {
-    /// A record without a reason.
+    /// Returns a record without a reason.
     pub fn new(name: &'a str, size: u64, state: State, parts: &'a [(u64, &'a [u8])]) -> Row<'a> {
         Row {
             name,
@@ -32,12 +33,12 @@ impl<'a> Row<'a> {
         }
     }
 
-    /// The same with this reason, or with none.
+    /// Returns the same record with this reason, or without one.
     pub fn because(self, reason: Option<BadFile>) -> Row<'a> {
         Row { reason, ..self }
     }
 
-    /// The record of a broken release.
+    /// Returns the record of a broken release.
     pub fn broken(
         name: &'a str,
         size: u64,
@@ -47,7 +48,7 @@ impl<'a> Row<'a> {
         Row::new(name, size, State::Broken, parts).because(Some(reason))
     }
 
-    /// The record.
+    /// Builds the record.
     pub fn record(&self, alloc: Global) -> Result<Record, Fail> {
         let mut parts = Vec::new(alloc);
         for (first, bytes) in self.parts {
@@ -66,7 +67,7 @@ impl<'a> Row<'a> {
     }
 }
 
-/// The records of these rows.
+/// Builds the records.
 pub fn records_of(alloc: Global, rows: &[Row<'_>]) -> Result<Vec<Record>, Fail> {
     let mut records = Vec::new(alloc);
     for row in rows {
@@ -75,17 +76,17 @@ pub fn records_of(alloc: Global, rows: &[Row<'_>]) -> Result<Vec<Record>, Fail> 
     Ok(records)
 }
 
-/// A keeper in memory that holds the records of these rows.
+/// Returns a keeper in memory with the records.
 pub fn keeper_of(alloc: Global, rows: &[Row<'_>]) -> Result<ListKeep, Fail> {
     Ok(ListKeep::of(alloc, records_of(alloc, rows)?))
 }
 
-/// These rows as the text of their records.
+/// Prints the records as text.
 pub fn listed_of(alloc: Global, rows: &[Row<'_>]) -> Result<Vec<u8>, Fail> {
     listed(alloc, &records_of(alloc, rows)?)
 }
 
-/// The records as text, to compare them: for each its name, size and state, its reason, and then its parts, as
+/// Prints records as text, to compare them: for each its name, size and state, its reason, and then its parts, as in
 /// `X_2024-01-01.txt 10 Staged 0:01 4:45` and `X_2024-01-01.txt 0 Broken (NoHeader)`.
 pub fn listed(alloc: Global, records: &[Record]) -> Result<Vec<u8>, Fail> {
     let mut text = Vec::new(alloc);
@@ -109,7 +110,7 @@ fn list_parts(text: &mut Vec<u8>, parts: &[Part]) -> Result<(), Fail> {
     Ok(())
 }
 
-/// What a keeper holds, as text.
+/// Prints the records of a keeper as text.
 pub fn content_of<K: Keep>(alloc: Global, keeper: &mut K) -> Result<Vec<u8>, Fail> {
     let records = keeper.load(alloc)?;
     listed(alloc, &records)

@@ -1,4 +1,4 @@
-//! Connections of TCP whose exchanges have to end in time.
+//! TCP connections with a deadline for each exchange.
 #![tactic(auto)]
 
 mod tcp_dial;

@@ -1,4 +1,4 @@
-//! Connections of TCP.
+//! Makes TCP connections with a deadline, one for each request of a fetch.
 use crate::timed::{Cause, TimedStream};
 use feed_fetch::{Dial, DialFault};
 use std::io;
@@ -6,8 +6,8 @@ use std::io::ErrorKind;
 use std::net::{TcpStream, ToSocketAddrs};
 use std::time::Duration;
 
-/// Makes a connection for each request to the first address of a host and port that takes one. It may wait for so long,
-/// and its exchange has to end in time. What the system says where one fails is kept.
+/// Connects, for each request, to the first address of a host and port that accepts. Connecting may take the given
+/// time, and the exchange has a deadline. Stores the system's error if a connection fails.
 #[derive(Drop)]
 pub struct TcpDial<'a> {
     rt: &'a HostRuntime,

@@ -1,15 +1,15 @@
-//! Connections whose exchanges have to end in time.
+//! TCP streams with a deadline for each exchange, so that a slow peer cannot keep one open.
 use std::cell::RefCell;
 use std::io;
 use std::io::{ErrorKind, Read, Write};
 use std::net::TcpStream;
 use std::time::{Duration, Instant};
 
-// How many bytes have to move in a second, on the average, once the time is over.
+// The bytes that have to move per second, on average, once the time is over.
 const PACE: u64 = 65_536;
 
-// When an exchange has to end, how long one call may wait, when the time-out of the socket was set last, and how many
-// bytes moved since the end was last put off.
+// The deadline of an exchange, the most that one call may wait, when the socket's timeout was last set, and the bytes
+// moved since the deadline was last extended.
 #[derive(Clone, Copy)]
 struct Limit {
     ends: Instant,
@@ -32,7 +32,8 @@ impl Limit {
         })
     }
 
-    // How long the next call may wait, where the socket has to be told it: it is, at most once in a second.
+    // The most that the next call may wait, or `None` if the socket's timeout is recent enough. It is set at most once
+    // a second, because setting it is a system call.
     fn left(&mut self, rt: &HostRuntime) -> io::Result<Option<Duration>> {
         let now = Instant::now(rt)?;
         let left = self.ends.saturating_duration_since(now);
@@ -46,7 +47,7 @@ impl Limit {
         Ok(Some(left.min(self.time)))
     }
 
-    // So many bytes moved: the exchange may take a second more for each `PACE` of them.
+    // Extends the deadline by a second for each `PACE` bytes moved.
     fn put_off(&mut self, count: usize) {
         self.moved = self.moved.saturating_add(count as u64);
         if self.moved >= PACE {
@@ -59,7 +60,7 @@ impl Limit {
     }
 }
 
-/// What comes over a connection. All of it has to come within the time.
+/// The receiving side of a connection. All bytes have to arrive within the time.
 #[derive(Drop)]
 pub struct TimedReader<'a> {
     rt: &'a HostRuntime,
@@ -92,8 +93,8 @@ impl Read for TimedReader<'_> {
     }
 }
 
-/// What goes over a connection. No write waits longer than the time, and all of it has to go within the time and a
-/// second for each 65,536 bytes that went.
+/// The sending side of a connection. No write waits longer than the time, and all bytes have to be sent within the time
+/// plus a second for each 65,536 bytes sent.
 #[derive(Drop)]
 pub struct TimedWriter<'a> {
     rt: &'a HostRuntime,
@@ -128,7 +129,7 @@ impl Write for TimedWriter<'_> {
     }
 }
 
-/// What the system said last of a connection.
+/// The last error of the system about a connection.
 #[derive(Drop)]
 pub struct Cause {
     kept: RefCell<Option<io::Error>>,
@@ -141,7 +142,7 @@ impl Cause {
         }
     }
 
-    /// Keeps an error, and gives another of its kind.
+    /// Stores an error, and returns another one of the same kind.
     pub fn keep(&self, fault: io::Error) -> io::Error {
         let kind = fault.kind();
         if let Ok(mut kept) = self.kept.try_borrow_mut() {
@@ -155,8 +156,8 @@ impl Cause {
     }
 }
 
-/// A connection, and what comes and goes over it: neither a read nor a write waits longer than the time, and the
-/// exchange has to end within the time and a second for each 65,536 bytes that moved. Why a call failed is kept.
+/// A connection with a deadline. Neither a read nor a write waits longer than the time, and the exchange has to end
+/// within the time plus a second for each 65,536 bytes moved. Stores the error of a failed call.
 #[derive(Drop)]
 pub struct TimedStream<'a> {
     rt: &'a HostRuntime,
@@ -197,7 +198,7 @@ impl<'a> TimedStream<'a> {
         }
     }
 
-    // A call that waited too long is told as that.
+    // A call that waited too long fails with `TimedOut`, which says more than `WouldBlock`.
     fn failed(&self, fault: io::Error) -> io::Error {
         match fault.kind() {
             ErrorKind::WouldBlock => self.cause.keep(io::Error::from(ErrorKind::TimedOut)),
