@@ -142,7 +142,7 @@ all_past : {X Y : Type 0} (h : X → Option Y) (rows : List X) (places : List �
 all_past h rows [] all = refl
 all_past h rows (place ∷ places) all = rw (past h rows place (all 0 0 (omega arith))) (all_past h rows places (λ k d within. all (suc k) d (omega (arith, within))))
 
--- what is known of places from b on: they ascend, and each element at b or later of which h gives something has its place among them
+-- the places from b on ascend, and include each element at b or later for which h returns something
 record Covers {X Y : Type 0} (h : X → Option Y) (rows : List X) (b : ℕ) (places : List ℕ) : Type 0 where
   ascending : AllPairs (λ x y. x < y) places
   from : All (λ place. b ≤ place) places

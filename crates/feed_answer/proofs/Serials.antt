@@ -34,7 +34,7 @@ with_isbns old isbns = record { issns = old.issns; isbns = isbns; days = old.day
 abbrev graded : RowValue → Option Grade → Option HitValue
 graded row grade = option_map (λ g. record { row = row; grade = g }) grade
 
--- the hit that a record gives is kept just where it gave one
+-- the hit of a record is kept exactly if it had one
 abbrev IsKept : SerialQuery → QueryValue → Option RowValue → Option RowValue → Type 0
 IsKept old new now before = (hits : List HitValue)
     → filter is_serial_hit (cons_option (option_and_then (hit_by new) now) hits)
@@ -95,7 +95,7 @@ unfolding holdings_from
 text_kept old isbns [] = refl
 text_kept old isbns (header ∷ records) = records_kept old isbns header 2 records
 
--- no pair tells the format of books, where none tells another than that of journals
+-- no pair names the format of books if none names another than that of journals
 true_is_not_false : ¬ (true ≡ false)
 true_is_not_false e = cc
 

@@ -1,4 +1,4 @@
--- What a feed answers, as a world shows it.
+-- The answers of a feed, as a world shows them.
 use Rattle.std.proofs.Common.{◌≡◌, ℕ, List, [], ◌++◌, Some, Ok, inl, ◌∙◌, ap, subst}
 use Rattle.feed_names.specs.ReleaseName.{Name, text_of}
 use Rattle.feed_kbart.specs.Files.{holdings_of}

@@ -18,12 +18,12 @@ use Rattle.feed_core.specs.Step.{IsAway}
 use Rattle.feed_core.proofs.Going.{AreOf}
 use Rattle.feed_core.proofs.Shows.{map-push}
 
--- no node from this number on is told of
+-- no failure is reported for a node from this number on
 pub counted_same : {M : Type 0} (is_told : ℕ → Type 0) (failed : M → ℕ) (node : ℕ) (xs : List M) → ((i : ℕ) → is_told i → i < node) → AreCounted is_told failed failed node xs xs
 counted_same is_told failed node [] before = tt
 counted_same is_told failed node (x ∷ xs) before = (omega arith, (λ t. absurd (omega (arith, before node t))), counted_same is_told failed (suc node) xs (λ i t. omega (arith, before i t)))
 
--- one node is told of at most
+-- a failure is reported for at most one node
 pub counted_set : {M : Type 0} (is_told : ℕ → Type 0) (failed : M → ℕ) (node : ℕ) (xs : List M) (at : ℕ) (x z : M) → at < length xs → x ≡ get_or xs at x → failed x ≤ failed z
     → (is_told (node + at) → HasFailedSince (failed x) (failed z)) → ((i : ℕ) → is_told i → i ≡ node + at) → AreCounted is_told failed failed node xs (slice_set xs at z)
 counted_set is_told failed node [] at x z lt is le rise one = absurd (omega arith)
@@ -54,7 +54,7 @@ counted_then P Q f g h node (x ∷ xs) (y ∷ ys) (z ∷ zs) a b = (omega (arith
     pick (inl t) = failed_later (f x) (g y) (h z) (a.1 t) b.0
     pick (inr t) = failed_before (f x) (g y) (h z) a.0 (b.1 t)
 
--- less is told
+-- fewer failures are reported
 pub counted_as : {X Y : Type 0} (P Q : ℕ → Type 0) (f : X → ℕ) (g : Y → ℕ) (node : ℕ) (xs : List X) (ys : List Y) → ((i : ℕ) → Q i → P i) → AreCounted P f g node xs ys
     → AreCounted Q f g node xs ys
 counted_as P Q f g node [] [] less a = tt
@@ -62,14 +62,14 @@ counted_as P Q f g node [] (y ∷ ys) less a = absurd a
 counted_as P Q f g node (x ∷ xs) [] less a = absurd a
 counted_as P Q f g node (x ∷ xs) (y ∷ ys) less a = (a.0, (λ t. a.1 (less node t)), counted_as P Q f g (suc node) xs ys less a.2)
 
--- nothing is told
+-- no failure is reported
 pub counted_of : {X Y : Type 0} (f : X → ℕ) (g : Y → ℕ) (node : ℕ) (xs : List X) (ys : List Y) → AreOf (λ x y. f x ≤ g y) xs ys → AreCounted (λ _. ⊥) f g node xs ys
 counted_of f g node [] [] a = tt
 counted_of f g node [] (y ∷ ys) a = absurd a
 counted_of f g node (x ∷ xs) [] a = absurd a
 counted_of f g node (x ∷ xs) (y ∷ ys) a = (a.0, (λ t. absurd t), counted_of f g (suc node) xs ys a.1)
 
--- which lines tell it
+-- the lines that report a failure
 pub replied_not : (reply : Reply) → ¬ (TellsDevice (Replied reply))
 replied_not reply (inl e) = absurd (cc)
 replied_not reply (inr e) = absurd (cc)
@@ -96,7 +96,7 @@ no_node_not t = let e = tells_refused NoNode t in absurd (cc)
 pub down_not : ¬ (TellsDevice (Refused Down))
 down_not t = let e = tells_refused Down t in absurd (cc)
 
--- why nothing happens at a node is no fault of its device, unless that is what arrived
+-- the reason why nothing happens at a node is not a device failure, unless that is what arrived
 pub away_not : {M T : Type 0} (stands : M → Bool → History → Type 0) (xs : List M) (node : ℕ) (arrived : Result T Why) (reason : Why) → (arrived ≡ Err (Feed refusals.Device) → ⊥)
     → IsAway stands xs node arrived reason → ¬ (TellsDevice (Refused reason))
 away_not stands xs node arrived reason sent (inl none) told = no_node_not (subst (λ (r : Why). TellsDevice (Refused r)) none.0 told)

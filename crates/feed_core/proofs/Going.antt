@@ -1,4 +1,4 @@
--- A step of one node, as a step of the world; and lists that go on together.
+-- A step of one node as a step of the world, and lists that advance together.
 use Rattle.std.proofs.Common.{◌≡◌, ◌+◌, ◌++◌, ℕ, suc, Bool, List, [], ◌∷◌, length, slice_get, Some, refl, sym, ◌∙◌, ap, subst, arith}
 use Rattle.std.specs.Borrow.{Bor}
 use Rattle.std.proofs.lemmas.List.{append-nil, length-append}
@@ -8,7 +8,7 @@ use Rattle.feed_model.specs.Content.{Content, IsContent}
 use Rattle.feed_world.specs.World.{World, Node, WorldEvent, Line, Shelf, Happens}
 use Rattle.feed_core.specs.Step.{AllClean, AreNodes, AreKept, Goes, GoesTo, IsShelf}
 
--- a node goes on, and the published files stay
+-- a node advances, and the published files stay the same
 pub goes_to : {M : Type 0} (clean : M → Type 0) (stands : M → Bool → History → Type 0) (fits : Shelf
     → Type 0) (files : List (Bor (List ℕ) × Bor (List ℕ))) (old new : List M) (event : WorldEvent) (line : Line) → ((shelf : Shelf) → IsShelf files shelf → fits shelf)
     → Goes clean stands fits old new event line → GoesTo clean stands files files old new event line
@@ -23,7 +23,7 @@ pub publishes : {M : Type 0} (clean : M → Type 0) (stands : M → Bool → His
 publishes clean stands before files nodes event line publish all =
     (all, λ w is n. (let t = publish w is in (t.0, t.1, t.2, subst (AreNodes stands nodes) (sym t.3) n)))
 
--- lists of which each two elements at one place are so
+-- two lists whose elements at each place are related
 abbrev pub AreOf : {S K : Type 0} → (S → K → Type 0) → List S → List K → Type 0
 AreOf law [] [] = Unit {0}
 AreOf law (s ∷ ss) (k ∷ ks) = law s k × AreOf law ss ks

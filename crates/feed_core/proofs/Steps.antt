@@ -18,7 +18,7 @@ none_past stands (x ∷ xs) [] i a le = absurd a
 none_past stands (x ∷ xs) (y ∷ ys) zero a le = absurd (omega arith)
 none_past stands (x ∷ xs) (y ∷ ys) (suc i) a le = none_past stands xs ys i a.1 (omega arith)
 
--- there is no node of this number
+-- no node has this number
 pub none_at : {M : Type 0} (stands : M → Bool → History → Type 0) (xs : List M) (ys : List Node) (node : ℕ) → AreNodes stands xs ys → (node ≡ 0) ⊎ (length xs < node)
     → node_at ys node ≡ None
 none_at stands xs ys zero a out = refl
@@ -67,14 +67,14 @@ clean_at clean [] i x lt e a = absurd (omega arith)
 clean_at clean (w ∷ xs) zero x lt e a = subst clean (sym e) a.0
 clean_at clean (w ∷ xs) (suc i) x lt e a = clean_at clean xs i x (omega arith) e a.1
 
--- what a node makes of an event: it stands further on, and the event may be shown so
+-- the effect of an event on a node: it has a longer history, and the event may be shown by this line
 pub record Acts {M : Type 0} (stands : M → Bool → History → Type 0) (fits : Shelf → Type 0) (node : ℕ) (x z : M) (event : WorldEvent) (line : Line) (w : World) (y : Node) : Type 0 where
   pub up : Bool
   pub history : History
   pub happens : Happens w event line (with_node w node up history)
   pub stood : stands z up history
 
--- one node goes on
+-- one node advances
 pub goes_set : {M : Type 0} (clean : M → Type 0) (stands : M → Bool → History → Type 0) (fits : Shelf → Type 0) (xs : List M) (at : ℕ) (x z : M) (node : ℕ) (event : WorldEvent)
     (line : Line) → at < length xs → x ≡ get_or xs at x → node ≡ at + 1 → (clean z → clean x)
     → ((w : World) (y : Node) → fits w.shelf → node_at w.nodes node ≡ Some y → clean z → stands x y.up y.history → Acts stands fits node x z event line w y)
@@ -87,7 +87,7 @@ goes_set clean stands fits xs at x z node event line lt e is f act =
           (with_node w node r.up r.history, r.happens, refl, are_nodes-set stands xs w.nodes node at z (record { up = r.up; history = r.history }) n is r.stood)),
     ))
 
--- nothing goes on
+-- no node advances
 pub goes_not : {M : Type 0} (clean : M → Type 0) (stands : M → Bool → History → Type 0) (fits : Shelf → Type 0) (xs : List M) (event : WorldEvent) (line : Line)
     → ((w : World) → fits w.shelf → AllClean clean xs → AreNodes stands xs w.nodes → Happens w event line w) → Goes clean stands fits xs xs event line
 goes_not clean stands fits xs event line stay = λ a. (a, λ w s n. (w, stay w s a n, refl, n))
@@ -98,7 +98,7 @@ same_element [] i v x lt a b = absurd (omega arith)
 same_element (z ∷ zs) zero v x lt a b = a ∙ sym b
 same_element (z ∷ zs) (suc i) v x lt a b = same_element zs i v x (omega arith) a b
 
--- there is no node of this number
+-- no node has this number
 pub goes_none : {M : Type 0} (clean : M → Type 0) (stands : M → Bool → History → Type 0) (fits : Shelf → Type 0) (xs : List M) (node : ℕ) (event : WorldEvent) (line : Line)
     → (node ≡ 0) ⊎ (length xs < node) → ((w : World) → node_at w.nodes node ≡ None → Happens w event line w) → Goes clean stands fits xs xs event line
 goes_none clean stands fits xs node event line out stay = goes_not clean stands fits xs event line (λ w s a n. stay w (none_at stands xs w.nodes node n out))
@@ -130,7 +130,7 @@ goes_stay clean stands fits xs at v node event line b lt e is law stay =
     (λ w s a n. (let y = some_at stands xs w.nodes node at v n is lt e in let c = clean_at clean xs at v lt e a in let up = law y.0.up y.0.history c y.2 in stay w y.0 s y.1 (sym up) c
     (subst (λ (u : Bool). stands v u y.0.history) (sym up) y.2)))
 
--- it is up, and goes on
+-- the node is up, and advances
 pub goes_up : {M : Type 0} (clean : M → Type 0) (stands : M → Bool → History → Type 0) (fits : Shelf
     → Type 0) (xs : List M) (at : ℕ) (v x z : M) (node : ℕ) (event : WorldEvent) (line : Line) (b : Bool) → b ≡ true → at < length xs → v ≡ get_or xs at v → x ≡ get_or xs at x
     → node ≡ at + 1 → (clean z → clean x) → ((up : Bool) (h : History) → clean v → stands v up h → b ≡ up)
@@ -176,7 +176,7 @@ away_asked clean stands xs node reason event Rest happens (inr (inr down)) =
     (goes_stay clean stands (λ _. Unit {0}) xs down.1.at x.0 node event (Refused Down) false down.1.within x.1 (next down.1.number) (λ up h k s. sym (down.1.up x.0 x.1 up h s))
     (λ w y s at up k stood. happens w (Refused Down) w (rw (at, up) (refl, refl))))
 
--- a node that is ready goes on
+-- a node that is ready advances
 pub goes_ready : {M : Type 0} (clean : M → Type 0) (stands : M → Bool → History → Type 0) (fits : Shelf → Type 0) (xs : List M) (at : ℕ) (x z : M) (node : ℕ) (event : WorldEvent)
     (line : Line) → IsReady stands xs node at → x ≡ get_or xs at x → (clean z → clean x)
     → ((w : World) (y : Node) → fits w.shelf → node_at w.nodes node ≡ Some y → y.up ≡ true → clean z → stands x true y.history → Acts stands fits node x z event line w y)

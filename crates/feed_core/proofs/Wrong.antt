@@ -1,4 +1,4 @@
--- Faults of a device that a transcript may tell, and such that it may not.
+-- Device failures that a transcript may report, and some that it may not.
 use Rattle.std.proofs.Common.{ℕ, [], ◌∷◌, inl, inr, refl, arith}
 use Rattle.feed_model.specs.declared.keep_fault.KeepFault.TheVariants.{Device}
 use Rattle.feed_world.specs.World.{Restart, IsDown}

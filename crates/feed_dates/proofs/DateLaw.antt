@@ -24,7 +24,7 @@ month_begin y m d h = record { year_in = h.year_in; month_in = h.month_in; day_i
 month_end : (y m d : ℕ) → IsDay y m d → IsDay y m (days_in_month (pos y) m)
 month_end y m d h = record { year_in = h.year_in; month_in = h.month_in; day_in = (omega (arith, (days_in_month_bounds (pos y) m).1), omega arith) }
 
--- days of one month stand in the order of their numbers, and a later month has later days
+-- the days of one month are in the order of their numbers, and a later month has later days
 within : (y : ℤ) (m d d2 : ℕ) → 1 ≤ d → d ≤ d2 → days_from_civil y m d ≤ℤ days_from_civil y m d2
 within y m d d2 h k = omega (arith, signed_arith, days_from_civil-day_count, day_count-day y m d d2 h (omega arith))
 

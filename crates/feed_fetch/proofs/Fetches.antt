@@ -1,4 +1,4 @@
--- What comes of one request to a server.
+-- The result of one request to a server.
 use Rattle.std.proofs.Common.{◌≡◌, ◌<◌, ◌≤◌, ◌+◌, ◌-◌, ◌^◌, ◌⊎◌, ◌≤ℤ◌, ◌<ℤ◌, ℕ, Bool, true, List, ◌∷◌, ◌++◌, length, min, Option, Some}
 use Rattle.std.proofs.Common.{None, Result, Ok, Err, inl, inr, refl, sym, ◌∙◌, ap, subst, arith, lit<}
 use Rattle.std.specs.Prelude.{slice_range, nat_eq, IsTrue, MatchResult}
@@ -52,7 +52,7 @@ unwritten fault e = subst (λ (f : HttpFault). IsExcused (stops.Unasked (Http f)
 small_enough : (n : ℕ) → n ≤ file_limit → n < 2 ^ 64
 small_enough n le = let top : file_limit < 2 ^ 64 = lit< tt in omega (arith, le, top)
 
--- what a request gives where each reply to it is this text, of which a law says what is given
+-- the result of a request whose replies are all this text, by a law about that text
 read_given : (IsReplyTo : List ℕ → List ℕ → Type 0) (method : Method) (text served : List ℕ) (wanted : Got) (result : Result Got Unasked)
     → ((reply : List ℕ) → IsReplyTo text reply → reply ≡ served)
     → ((r : Result Got HttpFault) → IsReply method served r → IsGiven wanted r)
@@ -128,7 +128,7 @@ piece_filled c d n first last file taken fit tells h at asked =
     by a (inr (inl e)) (inl same) = let done : taken ≡ Err (stops.Refused refusals.Memory) = same ∙ ap (λ (x : Answer). is_news (goes_on x)) e in rw done tt
     by a (inr (inr e)) (inl same) = let done : taken ≡ Err (stops.Refused refusals.Device) = same ∙ ap (λ (x : Answer). is_news (goes_on x)) e in rw done tt
 
--- an excuse, whatever the feed was told
+-- an excused stop, for any events of the feed
 pub excused_leads : (B : History → Type 0) (A : Event → Type 0) (c d : Content) (stop : Stop) (why : Unasked) → IsExcused (stops.Unasked why)
     → GoesOn A (λ k. (stop ≡ stops.Unasked why) ⊎ (stop ≡ stops.Print)) c d
     → Leads B (λ h k. IsExcused stop) c d
@@ -138,7 +138,7 @@ excused_leads B A c d stop why ok goes h is before = let x = goes h is in (x.0 +
     by (inl e) = subst IsExcused (sym e) ok
     by (inr e) = subst IsExcused (sym e) tt
 
--- the events that a reply is told by are as it gave them
+-- the events made from a reply are as it gave them
 pub told_from : (told : Replies) (host : List ℕ) (n : Name) (first last : ℕ) (given : Got)
     → IfKnown told (λ IsReplyTo. IsReadOf IsReplyTo Get (get_text host (text_of n) first last) (Ok given))
     → (e : Event) → IsTakenFrom n given e → IsTold told host n e

@@ -48,7 +48,7 @@ offer_keeps : (h : History) (n : Name) (file : List ℕ) (a : Answer) → IsOpen
     → IsFilling n file ((Offered n (length file), a) ∷ h)
 offer_keeps h n file a ready size = record { current = λ p. ready.current (passed_back n h ((Offered n (length file), a) ∷ h) (offers_but n (length file) a h) p); size = size; bytes = ready.bytes }
 
--- an answer that refuses for want of memory or a fault of the device
+-- an answer that refuses because memory ran out or the device failed
 abbrev pub IsRefusedFor : Answer → Type 0
 IsRefusedFor a = (a ≡ Err refusals.Memory) ⊎ (a ≡ Err refusals.Device)
 

@@ -1,4 +1,4 @@
--- A feed that goes on by what a fetch tells it.
+-- The history of a feed that receives the events of a fetch.
 use Rattle.std.proofs.Common.{◌≡◌, ◌≤◌, ◌+◌, ◌⊎◌, ℕ, Bool, true, false, List, [], ◌∷◌, ◌++◌, length, Option, Some, None, Result, Ok, Err, inl, inr, refl, sym}
 use Rattle.std.proofs.Common.{◌∙◌, ap, subst, append_assoc, get_or, arith}
 use Rattle.std.specs.Prelude.{slice_range, IfErr, MatchResult}
@@ -148,7 +148,7 @@ offered c c' n size A result of tells h is =
       t.3,
     )
 
--- a loss is told, and the request is the stop, or the output failed
+-- a loss is reported to the feed, and the request is the reason for the stop, or the output failed
 pub lost_stops : (c c' : Content) (n : Name) (why : Unasked) (fault : HttpFault) (result : Result Reply Stop) (stop : Stop) → why ≡ Http fault
     → MatchResult result (λ reply. stop ≡ stops.Unasked why) (λ unprinted. stop ≡ unprinted)
     → Tells (λ answer. (result ≡ goes_on answer) ⊎ (result ≡ Err stops.Print)) c (Lost n) c'
@@ -196,12 +196,12 @@ whole_more b c d n all first count result within before tells =
     (taken_part c d n (Whole all) first (Some (length all)) (slice_range all first (first + count)) result
     (refl, omega (arith, len), ap (λ (m : ℕ). slice_range all first (first + m)) (sym len)) tells)
 
--- where nothing more is said of where it stands
+-- the same, without a statement about the feed's history
 pub whole_any : (b d : Content) (n : Name) (all : List ℕ) (result : Result Reply Stop)
     → GoesOn (IsTakenFrom n (Whole all)) (λ k. IfErr result (λ stop. IsStoppedAt n stop k)) b d → GoesOn (IsTakenFrom n (Whole all)) (λ k. Unit {0}) b d
 whole_any b d n all result goes h is = let x = goes h is in (x.0, x.1, tt, x.3)
 
--- what a reply gave and was taken was told
+-- the result of a reply that the feed accepted was passed to it
 pub taken_goes : (A : Event → Type 0) (n : Name) (given : Got) (c d : Content) (taken : Result Bool Stop)
     → ((e : Event) → IsTakenFrom n given e → A e)
     → GoesOn (IsTakenFrom n given) (λ k. IfErr taken (λ stop. IsStoppedAt n stop k)) c d
@@ -222,7 +222,7 @@ pub lost_goes : (A : Event → Type 0) (n : Name) (c d : Content) (stop : Stop) 
 lost_goes A n c d stop why of goes =
     goes_so (λ e. e ≡ Lost n) A (λ k. ((stop ≡ stops.Unasked why) ⊎ (stop ≡ stops.Print)) × IsStoppedAt n stop k) (IsStoppedAt n stop) c d (λ e is. subst A (sym is) of) (λ k p. p.1) goes
 
--- a piece is told as the reply gave it
+-- a piece is passed to the feed as the reply gave it
 pub piece_told : (c d : Content) (n : Name) (f g : ℕ) (t u : Option ℕ) (bytes read slice : List ℕ) (r : Result Bool Stop) → got.Piece f t bytes ≡ got.Piece g u read → slice ≡ bytes
     → Tells (λ answer. (r ≡ is_news (goes_on answer)) ⊎ (r ≡ Err stops.Print)) c (Piece n f t slice) d
     → Tells (λ answer. (r ≡ is_news (goes_on answer)) ⊎ (r ≡ Err stops.Print)) c (Piece n g u read) d

@@ -1,4 +1,4 @@
--- A feed that was told nothing.
+-- A feed without events.
 use Rattle.std.proofs.Common.{ℕ, List, [], ◌∷◌, refl, inr, arith}
 use Rattle.std.specs.List.{IsDistinct}
 use Rattle.feed_names.specs.ReleaseName.{Name}

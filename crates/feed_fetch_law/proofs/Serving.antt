@@ -1,4 +1,4 @@
--- What a server in memory leaves to be read.
+-- The bytes that a server in memory leaves to be read.
 use Rattle.std.proofs.Common.{◌≡◌, ◌++◌, ℕ, List, [], Option, Some, Result, Ok, Err, ◌∙◌, ap, subst}
 use Rattle.httparse.specs.Grammar.{RequestHead}
 use Rattle.feed_names.specs.ReleaseName.{Name}

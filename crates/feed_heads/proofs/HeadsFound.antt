@@ -1,4 +1,4 @@
--- From the head that was read in a buffer to the bytes of which the buffer is the front.
+-- From the head that was read in a buffer to all bytes, whose front the buffer is.
 use Rattle.std.proofs.Common.{◌≡◌, ◌≤◌, ℕ, List, ◌++◌, length, take, drop, map, Some, ap, sym, arith, subst}
 use Rattle.std.specs.Prelude.{min}
 use Rattle.std.proofs.lemmas.List.{length-take, length-take-le, length-map, take-append-drop, take_min}
@@ -11,7 +11,7 @@ use Rattle.feed_heads.specs.RequestHeads.{BeginsWithHead, NeverBeginsWithHead}
 use Rattle.feed_heads.specs.HeadEnds.{IsHeadInFront}
 use Rattle.feed_heads.proofs.RequestReading.{overflowing, full}
 
--- the head that was read stands at the front of all bytes
+-- the head that was read is at the front of all bytes
 pub reads_on : (text buffer rest : List ℕ) (headers : List HeaderSpan) (spans : RequestSpans) (h : RequestHead) → text ≡ buffer ++ rest → IsRequestAt buffer headers spans h
     → ReadsRequest text h (drop spans.len buffer ++ rest)
 reads_on text buffer rest headers spans h e at = rw e (ReadsRequest-append buffer h (drop spans.len buffer) rest at.reads)
@@ -30,7 +30,7 @@ fields_at buffer headers spans h within at =
     let same : length (map (header_bytes buffer) (take spans.headers headers)) ≡ length (map name_and_value h.fields) = ap length at.fields in
     omega (arith, simp length-map at same, length-take spans.headers headers)
 
--- a head that was read within the limits stands in front
+-- a head that was read within the limits is at the front
 pub begins_with : (bytes fields : ℕ) (text buffer rest : List ℕ) (headers : List HeaderSpan) (spans : RequestSpans) (h : RequestHead)
     → text ≡ buffer ++ rest → IsRequestAt buffer headers spans h → IsRequestWithin buffer headers spans → length buffer ≤ bytes → length headers ≤ fields
     → BeginsWithHead bytes fields text h

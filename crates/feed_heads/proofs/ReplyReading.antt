@@ -1,4 +1,4 @@
--- What reads of a reply's heads into a buffer keep, and why there is no head.
+-- The invariants of reading a reply's heads into a buffer, and why there is none.
 use Rattle.std.proofs.Common.{◌≡◌, ◌≤◌, ◌<◌, ◌+◌, ◌-◌, ℕ, List, [], ◌∷◌, ◌++◌, length, take, drop}
 use Rattle.std.proofs.Common.{Option, Some, None, IfSome, IfErr, Result, Ok, Err, true, false, map, refl, sym, ap, arith, ◌∙◌}
 use Rattle.std.proofs.Common.{append_assoc}
@@ -24,7 +24,7 @@ pub some_bytes : (h : ResponseHead) → 0 < length (print_response h)
 unfolding print_response
 some_bytes h = simp length-append (omega arith)
 
--- at first no head stands before the start
+-- at first no interim head precedes the start
 pub no_interim : (fields : ℕ) (buffer : List ℕ) → AreInterimTo fields (take 0 buffer) 0 []
 no_interim fields buffer = record { skipped = λ k d below. absurd (omega arith); front = refl }
 
@@ -62,7 +62,7 @@ pub split_text : (fields : ℕ) (text bytes rest : List ℕ) (start : ℕ) (inte
 split_text fields text bytes rest start interim e are =
     e ∙ ap (λ t. t ++ rest) (sym (take-append-drop start bytes) ∙ ap (λ t. t ++ drop start bytes) (sym are.front)) ∙ append_assoc (print_heads interim) (drop start bytes) rest
 
--- so many bytes stand behind the interim heads
+-- this many bytes follow the interim heads
 left : (fields : ℕ) (bytes : List ℕ) (start : ℕ) (interim : List ResponseHead) → start ≤ length bytes → AreInterimTo fields bytes start interim
     → length (print_heads interim) + length (drop start bytes) ≡ length bytes
 left fields bytes start interim within are =
@@ -176,7 +176,7 @@ no_more limit room old mid buffer start filled interim Short taken are ordered f
     short limit room old mid (take filled buffer) start interim taken is are (omega arith) (omega arith) none may
 no_more limit room old mid buffer start filled interim _ taken are ordered fits same is none may = absurd is
 
--- where no more bytes come, there is no head
+-- if no more bytes arrive, the head stays incomplete
 pub ended : {A : Type 0} (limit room : ℕ) (old mid : Option (List ℕ)) (buffer : List ℕ) (start filled : ℕ) (interim : List ResponseHead) (result : Result A HttpFault) (fault : HttpFault)
     → IsErrAnd result (λ e. e ≡ fault)
     → Consumes old mid (take filled buffer) → AreInterimTo room (take filled buffer) start interim → start ≤ filled → filled < length buffer → length buffer ≡ limit

@@ -1,4 +1,4 @@
--- What reads of a request's head into a buffer keep, and why there is no head.
+-- The invariants of reading a request's head into a buffer, and why there is none.
 use Rattle.std.proofs.Common.{◌≡◌, ◌≤◌, ◌<◌, ◌+◌, ℕ, List, [], ◌++◌, length, take, drop, Option, Some}
 use Rattle.std.proofs.Common.{None, IfSome, refl, sym, ap, arith, ◌∙◌, append_assoc, suc, zero, codes, inl, get_or}
 use Rattle.std.specs.Io.KnownBytes.{Consumes, IsAtEnd}

@@ -62,7 +62,7 @@ stopped None now least most body fault so_far fits why = tt
 stopped (Some text) None least most body fault so_far fits why = absurd so_far.taken
 stopped (Some text) (Some left) least most body fault so_far fits why = broken text left least most body fault so_far fits why
 
--- so there is no chunked body
+-- so the text does not begin with a chunked body
 pub no_body : {A : Type 0} (old now : Option (List ℕ)) (least most : ℕ) (body : List ℕ) (result : Result A HttpFault) (fault : HttpFault) → IsErrAnd result (λ e. e ≡ fault)
     → AreChunksRead old now body → length body ≤ most → IsStop (least - length body) (most - length body) now fault → IfErr result (IsChunkedFault least most old)
 no_body old now least most body (Ok done) fault is so_far fits why = absurd is

@@ -132,7 +132,7 @@ reply_printed : (first last size : ℕ) → print_response (reply_head first las
 reply_printed first last size =
     part_printed (range_value (decimal first) (decimal last) (decimal size)) (decimal (last - first + 1)) ∙ range_line (decimal first) (decimal last) (decimal size) (decimal (last - first + 1))
 
--- digits may stand in a value
+-- digits may appear in a value
 pub digits_pass : (n : ℕ) → n < 2 ^ 64 → AllPass is_value_byte (decimal n)
 digits_pass n small = All-weaker (λ b. is_ascii_digit b ≡ true) (λ b. is_value_byte b ≡ true) digit_passes (decimal n) (AllPass-from_list_all is_ascii_digit (decimal n) (decimal_digits n small))
   where
@@ -288,7 +288,7 @@ few_fields : (places count : List ℕ) → length (part_head places count).field
 unfolding part_head part_fields
 few_fields places count = lit≤ tt
 
--- a head that fits stands in as many bytes
+-- a head that fits is within this many bytes
 reads_front : (bytes : ℕ) (text : List ℕ) (h : ResponseHead) (body : List ℕ) → ReadsResponse text h body → length (print_response h) ≤ bytes
     → ReadsResponse (take bytes text) h (take (bytes - length (print_response h)) body)
 reads_front bytes text h body reads short =

@@ -21,7 +21,7 @@ by_head bytes fields (Some text) (Some rest) buffer headers spans None P taken o
 by_head bytes fields (Some text) (Some rest) buffer headers spans (Some files) P taken of all =
     λ head begins. all head (same_head bytes fields text buffer rest headers spans of.0 head taken of.1 begins)
 
--- a head that was read within the limits stands at the front
+-- a head that was read within the limits is at the front
 pub has_head : (bytes fields : ℕ) (old new : Option (List ℕ)) (buffer : List ℕ) (headers : List HeaderSpan) (spans : RequestSpans) (P : List ℕ → Type 0)
     → Consumes old new buffer → IsRequestOf buffer headers spans → IsRequestWithin buffer headers spans → length buffer ≤ bytes → length headers ≤ fields
     → IfSome old (λ text. ((head : RequestHead) → ¬ (BeginsWithHead bytes fields text head)) → P text)

@@ -38,7 +38,7 @@ section_ends : (fields : List Field) (end : LineEnd) → last_of (print_section 
 section_ends fields crlf = last_of-push_two (flat_map print_field fields) 13 10
 section_ends fields lf = last_of-push (flat_map print_field fields) 10
 
--- what is no longer than the front stands in it
+-- a text that is not longer than the front is within it
 in_front : (front more p rest : List ℕ) → length p ≤ length front → front ++ more ≡ p ++ rest → front ≡ p ++ drop (length p) front
 in_front front more p rest fits e =
     let same : take (length p) front ≡ p = sym (take-append-le (length p) front more fits) ∙ ap (take (length p)) e ∙ take_at p rest (length p) refl in
@@ -55,7 +55,7 @@ all_of front p rest b longer e =
     let none_left : rest ≡ [] = no_rest rest (omega arith) in
     e ∙ ap (λ t. p ++ t) none_left ∙ append-nil p
 
--- bytes that have no line have none with one more byte that is no LF
+-- bytes that have no line have none with one more byte, unless that is LF
 pub no_line_more : (front : List ℕ) (b : ℕ) → HasNoChunkLine front → b ≢ 10 → HasNoChunkLine (front ++ b ∷ [])
 no_line_more front b none other l rest reads = elim (cases_Bool (nat_le (length (print_chunk_line l)) (length front))) [
   | inl t ↦ none l (drop (length (print_chunk_line l)) front) (reads.0, in_front front (b ∷ []) (print_chunk_line l) rest (leb-true _ _ t) reads.1)

@@ -1,4 +1,4 @@
--- What is sent of a file, block by block.
+-- The bytes of a file that are sent, block by block.
 use Rattle.std.proofs.Common.{◌≡◌, ◌≤◌, ◌<◌, inl, inr, ◌+◌, ◌-◌, ℕ, List, ◌++◌, take, drop, length, Option}
 use Rattle.std.proofs.Common.{Some, None, IfSome, Result, Ok, Err, sym, ap, arith, ◌∙◌}
 use Rattle.std.proofs.Common.{subst}

@@ -6,7 +6,7 @@ use Rattle.feed_names.proofs.NameLemmas.{one_split, one_front}
 use Rattle.feed_heads.specs.Targets.{origin_form}
 use Rattle.feed_http.specs.Requests.{NamesRelease, IsNamedBy}
 
--- a text without a date is no name
+-- a text without a date is not a name
 undated : (text : List ℕ) → IsRefused text BadDate → (name : Name) → ¬ (IsName text name)
 undated text refused name is =
     let fronts : is.front ≡ refused.0 = one_front text is.front refused.0 is.ends refused.1 in
@@ -26,7 +26,7 @@ no_release target text is none name names =
     let same : names.text ≡ text = sym (is ∙ ap (drop 1) names.path) in
     none name (subst (λ (t : List ℕ). IsName t name) same names.is_name)
 
--- what stands behind the slash
+-- the text after the slash
 behind : (target path text slashes : List ℕ) → path ≡ origin_form target → slashes ≡ codes "/" → text ≡ drop (length slashes) path → text ≡ drop 1 (origin_form target)
 behind target path text slashes p s is = is ∙ ap (λ t. drop (length t) path) s ∙ ap (drop 1) p
 

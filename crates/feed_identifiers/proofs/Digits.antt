@@ -29,11 +29,11 @@ digit_is n e = record { low = grind (arith, nat_tests); high = grind (arith, nat
 pub eqb_same : (m n : ℕ) → eqb m n ≡ true → m ≡ n
 eqb_same m n e = grind (arith, nat_tests)
 
--- the last digit and those before it are told by a number
+-- a number determines its last digit and those before it
 pub split : (x y p q : ℕ) → y ≤ 9 → q ≤ 9 → 10 * x + y ≡ 10 * p + q → (x ≡ p) × (y ≡ q)
 split x y p q h k e = (omega arith, omega arith)
 
--- digits are told by their worth
+-- a digit is determined by its value
 pub same_digit : (m n : ℕ) → IsDigit m → IsDigit n → m - 48 ≡ n - 48 → m ≡ n
 same_digit m n h k e = omega arith
 

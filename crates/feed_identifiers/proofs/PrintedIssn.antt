@@ -1,4 +1,4 @@
--- The number of a printed ISSN tells which it is.
+-- The number of a printed ISSN determines the ISSN.
 use Rattle.std.proofs.Common.{◌≡◌, ◌≤◌, ◌<◌, ◌+◌, ◌-◌, ◌*◌, ℕ, Bool, true, false, ◌&&◌, ◌||◌, eqb, List, [], ◌∷◌}
 use Rattle.std.proofs.Common.{Option, Some, None, if◌then◌else◌, refl, sym, ◌∙◌, arith}
 use Rattle.std.specs.Prelude.{◌%◌, ◌==◌}

@@ -1,4 +1,4 @@
--- The part of a column that stands beside one number.
+-- The part of a column that belongs to one number.
 use Rattle.std.proofs.Common.{◌≡◌, ◌<◌, ◌≤◌, ◌-◌, ℕ, zero, suc, true, false, eqb, ltb, leb, List, [], ◌∷◌, map, length, take, drop, refl, ap, arith}
 use Rattle.std.specs.List.{filter}
 use Rattle.std.specs.List.Sorted.{IsNonDecreasing, IsNonDecreasingBy, IsPartitionPoint}

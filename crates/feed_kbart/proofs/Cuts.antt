@@ -1,4 +1,4 @@
--- What `csv` reads from a text is the text's records.
+-- `csv` reads exactly the records of a text.
 use Rattle.std.proofs.Common.{◌≡◌, ◌≤◌, ◌<◌, ℕ, List, [], ◌∷◌, ◌++◌, length, Option, Some, None, true}
 use Rattle.std.proofs.Common.{false, refl, sym, ap, arith, eq-eqb, inl, inr, ◌∙◌, append_assoc, Bool, ◌||◌}
 use Rattle.std.specs.Prelude.{◌==◌, ◌&&◌, if◌then◌else◌, ◌⊎◌, option_map}
@@ -95,7 +95,7 @@ abbrev pub tail_pieces : List (List ℕ) → List (List ℕ)
 tail_pieces [] = []
 tail_pieces (piece ∷ pieces) = pieces
 
--- bytes that stand before the first piece
+-- prepends bytes to the first piece
 abbrev pub onto_all : List ℕ → List (List ℕ) → List (List ℕ)
 onto_all front [] = front ∷ []
 onto_all front (piece ∷ pieces) = (front ++ piece) ∷ pieces

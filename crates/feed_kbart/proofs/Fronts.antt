@@ -21,7 +21,7 @@ front_more text bytes front front2 known is was now =
     ap (λ n. take n front2) size ∙ now ∙ ap (λ l. l ++ take (6 - known) bytes) kept ∙ ap (λ n. take 6 text ++ take n bytes) room
     ∙ sym (take-append 6 text bytes)
 
--- they tell whether it begins with two marks
+-- the first six bytes show whether it begins with two marks
 pub front_marks : (text front : List ℕ) (known : ℕ) → known ≡ min (length text) 6 → take (min (length text) 6) front ≡ take 6 text
     → has_two_marks (take known front) ≡ has_two_marks text
 front_marks text front known is was =

@@ -58,7 +58,7 @@ two n place k m xs = go (eqb k m) (eqb k n) (eqb m n) refl refl refl
     go false false true s e f = rw (s, e, f) refl
     go false false false s e f = rw (s, e, f) refl
 
--- identifiers that a number tells apart are the same just where their numbers are
+-- two identifiers are equal exactly if their numbers are, if the numbers determine them
 same_test : (number : List ℕ → ℕ) (Is : List ℕ → Type 0) → ((s t : List ℕ) → Is s → Is t → number s ≡ number t → s ≡ t)
     → (identifier own : List ℕ) → Is identifier → Is own → bytes_eq identifier own ≡ eqb (number own) (number identifier)
 same_test number Is tells identifier own i j =
@@ -80,7 +80,7 @@ or_false : (b : Bool) → (b || false) ≡ b
 or_false true = refl
 or_false false = refl
 
--- a row has its place among the entries of an identifier just where it has the identifier
+-- a row's place is among the entries of an identifier exactly if it has the identifier
 own_placed : (number : List ℕ → ℕ) (Is : List ℕ → Type 0) (identifier : List ℕ)
     → ((own : List ℕ) → Is own → bytes_eq identifier own ≡ eqb (number own) (number identifier))
     → (place : ℕ) (print online : Option (List ℕ)) (xs : List ℕ) → IfSome print Is → IfSome online Is
@@ -107,7 +107,7 @@ other_placed number Is n apart place (Some print) (Some online) xs p o =
       | false ↦ λ e. rw (e, apart print p, apart online o) refl
     ] refl
 
--- the number tells an identifier from the others of its kind, and from those of the other kind
+-- the number distinguishes an identifier from others of its kind, and from those of the other kind
 pub record NumbersTell : Type 0 where
   pub issns : OneIssnForNumber
   pub isbns : OneIsbnForNumber
@@ -141,7 +141,7 @@ isbn_placed tell digits i place (Serial print online) xs are =
 placed_append : (n : ℕ) (es fs : List Entry) → placed n (es ++ fs) ≡ placed n es ++ placed n fs
 placed_append n es fs = ap (map (λ e. e.place)) (filter-append (λ (e : Entry). eqb e.number n) es fs) ∙ map-append (λ (e : Entry). e.place) _ _
 
--- a row has its place among the entries with a number just where it passes
+-- a row's place is among the entries with a number exactly if it passes the test
 abbrev IsTold : ℕ → (RowValue → Bool) → Type 0
 IsTold n test = (place : ℕ) (row : RowValue) (xs : List ℕ) → HasIdentifiers row
     → placed n (entries_of place row) ++ xs ≡ cons_option (if test row then Some place else None) xs

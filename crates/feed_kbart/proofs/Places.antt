@@ -26,7 +26,7 @@ drop-none [] i e = let next : i + 1 ≡ suc i = omega arith in rw next refl
 drop-none (g ∷ fields) zero e = cc
 drop-none (g ∷ fields) (suc i) e = let next : suc i + 1 ≡ suc (i + 1) = omega arith in rw next (drop-none fields i e)
 
--- the search goes on behind a field that does not pass
+-- the search continues after a field that does not pass
 pub position-next : (test : List ℕ → Bool) (fields : List (List ℕ)) (i : ℕ) (f : List ℕ) → field_at fields i ≡ Some f → test f ≡ false
     → position_from test i (drop i fields) ≡ position_from test (i + 1) (drop (i + 1) fields)
 position-next test fields i f e no_pass = rw (drop-field_at fields i f e, no_pass) refl
@@ -38,7 +38,7 @@ position-here test fields i f e pass = rw (drop-field_at fields i f e, pass) ref
 pub position-end : (test : List ℕ → Bool) (fields : List (List ℕ)) (i j : ℕ) → field_at fields i ≡ None → position_from test j (drop i fields) ≡ None
 position-end test fields i j e = rw (drop-no_field fields i e) refl
 
--- a count goes on behind a field that passes, and behind one that does not
+-- a count continues after a field that passes, and after one that does not
 pub count-next : (test : List ℕ → Bool) (fields : List (List ℕ)) (i : ℕ) (f : List ℕ) → field_at fields i ≡ Some f
     → count_by test (drop i fields) ≡ cond (test f) 1 0 + count_by test (drop (i + 1) fields)
 count-next test fields i f e = rw (drop-field_at fields i f e) (sum_by-cons (λ x. cond (test x) 1 0) f (drop (i + 1) fields))

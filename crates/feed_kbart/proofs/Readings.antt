@@ -1,4 +1,4 @@
--- What is known of a text that is read and judged.
+-- The facts about a text that is read and checked.
 use Rattle.std.proofs.Common.{◌≡◌, ◌≤◌, ◌<◌, ℕ, List, [], ◌++◌, Option, Some, None, IfSome, Result, length, refl, sym, ap, arith, ◌∙◌, subst}
 use Rattle.std.specs.Prelude.{Ok, Err}
 use Rattle.std.specs.Io.KnownBytes.{Consumes, IsAtEnd, Keeps}
@@ -39,7 +39,7 @@ read_kept given now next judge r kept = record { text = r.text; read = stays giv
     stays (Some whole) (Some rest) None text come kept = absurd kept
     stays (Some whole) (Some rest) (Some same) text come kept = come ∙ ap (λ l. text ++ l) (sym kept)
 
--- a text that was read to its end is the one that was judged
+-- a text that was read to its end is the one that was checked
 pub read_whole : (given now : Option (List ℕ)) (judge : TextJudge) (P : List ℕ → Type 0) → IsReadTo given now judge → IsAtEnd now
     → ((text : List ℕ) → IsJudgeOf text judge → P text) → IfSome given P
 read_whole None now judge P r end judged = tt
@@ -60,7 +60,7 @@ read_over None now judge r over = tt
 read_over (Some text) None judge r over = absurd r.read
 read_over (Some text) (Some rest) judge r over = omega (arith, over, r.judged.size, ap length r.read, length-append r.text rest)
 
--- a text is told of in one way
+-- two proofs of the same fault of a text are equal
 IsFaultOf-prop : (text : List ℕ) (fault : KbartFault) → IsProp (IsFaultOf text fault)
 IsFaultOf-prop text (fault.Bad why) = Prim.hlevel props
 IsFaultOf-prop text fault.TooLong = Prim.hlevel props

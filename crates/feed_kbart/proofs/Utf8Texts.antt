@@ -1,4 +1,4 @@
--- What stands for a text that is read in pieces.
+-- The bytes that stand for a text that is read in pieces.
 use Rattle.std.proofs.Common.{◌≡◌, ◌≤◌, ◌<◌, ◌+◌, ◌-◌, ℕ, List, [], ◌∷◌, ◌++◌, Option, Some, None, length, take, drop, arith, sym, ap, subst, ◌∙◌, true}
 use Rattle.std.proofs.Common.{append_assoc, take-append-drop}
 use Rattle.std.specs.Prelude.{IsUtf8}
@@ -66,7 +66,7 @@ StandsFor-end bytes count n is within same =
     let past = StandsFor-past (take n bytes) (drop n bytes) is in
     subst (λ (k : ℕ). StandsFor (drop k bytes) bytes) (sym place) (subst (λ (l : List ℕ). StandsFor (drop n bytes) l) (take-append-drop n bytes) past)
 
--- at the end, what stands for a text is UTF-8 just where the text is
+-- at the end, the bytes that stand for a text are UTF-8 exactly if the text is
 pub StandsFor-whole : (kept text : List ℕ) → StandsFor kept text → (IsUtf8 text → IsUtf8 kept) × (IsUtf8 kept → IsUtf8 text)
 StandsFor-whole kept text for = rw (append-nil text, append-nil kept) at (for [])
 

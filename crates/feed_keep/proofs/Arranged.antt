@@ -1,4 +1,4 @@
--- Records whose parts stand as they came, and what they are in order.
+-- Records with their parts in the order of arrival, and the same records with sorted parts.
 use Rattle.std.proofs.Common.{if◌then◌else◌, ◌≡◌, ◌++◌, Bool, true, false, not, cond, Option, List, [], ◌∷◌, IsPermutation, refl, sym, ◌∙◌, ap, subst}
 use Rattle.std.specs.List.{IsDistinct}
 use Rattle.std.proofs.lemmas.List.Sorted.{IsPermutation-map}
@@ -30,7 +30,7 @@ distinct_ordered c distinct = subst (λ (ns : List Name). IsDistinct name_eq ns)
 pub distinct_before : (c : Content) → IsDistinct name_eq (names (ordered c)) → IsDistinct name_eq (names c)
 distinct_before c distinct = subst (λ (ns : List Name). IsDistinct name_eq ns) (names_ordered c) distinct
 
--- parts that came later stand among those that came first
+-- later parts are inserted among earlier ones
 pub merged_behind : (ps qs ns : List Part) → merged ps (qs ++ ns) ≡ merged (merged ps qs) ns
 merged_behind ps [] ns = refl
 merged_behind ps (q ∷ qs) ns = merged_behind (insert_part q ps) qs ns

@@ -1,4 +1,4 @@
--- What the reader says of the file of a record.
+-- The reader's result for the file of a record.
 use Rattle.std.proofs.Common.{◌≡◌, ℕ, List, Some, None, Ok, Err, refl, sym, ◌∙◌, ap, arith}
 use Rattle.feed_kbart.specs.HoldingsValue.{HoldingsValue}
 use Rattle.feed_kbart.specs.Files.{IsReadOf, bad_of}

@@ -1,4 +1,4 @@
--- No name stands twice after a change.
+-- No name appears twice after a change.
 use Rattle.std.specs.List.{IsDistinct}
 use Rattle.feed_names.specs.ReleaseName.{name_eq}
 use Rattle.feed_model.specs.Content.{Content, names}

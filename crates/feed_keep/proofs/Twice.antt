@@ -1,4 +1,4 @@
--- Names that stand twice in a list of records.
+-- Names that appear twice in a list of records.
 use Rattle.std.proofs.Common.{◌≡◌, ◌<◌, ◌≤◌, ◌+◌, ℕ, zero, suc, Bool, true, false, List, [], ◌∷◌, length}
 use Rattle.std.proofs.Common.{take, get_or, Some, None, ◌⊎◌, inl, inr, refl, sym, ◌∙◌, ap, subst, arith}
 use Rattle.std.specs.List.{IsDistinct}
@@ -8,7 +8,7 @@ use Rattle.feed_model.specs.Content.{names, record_of}
 use Rattle.feed_keep.specs.declared.record.Record as code
 use Rattle.feed_keep.specs.Shown.{shown, IsRecordAt}
 
--- no name stands twice among the first n
+-- no name appears twice among the first n
 abbrev pub AreApart : List code.Record → ℕ → Type 0
 AreApart rs n = (i j : ℕ) (d : code.Record) → i < j → j < n → j < length rs → name_eq (get_or rs i d).name (get_or rs j d).name ≡ false
 

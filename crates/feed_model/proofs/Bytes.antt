@@ -24,7 +24,7 @@ slice_within [] i s = absurd (let u : false ≡ true = s in cc)
 slice_within (x ∷ xs) zero s = omega arith
 slice_within (x ∷ xs) (suc i) s = omega (arith, slice_within xs i s)
 
--- bytes have a place just where it lies within them
+-- bytes have a place exactly if it is within them
 pub byte_at-within : (first : ℕ) (bytes : List ℕ) (place : ℕ) → IsSome (byte_at first bytes place) → (first ≤ place) × (place < first + length bytes)
 byte_at-within first bytes place s = by (nat_le first place) refl s
   where

@@ -59,7 +59,7 @@ still_without ((e, a) ∷ h) = by (is_refused (e, a)) refl (still_without h)
     by true is s = rw is (still_refused h (without_refused h) e a is s)
     by false is s = rw is (still_step h (without_refused h) e a s)
 
--- What is right after a history is right after another one that says the same.
+-- an answer that is right after a history is right after any other with the same facts
 
 case_moves : {P Q A B C D : Type 0} → (P ↔ Q) → (A → B) → (C → D) → Case P A C → Case Q B D
 case_moves same here after (inl (p, a)) = inl (same.0 p, here a)
@@ -132,7 +132,7 @@ right_still limit h k (Piece n first total bytes) a s right =
     (stores_there h k s n first bytes a))))))) right
 right_still limit h k (Lost n) a s right = right
 
--- What was right under the earlier limit, and was not refused as too large, is right now.
+-- an answer that was right under the earlier limit, and was not a refusal as too large, is right now
 right_now : (h : History) (e : Event) (a : Answer) → is_refused (e, a) ≡ false → IsRightWithin earlier_limit h e a → IsRight h e a
 right_now h (Offered n size) a other (inl (past, e)) = absurd (let u : is_refused (Offered n size, a) ≡ true = ap (λ (x : Answer). is_refused (Offered n size, x)) e in cc)
 right_now h (Offered n size) a other (inr (within, rest)) = inr ((λ past. within (omega (arith, past))), rest)
@@ -207,7 +207,7 @@ contents c d h is all = record {
   each = λ n. each_now h (without_refused h) (still_without h) n c d all (is.each n);
 }
 
--- What is the same.
+-- the facts that stay the same
 
 pub release_same : (h : History) (n : Name) → IsSameRelease h (without_refused h) n
 release_same h n =

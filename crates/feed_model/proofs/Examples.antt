@@ -28,7 +28,7 @@ begun =
     ∷ (Offered january 4, Ok replies.Noted)
     ∷ []
 
--- `123` at 1 brings the rest
+-- `123` at 1 completes the file
 abbrev ended : History
 ended = (Piece january 1 (Some 4) (49 ∷ 50 ∷ 51 ∷ []), Ok replies.Activated) ∷ begun
 

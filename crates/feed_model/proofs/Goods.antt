@@ -1,4 +1,4 @@
--- What follows where the good releases stay the same.
+-- Consequences if the good releases stay the same.
 use Rattle.std.proofs.Common.{◌≡◌, ℕ, List, Option, sym, ◌∙◌, IsSome, subst}
 use Rattle.feed_names.specs.ReleaseName.{Name}
 use Rattle.feed_kbart.specs.declared.fault.BadFile.{BadFile}

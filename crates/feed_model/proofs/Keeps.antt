@@ -4,7 +4,7 @@ use Rattle.feed_model.specs.Reply.{missing_below}
 use Rattle.feed_model.specs.Content.{Part, Record, byte_in}
 use Rattle.feed_model.specs.Change.{merged, Completes}
 
--- no place is missing just where each has a byte
+-- no place is missing exactly if each has a byte
 pub none_missing : (f : ℕ → Option ℕ) (n : ℕ) → (missing_below f n ≡ 0) ↔ ((place : ℕ) → place < n → IsSome (f place))
 none_missing f n = (each n, none n)
   where

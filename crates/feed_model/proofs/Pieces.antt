@@ -113,7 +113,7 @@ pub piece_repeated : (c : Content) (n : Name) (first : ℕ) (total : Option ℕ)
 piece_repeated c n first total bytes r reach agrees covers =
     unchanged c (Piece n first total bytes) (Ok replies.Repeated) refl refl (λ h is. repeated_right c h n first total bytes r reach agrees covers is)
 
--- a piece that brings a new byte
+-- a piece with a new byte
 not_kept : (c : Content) (h : History) (n : Name) (r : Record) (first : ℕ) (bytes : List ℕ) → IsContent c h → record_of c n ≡ Some r → HasNew r.parts first bytes
     → ¬ (IsKept h n first bytes)
 not_kept c h n r first bytes is found new all = some_none (kept h n new.0) (all new.0 new.1) (sym ((of_record c h n r is found).bytes new.0) ∙ new.2)

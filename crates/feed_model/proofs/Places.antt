@@ -22,7 +22,7 @@ record_of-at (x ∷ xs) zero d apart lt = rw (name_self x.name) refl
 record_of-at (x ∷ xs) (suc k) d apart lt =
     rw (apart_at x.name xs k d (IsDistinct-head name_eq x.name (names xs) apart) (omega arith)) (record_of-at xs k d (IsDistinct-tail name_eq x.name (names xs) apart) (omega arith))
 
--- what is found stands somewhere
+-- a record that is found has a place
 pub place_of : (c : Content) (n : Name) (r : Record) → record_of c n ≡ Some r → (k : ℕ) × (k < length c) × ((d : Record) → get_or c k d ≡ r)
 place_of [] n r e = absurd (cc)
 place_of (x ∷ xs) n r e = by (name_eq x.name n) refl (place_of xs n r)

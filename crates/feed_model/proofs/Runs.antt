@@ -1,4 +1,4 @@
--- A run goes on by one step.
+-- A run continues by one step.
 use Rattle.std.proofs.Common.{◌≡◌, ◌<◌, ◌+◌, ◌++◌, ℕ, List, [], ◌∷◌, length, map, take, get_or, refl, sym, ◌∙◌, ap, subst, arith}
 use Rattle.std.proofs.lemmas.List.{take_more, length-append}
 use Rattle.feed_model.specs.History.{Event, Answer, History}
@@ -25,7 +25,7 @@ map-push : {X : Type 0} (told : X → Event) (xs : List X) (x : X) → map told 
 map-push told [] x = refl
 map-push told (y ∷ ys) x = ap (λ zs. told y ∷ zs) (map-push told ys x)
 
--- the same in a loop over the elements that tell the events
+-- the same in a loop over elements that stand for the events
 pub run_more : {X : Type 0} (told : X → Event) (c m c' : Content) (xs : List X) (i : ℕ) (x : X) (answers more : List Answer) (answer : Answer)
     → i < length xs → x ≡ get_or xs i x → more ≡ answers ++ answer ∷ [] → Runs c (map told (take i xs)) answers m → Handles m (told x) answer c'
     → Runs c (map told (take (i + 1) xs)) more c'

@@ -1,4 +1,4 @@
--- What the records say of the history.
+-- The history, as the records show it.
 use Rattle.std.proofs.Common.{◌≡◌, ◌<◌, ℕ, suc, ◌<ℤ◌, ◌≤ℤ◌, List, [], ◌∷◌, length, Option}
 use Rattle.std.proofs.Common.{Some, None, IsSome, slice_get, MatchOption, refl, sym, ◌∙◌, subst, arith}
 use Rattle.std.proofs.lemmas.Int.{ints}

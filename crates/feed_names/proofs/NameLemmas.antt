@@ -52,7 +52,7 @@ split_found front date at n long here mark rest reads =
     let parts : drop at front ≡ 95 ∷ date = sym (take-append-drop 1 (drop at front)) ∙ (rw (mark, sym rest) refl) in
     record { date = date; is_date = reads; spelled = sym (take-append-drop at front) ∙ ap (λ back. take at front ++ back) parts }
 
--- a text whose last four bytes are `.txt` is what stands before them and `.txt`
+-- a text whose last four bytes are `.txt` is the text before them and `.txt`
 pub ending_cut : (text front : List ℕ) → pointwise nat_eq (drop (length text - 4) text) (codes ".txt") ≡ true → front ≡ take (length text - 4) text → EndsInTxt text front
 ending_cut text front last cut =
     sym (take-append-drop (length text - 4) text) ∙ ap (λ back. take (length text - 4) text ++ back) (same_text _ _ (sym last)) ∙ ap (λ s. s ++ codes ".txt") (sym cut)

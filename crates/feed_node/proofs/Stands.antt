@@ -1,4 +1,4 @@
--- Where a connection stands as things happen to it.
+-- The state of a connection after each of its events.
 use Rattle.std.proofs.Common.{◌≡◌, ◌≢◌, ◌≤◌, ◌<◌, ◌+◌, ◌-◌, ◌⊎◌, min, ℕ, true, false, List, [], ◌∷◌, ◌++◌, length, take, drop, nat_le}
 use Rattle.std.proofs.Common.{refl, sym, ap, ◌∙◌, subst, arith, inl, inr, append_assoc, append-nil, take-append-drop, length-append, length-take-le, length-drop, take_all, cond}
 use Rattle.std.specs.Prelude.{Result, Ok, Err, OnOk}
@@ -45,7 +45,7 @@ begun (byte ∷ bytes) new history some none nothing has =
       in_time = record { counted = has.quiet; took = has.since; left = rw (has.quiet) some };
     })
 
--- bytes that come while the head is awaited, of which so many are kept
+-- bytes arrive while the head is awaited, and this many of them are kept
 pub came_bytes : (replies : Replies) (old new : Connection) (history : List Happening) (bytes front : List ℕ) (n : ℕ) → new.limit ≡ old.limit
     → length old.heard.items ≤ head_limit → n ≡ min (length bytes) (head_limit - length old.heard.items) → front ≡ take n bytes
     → old.phase ≡ Hearing → StandsAt old history → HasTakenIn replies front old new → ComesOn replies new bytes history

@@ -93,7 +93,7 @@ missing_from at size (p ∷ ps) w inside =
         by (inl none) = inl none
         by (inr some) = inr (none_behind at p ps w place some.0 some.1)
 
--- What the parts of a file have and what is missing of it make the file.
+-- the bytes of the parts and the missing places together are as many as the places of the file
 pub missing_total : (size : ℕ) (ps : List Part) → AreWithin size ps → missing_below (byte_in ps) size + total_length ps ≡ size
 missing_total size ps w = missing_from 0 size ps w.parts w.inside
 

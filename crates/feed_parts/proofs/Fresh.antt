@@ -1,4 +1,4 @@
--- What a piece brings to the parts that are kept.
+-- The bytes of a piece that are new to the stored parts.
 use Rattle.std.proofs.Common.{if◌then◌else◌, ◌≡◌, ◌<◌, ◌≤◌, ◌+◌, ◌-◌, ◌++◌, ◌⊎◌, inl, inr, max}
 use Rattle.std.proofs.Common.{Bool, true, false, nat_lt, ℕ, List, [], ◌∷◌, length, append-nil, Option, Some, None, IsSome}
 use Rattle.std.proofs.Common.{All, refl, sym, ◌∙◌, ap, subst, arith}
@@ -28,7 +28,7 @@ fresh_kept (Some x) byte e = refl
 fresh_missing : (o byte : Option ℕ) → o ≡ None → fresh o byte ≡ byte
 fresh_missing o byte e = rw e refl
 
--- the new parts have what the piece brings below a place
+-- the new parts have the piece's new bytes below a place
 pub record AreFresh (size first : ℕ) (bytes : List ℕ) (all : List Part) (place : ℕ) (new : List Part) : Type 0 where
   pub parts : ArePartsFrom 0 new
   pub inside : All (λ p. end_of p ≤ size) new
@@ -109,7 +109,7 @@ fresh_wider size wide first bytes all place new le fresh_parts = record {
   brings = fresh_parts.brings;
 }
 
--- At the end of the piece the new parts have all that it brings.
+-- at the end of the piece, the new parts have all of its new bytes
 module _ (size first : ℕ) (bytes : List ℕ) (all : List Part) (place : ℕ) (new : List Part) (kept : AreWithin size all) (so_far : AreFresh size first bytes all place new)
     (end : first + length bytes ≤ place) where
   brings : (at : ℕ) → byte_in new at ≡ fresh (byte_in all at) (byte_at first bytes at)

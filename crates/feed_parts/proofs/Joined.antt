@@ -1,4 +1,4 @@
--- The parts of a file of which no place is missing, one behind the other.
+-- The concatenated parts of a complete file.
 use Rattle.std.proofs.Common.{◌≡◌, ◌<◌, ◌≤◌, ◌+◌, ◌-◌, ◌++◌, ◌⊎◌, inl, inr, ℕ, List, [], ◌∷◌}
 use Rattle.std.proofs.Common.{length, get_or, take, Some, None, IsSome, Result, Ok, Err, All, slice_get, length-append}
 use Rattle.std.proofs.Common.{append_assoc, refl, sym, ◌∙◌, ap, subst, arith}

@@ -1,4 +1,4 @@
--- Two sorted runs, of which the second is moved to its place in the first and sorted with what it lies among.
+-- Two sorted runs: the second is moved to its place in the first, and sorted with the range that it falls in.
 use Rattle.std.proofs.Common.{◌≡◌, ◌<◌, ◌≤◌, ◌+◌, ◌-◌, ◌++◌, ◌⊎◌, inl, inr, max, ℕ, true, false}
 use Rattle.std.proofs.Common.{ltb, List, [], length, get_or, take, drop, All, IsPermutation, append-nil, append_assoc}
 use Rattle.std.proofs.Common.{length-append, length-take, length-drop, get_or-take, get_or-drop, take_at, drop_at, take-take, drop-drop, refl, sym, ◌∙◌, ap, ap₂, subst, arith}
@@ -83,7 +83,7 @@ module _ {X : Type 0} (n : X → ℕ) where
   dropped : (P : X → Type 0) (k : ℕ) (xs : List X) → AllWithin P xs k (length xs) → All P (drop k xs)
   dropped P k xs w i d lt = subst P (sym (get_or-drop k xs i d)) (w (k + i) d (omega arith) (omega (arith, length-drop k xs)))
 
-  -- the sorted part lies between what stands before it and what follows it
+  -- the sorted range is between what precedes it and what follows it
   pub rise_runs : (ps qs zs : List X) (begin low end from to : ℕ)
       → IsNonDecreasingBy n ps → IsPermutation (drop begin (take end ps) ++ qs) zs → IsNonDecreasingBy n zs
       → All (λ q. from ≤ n q) qs → All (λ q. n q ≤ to) qs → end ≤ length ps → (end ≡ low) ⊎ (end ≡ begin) → begin ≤ end → low ≤ end

@@ -8,7 +8,8 @@ use Rattle.feed_parts.specs.Segments.{AreSegments, IsLastFrom}
 use Rattle.feed_parts.specs.Shown.{shown_part, shown_parts}
 use Rattle.feed_parts.proofs.Order.{starts_rise}
 
--- the parts in front of one index begin at the place or before it, those from another on later, and no more are between them than the probes that are left can tell
+-- the parts before one index begin at the place or before it, those from another on later, and the parts between them
+-- are no more than the remaining probes can distinguish
 pub record IsSearch (ps : List code_part.Part) (place old probes low high : ℕ) : Type 0 where
   pub small : length ps < 2 ^ 64
   pub order : low ≤ high

@@ -43,7 +43,7 @@ merged_up : (ps qs : List Part) → UpFrom 0 ps → UpFrom 0 (merged ps qs)
 merged_up ps [] w = w
 merged_up ps (q ∷ qs) w = merged_up (insert_part q ps) qs (insert_up 0 q ps w (omega arith))
 
--- a new part stands behind those that begin where it does
+-- a new part comes after those that begin at the same place
 beginning_insert : (at from : ℕ) (q : Part) (ps : List Part) → UpFrom from ps → beginning at (insert_part q ps) ≡ beginning at ps ++ beginning at (q ∷ [])
 beginning_insert at from q [] w = refl
 beginning_insert at from q (p ∷ ps) w = by (nat_lt q.first p.first) refl (beginning_insert at p.first q ps w.1)
@@ -133,7 +133,7 @@ sorted_up at [] w low = tt
 sorted_up at (p ∷ ps) w low =
     (All-head (λ q. at ≤ q.first) p ps low, sorted_up p.first ps (λ i j d le lt. w (suc i) (suc j) d (omega arith) (omega arith)) (λ k d lt. w 0 (suc k) d (omega arith) (omega arith)))
 
--- parts that are sorted now, and stand as before where they begin at one place
+-- the parts are sorted now, and those that begin at the same place keep their order
 pub sorted_stably : (xs ys : List code_part.Part) → IsNonDecreasingBy (λ p. p.first) ys → IsStableByKey (λ p. p.first) nat_cmp xs ys → shown_parts ys ≡ merged [] (shown_parts xs)
 sorted_stably xs ys sorted stable = same_up 0 0 (shown_parts ys) (merged [] (shown_parts xs)) (sorted_up 0 ys sorted (λ k d lt. omega arith)) (merged_up [] (shown_parts xs) tt)
     (λ at. all_ties at xs ys stable ∙ sym (beginning_merged at [] (shown_parts xs) tt))

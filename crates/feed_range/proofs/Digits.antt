@@ -13,7 +13,7 @@ use Rattle.std.proofs.lemmas.Str.Ascii.{IsAscii-cons, IsAscii-nil}
 use borrow.Author.Tests.{ltb-true, lt-ltb}
 use Rattle.feed_range.specs.Text.{is_number, number_of, in_64_bits}
 
--- the test of digits tells digits
+-- the test of digits accepts exactly the digits
 pub tells : IsDigitsTest (λ ds. list_all is_ascii_digit ds ≡ true)
 tells = search rules
 

@@ -1,4 +1,4 @@
--- What a Range value asks for, by its form.
+-- The range that a Range value asks for, by its form.
 use Rattle.std.proofs.Common.{◌≡◌, ◌<◌, ◌+◌, ℕ, List, [], ◌∷◌, ◌++◌, length, take, drop, Bool, true}
 use Rattle.std.proofs.Common.{false, Option, Some, None, refl, sym, ap, arith, ◌∙◌, suc, codes, subst, get_or}
 use Rattle.std.specs.Prelude.{nat_lt, not, ◌==◌, if◌then◌else◌}

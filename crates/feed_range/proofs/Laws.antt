@@ -1,4 +1,4 @@
--- What the writers write is read again.
+-- The written values parse as what was written.
 use Rattle.std.proofs.Common.{◌≡◌, ◌≤◌, ◌<◌, ◌-◌, ◌^◌, ℕ, List, [], ◌∷◌, ◌++◌, length, true}
 use Rattle.std.proofs.Common.{false, Option, Some, None, refl, ap, arith, ◌∙◌, min, codes, append_assoc, append-nil}
 use Rattle.std.specs.List.{list_all}
@@ -88,7 +88,7 @@ range_of-places first last text total low high is =
       is,
     ) refl
 
--- what stands round the slash decides
+-- the texts around the slash decide
 content_range-cut : (text front back : List ℕ) → strip_prefix (codes "bytes ") text ≡ Some (front ++ slash ∷ back)
     → lacks slash front ≡ true → content_range text ≡ range_of front back
 content_range-cut text front back stripped without = rw (stripped, split_once-at slash front back without) refl

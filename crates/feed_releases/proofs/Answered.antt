@@ -1,4 +1,4 @@
--- What the active release's holdings answer is what its whole file answers.
+-- The holdings of the active release answer like its complete file.
 use Rattle.std.proofs.Common.{◌≡◌, ◌<◌, ℕ, List, length, get_or, Some, None, Ok, sym, ◌∙◌, ap, subst}
 use Rattle.feed_kbart.specs.HoldingsValue.{HoldingsValue}
 use Rattle.feed_kbart.specs.Files.{holdings_of}

@@ -1,4 +1,4 @@
--- Answers of a feed that change nothing, and what is known of a piece that brings new bytes.
+-- Answers of a feed that change nothing, and the facts about a piece with new bytes.
 use Rattle.std.proofs.Common.{◌≡◌, ◌≢◌, ◌==◌, ◌⊎◌, ◌≤◌, ℕ, Some, Result, Ok, Err}
 use Rattle.std.proofs.Common.{OnErr, IfSome, IsSomeAnd, inl, inr, refl, sym, ap, subst, arith, false, unwrap_or, List, Option, None, length}
 use Rattle.std.proofs.lemmas.Bool.{eqb-false}
@@ -23,7 +23,7 @@ pub on_err : (a : Answer) (P : Type 0) → P → OnErr a P
 on_err (Ok x) P p = tt
 on_err (Err e) P p = p
 
--- an answer that changes nothing, and tells no fault of the device
+-- an answer that changes nothing, and does not report a device failure
 pub idle : {K : Type 0} {k : Ghosts K} (old new : Feed K k) (event : Event) (answer : Answer) → keeper_of new ≡ keeper_of old → releases_of new ≡ releases_of old → answer ≢ Err Device
     → (answer ≡ Err Full → length (releases_of old) ≡ max_held) → Handles (recorded old) event answer (recorded old) → IsAnsweredBy old new event answer
 idle {K} {k} old new event answer keeper same other full right = record {
@@ -35,12 +35,12 @@ idle {K} {k} old new event answer keeper same other full right = record {
   device = record { rises = subst (λ (x : K). k.failed (keeper_of old) ≤ k.failed x) (sym keeper) (omega arith); failed = λ e. absurd (other e); stays = λ _. ap k.failed keeper };
 }
 
--- want of memory and a fault of the device are not `Full`
+-- running out of memory and a device failure are not `Full`
 not_full : (r : Refusal) → (r ≡ Memory) ⊎ (r ≡ Device) → let a : Answer = Err r in a ≢ Err Full
 not_full r (inl is) e = cc
 not_full r (inr is) e = cc
 
--- a refusal of what commits, which is want of memory or a fault of the device
+-- a refused commit, because memory ran out or the device failed
 pub refused_with : {K : Type 0} {k : Ghosts K} (old new : Feed K k) (event : Event) (refusal : Refusal) → releases_of new ≡ releases_of old
     → (k.clean (keeper_of new) → k.clean (keeper_of old))
     → IsCounted (let a : Answer = Err refusal in a ≡ Err Device) (k.failed (keeper_of old)) (k.failed (keeper_of new)) → (refusal ≡ Memory) ⊎ (refusal ≡ Device)
@@ -55,13 +55,13 @@ pub taken_in : {K : Type 0} {k : Ghosts K} (old new : Feed K k) (event : Event) 
 taken_in old new event reply clean counted commits right =
     record { right = right; refused = tt; idle = λ nothing. absurd (commits nothing); full = λ e. absurd (let e = e in cc); clean = clean; device = counted }
 
--- what is answered to new bytes is no answer that commits nothing
+-- the answer to new bytes is not one that commits nothing
 pub grown_commits : (missing : ℕ) (standing : Standing) → ¬ (CommitsNothing (Ok (reply_of missing standing)))
 grown_commits missing Partial nothing = nothing
 grown_commits missing (Bad why) nothing = nothing
 grown_commits missing (Good holdings) nothing = nothing
 
--- an error that is want of memory
+-- the only error is running out of memory
 pub only_memory : {T : Type 0} (refusal : Refusal) → (let r : Result T Refusal = Err refusal in r ≡ Err Memory) → refusal ≡ Memory
 only_memory refusal e = cc
 
@@ -71,7 +71,7 @@ memory_not e = cc
 pub memory_not_full : let a : Answer = Err Memory in a ≢ Err Full
 memory_not_full e = cc
 
--- want of memory, or a fault of the device
+-- memory ran out, or the device failed
 pub refused : (r : Refusal) → (r ≡ Memory) ⊎ (r ≡ Device) → (let a : Answer = Err r in a ≡ Err Memory) ⊎ (let a : Answer = Err r in a ≡ Err Device)
 refused r (inl e) = inl (ap Err e)
 refused r (inr e) = inr (ap Err e)
@@ -80,12 +80,12 @@ refused r (inr e) = inr (ap Err e)
 pub small : (bytes : List ℕ) → false ≡ (length bytes == 0) → length bytes ≤ max_piece → IsSmall bytes
 small bytes some most = record { some = (let other : length bytes ≢ 0 = eqb-false (length bytes) 0 (sym some) in omega (arith, other)); most = most }
 
--- a total that is told is this size
+-- if a total is given, it is this size
 pub sized : (total : Option ℕ) (size : ℕ) → unwrap_or total size ≡ size → IfSome total (λ t. t ≡ size)
 sized None size same = tt
 sized (Some t) size same = same
 
--- another total is told
+-- another total is given
 pub other_size : (total : Option ℕ) (size : ℕ) → unwrap_or total size ≢ size → IsSomeAnd total (λ t. t ≢ size)
 other_size None size other = absurd (other refl)
 other_size (Some t) size other = other

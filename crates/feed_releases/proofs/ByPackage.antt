@@ -1,4 +1,4 @@
--- The active releases stand by their packages, each once; and where the same ones are reported, they are listed the same.
+-- The active releases are ordered by package, each once; and if the same ones are reported, their lists are the same.
 use Rattle.std.proofs.Common.{◌≡◌, ◌≢◌, ◌<◌, ◌⊎◌, ℕ, zero, suc, List, [], ◌∷◌, length, get_or, Option, Some, None, true, false}
 use Rattle.std.proofs.Common.{Ordering, Less, Equal, Greater, is_lt, refl, sym, ap, ap₂, ◌∙◌, subst, arith, inl, inr}
 use Rattle.std.specs.Prelude.{All}
@@ -30,7 +30,7 @@ use Rattle.feed_releases.proofs.ActivesReported.{holds, collected, put_in, each_
 abbrev Ordered : List ActiveValue → Type 0
 Ordered actives = IsStrictlySortedBy package_cmp actives
 
--- the package of the one is another than that of each of these
+-- the package differs from that of each release in the list
 abbrev IsApart : ActiveValue → List ActiveValue → Type 0
 IsApart a actives = AllByRecursion (λ (b : ActiveValue). a.name.stem ≢ b.name.stem) actives
 
@@ -38,7 +38,7 @@ abbrev AreApart : List ActiveValue → Type 0
 AreApart [] = Unit {0}
 AreApart (a ∷ actives) = IsApart a actives × AreApart actives
 
--- one of these has this name
+-- a release in the list has this name
 abbrev IsAmong : Name → List ActiveValue → Type 0
 IsAmong n [] = ⊥
 IsAmong n (a ∷ actives) = (a.name ≡ n) ⊎ IsAmong n actives
@@ -83,7 +83,7 @@ insert_ordered a (b ∷ actives) up apart = elim (cases_Bool (comes_before b a))
   | inr e ↦ rw e (let first = other_first a b e apart.0 in ((first, below_all a b actives first up.0), up))
 ]
 
--- each of these stays apart as one is put in that is apart from it
+-- each release in a list stays apart when one that is apart is inserted
 still_apart : (a : ActiveValue) (others actives : List ActiveValue) → AllByRecursion (λ b. IsApart b others) actives → IsApart a actives
     → AllByRecursion (λ b. IsApart b (insert_active a others)) actives
 still_apart a others [] each apart = tt

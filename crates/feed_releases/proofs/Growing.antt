@@ -1,4 +1,4 @@
--- What a piece makes of a release: that the commit is allowed, and that the answer is right.
+-- Adding a piece to a release: the commit is allowed, and the answer is right.
 use Rattle.std.proofs.Common.{◌≡◌, ◌≢◌, ℕ, List, Option, Ok, refl, sym, ◌∙◌}
 use Rattle.feed_names.specs.ReleaseName.{Name}
 use Rattle.feed_model.specs.declared.reply.Reply.TheVariants.{Activated}

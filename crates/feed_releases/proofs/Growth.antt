@@ -21,7 +21,7 @@ missing_all (suc n) = omega (arith, missing_all n)
 none_within : (size : ℕ) → AreWithin size []
 none_within size = record { parts = tt; inside = λ i d lt. absurd (omega (arith, lt)) }
 
--- a release of which nothing is kept yet
+-- a release without stored bytes
 pub new_partial : (size : ℕ) → size ≤ max_file → size ≢ 0 → IsRelease size [] Partial
 new_partial size limit some = record { within = none_within size; limit = limit; stands = omega (arith, missing_all size, some) }
 

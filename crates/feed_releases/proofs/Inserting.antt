@@ -1,4 +1,4 @@
--- Where an active release stands among others.
+-- The place of an active release among others.
 use Rattle.std.proofs.Common.{◌≡◌, ◌<◌, ◌≤◌, ℕ, zero, suc, List, [], ◌∷◌, length, get_or, insert, true, false, refl, ap, arith, subst}
 use Rattle.feed_releases.specs.Actives.{ActiveValue, comes_before, insert_active}
 

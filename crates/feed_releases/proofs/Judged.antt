@@ -1,4 +1,4 @@
--- What the reader says of a file, as the feed reads it.
+-- The reader's result for a file, as the feed reads it.
 use Rattle.std.proofs.Common.{◌≡◌, ◌<◌, ◌≤◌, List, [], ◌∷◌, ℕ, zero, suc, Option, Some, None}
 use Rattle.std.proofs.Common.{IsSome, Result, Ok, Err, length, slice_get, refl, sym, ◌∙◌, ap, subst, arith}
 use Rattle.feed_names.specs.ReleaseName.{Name}
@@ -38,7 +38,7 @@ get_some (x ∷ xs) (suc i) lt = get_some xs i (omega arith)
 text_whole : (size : ℕ) (parts : List Part) (text : List ℕ) → IsText size parts text → missing_below (byte_in parts) size ≡ 0
 text_whole size parts text is = (none_missing (byte_in parts) size).1 (λ place lt. subst IsSome (sym (is.bytes place lt)) (get_some text place (omega (arith, is.count, lt))))
 
--- how a file stands bears out the state and the reason of its release
+-- the status of a file matches the state and the reason of its release
 pub stands_sound : (size : ℕ) (parts : List Part) (s : Standing) → StandsSo size parts (missing_below (byte_in parts) size) s
     → BearsOut (state_of s) size parts × Explains (state_of s) size parts (reason_of s)
 stands_sound size parts Partial so = (so, refl)
@@ -64,11 +64,11 @@ reason_stands size parts Partial reason so explains = sym explains
 reason_stands size parts (Bad why) reason so explains = sym so.1.2 ∙ ap fault_of (one_text size parts so.1.0 explains.0 so.1.1 explains.1) ∙ explains.2
 reason_stands size parts (Good holdings) reason so explains = sym explains
 
--- the record of these
+-- the record with these parts
 abbrev pub kept_as : Name → ℕ → State → Option BadFile → List Part → Record
 kept_as name size state reason parts = record { name = name; size = size; state = state; reason = reason; parts = parts }
 
--- a record that is sound stands as it says
+-- a sound record has the status that it claims
 pub sound_stands : (name : Name) (size : ℕ) (state : State) (reason : Option BadFile) (parts ps : List Part) (s : Standing) → ps ≡ parts
     → StandsSo size ps (missing_below (byte_in ps) size) s → IsSoundRecord (kept_as name size state reason parts) → (state_of s ≡ state) × (reason_of s ≡ reason)
 sound_stands name size state reason parts ps s same so sound =
@@ -76,7 +76,7 @@ sound_stands name size state reason parts ps s same so sound =
     let is = state_stands size parts s state here sound.state in
     (is, reason_stands size parts s reason here (subst (λ (x : State). Explains x size parts reason) (sym is) sound.reason))
 
--- and a record that says how its file stands is sound
+-- a record that claims the status of its file is sound
 pub stands_as : (name : Name) (size : ℕ) (state : State) (reason : Option BadFile) (parts ps : List Part) (s : Standing) → parts ≡ ps → state ≡ state_of s → reason ≡ reason_of s
     → AreWithin size ps → size ≤ max_file → StandsSo size ps (missing_below (byte_in ps) size) s
     → (record_with name size s ps ≡ kept_as name size state reason parts) × IsSoundRecord (kept_as name size state reason parts)
@@ -84,7 +84,7 @@ stands_as name size state reason parts ps s same is why within limit so =
     let sound = stands_sound size ps s so in
     rw (same, is, why) (refl, record { size = limit; parts = within.parts; inside = within.inside; state = sound.0; reason = sound.1 })
 
--- what is known of a file that stands so
+-- the holdings that a status implies
 pub known_so : (size : ℕ) (parts : List Part) (missing : ℕ) (s : Standing) → StandsSo size parts missing s → IsKnown (state_of s) size parts (rows_of s)
 known_so size parts missing Partial so = refl
 known_so size parts missing (Bad why) so = (so.1.0, so.1.1, (λ good. let e = so.1.2 in cc), refl)

@@ -1,4 +1,4 @@
--- A string of JSON reads as the text of which it was written.
+-- A JSON string reads as the text from which it was written.
 use Rattle.std.proofs.Common.{◌≡◌, ◌<◌, ℕ, List, [], ◌∷◌, ◌++◌, false, Some, refl, ap, ◌∙◌, inl, inr, append_assoc, arith, ◌+◌, ◌-◌, zero, suc}
 use Rattle.std.proofs.lemmas.Bool.{cases_Bool, cases_lt, eqb-true}
 use Rattle.std.specs.Prelude.{◌==◌, nat_lt}
@@ -32,7 +32,7 @@ low_read (suc (suc (suc (suc (suc (suc (suc (suc (suc (suc (suc (suc (suc (suc z
 low_read (suc (suc (suc (suc (suc (suc (suc (suc (suc (suc (suc (suc (suc (suc (suc zero))))))))))))))) rest small = refl
 low_read (suc (suc (suc (suc (suc (suc (suc (suc (suc (suc (suc (suc (suc (suc (suc (suc n)))))))))))))))) rest small = absurd (omega arith)
 
--- and each from 16 to 31, told by how far it is above 15
+-- and each byte from 16 to 31, given by its difference from 16
 high_read : (n b : ℕ) (rest : List ℕ) → n < 16 → b ≡ n + 16 → IsReadBack b rest
 unfolding encode
 high_read zero b rest small is = rw is refl

@@ -26,7 +26,7 @@ one_reply bytes actives response reply (inr (none, is)) (inr (nor, same)) = is �
 abbrev of_name : Name → HoldingsValue → ActiveValue
 of_name name holdings = record { name = name; holdings = holdings }
 
--- names and files tell the releases
+-- names and files determine the releases
 abbrev from_names : (Name → List ℕ) → List Name → List ActiveValue
 from_names file names = map (λ name. of_name name (holdings_of (file name))) names
 

@@ -1,4 +1,4 @@
--- What is written in steps is what was to be written.
+-- Writing in steps writes the whole.
 use Rattle.std.proofs.Common.{◌≡◌, ℕ, List, [], ◌∷◌, ◌++◌, length, codes, ap, ◌∙◌, append_assoc}
 use Rattle.std.specs.Fmt.{decimal}
 use Rattle.feed_kbart.specs.RowValue.{RowValue}

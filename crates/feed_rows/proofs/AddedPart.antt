@@ -1,4 +1,4 @@
--- What the statement that inserts a part makes of the content.
+-- The effect of inserting a part on the content.
 use Rattle.std.proofs.Common.{◌≡◌, ℕ, List, map, filter, refl, sym, ap, subst}
 use Rattle.std.specs.List.{AllByRecursion, IsDistinct}
 use Rattle.sqlite_value.specs.Order.{Row, column}

@@ -1,4 +1,4 @@
--- What the statement that inserts a reason makes of the content.
+-- The effect of inserting a reason on the content.
 use Rattle.std.proofs.Common.{◌≡◌, ℕ, List, [], ◌∷◌, map, Bool, true, false, Option, Some, IsSome, if◌then◌else◌, refl, sym, ap, subst, ◌∙◌}
 use Rattle.std.specs.List.{AllByRecursion, IsDistinct}
 use Rattle.std.specs.Cmp.Lexicographic.{bytes_decides}
@@ -32,7 +32,7 @@ use Rattle.feed_rows.proofs.Puts.{put_moved, put_distinct}
 abbrev pub said_row : Name → ℕ → ℕ → Database → Row
 said_row n number place db = reason_row (next_rowid (db.trees 5)) (text_of n) number place
 
--- a name is the one of a text just where it is this name
+-- a row has the text of a name exactly if it has this name
 is_text_of : (m n : Name) → IsName (text_of m) m → IsName (text_of n) n → (row : Row) → (text : is_of (text_of n) row ≡ true) → is_of (text_of m) row ≡ name_eq m n
 is_text_of m n hm hn row text = same_test (is_of (text_of m) row) (name_eq m n) there back
   where

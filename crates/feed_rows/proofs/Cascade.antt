@@ -1,4 +1,4 @@
--- What the rules of the tables make of the parts and the reasons of releases that are taken out.
+-- The effect of the tables' constraints on the parts and the reasons of deleted releases.
 use Rattle.std.proofs.Common.{◌≡◌, ◌⊎◌, inl, inr, zero, suc, ℕ, ℤ, List, [], ◌∷◌, ◌++◌, length, length-append}
 use Rattle.std.proofs.Common.{Bool, true, false, Some, Ok, refl, sym, ap, subst, ◌∙◌, arith}
 use Rattle.std.specs.List.{list_any}

@@ -1,4 +1,4 @@
--- What the two statements with a condition pick, and what the one that sets a state makes of it.
+-- The rows that the two statements with a condition select, and the effect of the one that sets a state.
 use Rattle.std.proofs.Common.{List, [], ◌∷◌, ℕ, ℤ, Bool}
 use Rattle.sqlite_value.specs.declared.value.Value.TheVariants.{Int, Text}
 use Rattle.sqlite_value.specs.Order.{Row}

@@ -1,4 +1,4 @@
--- That two contents are the same has one proof, so it comes out of a truncated premise.
+-- All proofs that two contents are equal are equal, so equality follows from a truncated premise.
 use Rattle.std.specs.Coded.{coded_option, coded_ℕ, coded_ℤ}
 use base.Stored.{Coded-set}
 use mathlib.Core.List.{is_set}

@@ -1,4 +1,4 @@
--- What the statement that deletes releases makes of the tables, and of the content.
+-- The effect of deleting releases on the tables and on the content.
 use Rattle.std.proofs.Common.{◌≡◌, ℤ, ℕ, List, [], ◌∷◌, filter, Bool, not, IsPermutation, refl, sym, subst}
 use Rattle.std.proofs.lemmas.List.Sorted.{IsPermutation-map}
 use Rattle.sqlite_value.specs.declared.value.Value.TheVariants.{Int, Text}

@@ -50,7 +50,7 @@ names_apart (r ∷ rs) d = (others r rs d.0, names_apart rs d.1)
             let tie : same_text r x ≡ true = is_eq-slice_cmp (text_of r.name) (text_of x.name) ∙ (bytes_decides (text_of r.name) (text_of x.name)).1 same in
             absurd (let g : true ≡ false = sym tie ∙ apart.0 in cc)
 
--- no name stands twice in what is put in order
+-- no name appears twice in sorted records
 pub sorted_names : (rs : List Record) → IsDistinct same_text rs → IsDistinct name_eq (names (sorted rs))
 sorted_names rs d = names_apart (sorted rs) (subst (IsDistinct same_text) (sym (records_sort rs)) (sort_distinct same_text record_stops record_laws rs d))
 

@@ -58,7 +58,7 @@ row_there (x ∷ xs) r keyed d h =
     by false e own (inl p) later = absurd (let g : false ≡ true = sym e ∙ ap (λ y. same_id x y) p ∙ id_itself x in cc)
     by false e own (inr k) later = rw (has_id r x own, e) (later k)
 
--- a row has a rowid of the picked ones just where it is picked
+-- a row has a rowid of the selected ones exactly if it is selected
 picked_id : (p : Row → Bool) (rows : List Row) → AllByRecursion IsKeyed rows → IsDistinct same_id rows
     → (r : Row) → Has rows r → list_any (λ s. has_rowid (id_in (rowid s)) r) (filter p rows) ≡ p r
 picked_id p rows keyed d r h = same_test _ (p r) there back
@@ -101,7 +101,7 @@ lost : (o : Row) → IsTexted o → loses plain (1 ∷ []) (o, []) ≡ true
 unfolding binary
 lost o texted = rw (equal_texts o o texted texted, (bytes_decides (text_in o) (text_in o)).1 refl, texted)
 
--- a part is a child of a row just where it has its text
+-- a part is a child of a row exactly if it has its text
 child_of : (child : Table) (w : List Row) (row o : Row) → IsTexted row → IsTexted o → is_child_of (work child w) row (o, []) ≡ is_of (text_in o) row
 child_of child w row o s t = rw (lost o t, equal_texts row o s t)
 
@@ -151,7 +151,7 @@ module _ (p : Row → Bool) (rows : List Row) (ids : List ℤ) (keyed : AllByRec
       no_child [] all e = refl
       no_child (x ∷ xs) all e = absurd (let g : true ≡ false = sym (ap (λ b. b || list_any (λ o. loses plain (1 ∷ []) (o, [])) xs) (lost x all.0)) ∙ e in cc)
 
-  -- where just the children have the rowids that are taken, the others are left
+  -- if exactly the children have the rowids that are deleted, the other rows remain
   children_gone : (child : Table) (mid : Trees) (pieces : List Row) (ids' : List ℤ) → mid child.tree ≡ pieces
       → AllByRecursion IsKeyed pieces → IsDistinct same_id pieces → AllByRecursion IsTexted pieces
       → AreChildren mid (work child (map (row_at rows) ids)) ids' → without_all (mid child.tree) ids' ≡ filter (λ r. not (is_child p rows r)) pieces

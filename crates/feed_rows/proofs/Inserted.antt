@@ -1,4 +1,4 @@
--- What a statement that inserts a row makes of the tables.
+-- The effect of inserting a row on the tables.
 use Rattle.std.proofs.Common.{◌≡◌, ◌≢◌, Bool, true, false, ℤ, List, [], ◌∷◌, cond, refl}
 use Rattle.std.specs.List.{AllByRecursion}
 use Rattle.sqlite_value.specs.declared.value.Value.{Value}

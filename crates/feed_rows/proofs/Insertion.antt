@@ -20,7 +20,7 @@ abbrev pub IsUp : {X : Type 0} → (X → X → Bool) → List X → Type 0
 IsUp stops [] = Unit {0}
 IsUp stops (x ∷ xs) = AllByRecursion (λ y. stops x y ≡ true) xs × IsUp stops xs
 
--- an order in which two elements stop at one another just one way, unless they tie
+-- an order in which, of two elements, exactly one stops at the other, unless they tie
 pub record IsOrderly {X : Type 0} (e stops : X → X → Bool) : Type 0 where
   pub flips : (x y : X) → e x y ≡ e y x
   pub one_way : (x y : X) → e x y ≡ false → stops x y ≡ not (stops y x)
@@ -117,7 +117,7 @@ module _ {X : Type 0} (e stops : X → X → Bool) (laws : IsOrderly e stops) wh
   stops_first x [] all = refl
   stops_first x (y ∷ ys) all = rw all.0
 
-  -- what stands in order stays as it is
+  -- a sorted list stays as it is
   pub sort_same : (l : List X) → IsUp stops l → sort stops l ≡ l
   sort_same [] up = refl
   sort_same (x ∷ xs) up = ap (ins stops x) (sort_same xs up.1) ∙ stops_first x xs up.0

@@ -107,7 +107,7 @@ left_of r rows (id ∷ ids) = by (has_rowid id r) (left_of r (without_rowid id r
     by true same = refl
     by false same = same
 
--- where just the rows of a test have one of the rowids, the others are left
+-- if exactly the rows that pass a test have one of the rowids, the other rows remain
 pub taken_out : (p : Row → Bool) (ids : List ℤ) (rows : List Row) → AllByRecursion (λ r. list_any (λ id. has_rowid id r) ids ≡ p r) rows
     → without_all rows ids ≡ filter (λ r. not (p r)) rows
 taken_out p [] [] all = refl

@@ -1,4 +1,4 @@
--- What the statement that sets a state makes of the content.
+-- The effect of setting a state on the content.
 use Rattle.std.proofs.Common.{◌≡◌, ◌⊎◌, ◌&&◌, inl, inr, ℕ, ℤ, pos, List, [], ◌∷◌, ◌++◌, length, map, filter, drop}
 use Rattle.std.proofs.Common.{Bool, true, false, cond, not, None, IsPermutation, refl, sym, ap, subst, ◌∙◌, arith}
 use Rattle.std.specs.List.{AllByRecursion, IsDistinct}
@@ -73,7 +73,7 @@ picks_is text status r h = rw (release_texted r h, text_equal (text_in r) text) 
     last true = refl
     last false = refl
 
--- a row has the text of the name just where it is the name's
+-- a row has the text of the name exactly if it is the name's
 named_is : (n : Name) (r : Row) → IsName (text_of n) n → IsReleaseRow r → is_of (text_of n) r ≡ name_eq (name_in r) n
 named_is n r named row = same_test (is_of (text_of n) r) (name_eq (name_in r) n) there back
   where

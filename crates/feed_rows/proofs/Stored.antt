@@ -50,7 +50,7 @@ none_among (x ∷ xs) l all (suc k, lt, is) = none_among xs l all.1 (k, omega (a
 late : (l : Label) → AllByRecursion (λ x. x ≢ l) required_labels → (label : Label) → Some l ≡ Some label → Contains required_labels label → ⊥
 late l all label e has = none_among required_labels l all (let same : label ≡ l = cc in subst (Contains required_labels) same has)
 
--- behind the last one there is no label
+-- after the last label there is none
 beyond : (k : ℕ) → label_at (suc (suc (suc (suc (suc (suc (suc (suc (suc (suc (suc (suc (suc (suc k)))))))))))))) ≡ None
 beyond k =
     let off : eqb (suc (suc (suc (suc (suc (suc (suc (suc (suc (suc (suc (suc (suc (suc k)))))))))))))) 0 ≡ false = grind (arith, nat_tests) in
@@ -58,7 +58,7 @@ beyond k =
     ≡ (suc (suc (suc (suc (suc (suc (suc (suc (suc (suc (suc (suc (suc k))))))))))))) = omega arith in
     rw (off, before) refl
 
--- a required label stands at one of the first eight places
+-- a required label is at one of the first eight places
 pub required_early : (place : ℕ) (label : Label) → label_at place ≡ Some label → Contains required_labels label → nat_le place 8 ≡ true
 required_early zero label at has = refl
 required_early (suc zero) label at has = refl

@@ -1,4 +1,4 @@
--- What the rules of the tables say of their rows: no name stands twice, and no place of a name.
+-- The consequences of the tables' constraints: no name appears twice, and no place of a name.
 use Rattle.std.proofs.Common.{◌≡◌, ◌⊎◌, inl, inr, ◌==◌, ◌&&◌, ℕ, pos, List, [], ◌∷◌, map, filter, Bool, true, false, cond, refl, sym, ap, subst, ◌∙◌, arith}
 use Rattle.std.specs.List.{AllByRecursion, IsDistinct}
 use Rattle.std.specs.Ordering.{is_eq, is_ne}

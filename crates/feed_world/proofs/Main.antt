@@ -144,7 +144,7 @@ says_good count events lines w k a stem e l p s file f good = record {
   good = good;
 }
 
--- a release that the node has further on is no older
+-- a release that the node has later is no older
 says_on : (count : ℕ) (events : List WorldEvent) (lines : List Line) (w : World) (j k a : ℕ) (stem : List ℕ) (e f : WorldEvent) (l m : Line) → j < k
     → (s : Shows (start count) events lines w)
     → (c : slice_get events j ≡ Some e) → (d : slice_get lines j ≡ Some l) → (g : slice_get events k ≡ Some f) → (h : slice_get lines k ≡ Some m)

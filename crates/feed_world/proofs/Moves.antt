@@ -1,4 +1,4 @@
--- What a step may change.
+-- The changes that a step may make.
 use Rattle.std.proofs.Common.{◌≡◌, ◌≢◌, ◌++◌, ℕ, Bool, true, false, cond, List, [], ◌∷◌, Option}
 use Rattle.std.proofs.Common.{Some, None, Ok, MatchOption, ◌⊎◌, inl, inr, refl, sym, ◌∙◌, ap, subst}
 use Rattle.feed_names.specs.ReleaseName.{Name}

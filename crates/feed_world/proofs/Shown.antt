@@ -1,4 +1,4 @@
--- What a report and an ask show.
+-- The lines that show a report and a query.
 use Rattle.std.proofs.Common.{◌≡◌, ℕ, Bool, true, List, Option, Some, None, Result, Ok, Err, MatchOption, ◌⊎◌, inl, inr, subst}
 use Rattle.feed_names.specs.ReleaseName.{Name}
 use Rattle.feed_answer.specs.declared.fault.QueryFault.{QueryFault}

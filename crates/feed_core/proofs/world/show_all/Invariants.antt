@@ -5,7 +5,8 @@ use Rattle.feed_core.specs.Step.{HasShown}
 use Rattle.feed_core.specs.Counts.{AreCounted, IsToldOf}
 use Rattle.feed_core.proofs.world.show_all.Given as goal
 
--- the lines so far are right, the nodes stand where they lead, and their devices failed where it is told
+-- the lines so far are right, the nodes represent the world that they lead to, and devices failed wherever a failure is
+-- reported
 abbrev pub invariant-loop-event : goal.invariant-loop-event
 invariant-loop-event g l = record {
   shown : HasShown g.N.Node.clean g.N.Node.stands (vec_len l.initial.nodes) (map shown_event (take l.event-index l.events)) (map shown_line l.lines.items) l.shelf.files.entries l.nodes.items;

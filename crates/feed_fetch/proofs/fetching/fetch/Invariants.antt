@@ -3,7 +3,7 @@ use Rattle.feed_releases.specs.ReleaseValue.{content_of}
 use Rattle.feed_fetch.specs.Fetched.{GoesOn, IsTold, Serves, IsFetchable, HasFilled}
 use Rattle.feed_fetch.proofs.fetching.fetch.Given as goal
 
--- the feed was told of the release alone, and with each round a place of the file is filled
+-- all events of the feed concern the release, and each round fills a place of the file
 abbrev pub invariant-rounds : goal.invariant-rounds
 invariant-rounds g l = record {
   goes : GoesOn (IsTold g.D.Dial.replies l.host l.name) (λ k. Unit {0}) (content_of l.fn.feed.releases.items) (content_of l.feed.releases.items);

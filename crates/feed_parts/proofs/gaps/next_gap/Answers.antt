@@ -9,7 +9,7 @@ use Rattle.feed_parts.proofs.Filled.{IsFilled, filled_start, filled_next, missin
 use Rattle.feed_parts.proofs.gaps.next_gap.Goals as goal
 use Rattle.feed_parts.proofs.gaps.next_gap.Goals.{After-part-item}
 
--- the part of this turn stands first in the rest
+-- the part of this turn is the first of the rest
 at_part : (c : After-part-item)
     → IsFilled c.args.size (shown_parts c.args.parts.now) c.loop-part.first (shown_part c.part-item.result ∷ shown_parts (drop (c.loop-part.part-index + 1) c.args.parts.now))
 at_part c =

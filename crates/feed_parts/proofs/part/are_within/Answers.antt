@@ -10,7 +10,7 @@ positive : (n m : ℕ) → n ≡ m → (n ≡ 0 → ⊥) → 0 < m
 positive zero m e some = absurd (some refl)
 positive (suc n) m e some = omega (arith, e)
 
--- the part of this turn stands first in the rest
+-- the part of this turn is the first of the rest
 at_part : (c : After-part-item)
     → IsChecked c.args.size (shown_parts c.args.parts.now) c.loop-part.place (shown_part c.part-item.result ∷ shown_parts (drop (c.loop-part.part-index + 1) c.args.parts.now))
 at_part c =

@@ -6,7 +6,7 @@ use Rattle.feed_model.specs.Sound.{IsSound}
 use Rattle.feed_model.proofs.Soundness.{sound_empty}
 use Rattle.feed_core.proofs.slot.Slot.start.Goals as goal
 
--- an empty content is no damaged one
+-- an empty content is not damaged
 refused : (cause : KeepFault) (failed clean listed : Type 0) (content : Content) → (cause ≡ Device → failed) → (cause ≡ Damaged → clean → listed → ¬ (IsSound content))
     → cause ≢ Memory
     → failed ⊎ (clean → listed → content ≢ [])

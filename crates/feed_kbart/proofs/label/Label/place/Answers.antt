@@ -8,7 +8,7 @@ use Rattle.feed_kbart.specs.declared.label.Label.TheVariants.{DateLastIssueOnlin
 use Rattle.feed_kbart.specs.declared.label.Label.TheVariants.{PublicationType, AccessType}
 use Rattle.feed_kbart.proofs.label.Label.place.Goals as goal
 
--- each label stands at its place
+-- each label is at its place
 placed : (label : Label) → label_at (tag_of the_type label + 1) ≡ Some label
 placed PublicationTitle = refl
 placed PrintIdentifier = refl

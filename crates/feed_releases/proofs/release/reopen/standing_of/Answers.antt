@@ -10,7 +10,7 @@ use Rattle.feed_releases.proofs.Judged.{judged}
 use Rattle.feed_releases.proofs.release.reopen.standing_of.Goals as goal
 use Rattle.feed_releases.proofs.release.reopen.standing_of.Goals.{After-read_parts}
 
--- what the file of a whole release was judged as
+-- the result of validating the file of a complete release
 judgement : (c : After-read_parts) (outcome : Result HoldingsValue KbartFault) → c.read_parts.result ≡ outcome
     → (missing_below (byte_in c.args.kept.now.parts) c.args.size ≡ 0) × IsJudged c.args.size c.args.kept.now.parts outcome
 judgement c outcome is =
