@@ -55,7 +55,7 @@ impl Query {
     /// # Errors
     ///
     /// `TooLong` for more than `QUERY_LIMIT` bytes; `Version` for a `url_ver` or `ctx_ver` other than `Z39.88-2004`;
-    /// `OtherFormat` for a `rft_val_fmt` other than these two, and for both together. An empty value of these keys
+    /// `OtherFormat` for a `rft_val_fmt` other than these two, and for both together. An empty value
     /// counts as absent. A query without an identifier that counts is `NoIsbn` in the format of books, otherwise
     /// `NoIssn`.
     #[tactic(auto, unfolding(crate::specs::Queries::query_of))]

@@ -25,7 +25,7 @@ use std::alloc::{AllocError, Global};
 use std::cmp::Ordering;
 
 /// A keeper in memory. Its records are ordered by the texts of their names, each with its parts in the order in which
-/// they were committed. `load` sorts the parts. It has no device, so it never fails.
+/// they were committed. `load` sorts the parts. It has no device that could fail.
 #[derive(Drop)]
 pub struct ListKeep {
     alloc: Global,
@@ -47,8 +47,8 @@ impl ListKeep {
         }
     }
 
-    /// Returns a keeper of the given records, which it sorts. Does not allocate. If a name appears twice, `load` returns
-    /// `Damaged`.
+    /// Returns a keeper of the given records, which it sorts. Does not allocate. If a name appears twice, `load`
+    /// returns `Damaged`.
     pub fn of(alloc: Global, records: Vec<Record>) -> ListKeep
         ensures { IsArranged (shown records.items) (content_of_list result) }
     {

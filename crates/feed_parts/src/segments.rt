@@ -53,9 +53,9 @@ impl Segments {
         }
     }
 
-    /// Returns segments with exactly the given parts, or `None` unless the parts are in the order of their places, each of 1
-    /// to 1,048,576 bytes, and none begins before the previous one ends or extends past the greatest 64-bit number.
-    /// Does not allocate.
+    /// Returns segments with exactly the given parts, or `None` unless the parts are in the order of their places, each
+    /// of 1 to 1,048,576 bytes, and none begins before the previous one ends or extends past the greatest 64-bit
+    /// number. Does not allocate.
     pub fn of(parts: Vec<Part>) -> Option<Segments>
         ensures some { IfSome result (λ segments. segments.parts ≡ shown_parts parts.items) }
         ensures none { IfNone result (¬ (AreSegments (shown_parts parts.items))) }
@@ -178,7 +178,7 @@ impl Segments {
         SegmentReader::new(&self.parts, &[])
     }
 
-    /// Returns a reader of these bytes and the new ones, in the order of their places. Does not allocate.
+    /// Returns a reader of the bytes of both segments, in the order of their places. Does not allocate.
     pub fn reader_with<'a>(&'a self, new: &'a Segments) -> SegmentReader<'a>
         requires { AreSegments (merged self.now.parts new.now.parts) }
         ensures bytes { result ≡ joined (merged self.now.parts new.now.parts) }

@@ -50,7 +50,7 @@ pub record IsGoodRelease (events : List WorldEvent) (place : ℕ) (stem : List �
   pub published : file_of (take place events) name ≡ Some its_file
   pub good : fault_of its_file ≡ None
 
--- a line of text is the answer of such a release; this is in order with all reports of the node
+-- a line of text is the answer of such a release, which is no older than any earlier report of the node, and no newer than any later one
 pub record IsFrom (events : List WorldEvent) (lines : List Line) (place node : ℕ) (stem : List ℕ) (query : List ℕ) (text : List ℕ) (name : Name) : Type 0 where
   pub release : IsGoodRelease events place stem name
   pub whole : Text text ≡ file_says name release.its_file (query_of query)

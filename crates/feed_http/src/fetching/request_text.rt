@@ -108,7 +108,6 @@ fn format_head_request<W: Write>(
 /// # Errors
 ///
 /// `Write` if the writer does not accept all of it. It is unspecified how much was then written.
-/// much of it went out.
 pub fn write_request<W: Write>(
     writer: &mut W,
     host: &[u8],

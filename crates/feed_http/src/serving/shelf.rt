@@ -37,8 +37,8 @@ impl From<ShelfFault> for HttpFault {
 
 /// A store of the files of releases.
 ///
-/// The contracts of a shelf in memory name its files, so those of the server name what it serves. A directory may
-/// change at any time, so its shelf does not name them.
+/// The contracts of a shelf in memory name its files, so those of the server name what it serves. Nothing is known of
+/// the files of a directory, so its shelf does not name them.
 pub trait Shelf {
     // The files by name, if the contracts of the shelf name them.
     ghost files: { Self → Option Files } = { λ _. None };
@@ -58,7 +58,7 @@ pub trait Shelf {
         ensures rises { failed self.old ≤ failed self.new }
         ensures device { IsErrOf result Device → CountsFailure (failed self.old) (failed self.new) };
 
-    /// Returns exactly as many bytes as asked for of the file of this name, from the place `first`.
+    /// Returns exactly `len` bytes of the file of this name, from the place `first`.
     fn read(
         &mut self,
         alloc: Global,
