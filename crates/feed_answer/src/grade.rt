@@ -8,7 +8,7 @@ use feed_identifiers::{Isbn, Issn};
 use feed_kbart::{DayRange, Kind, Row};
 use std::fmt;
 
-/// How well a matching row covers what the query asks for.
+/// The grade of a match: how well the row covers what the query asks for.
 #[derive(Clone, Copy, Debug, PartialEq, Eq)]
 pub enum Grade {
     /// Neither date nor volume was tested: the query or the row has none, or the row is a book.

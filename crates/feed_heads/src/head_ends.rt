@@ -7,7 +7,7 @@ use crate::limits::{FIELD_LIMIT, HEAD_LIMIT};
 use httparse::Status;
 use httparse::spans::{EMPTY_HEADER_SPAN, HeaderSpan, RequestSpans, parse_request};
 
-/// Whether bytes begin with the head of a request.
+/// The result of `head_end`: whether bytes begin with the head of a request.
 #[derive(Clone, Copy, Debug, PartialEq, Eq)]
 pub enum HeadEnd {
     /// They begin with a head of this many bytes.
@@ -18,7 +18,7 @@ pub enum HeadEnd {
     Never,
 }
 
-/// Whether bytes begin with the head of a request, and the places of its parts.
+/// The result of `find_head`: whether bytes begin with the head of a request, and the places of its parts.
 #[derive(Clone, Copy, Debug)]
 pub enum HeadFound {
     Whole(RequestSpans),

@@ -1,6 +1,6 @@
-//! The overlap of a piece with stored bytes.
+//! Classifies a piece by its overlap with the stored bytes of its release.
 
-/// How a piece overlaps the stored bytes of its release.
+/// The overlap of a piece with the stored bytes of its release.
 #[derive(Clone, Copy, Debug, PartialEq, Eq)]
 pub(crate) enum Overlap {
     /// The piece differs from a stored byte.

@@ -15,7 +15,7 @@ use feed_limits::{FILE_LIMIT, PIECE_LIMIT};
 use feed_range::ContentRange;
 use httparse::spans::{HeaderSpan, ResponseSpans};
 
-/// How a body ends.
+/// The framing of a body: how its end is found.
 #[derive(Clone, Copy, Debug, PartialEq, Eq)]
 pub(crate) enum Framing {
     Chunked,
