@@ -1,0 +1,86 @@
+//! A program that runs the parsers of identifiers, dates, names, queries and holdings lists on the lines of its input,
+//! for `tests/parsers.session` and `tests/lists.session`.
+//!
+//! Each line of standard input is a command, and prints what the call returns. An absent value is printed as `none`.
+//! TEXT is the rest of the line as it is, spaces included; other words are separated by one space.
+//!
+//!     issn TEXT               the ISSN, its number, and whether its text parses to an equal one
+//!     isbn TEXT               the same of an ISBN
+//!     less WORD WORD          whether the first of two ISSNs, or of two ISBNs, is less than the second
+//!     trim TEXT               the text without the spaces at its ends, in brackets
+//!     volume TEXT             the number of a volume
+//!     date TEXT               the day that it names, and the days that it names in a list and in a query
+//!     name TEXT               the package, the day and the text of a release's name, and the text of a copy
+//!     name-earlier NAME NAME  whether the first release is an earlier one of the same package
+//!     query TEXT              the identifiers, the days and the volume that a query asks for
+//!     utf8 FILE               whether the file is UTF-8 as a whole and byte by byte, and how many of all its cuts into
+//!                             two and into three pieces are accepted
+//!     read STEP CALLS FILE    the list in a file, by a reader that returns at most STEP bytes at a call and fails at
+//!                             each call after the first CALLS
+//!     count STEP CALLS FILE   the counts of the same list, by `count_file`
+//!     parts STEP CALLS CALLS FILE
+//!                             the same list, by `read_parts`, with a number of calls for each of its two readers
+//!     rows FILE WORD          the places, from 0, of the rows that have an ISSN or an ISBN
+//!     write ROOM NAME TEXT    whether the answer to a query is written, from the list in the file NAME, to a writer
+//!                             that accepts ROOM bytes and then fails
+//!
+//! At a line that it cannot run, the program prints the line's number and what is wrong, and exits with 2.
+#![tactic(auto)]
+
+mod cuts;
+mod fault;
+mod lists;
+mod shown;
+mod slow;
+mod texts;
+mod words;
+
+use fault::Fault;
+use std::io;
+use std::process::ExitCode;
+use words::Words;
+
+fn main(rt: HostRuntime) -> io::Result<ExitCode> {
+    let mut number = 0u64;
+    for line in rt.lines(rt.alloc()) {
+        number = number.saturating_add(1);
+        if let Err(fault) = take_line(&rt, line) {
+            eprintln!(rt; "line {number}: {fault}")?;
+            return Ok(ExitCode::from(2));
+        }
+    }
+    Ok(ExitCode::SUCCESS)
+}
+
+fn take_line(rt: &HostRuntime, line: io::Result<String>) -> Result<(), Fault> {
+    let line = line?;
+    let (command, rest) = words::split_word(line.as_str());
+    run(rt, command, rest)
+}
+
+fn run(rt: &HostRuntime, command: &str, rest: &str) -> Result<(), Fault> {
+    match command {
+        "issn" => texts::issn(rt, rest),
+        "isbn" => texts::isbn(rt, rest),
+        "trim" => texts::trim(rt, rest),
+        "volume" => texts::volume(rt, rest),
+        "date" => texts::date(rt, rest),
+        "name" => texts::name(rt, rest),
+        "query" => texts::query(rt, rest),
+        "utf8" => cuts::utf8(rt, rest),
+        _ => run_words(rt, command, Words { rest }),
+    }
+}
+
+fn run_words(rt: &HostRuntime, command: &str, words: Words<'_>) -> Result<(), Fault> {
+    match command {
+        "less" => texts::less(rt, words),
+        "name-earlier" => texts::name_earlier(rt, words),
+        "read" => lists::read(rt, words),
+        "count" => lists::count(rt, words),
+        "parts" => lists::parts(rt, words),
+        "rows" => lists::rows(rt, words),
+        "write" => lists::write(rt, words),
+        _ => Err(Fault::UnknownCommand),
+    }
+}
