@@ -1,0 +1,64 @@
+//! Bytes as printable text, in which a byte may be `\r`, `\n`, `\t` or `\xHH`.
+use crate::fault::Fault;
+use std::alloc::Global;
+use std::fmt;
+
+/// The bytes that a text stands for.
+pub fn unescaped(alloc: Global, text: &str) -> Result<Vec<u8>, Fault> {
+    let mut bytes = Vec::new(alloc);
+    let mut parts = text.split('\\');
+    if let Some(plain) = parts.next() {
+        bytes.extend_from_slice(plain.as_bytes())?;
+    }
+    for part in parts {
+        let (byte, plain) = front_of(part.as_bytes())?;
+        bytes.extend_from_slice(&[byte])?;
+        bytes.extend_from_slice(plain)?;
+    }
+    Ok(bytes)
+}
+
+// The byte behind a backslash, and what follows it.
+fn front_of(part: &[u8]) -> Result<(u8, &[u8]), Fault> {
+    match part {
+        [b'r', rest @ ..] => Ok((b'\r', rest)),
+        [b'n', rest @ ..] => Ok((b'\n', rest)),
+        [b't', rest @ ..] => Ok((b'\t', rest)),
+        [b'x', high, low, rest @ ..] => Ok((byte_of(*high, *low)?, rest)),
+        _ => Err(Fault::NoByte),
+    }
+}
+
+fn byte_of(high: u8, low: u8) -> Result<u8, Fault> {
+    match (digit_of(high), digit_of(low)) {
+        (Some(high), Some(low)) => Ok(high << 4 | low),
+        _ => Err(Fault::NoByte),
+    }
+}
+
+fn digit_of(byte: u8) -> Option<u8> {
+    match byte {
+        b'0'..=b'9' => Some(byte - b'0'),
+        b'a'..=b'f' => Some(byte - b'a' + 10),
+        _ => None,
+    }
+}
+
+/// Bytes, which are shown as such a text.
+#[derive(Clone, Copy)]
+pub struct Escaped<'a>(pub &'a [u8]);
+
+impl fmt::Display for Escaped<'_> {
+    fn fmt<W: fmt::Write>(&self, f: &mut fmt::Formatter<W>) -> fmt::Result {
+        for byte in self.0 {
+            match *byte {
+                b'\r' => f.write_str("\\r")?,
+                b'\n' => f.write_str("\\n")?,
+                b'\t' => f.write_str("\\t")?,
+                b' '..=b'[' | b']'..=b'~' => f.write_char(char::from(*byte))?,
+                other => write!(f, "\\x{other:02x}")?,
+            }
+        }
+        Ok(())
+    }
+}

@@ -1,0 +1,137 @@
+//! Both ends of an exchange.
+use crate::driver::{Counts, Driver, Plan};
+use crate::ends::{Cuts, Sink};
+use crate::escapes::Escaped;
+use crate::fault::Fault;
+use crate::line::Line;
+use crate::shelf::Watched;
+use feed_http::{
+    Bytes, Got, HttpFault, MemoryShelf, Method, Shelf, is_host, read_reply, serve_one,
+    write_head_request, write_request,
+};
+
+impl Driver<'_> {
+    pub fn host(&self, line: Line<'_>) -> Result<(), Fault> {
+        let host = line.text(self.rt.alloc())?;
+        println!(self.rt; "{}", is_host(&host))?;
+        Ok(())
+    }
+
+    pub fn get(&mut self, mut line: Line<'_>) -> Result<(), Fault> {
+        let host = line.word()?.as_bytes();
+        let name = line.name(self.rt.alloc())?;
+        let (first, last) = (line.number()?, line.number()?);
+        if !is_host(host) {
+            return Err(Fault::NoHost);
+        }
+        let mut sink = Sink::failing(self.rt.alloc(), self.plan.fails_write);
+        let written = write_request(&mut sink, host, &name, first, last);
+        self.print_written(written, &sink)
+    }
+
+    pub fn head(&mut self, mut line: Line<'_>) -> Result<(), Fault> {
+        let host = line.word()?.as_bytes();
+        let name = line.name(self.rt.alloc())?;
+        if !is_host(host) {
+            return Err(Fault::NoHost);
+        }
+        let mut sink = Sink::failing(self.rt.alloc(), self.plan.fails_write);
+        let written = write_head_request(&mut sink, host, &name);
+        self.print_written(written, &sink)
+    }
+
+    fn print_written(&mut self, written: Result<(), HttpFault>, sink: &Sink) -> Result<(), Fault> {
+        self.plan = Plan::new();
+        match written {
+            Ok(()) => println!(self.rt; "{}", Escaped(&sink.bytes))?,
+            Err(fault) => println!(self.rt; "{fault}")?,
+        }
+        Ok(())
+    }
+
+    pub fn reply(&mut self, mut line: Line<'_>) -> Result<(), Fault> {
+        let method = match line.word()? {
+            "get" => Method::Get,
+            "head" => Method::Head,
+            _ => return Err(Fault::NoMethod),
+        };
+        let text = line.text(self.rt.alloc())?;
+        let mut reader = Cuts {
+            bytes: self.plan.front_of(&text),
+            step: self.step,
+            fails_at: self.plan.fails_read,
+            waits: false,
+            calls: 0,
+        };
+        let got = read_reply(self.rt.alloc(), &mut reader, method);
+        self.plan = Plan::new();
+        self.counts.reads = reader.calls;
+        match got {
+            Ok(got) => self.print_got(got),
+            Err(fault) => Ok(println!(self.rt; "{fault}")?),
+        }
+    }
+
+    fn print_got(&self, got: Got) -> Result<(), Fault> {
+        match got {
+            Got::Piece {
+                first,
+                total,
+                bytes,
+            } => println!(self.rt; "piece {first} {total:?} {}", Escaped(bytes.as_slice()))?,
+            Got::Whole { bytes } => {
+                let kept = Bytes::new(bytes.into_vec());
+                println!(self.rt; "whole {}", Escaped(kept.as_slice()))?;
+            }
+            Got::Size(size) => println!(self.rt; "size {size}")?,
+            Got::Missing => println!(self.rt; "missing")?,
+            Got::Unsatisfied { total } => println!(self.rt; "unsatisfied {total:?}")?,
+        }
+        Ok(())
+    }
+
+    pub fn request(&mut self, line: Line<'_>) -> Result<(), Fault> {
+        let text = line.text(self.rt.alloc())?;
+        let mut reader = Cuts {
+            bytes: self.plan.front_of(&text),
+            step: self.step,
+            fails_at: self.plan.fails_read,
+            waits: false,
+            calls: 0,
+        };
+        let mut sink = Sink::failing(self.rt.alloc(), self.plan.fails_write);
+        let mut shelf = Watched::new(&self.files, self.plan.fails_shelf);
+        let served = serve_one(self.rt.alloc(), &mut reader, &mut sink, &mut shelf);
+        self.counts = Counts {
+            reads: reader.calls,
+            writes: sink.calls,
+            longest: shelf.longest(),
+            failures: shelf.failures(),
+        };
+        self.plan = Plan::new();
+        self.print_served(served, &sink)
+    }
+
+    pub fn serve(&self, line: Line<'_>) -> Result<(), Fault> {
+        let text = line.text(self.rt.alloc())?;
+        let mut reader = Cuts {
+            bytes: &text,
+            step: self.step,
+            fails_at: usize::MAX,
+            waits: false,
+            calls: 0,
+        };
+        let mut sink = Sink::failing(self.rt.alloc(), usize::MAX);
+        let mut shelf = MemoryShelf { files: &self.files };
+        let served = serve_one(self.rt.alloc(), &mut reader, &mut sink, &mut shelf);
+        self.print_served(served, &sink)
+    }
+
+    fn print_served(&self, served: Result<u16, HttpFault>, sink: &Sink) -> Result<(), Fault> {
+        match served {
+            Ok(status) => println!(self.rt; "{status} {}", Escaped(&sink.bytes))?,
+            Err(fault) => println!(self.rt; "{fault} {}", Escaped(&sink.bytes))?,
+        }
+        Ok(())
+    }
+}

@@ -1,0 +1,94 @@
+//! A shelf over files in memory, which is watched.
+ghost use Rattle.std.specs.Prelude.{◌≤◌, IsTrue};
+ghost use Rattle.feed_http.specs.Shelves.{CountsFailure};
+
+use feed_http::{MemoryShelf, NamedFile, Shelf, ShelfFault};
+use feed_names::ReleaseName;
+use std::alloc::Global;
+
+/// Counts the calls, and the failures of a device that fails at the call of that number, counted from 1.
+#[derive(Drop)]
+pub struct Watched<'a> {
+    files: MemoryShelf<'a>,
+    fails_at: usize,
+    calls: usize,
+    failures: u64,
+    longest: usize,
+}
+
+impl<'a> Watched<'a> {
+    pub fn new(files: &'a [NamedFile], fails_at: usize) -> Watched<'a> {
+        let files = MemoryShelf { files };
+        Watched {
+            files,
+            fails_at,
+            calls: 0,
+            failures: files.failures(),
+            longest: 0,
+        }
+    }
+
+    /// The length of the longest block that was asked for.
+    pub fn longest(&self) -> usize {
+        self.longest
+    }
+
+    fn file(&self, name: &ReleaseName) -> Option<&[u8]> {
+        let file = self.files.files.iter().find(|file| file.name == *name)?;
+        Some(&file.bytes)
+    }
+
+    // Whether this call fails, which is counted.
+    fn fails(&mut self) -> bool
+        ensures rises { self.old.failures ≤ self.new.failures }
+        ensures counted { IsTrue result → CountsFailure self.old.failures self.new.failures }
+    {
+        self.calls = self.calls.saturating_add(1);
+        if self.calls != self.fails_at {
+            return false;
+        }
+        self.failures = self.failures.saturating_add(1);
+        true
+    }
+}
+
+impl Shelf for Watched<'_> {
+    ghost failed = { λ shelf. shelf.failures };
+
+    fn failures(&self) -> u64 {
+        self.failures
+    }
+
+    fn size(&mut self, name: &ReleaseName) -> Result<Option<u64>, ShelfFault> {
+        if self.fails() {
+            return Err(ShelfFault::Device);
+        }
+        match self.files.size(name) {
+            Ok(size) => Ok(size),
+            Err(_) => Err(ShelfFault::Memory),
+        }
+    }
+
+    fn read(
+        &mut self,
+        alloc: Global,
+        name: &ReleaseName,
+        first: u64,
+        len: usize,
+    ) -> Result<Vec<u8>, ShelfFault> {
+        self.longest = self.longest.max(len);
+        if self.fails() {
+            return Err(ShelfFault::Device);
+        }
+        let Ok(mut bytes) = vec![in alloc; 0u8; len] else {
+            return Err(ShelfFault::Memory);
+        };
+        let Some(file) = self.file(name) else {
+            return Err(ShelfFault::Memory);
+        };
+        for (byte, given) in bytes.iter_mut().zip(file.iter().skip(first as usize)) {
+            *byte = *given;
+        }
+        Ok(bytes)
+    }
+}
