@@ -1,9 +1,8 @@
 //! `kbfeed answer`: what a node answers a query whose active release is the one of a file.
 use crate::causes::{cause_of_name, cause_of_query};
 use crate::check_command::told_of_file;
-use crate::input::Watched;
-use crate::status::{DONE, FAILED, Faults, REFUSED};
 use feed_answer::{Query, QueryFault, WriteFault, answer};
+use feed_command::{DONE, FAILED, Faults, REFUSED, Watched};
 use feed_kbart::read_file;
 use feed_names::{NameFault, ReleaseName};
 use std::alloc::Global;
@@ -25,8 +24,8 @@ pub fn read_query<F: Write + Drop>(
 ) -> Result<Query, u8> {
     match Query::read(alloc, text.as_bytes()) {
         Ok(query) => Ok(query),
-        Err(QueryFault::Memory) => Err(faults.told(QueryFault::Memory, FAILED)),
-        Err(fault) => Err(faults.told_of(fault, text, cause_of_query(fault), REFUSED)),
+        Err(QueryFault::Memory) => Err(faults.report(QueryFault::Memory, FAILED)),
+        Err(fault) => Err(faults.report_with(fault, text, cause_of_query(fault), REFUSED)),
     }
 }
 
@@ -41,8 +40,8 @@ pub fn read_asked<'a, F: Write + Drop>(
     let query = read_query(alloc, query, faults)?;
     match ReleaseName::parse(alloc, text.as_bytes()) {
         Ok(name) => Ok(Asked { query, name, text }),
-        Err(NameFault::Memory) => Err(faults.told(NameFault::Memory, FAILED)),
-        Err(fault) => Err(faults.told_of(fault, text, cause_of_name(fault), REFUSED)),
+        Err(NameFault::Memory) => Err(faults.report(NameFault::Memory, FAILED)),
+        Err(fault) => Err(faults.report_with(fault, text, cause_of_name(fault), REFUSED)),
     }
 }
 
@@ -61,10 +60,10 @@ pub fn answer_on<R: Read + Drop, O: Write, F: Write + Drop>(
         Err(fault) => return told_of_file(faults, fault, asked.text, file),
     };
     let Ok(answer) = answer(alloc, &holdings, &asked.query) else {
-        return faults.told("Memory", FAILED);
+        return faults.report("Memory", FAILED);
     };
     match answer.write(out, &asked.name) {
-        Ok(()) => faults.printed(out.flush(), DONE),
-        Err(WriteFault::Write) => faults.not_printed(out),
+        Ok(()) => faults.check_print(out.flush(), DONE),
+        Err(WriteFault::Write) => faults.report_unprinted(out),
     }
 }

@@ -1,8 +1,8 @@
 //! `kbfeed ask`: what a node answers a query.
 use crate::answer_command::read_query;
 use crate::database::{Database, close_keeper, open_feed};
-use crate::status::{DONE, FAILED, Faults, REFUSED};
 use feed_answer::{Query, WriteFault};
+use feed_command::{DONE, FAILED, Faults, REFUSED};
 use feed_keep::Keep;
 use feed_releases::{AnswerFault, Feed};
 use std::alloc::Global;
@@ -25,7 +25,7 @@ pub fn ask_on<D: Database, O: Write, F: Write + Drop>(
         Err(status) => return status,
     };
     if !database.is_there() {
-        return faults.told_of(
+        return faults.report_with(
             AnswerFault::NoRelease,
             database.name(),
             "it is not there",
@@ -42,7 +42,7 @@ pub fn ask_on<D: Database, O: Write, F: Write + Drop>(
 }
 
 fn no_release<F: Write + Drop>(faults: &mut Faults<F>, fault: AnswerFault, package: &str) -> u8 {
-    faults.told_of(
+    faults.report_with(
         fault,
         package,
         "no release of it is whole and good",
@@ -59,14 +59,14 @@ fn answered<K: Keep + Drop, O: Write, F: Write + Drop>(
 ) -> u8 {
     let answer = match feed.answer(package.as_bytes(), query) {
         Ok(answer) => answer,
-        Err(AnswerFault::Memory) => return faults.told(AnswerFault::Memory, FAILED),
+        Err(AnswerFault::Memory) => return faults.report(AnswerFault::Memory, FAILED),
         Err(fault) => return no_release(faults, fault, package),
     };
     let Some(name) = feed.report(package.as_bytes()) else {
         return no_release(faults, AnswerFault::NoRelease, package);
     };
     match answer.write(out, name) {
-        Ok(()) => faults.printed(out.flush(), DONE),
-        Err(WriteFault::Write) => faults.not_printed(out),
+        Ok(()) => faults.check_print(out.flush(), DONE),
+        Err(WriteFault::Write) => faults.report_unprinted(out),
     }
 }

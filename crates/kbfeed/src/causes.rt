@@ -1,13 +1,9 @@
 //! What a fault means, for readers who ask for more than its name.
 use feed_answer::QueryFault;
 use feed_names::NameFault;
-use feed_script::LineFault;
 
 /// What a file has that is too long.
 pub const LONG_FILE: &str = "a list has at most 268,435,456 bytes";
-
-/// What a script has that is too long.
-pub const LONG_SCRIPT: &str = "a script has at most 16,777,216 bytes and 100,000 lines";
 
 /// Why a text is no release's name.
 pub fn cause_of_name(fault: NameFault) -> &'static str {
@@ -32,20 +28,5 @@ pub fn cause_of_query(fault: QueryFault) -> &'static str {
             "no rft.issn, rft.eissn or rft_id has an ISSN with its check digit, and no rft.isbn an ISBN that counts",
         QueryFault::NoIsbn => "no rft.isbn has an ISBN with its check digit",
         QueryFault::Memory => "there was no memory",
-    }
-}
-
-/// Why a line of a script is wrong.
-pub fn cause_of_line(fault: LineFault) -> &'static str {
-    match fault {
-        LineFault::NodesExpected => "a script begins with nodes N",
-        LineFault::UnknownCommand => "its first word is no event of kbfeed help replay",
-        LineFault::WrongWords => "too few or too many words, or an empty one",
-        LineFault::BadNumber =>
-            "a number is 1 to 20 digits and fits 64 bits, and there are 1 to 16 nodes",
-        LineFault::BadName => "a release's name is as Acme_Global_All_2024-01-01.txt",
-        LineFault::BadText => "a backslash begins \\t, \\n, \\r, \\\\ or \\xHH",
-        LineFault::BadFile => "the file does not read",
-        LineFault::Memory => "there was no memory",
     }
 }

@@ -1,7 +1,6 @@
 //! `kbfeed check`: what a file holds, or why it is bad.
 use crate::causes::{LONG_FILE, cause_of_name};
-use crate::input::{Watched, read_up_to};
-use crate::status::{DONE, FAILED, Faults, REFUSED};
+use feed_command::{DONE, FAILED, Faults, REFUSED, Watched, read_up_to};
 use feed_kbart::{FileCount, KbartFault, count_file};
 use feed_limits::FILE_LIMIT;
 use feed_names::{NameFault, ReleaseName};
@@ -25,8 +24,8 @@ pub fn check_on<R: Read + Drop, O: Write, F: Write + Drop>(
 ) -> u8 {
     let name = match ReleaseName::parse(alloc, text.as_bytes()) {
         Ok(name) => name,
-        Err(NameFault::Memory) => return faults.told(NameFault::Memory, FAILED),
-        Err(fault) => return faults.told_of(fault, text, cause_of_name(fault), REFUSED),
+        Err(NameFault::Memory) => return faults.report(NameFault::Memory, FAILED),
+        Err(fault) => return faults.report_with(fault, text, cause_of_name(fault), REFUSED),
     };
     let mut report = Report {
         alloc,
@@ -35,7 +34,7 @@ pub fn check_on<R: Read + Drop, O: Write, F: Write + Drop>(
         text: &[],
     };
     if let Err(fault) = report.print_release(out) {
-        return faults.printed(Err(fault), FAILED);
+        return faults.check_print(Err(fault), FAILED);
     }
     let mut file = Watched::new(file);
     let mut kept = Vec::new(alloc);
@@ -52,12 +51,12 @@ pub fn check_on<R: Read + Drop, O: Write, F: Write + Drop>(
             } else {
                 DONE
             };
-            faults.printed(report.print_count(out, &count), status)
+            faults.check_print(report.print_count(out, &count), status)
         }
-        Err(KbartFault::Bad(why)) => faults.printed(report.print_broken(out, why), REFUSED),
+        Err(KbartFault::Bad(why)) => faults.check_print(report.print_broken(out, why), REFUSED),
         Err(fault) => match out.flush() {
             Ok(()) => told_of_file(faults, fault, text, file),
-            Err(fault) => faults.printed(Err(fault), FAILED),
+            Err(fault) => faults.check_print(Err(fault), FAILED),
         },
     }
 }
@@ -84,10 +83,10 @@ pub fn told_of_file<R: Read + Drop, F: Write + Drop>(
     file: Watched<R>,
 ) -> u8 {
     match fault {
-        KbartFault::Memory => faults.told(fault, FAILED),
-        KbartFault::Read => faults.not_read(text, file.into_cause()),
-        KbartFault::TooLong => faults.told_of(fault, text, LONG_FILE, REFUSED),
-        KbartFault::Bad(_) => faults.told_of(fault, text, "the file is bad", REFUSED),
+        KbartFault::Memory => faults.report(fault, FAILED),
+        KbartFault::Read => faults.report_read(text, file.into_cause()),
+        KbartFault::TooLong => faults.report_with(fault, text, LONG_FILE, REFUSED),
+        KbartFault::Bad(_) => faults.report_with(fault, text, "the file is bad", REFUSED),
     }
 }
 

@@ -1,5 +1,5 @@
 //! The database of a node.
-use crate::status::{FAILED, Faults, REFUSED};
+use feed_command::{FAILED, Faults, REFUSED};
 use feed_keep::{Keep, KeepFault};
 use feed_releases::Feed;
 use feed_store::{SqlKeep, StoreFault};
@@ -80,7 +80,7 @@ pub fn close_keeper<D: Database, F: Write + Drop>(
     faults: &mut Faults<F>,
 ) {
     if database.close(keeper).is_err() {
-        faults.noted(
+        faults.note(
             database.name(),
             "the log is not copied into the file, and stays beside it",
         );
@@ -89,14 +89,14 @@ pub fn close_keeper<D: Database, F: Write + Drop>(
 
 fn told_of_store<F: Write + Drop>(faults: &mut Faults<F>, fault: StoreFault, path: &str) -> u8 {
     match fault {
-        StoreFault::Memory => faults.told(fault, FAILED),
-        StoreFault::Device => faults.told_of(
+        StoreFault::Memory => faults.report(fault, FAILED),
+        StoreFault::Device => faults.report_with(
             fault,
             path,
             "it does not read or write, or another process has it open",
             FAILED,
         ),
-        StoreFault::NotOurs => faults.told_of(
+        StoreFault::NotOurs => faults.report_with(
             fault,
             path,
             "it is no database of kbfeed, or no file can be made there",
@@ -108,9 +108,9 @@ fn told_of_store<F: Write + Drop>(faults: &mut Faults<F>, fault: StoreFault, pat
 /// Tells why a keeper did not give what it holds, or nothing that a feed keeps, and gives the status.
 pub fn told_of_keeper<F: Write + Drop>(faults: &mut Faults<F>, fault: KeepFault, path: &str) -> u8 {
     match fault {
-        KeepFault::Memory => faults.told(fault, FAILED),
-        KeepFault::Device => faults.told_of(fault, path, "it does not read", FAILED),
-        KeepFault::Damaged => faults.told_of(
+        KeepFault::Memory => faults.report(fault, FAILED),
+        KeepFault::Device => faults.report_with(fault, path, "it does not read", FAILED),
+        KeepFault::Damaged => faults.report_with(
             fault,
             path,
             "it holds what no feed keeps: restore a copy, or begin anew",

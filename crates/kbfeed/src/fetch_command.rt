@@ -2,7 +2,7 @@
 use crate::causes::cause_of_name;
 use crate::database::{Database, close_keeper, open_feed};
 use crate::progress::Progress;
-use crate::status::{FAILED, Faults, MISUSED};
+use feed_command::{FAILED, Faults, MISUSED};
 use feed_fetch::fetch_with;
 use feed_http::is_host;
 use feed_limits::PIECE_LIMIT;
@@ -24,7 +24,7 @@ pub fn fetch_on<D: Database, O: Write, F: Write + Drop>(
     faults: &mut Faults<F>,
 ) -> u8 {
     if !is_host(addr.as_bytes()) {
-        return faults.told_of(
+        return faults.report_with(
             "Host",
             addr,
             "it is no host and port, as 127.0.0.1:8080",
@@ -33,8 +33,8 @@ pub fn fetch_on<D: Database, O: Write, F: Write + Drop>(
     }
     let name = match ReleaseName::parse(rt.alloc(), name.as_bytes()) {
         Ok(name) => name,
-        Err(NameFault::Memory) => return faults.told(NameFault::Memory, FAILED),
-        Err(fault) => return faults.told_of(fault, name, cause_of_name(fault), MISUSED),
+        Err(NameFault::Memory) => return faults.report(NameFault::Memory, FAILED),
+        Err(fault) => return faults.report_with(fault, name, cause_of_name(fault), MISUSED),
     };
     let mut feed = match open_feed(rt.alloc(), database, faults) {
         Ok(feed) => feed,
@@ -59,8 +59,8 @@ pub fn fetch_on<D: Database, O: Write, F: Write + Drop>(
         faults.out(),
     );
     match (out.into_fault(), cause.into_inner()) {
-        (Some(fault), _) => status = faults.printed(Err(fault), FAILED),
-        (None, Some(cause)) if status == FAILED => faults.noted(addr, cause),
+        (Some(fault), _) => status = faults.check_print(Err(fault), FAILED),
+        (None, Some(cause)) if status == FAILED => faults.note(addr, cause),
         _ => {}
     }
     close_keeper(database, feed.restart(), faults);

@@ -7,27 +7,22 @@ mod causes;
 mod check_command;
 mod database;
 mod fetch_command;
-mod files;
 mod folder;
-mod input;
 mod node_command;
 mod progress;
-mod replay_command;
 mod serve_command;
-mod stack;
-mod status;
 mod status_command;
 mod token;
 mod why_command;
 
 use clap::error::ErrorKind;
 use database::DatabaseFile;
+use feed_command::{DONE, FAILED, Faults, MISUSED, REFUSED, take_stack};
 use feed_http::is_host;
 use feed_node_desk::Source;
+use feed_replay::replay_input;
 use feed_words::{From, Hosting, Manner, Request, Serving};
-use files::Disk;
 use folder::Folder;
-use status::{DONE, FAILED, Faults, MISUSED, REFUSED};
 use std::fs::File;
 use std::io;
 use std::io::{BufWriter, Write};
@@ -45,40 +40,36 @@ fn status_of(rt: &HostRuntime) -> u8 {
     let words = match words_of(rt) {
         Ok(words) => words,
         Err(fault) if fault.kind() == io::ErrorKind::InvalidData => {
-            return faults.told("a word is not UTF-8", MISUSED);
+            return faults.report("a word is not UTF-8", MISUSED);
         }
-        Err(_) => return faults.told("Memory", FAILED),
+        Err(_) => return faults.report("Memory", FAILED),
     };
-    if !stack::is_taken(words.len()) {
-        return faults.told("Memory", FAILED);
+    if !take_stack(words.len()) {
+        return faults.report("Memory", FAILED);
     }
     let (is_verbose, request) = match feed_words::read(rt.alloc(), words.as_slice()) {
         Ok(read) => read,
         Err(error) if error.kind() == ErrorKind::OutOfMemory => {
-            return faults.told("Memory", FAILED);
+            return faults.report("Memory", FAILED);
         }
         Err(error) => {
             let status = error.exit_code() as u8;
-            return faults.printed(error.print(rt), status);
+            return faults.check_print(error.print(rt), status);
         }
     };
     let mut faults = Faults::new(rt.stderr(), is_verbose);
     let Ok(mut out) = BufWriter::new(rt.alloc(), io::writer(rt)) else {
-        return faults.told("Memory", FAILED);
+        return faults.report("Memory", FAILED);
     };
     match request {
-        Request::Replay => {
-            let mut files = Disk::new(rt);
-            let mut input = rt.reader();
-            replay_command::replay_on(rt.alloc(), &mut input, &mut files, &mut out, &mut faults)
-        }
+        Request::Replay => replay_input(rt, &mut out, &mut faults),
         Request::Check {
             files,
             name,
             manner,
         } => {
             if !name.is_empty() && !files.iter().any(|path| *path == "-") {
-                return faults.told("--name NAME needs FILE -", MISUSED);
+                return faults.report("--name NAME needs FILE -", MISUSED);
             }
             let mut status = DONE;
             for path in &files {
@@ -144,7 +135,7 @@ fn check<O: Write, F: Write + Drop>(
 ) -> u8 {
     if path == "-" {
         if name.is_empty() {
-            return faults.told("- needs --name NAME", MISUSED);
+            return faults.report("- needs --name NAME", MISUSED);
         }
         return check_command::check_on(rt.alloc(), name, rt.reader(), manner, out, faults);
     }
@@ -186,18 +177,18 @@ fn serve<O: Write, F: Write + Drop>(
 ) -> u8 {
     let listener = match TcpListener::bind(rt, addr) {
         Ok(listener) => listener,
-        Err(fault) => return faults.told_of("Bind", addr, fault, FAILED),
+        Err(fault) => return faults.report_with("Bind", addr, fault, FAILED),
     };
     let mut folder = Folder::new(rt, dir);
     if !folder.is_there() {
-        faults.noted(
+        faults.note(
             dir,
             "no folder is there, so that each name is answered by 404",
         );
     }
     let announced = writeln!(out, "listening").and_then(|()| out.flush());
     if let Err(fault) = announced {
-        return faults.printed(Err(fault), FAILED);
+        return faults.check_print(Err(fault), FAILED);
     }
     serve_command::serve_on(rt, &listener, &mut folder, serving, out, faults)
 }
@@ -216,7 +207,7 @@ fn node<O: Write, F: Write + Drop>(
         return node_command::node_on(rt, database, addr, hosting, None, out, faults);
     };
     if !is_host(from.addr.as_bytes()) {
-        return faults.told_of(
+        return faults.report_with(
             "Host",
             from.addr,
             "it is no host and port, as 127.0.0.1:8080",
@@ -230,14 +221,14 @@ fn node<O: Write, F: Write + Drop>(
     let token = match read_token(rt.alloc(), &mut file) {
         Ok(Some(token)) => token,
         Ok(None) => {
-            return faults.told_of(
+            return faults.report_with(
                 "Token",
                 from.token,
                 "its first line is no token: 16 bytes at least, of visible ASCII",
                 REFUSED,
             );
         }
-        Err(fault) => return faults.not_read(from.token, fault),
+        Err(fault) => return faults.report_read(from.token, fault),
     };
     let source = Source {
         addr: from.addr,
@@ -256,6 +247,6 @@ fn opened<F: Write + Drop>(
 ) -> Result<File, u8> {
     match File::open(rt, path) {
         Ok(file) => Ok(file),
-        Err(fault) => Err(faults.not_read(path, fault)),
+        Err(fault) => Err(faults.report_read(path, fault)),
     }
 }

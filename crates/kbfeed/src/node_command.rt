@@ -1,6 +1,6 @@
 //! `kbfeed node`: a link resolver that answers readers over HTTP from the database of a node, and takes in releases.
 use crate::database::{Database, close_keeper, open_feed};
-use crate::status::{FAILED, Faults};
+use feed_command::{FAILED, Faults};
 use feed_node_desk::{End, Source, run};
 use feed_node_loop::{Server, Settings};
 use feed_words::Hosting;
@@ -31,7 +31,7 @@ pub fn node_on<D: Database, O: Write, F: Write + Drop>(
         },
         Err(fault) => {
             close_keeper(database, feed.restart(), faults);
-            return faults.told_of("Bind", addr, fault, FAILED);
+            return faults.report_with("Bind", addr, fault, FAILED);
         }
     };
     close_keeper(database, feed.restart(), faults);
@@ -62,8 +62,8 @@ fn announced<O: Write>(out: &mut O) -> io::Result<()> {
 // Tells why a node ended, and gives the status.
 fn told<F: Write + Drop>(end: End, faults: &mut Faults<F>) -> u8 {
     match end {
-        End::Memory => faults.told("Memory", FAILED),
-        End::Sockets(fault) => faults.told_of("Poll", "the sockets", fault, FAILED),
-        End::Print(fault) => faults.printed(Err(fault), FAILED),
+        End::Memory => faults.report("Memory", FAILED),
+        End::Sockets(fault) => faults.report_with("Poll", "the sockets", fault, FAILED),
+        End::Print(fault) => faults.check_print(Err(fault), FAILED),
     }
 }

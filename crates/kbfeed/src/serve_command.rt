@@ -1,5 +1,5 @@
 //! `kbfeed serve`: a folder of releases for any HTTP client.
-use crate::status::{DONE, FAILED, Faults};
+use feed_command::{DONE, FAILED, Faults};
 use feed_http::{HttpFault, Shelf, serve_one};
 use feed_sockets::{TimedReader, TimedWriter};
 use feed_words::Serving;
@@ -28,11 +28,11 @@ pub fn serve_on<S: Shelf, O: Write, F: Write + Drop>(
             Ok((stream, _)) => stream,
             // The client has gone, or a signal came: the next one is waited for.
             Err(fault) if is_passing(fault.kind()) => continue,
-            Err(fault) => return faults.told_of("Accept", "the next connection", fault, FAILED),
+            Err(fault) => return faults.report_with("Accept", "the next connection", fault, FAILED),
         };
         let line = told(out, served_over(rt, &stream, shelf, serving.time));
         if let Err(fault) = line {
-            return faults.printed(Err(fault), FAILED);
+            return faults.check_print(Err(fault), FAILED);
         }
         served += 1;
     }

@@ -1,6 +1,6 @@
 //! `kbfeed status`: the releases that a node has recorded.
 use crate::database::{Database, close_keeper, open_feed, told_of_keeper};
-use crate::status::{DONE, Faults};
+use feed_command::{DONE, Faults};
 use feed_keep::{Keep, Record};
 use feed_model::State;
 use std::alloc::Global;
@@ -18,7 +18,7 @@ pub fn status_on<D: Database, O: Write, F: Write + Drop>(
     faults: &mut Faults<F>,
 ) -> u8 {
     if !database.is_there() {
-        faults.noted(database.name(), "it is not there");
+        faults.note(database.name(), "it is not there");
         return DONE;
     }
     let feed = match open_feed(alloc, database, faults) {
@@ -27,7 +27,7 @@ pub fn status_on<D: Database, O: Write, F: Write + Drop>(
     };
     let mut keeper = feed.restart();
     let status = match keeper.load(alloc) {
-        Ok(records) => faults.printed(print_records(out, &records), DONE),
+        Ok(records) => faults.check_print(print_records(out, &records), DONE),
         Err(fault) => told_of_keeper(faults, fault, database.name()),
     };
     close_keeper(database, keeper, faults);

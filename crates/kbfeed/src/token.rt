@@ -1,5 +1,5 @@
 //! The token of those who may feed a node.
-use crate::input::read_up_to;
+use feed_command::read_up_to;
 use std::alloc::Global;
 use std::io;
 use std::io::{ErrorKind, Read};

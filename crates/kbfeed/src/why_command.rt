@@ -1,7 +1,7 @@
 //! `kbfeed why`: why a release of a node is broken.
 use crate::causes::cause_of_name;
 use crate::database::{Database, close_keeper, open_feed};
-use crate::status::{DONE, FAILED, Faults, MISUSED, REFUSED};
+use feed_command::{DONE, FAILED, Faults, MISUSED, REFUSED};
 use feed_kbart::BadFile;
 use feed_names::{NameFault, ReleaseName};
 use std::alloc::Global;
@@ -21,11 +21,11 @@ pub fn why_on<D: Database, O: Write, F: Write + Drop>(
 ) -> u8 {
     let name = match ReleaseName::parse(alloc, name.as_bytes()) {
         Ok(name) => name,
-        Err(NameFault::Memory) => return faults.told(NameFault::Memory, FAILED),
-        Err(fault) => return faults.told_of(fault, name, cause_of_name(fault), MISUSED),
+        Err(NameFault::Memory) => return faults.report(NameFault::Memory, FAILED),
+        Err(fault) => return faults.report_with(fault, name, cause_of_name(fault), MISUSED),
     };
     if !database.is_there() {
-        faults.noted(database.name(), "it is not there");
+        faults.note(database.name(), "it is not there");
         return printed(None, out, faults);
     }
     let feed = match open_feed(alloc, database, faults) {
@@ -47,5 +47,5 @@ fn printed<O: Write, F: Write + Drop>(
         Some(why) => (writeln!(out, "broken {why}"), DONE),
         None => (writeln!(out, "none"), REFUSED),
     };
-    faults.printed(line.and_then(|()| out.flush()), status)
+    faults.check_print(line.and_then(|()| out.flush()), status)
 }

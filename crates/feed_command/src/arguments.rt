@@ -1,0 +1,61 @@
+//! The names and queries that arguments give, or the fault that is reported.
+use crate::faults::{FAILED, Faults, REFUSED};
+use feed_answer::{Query, QueryFault};
+use feed_names::{NameFault, ReleaseName};
+use std::alloc::Global;
+use std::io::Write;
+
+/// Parses the name of a release. Otherwise it reports the fault and returns the exit status: `status` for an invalid
+/// name, `FAILED` for running out of memory.
+pub fn parse_name<F: Write + Drop>(
+    alloc: Global,
+    text: &str,
+    status: u8,
+    faults: &mut Faults<F>,
+) -> Result<ReleaseName, u8> {
+    match ReleaseName::parse(alloc, text.as_bytes()) {
+        Ok(name) => Ok(name),
+        Err(NameFault::Memory) => Err(faults.report(NameFault::Memory, FAILED)),
+        Err(fault) => Err(faults.report_with(fault, text, cause_of_name(fault), status)),
+    }
+}
+
+/// Parses a query. Otherwise it reports the fault and returns the exit status: `REFUSED` for an invalid query, `FAILED`
+/// for running out of memory.
+pub fn parse_query<F: Write + Drop>(
+    alloc: Global,
+    text: &str,
+    faults: &mut Faults<F>,
+) -> Result<Query, u8> {
+    match Query::read(alloc, text.as_bytes()) {
+        Ok(query) => Ok(query),
+        Err(QueryFault::Memory) => Err(faults.report(QueryFault::Memory, FAILED)),
+        Err(fault) => Err(faults.report_with(fault, text, cause_of_query(fault), REFUSED)),
+    }
+}
+
+// Returns why a text is not the name of a release.
+fn cause_of_name(fault: NameFault) -> &'static str {
+    match fault {
+        NameFault::BadEnding => "a release's name ends in .txt",
+        NameFault::BadDate => "before .txt stands _ and the date of a real day, as _2024-01-01",
+        NameFault::BadStem => {
+            "before the date stand 1 to 100 letters, digits, -, _ and ., of which the first is no ."
+        }
+        NameFault::Memory => "there was no memory",
+    }
+}
+
+// Returns why a query is not answered.
+fn cause_of_query(fault: QueryFault) -> &'static str {
+    match fault {
+        QueryFault::TooLong => "a query has at most 4,096 bytes",
+        QueryFault::Version => "url_ver and ctx_ver are Z39.88-2004",
+        QueryFault::OtherFormat =>
+            "rft_val_fmt is info:ofi/fmt:kev:mtx:journal or info:ofi/fmt:kev:mtx:book, and not both",
+        QueryFault::NoIssn =>
+            "no rft.issn, rft.eissn or rft_id has an ISSN with its check digit, and no rft.isbn an ISBN that counts",
+        QueryFault::NoIsbn => "no rft.isbn has an ISBN with its check digit",
+        QueryFault::Memory => "there was no memory",
+    }
+}

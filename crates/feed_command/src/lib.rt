@@ -1,0 +1,13 @@
+//! What the commands of kbfeed share: exit statuses, how a fault is reported, names and queries, the bytes of an input,
+//! and the stack.
+#![tactic(auto)]
+
+mod arguments;
+mod faults;
+mod input;
+mod stack;
+
+pub use arguments::{parse_name, parse_query};
+pub use faults::{DONE, FAILED, Faults, MISUSED, REFUSED};
+pub use input::{Watched, open_file, read_up_to};
+pub use stack::take_stack;

@@ -1,0 +1,17 @@
+//! Replays the script on standard input as `kbfeed replay` does: small enough to be compiled without proof in a minute.
+#![tactic(auto)]
+
+use feed_command::{FAILED, Faults};
+use feed_replay::replay_input;
+use std::io;
+use std::io::BufWriter;
+use std::process::ExitCode;
+
+fn main(rt: HostRuntime) -> ExitCode {
+    let mut faults = Faults::new(rt.stderr(), false);
+    let status = match BufWriter::new(rt.alloc(), io::writer(&rt)) {
+        Ok(mut out) => replay_input(&rt, &mut out, &mut faults),
+        Err(_) => faults.report("Memory", FAILED),
+    };
+    ExitCode::from(status)
+}
