@@ -37,7 +37,7 @@ impl<'a> Folder<'a> {
         }
     }
 
-    /// Whether the folder is there.
+    /// Returns whether the folder is there.
     pub fn is_there(&self) -> bool {
         match fs::metadata(self.rt, self.path) {
             Ok(metadata) => metadata.is_dir(),
@@ -45,7 +45,7 @@ impl<'a> Folder<'a> {
         }
     }
 
-    // Opens the file of a name, and gives its size, if there is one. Other kinds of files are not opened, since that
+    // Opens the file of a name and returns its size, if there is one. Other kinds of files are not opened, since that
     // may wait, as it does for a pipe.
     fn open(&mut self, name: &ReleaseName) -> io::Result<Option<u64>>
         ensures { self.new.failures ≡ self.old.failures }
@@ -70,7 +70,7 @@ impl<'a> Folder<'a> {
         Ok(Some(metadata.len()))
     }
 
-    // The bytes of the open file from a place on, just so many.
+    // Reads exactly `len` bytes of the open file from a place on.
     fn bytes(
         &mut self,
         alloc: Global,
@@ -97,7 +97,7 @@ impl<'a> Folder<'a> {
         Ok(bytes)
     }
 
-    // The fault that an error of the system is. One of the device is counted.
+    // Returns the fault that an error of the system is. One of the device is counted.
     fn fault_of(&mut self, fault: &io::Error) -> ShelfFault
         ensures rises { self.old.failures ≤ self.new.failures }
         ensures device { result ≡ ShelfFault.Device → CountsFailure self.old.failures self.new.failures }

@@ -1,38 +1,68 @@
 //! `kbfeed serve`: a folder of releases for any HTTP client.
+use crate::folder::Folder;
 use feed_command::{DONE, FAILED, Faults};
 use feed_http::{HttpFault, Shelf, serve_one};
 use feed_sockets::{TimedReader, TimedWriter};
-use feed_words::Serving;
 use std::io;
 use std::io::{ErrorKind, Read, Write};
 use std::net::{Shutdown, TcpListener, TcpStream};
 use std::time::Duration;
 
-/// Serves connections one after another from a shelf, and prints for each `served STATUS` or `fault NAME`, at once. The
-/// result is the exit status: 0 once all were served, whatever their lines are, and 3 where no connection could be
-/// taken, or a line not be printed, which is told.
-pub fn serve_on<S: Shelf, O: Write, F: Write + Drop>(
+/// Serves the releases of a folder at an address: it prints `listening`, then serves `count` connections one after
+/// another, each of which may take `time` for its request and for its reply, and prints for each `served STATUS` or
+/// `fault NAME`, at once. Returns the exit status: 0 once all were served, 3 if the address cannot be bound, a
+/// connection not be accepted or a line not be printed, which is reported.
+pub fn serve_folder<O: Write, F: Write + Drop>(
+    rt: &HostRuntime,
+    dir: &str,
+    addr: &str,
+    count: u64,
+    time: Duration,
+    out: &mut O,
+    faults: &mut Faults<F>,
+) -> u8 {
+    let listener = match TcpListener::bind(rt, addr) {
+        Ok(listener) => listener,
+        Err(error) => return faults.report_with("Bind", addr, error, FAILED),
+    };
+    let mut folder = Folder::new(rt, dir);
+    if !folder.is_there() {
+        faults.note(
+            dir,
+            "no folder is there, so that each name is answered by 404",
+        );
+    }
+    let announced = writeln!(out, "listening").and_then(|()| out.flush());
+    if let Err(error) = announced {
+        return faults.check_print(Err(error), FAILED);
+    }
+    serve_connections(rt, &listener, &mut folder, count, time, out, faults)
+}
+
+// Serves connections one after another from a shelf.
+fn serve_connections<S: Shelf, O: Write, F: Write + Drop>(
     rt: &HostRuntime,
     listener: &TcpListener,
     shelf: &mut S,
-    serving: Serving,
+    count: u64,
+    time: Duration,
     out: &mut O,
     faults: &mut Faults<F>,
 ) -> u8 {
     let mut served = 0_u64;
     for _ in 0..u64::MAX {
-        if served >= serving.count {
+        if served >= count {
             break;
         }
         let stream = match listener.accept() {
             Ok((stream, _)) => stream,
             // The client has gone, or a signal came: the next one is waited for.
-            Err(fault) if is_passing(fault.kind()) => continue,
-            Err(fault) => return faults.report_with("Accept", "the next connection", fault, FAILED),
+            Err(error) if is_passing(error.kind()) => continue,
+            Err(error) => return faults.report_with("Accept", "the next connection", error, FAILED),
         };
-        let line = told(out, served_over(rt, &stream, shelf, serving.time));
-        if let Err(fault) = line {
-            return faults.check_print(Err(fault), FAILED);
+        let line = print_outcome(out, serve_stream(rt, &stream, shelf, time));
+        if let Err(error) = line {
+            return faults.check_print(Err(error), FAILED);
         }
         served += 1;
     }
@@ -44,7 +74,7 @@ fn is_passing(kind: ErrorKind) -> bool {
 }
 
 // Serves one connection.
-fn served_over<S: Shelf>(
+fn serve_stream<S: Shelf>(
     rt: &HostRuntime,
     stream: &TcpStream,
     shelf: &mut S,
@@ -84,7 +114,7 @@ fn linger(stream: &TcpStream) {
     }
 }
 
-fn told<O: Write>(out: &mut O, outcome: Result<u16, HttpFault>) -> io::Result<()> {
+fn print_outcome<O: Write>(out: &mut O, outcome: Result<u16, HttpFault>) -> io::Result<()> {
     match outcome {
         Ok(status) => writeln!(out, "served {status}")?,
         Err(fault) => writeln!(out, "fault {fault}")?,

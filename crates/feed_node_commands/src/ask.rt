@@ -1,18 +1,17 @@
-//! `kbfeed ask`: what a node answers a query.
-use crate::answer_command::read_query;
+//! `kbfeed ask`: what a node answers to a query.
 use crate::database::{Database, close_keeper, open_feed};
 use feed_answer::{Query, WriteFault};
-use feed_command::{DONE, FAILED, Faults, REFUSED};
+use feed_command::{DONE, FAILED, Faults, REFUSED, parse_query};
 use feed_keep::Keep;
 use feed_releases::{AnswerFault, Feed};
 use std::alloc::Global;
 use std::io::Write;
 
-/// Reads the query, then opens the database and its feed, and prints what this answers for the package to `out`. The
-/// first fault is told, and then nothing is printed to `out`. The result is the exit status: 1 for a query that is
-/// none, a package without an active release (`NoRelease`), and a database that is not ours or damaged, 3 for a failing
-/// device or print and for want of memory.
-pub fn ask_on<D: Database, O: Write, F: Write + Drop>(
+/// Parses the query, opens the database and its feed, and prints the feed's answer for the package to `out`. The first
+/// fault is reported, and then nothing is printed to `out`. Returns the exit status: 1 for an invalid query, a package
+/// without an active release (`NoRelease`), and a database that is not ours or damaged, 3 for a failing device or print
+/// and for running out of memory.
+pub fn print_answer<D: Database, O: Write, F: Write + Drop>(
     alloc: Global,
     database: &D,
     package: &str,
@@ -20,7 +19,7 @@ pub fn ask_on<D: Database, O: Write, F: Write + Drop>(
     out: &mut O,
     faults: &mut Faults<F>,
 ) -> u8 {
-    let query = match read_query(alloc, query, faults) {
+    let query = match parse_query(alloc, query, faults) {
         Ok(query) => query,
         Err(status) => return status,
     };
@@ -36,12 +35,16 @@ pub fn ask_on<D: Database, O: Write, F: Write + Drop>(
         Ok(feed) => feed,
         Err(status) => return status,
     };
-    let status = answered(&feed, package, &query, out, faults);
+    let status = print_feed_answer(&feed, package, &query, out, faults);
     close_keeper(database, feed.restart(), faults);
     status
 }
 
-fn no_release<F: Write + Drop>(faults: &mut Faults<F>, fault: AnswerFault, package: &str) -> u8 {
+fn report_no_release<F: Write + Drop>(
+    faults: &mut Faults<F>,
+    fault: AnswerFault,
+    package: &str,
+) -> u8 {
     faults.report_with(
         fault,
         package,
@@ -50,7 +53,7 @@ fn no_release<F: Write + Drop>(faults: &mut Faults<F>, fault: AnswerFault, packa
     )
 }
 
-fn answered<K: Keep + Drop, O: Write, F: Write + Drop>(
+fn print_feed_answer<K: Keep + Drop, O: Write, F: Write + Drop>(
     feed: &Feed<K>,
     package: &str,
     query: &Query,
@@ -60,10 +63,10 @@ fn answered<K: Keep + Drop, O: Write, F: Write + Drop>(
     let answer = match feed.answer(package.as_bytes(), query) {
         Ok(answer) => answer,
         Err(AnswerFault::Memory) => return faults.report(AnswerFault::Memory, FAILED),
-        Err(fault) => return no_release(faults, fault, package),
+        Err(fault) => return report_no_release(faults, fault, package),
     };
     let Some(name) = feed.report(package.as_bytes()) else {
-        return no_release(faults, AnswerFault::NoRelease, package);
+        return report_no_release(faults, AnswerFault::NoRelease, package);
     };
     match answer.write(out, name) {
         Ok(()) => faults.check_print(out.flush(), DONE),

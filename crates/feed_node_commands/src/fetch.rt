@@ -1,25 +1,24 @@
 //! `kbfeed fetch`: a node fetches a release, resumes, and switches to it.
-use crate::causes::cause_of_name;
 use crate::database::{Database, close_keeper, open_feed};
 use crate::progress::Progress;
-use feed_command::{FAILED, Faults, MISUSED};
+use feed_command::{FAILED, Faults, MISUSED, parse_name};
 use feed_fetch::fetch_with;
 use feed_http::is_host;
 use feed_limits::PIECE_LIMIT;
-use feed_names::{NameFault, ReleaseName};
 use feed_sockets::{Cause, TcpDial};
-use feed_words::Fetching;
 use std::io::{IsTerminal, Write};
+use std::time::Duration;
 
-/// Fetches the release of a name from a host and port, as `fetch_with` does, into a database. What happens is printed
-/// to `out`, each line at once; where standard error is a terminal, a line there shows how far it is. The first fault
-/// is told: of the host (`Host`) and of the name, status 2, and then of the database and of the fetch.
-pub fn fetch_on<D: Database, O: Write, F: Write + Drop>(
+/// Fetches the release of a name from a host and port, as `fetch_with` does, into a database. It prints each event to
+/// `out` at once; if standard error is a terminal, a line there shows how far it is. The first fault is reported: of
+/// the host (`Host`) and of the name, status 2, and then of the database and of the fetch.
+pub fn fetch_release<D: Database, O: Write, F: Write + Drop>(
     rt: &HostRuntime,
     database: &D,
     addr: &str,
     name: &str,
-    fetching: Fetching,
+    piece: u64,
+    time: Duration,
     out: &mut O,
     faults: &mut Faults<F>,
 ) -> u8 {
@@ -31,17 +30,16 @@ pub fn fetch_on<D: Database, O: Write, F: Write + Drop>(
             MISUSED,
         );
     }
-    let name = match ReleaseName::parse(rt.alloc(), name.as_bytes()) {
+    let name = match parse_name(rt.alloc(), name, MISUSED, faults) {
         Ok(name) => name,
-        Err(NameFault::Memory) => return faults.report(NameFault::Memory, FAILED),
-        Err(fault) => return faults.report_with(fault, name, cause_of_name(fault), MISUSED),
+        Err(status) => return status,
     };
     let mut feed = match open_feed(rt.alloc(), database, faults) {
         Ok(feed) => feed,
         Err(status) => return status,
     };
     let cause = Cause::new();
-    let mut dial = TcpDial::new(rt, addr, fetching.time, &cause);
+    let mut dial = TcpDial::new(rt, addr, time, &cause);
     let screen = if rt.stderr().is_terminal() {
         Some(rt.stderr())
     } else {
@@ -54,7 +52,7 @@ pub fn fetch_on<D: Database, O: Write, F: Write + Drop>(
         &mut feed,
         addr.as_bytes(),
         &name,
-        fetching.piece.max(1).min(PIECE_LIMIT as u64),
+        piece.max(1).min(PIECE_LIMIT as u64),
         &mut out,
         faults.out(),
     );

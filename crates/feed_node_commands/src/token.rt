@@ -1,4 +1,4 @@
-//! The token of those who may feed a node.
+//! The bearer token that authorizes a fetch.
 use feed_command::read_up_to;
 use std::alloc::Global;
 use std::io;
@@ -9,8 +9,8 @@ const FEWEST: usize = 16;
 
 const MOST: usize = 4_096;
 
-/// The first line of a file, where it is a token: at least 16 bytes of visible ASCII. RFC 6750, section 2.1, allows
-/// fewer bytes of these.
+/// Reads the first line of a file, if it is a token: at least 16 bytes of visible ASCII. A token of RFC 6750, section
+/// 2.1, has only some of these bytes.
 pub fn read_token<R: Read>(alloc: Global, file: &mut R) -> io::Result<Option<Vec<u8>>> {
     let bytes = read_up_to(alloc, file, MOST)?;
     let end = match bytes.iter().position(|byte| *byte == b'\n') {

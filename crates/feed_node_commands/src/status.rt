@@ -1,5 +1,5 @@
 //! `kbfeed status`: the releases that a node has recorded.
-use crate::database::{Database, close_keeper, open_feed, told_of_keeper};
+use crate::database::{Database, close_keeper, open_feed, report_keeper};
 use feed_command::{DONE, Faults};
 use feed_keep::{Keep, Record};
 use feed_model::State;
@@ -9,9 +9,9 @@ use std::io::Write;
 
 /// Opens the database and its feed, and prints a line for each release that is recorded, ordered by name: the name,
 /// `staged`, `active` or `broken`, the size of the file and how many bytes of it are missing, and behind these the
-/// reason of a broken one, with a tab between each two. The result is the exit status: 1 for a database that is not
-/// ours or damaged, 3 for a failing device or print and for want of memory.
-pub fn status_on<D: Database, O: Write, F: Write + Drop>(
+/// reason of a broken one, with a tab between each two. Returns the exit status: 1 for a database that is not ours or
+/// damaged, 3 for a failing device or print and for running out of memory.
+pub fn print_status<D: Database, O: Write, F: Write + Drop>(
     alloc: Global,
     database: &D,
     out: &mut O,
@@ -28,7 +28,7 @@ pub fn status_on<D: Database, O: Write, F: Write + Drop>(
     let mut keeper = feed.restart();
     let status = match keeper.load(alloc) {
         Ok(records) => faults.check_print(print_records(out, &records), DONE),
-        Err(fault) => told_of_keeper(faults, fault, database.name()),
+        Err(fault) => report_keeper(faults, fault, database.name()),
     };
     close_keeper(database, keeper, faults);
     status

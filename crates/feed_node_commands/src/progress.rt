@@ -1,10 +1,10 @@
-//! How far a fetch is, for who looks at it.
+//! How far a fetch is, on a terminal.
 use std::io;
 use std::io::{ErrorKind, Write};
 use std::time::Instant;
 
-/// Passes the lines of a fetch on, each at once. Where there is a screen, a line on it that is rewritten shows how many
-/// bytes of the file are kept, the rate and the time that is left: by the lines `size N` and `stored missing N`.
+/// Passes on the lines of a fetch, each at once. If there is a screen, a line there is rewritten to show how many bytes
+/// of the file are stored, the rate and the time left. It reads them off the lines `size N` and `stored missing N`.
 #[derive(Drop)]
 pub struct Progress<'a, O: Write, S: Write + Drop> {
     rt: &'a HostRuntime,
@@ -35,12 +35,12 @@ impl<'a, O: Write, S: Write + Drop> Progress<'a, O, S> {
         }
     }
 
-    /// What the system said where a line did not go out.
+    /// Returns the system's error if a line was not printed.
     pub fn into_fault(self) -> Option<io::Error> {
         self.fault
     }
 
-    // Keeps an error, unless the call is made again, and gives another of its kind.
+    // Keeps an error, unless the call is made again, and returns another of its kind.
     fn failed(&mut self, fault: io::Error) -> io::Error {
         let kind = fault.kind();
         if kind != ErrorKind::Interrupted {
@@ -75,7 +75,7 @@ impl<'a, O: Write, S: Write + Drop> Progress<'a, O, S> {
         }
     }
 
-    // Shows how far it is. What does not go to the screen is no fault.
+    // Shows how far it is. An error of the screen is ignored.
     fn show(&mut self, missing: u64) {
         let Ok(now) = Instant::now(self.rt) else {
             return;

@@ -1,0 +1,69 @@
+//! `kbfeed answer`: what a node answers to a query if its active release is the one of a file.
+use crate::check::{file_name, report_file};
+use feed_answer::{Query, WriteFault, answer};
+use feed_command::{DONE, FAILED, Faults, REFUSED, Watched, open_file, parse_name, parse_query};
+use feed_kbart::read_file;
+use feed_names::ReleaseName;
+use std::alloc::Global;
+use std::io::{Read, Write};
+
+// A query, and the name of the release that it is asked of.
+#[derive(Drop)]
+struct Asked<'a> {
+    query: Query,
+    name: ReleaseName,
+    text: &'a str,
+}
+
+/// Parses the query and then the name of the file, reads the file and prints the answer to `out`. The first fault is
+/// reported, and then nothing is printed to `out`. Returns the exit status: 1 for an invalid query or name and for a
+/// file that is bad or too long, 3 for a failing read or print and for running out of memory.
+pub fn answer_file<O: Write, F: Write + Drop>(
+    rt: &HostRuntime,
+    path: &str,
+    query: &str,
+    out: &mut O,
+    faults: &mut Faults<F>,
+) -> u8 {
+    let asked = match parse_asked(rt.alloc(), file_name(path), query, faults) {
+        Ok(asked) => asked,
+        Err(status) => return status,
+    };
+    match open_file(rt, path, faults) {
+        Ok(file) => print_answer(rt.alloc(), &asked, file, out, faults),
+        Err(status) => status,
+    }
+}
+
+fn parse_asked<'a, F: Write + Drop>(
+    alloc: Global,
+    text: &'a str,
+    query: &str,
+    faults: &mut Faults<F>,
+) -> Result<Asked<'a>, u8> {
+    let query = parse_query(alloc, query, faults)?;
+    let name = parse_name(alloc, text, REFUSED, faults)?;
+    Ok(Asked { query, name, text })
+}
+
+// Reads the file and prints the answer.
+fn print_answer<R: Read + Drop, O: Write, F: Write + Drop>(
+    alloc: Global,
+    asked: &Asked<'_>,
+    file: R,
+    out: &mut O,
+    faults: &mut Faults<F>,
+) -> u8 {
+    let mut file = Watched::new(file);
+    let holdings = match read_file(alloc, &mut file) {
+        Ok(holdings) => holdings,
+        Err(fault) => return report_file(faults, fault, asked.text, file),
+    };
+    let Ok(answer) = answer(alloc, &holdings, &asked.query) else {
+        return faults.report("Memory", FAILED);
+    };
+    match answer.write(out, &asked.name) {
+        Ok(()) => faults.check_print(out.flush(), DONE),
+        Err(WriteFault::Write) => faults.report_unprinted(out),
+    }
+}

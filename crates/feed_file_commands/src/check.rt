@@ -1,0 +1,153 @@
+//! `kbfeed check`: what a file holds, or why it is bad.
+use feed_command::{
+    DONE, FAILED, Faults, MISUSED, REFUSED, Watched, open_file, parse_name, read_up_to,
+};
+use feed_kbart::{FileCount, KbartFault, count_file};
+use feed_limits::FILE_LIMIT;
+use feed_report::{Form, Report};
+use std::alloc::Global;
+use std::io::{ErrorKind, Read, Write};
+
+// The limit of a file.
+const LONG_FILE: &str = "a list has at most 268,435,456 bytes";
+
+/// Checks the files at these paths, or standard input under a name for the path `-`, one after another, and prints what
+/// each holds, in a form. A strict check refuses a file with a record that is skipped. Returns the highest exit status
+/// of a file, or `MISUSED` for a name without `-` and for `-` without one.
+pub fn check_files<O: Write, F: Write + Drop>(
+    rt: &HostRuntime,
+    paths: &[&str],
+    name: &str,
+    form: Form,
+    is_strict: bool,
+    out: &mut O,
+    faults: &mut Faults<F>,
+) -> u8 {
+    if !name.is_empty() && !paths.iter().any(|path| *path == "-") {
+        return faults.report("--name NAME needs FILE -", MISUSED);
+    }
+    let mut status = DONE;
+    for path in paths {
+        status = status.max(check_path(rt, path, name, form, is_strict, out, faults));
+    }
+    status
+}
+
+// Checks the file at a path, or standard input under a name.
+fn check_path<O: Write, F: Write + Drop>(
+    rt: &HostRuntime,
+    path: &str,
+    name: &str,
+    form: Form,
+    is_strict: bool,
+    out: &mut O,
+    faults: &mut Faults<F>,
+) -> u8 {
+    if path == "-" {
+        if name.is_empty() {
+            return faults.report("- needs --name NAME", MISUSED);
+        }
+        return check_one(rt.alloc(), name, rt.reader(), form, is_strict, out, faults);
+    }
+    match open_file(rt, path, faults) {
+        Ok(file) => check_one(
+            rt.alloc(),
+            file_name(path),
+            file,
+            form,
+            is_strict,
+            out,
+            faults,
+        ),
+        Err(status) => status,
+    }
+}
+
+// Reads a file under its name and prints what it holds to `out`, in a form: `release NAME`, `rows N aside M`, and a
+// line `aside NUMBER REASON` for each record that is skipped, or what `Form` says in place of it. A bad file prints
+// `broken REASON` in place of the last two. A fault prints one line to `faults`. Returns the exit status: 1 for an
+// invalid name, a file that is bad or too long, and a strict check that skips a record, 3 for a failing read or print
+// and for running out of memory.
+fn check_one<R: Read + Drop, O: Write, F: Write + Drop>(
+    alloc: Global,
+    text: &str,
+    file: R,
+    form: Form,
+    is_strict: bool,
+    out: &mut O,
+    faults: &mut Faults<F>,
+) -> u8 {
+    let name = match parse_name(alloc, text, REFUSED, faults) {
+        Ok(name) => name,
+        Err(status) => return status,
+    };
+    let mut report = Report {
+        alloc,
+        name: &name,
+        form,
+        text: &[],
+    };
+    if let Err(error) = report.print_release(out) {
+        return faults.check_print(Err(error), FAILED);
+    }
+    let mut file = Watched::new(file);
+    let mut kept = Vec::new(alloc);
+    let judged = if form.is_explained() {
+        read_kept(alloc, &mut file, &mut kept)
+    } else {
+        count_file(alloc, &mut file)
+    };
+    report.text = &kept;
+    match judged {
+        Ok(count) => {
+            let status = if is_strict && !count.aside().is_empty() {
+                REFUSED
+            } else {
+                DONE
+            };
+            faults.check_print(report.print_count(out, &count), status)
+        }
+        Err(KbartFault::Bad(why)) => faults.check_print(report.print_broken(out, why), REFUSED),
+        Err(fault) => match out.flush() {
+            Ok(()) => report_file(faults, fault, text, file),
+            Err(error) => faults.check_print(Err(error), FAILED),
+        },
+    }
+}
+
+// Reads a file, and keeps its text.
+fn read_kept<R: Read>(
+    alloc: Global,
+    file: &mut R,
+    kept: &mut Vec<u8>,
+) -> Result<FileCount, KbartFault> {
+    match read_up_to(alloc, file, FILE_LIMIT) {
+        Ok(text) => *kept = text,
+        Err(error) if error.kind() == ErrorKind::OutOfMemory => return Err(KbartFault::Memory),
+        Err(_) => return Err(KbartFault::Read),
+    }
+    count_file(alloc, kept.as_slice())
+}
+
+/// Reports why a file was not read, or is bad, and returns the status.
+pub fn report_file<R: Read + Drop, F: Write + Drop>(
+    faults: &mut Faults<F>,
+    fault: KbartFault,
+    text: &str,
+    file: Watched<R>,
+) -> u8 {
+    match fault {
+        KbartFault::Memory => faults.report(fault, FAILED),
+        KbartFault::Read => faults.report_read(text, file.into_cause()),
+        KbartFault::TooLong => faults.report_with(fault, text, LONG_FILE, REFUSED),
+        KbartFault::Bad(_) => faults.report_with(fault, text, "the file is bad", REFUSED),
+    }
+}
+
+/// Returns the last part of a path, after its last `/`.
+pub fn file_name(path: &str) -> &str {
+    match path.rsplit_once('/') {
+        Some((_, name)) => name,
+        None => path,
+    }
+}

@@ -1,0 +1,101 @@
+//! The database of a node, and how its feed is opened and closed.
+use feed_command::{FAILED, Faults, REFUSED};
+use feed_keep::{Keep, KeepFault};
+use feed_releases::Feed;
+use std::alloc::Global;
+use std::io::Write;
+
+/// A place that has the records of a node from one run to the next.
+pub trait Database {
+    type Keeper: Keep + Drop;
+
+    /// Returns what a fault calls it.
+    fn name(&self) -> &str;
+
+    /// Returns whether something is there.
+    fn is_there(&self) -> bool;
+
+    /// Opens the keeper, and makes it if there is none.
+    fn open(&self) -> Result<Self::Keeper, DatabaseFault>;
+
+    /// Closes a keeper.
+    fn close(&self, keeper: Self::Keeper) -> Result<(), DatabaseFault>;
+}
+
+/// Why a database does not open or close.
+#[derive(Clone, Copy, Debug, PartialEq, Eq)]
+pub enum DatabaseFault {
+    /// Running out of memory.
+    Memory,
+    /// The device failed, or another process has it open.
+    Device,
+    /// It is not a database of kbfeed.
+    NotOurs,
+}
+
+/// Opens the feed on what a database holds. A fault is reported: `NotOurs` and `Damaged` give status 1, `Memory` and
+/// `Device` 3.
+pub fn open_feed<D: Database, F: Write + Drop>(
+    alloc: Global,
+    database: &D,
+    faults: &mut Faults<F>,
+) -> Result<Feed<D::Keeper>, u8> {
+    let keeper = match database.open() {
+        Ok(keeper) => keeper,
+        Err(fault) => return Err(report_database(faults, fault, database.name())),
+    };
+    match Feed::open(alloc, keeper) {
+        Ok(feed) => Ok(feed),
+        Err(fault) => Err(report_keeper(faults, fault.cause, database.name())),
+    }
+}
+
+/// Closes a database. A failure is only noted: the database still has everything that was committed.
+pub fn close_keeper<D: Database, F: Write + Drop>(
+    database: &D,
+    keeper: D::Keeper,
+    faults: &mut Faults<F>,
+) {
+    if database.close(keeper).is_err() {
+        faults.note(
+            database.name(),
+            "the log is not copied into the file, and stays beside it",
+        );
+    }
+}
+
+fn report_database<F: Write + Drop>(
+    faults: &mut Faults<F>,
+    fault: DatabaseFault,
+    path: &str,
+) -> u8 {
+    match fault {
+        DatabaseFault::Memory => faults.report("Memory", FAILED),
+        DatabaseFault::Device => faults.report_with(
+            "Device",
+            path,
+            "it does not read or write, or another process has it open",
+            FAILED,
+        ),
+        DatabaseFault::NotOurs => faults.report_with(
+            "NotOurs",
+            path,
+            "it is no database of kbfeed, or no file can be made there",
+            REFUSED,
+        ),
+    }
+}
+
+/// Reports why a keeper does not return its records, or why no feed keeps such records, and returns the status.
+pub fn report_keeper<F: Write + Drop>(faults: &mut Faults<F>, fault: KeepFault, path: &str) -> u8 {
+    match fault {
+        KeepFault::Memory => faults.report(fault, FAILED),
+        KeepFault::Device => faults.report_with(fault, path, "it does not read", FAILED),
+        KeepFault::Damaged => faults.report_with(
+            fault,
+            path,
+            "it holds what no feed keeps: restore a copy, or begin anew",
+            REFUSED,
+        ),
+    }
+}

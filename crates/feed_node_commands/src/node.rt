@@ -1,0 +1,131 @@
+//! `kbfeed node`: a link resolver that answers readers over HTTP from the database of a node, and takes in releases.
+use crate::command::Upstream;
+use crate::database::{Database, close_keeper, open_feed};
+use crate::token::read_token;
+use feed_command::{FAILED, Faults, MISUSED, REFUSED, open_file};
+use feed_http::is_host;
+use feed_node_desk::{End, Source, run};
+use feed_node_loop::{Server, Settings};
+use std::io;
+use std::io::Write;
+use std::net::ToSocketAddrs;
+
+/// Where a node listens, how many clients it answers at a time, and how many milliseconds each step of a connection may
+/// take.
+#[derive(Clone, Copy)]
+pub struct Hosting<'a> {
+    pub addr: &'a str,
+    pub clients: usize,
+    pub limit: u64,
+}
+
+/// Runs a node: opens the feed of a database and answers readers at an address, without end. If it has a source, a
+/// client that has the token may have it fetch a release from there. It prints a line for each request, at once. The
+/// first fault is reported: of the source (`Host`, `Read`, `Token`), of the database, of the address (`Bind`), of the
+/// sockets (`Poll`) and of the print.
+pub fn run_node<D: Database, O: Write, F: Write + Drop>(
+    rt: &HostRuntime,
+    database: &D,
+    hosting: Hosting<'_>,
+    upstream: Option<Upstream<'_>>,
+    out: &mut O,
+    faults: &mut Faults<F>,
+) -> u8 {
+    let Some(upstream) = upstream else {
+        return run_server(rt, database, hosting, None, out, faults);
+    };
+    if !is_host(upstream.addr.as_bytes()) {
+        return faults.report_with(
+            "Host",
+            upstream.addr,
+            "it is no host and port, as 127.0.0.1:8080",
+            MISUSED,
+        );
+    }
+    let token = match token_of(rt, upstream.token_file, faults) {
+        Ok(token) => token,
+        Err(status) => return status,
+    };
+    let source = Source {
+        addr: upstream.addr,
+        token: &token,
+        piece: upstream.piece,
+        limit: hosting.limit,
+    };
+    run_server(rt, database, hosting, Some(source), out, faults)
+}
+
+// Reads the token of a file, or reports the fault and returns the exit status.
+fn token_of<F: Write + Drop>(
+    rt: &HostRuntime,
+    path: &str,
+    faults: &mut Faults<F>,
+) -> Result<Vec<u8>, u8> {
+    let mut file = open_file(rt, path, faults)?;
+    match read_token(rt.alloc(), &mut file) {
+        Ok(Some(token)) => Ok(token),
+        Ok(None) => Err(faults.report_with(
+            "Token",
+            path,
+            "its first line is no token: 16 bytes at least, of visible ASCII",
+            REFUSED,
+        )),
+        Err(error) => Err(faults.report_read(path, error)),
+    }
+}
+
+// Opens the feed and answers readers, until the sockets or a print fail.
+fn run_server<D: Database, O: Write, F: Write + Drop>(
+    rt: &HostRuntime,
+    database: &D,
+    hosting: Hosting<'_>,
+    source: Option<Source<'_>>,
+    out: &mut O,
+    faults: &mut Faults<F>,
+) -> u8 {
+    let mut feed = match open_feed(rt.alloc(), database, faults) {
+        Ok(feed) => feed,
+        Err(status) => return status,
+    };
+    let end = match bind(rt, hosting) {
+        Ok(mut server) => match announce(out) {
+            Ok(()) => run(rt, &mut feed, &mut server, source, out),
+            Err(error) => End::Print(error),
+        },
+        Err(error) => {
+            close_keeper(database, feed.restart(), faults);
+            return faults.report_with("Bind", hosting.addr, error, FAILED);
+        }
+    };
+    close_keeper(database, feed.restart(), faults);
+    report_end(end, faults)
+}
+
+fn bind(rt: &HostRuntime, hosting: Hosting<'_>) -> io::Result<Server> {
+    let mut last = io::Error::from(io::ErrorKind::NotFound);
+    let settings = Settings {
+        clients: hosting.clients.max(1),
+        limit: hosting.limit.max(1),
+    };
+    for addr in hosting.addr.to_socket_addrs(rt)? {
+        match Server::bind(rt, addr, settings) {
+            Ok(server) => return Ok(server),
+            Err(error) => last = error,
+        }
+    }
+    Err(last)
+}
+
+fn announce<O: Write>(out: &mut O) -> io::Result<()> {
+    writeln!(out, "listening")?;
+    out.flush()
+}
+
+// Reports why a node ended, and returns the status.
+fn report_end<F: Write + Drop>(end: End, faults: &mut Faults<F>) -> u8 {
+    match end {
+        End::Memory => faults.report("Memory", FAILED),
+        End::Sockets(fault) => faults.report_with("Poll", "the sockets", fault, FAILED),
+        End::Print(fault) => faults.check_print(Err(fault), FAILED),
+    }
+}
