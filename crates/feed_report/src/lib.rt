@@ -1,5 +1,4 @@
-//! What is printed of a list that is checked, by a release's name and the text: in lines, in one line, explained, or as
-//! JSON.
+//! The report on a checked list, from its release name and its text: in lines, in one line, explained, or as JSON.
 #![tactic(auto)]
 
 mod records;

@@ -1,4 +1,4 @@
-//! The records that a list sets aside, as they stand in it.
+//! The records of a list, by their numbers: their lines in the file, and their fields.
 use csv::{ByteRecord, Reader};
 use feed_kbart::{DayRange, Label, REQUIRED_LABELS, Reason, record_reader, trim_spaces};
 use std::alloc::{AllocError, Global};
@@ -7,7 +7,7 @@ const LABELS: u8 = 13;
 
 const MARK: [u8; 3] = [0xEF, 0xBB, 0xBF];
 
-/// Goes through the records of a list, from its header on.
+/// A cursor over the records of a list, which begins at the header.
 #[derive(Drop)]
 pub struct Records<'a> {
     text: &'a [u8],
@@ -20,7 +20,7 @@ pub struct Records<'a> {
 }
 
 impl<'a> Records<'a> {
-    /// The records of a list, which is UTF-8 and begins with at most one byte-order mark. It stands at the header.
+    /// Reads the header of a list, which is UTF-8 and begins with at most one byte-order mark.
     pub fn of(alloc: Global, text: &'a [u8]) -> Result<Records<'a>, AllocError> {
         let text = text.strip_prefix(MARK.as_slice()).unwrap_or(text);
         let mut records = Records {
@@ -32,15 +32,22 @@ impl<'a> Records<'a> {
             line: 1,
             counted: 0,
         };
-        records.go_to(1)?;
-        for place in 1..=LABELS {
-            let column = Label::of_place(place).and_then(|label| column_of(&records.fields, label));
-            records.places.push(column)?;
+        match records.read_header() {
+            Ok(()) => Ok(records),
+            Err(fault) => Err(fault),
         }
-        Ok(records)
     }
 
-    /// Goes on to the record of a number, which is not less than the one where it stands.
+    fn read_header(&mut self) -> Result<(), AllocError> {
+        self.go_to(1)?;
+        for place in 1..=LABELS {
+            let column = Label::of_place(place).and_then(|label| column_of(&self.fields, label));
+            self.places.push(column)?;
+        }
+        Ok(())
+    }
+
+    /// Moves to the record with a number, which is not less than the current one.
     pub fn go_to(&mut self, number: u32) -> Result<(), AllocError> {
         for _ in self.number..number {
             if self.reader.read_byte_record(&mut self.fields).is_err() {
@@ -48,6 +55,12 @@ impl<'a> Records<'a> {
             }
         }
         self.number = number;
+        self.count_lines();
+        Ok(())
+    }
+
+    // Counts the lines from the record before to this one. The lines between them are empty.
+    fn count_lines(&mut self) {
         let read = match self.fields.position() {
             Some(position) => position.byte() as usize,
             None => 0,
@@ -59,15 +72,14 @@ impl<'a> Records<'a> {
         let passed = before.saturating_add(empty).min(rest.len());
         self.line = self.line.saturating_add(line_ends(&rest[..passed]));
         self.counted = self.counted.saturating_add(passed);
-        Ok(())
     }
 
-    /// The line of the file on which the record stands, counted from 1.
+    /// Returns the line of the file on which the record begins, counted from 1.
     pub fn line(&self) -> usize {
         self.line
     }
 
-    /// The record's field under a label, which is empty where there is none.
+    /// Returns the record's field under a label, which is empty if there is none.
     pub fn field(&self, label: Label) -> &[u8] {
         let at = usize::from(label.place()).saturating_sub(1);
         match self.places.get(at) {
@@ -76,7 +88,7 @@ impl<'a> Records<'a> {
         }
     }
 
-    /// Whether the field under a label is what a reason is about.
+    /// Returns whether a reason is about the field under a label.
     pub fn offends(&self, label: Label, reason: Reason) -> bool {
         match (reason, label) {
             (Reason::OtherType | Reason::NoIsbn, Label::PublicationType) => true,
@@ -91,7 +103,7 @@ impl<'a> Records<'a> {
         }
     }
 
-    /// The required labels that the header lacks, in their order.
+    /// Returns the required labels that the header lacks, in their order.
     pub fn missing_labels(&self, alloc: Global) -> Result<Vec<Label>, AllocError> {
         let mut missing = Vec::new(alloc);
         for label in REQUIRED_LABELS {
@@ -104,7 +116,7 @@ impl<'a> Records<'a> {
     }
 }
 
-// The place of the first field of a header that is a label.
+// Returns the place of the first field of a header that is a label.
 fn column_of(header: &ByteRecord, label: Label) -> Option<usize> {
     header.iter().position(|field| label.is(field))
 }
@@ -113,7 +125,7 @@ fn ends_line(byte: u8) -> bool {
     byte == b'\r' || byte == b'\n'
 }
 
-// How many line ends a text has: CR LF is one.
+// Counts the line ends of a text. CR LF is one.
 fn line_ends(text: &[u8]) -> usize {
     let mut ends = 0usize;
     let mut before = 0u8;

@@ -1,12 +1,12 @@
-//! What is printed of a list that is checked.
+//! The report on a checked list in each of its forms.
 use crate::records::Records;
 use feed_kbart::{Aside, BadFile, FileCount, Label, Reason};
 use feed_names::ReleaseName;
-use std::alloc::Global;
+use std::alloc::{AllocError, Global};
 use std::io::{ErrorKind, Write};
 use std::{io, str};
 
-// The reasons, in the order in which they are judged.
+// The reasons, in the order in which they are checked.
 const REASONS: [Reason; 5] = [
     Reason::OtherType,
     Reason::NoIssn,
@@ -31,21 +31,21 @@ pub enum Form {
     Lines,
     /// One line for each list.
     Summary,
-    /// As `Lines`, and below a record its line in the file, its title and what it is set aside for; below a bad file
-    /// each label that it lacks.
+    /// As `Lines`, and below each record its line in the file, its title and the fields that it is set aside for; below
+    /// a bad file each required label that it lacks.
     Explained,
-    /// One JSON object on a line for each list, with what is in `Explained`.
+    /// One JSON object on a line for each list, with the contents of `Explained`.
     Json,
 }
 
 impl Form {
-    /// Whether it shows what stands in the file.
+    /// Returns whether the report quotes the file, so that it needs the text.
     pub fn is_explained(self) -> bool {
         matches!(self, Form::Explained | Form::Json)
     }
 }
 
-/// A list that is reported: its name, its form, and, where that is explained, its text.
+/// A list that is reported: its name, the form, and its text if the form quotes it.
 #[derive(Clone, Copy)]
 pub struct Report<'a> {
     pub alloc: Global,
@@ -55,7 +55,7 @@ pub struct Report<'a> {
 }
 
 impl Report<'_> {
-    /// What comes before the list is read.
+    /// Prints the lines that come before the list is read.
     pub fn print_release<O: Write>(&self, out: &mut O) -> io::Result<()> {
         match self.form {
             Form::Lines | Form::Explained => {
@@ -67,97 +67,133 @@ impl Report<'_> {
         }
     }
 
+    /// Prints the report on a good list, and flushes the output.
     pub fn print_count<O: Write>(&self, out: &mut O, count: &FileCount) -> io::Result<()> {
-        let rows = count.rows();
-        let aside = count.aside().len();
-        match self.form {
-            Form::Lines => {
-                writeln!(out, "rows {rows} aside {aside}")?;
-                for Aside { number, reason } in count.aside() {
-                    writeln!(out, "aside {number} {reason}")?;
-                }
-            }
-            Form::Summary => {
-                out.write_all(self.name.text())?;
-                write!(out, " rows {rows} aside {aside}")?;
-                print_reasons(out, count.aside())?;
-                out.write_all(b"\n")?;
-            }
-            Form::Explained => {
-                writeln!(out, "rows {rows} aside {aside}")?;
-                self.print_explained(out, count.aside())?;
-            }
-            Form::Json => {
-                self.print_json_name(out)?;
-                write!(out, "\"rows\":{rows},\"aside\":[")?;
-                self.print_json_records(out, count.aside())?;
-                out.write_all(b"]}\n")?;
-            }
-        }
+        let printed = match self.form {
+            Form::Lines => print_lines(out, count),
+            Form::Summary => self.print_summary(out, count),
+            Form::Explained => self.print_explained(out, count),
+            Form::Json => self.print_json(out, count),
+        };
+        printed?;
         out.flush()
     }
 
+    /// Prints the report on a bad list, and flushes the output.
     pub fn print_broken<O: Write>(&self, out: &mut O, why: BadFile) -> io::Result<()> {
-        match self.form {
-            Form::Lines => writeln!(out, "broken {why}")?,
-            Form::Summary => {
-                out.write_all(self.name.text())?;
-                writeln!(out, " broken {why}")?;
-            }
-            Form::Explained => {
-                writeln!(out, "broken {why}")?;
-                for label in &self.labels_of(why)? {
-                    writeln!(out, "  {label}")?;
-                }
-            }
-            Form::Json => self.print_json_broken(out, why)?,
-        }
+        let printed = match self.form {
+            Form::Lines => writeln!(out, "broken {why}"),
+            Form::Summary => self.print_broken_summary(out, why),
+            Form::Explained => self.print_broken_explained(out, why),
+            Form::Json => self.print_broken_json(out, why),
+        };
+        printed?;
         out.flush()
     }
 
-    fn print_explained<O: Write>(&self, out: &mut O, aside: &[Aside]) -> io::Result<()> {
+    fn print_summary<O: Write>(&self, out: &mut O, count: &FileCount) -> io::Result<()> {
+        out.write_all(self.name.text())?;
+        out.write_all(b" ")?;
+        print_rows(out, count)?;
+        print_reasons(out, count.aside())?;
+        out.write_all(b"\n")
+    }
+
+    fn print_explained<O: Write>(&self, out: &mut O, count: &FileCount) -> io::Result<()> {
+        print_rows(out, count)?;
+        out.write_all(b"\n")?;
         let mut records = Records::of(self.alloc, self.text)?;
-        for Aside { number, reason } in aside {
-            records.go_to(*number)?;
-            let line = records.line();
-            writeln!(out, "aside {number} {reason}")?;
-            write!(out, "  line {line} ")?;
-            self.print_quoted(out, records.field(Label::PublicationTitle))?;
-            out.write_all(b"\n")?;
-            for label in JUDGED {
-                if records.offends(label, *reason) {
-                    write!(out, "  {label} ")?;
-                    self.print_quoted(out, records.field(label))?;
-                    out.write_all(b"\n")?;
-                }
+        self.print_explanations(out, &mut records, count.aside())
+    }
+
+    fn print_explanations<O: Write>(
+        &self,
+        out: &mut O,
+        records: &mut Records<'_>,
+        aside: &[Aside],
+    ) -> io::Result<()> {
+        for record in aside {
+            self.print_explanation(out, records, *record)?;
+        }
+        Ok(())
+    }
+
+    fn print_explanation<O: Write>(
+        &self,
+        out: &mut O,
+        records: &mut Records<'_>,
+        aside: Aside,
+    ) -> io::Result<()> {
+        let Aside { number, reason } = aside;
+        records.go_to(number)?;
+        let line = records.line();
+        write!(out, "aside {number} {reason}\n  line {line} ")?;
+        self.print_quoted(out, records.field(Label::PublicationTitle))?;
+        out.write_all(b"\n")?;
+        self.print_offending(out, records, reason)
+    }
+
+    fn print_offending<O: Write>(
+        &self,
+        out: &mut O,
+        records: &Records<'_>,
+        reason: Reason,
+    ) -> io::Result<()> {
+        for label in JUDGED {
+            if records.offends(label, reason) {
+                write!(out, "  {label} ")?;
+                self.print_quoted(out, records.field(label))?;
+                out.write_all(b"\n")?;
             }
         }
         Ok(())
     }
 
-    // The beginning of an object. A release's name has no character that JSON escapes.
+    fn print_json<O: Write>(&self, out: &mut O, count: &FileCount) -> io::Result<()> {
+        self.print_json_name(out)?;
+        let rows = count.rows();
+        write!(out, "\"rows\":{rows},\"aside\":[")?;
+        let mut records = Records::of(self.alloc, self.text)?;
+        self.print_json_records(out, &mut records, count.aside())
+    }
+
+    // Prints the beginning of an object. A release's name has no character that JSON escapes.
     fn print_json_name<O: Write>(&self, out: &mut O) -> io::Result<()> {
         out.write_all(b"{\"release\":\"")?;
         out.write_all(self.name.text())?;
         out.write_all(b"\",")
     }
 
-    fn print_json_records<O: Write>(&self, out: &mut O, aside: &[Aside]) -> io::Result<()> {
-        let mut records = Records::of(self.alloc, self.text)?;
-        let mut is_first = true;
-        for Aside { number, reason } in aside {
-            records.go_to(*number)?;
-            print_comma(out, is_first)?;
-            is_first = false;
-            let line = records.line();
-            write!(
-                out,
-                "{{\"number\":{number},\"line\":{line},\"reason\":\"{reason}\",\"title\":"
-            )?;
-            self.print_quoted(out, records.field(Label::PublicationTitle))?;
-            self.print_json_values(out, &records, *reason)?;
+    fn print_json_records<O: Write>(
+        &self,
+        out: &mut O,
+        records: &mut Records<'_>,
+        aside: &[Aside],
+    ) -> io::Result<()> {
+        let mut comma = "";
+        for record in aside {
+            self.print_json_record(out, records, *record, comma)?;
+            comma = ",";
         }
-        Ok(())
+        out.write_all(b"]}\n")
+    }
+
+    fn print_json_record<O: Write>(
+        &self,
+        out: &mut O,
+        records: &mut Records<'_>,
+        aside: Aside,
+        comma: &str,
+    ) -> io::Result<()> {
+        let Aside { number, reason } = aside;
+        records.go_to(number)?;
+        let line = records.line();
+        write!(
+            out,
+            "{comma}{{\"number\":{number},\"line\":{line},\"reason\":\"{reason}\",\"title\":"
+        )?;
+        self.print_quoted(out, records.field(Label::PublicationTitle))?;
+        self.print_json_values(out, records, reason)
     }
 
     fn print_json_values<O: Write>(
@@ -167,44 +203,51 @@ impl Report<'_> {
         reason: Reason,
     ) -> io::Result<()> {
         out.write_all(b",\"values\":{")?;
-        let mut is_first = true;
+        let mut comma = "";
         for label in JUDGED {
             if records.offends(label, reason) {
-                print_comma(out, is_first)?;
-                is_first = false;
-                write!(out, "\"{label}\":")?;
+                write!(out, "{comma}\"{label}\":")?;
                 self.print_quoted(out, records.field(label))?;
+                comma = ",";
             }
         }
         out.write_all(b"}}")
     }
 
-    fn print_json_broken<O: Write>(&self, out: &mut O, why: BadFile) -> io::Result<()> {
+    fn print_broken_summary<O: Write>(&self, out: &mut O, why: BadFile) -> io::Result<()> {
+        out.write_all(self.name.text())?;
+        writeln!(out, " broken {why}")
+    }
+
+    fn print_broken_explained<O: Write>(&self, out: &mut O, why: BadFile) -> io::Result<()> {
+        writeln!(out, "broken {why}")?;
+        let labels = self.labels_of(why)?;
+        print_labels(out, &labels)
+    }
+
+    fn print_broken_json<O: Write>(&self, out: &mut O, why: BadFile) -> io::Result<()> {
         self.print_json_name(out)?;
         let word = word_of(why);
         write!(out, "\"broken\":\"{word}\",\"labels\":[")?;
-        let mut is_first = true;
-        for label in &self.labels_of(why)? {
-            print_comma(out, is_first)?;
-            is_first = false;
-            write!(out, "\"{label}\"")?;
+        let labels = self.labels_of(why)?;
+        print_json_labels(out, &labels)
+    }
+
+    // Returns the labels that a bad header is about: all that it lacks, or the first that appears twice.
+    fn labels_of(&self, why: BadFile) -> Result<Vec<Label>, AllocError> {
+        match why {
+            BadFile::MissingLabel(_) => self.missing_labels(),
+            BadFile::LabelTwice(label) => Vec::from_slice(self.alloc, &[label]),
+            _ => Ok(Vec::new(self.alloc)),
         }
-        out.write_all(b"]}\n")
     }
 
-    // The labels that a bad header is about: all that it lacks, or the first that stands twice.
-    fn labels_of(&self, why: BadFile) -> io::Result<Vec<Label>> {
-        let labels = match why {
-            BadFile::MissingLabel(_) => {
-                Records::of(self.alloc, self.text)?.missing_labels(self.alloc)?
-            }
-            BadFile::LabelTwice(label) => Vec::from_slice(self.alloc, &[label])?,
-            _ => Vec::new(self.alloc),
-        };
-        Ok(labels)
+    fn missing_labels(&self) -> Result<Vec<Label>, AllocError> {
+        let records = Records::of(self.alloc, self.text)?;
+        records.missing_labels(self.alloc)
     }
 
-    // A text as a string of JSON, in which each control character is escaped.
+    // Prints a text as a JSON string, with each control character escaped.
     fn print_quoted<O: Write>(&self, out: &mut O, text: &[u8]) -> io::Result<()> {
         let text = str::from_utf8(text).unwrap_or("");
         match serde_json::to_vec(self.alloc, &text) {
@@ -214,11 +257,25 @@ impl Report<'_> {
     }
 }
 
-// For how many records each reason holds, of those that hold for some.
+fn print_lines<O: Write>(out: &mut O, count: &FileCount) -> io::Result<()> {
+    print_rows(out, count)?;
+    out.write_all(b"\n")?;
+    for Aside { number, reason } in count.aside() {
+        writeln!(out, "aside {number} {reason}")?;
+    }
+    Ok(())
+}
+
+fn print_rows<O: Write>(out: &mut O, count: &FileCount) -> io::Result<()> {
+    let rows = count.rows();
+    let aside = count.aside().len();
+    write!(out, "rows {rows} aside {aside}")
+}
+
+// Prints how many records each reason holds for, if it holds for any.
 fn print_reasons<O: Write>(out: &mut O, aside: &[Aside]) -> io::Result<()> {
     for reason in REASONS {
-        let records = aside.iter();
-        let count = records.filter(|record| record.reason == reason).count();
+        let count = count_of(aside, reason);
         if count > 0 {
             write!(out, " {reason} {count}")?;
         }
@@ -226,16 +283,30 @@ fn print_reasons<O: Write>(out: &mut O, aside: &[Aside]) -> io::Result<()> {
     Ok(())
 }
 
-// What stands between two members of a JSON array or object.
-fn print_comma<O: Write>(out: &mut O, is_first: bool) -> io::Result<()> {
-    if is_first {
-        Ok(())
-    } else {
-        out.write_all(b",")
-    }
+fn count_of(aside: &[Aside], reason: Reason) -> usize {
+    aside
+        .iter()
+        .filter(|record| record.reason == reason)
+        .count()
 }
 
-// Why a file is bad, without the label.
+fn print_labels<O: Write>(out: &mut O, labels: &[Label]) -> io::Result<()> {
+    for label in labels {
+        writeln!(out, "  {label}")?;
+    }
+    Ok(())
+}
+
+fn print_json_labels<O: Write>(out: &mut O, labels: &[Label]) -> io::Result<()> {
+    let mut comma = "";
+    for label in labels {
+        write!(out, "{comma}\"{label}\"")?;
+        comma = ",";
+    }
+    out.write_all(b"]}\n")
+}
+
+// Returns why a file is bad, without the label.
 fn word_of(why: BadFile) -> &'static str {
     match why {
         BadFile::NotUtf8 => "NotUtf8",
