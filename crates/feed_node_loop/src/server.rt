@@ -73,20 +73,20 @@ impl Server {
         settings: Settings,
     ) -> io::Result<Server> {
         let alloc = rt.alloc();
-        let poll = Poll::new(rt)?;
-        let mut listener = TcpListener::bind(rt, addr)?;
-        poll.registry()
-            .register(&mut listener, LISTENER, Interest::READABLE)?;
+        let before = Instant::now(rt)?;
+        let peers = Slab::with_capacity(alloc, settings.clients)?;
+        let buffer = Vec::from_elem(alloc, 0, READ_BYTES)?;
+        let (poll, listener) = listen(rt, addr)?;
         Ok(Server {
             alloc,
             poll,
             listener,
-            peers: Slab::with_capacity(alloc, settings.clients)?,
+            peers,
             exchange: None,
             tellings: Slab::new(alloc),
-            buffer: Vec::from_elem(alloc, 0, READ_BYTES)?,
+            buffer,
             settings,
-            before: Instant::now(rt)?,
+            before,
             waiting: false,
             pressed: false,
         })
@@ -252,7 +252,7 @@ impl Server {
         true
     }
 
-    // A peer may have sent its head before it was taken: then it needs no place.
+    // Takes in a new connection. A peer may have sent its head already: then it needs no place.
     fn admit<S: Respond, L: Log>(
         &mut self,
         stream: TcpStream,
@@ -265,12 +265,15 @@ impl Server {
         peer.advance(self.alloc, responder, &mut self.buffer);
         if peer.is_just_told() && log.keeps(&peer.connection) {
             self.keep(peer, log);
-            return;
-        }
-        if peer.settle() {
+        } else if peer.settle() {
             log.closed(peer.addr, &peer.connection);
-            return;
+        } else {
+            self.place(peer, log);
         }
+    }
+
+    // Gives a connection a place in the loop.
+    fn place<L: Log>(&mut self, mut peer: Peer, log: &mut L) {
         self.make_room(log);
         let key = self.peers.vacant_key();
         let both = Interest::READABLE | Interest::WRITABLE;
@@ -280,9 +283,7 @@ impl Server {
             .is_err()
         {
             log.closed(peer.addr, &peer.connection);
-            return;
-        }
-        if let Err(failed) = self.peers.insert(peer) {
+        } else if let Err(failed) = self.peers.insert(peer) {
             log.closed(failed.value.addr, &failed.value.connection);
         }
     }
@@ -321,4 +322,13 @@ impl Server {
             !is_over
         });
     }
+}
+
+// Makes the socket that listens on an address, and the poll that reports its connections.
+fn listen<R: Net>(rt: &R, addr: SocketAddr) -> io::Result<(Poll, TcpListener)> {
+    let poll = Poll::new(rt)?;
+    let mut listener = TcpListener::bind(rt, addr)?;
+    poll.registry()
+        .register(&mut listener, LISTENER, Interest::READABLE)?;
+    Ok((poll, listener))
 }
