@@ -37,34 +37,24 @@ pub fn read_script<P: Files>(
     }
 }
 
+// What the lines read so far say.
+#[derive(Drop)]
+struct Reading {
+    nodes: Option<usize>,
+    events: Vec<WorldEvent>,
+}
+
 fn read_lines<P: Files>(
     alloc: Global,
     script: &[u8],
     files: &mut P,
 ) -> Result<Script, ScriptFault> {
-    let mut nodes = None;
-    let mut events = Vec::new(alloc);
-    let mut rest = Some(script);
-    for before in 0..LINE_LIMIT {
-        let Some(text) = rest else {
-            break;
-        };
-        let (line, after) = split_at(text, b'\n');
-        rest = after;
-        if line.is_empty() || line.first() == Some(&b'#') {
-            continue;
-        }
-        let read = match nodes {
-            None => read_nodes(line).map(|count| nodes = Some(count)),
-            Some(_) => push_event(alloc, &mut events, line, files),
-        };
-        if let Err(fault) = read {
-            return Err(ScriptFault::at(before + 1, fault));
-        }
-    }
-    if rest.is_some_and(|text| !text.is_empty()) {
-        return Err(ScriptFault::TooLong);
-    }
+    let mut reading = Reading {
+        nodes: None,
+        events: Vec::new(alloc),
+    };
+    read_each(alloc, script, files, &mut reading)?;
+    let Reading { nodes, events } = reading;
     match nodes {
         Some(nodes) => Ok(Script { nodes, events }),
         None => {
@@ -74,14 +64,45 @@ fn read_lines<P: Files>(
     }
 }
 
-fn push_event<P: Files>(
+fn read_each<P: Files>(
     alloc: Global,
-    events: &mut Vec<WorldEvent>,
+    script: &[u8],
+    files: &mut P,
+    reading: &mut Reading,
+) -> Result<(), ScriptFault> {
+    let mut rest = Some(script);
+    for before in 0..LINE_LIMIT {
+        let Some(text) = rest else {
+            return Ok(());
+        };
+        let (line, after) = split_at(text, b'\n');
+        rest = after;
+        if let Err(fault) = read_line(alloc, line, files, reading) {
+            return Err(ScriptFault::at(before + 1, fault));
+        }
+    }
+    if rest.is_some_and(|text| !text.is_empty()) {
+        return Err(ScriptFault::TooLong);
+    }
+    Ok(())
+}
+
+// Reads a line, unless it is empty or a comment: first the number of nodes, then an event.
+fn read_line<P: Files>(
+    alloc: Global,
     line: &[u8],
     files: &mut P,
+    reading: &mut Reading,
 ) -> Result<(), LineFault> {
+    if line.is_empty() || line.first() == Some(&b'#') {
+        return Ok(());
+    }
+    if reading.nodes.is_none() {
+        reading.nodes = Some(read_nodes(line)?);
+        return Ok(());
+    }
     let event = read_event(alloc, line, files)?;
-    events.push(event)?;
+    reading.events.push(event)?;
     Ok(())
 }
 

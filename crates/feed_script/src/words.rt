@@ -5,7 +5,7 @@ use crate::faults::LineFault;
 use memchr::memchr;
 
 /// The words of a line, each separated from the next by one space.
-#[derive(Drop)]
+#[derive(Clone, Copy)]
 pub struct Words<'a> {
     pub rest: Option<&'a [u8]>,
 }
