@@ -67,6 +67,12 @@ fn put_line<O: Write>(
     addr: SocketAddr,
     connection: &Connection,
 ) -> io::Result<()> {
+    put_client(rt, out, addr)?;
+    put_exchange(out, connection)
+}
+
+// Prints the address of the client and the time.
+fn put_client<O: Write>(rt: &HostRuntime, out: &mut O, addr: SocketAddr) -> io::Result<()> {
     write!(out, "{} - - [", addr.ip())?;
     let now = SystemTime::now(rt)?;
     let seconds = match now.duration_since(UNIX_EPOCH) {
@@ -74,7 +80,12 @@ fn put_line<O: Write>(
         Err(_) => 0,
     };
     put_time(out, seconds)?;
-    out.write_all(b" +0000] \"")?;
+    out.write_all(b" +0000]")
+}
+
+// Prints the request, the status of the reply and the length of its body.
+fn put_exchange<O: Write>(out: &mut O, connection: &Connection) -> io::Result<()> {
+    out.write_all(b" \"")?;
     put_escaped(out, request_line(connection.heard()))?;
     out.write_all(b"\" ")?;
     out.write_all(status_of(connection.reply()))?;

@@ -1,4 +1,4 @@
-// The replies of a node.
+//! The replies of a node to its requests.
 use crate::desk::Desk;
 use feed_keep::Keep;
 use feed_node::Respond;
