@@ -1,4 +1,4 @@
-//! The log of a node: a common log line for each request.
+//! The access log of a node: a line in the common log format for each request.
 use crate::desk::Desk;
 use crate::resolver::is_post;
 use feed_dates::write_date;
@@ -9,7 +9,7 @@ use std::io::Write;
 use std::net::SocketAddr;
 use std::time::{SystemTime, UNIX_EPOCH};
 
-/// Prints a line for each connection that was answered. A fault of the print is kept.
+/// A log that prints a line for each connection that was answered, and keeps the first error of a print.
 #[derive(Drop)]
 pub struct AccessLog<'o, O: Write> {
     rt: &'o HostRuntime,
@@ -30,7 +30,7 @@ impl<'o, O: Write> AccessLog<'o, O> {
         }
     }
 
-    /// Prints what is not yet printed, and gives the first fault.
+    /// Flushes the output, and returns the first error.
     pub fn flushed(&mut self) -> io::Result<()> {
         if self.is_clean {
             return Ok(());
@@ -55,7 +55,7 @@ impl<'o, O: Write> Log for AccessLog<'o, O> {
         }
     }
 
-    // A POST that is not refused feeds the node.
+    // A POST that is not refused feeds the node, and its client receives the lines of the fetch.
     fn keeps(&self, connection: &Connection) -> bool {
         is_post(connection.heard()) && status_of(connection.reply()) == b"200".as_slice()
     }
@@ -92,7 +92,7 @@ fn put_exchange<O: Write>(out: &mut O, connection: &Connection) -> io::Result<()
     write!(out, " {}\n", body_of(connection.reply()).len())
 }
 
-// The name of a month by the digits of its number.
+// Returns the name of a month, by the digits of its number.
 fn month_of(tens: u8, ones: u8) -> &'static [u8] {
     match (tens, ones) {
         (b'0', b'1') => b"Jan",
@@ -110,7 +110,7 @@ fn month_of(tens: u8, ones: u8) -> &'static [u8] {
     }
 }
 
-// A day as 25/Nov/2026.
+// Prints a day as 25/Nov/2026.
 fn put_day<O: Write>(out: &mut O, date: [u8; 10]) -> io::Result<()> {
     let [a, b, c, d, _, e, f, _, g, h] = date;
     out.write_all(&[g, h, b'/'])?;
@@ -118,7 +118,7 @@ fn put_day<O: Write>(out: &mut O, date: [u8; 10]) -> io::Result<()> {
     out.write_all(&[b'/', a, b, c, d])
 }
 
-// The time of so many seconds since 1970, as 25/Nov/2026:07:45:00.
+// Prints the time, in seconds since 1970, as 25/Nov/2026:07:45:00.
 fn put_time<O: Write>(out: &mut O, seconds: u64) -> io::Result<()> {
     let day = (seconds / 86_400).min(i32::MAX as u64) as i32;
     match write_date(day) {
@@ -135,7 +135,7 @@ fn put_time<O: Write>(out: &mut O, seconds: u64) -> io::Result<()> {
     )
 }
 
-// The first line of a head.
+// Returns the first line of a head.
 fn request_line(heard: &[u8]) -> &[u8] {
     match heard
         .iter()
@@ -150,7 +150,7 @@ fn status_of(reply: &[u8]) -> &[u8] {
     reply.get(9..12).unwrap_or(b"-")
 }
 
-// What stands behind the head of a reply.
+// Returns the body of a reply.
 fn body_of(reply: &[u8]) -> &[u8] {
     let mut rest = reply;
     for _ in 0..reply.len() {
@@ -162,7 +162,7 @@ fn body_of(reply: &[u8]) -> &[u8] {
     b""
 }
 
-// Bytes that are no visible ASCII, and those that a quoted text can't have, by their numbers.
+// Prints a text for a pair of quotes: `"`, `\` and bytes that are not visible ASCII become `\xHH`.
 fn put_escaped<O: Write>(out: &mut O, text: &[u8]) -> io::Result<()> {
     for byte in text {
         if *byte == b'"' || *byte == b'\\' || *byte < 32 || *byte > 126 {

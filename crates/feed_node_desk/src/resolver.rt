@@ -6,17 +6,17 @@ use feed_releases::Feed;
 use feed_resolver::{Feeder, fetch_asked, respond_as_node};
 use std::alloc::{AllocError, Global};
 
-/// Whether bytes begin with the head of a POST, as it may seem.
+/// Returns whether bytes look like the head of a POST.
 pub fn is_post(bytes: &[u8]) -> bool {
     bytes.trim_ascii_start().starts_with(b"POST ")
 }
 
-/// The replies of a node over its feed.
+/// A responder that replies from a feed.
 #[derive(Drop)]
 pub struct Resolver<'a, K: Keep + Drop> {
     pub feed: &'a Feed<K>,
     pub token: Option<&'a [u8]>,
-    /// A release is being fetched.
+    /// Whether a release is being fetched.
     pub is_busy: bool,
     pub desk: &'a Desk,
 }
@@ -36,7 +36,7 @@ impl<'a, K: Keep + Drop> Respond for Resolver<'a, K> {
             token: self.token,
             is_busy: self.is_busy,
         };
-        // Of two that ask in one turn the second has to come again.
+        // The second of two requests that arrive in the same poll has to come again.
         if !self.is_busy
             && let Some(token) = self.token
             && is_post(bytes)

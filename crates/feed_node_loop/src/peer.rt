@@ -1,5 +1,4 @@
-//! A connection with its socket.
-
+//! A client's connection with its socket.
 use feed_node::{Connection, Respond, Wants};
 use mio::net::TcpStream;
 use std::alloc::Global;
@@ -10,7 +9,7 @@ pub struct Peer {
     pub stream: TcpStream,
     pub addr: SocketAddr,
     pub connection: Connection,
-    /// The side that is written to was ended.
+    /// Whether the writing side of the socket was shut down.
     is_ended: bool,
 }
 
@@ -24,7 +23,7 @@ impl Peer {
         }
     }
 
-    /// Goes on until the socket would make it wait, or there is nothing left to do: then it is over.
+    /// Continues until the socket would block or the connection is over.
     pub fn advance<S: Respond>(&mut self, alloc: Global, responder: &S, buffer: &mut [u8]) {
         feed_node::advance(
             &mut self.connection,
@@ -36,12 +35,12 @@ impl Peer {
         );
     }
 
-    /// Whether the reply went whole just now.
+    /// Returns whether the reply has just been sent whole.
     pub fn is_just_told(&self) -> bool {
         self.connection.is_told() && !self.is_ended
     }
 
-    /// Ends the side that is written to, where the reply went. The answer is whether it is over.
+    /// Shuts down the writing side once the reply is sent. Returns whether the connection is over.
     pub fn settle(&mut self) -> bool {
         if self.connection.is_lingering() && !self.is_ended {
             self.is_ended = true;
@@ -50,7 +49,7 @@ impl Peer {
         self.is_over()
     }
 
-    /// So many milliseconds passed. The answer is whether it is over.
+    /// Takes milliseconds off the connection's time. Returns whether the connection is over.
     pub fn passed(&mut self, millis: u64) -> bool {
         self.connection.passed(millis);
         self.is_over()

@@ -1,4 +1,4 @@
-//! The loop over the sockets.
+//! The server: the poll, the listener, the connections of clients and the exchange with another server.
 ghost use Rattle.std.specs.Prelude.{◌<◌};
 
 use crate::exchange::{Asking, Exchange};
@@ -21,15 +21,16 @@ const EXCHANGE: Token = Token(usize::MAX - 1);
 
 const TELLING: Token = Token(usize::MAX - 2);
 
-// The most milliseconds that a turn waits.
+// The most milliseconds that a turn blocks.
 const TICK: u64 = 250;
 
-// The most events of a turn, and the most connections that are taken in one.
+// The most events of a turn, and the most connections that one turn accepts.
 const EVENTS: usize = 1_024;
 
-// The bytes that are read at once.
+// The most bytes of one read.
 const READ_BYTES: usize = 16_384;
 
+/// The limits of a server.
 #[derive(Clone, Copy)]
 pub struct Settings {
     /// The most connections at a time.
@@ -39,15 +40,16 @@ pub struct Settings {
     ghost timed: { 0 < limit },
 }
 
-/// What hears of each connection that is over.
+/// A log of the connections.
 pub trait Log {
-    /// A connection of this address is closed, or its peer is told more from now on.
+    /// Called when a connection closes, or when its client is kept (`keeps`).
     fn closed(&mut self, addr: SocketAddr, connection: &Connection);
 
-    /// Whether the peer of a connection whose reply went is to be told more (`Server::tell`).
+    /// Returns whether a client whose reply was sent is kept, to receive more (`Server::tell`).
     fn keeps(&self, connection: &Connection) -> bool;
 }
 
+/// A server over its sockets, which `turn` advances.
 #[derive(Drop)]
 pub struct Server {
     alloc: Global,
@@ -59,9 +61,9 @@ pub struct Server {
     buffer: Vec<u8>,
     settings: Settings,
     before: Instant,
-    /// Connections may wait to be taken, of which no event will tell.
+    /// Whether connections may wait to be accepted that no event will report.
     waiting: bool,
-    /// The last turn took as many connections as it may.
+    /// Whether the last turn used all of its share, so that the next one does not block.
     pressed: bool,
 }
 
@@ -92,17 +94,17 @@ impl Server {
         })
     }
 
-    /// The address that it listens on.
+    /// Returns the address that the server listens on.
     pub fn addr(&self) -> io::Result<SocketAddr> {
         self.listener.local_addr()
     }
 
-    /// Room for what a turn is told.
+    /// Returns a buffer for the events of a turn.
     pub fn events(&self) -> io::Result<Events> {
         Ok(Events::with_capacity(self.alloc, EVENTS)?)
     }
 
-    /// Begins an exchange with another server, in the place of one that is under way.
+    /// Begins an exchange with another server. It replaces one that is under way.
     pub fn ask<R: Net + AllocGlobal>(
         &mut self,
         rt: &R,
@@ -118,7 +120,7 @@ impl Server {
         Ok(())
     }
 
-    /// The exchange that is over, once.
+    /// Takes the exchange, if it is over.
     pub fn answered(&mut self) -> Option<Exchange> {
         let exchange = self.exchange.take()?;
         if exchange.is_over() {
@@ -128,7 +130,7 @@ impl Server {
         None
     }
 
-    /// Tells the peers that were kept, until what they are told ends.
+    /// Sends a text to the clients that were kept.
     pub fn tell(&mut self, text: &[u8]) {
         self.tellings.retain(|_, telling| {
             telling.tell(text);
@@ -137,7 +139,7 @@ impl Server {
         self.advance_tellings();
     }
 
-    /// Nothing more is told to the peers that were kept.
+    /// Ends the replies to the clients that were kept.
     pub fn end_telling(&mut self) {
         self.tellings.retain(|_, telling| {
             telling.end();
@@ -154,7 +156,7 @@ impl Server {
         });
     }
 
-    /// Waits a little for the sockets; does what they are ready for; and closes what is over.
+    /// Waits at most 250 ms for the sockets, does what they are ready for, and closes the connections that are over.
     pub fn turn<S: Respond, L: Log>(
         &mut self,
         rt: &impl Clock,
@@ -204,7 +206,7 @@ impl Server {
         }
     }
 
-    // Goes on with the exchange. The answer is whether it had all of its share of the turn.
+    // Advances the exchange. Returns whether it used all of its share of the turn.
     fn advance_exchange(&mut self) -> bool {
         match &mut self.exchange {
             Some(exchange) => exchange.advance(),
@@ -212,7 +214,7 @@ impl Server {
         }
     }
 
-    // A peer whose reply went is told more from now on.
+    // Keeps a client whose reply was sent, to send it more.
     fn keep<L: Log>(&mut self, peer: Peer, log: &mut L) {
         log.closed(peer.addr, &peer.connection);
         let mut stream = peer.stream;
@@ -232,8 +234,8 @@ impl Server {
         }
     }
 
-    // Takes connections until none waits, or the system refuses one, which is tried again at the next turn. A flood
-    // gets a bounded share of a turn: the answer is whether it had all of it.
+    // Accepts connections until none waits, or the system refuses one, which the next turn tries again. A flood gets a
+    // bounded share of a turn. Returns whether it used all of it.
     fn take<S: Respond, L: Log>(&mut self, responder: &S, log: &mut L) -> bool {
         for _ in 0..EVENTS {
             if !self.waiting {
@@ -252,7 +254,7 @@ impl Server {
         true
     }
 
-    // Takes in a new connection. A peer may have sent its head already: then it needs no place.
+    // Takes in a new connection. A client may have sent its head already: then it needs no place.
     fn admit<S: Respond, L: Log>(
         &mut self,
         stream: TcpStream,
@@ -288,7 +290,7 @@ impl Server {
         }
     }
 
-    // Closes the quietest connection where there is room for no other one.
+    // Closes the quietest connection to make room for another.
     fn make_room<L: Log>(&mut self, log: &mut L) {
         if self.peers.len() < self.settings.clients {
             return;

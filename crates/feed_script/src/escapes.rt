@@ -1,11 +1,15 @@
-//! The escapes of a text.
+//! The escapes in the text of a published file.
 ghost use Rattle.std.specs.Prelude.{◌<◌, length, IfOk, IfSome};
 
 use crate::faults::LineFault;
 use crate::words::split_at;
 use std::alloc::Global;
 
-/// The text with its escapes `\t`, `\n`, `\r`, `\\` and `\xHH` read.
+/// Returns a text with its escapes `\t`, `\n`, `\r`, `\\` and `\xHH` replaced by their bytes.
+///
+/// # Errors
+///
+/// Returns `BadText` if a `\` begins no escape, and `Memory` if an allocation fails.
 pub fn unescaped(alloc: Global, text: &[u8]) -> Result<Vec<u8>, LineFault> {
     let mut bytes = Vec::with_capacity(alloc, text.len())?;
     let mut rest = text;
@@ -19,7 +23,7 @@ pub fn unescaped(alloc: Global, text: &[u8]) -> Result<Vec<u8>, LineFault> {
     Ok(bytes)
 }
 
-// The byte of an escape, without its `\`, and what follows it.
+// Parses an escape without its `\`: the byte, and the text after it.
 fn read_escape(text: &[u8]) -> Result<(u8, &[u8]), LineFault>
     ensures { IfOk result (λ read. length read.1.now < length text.now) }
 {

@@ -1,4 +1,4 @@
-//! The events of a script, a line for each.
+//! The parsers of a script's lines, a function for each kind of event.
 use crate::escapes::unescaped;
 use crate::faults::LineFault;
 use crate::files::Files;
@@ -9,7 +9,7 @@ use std::alloc::Global;
 
 const LONGEST_NUMBER: usize = 20;
 
-/// Reads the first line, `nodes N`.
+/// Parses the first line, `nodes N`.
 pub fn read_nodes(line: &[u8]) -> Result<usize, LineFault> {
     let mut words = Words::of(line);
     if words.word() != Ok(b"nodes".as_slice()) {
@@ -23,7 +23,7 @@ pub fn read_nodes(line: &[u8]) -> Result<usize, LineFault> {
     }
 }
 
-/// Reads a line of an event.
+/// Parses the line of an event.
 pub fn read_event<P: Files>(
     alloc: Global,
     line: &[u8],
@@ -131,7 +131,7 @@ fn read_stopped(alloc: Global, mut words: Words<'_>) -> Result<(u64, Sent), Line
     }
 }
 
-// A slice of the file that is published under a name.
+// A slice of the file that is published under a name: `len` bytes from the place `first`.
 #[derive(Drop)]
 struct Slice {
     name: ReleaseName,
@@ -139,7 +139,7 @@ struct Slice {
     len: u64,
 }
 
-// `NAME` as the last word, after the word of a node.
+// `NAME` as the last word. The word of the node is parsed after it is there.
 fn read_name_at(
     alloc: Global,
     node: &[u8],
@@ -152,7 +152,7 @@ fn read_name_at(
     Ok((node, name))
 }
 
-// `NAME FIRST LEN` as the last words, after the word of a node.
+// `NAME FIRST LEN` as the last words. The word of the node is parsed after they are there.
 fn read_slice_at(
     alloc: Global,
     node: &[u8],

@@ -1,8 +1,8 @@
-//! What is wrong with a script.
+//! The errors of a script.
 use std::alloc::{AllocError, AllocFailed};
 use thiserror::Error;
 
-/// What is wrong with a line of a script, in the order of judging.
+/// An error in a line of a script, in the order of the checks.
 #[derive(Clone, Copy, Debug, PartialEq, Eq, Error)]
 pub enum LineFault {
     #[error("nodes expected")]
@@ -39,7 +39,7 @@ impl<T: Drop> From<AllocFailed<T>> for LineFault {
     }
 }
 
-/// Why a script was not read.
+/// An error of a script.
 #[derive(Clone, Copy, Debug, PartialEq, Eq, Error)]
 pub enum ScriptFault {
     /// More bytes or lines than a script may have.
@@ -53,7 +53,7 @@ pub enum ScriptFault {
 }
 
 impl ScriptFault {
-    // What a fault of a line is of the script.
+    // Returns the error of the script whose line has an error.
     pub(crate) fn at(line: usize, fault: LineFault) -> ScriptFault {
         match fault {
             LineFault::Memory => ScriptFault::Memory,

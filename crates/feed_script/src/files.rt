@@ -1,4 +1,4 @@
-//! The files that scripts publish by their paths.
+//! The files that a script publishes by their paths, as a trait.
 use crate::faults::LineFault;
 use std::alloc::Global;
 use std::io;
@@ -6,10 +6,14 @@ use thiserror::Error;
 
 /// The files that a script names by their paths.
 pub trait Files {
-    /// The bytes of the file at a path, at most `FILE_LIMIT` of them; else `BadFile`, or `Memory`.
+    /// Returns the bytes of the file at a path, at most `FILE_LIMIT` of them.
+    ///
+    /// # Errors
+    ///
+    /// Returns `BadFile` if the file does not open or read or is longer, and `Memory` if an allocation fails.
     fn bytes_of(&mut self, alloc: Global, path: &[u8]) -> Result<Vec<u8>, LineFault>;
 
-    /// Why the last path that was bad gave no bytes.
+    /// Returns why the last `BadFile` was returned.
     fn cause(&self) -> Option<&FileCause>;
 }
 

@@ -1,4 +1,4 @@
-//! Scripts of worlds, as `kbfeed replay` reads them: published files, and what happens to nodes, a line for each event.
+//! The scripts of `kbfeed replay`: lines of text that publish files and send events to nodes.
 #![tactic(auto)]
 
 mod escapes;

@@ -1,4 +1,4 @@
-//! Scripts of worlds: what happens, a line for each event.
+//! The parser of a whole script, within its limits of bytes and lines.
 use crate::events::{read_event, read_nodes};
 use crate::faults::{LineFault, ScriptFault};
 use crate::files::Files;
@@ -8,19 +8,23 @@ use memchr::memchr_iter;
 use std::alloc::Global;
 use std::str;
 
-/// A script has at most this many bytes.
+/// The most bytes that a script may have.
 pub const SCRIPT_LIMIT: usize = 16_777_216;
 
 const LINE_LIMIT: usize = 100_000;
 
-/// A script that was read: how many nodes there are, and what happens.
+/// A parsed script: how many nodes there are, and the events in order.
 #[derive(Drop)]
 pub struct Script {
     pub nodes: usize,
     pub events: Vec<WorldEvent>,
 }
 
-/// Reads a script of at most `SCRIPT_LIMIT` bytes and 100,000 lines.
+/// Parses a script.
+///
+/// # Errors
+///
+/// Returns `TooLong` past `SCRIPT_LIMIT` bytes or 100,000 lines, and otherwise the error of the first bad line.
 pub fn read_script<P: Files>(
     alloc: Global,
     script: &[u8],
@@ -31,13 +35,13 @@ pub fn read_script<P: Files>(
     }
     match read_lines(alloc, script, files) {
         Ok(script) => Ok(script),
-        // A script of too many lines is too long, whatever stands in the first ones.
+        // Too many lines are reported before an error in one of them.
         Err(_) if line_count(script) > LINE_LIMIT => Err(ScriptFault::TooLong),
         Err(fault) => Err(fault),
     }
 }
 
-// What the lines read so far say.
+// The contents of the lines parsed so far.
 #[derive(Drop)]
 struct Reading {
     nodes: Option<usize>,
@@ -87,7 +91,7 @@ fn read_each<P: Files>(
     Ok(())
 }
 
-// Reads a line, unless it is empty or a comment: first the number of nodes, then an event.
+// Parses a line, unless it is empty or a comment: first the number of nodes, then an event.
 fn read_line<P: Files>(
     alloc: Global,
     line: &[u8],
@@ -106,7 +110,8 @@ fn read_line<P: Files>(
     Ok(())
 }
 
-/// The beginning of a line, at most 80 bytes of it, or nothing where that is no text.
+/// Returns the first 80 bytes of a line, or the empty text if there is no such line
+/// or they are not UTF-8.
 pub fn line_shown(script: &[u8], line: usize) -> &str {
     let mut rest = script;
     for _ in 1..line {
@@ -123,7 +128,7 @@ pub fn line_shown(script: &[u8], line: usize) -> &str {
     str::from_utf8(shown).unwrap_or("")
 }
 
-// The last line counts where bytes stand after the last LF.
+// Counts the lines. Bytes after the last LF are a line too.
 fn line_count(script: &[u8]) -> usize {
     let ended = memchr_iter(b'\n', script).count();
     match script.last() {

@@ -1,4 +1,4 @@
-//! The words of a line.
+//! The words of a line, and the split at a byte.
 ghost use Rattle.std.specs.Prelude.{◌<◌, length, IfSome};
 
 use crate::faults::LineFault;
@@ -15,7 +15,11 @@ impl<'a> Words<'a> {
         Words { rest: Some(line) }
     }
 
-    /// The next word, which has to be there.
+    /// Takes the next word.
+    ///
+    /// # Errors
+    ///
+    /// Returns `WrongWords` if there is none, or it is empty.
     pub fn word(&mut self) -> Result<&'a [u8], LineFault> {
         let Some(line) = self.rest else {
             return Err(LineFault::WrongWords);
@@ -28,7 +32,7 @@ impl<'a> Words<'a> {
         Ok(word)
     }
 
-    /// No more words are there.
+    /// Returns `WrongWords` if there are more words.
     pub fn end(self) -> Result<(), LineFault> {
         match self.rest {
             None => Ok(()),
@@ -36,7 +40,7 @@ impl<'a> Words<'a> {
         }
     }
 
-    /// The rest of the line, whatever it is.
+    /// Returns the rest of the line.
     pub fn text(self) -> &'a [u8] {
         match self.rest {
             Some(rest) => rest,
@@ -45,12 +49,12 @@ impl<'a> Words<'a> {
     }
 }
 
-/// What stands before the first space, and what stands after it.
+/// Splits a line at the first space. Without one, the second part is `None`.
 pub fn split_word(line: &[u8]) -> (&[u8], Option<&[u8]>) {
     split_at(line, b' ')
 }
 
-/// What stands before the first of these bytes, and what stands after it.
+/// Splits a text at the first of a byte. Without one, the second part is `None`.
 pub fn split_at(text: &[u8], byte: u8) -> (&[u8], Option<&[u8]>)
     ensures { IfSome result.1 (λ rest. length rest.now < length text.now) }
 {
