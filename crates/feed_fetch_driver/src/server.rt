@@ -13,43 +13,43 @@ use std::io::{Cursor, ErrorKind, Read, Write};
 const STEP: usize = 64;
 
 /// How the server treats one connection.
-#[derive(Clone, Copy)]
-pub enum Turn<'a> {
+#[derive(Drop)]
+pub enum Turn {
     /// It serves these files.
-    Serves(&'a [NamedFile]),
+    Serve(Vec<NamedFile>),
     /// It serves them as if a request's line `Range: ..` were this text.
-    Reranges(&'a [NamedFile], &'a [u8]),
+    ServeAs(Vec<NamedFile>, Vec<u8>),
     /// Its reply lacks the last so many bytes.
-    Lacks(&'a [NamedFile], usize),
-    /// It replies with `HTTP/1.1 ` and this text.
-    Says(&'a [u8]),
+    Cut(Vec<NamedFile>, usize),
+    /// It replies with `HTTP/1.1 ` and these bytes.
+    Say(Vec<u8>),
     /// The read of that number fails, counted from 1.
-    FailsAtRead(&'a [NamedFile], usize),
+    FailRead(Vec<NamedFile>, usize),
     /// The write of that number fails, counted from 1.
-    FailsAtWrite(usize),
+    FailWrite(usize),
     /// There is no connection.
-    Refuses(DialFault),
+    Refuse(DialFault),
 }
 
-impl Turn<'_> {
-    fn reply(self, alloc: Global, request: &[u8]) -> io::Result<Vec<u8>> {
+impl Turn {
+    fn reply(&self, alloc: Global, request: &[u8]) -> io::Result<Vec<u8>> {
         let mut reply = Vec::new(alloc);
         match self {
-            Turn::Serves(files) | Turn::FailsAtRead(files, _) => {
+            Turn::Serve(files) | Turn::FailRead(files, _) => {
                 serve(alloc, files, request, &mut reply)?;
             }
-            Turn::Reranges(files, range) => {
+            Turn::ServeAs(files, range) => {
                 serve(alloc, files, &reranged(alloc, request, range)?, &mut reply)?;
             }
-            Turn::Lacks(files, count) => {
+            Turn::Cut(files, count) => {
                 serve(alloc, files, request, &mut reply)?;
-                reply.truncate(reply.len().saturating_sub(count));
+                reply.truncate(reply.len().saturating_sub(*count));
             }
-            Turn::Says(text) => {
+            Turn::Say(text) => {
                 reply.extend_from_slice(b"HTTP/1.1 ")?;
                 reply.extend_from_slice(text)?;
             }
-            Turn::FailsAtWrite(_) | Turn::Refuses(_) => {}
+            Turn::FailWrite(_) | Turn::Refuse(_) => {}
         }
         Ok(reply)
     }
@@ -81,7 +81,7 @@ fn reranged(alloc: Global, request: &[u8], range: &[u8]) -> io::Result<Vec<u8>> 
 #[derive(Drop)]
 pub struct Conn<'a> {
     alloc: Global,
-    turn: Turn<'a>,
+    turn: &'a Turn,
     requests: &'a RefCell<Vec<u8>>,
     request: Vec<u8>,
     reply: Cursor<Vec<u8>>,
@@ -104,8 +104,8 @@ impl Read for Conn<'_> {
 
     fn read(&mut self, buf: &mut [u8]) -> io::Result<usize> {
         self.reads = self.reads.saturating_add(1);
-        if let Turn::FailsAtRead(_, number) = self.turn
-            && number == self.reads
+        if let Turn::FailRead(_, number) = self.turn
+            && *number == self.reads
         {
             return Err(io::Error::from(ErrorKind::ConnectionReset));
         }
@@ -121,8 +121,8 @@ impl Read for Conn<'_> {
 impl Write for Conn<'_> {
     fn write(&mut self, buf: &[u8]) -> io::Result<usize> {
         self.writes = self.writes.saturating_add(1);
-        if let Turn::FailsAtWrite(number) = self.turn
-            && number == self.writes
+        if let Turn::FailWrite(number) = self.turn
+            && *number == self.writes
         {
             return Err(io::Error::from(ErrorKind::BrokenPipe));
         }
@@ -141,13 +141,13 @@ impl Write for Conn<'_> {
 #[derive(Drop)]
 pub struct Server<'a> {
     alloc: Global,
-    turns: &'a [Turn<'a>],
+    turns: &'a [Turn],
     requests: &'a RefCell<Vec<u8>>,
     before: usize,
 }
 
 impl<'a> Server<'a> {
-    pub fn new(alloc: Global, turns: &'a [Turn<'a>], requests: &'a RefCell<Vec<u8>>) -> Server<'a> {
+    pub fn new(alloc: Global, turns: &'a [Turn], requests: &'a RefCell<Vec<u8>>) -> Server<'a> {
         Server {
             alloc,
             turns,
@@ -169,10 +169,9 @@ impl<'a> Dial for Server<'a> {
         let Some(turn) = self.turns.get(self.before.min(last)) else {
             return Err(DialFault::Connect);
         };
-        let turn = *turn;
         self.before = self.before.saturating_add(1);
-        if let Turn::Refuses(fault) = turn {
-            return Err(fault);
+        if let Turn::Refuse(fault) = turn {
+            return Err(*fault);
         }
         Ok(Conn {
             alloc: self.alloc,

@@ -1,0 +1,25 @@
+//! Why a command is not run.
+use std::alloc::{AllocError, AllocFailed};
+use std::io;
+
+/// What is wrong.
+#[derive(Clone, Copy, Debug)]
+pub struct Fault(pub &'static str);
+
+impl From<AllocError> for Fault {
+    fn from(_error: AllocError) -> Fault {
+        Fault("no memory")
+    }
+}
+
+impl<T: Drop> From<AllocFailed<T>> for Fault {
+    fn from(_error: AllocFailed<T>) -> Fault {
+        Fault("no memory")
+    }
+}
+
+impl From<io::Error> for Fault {
+    fn from(_error: io::Error) -> Fault {
+        Fault("a read or a print failed")
+    }
+}

@@ -1,0 +1,403 @@
+//! Commands on fetches and their feed.
+use crate::fault::Fault;
+use crate::keeper::Keeper;
+use crate::server::{Server, Turn};
+use crate::sink::Sink;
+use feed_answer::Query;
+use feed_fetch::{DialFault, fetch_with};
+use feed_fetch_law::{fetch_from_memory, header_is_fetchable};
+use feed_http::{NamedFile, is_host};
+use feed_keep::{Keep, ListKeep, Part, Record, State};
+use feed_limits::PIECE_LIMIT;
+use feed_names::ReleaseName;
+use feed_releases::Feed;
+use std::alloc::Global;
+use std::cell::{Cell, RefCell};
+use std::io::Write;
+use std::{fs, io, mem};
+
+const JANUARY: &[u8] = b"Acme_Global_All_2024-01-01.txt";
+
+const FEBRUARY: &[u8] = b"Acme_Global_All_2024-02-01.txt";
+
+const PACKAGE: &[u8] = b"Acme_Global_All";
+
+const HOST: &[u8] = b"h";
+
+const UNKNOWN: Fault = Fault("no such command");
+
+const WORDS: Fault = Fault("the command takes other words");
+
+/// The feed, how the server treats its next connections, and what is known of the last fetch.
+#[derive(Drop)]
+pub struct Fetches {
+    feed: Feed<Keeper>,
+    turns: Vec<Turn>,
+    fails_at: usize,
+    calls: usize,
+    requests: Vec<u8>,
+}
+
+impl Fetches {
+    /// A feed over a keeper without records, and no connections.
+    pub fn new(alloc: Global) -> Result<Fetches, Fault> {
+        Ok(Fetches {
+            feed: open(alloc, Keeper::new(ListKeep::new(alloc), None))?,
+            turns: Vec::new(alloc),
+            fails_at: 0,
+            calls: 0,
+            requests: Vec::new(alloc),
+        })
+    }
+
+    /// Runs the command of a line.
+    pub fn run_command(&mut self, rt: &HostRuntime, words: &[&str]) -> Result<(), Fault> {
+        match words {
+            [] => Ok(()),
+            [command] => self.run_word(rt, command),
+            [command, rest @ ..] => self.run_words(rt, command, rest),
+        }
+    }
+
+    // Runs a command of one word.
+    fn run_word(&mut self, rt: &HostRuntime, command: &str) -> Result<(), Fault> {
+        match command {
+            "new" => self.replace(rt.alloc(), ListKeep::new(rt.alloc()), None),
+            "restart" => self.restart(rt.alloc()),
+            "mend" => self.mend(rt.alloc()),
+            "serve" => self.add_turn(Turn::Serve(Vec::new(rt.alloc()))),
+            "hang-up" => {
+                self.turns = Vec::new(rt.alloc());
+                Ok(())
+            }
+            "calls" => Ok(println!(rt; "calls {}", self.calls)?),
+            "requests" => Ok(io::writer(rt).write_all(&self.requests)?),
+            "rows" => print_rows(rt, &self.feed),
+            _ => Err(UNKNOWN),
+        }
+    }
+
+    // Runs a command of several words, of which `rest` lacks the first.
+    fn run_words(&mut self, rt: &HostRuntime, command: &str, rest: &[&str]) -> Result<(), Fault> {
+        match command {
+            "active" => self.replace(rt.alloc(), active_list(rt, rest)?, None),
+            "fail-commits" => {
+                let count = number_in(rest)?;
+                self.replace(rt.alloc(), ListKeep::new(rt.alloc()), Some(count))
+            }
+            "fetch" => self.fetch(rt, number_in(rest)?),
+            "fetch-by-law" => self.fetch_by_law(rt, rest),
+            "fail-print" => {
+                self.fails_at = number_in(rest)? as usize;
+                Ok(())
+            }
+            _ => self.add_turn(turn_of(rt, command, rest)?),
+        }
+    }
+
+    fn add_turn(&mut self, turn: Turn) -> Result<(), Fault> {
+        self.turns.push(turn)?;
+        Ok(())
+    }
+
+    fn restart(&mut self, alloc: Global) -> Result<(), Fault> {
+        let keeper = self.stop(alloc)?;
+        self.feed = open(alloc, keeper)?;
+        Ok(())
+    }
+
+    fn replace(
+        &mut self,
+        alloc: Global,
+        list: ListKeep,
+        commits_before: Option<u64>,
+    ) -> Result<(), Fault> {
+        self.feed = open(alloc, Keeper::new(list, commits_before))?;
+        Ok(())
+    }
+
+    // Stops the feed: its keeper. An empty feed takes its place.
+    fn stop(&mut self, alloc: Global) -> Result<Keeper, Fault> {
+        let empty = open(alloc, Keeper::new(ListKeep::new(alloc), None))?;
+        Ok(mem::replace(&mut self.feed, empty).restart())
+    }
+
+    fn mend(&mut self, alloc: Global) -> Result<(), Fault> {
+        let mut keeper = self.stop(alloc)?;
+        let Ok(records) = keeper.load(alloc) else {
+            return Err(Fault("the keeper does not load"));
+        };
+        self.replace(alloc, ListKeep::of(alloc, records), None)
+    }
+
+    fn fetch(&mut self, rt: &HostRuntime, piece: u64) -> Result<(), Fault> {
+        let outcome = fetch_outcome(
+            rt.alloc(),
+            &self.turns,
+            &mut self.feed,
+            piece,
+            self.fails_at,
+        )?;
+        self.calls = outcome.calls;
+        print_outcome(rt, &outcome)?;
+        self.requests = outcome.requests;
+        Ok(())
+    }
+
+    fn fetch_by_law(&mut self, rt: &HostRuntime, words: &[&str]) -> Result<(), Fault> {
+        header_is_fetchable();
+        let [piece, files @ ..] = words else {
+            return Err(WORDS);
+        };
+        let piece = number_of(piece)?;
+        let files = files_of(rt, files)?;
+        let outcome = law_outcome(rt.alloc(), &files, &mut self.feed, piece)?;
+        print_outcome(rt, &outcome)
+    }
+}
+
+// What comes of a fetch.
+#[derive(Drop)]
+struct Outcome {
+    printed: Vec<u8>,
+    faults: Vec<u8>,
+    status: u8,
+    calls: usize,
+    requests: Vec<u8>,
+}
+
+fn fetch_outcome(
+    alloc: Global,
+    turns: &[Turn],
+    feed: &mut Feed<Keeper>,
+    piece: u64,
+    fails_at: usize,
+) -> Result<Outcome, Fault> {
+    let name = name_of(alloc, JANUARY)?;
+    if !is_host(HOST) || piece < 1 || piece > PIECE_LIMIT as u64 {
+        return Err(Fault("a piece has 1 to 1048576 bytes"));
+    }
+    let requests = RefCell::new(Vec::new(alloc));
+    let calls = Cell::new(0);
+    let mut out = Sink::new(alloc, &calls, fails_at);
+    let mut faults = Sink::new(alloc, &calls, fails_at);
+    let mut server = Server::new(alloc, turns, &requests);
+    let status = fetch_with(
+        alloc,
+        &mut server,
+        feed,
+        HOST,
+        &name,
+        piece,
+        &mut out,
+        &mut faults,
+    );
+    drop(server);
+    Ok(Outcome {
+        printed: out.text,
+        faults: faults.text,
+        status,
+        calls: calls.get(),
+        requests: requests.into_inner(),
+    })
+}
+
+fn law_outcome(
+    alloc: Global,
+    files: &[NamedFile],
+    feed: &mut Feed<Keeper>,
+    piece: u64,
+) -> Result<Outcome, Fault> {
+    let name = name_of(alloc, JANUARY)?;
+    if !is_host(HOST) || piece < 1 || piece > PIECE_LIMIT as u64 {
+        return Err(Fault("a piece has 1 to 1048576 bytes"));
+    }
+    let mut printed = Vec::new(alloc);
+    let mut faults = Vec::new(alloc);
+    let status = fetch_from_memory(
+        alloc,
+        files,
+        feed,
+        HOST,
+        &name,
+        piece,
+        &mut printed,
+        &mut faults,
+    );
+    Ok(Outcome {
+        printed,
+        faults,
+        status,
+        calls: 0,
+        requests: Vec::new(alloc),
+    })
+}
+
+fn print_outcome(rt: &HostRuntime, outcome: &Outcome) -> Result<(), Fault> {
+    print_lines(rt, &outcome.printed)?;
+    if !outcome.faults.is_empty() {
+        print!(rt; "fault ")?;
+        print_lines(rt, &outcome.faults)?;
+    }
+    Ok(println!(rt; "status {}", outcome.status)?)
+}
+
+// Prints lines. One that is cut off ends in `...`.
+fn print_lines(rt: &HostRuntime, lines: &[u8]) -> Result<(), Fault> {
+    let mut out = io::writer(rt);
+    out.write_all(lines)?;
+    match lines.last() {
+        None | Some(b'\n') => Ok(()),
+        Some(_) => Ok(out.write_all(b"...\n")?),
+    }
+}
+
+fn print_rows(rt: &HostRuntime, feed: &Feed<Keeper>) -> Result<(), Fault> {
+    let Ok(query) = Query::read(rt.alloc(), b"rft.issn=2434561x") else {
+        return Err(Fault("no memory"));
+    };
+    let Some(name) = feed.report(PACKAGE) else {
+        return Ok(println!(rt; "none")?);
+    };
+    let Ok(answer) = feed.answer(PACKAGE, &query) else {
+        return Err(Fault("no memory"));
+    };
+    match answer.write(&mut io::writer(rt), name) {
+        Ok(()) => Ok(()),
+        Err(_) => Err(Fault("a print failed")),
+    }
+}
+
+fn open(alloc: Global, keeper: Keeper) -> Result<Feed<Keeper>, Fault> {
+    match Feed::open(alloc, keeper) {
+        Ok(feed) => Ok(feed),
+        Err(_) => Err(Fault("the feed does not open")),
+    }
+}
+
+// A keeper of one record: the active release of February with this file.
+fn active_list(rt: &HostRuntime, words: &[&str]) -> Result<ListKeep, Fault> {
+    let bytes = file_in(rt, words)?;
+    let size = bytes.len() as u64;
+    let mut parts = Vec::new(rt.alloc());
+    parts.push(Part { first: 0, bytes })?;
+    let record = Record {
+        name: name_of(rt.alloc(), FEBRUARY)?,
+        size,
+        state: State::Active,
+        reason: None,
+        parts,
+    };
+    let mut records = Vec::new(rt.alloc());
+    records.push(record)?;
+    Ok(ListKeep::of(rt.alloc(), records))
+}
+
+// How the server treats a connection.
+fn turn_of(rt: &HostRuntime, command: &str, words: &[&str]) -> Result<Turn, Fault> {
+    match command {
+        "serve" => Ok(Turn::Serve(files_of(rt, words)?)),
+        "serve-as" => served_as(rt, words),
+        "cut" => {
+            let (files, count) = counted_files(rt, words)?;
+            Ok(Turn::Cut(files, count))
+        }
+        "say" => Ok(Turn::Say(file_in(rt, words)?)),
+        "fail-read" => {
+            let (files, number) = counted_files(rt, words)?;
+            Ok(Turn::FailRead(files, number))
+        }
+        "fail-write" => Ok(Turn::FailWrite(number_in(words)? as usize)),
+        "refuse" => Ok(Turn::Refuse(refusal_in(words)?)),
+        _ => Err(UNKNOWN),
+    }
+}
+
+// `FILE` or `FILE RANGE`
+fn served_as(rt: &HostRuntime, words: &[&str]) -> Result<Turn, Fault> {
+    let [file, range @ ..] = words else {
+        return Err(WORDS);
+    };
+    let line = range_line(rt.alloc(), range)?;
+    Ok(Turn::ServeAs(files_of(rt, &[*file])?, line))
+}
+
+// `FILE N`
+fn counted_files(rt: &HostRuntime, words: &[&str]) -> Result<(Vec<NamedFile>, usize), Fault> {
+    let [file, number] = words else {
+        return Err(WORDS);
+    };
+    let number = number_of(number)? as usize;
+    Ok((files_of(rt, &[*file])?, number))
+}
+
+fn refusal_in(words: &[&str]) -> Result<DialFault, Fault> {
+    match words {
+        ["Connect"] => Ok(DialFault::Connect),
+        ["Memory"] => Ok(DialFault::Memory),
+        _ => Err(WORDS),
+    }
+}
+
+// The field of a range, or nothing.
+fn range_line(alloc: Global, words: &[&str]) -> Result<Vec<u8>, Fault> {
+    let mut line = Vec::new(alloc);
+    match words {
+        [] => {}
+        [range] => write!(line, "Range: {range}\r\n")?,
+        _ => return Err(WORDS),
+    }
+    Ok(line)
+}
+
+// The release of January with the file that the words name, if they name one.
+fn files_of(rt: &HostRuntime, words: &[&str]) -> Result<Vec<NamedFile>, Fault> {
+    let mut files = Vec::new(rt.alloc());
+    match words {
+        [] => {}
+        [file] => {
+            let name = name_of(rt.alloc(), JANUARY)?;
+            let bytes = file_of(rt, file)?;
+            files.push(NamedFile { name, bytes })?;
+        }
+        _ => return Err(WORDS),
+    }
+    Ok(files)
+}
+
+fn file_of(rt: &HostRuntime, path: &str) -> Result<Vec<u8>, Fault> {
+    match fs::read(rt, path) {
+        Ok(bytes) => Ok(bytes),
+        Err(_) => Err(Fault("a file is not readable")),
+    }
+}
+
+// The file that the one word names.
+fn file_in(rt: &HostRuntime, words: &[&str]) -> Result<Vec<u8>, Fault> {
+    match words {
+        [path] => file_of(rt, path),
+        _ => Err(WORDS),
+    }
+}
+
+// The number that the one word is.
+fn number_in(words: &[&str]) -> Result<u64, Fault> {
+    match words {
+        [word] => number_of(word),
+        _ => Err(WORDS),
+    }
+}
+
+fn number_of(word: &str) -> Result<u64, Fault> {
+    match word.parse::<u64>() {
+        Ok(number) => Ok(number),
+        Err(_) => Err(Fault("a number is wrong")),
+    }
+}
+
+fn name_of(alloc: Global, text: &[u8]) -> Result<ReleaseName, Fault> {
+    match ReleaseName::parse(alloc, text) {
+        Ok(name) => Ok(name),
+        Err(_) => Err(Fault("a name is wrong")),
+    }
+}

@@ -1,0 +1,39 @@
+//! A writer into memory that may fail.
+use std::alloc::Global;
+use std::cell::Cell;
+use std::io;
+use std::io::{ErrorKind, Write};
+
+/// Keeps what is written, and fails at the write or flush of that number, counted from 1 over all that share the count.
+#[derive(Drop)]
+pub struct Sink<'a> {
+    pub text: Vec<u8>,
+    calls: &'a Cell<usize>,
+    fails_at: usize,
+}
+
+impl<'a> Sink<'a> {
+    pub fn new(alloc: Global, calls: &'a Cell<usize>, fails_at: usize) -> Sink<'a> {
+        Sink {
+            text: Vec::new(alloc),
+            calls,
+            fails_at,
+        }
+    }
+}
+
+impl Write for Sink<'_> {
+    fn write(&mut self, buf: &[u8]) -> io::Result<usize> {
+        self.flush()?;
+        self.text.extend_from_slice(buf)?;
+        Ok(buf.len())
+    }
+
+    fn flush(&mut self) -> io::Result<()> {
+        self.calls.set(self.calls.get().saturating_add(1));
+        if self.calls.get() == self.fails_at {
+            return Err(io::Error::from(ErrorKind::BrokenPipe));
+        }
+        Ok(())
+    }
+}
