@@ -1,14 +1,15 @@
 //! Commands on a feed and its keeper.
 use crate::fault::Fault;
 use crate::keeper::Keeper;
+use crate::printing::{list_parts, print_bytes, print_count, print_flag, print_reason, print_word};
 use crate::words::{Piece, name_of, number_of, parts_of, piece_of, state_of};
 use feed_answer::Query;
-use feed_keep::{Keep, ListKeep, Part, Record, bad_of};
+use feed_keep::{Keep, KeepFault, ListKeep, Part, Record, bad_of};
 use feed_names::ReleaseName;
 use feed_releases::{Event, Feed, OpenFault, Point, Refusal, Reply};
 use std::alloc::Global;
-use std::io;
 use std::io::Write;
+use std::{io, mem};
 
 /// The feed or its keeper, and what the commands listed for them.
 #[derive(Drop)]
@@ -47,6 +48,10 @@ const CLOSED: Fault = Fault("no feed is open");
 
 const OPEN: Fault = Fault("a feed is open");
 
+const UNKNOWN: Fault = Fault("no such command");
+
+const WORDS: Fault = Fault("the command takes other words");
+
 impl Feeds {
     /// A keeper without records, and no feed.
     pub fn new(alloc: Global) -> Feeds {
@@ -63,48 +68,68 @@ impl Feeds {
     pub fn run_command(&mut self, rt: &HostRuntime, words: &[&str]) -> Result<(), Fault> {
         match words {
             [] => Ok(()),
-            ["record", name, size, state, parts @ ..] => {
-                self.record(rt, (name, size, state), parts)
-            }
-            ["split"] => self.split(rt.alloc()),
-            ["bad"] => self.print_bad(rt),
-            ["keep"] => self.keep(rt.alloc()),
-            ["open"] => self.open(rt),
-            ["close"] => {
-                self.close();
-                Ok(())
-            }
-            ["retry"] => {
-                self.retries = true;
-                Ok(())
-            }
-            ["queue", event @ ..] => self.queue(rt, event),
-            ["run"] => self.run_queue(rt),
-            ["stop-before", event @ ..] => self.stop(rt, Point::Before, event),
-            ["stop-after", event @ ..] => self.stop(rt, Point::After, event),
-            ["offer" | "piece" | "lost", ..] => self.submit(rt, words),
-            [
-                "records" | "failures" | "fail-load" | "fail-commit" | "fail-commits",
-                ..
-            ] => {
-                match &mut self.keeper {
-                    Some(keeper) => ask_keeper(rt, keeper, words),
-                    None => Err(OPEN),
-                }
-            }
-            _ => match &self.feed {
-                Some(feed) => ask_feed(rt, feed, words),
-                None => Err(Fault("no such command while no feed is open")),
-            },
+            [command] => self.run_word(rt, command),
+            [command, rest @ ..] => self.run_words(rt, command, rest, words),
         }
     }
 
-    fn record(
+    // Runs a command of one word.
+    fn run_word(&mut self, rt: &HostRuntime, command: &str) -> Result<(), Fault> {
+        match command {
+            "split" => self.split(rt.alloc()),
+            "bad" => self.print_bad(rt),
+            "keep" => self.keep(rt.alloc()),
+            "records" => self.print_records(rt),
+            "failures" => self.print_failures(rt),
+            "open" => self.open(rt),
+            "close" => {
+                self.close();
+                Ok(())
+            }
+            "retry" => {
+                self.retries = true;
+                Ok(())
+            }
+            "run" => self.run_queue(rt),
+            "is-empty" => print_flag(rt, self.open_feed()?.is_empty()),
+            _ => Err(UNKNOWN),
+        }
+    }
+
+    // Runs a command of several words, of which `rest` lacks the first.
+    fn run_words(
         &mut self,
         rt: &HostRuntime,
-        (name, size, state): (&str, &str, &str),
-        parts: &[&str],
+        command: &str,
+        rest: &[&str],
+        words: &[&str],
     ) -> Result<(), Fault> {
+        match command {
+            "record" => self.record(rt, rest),
+            "fail-load" | "fail-commit" | "fail-commits" => self.fail(words),
+            "offer" | "piece" | "lost" => self.submit(rt, words),
+            "queue" => self.queue(rt, rest),
+            "stop-before" => self.stop(rt, Point::Before, rest),
+            "stop-after" => self.stop(rt, Point::After, rest),
+            "next" => print_next(rt, self.open_feed()?, rest),
+            "reason" => print_reason_of(rt, self.open_feed()?, rest),
+            "report" => print_report(rt, self.open_feed()?, rest),
+            "answer" => print_rows(rt, self.open_feed()?, rest),
+            _ => Err(UNKNOWN),
+        }
+    }
+
+    fn open_feed(&self) -> Result<&Feed<Keeper>, Fault> {
+        match &self.feed {
+            Some(feed) => Ok(feed),
+            None => Err(CLOSED),
+        }
+    }
+
+    fn record(&mut self, rt: &HostRuntime, words: &[&str]) -> Result<(), Fault> {
+        let [name, size, state, parts @ ..] = words else {
+            return Err(WORDS);
+        };
         let size = number_of(size)?;
         let (state, reason) = state_of(state)?;
         let name = name_of(rt.alloc(), name)?;
@@ -128,10 +153,7 @@ impl Feeds {
 
     fn print_bad(&mut self, rt: &HostRuntime) -> Result<(), Fault> {
         for record in &self.records {
-            match bad_of(rt.alloc(), record)? {
-                Some(why) => println!(rt; "{why}")?,
-                None => println!(rt; "none")?,
-            }
+            print_reason(rt, bad_of(rt.alloc(), record)?)?;
         }
         self.records = Vec::new(rt.alloc());
         Ok(())
@@ -141,8 +163,41 @@ impl Feeds {
         if self.feed.is_some() {
             return Err(OPEN);
         }
-        let records = std::mem::replace(&mut self.records, Vec::new(alloc));
+        let records = mem::replace(&mut self.records, Vec::new(alloc));
         self.keeper = Some(Keeper::over(ListKeep::of(alloc, records)));
+        Ok(())
+    }
+
+    fn print_records(&mut self, rt: &HostRuntime) -> Result<(), Fault> {
+        match &mut self.keeper {
+            Some(keeper) => match keeper.load(rt.alloc()) {
+                Ok(records) => print_listed(rt, &records),
+                Err(cause) => print_refused(rt, cause),
+            },
+            None => Err(OPEN),
+        }
+    }
+
+    fn print_failures(&self, rt: &HostRuntime) -> Result<(), Fault> {
+        match &self.keeper {
+            Some(keeper) => print_count(rt, "failures", keeper.failures()),
+            None => Err(OPEN),
+        }
+    }
+
+    fn fail(&mut self, words: &[&str]) -> Result<(), Fault> {
+        let [command, count] = words else {
+            return Err(WORDS);
+        };
+        let count = number_of(count)?;
+        let Some(keeper) = &mut self.keeper else {
+            return Err(OPEN);
+        };
+        match *command {
+            "fail-load" => keeper.fail_load(count),
+            "fail-commit" => keeper.fail_commits(count, 1),
+            _ => keeper.fail_commits(count, u64::MAX),
+        }
         Ok(())
     }
 
@@ -153,14 +208,13 @@ impl Feeds {
         match Feed::open(rt.alloc(), keeper) {
             Ok(feed) => {
                 self.feed = Some(feed);
-                println!(rt; "opened")?;
+                print_word(rt, "opened")
             }
             Err(OpenFault { cause, keeper }) => {
                 self.keeper = Some(keeper);
-                println!(rt; "refused {cause}")?;
+                print_refused(rt, cause)
             }
         }
-        Ok(())
     }
 
     fn close(&mut self) {
@@ -180,16 +234,10 @@ impl Feeds {
 
     fn submit(&mut self, rt: &HostRuntime, words: &[&str]) -> Result<(), Fault> {
         let sent = sent_of(rt, words)?;
-        let Some(feed) = &mut self.feed else {
-            return Err(CLOSED);
-        };
-        let answer = feed.handle(&sent.event());
-        print_answer(rt, answer)?;
-        if self.retries && answer == Err(Refusal::Device) {
-            let answer = feed.handle(&sent.event());
-            print_answer(rt, answer)?;
+        match &mut self.feed {
+            Some(feed) => submit_to(rt, feed, &sent.event(), self.retries),
+            None => Err(CLOSED),
         }
-        Ok(())
     }
 
     fn queue(&mut self, rt: &HostRuntime, words: &[&str]) -> Result<(), Fault> {
@@ -263,109 +311,105 @@ fn sent_of(rt: &HostRuntime, words: &[&str]) -> Result<Sent, Fault> {
             let name = name_of(rt.alloc(), name)?;
             Ok(Sent::Lost { name })
         }
-        _ => Err(Fault("no such event")),
+        _ => Err(Fault("an event is offer NAME SIZE, piece NAME PART or lost NAME")),
     }
+}
+
+// Submits an event, and once more if the device failed and it is retried.
+fn submit_to(
+    rt: &HostRuntime,
+    feed: &mut Feed<Keeper>,
+    event: &Event<'_>,
+    retries: bool,
+) -> Result<(), Fault> {
+    let answer = feed.handle(event);
+    print_answer(rt, answer)?;
+    if retries && answer == Err(Refusal::Device) {
+        return print_answer(rt, feed.handle(event));
+    }
+    Ok(())
 }
 
 fn print_answer(rt: &HostRuntime, answer: Result<Reply, Refusal>) -> Result<(), Fault> {
     match answer {
-        Ok(reply) => println!(rt; "{reply}")?,
-        Err(refusal) => println!(rt; "refused {refusal}")?,
+        Ok(reply) => Ok(println!(rt; "{reply}")?),
+        Err(refusal) => Ok(println!(rt; "refused {refusal}")?),
     }
-    Ok(())
 }
 
-fn ask_keeper(rt: &HostRuntime, keeper: &mut Keeper, words: &[&str]) -> Result<(), Fault> {
-    match words {
-        ["records"] => print_records(rt, keeper)?,
-        ["failures"] => println!(rt; "failures {}", keeper.failures())?,
-        ["fail-load", count] => keeper.fail_load(number_of(count)?),
-        ["fail-commit", count] => keeper.fail_commits(number_of(count)?, 1),
-        ["fail-commits", count] => keeper.fail_commits(number_of(count)?, u64::MAX),
-        _ => return Err(Fault("no such command of a keeper")),
-    }
-    Ok(())
+fn print_refused(rt: &HostRuntime, cause: KeepFault) -> Result<(), Fault> {
+    Ok(println!(rt; "refused {cause}")?)
 }
 
-fn print_records(rt: &HostRuntime, keeper: &mut Keeper) -> Result<(), Fault> {
-    match keeper.load(rt.alloc()) {
-        Ok(records) => {
-            for record in &records {
-                print_record(rt, record)?;
-            }
-        }
-        Err(cause) => println!(rt; "refused {cause}")?,
+// Prints records, as `X_2024-01-01.txt 10 Staged 0:01 4:45` and `X_2024-01-01.txt 0 Broken (NoHeader)`.
+fn print_listed(rt: &HostRuntime, records: &[Record]) -> Result<(), Fault> {
+    let mut text = Vec::new(rt.alloc());
+    for record in records {
+        list_record(&mut text, record)?;
     }
-    Ok(())
+    print_bytes(rt, &text)
 }
 
-// Prints a record, as `X_2024-01-01.txt 10 Staged 0:01 4:45` and `X_2024-01-01.txt 0 Broken (NoHeader)`.
-fn print_record(rt: &HostRuntime, record: &Record) -> Result<(), Fault> {
-    let mut out = io::writer(rt);
-    out.write_all(record.name.text())?;
-    write!(out, " {} {:?}", record.size, record.state)?;
+fn list_record(text: &mut Vec<u8>, record: &Record) -> Result<(), Fault> {
+    text.extend_from_slice(record.name.text())?;
+    write!(text, " {} {:?}", record.size, record.state)?;
     if let Some(why) = record.reason {
-        write!(out, " ({why})")?;
+        write!(text, " ({why})")?;
     }
-    for part in &record.parts {
-        write!(out, " {}:", part.first)?;
-        out.write_all(&part.bytes)?;
-    }
-    Ok(out.write_all(b"\n")?)
+    list_parts(text, &record.parts)?;
+    Ok(text.push(b'\n')?)
 }
 
-fn ask_feed(rt: &HostRuntime, feed: &Feed<Keeper>, words: &[&str]) -> Result<(), Fault> {
-    match words {
-        ["next", name, max] => {
-            let max = number_of(max)?;
-            let name = name_of(rt.alloc(), name)?;
-            match feed.next_range(&name, max) {
-                Some((first, last)) => println!(rt; "missing {first}-{last}")?,
-                None => println!(rt; "none")?,
-            }
-        }
-        ["reason", name] => {
-            let name = name_of(rt.alloc(), name)?;
-            match feed.reason(&name) {
-                Some(why) => println!(rt; "{why}")?,
-                None => println!(rt; "none")?,
-            }
-        }
-        ["report", package] => match feed.report(package.as_bytes()) {
-            Some(name) => print_active(rt, name)?,
-            None => println!(rt; "none")?,
-        },
-        ["answer", package, query] => print_rows(rt, feed, package, query)?,
-        ["is-empty"] => println!(rt; "{}", feed.is_empty())?,
-        _ => return Err(Fault("no such command of a feed")),
+// `NAME MAX`
+fn print_next(rt: &HostRuntime, feed: &Feed<Keeper>, words: &[&str]) -> Result<(), Fault> {
+    let [name, max] = words else {
+        return Err(WORDS);
+    };
+    let max = number_of(max)?;
+    let name = name_of(rt.alloc(), name)?;
+    match feed.next_range(&name, max) {
+        Some((first, last)) => Ok(println!(rt; "missing {first}-{last}")?),
+        None => print_word(rt, "none"),
     }
-    Ok(())
 }
 
-fn print_active(rt: &HostRuntime, name: &ReleaseName) -> Result<(), Fault> {
-    let mut out = io::writer(rt);
-    out.write_all(b"active ")?;
-    out.write_all(name.text())?;
-    Ok(out.write_all(b"\n")?)
+// `NAME`
+fn print_reason_of(rt: &HostRuntime, feed: &Feed<Keeper>, words: &[&str]) -> Result<(), Fault> {
+    let [name] = words else {
+        return Err(WORDS);
+    };
+    let name = name_of(rt.alloc(), name)?;
+    print_reason(rt, feed.reason(&name))
 }
 
-fn print_rows(
-    rt: &HostRuntime,
-    feed: &Feed<Keeper>,
-    package: &str,
-    query: &str,
-) -> Result<(), Fault> {
+// `PACKAGE`
+fn print_report(rt: &HostRuntime, feed: &Feed<Keeper>, words: &[&str]) -> Result<(), Fault> {
+    let [package] = words else {
+        return Err(WORDS);
+    };
+    let Some(name) = feed.report(package.as_bytes()) else {
+        return print_word(rt, "none");
+    };
+    print!(rt; "active ")?;
+    print_bytes(rt, name.text())?;
+    print_word(rt, "")
+}
+
+// `PACKAGE QUERY`
+fn print_rows(rt: &HostRuntime, feed: &Feed<Keeper>, words: &[&str]) -> Result<(), Fault> {
+    let [package, query] = words else {
+        return Err(WORDS);
+    };
     let Ok(query) = Query::read(rt.alloc(), query.as_bytes()) else {
         return Err(Fault("a query is wrong"));
     };
     let Some(name) = feed.report(package.as_bytes()) else {
-        return Ok(println!(rt; "none")?);
+        return print_word(rt, "none");
     };
     let Ok(answer) = feed.answer(package.as_bytes(), &query) else {
         return Err(Fault("no memory"));
     };
-    let mut out = io::writer(rt);
-    match answer.write(&mut out, name) {
+    match answer.write(&mut io::writer(rt), name) {
         Ok(()) => Ok(()),
         Err(_) => Err(Fault("a print failed")),
     }

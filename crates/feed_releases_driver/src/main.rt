@@ -6,9 +6,9 @@
 //! A line has one command, its words separated by spaces; an empty line has none. A line that is no command ends the
 //! program with status 2, after the number of the line and what is wrong on standard error.
 //!
-//! BYTES is a text, `@FILE` for the bytes of a file, or `@FILE,FROM,COUNT` for at most COUNT of them from the place FROM
-//! on. A PART is `FIRST:BYTES`, and in an event also `FIRST/TOTAL:BYTES`. A STATE is `Staged`, `Active` or `Broken`, with
-//! a reason as in `Broken:NoHeader` or `Broken:MissingLabel:title_url`.
+//! BYTES is a text, `@FILE` for the bytes of a file, or `@FILE,FROM,COUNT` for at most COUNT of them from the place
+//! FROM on. A PART is `FIRST:BYTES`, and in an event also `FIRST/TOTAL:BYTES`. A STATE is `Staged`, `Active` or
+//! `Broken`, with a reason as in `Broken:NoHeader` or `Broken:MissingLabel:title_url`.
 //!
 //! Commands that make a keeper:
 //!
@@ -48,7 +48,7 @@
 //!     parts PART..         replaces them, or prints that these parts are no segments
 //!     piece PART           keeps what is new in a piece
 //!     new PART             prints the parts that a piece would add
-//!     whole SIZE PART      prints the file, if no place of it is missing with the piece
+//!     whole PART SIZE      prints the file, if no place of it is missing with the piece
 //!     conflicts PART       prints whether a kept byte differs from the piece's
 //!     covers PART          prints whether each place of the piece is kept
 //!     within SIZE          prints whether no part reaches past the size
@@ -64,6 +64,7 @@
 mod fault;
 mod feeds;
 mod keeper;
+mod printing;
 mod segments;
 mod words;
 

@@ -3,12 +3,16 @@ ghost use Rattle.std.specs.Prelude.{◌≤◌, ◌<◌, ◌+◌, ◌^◌, vec_le
 ghost use Rattle.feed_model.specs.Reply.{max_piece};
 
 use crate::fault::Fault;
+use crate::printing::{print_bytes, print_count, print_flag, print_parts, print_word};
 use crate::words::{Piece, number_of, parts_of, piece_of};
 use feed_limits::PIECE_LIMIT;
-use feed_parts::{Part, Segments, copied, copied_in_order};
+use feed_parts::{SegmentReader, Segments, copied, copied_in_order};
 use std::alloc::Global;
-use std::io;
-use std::io::{Read, Write};
+use std::io::Read;
+
+const UNKNOWN: Fault = Fault("no such command");
+
+const WORDS: Fault = Fault("the command takes other words");
 
 /// The kept parts.
 #[derive(Drop)]
@@ -28,35 +32,27 @@ impl Kept {
         match words {
             [] => Ok(()),
             ["parts", parts @ ..] => self.replace(rt, parts),
-            ["piece", part] => keep_piece(rt.alloc(), &mut self.segments, &fit_piece(rt, part)?),
-            ["new" | "conflicts" | "covers", part] => {
-                ask_piece(rt, &self.segments, words, &fit_piece(rt, part)?)
+            ["in-order", parts @ ..] => print_in_order(rt, parts),
+            [command] => ask_word(rt, &self.segments, command),
+            [command @ ("within" | "gap" | "find"), number] => {
+                ask_number(rt, &self.segments, command, number_of(number)?)
             }
-            ["whole", size, part] => {
+            [command, part, rest @ ..] => {
                 let piece = fit_piece(rt, part)?;
-                print_whole(rt, &self.segments, number_of(size)?, &piece)
+                run_piece(rt, &mut self.segments, command, &piece, rest)
             }
-            ["read-with", part, rooms @ ..] => {
-                let piece = fit_piece(rt, part)?;
-                read_with(rt, &self.segments, &piece, rooms)
-            }
-            ["in-order", parts @ ..] => {
-                let parts = parts_of(rt, parts)?;
-                print_parts(rt, &copied_in_order(rt.alloc(), &parts)?)
-            }
-            _ => ask(rt, &self.segments, words),
         }
     }
 
     fn replace(&mut self, rt: &HostRuntime, words: &[&str]) -> Result<(), Fault> {
         match Segments::of(parts_of(rt, words)?) {
             Some(segments) => {
-                println!(rt; "count {}", segments.count())?;
+                let count = segments.count();
                 self.segments = segments;
+                print_count(rt, "count", count)
             }
-            None => println!(rt; "no segments")?,
+            None => print_word(rt, "no segments"),
         }
-        Ok(())
     }
 }
 
@@ -83,42 +79,62 @@ fn keep_piece(alloc: Global, segments: &mut Segments, piece: &Piece) -> Result<(
     Ok(())
 }
 
-fn ask_piece(
+// Runs a command on a piece.
+fn run_piece(
     rt: &HostRuntime,
-    segments: &Segments,
-    words: &[&str],
+    segments: &mut Segments,
+    command: &str,
     piece: &Piece,
+    rest: &[&str],
 ) -> Result<(), Fault>
     requires inside { piece.now.first + vec_len piece.now.bytes < 2 ^ 64 }
     requires limit { vec_len piece.now.bytes ≤ max_piece }
 {
-    match words {
-        ["conflicts", ..] => println!(rt; "{}", segments.conflicts(piece.first, &piece.bytes))?,
-        ["covers", ..] => println!(rt; "{}", segments.covers(piece.first, &piece.bytes))?,
-        _ => {
-            let new = segments.new_parts(rt.alloc(), piece.first, &piece.bytes)?;
-            print_parts(rt, new.parts())?;
-        }
+    match command {
+        "piece" => keep_piece(rt.alloc(), segments, piece),
+        "conflicts" => print_flag(rt, segments.conflicts(piece.first, &piece.bytes)),
+        "covers" => print_flag(rt, segments.covers(piece.first, &piece.bytes)),
+        "new" => print_new(rt, segments, piece),
+        "whole" => print_whole(rt, segments, piece, rest),
+        "read-with" => read_with(rt, segments, piece, rest),
+        _ => Err(UNKNOWN),
     }
-    Ok(())
 }
 
-fn print_whole(rt: &HostRuntime, segments: &Segments, size: u64, piece: &Piece) -> Result<(), Fault>
+fn print_new(rt: &HostRuntime, segments: &Segments, piece: &Piece) -> Result<(), Fault>
     requires inside { piece.now.first + vec_len piece.now.bytes < 2 ^ 64 }
     requires limit { vec_len piece.now.bytes ≤ max_piece }
 {
     let new = segments.new_parts(rt.alloc(), piece.first, &piece.bytes)?;
+    print_parts(rt, new.parts())
+}
+
+// Prints the file of this size, if it is whole with the piece.
+fn print_whole(
+    rt: &HostRuntime,
+    segments: &Segments,
+    piece: &Piece,
+    words: &[&str],
+) -> Result<(), Fault>
+    requires inside { piece.now.first + vec_len piece.now.bytes < 2 ^ 64 }
+    requires limit { vec_len piece.now.bytes ≤ max_piece }
+{
+    let [size] = words else {
+        return Err(WORDS);
+    };
+    let size = number_of(size)?;
+    let new = segments.new_parts(rt.alloc(), piece.first, &piece.bytes)?;
     if segments.count().saturating_add(new.count()) < size {
-        return Ok(println!(rt; "none")?);
+        return print_word(rt, "none");
     }
     print_text(rt, segments.reader_with(&new))
 }
 
-fn print_text<R: Read + Drop>(rt: &HostRuntime, mut reader: R) -> Result<(), Fault> {
+fn print_text(rt: &HostRuntime, mut reader: SegmentReader<'_>) -> Result<(), Fault> {
     let mut text = Vec::new(rt.alloc());
     reader.read_to_end(&mut text)?;
     text.push(b'\n')?;
-    Ok(io::writer(rt).write_all(&text)?)
+    print_bytes(rt, &text)
 }
 
 // Prints each read: how many bytes came, and which.
@@ -142,32 +158,38 @@ fn read_with(
     Ok(())
 }
 
-// Prints parts, as `0:01 4:45`.
-fn print_parts(rt: &HostRuntime, parts: &[Part]) -> Result<(), Fault> {
-    let mut text = Vec::new(rt.alloc());
-    for part in parts {
-        if !text.is_empty() {
-            text.push(b' ')?;
-        }
-        write!(text, "{}:", part.first)?;
-        text.extend_from_slice(&part.bytes)?;
-    }
-    text.push(b'\n')?;
-    Ok(io::writer(rt).write_all(&text)?)
+fn print_in_order(rt: &HostRuntime, words: &[&str]) -> Result<(), Fault> {
+    let parts = parts_of(rt, words)?;
+    let copy = copied_in_order(rt.alloc(), &parts)?;
+    print_parts(rt, &copy)
 }
 
-fn ask(rt: &HostRuntime, segments: &Segments, words: &[&str]) -> Result<(), Fault> {
-    match words {
-        ["within", size] => println!(rt; "{}", segments.are_within(number_of(size)?))?,
-        ["list"] => print_parts(rt, segments.parts())?,
-        ["copy"] => print_parts(rt, &copied(rt.alloc(), segments.parts())?)?,
-        ["count"] => println!(rt; "count {}", segments.count())?,
-        ["gap", size] => print_gap(rt, segments, number_of(size)?)?,
-        ["read"] => print_text(rt, segments.reader())?,
-        ["find", place] => print_found(rt, segments, number_of(place)?)?,
-        _ => return Err(Fault("no such command of kept parts")),
+fn print_copy(rt: &HostRuntime, segments: &Segments) -> Result<(), Fault> {
+    let copy = copied(rt.alloc(), segments.parts())?;
+    print_parts(rt, &copy)
+}
+
+fn ask_word(rt: &HostRuntime, segments: &Segments, command: &str) -> Result<(), Fault> {
+    match command {
+        "list" => print_parts(rt, segments.parts()),
+        "copy" => print_copy(rt, segments),
+        "count" => print_count(rt, "count", segments.count()),
+        "read" => print_text(rt, segments.reader()),
+        _ => Err(UNKNOWN),
     }
-    Ok(())
+}
+
+fn ask_number(
+    rt: &HostRuntime,
+    segments: &Segments,
+    command: &str,
+    number: u64,
+) -> Result<(), Fault> {
+    match command {
+        "within" => print_flag(rt, segments.are_within(number)),
+        "gap" => print_gap(rt, segments, number),
+        _ => print_found(rt, segments, number),
+    }
 }
 
 fn print_gap(rt: &HostRuntime, segments: &Segments, size: u64) -> Result<(), Fault> {
@@ -175,17 +197,15 @@ fn print_gap(rt: &HostRuntime, segments: &Segments, size: u64) -> Result<(), Fau
         return Err(Fault("a part reaches past the size"));
     }
     match segments.next_gap(size) {
-        Some(gap) => println!(rt; "gap {} {}", gap.first, gap.end)?,
-        None => println!(rt; "none")?,
+        Some(gap) => Ok(println!(rt; "gap {} {}", gap.first, gap.end)?),
+        None => print_word(rt, "none"),
     }
-    Ok(())
 }
 
 fn print_found(rt: &HostRuntime, segments: &Segments, place: u64) -> Result<(), Fault> {
     let mut probes = 0;
     match segments.find(place, &mut probes) {
-        Some(index) => println!(rt; "index {index} probes {probes}")?,
-        None => println!(rt; "none probes {probes}")?,
+        Some(index) => Ok(println!(rt; "index {index} probes {probes}")?),
+        None => print_count(rt, "none probes", u64::from(probes)),
     }
-    Ok(())
 }
