@@ -15,7 +15,7 @@ use Rattle.feed_model.proofs.Names.{name_self}
 use Rattle.feed_rows.specs.Records.{bare, with_part, with_parts, with_reason, with_state}
 use Rattle.feed_rows.specs.Tables.{IsStored, content_of}
 use Rattle.feed_rows.proofs.Stored.{stored}
-use Rattle.feed_statements.specs.Effects.{AllowedChanges, Changes, ChangesIf, IsMade}
+use Rattle.feed_statements.specs.Effects.{AllowedChanges, Changes, ChangesIf, IsMade, Leads}
 
 -- one change of a record after another
 changed_twice : (n : Name) (f g h : Record → Record) → ((r : Record) → (f r).name ≡ r.name) → ((r : Record) → g (f r) ≡ h r) → (c : Content)
@@ -52,6 +52,14 @@ made_then f g h a b c both one two = record {
         listed = λ are. second.listed (first.listed are);
         content = λ are. second.content (first.listed are) ∙ ap g (first.content are) ∙ both (content_of a.now);
       };
+  committed = two.committed ∙ one.committed;
+  inside = λ on. two.inside (one.inside on);
+}
+
+-- one kind of database becomes another one, and this a third
+pub leads_then : (P Q R : Database → Type 0) (a b c : State) → IsMade (Leads P Q) a b → IsMade (Leads Q R) b c → IsMade (Leads P R) a c
+leads_then P Q R a b c one two = record {
+  change = λ has. two.change (one.change has);
   committed = two.committed ∙ one.committed;
   inside = λ on. two.inside (one.inside on);
 }

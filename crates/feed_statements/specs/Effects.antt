@@ -1,13 +1,16 @@
 -- What calls make of a database.
-use Rattle.std.specs.Prelude.{◌≡◌, ◌↔◌, ◌∷◌, ℕ, List, Bool, IsTrue, [], map, OnOk, pos, Result}
+use Rattle.std.specs.Prelude.{◌≡◌, ◌↔◌, ◌∷◌, ℕ, List, Bool, IsTrue, [], map, OnOk, Ok, pos, Result}
 use Rattle.feed_model.specs.Change.{Change, IsAllowed, after}
 use Rattle.feed_model.specs.Content.{Content}
 use Rattle.sqlite.specs.Effect.{Database, IsDatabase}
 use Rattle.sqlite.specs.Held.{Held, state}
-use Rattle.sqlite.specs.State.{State, HasCleanDisk, IsUnchanged, KeepsCommit, Survives}
+use Rattle.sqlite.specs.State.{State, Executes, HasCleanDisk, IsUnchanged, KeepsCommit, Survives}
+use Rattle.sqlite.specs.Values.{bound}
 use Rattle.sqlite_trees.specs.declared.store.Store.{Ghosts}
 use Rattle.sqlite_trees.specs.Tree.{rowid}
 use Rattle.sqlite_value.specs.declared.value.Value.TheVariants.{Int}
+use Rattle.sqlite_value.specs.declared.value.ValueRef.{ValueRef}
+use Rattle.sqlite_value.specs.Order.{Row}
 use Rattle.sqlite.specs.Table.{Table}
 use Rattle.sqlite_schema.specs.declared.schema.Index.{Index}
 use Rattle.feed_rows.specs.Layout.{schema_with, earlier_schema, feed_schema}
@@ -23,6 +26,17 @@ pub record IsMade (Change : Database → Database → Type 0) (old new : State) 
 -- a call that succeeds makes the change inside the transaction
 abbrev pub Makes : {S X E : Type 0} → Ghosts S → (Database → Database → Type 0) → Held S → Held S → Result X E → Type 0
 Makes store Change old new result = HasCleanDisk (state store new) → OnOk result (IsMade Change (state store old) (state store new))
+
+-- a statement has run inside the transaction, which goes on
+pub record IsRun (text : List ℕ) (params : Row) (old new : State) : Type 0 where
+  pub count : ℕ
+  pub runs : Executes text params old new (Ok count)
+  pub committed : new.committed ≡ old.committed
+  pub inside : IsTrue old.in_transaction → IsTrue new.in_transaction
+
+-- a call that succeeds runs the statement inside the transaction
+abbrev pub Runs : {S X E : Type 0} → Ghosts S → List ℕ → List ValueRef → Held S → Held S → Result X E → Type 0
+Runs store text params old new result = HasCleanDisk (state store new) → OnOk result (IsRun text (bound params) (state store old) (state store new))
 
 -- a call commits nothing
 abbrev pub Keeps : {S : Type 0} → Ghosts S → Held S → Held S → Type 0

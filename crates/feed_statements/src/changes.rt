@@ -62,8 +62,7 @@ fn add<S: Alter>(tx: &mut Transaction<'_, S>, name: &ReleaseName, size: u64) -> 
     if size == 0 {
         return add_empty(tx, name);
     }
-    insert_release(tx, name, short, State::Staged)?;
-    Ok(())
+    insert_release(tx, name, short, State::Staged)
 }
 
 // Adds the record of a release whose file is empty, and so whole, and bad.
@@ -74,8 +73,7 @@ fn add_empty<S: Alter>(tx: &mut Transaction<'_, S>, name: &ReleaseName) -> Resul
     ensures survives { LeavesDisk S.Store tx.old.conn.now tx.new.conn.now }
 {
     insert_release(tx, name, 0, State::Broken)?;
-    insert_reason(tx, name, BadFile::NoHeader)?;
-    Ok(())
+    insert_reason(tx, name, BadFile::NoHeader)
 }
 
 // Adds the last parts of a release whose file is bad, and why it is.
@@ -92,8 +90,7 @@ fn break_off<S: Alter>(
     ensures survives { LeavesDisk S.Store tx.old.conn.now tx.new.conn.now }
 {
     finish(tx, name, parts, State::Broken)?;
-    insert_reason(tx, name, why)?;
-    Ok(())
+    insert_reason(tx, name, why)
 }
 
 // Adds the last parts of a release, and sets its state.
@@ -110,8 +107,7 @@ fn finish<S: Alter>(
     ensures survives { LeavesDisk S.Store tx.old.conn.now tx.new.conn.now }
 {
     insert_parts(tx, name, parts)?;
-    set_state(tx, name, value)?;
-    Ok(())
+    set_state(tx, name, value)
 }
 
 // The same for a release that becomes active. The package's records of earlier days go.
@@ -128,6 +124,5 @@ fn activate<S: Alter>(
     ensures survives { LeavesDisk S.Store tx.old.conn.now tx.new.conn.now }
 {
     finish(tx, name, parts, State::Active)?;
-    drop_earlier(tx, name)?;
-    Ok(())
+    drop_earlier(tx, name)
 }

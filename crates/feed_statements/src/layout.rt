@@ -5,6 +5,7 @@ ghost use Rattle.feed_statements.specs.Schemas.{HasReleaseTable};
 ghost use Rattle.sqlite.specs.Held.{state};
 ghost use Rattle.sqlite.specs.State.{HasCleanDisk};
 
+use crate::running::run;
 use sqlite::{Alter, Connection, Error, ErrorCode, Transaction};
 
 /// Makes the tables in an empty database, with the number of the layout, in one transaction: all of it, or nothing. It
@@ -39,31 +40,32 @@ fn fill<S: Alter>(tx: &mut Transaction<'_, S>) -> Result<(), Error>
     create_release(tx)?;
     create_piece(tx)?;
     create_reason(tx)?;
-    insert_version(tx)?;
-    Ok(())
+    insert_version(tx)
 }
 
-fn create_layout<S: Alter>(tx: &mut Transaction<'_, S>) -> Result<usize, Error>
+fn create_layout<S: Alter>(tx: &mut Transaction<'_, S>) -> Result<(), Error>
     ensures same_reference { tx.new.conn.ghost_name ≡ tx.old.conn.ghost_name }
     ensures made { Makes S.Store (Leads HasNoTable HasLayoutTable)
         tx.old.conn.now tx.new.conn.now result }
     ensures kept { Keeps S.Store tx.old.conn.now tx.new.conn.now }
     ensures survives { LeavesDisk S.Store tx.old.conn.now tx.new.conn.now }
 {
-    tx.execute(
+    run(
+        tx,
         "CREATE TABLE feed_layout (version INTEGER PRIMARY KEY) STRICT",
         &[],
     )
 }
 
-fn create_release<S: Alter>(tx: &mut Transaction<'_, S>) -> Result<usize, Error>
+fn create_release<S: Alter>(tx: &mut Transaction<'_, S>) -> Result<(), Error>
     ensures same_reference { tx.new.conn.ghost_name ≡ tx.old.conn.ghost_name }
     ensures made { Makes S.Store (Leads HasLayoutTable HasReleaseTable)
         tx.old.conn.now tx.new.conn.now result }
     ensures kept { Keeps S.Store tx.old.conn.now tx.new.conn.now }
     ensures survives { LeavesDisk S.Store tx.old.conn.now tx.new.conn.now }
 {
-    tx.execute(
+    run(
+        tx,
         "CREATE TABLE feed_release (
   name TEXT NOT NULL PRIMARY KEY,
   package TEXT NOT NULL,
@@ -77,14 +79,15 @@ fn create_release<S: Alter>(tx: &mut Transaction<'_, S>) -> Result<usize, Error>
     )
 }
 
-fn create_piece<S: Alter>(tx: &mut Transaction<'_, S>) -> Result<usize, Error>
+fn create_piece<S: Alter>(tx: &mut Transaction<'_, S>) -> Result<(), Error>
     ensures same_reference { tx.new.conn.ghost_name ≡ tx.old.conn.ghost_name }
     ensures made { Makes S.Store (Leads HasReleaseTable HasPieceTable)
         tx.old.conn.now tx.new.conn.now result }
     ensures kept { Keeps S.Store tx.old.conn.now tx.new.conn.now }
     ensures survives { LeavesDisk S.Store tx.old.conn.now tx.new.conn.now }
 {
-    tx.execute(
+    run(
+        tx,
         "CREATE TABLE feed_piece (
   name TEXT NOT NULL REFERENCES feed_release (name) ON DELETE CASCADE,
   place INTEGER NOT NULL,
@@ -97,14 +100,15 @@ fn create_piece<S: Alter>(tx: &mut Transaction<'_, S>) -> Result<usize, Error>
 }
 
 /// Makes the table of the reasons.
-pub(crate) fn create_reason<S: Alter>(tx: &mut Transaction<'_, S>) -> Result<usize, Error>
+pub(crate) fn create_reason<S: Alter>(tx: &mut Transaction<'_, S>) -> Result<(), Error>
     ensures same_reference { tx.new.conn.ghost_name ≡ tx.old.conn.ghost_name }
     ensures made { Makes S.Store Extends tx.old.conn.now tx.new.conn.now result }
     ensures blank { Makes S.Store (Leads HasPieceTable HasAllTables) tx.old.conn.now tx.new.conn.now result }
     ensures kept { Keeps S.Store tx.old.conn.now tx.new.conn.now }
     ensures survives { LeavesDisk S.Store tx.old.conn.now tx.new.conn.now }
 {
-    tx.execute(
+    run(
+        tx,
         "CREATE TABLE feed_reason (
   name TEXT NOT NULL PRIMARY KEY REFERENCES feed_release (name) ON DELETE CASCADE,
   reason INTEGER NOT NULL,
@@ -116,12 +120,12 @@ pub(crate) fn create_reason<S: Alter>(tx: &mut Transaction<'_, S>) -> Result<usi
     )
 }
 
-fn insert_version<S: Alter>(tx: &mut Transaction<'_, S>) -> Result<usize, Error>
+fn insert_version<S: Alter>(tx: &mut Transaction<'_, S>) -> Result<(), Error>
     ensures same_reference { tx.new.conn.ghost_name ≡ tx.old.conn.ghost_name }
     ensures made { Makes S.Store (Leads HasAllTables IsBlank)
         tx.old.conn.now tx.new.conn.now result }
     ensures kept { Keeps S.Store tx.old.conn.now tx.new.conn.now }
     ensures survives { LeavesDisk S.Store tx.old.conn.now tx.new.conn.now }
 {
-    tx.execute("INSERT INTO feed_layout (version) VALUES (2)", &[])
+    run(tx, "INSERT INTO feed_layout (version) VALUES (2)", &[])
 }

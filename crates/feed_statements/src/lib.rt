@@ -5,9 +5,9 @@
 mod changes;
 mod layout;
 mod number;
+mod running;
 mod schema;
 mod statements;
-mod text;
 mod upgrading;
 
 pub use changes::commit_change;

@@ -6,11 +6,12 @@ ghost use Rattle.feed_rows.specs.Records.{bare, with_part, with_parts, with_reas
 ghost use Rattle.feed_rows.specs.Tables.{IsStored, number_of, reason_at};
 ghost use Rattle.feed_statements.specs.Effects.{Changes, ChangesIf, Keeps, LeavesDisk, Makes};
 
-use crate::text::as_text;
+use crate::running::{as_text, run};
 use feed_kbart::BadFile;
 use feed_keep::{Part, State};
 use feed_names::ReleaseName;
-use sqlite::{Alter, Error, ErrorCode, Transaction, params};
+use sqlite::types::ToSql;
+use sqlite::{Alter, Error, ErrorCode, Transaction};
 
 /// Inserts a release without parts.
 pub fn insert_release<S: Alter>(
@@ -18,18 +19,23 @@ pub fn insert_release<S: Alter>(
     name: &ReleaseName,
     size: u32,
     value: State,
-) -> Result<usize, Error>
+) -> Result<(), Error>
     ensures same_reference { tx.new.conn.ghost_name ≡ tx.old.conn.ghost_name }
     ensures made { Makes S.Store (ChangesIf (size ≤ max_file) (insert_record (bare name.now size value)))
         tx.old.conn.now tx.new.conn.now result }
     ensures kept { Keeps S.Store tx.old.conn.now tx.new.conn.now }
     ensures survives { LeavesDisk S.Store tx.old.conn.now tx.new.conn.now }
 {
-    let text = as_text(name.text())?;
-    let stem = as_text(name.package())?;
-    tx.execute(
+    run(
+        tx,
         "INSERT INTO feed_release (name, package, day, size, state) VALUES (?1, ?2, ?3, ?4, ?5)",
-        params![text, stem, name.day(), size, number_of(value)],
+        &[
+            as_text(name.text()),
+            as_text(name.package()),
+            name.day().to_sql(),
+            size.to_sql(),
+            number_of(value).to_sql(),
+        ],
     )
 }
 
@@ -38,20 +44,20 @@ pub fn insert_part<S: Alter>(
     tx: &mut Transaction<'_, S>,
     name: &ReleaseName,
     part: &Part,
-) -> Result<usize, Error>
+) -> Result<(), Error>
     ensures same_reference { tx.new.conn.ghost_name ≡ tx.old.conn.ghost_name }
     ensures made { Makes S.Store (Changes (changed name.now (with_part (shown_part part.now))))
         tx.old.conn.now tx.new.conn.now result }
     ensures kept { Keeps S.Store tx.old.conn.now tx.new.conn.now }
     ensures survives { LeavesDisk S.Store tx.old.conn.now tx.new.conn.now }
 {
-    let text = as_text(name.text())?;
     let Ok(place) = u32::try_from(part.first) else {
         return Err(Error::SqliteFailure(ErrorCode::TooBig));
     };
-    tx.execute(
+    run(
+        tx,
         "INSERT INTO feed_piece (name, place, bytes) VALUES (?1, ?2, ?3)",
-        params![text, place, &part.bytes],
+        &[as_text(name.text()), place.to_sql(), part.bytes.to_sql()],
     )
 }
 
@@ -60,17 +66,17 @@ pub fn set_state<S: Alter>(
     tx: &mut Transaction<'_, S>,
     name: &ReleaseName,
     value: State,
-) -> Result<usize, Error>
+) -> Result<(), Error>
     ensures same_reference { tx.new.conn.ghost_name ≡ tx.old.conn.ghost_name }
     ensures made { Makes S.Store (Changes (changed name.now (with_state value)))
         tx.old.conn.now tx.new.conn.now result }
     ensures kept { Keeps S.Store tx.old.conn.now tx.new.conn.now }
     ensures survives { LeavesDisk S.Store tx.old.conn.now tx.new.conn.now }
 {
-    let text = as_text(name.text())?;
-    tx.execute(
+    run(
+        tx,
         "UPDATE feed_release SET state = ?2 WHERE name = ?1",
-        params![text, number_of(value)],
+        &[as_text(name.text()), number_of(value).to_sql()],
     )
 }
 
@@ -79,35 +85,32 @@ pub fn insert_reason<S: Alter>(
     tx: &mut Transaction<'_, S>,
     name: &ReleaseName,
     why: BadFile,
-) -> Result<usize, Error>
+) -> Result<(), Error>
     ensures same_reference { tx.new.conn.ghost_name ≡ tx.old.conn.ghost_name }
     ensures made { Makes S.Store (ChangesIf (IsStored why) (changed name.now (with_reason why)))
         tx.old.conn.now tx.new.conn.now result }
     ensures kept { Keeps S.Store tx.old.conn.now tx.new.conn.now }
     ensures survives { LeavesDisk S.Store tx.old.conn.now tx.new.conn.now }
 {
-    let text = as_text(name.text())?;
     let (number, place) = numbers_of(why);
-    tx.execute(
+    run(
+        tx,
         "INSERT INTO feed_reason (name, reason, label) VALUES (?1, ?2, ?3)",
-        params![text, number, place],
+        &[as_text(name.text()), number.to_sql(), place.to_sql()],
     )
 }
 
 /// Deletes the releases of the name's package that are of earlier days, and with them their parts and reasons.
-pub fn drop_earlier<S: Alter>(
-    tx: &mut Transaction<'_, S>,
-    name: &ReleaseName,
-) -> Result<usize, Error>
+pub fn drop_earlier<S: Alter>(tx: &mut Transaction<'_, S>, name: &ReleaseName) -> Result<(), Error>
     ensures same_reference { tx.new.conn.ghost_name ≡ tx.old.conn.ghost_name }
     ensures made { Makes S.Store (Changes (without_earlier name.now)) tx.old.conn.now tx.new.conn.now result }
     ensures kept { Keeps S.Store tx.old.conn.now tx.new.conn.now }
     ensures survives { LeavesDisk S.Store tx.old.conn.now tx.new.conn.now }
 {
-    let stem = as_text(name.package())?;
-    tx.execute(
+    run(
+        tx,
         "DELETE FROM feed_release WHERE package = ?1 AND day < ?2",
-        params![stem, name.day()],
+        &[as_text(name.package()), name.day().to_sql()],
     )
 }
 

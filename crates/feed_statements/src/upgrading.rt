@@ -6,6 +6,7 @@ ghost use Rattle.feed_statements.specs.Upgrading.{AreStored, IsStoredIn, explain
 ghost use Rattle.sqlite.specs.Held.{state};
 
 use crate::layout::create_reason;
+use crate::running::run;
 use crate::statements::insert_reason;
 use feed_keep::Record;
 use sqlite::{Alter, Connection, Error, ErrorCode, Transaction};
@@ -44,13 +45,13 @@ fn rebuild<S: Alter>(tx: &mut Transaction<'_, S>, records: &[Record]) -> Result<
 }
 
 // Sets the number of the layout.
-fn set_number<S: Alter>(tx: &mut Transaction<'_, S>) -> Result<usize, Error>
+fn set_number<S: Alter>(tx: &mut Transaction<'_, S>) -> Result<(), Error>
     ensures same_reference { tx.new.conn.ghost_name ≡ tx.old.conn.ghost_name }
     ensures made { Makes S.Store Renumbers tx.old.conn.now tx.new.conn.now result }
     ensures kept { Keeps S.Store tx.old.conn.now tx.new.conn.now }
     ensures survives { LeavesDisk S.Store tx.old.conn.now tx.new.conn.now }
 {
-    tx.execute("UPDATE feed_layout SET version = 2", &[])
+    run(tx, "UPDATE feed_layout SET version = 2", &[])
 }
 
 // Inserts the reasons of the records that have one.
@@ -75,8 +76,8 @@ fn insert_reason_of<S: Alter>(tx: &mut Transaction<'_, S>, kept: &Record) -> Res
     ensures kept { Keeps S.Store tx.old.conn.now tx.new.conn.now }
     ensures survives { LeavesDisk S.Store tx.old.conn.now tx.new.conn.now }
 {
-    if let Some(why) = kept.reason {
-        insert_reason(tx, &kept.name, why)?;
+    match kept.reason {
+        Some(why) => insert_reason(tx, &kept.name, why),
+        None => Ok(()),
     }
-    Ok(())
 }

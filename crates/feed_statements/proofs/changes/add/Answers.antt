@@ -1,4 +1,5 @@
 use Rattle.std.proofs.Common.{◌≡◌, ◌≢◌, rules, arith}
+use Rattle.std.proofs.lemmas.Result.{on_ok_weaker}
 use Rattle.sqlite.specs.Held.{state}
 use Rattle.feed_statements.proofs.Sequence.{staged_made}
 use Rattle.feed_statements.proofs.changes.add.Goals as goal
@@ -10,4 +11,4 @@ returns-clause-made g c clean =
     let new = state g.S.Store c.insert_release.new.tx.conn.now in
     let short : c.in-Ok.short ≡ c.args.size = search rules in
     let some : c.args.size ≢ 0 = omega (arith, c.if-size-eq0.false) in
-    staged_made n c.args.size old new some (rw short at (c.in_ok-insert_release.ensures.made clean))
+    on_ok_weaker c.insert_release.result (staged_made n c.args.size old new some) (rw short at (c.insert_release.ensures.made clean))

@@ -1,21 +1,15 @@
-use Rattle.std.proofs.Common.{ap, refl, []}
+use Rattle.std.proofs.Common.{[]}
 use Rattle.sqlite.specs.Held.{state}
 use Rattle.feed_statements.specs.Effects.{Leads}
 use Rattle.feed_statements.specs.Schemas.{HasLayoutTable, HasReleaseTable}
 use Rattle.feed_statements.specs.Texts.{release_text}
-use Rattle.feed_statements.proofs.Inside.{kept_inside, made_inside}
+use Rattle.feed_statements.proofs.Inside.{made_by}
 use Rattle.feed_statements.proofs.Tables.{creates_release}
 use Rattle.feed_statements.proofs.layout.create_release.Goals as goal
 
 pub returns-clause-made : goal.returns-clause-made
 returns-clause-made g c clean =
     let old = state g.S.Store c.args.tx.now.conn.now in
-    let new = state g.S.Store c.execute.new.self.conn.now in
-    made_inside release_text [] old new (Leads HasLayoutTable HasReleaseTable) c.execute.result
-    (λ count ran has. creates_release old new count has ran)
-    (λ off. rw (c.execute.ensures.ended off).0 refl) (λ live. c.execute.ensures.runs clean live)
-
-pub returns-clause-kept : goal.returns-clause-kept
-returns-clause-kept g c clean =
-    kept_inside release_text [] (state g.S.Store c.args.tx.now.conn.now) (state g.S.Store c.execute.new.self.conn.now) c.execute.result
-    (λ off. ap (state g.S.Store) (c.execute.ensures.ended off).1) (λ live. c.execute.ensures.runs clean live)
+    let new = state g.S.Store c.run.new.tx.conn.now in
+    made_by release_text [] old new (Leads HasLayoutTable HasReleaseTable) c.run.result
+    (λ count ran has. creates_release old new count has ran) (c.run.ensures.ran clean)

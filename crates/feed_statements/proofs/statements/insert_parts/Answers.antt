@@ -1,15 +1,13 @@
-use Rattle.std.proofs.Common.{◌≡◌, ◌∷◌, ◌++◌, [], ◌+◌, take, List, refl, rules, arith, subst, sym, ◌∙◌, ap}
+use Rattle.std.proofs.Common.{◌≡◌, ◌∷◌, ◌++◌, [], ◌+◌, take, List, refl, rules, subst, sym, ◌∙◌, ap}
 use Rattle.std.proofs.lemmas.List.{map-append, take_more, take_all}
 use Rattle.sqlite.specs.Held.{state}
-use Rattle.sqlite.specs.State.{HasCleanDisk}
-use Rattle.sqlite.proofs.StateLemmas.{survives_then}
-use Rattle.sqlite.proofs.InsideLemmas.{keeps_then}
 use Rattle.feed_model.specs.Content as model
 use Rattle.feed_model.specs.Change.{changed}
 use Rattle.feed_parts.specs.declared.part.Part.{Part}
 use Rattle.feed_parts.specs.Shown.{shown_part, shown_parts}
 use Rattle.feed_rows.specs.Records.{with_parts}
 use Rattle.feed_statements.specs.Effects.{Changes, IsMade}
+use Rattle.feed_statements.proofs.Inside.{both_keep, both_leave, clean_before}
 use Rattle.feed_statements.proofs.Sequence.{none_added, one_more}
 use Rattle.feed_statements.proofs.statements.insert_parts.Goals as goal
 
@@ -29,16 +27,15 @@ loop-part-preserved g c =
     let old = state g.S.Store c.args.tx.now.conn.now in
     let mid = state g.S.Store c.loop-part.tx.conn.now in
     let new = state g.S.Store c.insert_part.new.tx.conn.now in
-    let early : HasCleanDisk new → HasCleanDisk mid = λ clean. omega (arith, c.insert_part.ensures.survives.clean) in
     let passed : take (at + 1) parts ≡ take at parts ++ c.part-item.result ∷ [] =
     take_more parts at c.part-item.result c.loop-part-test.true ∙ ap (λ (p : Part). take at parts ++ p ∷ []) (sym c.part-item.is) in
     let more : shown_parts (take (at + 1) parts) ≡ shown_parts (take at parts) ++ shown_part c.part-item.result ∷ [] =
     ap shown_parts passed ∙ map-append shown_part (take at parts) (c.part-item.result ∷ []) in record {
       lent = search rules;
-      survives = survives_then old mid new _ _ (λ _. ⊥) (λ _ db none. none) (λ _ db none. none) c.loop-part.invariant.survives c.insert_part.ensures.survives;
-      kept = λ clean. keeps_then old mid new (c.loop-part.invariant.kept (early clean)) (c.insert_part.ensures.kept clean);
+      survives = both_leave g.S.Store c.args.tx.now.conn.now c.loop-part.tx.conn.now c.insert_part.new.tx.conn.now c.loop-part.invariant.survives c.insert_part.ensures.survives;
+      kept = both_keep g.S.Store c.args.tx.now.conn.now c.loop-part.tx.conn.now c.insert_part.new.tx.conn.now c.loop-part.invariant.survives c.insert_part.ensures.survives c.loop-part.invariant.kept c.insert_part.ensures.kept;
       made = λ clean. subst (λ (ps : List model.Part). IsMade (Changes (changed n (with_parts ps))) old new) (sym more)
-          (one_more n (shown_parts (take at parts)) (shown_part c.part-item.result) old mid new (c.loop-part.invariant.made (early clean))
+          (one_more n (shown_parts (take at parts)) (shown_part c.part-item.result) old mid new (c.loop-part.invariant.made (clean_before g.S.Store c.loop-part.tx.conn.now c.insert_part.new.tx.conn.now c.insert_part.ensures.survives clean))
           (c.in_ok-insert_part.ensures.made clean));
     }
 
@@ -46,3 +43,10 @@ pub returns-clause-made : goal.returns-clause-made
 returns-clause-made g c clean =
     subst (λ (ps : List Part). IsMade (Changes (changed c.args.name.now (with_parts (shown_parts ps)))) (state g.S.Store c.args.tx.now.conn.now) (state g.S.Store c.loop-part.tx.conn.now))
     (take_all c.loop-part.part-index c.args.parts.now c.loop-part-test.false) (c.loop-part.invariant.made clean)
+
+pub returns-in_err-insert_part-clause-kept : goal.returns-in_err-insert_part-clause-kept
+returns-in_err-insert_part-clause-kept g c =
+    both_keep g.S.Store c.args.tx.now.conn.now c.loop-part.tx.conn.now c.insert_part.new.tx.conn.now c.loop-part.invariant.survives c.insert_part.ensures.survives c.loop-part.invariant.kept c.insert_part.ensures.kept
+
+pub returns-in_err-insert_part-clause-survives : goal.returns-in_err-insert_part-clause-survives
+returns-in_err-insert_part-clause-survives g c = both_leave g.S.Store c.args.tx.now.conn.now c.loop-part.tx.conn.now c.insert_part.new.tx.conn.now c.loop-part.invariant.survives c.insert_part.ensures.survives

@@ -1,4 +1,4 @@
-use Rattle.std.proofs.Common.{◌≡◌, refl, subst, ◌∙◌, List, ℕ}
+use Rattle.std.proofs.Common.{subst, List, ℕ}
 use Rattle.sqlite.specs.Held.{state}
 use Rattle.feed_names.specs.ReleaseName.{IsName, text_of}
 use Rattle.feed_model.specs.Change.{changed}
@@ -8,7 +8,7 @@ use Rattle.feed_rows.proofs.AddedReason.{adds_reason}
 use Rattle.feed_statements.specs.Effects.{ChangesIf}
 use Rattle.feed_statements.specs.Texts.{said_text}
 use Rattle.feed_statements.proofs.Inserts.{said_params, puts_reason}
-use Rattle.feed_statements.proofs.Inside.{made_inside}
+use Rattle.feed_statements.proofs.Inside.{made_by}
 use Rattle.feed_statements.proofs.statements.insert_reason.Goals as goal
 
 pub returns-clause-made : goal.returns-clause-made
@@ -18,11 +18,9 @@ returns-clause-made g c clean =
     let number = c.numbers_of-number.result.0 in
     let place = c.numbers_of-number.result.1 in
     let old = state g.S.Store c.args.tx.now.conn.now in
-    let new = state g.S.Store c.execute.new.self.conn.now in
-    let text : c.in_ok-text.text.now ≡ text_of n = c.in_ok-text.ensures ∙ c.text.ensures.value in
+    let new = state g.S.Store c.run.new.tx.conn.now in
     let named : IsName (text_of n) n = subst (λ (u : List ℕ). IsName u n) c.text.ensures.value c.text.ensures.name in
-    made_inside said_text (said_params n number place) old new (ChangesIf (IsStored why) (changed n (with_reason why))) c.execute.result
+    made_by said_text (said_params n number place) old new (ChangesIf (IsStored why) (changed n (with_reason why))) c.run.result
     (λ count ran stored ours. adds_reason n number place why old.now new.now named (c.numbers_of-number.ensures stored) ours
     (puts_reason n number place old new count ours.schema ran))
-    (λ off. rw (c.execute.ensures.ended off).0 refl)
-    (λ live. rw (c.params-to_sql.ensures, c.params-to_sql-2.ensures, c.params-to_sql-3.ensures, text) at (c.execute.ensures.runs clean live))
+    (rw (c.as_text.ensures, c.to_sql.ensures, c.to_sql-2.ensures, c.text.ensures.value) at (c.run.ensures.ran clean))

@@ -1,4 +1,4 @@
-use Rattle.std.proofs.Common.{◌≡◌, refl, subst, pos, [], ◌∷◌, ◌∙◌, List, ℕ}
+use Rattle.std.proofs.Common.{subst, pos, [], ◌∷◌, List, ℕ}
 use Rattle.sqlite.specs.Held.{state}
 use Rattle.sqlite_value.specs.declared.value.Value.TheVariants.{Int, Text}
 use Rattle.feed_names.specs.ReleaseName.{IsName, text_of}
@@ -9,7 +9,7 @@ use Rattle.feed_rows.proofs.SetState.{sets_state}
 use Rattle.feed_statements.specs.Effects.{Changes}
 use Rattle.feed_statements.specs.Texts.{set_text}
 use Rattle.feed_statements.proofs.Sets.{sets}
-use Rattle.feed_statements.proofs.Inside.{made_inside}
+use Rattle.feed_statements.proofs.Inside.{made_by}
 use Rattle.feed_statements.proofs.statements.set_state.Goals as goal
 
 pub returns-clause-made : goal.returns-clause-made
@@ -17,10 +17,8 @@ returns-clause-made g c clean =
     let n = c.args.name.now in
     let s = c.args.value in
     let old = state g.S.Store c.args.tx.now.conn.now in
-    let new = state g.S.Store c.execute.new.self.conn.now in
-    let text : c.in_ok-text.text.now ≡ text_of n = c.in_ok-text.ensures ∙ c.text.ensures.value in
+    let new = state g.S.Store c.run.new.tx.conn.now in
     let named : IsName (text_of n) n = subst (λ (u : List ℕ). IsName u n) c.text.ensures.value c.text.ensures.name in
-    made_inside set_text (Text (text_of n) ∷ Int (pos (number_of s)) ∷ []) old new (Changes (changed n (with_state s))) c.execute.result
+    made_by set_text (Text (text_of n) ∷ Int (pos (number_of s)) ∷ []) old new (Changes (changed n (with_state s))) c.run.result
     (λ count ran ours. sets_state n s old.now new.now named ours (sets old new (text_of n) (pos (number_of s)) count ours.schema ran))
-    (λ off. rw (c.execute.ensures.ended off).0 refl)
-    (λ live. rw (c.params-to_sql.ensures, c.params-to_sql-2.ensures, c.number_of.ensures, text) at (c.execute.ensures.runs clean live))
+    (rw (c.as_text.ensures, c.to_sql.ensures, c.number_of.ensures, c.text.ensures.value) at (c.run.ensures.ran clean))
