@@ -17,7 +17,9 @@ returns-clause-made g c clean =
     (c.in_ok-finish.ensures.made early)) (c.drop_earlier.ensures.made clean)
 
 pub returns-clause-kept : goal.returns-clause-kept
-returns-clause-kept g c = both_keep g.S.Store c.args.tx.now.conn.now c.finish.new.tx.conn.now c.drop_earlier.new.tx.conn.now c.finish.ensures.survives c.drop_earlier.ensures.survives c.finish.ensures.kept c.drop_earlier.ensures.kept
+returns-clause-kept g c =
+    both_keep g.S.Store c.args.tx.now.conn.now c.finish.new.tx.conn.now c.drop_earlier.new.tx.conn.now c.finish.ensures.survives c.drop_earlier.ensures.survives c.finish.ensures.kept
+    c.drop_earlier.ensures.kept
 
 pub returns-clause-survives : goal.returns-clause-survives
 returns-clause-survives g c = both_leave g.S.Store c.args.tx.now.conn.now c.finish.new.tx.conn.now c.drop_earlier.new.tx.conn.now c.finish.ensures.survives c.drop_earlier.ensures.survives

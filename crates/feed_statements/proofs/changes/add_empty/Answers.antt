@@ -11,7 +11,10 @@ returns-clause-made g c clean =
     (state g.S.Store c.insert_reason.new.tx.conn.now) (c.in_ok-insert_release.ensures.made early)) (c.insert_reason.ensures.made clean)
 
 pub returns-clause-kept : goal.returns-clause-kept
-returns-clause-kept g c = both_keep g.S.Store c.args.tx.now.conn.now c.insert_release.new.tx.conn.now c.insert_reason.new.tx.conn.now c.insert_release.ensures.survives c.insert_reason.ensures.survives c.insert_release.ensures.kept c.insert_reason.ensures.kept
+returns-clause-kept g c =
+    both_keep g.S.Store c.args.tx.now.conn.now c.insert_release.new.tx.conn.now c.insert_reason.new.tx.conn.now c.insert_release.ensures.survives c.insert_reason.ensures.survives
+    c.insert_release.ensures.kept c.insert_reason.ensures.kept
 
 pub returns-clause-survives : goal.returns-clause-survives
-returns-clause-survives g c = both_leave g.S.Store c.args.tx.now.conn.now c.insert_release.new.tx.conn.now c.insert_reason.new.tx.conn.now c.insert_release.ensures.survives c.insert_reason.ensures.survives
+returns-clause-survives g c =
+    both_leave g.S.Store c.args.tx.now.conn.now c.insert_release.new.tx.conn.now c.insert_reason.new.tx.conn.now c.insert_release.ensures.survives c.insert_reason.ensures.survives

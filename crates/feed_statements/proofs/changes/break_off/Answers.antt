@@ -13,7 +13,9 @@ returns-clause-made g c clean =
     (c.in_ok-finish.ensures.made early)) (c.insert_reason.ensures.made clean)
 
 pub returns-clause-kept : goal.returns-clause-kept
-returns-clause-kept g c = both_keep g.S.Store c.args.tx.now.conn.now c.finish.new.tx.conn.now c.insert_reason.new.tx.conn.now c.finish.ensures.survives c.insert_reason.ensures.survives c.finish.ensures.kept c.insert_reason.ensures.kept
+returns-clause-kept g c =
+    both_keep g.S.Store c.args.tx.now.conn.now c.finish.new.tx.conn.now c.insert_reason.new.tx.conn.now c.finish.ensures.survives c.insert_reason.ensures.survives c.finish.ensures.kept
+    c.insert_reason.ensures.kept
 
 pub returns-clause-survives : goal.returns-clause-survives
 returns-clause-survives g c = both_leave g.S.Store c.args.tx.now.conn.now c.finish.new.tx.conn.now c.insert_reason.new.tx.conn.now c.finish.ensures.survives c.insert_reason.ensures.survives

@@ -13,7 +13,9 @@ returns-clause-made g c clean =
     (c.in_ok-insert_parts.ensures.made early)) (c.set_state.ensures.made clean)
 
 pub returns-clause-kept : goal.returns-clause-kept
-returns-clause-kept g c = both_keep g.S.Store c.args.tx.now.conn.now c.insert_parts.new.tx.conn.now c.set_state.new.tx.conn.now c.insert_parts.ensures.survives c.set_state.ensures.survives c.insert_parts.ensures.kept c.set_state.ensures.kept
+returns-clause-kept g c =
+    both_keep g.S.Store c.args.tx.now.conn.now c.insert_parts.new.tx.conn.now c.set_state.new.tx.conn.now c.insert_parts.ensures.survives c.set_state.ensures.survives c.insert_parts.ensures.kept
+    c.set_state.ensures.kept
 
 pub returns-clause-survives : goal.returns-clause-survives
 returns-clause-survives g c = both_leave g.S.Store c.args.tx.now.conn.now c.insert_parts.new.tx.conn.now c.set_state.new.tx.conn.now c.insert_parts.ensures.survives c.set_state.ensures.survives

@@ -33,9 +33,11 @@ loop-part-preserved g c =
     ap shown_parts passed ∙ map-append shown_part (take at parts) (c.part-item.result ∷ []) in record {
       lent = search rules;
       survives = both_leave g.S.Store c.args.tx.now.conn.now c.loop-part.tx.conn.now c.insert_part.new.tx.conn.now c.loop-part.invariant.survives c.insert_part.ensures.survives;
-      kept = both_keep g.S.Store c.args.tx.now.conn.now c.loop-part.tx.conn.now c.insert_part.new.tx.conn.now c.loop-part.invariant.survives c.insert_part.ensures.survives c.loop-part.invariant.kept c.insert_part.ensures.kept;
+      kept = both_keep g.S.Store c.args.tx.now.conn.now c.loop-part.tx.conn.now c.insert_part.new.tx.conn.now c.loop-part.invariant.survives c.insert_part.ensures.survives
+          c.loop-part.invariant.kept c.insert_part.ensures.kept;
       made = λ clean. subst (λ (ps : List model.Part). IsMade (Changes (changed n (with_parts ps))) old new) (sym more)
-          (one_more n (shown_parts (take at parts)) (shown_part c.part-item.result) old mid new (c.loop-part.invariant.made (clean_before g.S.Store c.loop-part.tx.conn.now c.insert_part.new.tx.conn.now c.insert_part.ensures.survives clean))
+          (one_more n (shown_parts (take at parts)) (shown_part c.part-item.result) old mid new (c.loop-part.invariant.made (clean_before g.S.Store c.loop-part.tx.conn.now
+          c.insert_part.new.tx.conn.now c.insert_part.ensures.survives clean))
           (c.in_ok-insert_part.ensures.made clean));
     }
 
@@ -46,7 +48,9 @@ returns-clause-made g c clean =
 
 pub returns-in_err-insert_part-clause-kept : goal.returns-in_err-insert_part-clause-kept
 returns-in_err-insert_part-clause-kept g c =
-    both_keep g.S.Store c.args.tx.now.conn.now c.loop-part.tx.conn.now c.insert_part.new.tx.conn.now c.loop-part.invariant.survives c.insert_part.ensures.survives c.loop-part.invariant.kept c.insert_part.ensures.kept
+    both_keep g.S.Store c.args.tx.now.conn.now c.loop-part.tx.conn.now c.insert_part.new.tx.conn.now c.loop-part.invariant.survives c.insert_part.ensures.survives c.loop-part.invariant.kept
+    c.insert_part.ensures.kept
 
 pub returns-in_err-insert_part-clause-survives : goal.returns-in_err-insert_part-clause-survives
-returns-in_err-insert_part-clause-survives g c = both_leave g.S.Store c.args.tx.now.conn.now c.loop-part.tx.conn.now c.insert_part.new.tx.conn.now c.loop-part.invariant.survives c.insert_part.ensures.survives
+returns-in_err-insert_part-clause-survives g c =
+    both_leave g.S.Store c.args.tx.now.conn.now c.loop-part.tx.conn.now c.insert_part.new.tx.conn.now c.loop-part.invariant.survives c.insert_part.ensures.survives

@@ -31,9 +31,11 @@ loop-record-preserved g c =
     ap shown passed ∙ map-append shown_record (take at records) (c.record-item.result ∷ []) in record {
       lent = search rules;
       survives = both_leave g.S.Store c.args.tx.now.conn.now c.loop-record.tx.conn.now c.insert_reason_of.new.tx.conn.now c.loop-record.invariant.survives c.insert_reason_of.ensures.survives;
-      kept = both_keep g.S.Store c.args.tx.now.conn.now c.loop-record.tx.conn.now c.insert_reason_of.new.tx.conn.now c.loop-record.invariant.survives c.insert_reason_of.ensures.survives c.loop-record.invariant.kept c.insert_reason_of.ensures.kept;
+      kept = both_keep g.S.Store c.args.tx.now.conn.now c.loop-record.tx.conn.now c.insert_reason_of.new.tx.conn.now c.loop-record.invariant.survives c.insert_reason_of.ensures.survives
+          c.loop-record.invariant.kept c.insert_reason_of.ensures.kept;
       made = λ clean. subst (λ (rs : List model.Record). IsMade (ChangesIf (AreStored rs) (explained_with rs)) old new) (sym more)
-          (one_explained (shown (take at records)) (shown_record c.record-item.result) old mid new (c.loop-record.invariant.made (clean_before g.S.Store c.loop-record.tx.conn.now c.insert_reason_of.new.tx.conn.now c.insert_reason_of.ensures.survives clean))
+          (one_explained (shown (take at records)) (shown_record c.record-item.result) old mid new (c.loop-record.invariant.made (clean_before g.S.Store c.loop-record.tx.conn.now
+          c.insert_reason_of.new.tx.conn.now c.insert_reason_of.ensures.survives clean))
           (c.in_ok-insert_reason_of.ensures.made clean));
     }
 
@@ -44,7 +46,9 @@ returns-clause-made g c clean =
 
 pub returns-in_err-insert_reason_of-clause-kept : goal.returns-in_err-insert_reason_of-clause-kept
 returns-in_err-insert_reason_of-clause-kept g c =
-    both_keep g.S.Store c.args.tx.now.conn.now c.loop-record.tx.conn.now c.insert_reason_of.new.tx.conn.now c.loop-record.invariant.survives c.insert_reason_of.ensures.survives c.loop-record.invariant.kept c.insert_reason_of.ensures.kept
+    both_keep g.S.Store c.args.tx.now.conn.now c.loop-record.tx.conn.now c.insert_reason_of.new.tx.conn.now c.loop-record.invariant.survives c.insert_reason_of.ensures.survives
+    c.loop-record.invariant.kept c.insert_reason_of.ensures.kept
 
 pub returns-in_err-insert_reason_of-clause-survives : goal.returns-in_err-insert_reason_of-clause-survives
-returns-in_err-insert_reason_of-clause-survives g c = both_leave g.S.Store c.args.tx.now.conn.now c.loop-record.tx.conn.now c.insert_reason_of.new.tx.conn.now c.loop-record.invariant.survives c.insert_reason_of.ensures.survives
+returns-in_err-insert_reason_of-clause-survives g c =
+    both_leave g.S.Store c.args.tx.now.conn.now c.loop-record.tx.conn.now c.insert_reason_of.new.tx.conn.now c.loop-record.invariant.survives c.insert_reason_of.ensures.survives

@@ -21,16 +21,19 @@ returns-clause-made g c clean =
 
 pub returns-in_err-set_number-clause-kept : goal.returns-in_err-set_number-clause-kept
 returns-in_err-set_number-clause-kept g c =
-    both_keep g.S.Store c.args.tx.now.conn.now c.create_reason.new.tx.conn.now c.set_number.new.tx.conn.now c.create_reason.ensures.survives c.set_number.ensures.survives c.create_reason.ensures.kept c.set_number.ensures.kept
+    both_keep g.S.Store c.args.tx.now.conn.now c.create_reason.new.tx.conn.now c.set_number.new.tx.conn.now c.create_reason.ensures.survives c.set_number.ensures.survives
+    c.create_reason.ensures.kept c.set_number.ensures.kept
 
 pub returns-in_err-set_number-clause-survives : goal.returns-in_err-set_number-clause-survives
-returns-in_err-set_number-clause-survives g c = both_leave g.S.Store c.args.tx.now.conn.now c.create_reason.new.tx.conn.now c.set_number.new.tx.conn.now c.create_reason.ensures.survives c.set_number.ensures.survives
+returns-in_err-set_number-clause-survives g c =
+    both_leave g.S.Store c.args.tx.now.conn.now c.create_reason.new.tx.conn.now c.set_number.new.tx.conn.now c.create_reason.ensures.survives c.set_number.ensures.survives
 
 pub returns-clause-kept : goal.returns-clause-kept
 returns-clause-kept g c =
     let d2 = both_leave g.S.Store c.args.tx.now.conn.now c.create_reason.new.tx.conn.now c.set_number.new.tx.conn.now c.create_reason.ensures.survives c.set_number.ensures.survives in
     let k2 =
-    both_keep g.S.Store c.args.tx.now.conn.now c.create_reason.new.tx.conn.now c.set_number.new.tx.conn.now c.create_reason.ensures.survives c.set_number.ensures.survives c.create_reason.ensures.kept c.set_number.ensures.kept in
+    both_keep g.S.Store c.args.tx.now.conn.now c.create_reason.new.tx.conn.now c.set_number.new.tx.conn.now c.create_reason.ensures.survives c.set_number.ensures.survives
+    c.create_reason.ensures.kept c.set_number.ensures.kept in
     both_keep g.S.Store c.args.tx.now.conn.now c.set_number.new.tx.conn.now c.insert_reasons.new.tx.conn.now d2 c.insert_reasons.ensures.survives k2 c.insert_reasons.ensures.kept
 
 pub returns-clause-survives : goal.returns-clause-survives
