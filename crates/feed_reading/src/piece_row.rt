@@ -1,3 +1,4 @@
+//! A row of the table of parts, as values.
 ghost use Rattle.std.specs.Prelude.{◌≡◌, MatchOption};
 ghost use Rattle.feed_rows.specs.Tables.{IsPieceRow, piece_row};
 

@@ -1,3 +1,4 @@
+//! A row of the table of reasons, as values.
 ghost use Rattle.std.specs.Prelude.{◌≡◌, MatchOption};
 ghost use Rattle.feed_kbart.specs.Labels.{label_at};
 ghost use Rattle.feed_rows.specs.Tables.{IsReasonRow, reason_at};

@@ -1,3 +1,4 @@
+//! A row of the table of releases, as a record without its parts.
 ghost use Rattle.std.specs.Prelude.{◌≡◌, ◌↔◌, ◌<◌, ◌≤◌, ◌∷◌, [], pos, IfOk, IsTrue};
 ghost use Rattle.std.specs.Prelude.{MatchOption};
 ghost use Rattle.sqlite_value.specs.declared.value.Value.TheVariants.{Int, Text};

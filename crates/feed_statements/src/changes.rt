@@ -1,3 +1,4 @@
+//! Commits each change of the records as one transaction.
 ghost use Rattle.std.specs.Prelude.{◌≡◌, false, OnOk, OnErr};
 ghost use Rattle.feed_model.specs.Change.{Add, Break, after, changed, grown, without_earlier, IsAllowed};
 ghost use Rattle.feed_parts.specs.Shown.{shown_parts};

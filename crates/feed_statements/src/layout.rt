@@ -1,3 +1,4 @@
+//! Creates the tables of an empty database.
 ghost use Rattle.std.specs.Prelude.{◌≡◌, false, IsTrue, OnErr, OnOk};
 ghost use Rattle.feed_statements.specs.Effects.{Extends, IsBlank, IsLive, Keeps, Leads, LeavesDisk, Makes};
 ghost use Rattle.feed_statements.specs.Schemas.{HasAllTables, HasLayoutTable, HasNoTable, HasPieceTable};

@@ -1,3 +1,4 @@
+//! Reads the number of a database's layout.
 ghost use Rattle.std.specs.Prelude.{◌≡◌, ◌∷◌, ◌↔◌, [], false, pos, IfOk, IsTrue};
 ghost use Rattle.feed_statements.specs.Effects.{IsLive, TellsNumber};
 ghost use Rattle.sqlite.specs.Held.{state};

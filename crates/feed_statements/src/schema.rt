@@ -1,3 +1,4 @@
+//! Compares the schema of a database with those of the two layouts.
 ghost use Rattle.std.specs.Prelude.{◌≡◌, ◌≤◌, ◌↔◌, IsTrue, [], ◌∷◌, ℕ, codes};
 ghost use Rattle.std.specs.Prelude.{false, length, pos, suc};
 ghost use Rattle.sqlite_schema.specs.declared.schema.Kind.TheVariants.{Integer};

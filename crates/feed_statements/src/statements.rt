@@ -1,3 +1,4 @@
+//! The SQL statements that change records, each with its effect on the tables.
 ghost use Rattle.std.specs.Prelude.{◌≡◌, ◌≤◌, Some};
 ghost use Rattle.feed_model.specs.Change.{changed, insert_record, without_earlier};
 ghost use Rattle.feed_model.specs.Reply.{max_file};

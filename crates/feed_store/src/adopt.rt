@@ -1,3 +1,4 @@
+//! Decides whether a database is a node's, and creates or upgrades its tables.
 ghost use Rattle.std.specs.Prelude.{◌≡◌, false, IfOk, IsTrue, OnErr};
 ghost use Rattle.std.specs.List.{list_any};
 ghost use Rattle.feed_rows.specs.Layout.{earlier_schema};

@@ -1,3 +1,4 @@
+//! The errors of opening a database.
 ghost use Rattle.std.specs.Prelude.{◌≢◌};
 
 use sqlite::{Alter, Connection, Error, ErrorCode};

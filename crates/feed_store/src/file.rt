@@ -1,3 +1,4 @@
+//! Opens and closes the store over a file.
 ghost use Rattle.std.specs.Prelude.{◌≡◌, ◌≢◌, IfErr, IfOk};
 ghost use Rattle.sqlite_wal.specs.Files.{image_at};
 ghost use Rattle.feed_store.specs.Adopted.{IsOpenedAs};

@@ -1,4 +1,4 @@
-// What a database of layout 1 means when it is one of layout 2.
+//! What a database of layout 1 means once it is upgraded to layout 2.
 ghost use Rattle.feed_model.specs.Content.{IsContent};
 ghost use Rattle.feed_model.specs.Earlier.{IsEarlierContent, without_refused};
 ghost use Rattle.feed_model.specs.History.{History};

@@ -1,3 +1,4 @@
+//! The SQL store of a feed's records.
 ghost use Rattle.std.specs.Prelude.{◌≡◌, false, None, IfErr, IfOk, MatchResult};
 
 use crate::adopt::made_ready;

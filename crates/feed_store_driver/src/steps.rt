@@ -1,4 +1,4 @@
-// The steps of a feed over a database file.
+//! The steps of a feed over a database file.
 use feed_keep::Keep;
 use feed_names::ReleaseName;
 use feed_releases::{Event, Feed, Refusal, Reply};
