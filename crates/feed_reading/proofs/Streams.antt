@@ -1,10 +1,12 @@
 -- Rows that are read one by one.
-use Rattle.std.proofs.Common.{◌≡◌, ◌⊎◌, inl, inr, ℕ, List, [], ◌++◌, None, Some, IsSome, Ok, Err, Option, Result, IsTrue, IfErr, IfOk, OnErr, refl, sym, ap, subst, ◌∙◌, arith}
+use Rattle.std.proofs.Common.{◌≡◌, ◌≤◌, ◌⊎◌, inl, inr, ℕ, List, [], ◌∷◌, ◌++◌, false, None, Some, IsSome, Ok, Err, Option, Result, IsTrue, IfErr, IfOk, OnErr, OnOk, refl, sym, ap, subst, ◌∙◌, arith}
+use Rattle.std.specs.Borrow.{Bor}
 use Rattle.sqlite_value.specs.Order.{Row}
 use Rattle.sqlite_schema.specs.declared.command.Returning.{Returning}
 use Rattle.sqlite_schema.specs.declared.command.Command.{Command}
 use Rattle.sqlite_schema.specs.declared.command.Command.TheVariants.{Select}
 use Rattle.sqlite_schema.specs.declared.program.Program.{Program}
+use Rattle.sqlite_trees.specs.View.{doubt}
 use Rattle.sqlite_trees.specs.declared.store.Store as store
 use Rattle.sqlite.specs.declared.error.Error.{Error}
 use Rattle.sqlite.specs.Clock.{timed}
@@ -15,9 +17,13 @@ use Rattle.sqlite_resolve.specs.declared.error.CompileError.{CompileError}
 use Rattle.sqlite_resolve.specs.Compile.{first}
 use Rattle.sqlite.specs.Given.{HasGiven, HasBegun, IsRefused, Returns}
 use Rattle.sqlite.specs.Held.{Held, state}
-use Rattle.sqlite.specs.State.{State, HasCleanDisk, IsUnchanged, IsRolledBack, FailsToQuery, FailsToShow, IsNotRun, Shown, ShowsRows}
-use Rattle.sqlite.proofs.Callers.{EndsIn, begins_shown, command_of, given_begin}
+use Rattle.sqlite.specs.State.{State, HasCleanDisk, IsUnchanged, IsRolledBack, Fails, FailsToQuery, FailsToShow, IsNotRun, Shown, ShowsRows}
+use Rattle.sqlite.specs.Next.{HasMoved}
+use Rattle.sqlite.specs.declared.rows.Row.{Row as OneRow}
+use Rattle.sqlite.specs.declared.rows.stream.Rows.{Rows}
+use Rattle.sqlite.proofs.Callers.{EndsIn, begins_shown, command_of, given_begin, unchanged_then}
 use Rattle.sqlite.specs.Schema.{Schema}
+use Rattle.feed_rows.specs.Live.{IsLive}
 use Rattle.feed_rows.proofs.ReadOnly.{IsRead, ShowsNone, read_shows_none}
 use Rattle.feed_reading.specs.Releases.{Leaves}
 
@@ -95,3 +101,117 @@ begun_same g sql old new read (inr h) = absurd (never_both (understood old.schem
     never_both : (r : Result Compiled CompileError) → IfOk r ShowsNone → Returns r → ⊥
     never_both (Ok c) none some = absurd (let e : IsSome {T = Returning} None = subst IsSome none some in cc)
     never_both (Err e) none some = some
+
+-- what a query that gives its rows one by one has done so far
+pub record IsUnderWay {S : Type 0} (g : store.Ghosts S) (sql : List ℕ) (Known : List Row → Type 0) (old now : Held S) : Type 0 where
+  pub idle : old.in_transaction ≡ false → now.in_transaction ≡ false
+  pub live : IsLive (state g now) → IsLive (state g old)
+  pub limit : (state g now).step_limit ≡ (state g old).step_limit
+  pub read : HasCleanDisk (state g now) → HasRead g sql Known old now
+
+-- a row was given, after those of which this is known
+pub record HasRow {S : Type 0} (g : store.Ghosts S) (sql : List ℕ) (Known : List Row → Type 0) (old now : Held S) (row : Row) : Type 0 where
+  pub front : List Row
+  pub given : HasGiven g sql [] now (front ++ row ∷ [])
+  pub same : IsUnchanged (state g old) (state g now)
+  pub known : Known front
+
+-- all rows were given, and this is known of them
+pub record HasAll {S : Type 0} (g : store.Ghosts S) (sql : List ℕ) (Known : List Row → Type 0) (old mid now : Held S) : Type 0 where
+  pub rows : List Row
+  pub whole : Shown sql [] (state g mid) (state g now) rows
+  pub early : IsUnchanged (state g old) (state g mid)
+  pub same : IsUnchanged (state g old) (state g now)
+  pub known : Known rows
+
+-- a query that only reads has begun
+pub begun_way : {S : Type 0} (g : store.Ghosts S) (sql : List ℕ) (Known : List Row → Type 0) (old new : Held S) → IfOk (first sql) IsRead
+    → (HasCleanDisk (state g new) → HasBegun g sql [] old new) → (old.in_transaction ≡ false → new.in_transaction ≡ false) → doubt (state g old).is_clean ≤ doubt (state g new).is_clean
+    → (state g new).step_limit ≡ (state g old).step_limit → Known [] → IsUnderWay g sql Known old new
+begun_way g sql Known old new read begins idle falls limit known = record {
+  idle = idle;
+  live = λ live. (omega (arith, falls, live.0), begun_open g sql old new (begins live.0));
+  limit = limit;
+  read = λ clean. let it = begun_same g sql old new read (begins clean) in record { rows = []; given = it.0; same = it.1; known = known };
+}
+
+then_undone : (a b c : State) → IsUnchanged a b → IsRolledBack b c → IsRolledBack a c
+then_undone a b c same back = record {
+  was_open = λ is_open. same.0.was_open;
+  undone = λ is_open. ((back.undone is_open).0 ∙ same.0.committed_is, (back.undone is_open).1 ∙ same.0.committed_is);
+  autocommit = back.autocommit;
+  unmarked = back.unmarked;
+  counts = record { changes = back.counts.changes ∙ same.1.changes; last_rowid = back.counts.last_rowid ∙ same.1.last_rowid };
+}
+
+stays : (a b : State) (r : Result (Option (Bor OneRow)) Error) → OnOk r (IsUnchanged a b) → IfErr r (λ e. Fails a b ⊥ e ⊎ IsUnchanged a b) → LeavesAlone a b
+stays a b (Ok row) same kept = inl same
+stays a b (Err e) same (inl fails) = inr fails.3
+stays a b (Err e) same (inr still) = inl still
+
+-- the connection is what the rows left, once they are dropped
+pub lent_back : {X N : Type 0} {begun mid last : N} {name : N} {left new : X} (end : (x : X) × (name ≡ last → x ≡ new)) → new ≡ left → last ≡ mid → mid ≡ begun → begun ≡ name → left ≡ end.0
+lent_back end dropped three two one = sym (end.1 (sym (three ∙ two ∙ one)) ∙ dropped)
+
+-- one more call of `next`, whatever it returned
+module _ {S : Type 0} {g : store.Ghosts S} {sql : List ℕ} {Known : List Row → Type 0} {old : Held S} {a b : Rows S g} {result : Result (Option (Bor OneRow)) Error}
+    (way : IsUnderWay g sql Known old a.conn.now) (moved : HasMoved g a result b) where
+  before : HasCleanDisk (state g b.conn.now) → HasCleanDisk (state g a.conn.now)
+  before clean = omega (arith, moved.survives.clean)
+
+  left : HasCleanDisk (state g b.conn.now) → LeavesAlone (state g a.conn.now) (state g b.conn.now)
+  left clean = stays (state g a.conn.now) (state g b.conn.now) result (moved.same clean) (moved.kept clean)
+
+  pub next_idle : old.in_transaction ≡ false → b.conn.now.in_transaction ≡ false
+  next_idle idle = moved.mode (way.idle idle)
+
+  next_live : IsLive (state g b.conn.now) → IsLive (state g old)
+  next_live live = way.live (before live.0, was_open (state g a.conn.now) (state g b.conn.now) (left live.0) live.1)
+
+  kept : HasCleanDisk (state g a.conn.now) → LeavesAlone (state g a.conn.now) (state g b.conn.now) → LeavesAlone (state g old) (state g b.conn.now)
+  kept clean (inl same) = inl (unchanged_then (state g old) (state g a.conn.now) (state g b.conn.now) (way.read clean).same same)
+  kept clean (inr undone) = inr (then_undone (state g old) (state g a.conn.now) (state g b.conn.now) (way.read clean).same undone)
+
+  pub next_leaves : Leaves (state g old) (state g b.conn.now)
+  next_leaves = record {
+    live = next_live;
+    kept = λ live. kept (before live.0) (left live.0);
+    limit = moved.survives.limit ∙ way.limit;
+  }
+
+  -- it returned a row
+  pub next_row : (row : Bor OneRow) → result ≡ Ok (Some row) → HasCleanDisk (state g b.conn.now) → HasRow g sql Known old b.conn.now row.now
+  next_row row is clean =
+      let read = way.read (before clean) in
+      let step : IsUnchanged (state g a.conn.now) (state g b.conn.now) = rw is at (moved.same clean) in record {
+        front = read.rows;
+        given = (rw is at (moved.ok clean)) sql [] read.rows read.given;
+        same = unchanged_then (state g old) (state g a.conn.now) (state g b.conn.now) read.same step;
+        known = read.known;
+      }
+
+  pub next_way : (More : List Row → Type 0) (row : Bor OneRow) → result ≡ Ok (Some row) → ((rows : List Row) → Known rows → More (rows ++ row.now ∷ []))
+      → IsUnderWay g sql More old b.conn.now
+  next_way More row is more = record {
+    idle = next_idle;
+    live = next_live;
+    limit = moved.survives.limit ∙ way.limit;
+    read = λ clean. let it = next_row row is clean in
+        record { rows = it.front ++ row.now ∷ []; given = it.given; same = it.same; known = more it.front it.known };
+  }
+
+  -- it returned no row
+  pub next_all : result ≡ Ok None → HasCleanDisk (state g b.conn.now) → HasAll g sql Known old a.conn.now b.conn.now
+  next_all is clean =
+      let read = way.read (before clean) in
+      let step : IsUnchanged (state g a.conn.now) (state g b.conn.now) = rw is at (moved.same clean) in record {
+        rows = read.rows;
+        whole = (rw is at (moved.ok clean)) sql [] read.rows read.given;
+        early = read.same;
+        same = unchanged_then (state g old) (state g a.conn.now) (state g b.conn.now) read.same step;
+        known = read.known;
+      }
+
+-- the query is left as it is
+pub way_leaves : {S : Type 0} {g : store.Ghosts S} {sql : List ℕ} {Known : List Row → Type 0} {old now : Held S} → IsUnderWay g sql Known old now → Leaves (state g old) (state g now)
+way_leaves way = record { live = way.live; kept = λ live. inl (way.read live.0).same; limit = way.limit }

@@ -1,7 +1,7 @@
-use Rattle.std.proofs.Common.{◌≡◌, ◌≢◌, ◌∙◌, ap, rules, refl, arith, [], All}
+use Rattle.std.proofs.Common.{◌≡◌, ◌≢◌, ◌∙◌, ap, sym, subst, refl, Ok, All, List}
+use Rattle.sqlite_value.specs.Order.{Row}
 use Rattle.sqlite.specs.Held.{state}
 use Rattle.sqlite.specs.State.{HasCleanDisk, IsUnchanged}
-use Rattle.sqlite.proofs.Callers.{unchanged_then}
 use Rattle.sqlite_rules.proofs.ListLemmas.{all_has}
 use Rattle.feed_names.specs.ReleaseName.{text_of}
 use Rattle.feed_model.specs.Content.{names}
@@ -9,10 +9,11 @@ use Rattle.feed_keep.specs.Shown.{shown}
 use Rattle.feed_keep.specs.declared.record.Record.{Record}
 use Rattle.feed_rows.specs.Tables.{IsReasonRow, IsListed, earlier_content_of, text_in}
 use Rattle.feed_reading.specs.Texts.{reasons_text}
-use Rattle.feed_reading.specs.Reasons.{AreReasonsOf}
+use Rattle.feed_reading.specs.Reasons.{ShowReasons}
+use Rattle.feed_reading.specs.Releases.{Leaves}
 use Rattle.feed_reading.proofs.ReasonAnswers.{are_reasons, given_reason, no_lone_reason, reasons_read}
 use Rattle.feed_reading.proofs.GivenReasons.{reasons_none}
-use Rattle.feed_reading.proofs.Streams.{begun_open, begun_same, refused_leaves}
+use Rattle.feed_reading.proofs.Streams.{begun_way, lent_back, next_all, next_idle, next_leaves, next_row, next_way, refused_leaves, way_leaves}
 use Rattle.feed_reading.proofs.reasons.select_reasons.Goals as goal
 
 pub returns-in_err-rows-clause-leaves : goal.returns-in_err-rows-clause-leaves
@@ -22,49 +23,83 @@ returns-in_err-rows-clause-leaves g c =
 pub rows-init : goal.rows-init
 rows-init g c =
     let made = c.in_ok-rows.ensures in
-    let old = c.args.conn.now in
-    let new = c.in_ok-rows.rows.conn.now in record {
+    let start = shown c.args.records.now.items in
+    let Known : List Row → Type 0 = λ rows. ShowReasons rows c.new-ids.result.items start start in record {
       lent = refl;
-      idle = made.mode;
-      live = λ live. (omega (arith, made.survives.clean, live.0), begun_open g.S.Store reasons_text old new (made.begun live.0));
-      limit = made.survives.limit;
+      way = begun_way g.S.Store reasons_text Known c.args.conn.now c.in_ok-rows.rows.conn.now reasons_read made.begun made.mode made.survives.clean made.survives.limit (reasons_none _ _ c.new-ids.ensures.items);
       names = refl;
       parts = refl;
-      read = λ clean.
-          let begun = begun_same g.S.Store reasons_text old new reasons_read (made.begun clean) in
-          record { rows = []; given = begun.0; same = begun.1; known = reasons_none _ _ c.new-ids.ensures.items };
     }
+
+pub rows-preserved : goal.rows-preserved
+rows-preserved g c =
+    let start = shown c.args.records.now.items in
+    let More : List Row → Type 0 = λ rows. ShowReasons rows c.take_reason.new.ids.items start (shown c.take_reason.new.records.items) in record {
+      lent = c.next.follows.holds-at-none.same_reference ∙ c.rows.invariant.lent;
+      way = next_way c.rows.invariant.way c.next.follows.holds-at-none More c.in-Some.row (c.in_ok-row.was ∙ ap Ok c.in-Some.is)
+          (λ rows known. (rw c.if-not-branch.false at c.in_ok-take_reason.ensures.taken) rows start known);
+      names = c.take_reason.ensures.names ∙ c.rows.invariant.names;
+      parts = c.take_reason.ensures.parts ∙ c.rows.invariant.parts;
+    }
+
+pub returns-in_err-row-clause-idle : goal.returns-in_err-row-clause-idle
+returns-in_err-row-clause-idle g c idle = ap (λ h. h.in_transaction) (sym (lent_back c.conn-in_err-row-1.given c.drop-rows.ensures c.next.follows.holds-at-none.same_reference c.rows.invariant.lent c.in_ok-rows.ensures.same_reference)) ∙ next_idle c.rows.invariant.way c.next.follows.holds-at-none idle
+
+pub returns-in_err-row-clause-leaves : goal.returns-in_err-row-clause-leaves
+returns-in_err-row-clause-leaves g c =
+    subst (λ h. Leaves (state g.S.Store c.args.conn.now) (state g.S.Store h)) (lent_back c.conn-in_err-row-1.given c.drop-rows.ensures c.next.follows.holds-at-none.same_reference c.rows.invariant.lent c.in_ok-rows.ensures.same_reference)
+    (next_leaves c.rows.invariant.way c.next.follows.holds-at-none)
+
+pub returns-in_default-clause-idle : goal.returns-in_default-clause-idle
+returns-in_default-clause-idle g c idle = ap (λ h. h.in_transaction) (sym (lent_back c.conn-in_default-1.given c.drop-rows-in_default.ensures c.next.follows.holds-at-none.same_reference c.rows.invariant.lent c.in_ok-rows.ensures.same_reference)) ∙ next_idle c.rows.invariant.way c.next.follows.holds-at-none idle
+
+pub returns-in_default-clause-leaves : goal.returns-in_default-clause-leaves
+returns-in_default-clause-leaves g c =
+    subst (λ h. Leaves (state g.S.Store c.args.conn.now) (state g.S.Store h)) (lent_back c.conn-in_default-1.given c.drop-rows-in_default.ensures c.next.follows.holds-at-none.same_reference c.rows.invariant.lent c.in_ok-rows.ensures.same_reference)
+    (next_leaves c.rows.invariant.way c.next.follows.holds-at-none)
+
+pub returns-in_err-take_reason-clause-idle : goal.returns-in_err-take_reason-clause-idle
+returns-in_err-take_reason-clause-idle g c idle = ap (λ h. h.in_transaction) (sym (lent_back c.conn-in_err-take_reason-1.given c.drop-rows-in_err-take_reason.ensures c.next.follows.holds-at-none.same_reference c.rows.invariant.lent c.in_ok-rows.ensures.same_reference)) ∙ next_idle c.rows.invariant.way c.next.follows.holds-at-none idle
+
+pub returns-in_err-take_reason-clause-leaves : goal.returns-in_err-take_reason-clause-leaves
+returns-in_err-take_reason-clause-leaves g c =
+    subst (λ h. Leaves (state g.S.Store c.args.conn.now) (state g.S.Store h)) (lent_back c.conn-in_err-take_reason-1.given c.drop-rows-in_err-take_reason.ensures c.next.follows.holds-at-none.same_reference c.rows.invariant.lent c.in_ok-rows.ensures.same_reference)
+    (next_leaves c.rows.invariant.way c.next.follows.holds-at-none)
+
+pub returns-then-not-branch-clause-idle : goal.returns-then-not-branch-clause-idle
+returns-then-not-branch-clause-idle g c idle = ap (λ h. h.in_transaction) (sym (lent_back c.conn-then-not-branch-1.given c.drop-rows-then-not-branch.ensures c.next.follows.holds-at-none.same_reference c.rows.invariant.lent c.in_ok-rows.ensures.same_reference)) ∙ next_idle c.rows.invariant.way c.next.follows.holds-at-none idle
+
+pub returns-then-not-branch-clause-leaves : goal.returns-then-not-branch-clause-leaves
+returns-then-not-branch-clause-leaves g c =
+    subst (λ h. Leaves (state g.S.Store c.args.conn.now) (state g.S.Store h)) (lent_back c.conn-then-not-branch-1.given c.drop-rows-then-not-branch.ensures c.next.follows.holds-at-none.same_reference c.rows.invariant.lent c.in_ok-rows.ensures.same_reference)
+    (next_leaves c.rows.invariant.way c.next.follows.holds-at-none)
+
+pub returns-clause-idle : goal.returns-clause-idle
+returns-clause-idle g c idle = ap (λ h. h.in_transaction) (sym (lent_back c.conn-2-1.given c.drop-rows-2.ensures refl c.rows.invariant.lent c.in_ok-rows.ensures.same_reference)) ∙ c.rows.invariant.way.idle idle
+
+pub returns-clause-leaves : goal.returns-clause-leaves
+returns-clause-leaves g c =
+    subst (λ h. Leaves (state g.S.Store c.args.conn.now) (state g.S.Store h)) (lent_back c.conn-2-1.given c.drop-rows-2.ensures refl c.rows.invariant.lent c.in_ok-rows.ensures.same_reference) (way_leaves c.rows.invariant.way)
 
 pub returns-in_default-clause-read : goal.returns-in_default-clause-read
 returns-in_default-clause-read g c live ours =
-    let old = state g.S.Store c.args.conn.now in
-    let mid = state g.S.Store c.rows.rows.conn.now in
-    let end = state g.S.Store c.next.follows.lender-at-none.conn.now in
-    let moved = c.next.follows.holds-at-none in
-    let late : HasCleanDisk end = search rules in
-    let read = c.rows.invariant.read (omega (arith, moved.survives.clean, late)) in
-    let whole = (rw (c.in_ok-row.was, c.in_default.is) at (moved.ok late)) reasons_text [] read.rows read.given in
-    let step : IsUnchanged mid end = rw c.in_ok-row.was at (moved.same late) in
-    let same : IsUnchanged old end = unchanged_then old mid end read.same step in
-    let are : AreReasonsOf old.now c.rows.ids.items (shown c.args.records.now.items) (shown c.rows.records.items) =
-    are_reasons old mid end read.rows _ _ _ ours read.same whole read.known in
-    (search rules, are)
+    let end = lent_back c.conn-in_default-1.given c.drop-rows-in_default.ensures c.next.follows.holds-at-none.same_reference c.rows.invariant.lent c.in_ok-rows.ensures.same_reference in
+    let late = subst (λ h. HasCleanDisk (state g.S.Store h)) (sym end) live.0 in
+    let all = next_all c.rows.invariant.way c.next.follows.holds-at-none (c.in_ok-row.was ∙ ap Ok c.in_default.is) late in (
+      subst (λ h. IsUnchanged (state g.S.Store c.args.conn.now) (state g.S.Store h)) end all.same,
+      are_reasons (state g.S.Store c.args.conn.now) (state g.S.Store c.rows.rows.conn.now) (state g.S.Store c.next.follows.lender-at-none.conn.now) all.rows _ _ _ ours all.early all.whole all.known,
+    )
 
 pub returns-then-not-branch-clause-read : goal.returns-then-not-branch-clause-read
 returns-then-not-branch-clause-read g c live ours =
     let old = state g.S.Store c.args.conn.now in
-    let mid = state g.S.Store c.rows.rows.conn.now in
     let now = c.next.follows.lender-at-none.conn.now in
-    let end = state g.S.Store now in
+    let end = lent_back c.conn-then-not-branch-1.given c.drop-rows-then-not-branch.ensures c.next.follows.holds-at-none.same_reference c.rows.invariant.lent c.in_ok-rows.ensures.same_reference in
+    let late = subst (λ h. HasCleanDisk (state g.S.Store h)) (sym end) live.0 in
     let row = c.in-Some.row.now in
-    let moved = c.next.follows.holds-at-none in
-    let late : HasCleanDisk end = search rules in
-    let read = c.rows.invariant.read (omega (arith, moved.survives.clean, late)) in
-    let given = (rw (c.in_ok-row.was, c.in-Some.is) at (moved.ok late)) reasons_text [] read.rows read.given in
-    let step : IsUnchanged mid end = rw c.in_ok-row.was at (moved.same late) in
-    let same : IsUnchanged old end = unchanged_then old mid end read.same step in
+    let it = next_row c.rows.invariant.way c.next.follows.holds-at-none c.in-Some.row (c.in_ok-row.was ∙ ap Ok c.in-Some.is) late in
     let refused : IsReasonRow row → All {X = Record} (λ r. text_of r.name ≢ text_in row) c.rows.records.items = rw c.if-not-branch.true at c.in_ok-take_reason.ensures.taken in
-    let here = given_reason g.S.Store c.args.conn.now now read.rows row ours same given in
+    let here = given_reason g.S.Store c.args.conn.now now it.front row ours it.same it.given in
     let none : shown c.args.records.now.items ≡ earlier_content_of old.now → ¬ (IsListed old.now) = λ content are.
     no_lone_reason old.now c.rows.records.items row ours are (c.rows.invariant.names ∙ ap names content) here (refused (all_has IsReasonRow (old.now.trees 5) row are.reasons.are here)) in
-    (search rules, none)
+    (subst (λ h. IsUnchanged old (state g.S.Store h)) end it.same, none)

@@ -1,14 +1,14 @@
-use Rattle.std.proofs.Common.{rules, refl, arith, []}
+use Rattle.std.proofs.Common.{◌∙◌, ap, sym, subst, refl, Ok}
 use Rattle.sqlite.specs.Held.{state}
 use Rattle.sqlite.specs.State.{HasCleanDisk, IsUnchanged}
-use Rattle.sqlite.proofs.Callers.{unchanged_then}
-use Rattle.feed_rows.specs.Tables.{IsReleaseRow, IsEarlierListed}
+use Rattle.feed_rows.specs.Tables.{IsEarlierListed, IsReleaseRow}
+use Rattle.feed_rows.proofs.Ours.{tables_in}
 use Rattle.feed_reading.specs.Texts.{releases_text}
-use Rattle.feed_reading.specs.Releases.{AreReleases}
+use Rattle.feed_reading.specs.declared.releases.Releases.{Releases}
+use Rattle.feed_reading.specs.Releases.{Leaves, ShowReleases}
 use Rattle.feed_reading.proofs.Answers.{releases_read}
 use Rattle.feed_reading.proofs.More.{show_none}
-use Rattle.feed_rows.proofs.Ours.{tables_in}
-use Rattle.feed_reading.proofs.Streams.{begun_open, begun_same, refused_leaves}
+use Rattle.feed_reading.proofs.Streams.{begun_way, lent_back, next_all, next_idle, next_leaves, next_row, next_way, refused_leaves, way_leaves}
 use Rattle.feed_reading.proofs.Selected.{are_releases, given_listed}
 use Rattle.feed_reading.proofs.releases.select_releases.Goals as goal
 
@@ -19,45 +19,76 @@ returns-in_err-rows-clause-leaves g c =
 pub rows-init : goal.rows-init
 rows-init g c =
     let made = c.in_ok-rows.ensures in
-    let old = c.args.conn.now in
-    let new = c.in_ok-rows.rows.conn.now in record {
+    let none : Releases = record { ids = c.new.result; records = c.new-2.result } in record {
       lent = refl;
-      idle = made.mode;
-      live = λ live. (omega (arith, made.survives.clean, live.0), begun_open g.S.Store releases_text old new (made.begun live.0));
-      limit = made.survives.limit;
-      read = λ clean.
-          let begun = begun_same g.S.Store releases_text old new releases_read (made.begun clean) in
-          record { rows = []; given = begun.0; same = begun.1; known = show_none _ c.new.ensures.items c.new-2.ensures.items };
+      way = begun_way g.S.Store releases_text (λ rows. ShowReleases rows none) c.args.conn.now c.in_ok-rows.rows.conn.now releases_read made.begun made.mode made.survives.clean made.survives.limit
+          (show_none _ c.new.ensures.items c.new-2.ensures.items);
     }
+
+pub rows-preserved : goal.rows-preserved
+rows-preserved g c = record {
+  lent = c.next.follows.holds-at-none.same_reference ∙ c.rows.invariant.lent;
+  way = next_way c.rows.invariant.way c.next.follows.holds-at-none (λ rows. ShowReleases rows c.take_release.new.found) c.in-Some.row (c.in_ok-row.was ∙ ap Ok c.in-Some.is)
+      (rw c.if-not-branch.false at c.in_ok-take_release.ensures);
+}
+
+pub returns-in_err-row-clause-idle : goal.returns-in_err-row-clause-idle
+returns-in_err-row-clause-idle g c idle = ap (λ h. h.in_transaction) (sym (lent_back c.conn-in_err-row-1.given c.drop-rows.ensures c.next.follows.holds-at-none.same_reference c.rows.invariant.lent c.in_ok-rows.ensures.same_reference)) ∙ next_idle c.rows.invariant.way c.next.follows.holds-at-none idle
+
+pub returns-in_err-row-clause-leaves : goal.returns-in_err-row-clause-leaves
+returns-in_err-row-clause-leaves g c =
+    subst (λ h. Leaves (state g.S.Store c.args.conn.now) (state g.S.Store h)) (lent_back c.conn-in_err-row-1.given c.drop-rows.ensures c.next.follows.holds-at-none.same_reference c.rows.invariant.lent c.in_ok-rows.ensures.same_reference)
+    (next_leaves c.rows.invariant.way c.next.follows.holds-at-none)
+
+pub returns-in_default-clause-idle : goal.returns-in_default-clause-idle
+returns-in_default-clause-idle g c idle = ap (λ h. h.in_transaction) (sym (lent_back c.conn-in_default-1.given c.drop-rows-in_default.ensures c.next.follows.holds-at-none.same_reference c.rows.invariant.lent c.in_ok-rows.ensures.same_reference)) ∙ next_idle c.rows.invariant.way c.next.follows.holds-at-none idle
+
+pub returns-in_default-clause-leaves : goal.returns-in_default-clause-leaves
+returns-in_default-clause-leaves g c =
+    subst (λ h. Leaves (state g.S.Store c.args.conn.now) (state g.S.Store h)) (lent_back c.conn-in_default-1.given c.drop-rows-in_default.ensures c.next.follows.holds-at-none.same_reference c.rows.invariant.lent c.in_ok-rows.ensures.same_reference)
+    (next_leaves c.rows.invariant.way c.next.follows.holds-at-none)
+
+pub returns-in_err-take_release-clause-idle : goal.returns-in_err-take_release-clause-idle
+returns-in_err-take_release-clause-idle g c idle = ap (λ h. h.in_transaction) (sym (lent_back c.conn-in_err-take_release-1.given c.drop-rows-in_err-take_release.ensures c.next.follows.holds-at-none.same_reference c.rows.invariant.lent c.in_ok-rows.ensures.same_reference)) ∙ next_idle c.rows.invariant.way c.next.follows.holds-at-none idle
+
+pub returns-in_err-take_release-clause-leaves : goal.returns-in_err-take_release-clause-leaves
+returns-in_err-take_release-clause-leaves g c =
+    subst (λ h. Leaves (state g.S.Store c.args.conn.now) (state g.S.Store h)) (lent_back c.conn-in_err-take_release-1.given c.drop-rows-in_err-take_release.ensures c.next.follows.holds-at-none.same_reference c.rows.invariant.lent c.in_ok-rows.ensures.same_reference)
+    (next_leaves c.rows.invariant.way c.next.follows.holds-at-none)
+
+pub returns-then-not-branch-clause-idle : goal.returns-then-not-branch-clause-idle
+returns-then-not-branch-clause-idle g c idle = ap (λ h. h.in_transaction) (sym (lent_back c.conn-then-not-branch-1.given c.drop-rows-then-not-branch.ensures c.next.follows.holds-at-none.same_reference c.rows.invariant.lent c.in_ok-rows.ensures.same_reference)) ∙ next_idle c.rows.invariant.way c.next.follows.holds-at-none idle
+
+pub returns-then-not-branch-clause-leaves : goal.returns-then-not-branch-clause-leaves
+returns-then-not-branch-clause-leaves g c =
+    subst (λ h. Leaves (state g.S.Store c.args.conn.now) (state g.S.Store h)) (lent_back c.conn-then-not-branch-1.given c.drop-rows-then-not-branch.ensures c.next.follows.holds-at-none.same_reference c.rows.invariant.lent c.in_ok-rows.ensures.same_reference)
+    (next_leaves c.rows.invariant.way c.next.follows.holds-at-none)
+
+pub returns-clause-idle : goal.returns-clause-idle
+returns-clause-idle g c idle = ap (λ h. h.in_transaction) (sym (lent_back c.conn-2-1.given c.drop-rows-2.ensures refl c.rows.invariant.lent c.in_ok-rows.ensures.same_reference)) ∙ c.rows.invariant.way.idle idle
+
+pub returns-clause-leaves : goal.returns-clause-leaves
+returns-clause-leaves g c =
+    subst (λ h. Leaves (state g.S.Store c.args.conn.now) (state g.S.Store h)) (lent_back c.conn-2-1.given c.drop-rows-2.ensures refl c.rows.invariant.lent c.in_ok-rows.ensures.same_reference) (way_leaves c.rows.invariant.way)
 
 pub returns-in_default-clause-read : goal.returns-in_default-clause-read
 returns-in_default-clause-read g c live tabled =
     let ours = tables_in (state g.S.Store c.args.conn.now).now tabled in
-    let old = state g.S.Store c.args.conn.now in
-    let mid = state g.S.Store c.rows.rows.conn.now in
-    let end = state g.S.Store c.next.follows.lender-at-none.conn.now in
-    let moved = c.next.follows.holds-at-none in
-    let late : HasCleanDisk end = search rules in
-    let read = c.rows.invariant.read (omega (arith, moved.survives.clean, late)) in
-    let shown = (rw (c.in_ok-row.was, c.in_default.is) at (moved.ok late)) releases_text [] read.rows read.given in
-    let step : IsUnchanged mid end = rw c.in_ok-row.was at (moved.same late) in
-    let same : IsUnchanged old end = unchanged_then old mid end read.same step in
-    let are : AreReleases old.now c.rows.found = are_releases old mid end read.rows c.rows.found ours read.same shown read.known in
-    (search rules, are)
+    let end = lent_back c.conn-in_default-1.given c.drop-rows-in_default.ensures c.next.follows.holds-at-none.same_reference c.rows.invariant.lent c.in_ok-rows.ensures.same_reference in
+    let late = subst (λ h. HasCleanDisk (state g.S.Store h)) (sym end) live.0 in
+    let all = next_all c.rows.invariant.way c.next.follows.holds-at-none (c.in_ok-row.was ∙ ap Ok c.in_default.is) late in (
+      subst (λ h. IsUnchanged (state g.S.Store c.args.conn.now) (state g.S.Store h)) end all.same,
+      are_releases (state g.S.Store c.args.conn.now) (state g.S.Store c.rows.rows.conn.now) (state g.S.Store c.next.follows.lender-at-none.conn.now) all.rows c.rows.found ours all.early all.whole all.known,
+    )
 
 pub returns-then-not-branch-clause-read : goal.returns-then-not-branch-clause-read
 returns-then-not-branch-clause-read g c live tabled =
-    let ours = tables_in (state g.S.Store c.args.conn.now).now tabled in
     let old = state g.S.Store c.args.conn.now in
-    let mid = state g.S.Store c.rows.rows.conn.now in
+    let ours = tables_in old.now tabled in
     let now = c.next.follows.lender-at-none.conn.now in
-    let end = state g.S.Store now in
-    let moved = c.next.follows.holds-at-none in
-    let late : HasCleanDisk end = search rules in
-    let read = c.rows.invariant.read (omega (arith, moved.survives.clean, late)) in
-    let given = (rw (c.in_ok-row.was, c.in-Some.is) at (moved.ok late)) releases_text [] read.rows read.given in
-    let step : IsUnchanged mid end = rw c.in_ok-row.was at (moved.same late) in
-    let same : IsUnchanged old end = unchanged_then old mid end read.same step in
+    let end = lent_back c.conn-then-not-branch-1.given c.drop-rows-then-not-branch.ensures c.next.follows.holds-at-none.same_reference c.rows.invariant.lent c.in_ok-rows.ensures.same_reference in
+    let late = subst (λ h. HasCleanDisk (state g.S.Store h)) (sym end) live.0 in
+    let it = next_row c.rows.invariant.way c.next.follows.holds-at-none c.in-Some.row (c.in_ok-row.was ∙ ap Ok c.in-Some.is) late in
     let no : ¬ (IsReleaseRow c.in-Some.row.now) = rw c.if-not-branch.true at c.in_ok-take_release.ensures in
-    let none : ¬ (IsEarlierListed old.now) = λ are. no (given_listed g.S.Store c.args.conn.now now read.rows c.in-Some.row.now ours same given are) in
-    (search rules, none)
+    let none : ¬ (IsEarlierListed old.now) = λ are. no (given_listed g.S.Store c.args.conn.now now it.front c.in-Some.row.now ours it.same it.given are) in
+    (subst (λ h. IsUnchanged old (state g.S.Store h)) end it.same, none)
