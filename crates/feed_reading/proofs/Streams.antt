@@ -149,9 +149,21 @@ stays a b (Ok row) same kept = inl same
 stays a b (Err e) same (inl fails) = inr fails.3
 stays a b (Err e) same (inr still) = inl still
 
--- the connection is what the rows left, once they are dropped
+-- a connection that was lent is what the rows left, once they are dropped
 pub lent_back : {X N : Type 0} {begun mid last : N} {name : N} {left new : X} (end : (x : X) × (name ≡ last → x ≡ new)) → new ≡ left → last ≡ mid → mid ≡ begun → begun ≡ name → left ≡ end.0
 lent_back end dropped three two one = sym (end.1 (sym (three ∙ two ∙ one)) ∙ dropped)
+
+pub idle_at : {S : Type 0} {left end : Held S} → left ≡ end → left.in_transaction ≡ false → end.in_transaction ≡ false
+idle_at is idle = ap (λ h. h.in_transaction) (sym is) ∙ idle
+
+pub leaves_at : {S : Type 0} (g : store.Ghosts S) (old : Held S) {left end : Held S} → left ≡ end → Leaves (state g old) (state g left) → Leaves (state g old) (state g end)
+leaves_at g old is leaves = subst (λ h. Leaves (state g old) (state g h)) is leaves
+
+pub clean_at : {S : Type 0} (g : store.Ghosts S) {left end : Held S} → left ≡ end → HasCleanDisk (state g end) → HasCleanDisk (state g left)
+clean_at g is clean = subst (λ h. HasCleanDisk (state g h)) (sym is) clean
+
+pub unchanged_at : {S : Type 0} (g : store.Ghosts S) (old : Held S) {left end : Held S} → left ≡ end → IsUnchanged (state g old) (state g left) → IsUnchanged (state g old) (state g end)
+unchanged_at g old is same = subst (λ h. IsUnchanged (state g old) (state g h)) is same
 
 -- one more call of `next`, whatever it returned
 module _ {S : Type 0} {g : store.Ghosts S} {sql : List ℕ} {Known : List Row → Type 0} {old : Held S} {a b : Rows S g} {result : Result (Option (Bor OneRow)) Error}

@@ -13,7 +13,7 @@ use Rattle.feed_reading.specs.Reasons.{ShowReasons}
 use Rattle.feed_reading.specs.Releases.{Leaves}
 use Rattle.feed_reading.proofs.ReasonAnswers.{are_reasons, given_reason, no_lone_reason, reasons_read}
 use Rattle.feed_reading.proofs.GivenReasons.{reasons_none}
-use Rattle.feed_reading.proofs.Streams.{begun_way, lent_back, next_all, next_idle, next_leaves, next_row, next_way, refused_leaves, way_leaves}
+use Rattle.feed_reading.proofs.Streams.{begun_way, clean_at, idle_at, leaves_at, lent_back, next_all, next_idle, next_leaves, next_row, next_way, refused_leaves, unchanged_at, way_leaves}
 use Rattle.feed_reading.proofs.reasons.select_reasons.Goals as goal
 
 pub returns-in_err-rows-clause-leaves : goal.returns-in_err-rows-clause-leaves
@@ -26,7 +26,8 @@ rows-init g c =
     let start = shown c.args.records.now.items in
     let Known : List Row → Type 0 = λ rows. ShowReasons rows c.new-ids.result.items start start in record {
       lent = refl;
-      way = begun_way g.S.Store reasons_text Known c.args.conn.now c.in_ok-rows.rows.conn.now reasons_read made.begun made.mode made.survives.clean made.survives.limit (reasons_none _ _ c.new-ids.ensures.items);
+      way = begun_way g.S.Store reasons_text Known c.args.conn.now c.in_ok-rows.rows.conn.now reasons_read made.begun made.mode
+          made.survives.clean made.survives.limit (reasons_none _ _ c.new-ids.ensures.items);
       names = refl;
       parts = refl;
     }
@@ -43,48 +44,70 @@ rows-preserved g c =
     }
 
 pub returns-in_err-row-clause-idle : goal.returns-in_err-row-clause-idle
-returns-in_err-row-clause-idle g c idle = ap (λ h. h.in_transaction) (sym (lent_back c.conn-in_err-row-1.given c.drop-rows.ensures c.next.follows.holds-at-none.same_reference c.rows.invariant.lent c.in_ok-rows.ensures.same_reference)) ∙ next_idle c.rows.invariant.way c.next.follows.holds-at-none idle
+returns-in_err-row-clause-idle g c idle =
+    let end = lent_back c.conn-in_err-row-1.given c.drop-rows.ensures c.next.follows.holds-at-none.same_reference
+    c.rows.invariant.lent c.in_ok-rows.ensures.same_reference in
+    idle_at end (next_idle c.rows.invariant.way c.next.follows.holds-at-none idle)
 
 pub returns-in_err-row-clause-leaves : goal.returns-in_err-row-clause-leaves
 returns-in_err-row-clause-leaves g c =
-    subst (λ h. Leaves (state g.S.Store c.args.conn.now) (state g.S.Store h)) (lent_back c.conn-in_err-row-1.given c.drop-rows.ensures c.next.follows.holds-at-none.same_reference c.rows.invariant.lent c.in_ok-rows.ensures.same_reference)
-    (next_leaves c.rows.invariant.way c.next.follows.holds-at-none)
+    let end = lent_back c.conn-in_err-row-1.given c.drop-rows.ensures c.next.follows.holds-at-none.same_reference
+    c.rows.invariant.lent c.in_ok-rows.ensures.same_reference in
+    leaves_at g.S.Store c.args.conn.now end (next_leaves c.rows.invariant.way c.next.follows.holds-at-none)
 
 pub returns-in_default-clause-idle : goal.returns-in_default-clause-idle
-returns-in_default-clause-idle g c idle = ap (λ h. h.in_transaction) (sym (lent_back c.conn-in_default-1.given c.drop-rows-in_default.ensures c.next.follows.holds-at-none.same_reference c.rows.invariant.lent c.in_ok-rows.ensures.same_reference)) ∙ next_idle c.rows.invariant.way c.next.follows.holds-at-none idle
+returns-in_default-clause-idle g c idle =
+    let end = lent_back c.conn-in_default-1.given c.drop-rows-in_default.ensures c.next.follows.holds-at-none.same_reference
+    c.rows.invariant.lent c.in_ok-rows.ensures.same_reference in
+    idle_at end (next_idle c.rows.invariant.way c.next.follows.holds-at-none idle)
 
 pub returns-in_default-clause-leaves : goal.returns-in_default-clause-leaves
 returns-in_default-clause-leaves g c =
-    subst (λ h. Leaves (state g.S.Store c.args.conn.now) (state g.S.Store h)) (lent_back c.conn-in_default-1.given c.drop-rows-in_default.ensures c.next.follows.holds-at-none.same_reference c.rows.invariant.lent c.in_ok-rows.ensures.same_reference)
-    (next_leaves c.rows.invariant.way c.next.follows.holds-at-none)
+    let end = lent_back c.conn-in_default-1.given c.drop-rows-in_default.ensures c.next.follows.holds-at-none.same_reference
+    c.rows.invariant.lent c.in_ok-rows.ensures.same_reference in
+    leaves_at g.S.Store c.args.conn.now end (next_leaves c.rows.invariant.way c.next.follows.holds-at-none)
 
 pub returns-in_err-take_reason-clause-idle : goal.returns-in_err-take_reason-clause-idle
-returns-in_err-take_reason-clause-idle g c idle = ap (λ h. h.in_transaction) (sym (lent_back c.conn-in_err-take_reason-1.given c.drop-rows-in_err-take_reason.ensures c.next.follows.holds-at-none.same_reference c.rows.invariant.lent c.in_ok-rows.ensures.same_reference)) ∙ next_idle c.rows.invariant.way c.next.follows.holds-at-none idle
+returns-in_err-take_reason-clause-idle g c idle =
+    let end = lent_back c.conn-in_err-take_reason-1.given c.drop-rows-in_err-take_reason.ensures c.next.follows.holds-at-none.same_reference
+    c.rows.invariant.lent c.in_ok-rows.ensures.same_reference in
+    idle_at end (next_idle c.rows.invariant.way c.next.follows.holds-at-none idle)
 
 pub returns-in_err-take_reason-clause-leaves : goal.returns-in_err-take_reason-clause-leaves
 returns-in_err-take_reason-clause-leaves g c =
-    subst (λ h. Leaves (state g.S.Store c.args.conn.now) (state g.S.Store h)) (lent_back c.conn-in_err-take_reason-1.given c.drop-rows-in_err-take_reason.ensures c.next.follows.holds-at-none.same_reference c.rows.invariant.lent c.in_ok-rows.ensures.same_reference)
-    (next_leaves c.rows.invariant.way c.next.follows.holds-at-none)
+    let end = lent_back c.conn-in_err-take_reason-1.given c.drop-rows-in_err-take_reason.ensures c.next.follows.holds-at-none.same_reference
+    c.rows.invariant.lent c.in_ok-rows.ensures.same_reference in
+    leaves_at g.S.Store c.args.conn.now end (next_leaves c.rows.invariant.way c.next.follows.holds-at-none)
 
 pub returns-then-not-branch-clause-idle : goal.returns-then-not-branch-clause-idle
-returns-then-not-branch-clause-idle g c idle = ap (λ h. h.in_transaction) (sym (lent_back c.conn-then-not-branch-1.given c.drop-rows-then-not-branch.ensures c.next.follows.holds-at-none.same_reference c.rows.invariant.lent c.in_ok-rows.ensures.same_reference)) ∙ next_idle c.rows.invariant.way c.next.follows.holds-at-none idle
+returns-then-not-branch-clause-idle g c idle =
+    let end = lent_back c.conn-then-not-branch-1.given c.drop-rows-then-not-branch.ensures c.next.follows.holds-at-none.same_reference
+    c.rows.invariant.lent c.in_ok-rows.ensures.same_reference in
+    idle_at end (next_idle c.rows.invariant.way c.next.follows.holds-at-none idle)
 
 pub returns-then-not-branch-clause-leaves : goal.returns-then-not-branch-clause-leaves
 returns-then-not-branch-clause-leaves g c =
-    subst (λ h. Leaves (state g.S.Store c.args.conn.now) (state g.S.Store h)) (lent_back c.conn-then-not-branch-1.given c.drop-rows-then-not-branch.ensures c.next.follows.holds-at-none.same_reference c.rows.invariant.lent c.in_ok-rows.ensures.same_reference)
-    (next_leaves c.rows.invariant.way c.next.follows.holds-at-none)
+    let end = lent_back c.conn-then-not-branch-1.given c.drop-rows-then-not-branch.ensures c.next.follows.holds-at-none.same_reference
+    c.rows.invariant.lent c.in_ok-rows.ensures.same_reference in
+    leaves_at g.S.Store c.args.conn.now end (next_leaves c.rows.invariant.way c.next.follows.holds-at-none)
 
 pub returns-clause-idle : goal.returns-clause-idle
-returns-clause-idle g c idle = ap (λ h. h.in_transaction) (sym (lent_back c.conn-2-1.given c.drop-rows-2.ensures refl c.rows.invariant.lent c.in_ok-rows.ensures.same_reference)) ∙ c.rows.invariant.way.idle idle
+returns-clause-idle g c idle =
+    let end = lent_back c.conn-2-1.given c.drop-rows-2.ensures refl
+    c.rows.invariant.lent c.in_ok-rows.ensures.same_reference in
+    idle_at end (c.rows.invariant.way.idle idle)
 
 pub returns-clause-leaves : goal.returns-clause-leaves
 returns-clause-leaves g c =
-    subst (λ h. Leaves (state g.S.Store c.args.conn.now) (state g.S.Store h)) (lent_back c.conn-2-1.given c.drop-rows-2.ensures refl c.rows.invariant.lent c.in_ok-rows.ensures.same_reference) (way_leaves c.rows.invariant.way)
+    let end = lent_back c.conn-2-1.given c.drop-rows-2.ensures refl
+    c.rows.invariant.lent c.in_ok-rows.ensures.same_reference in
+    leaves_at g.S.Store c.args.conn.now end (way_leaves c.rows.invariant.way)
 
 pub returns-in_default-clause-read : goal.returns-in_default-clause-read
 returns-in_default-clause-read g c live ours =
-    let end = lent_back c.conn-in_default-1.given c.drop-rows-in_default.ensures c.next.follows.holds-at-none.same_reference c.rows.invariant.lent c.in_ok-rows.ensures.same_reference in
-    let late = subst (λ h. HasCleanDisk (state g.S.Store h)) (sym end) live.0 in
+    let end = lent_back c.conn-in_default-1.given c.drop-rows-in_default.ensures c.next.follows.holds-at-none.same_reference
+    c.rows.invariant.lent c.in_ok-rows.ensures.same_reference in
+    let late = clean_at g.S.Store end live.0 in
     let all = next_all c.rows.invariant.way c.next.follows.holds-at-none (c.in_ok-row.was ∙ ap Ok c.in_default.is) late in (
       subst (λ h. IsUnchanged (state g.S.Store c.args.conn.now) (state g.S.Store h)) end all.same,
       are_reasons (state g.S.Store c.args.conn.now) (state g.S.Store c.rows.rows.conn.now) (state g.S.Store c.next.follows.lender-at-none.conn.now) all.rows _ _ _ ours all.early all.whole all.known,
@@ -94,12 +117,13 @@ pub returns-then-not-branch-clause-read : goal.returns-then-not-branch-clause-re
 returns-then-not-branch-clause-read g c live ours =
     let old = state g.S.Store c.args.conn.now in
     let now = c.next.follows.lender-at-none.conn.now in
-    let end = lent_back c.conn-then-not-branch-1.given c.drop-rows-then-not-branch.ensures c.next.follows.holds-at-none.same_reference c.rows.invariant.lent c.in_ok-rows.ensures.same_reference in
-    let late = subst (λ h. HasCleanDisk (state g.S.Store h)) (sym end) live.0 in
+    let end = lent_back c.conn-then-not-branch-1.given c.drop-rows-then-not-branch.ensures c.next.follows.holds-at-none.same_reference
+    c.rows.invariant.lent c.in_ok-rows.ensures.same_reference in
+    let late = clean_at g.S.Store end live.0 in
     let row = c.in-Some.row.now in
     let it = next_row c.rows.invariant.way c.next.follows.holds-at-none c.in-Some.row (c.in_ok-row.was ∙ ap Ok c.in-Some.is) late in
     let refused : IsReasonRow row → All {X = Record} (λ r. text_of r.name ≢ text_in row) c.rows.records.items = rw c.if-not-branch.true at c.in_ok-take_reason.ensures.taken in
     let here = given_reason g.S.Store c.args.conn.now now it.front row ours it.same it.given in
     let none : shown c.args.records.now.items ≡ earlier_content_of old.now → ¬ (IsListed old.now) = λ content are.
     no_lone_reason old.now c.rows.records.items row ours are (c.rows.invariant.names ∙ ap names content) here (refused (all_has IsReasonRow (old.now.trees 5) row are.reasons.are here)) in
-    (subst (λ h. IsUnchanged old (state g.S.Store h)) end it.same, none)
+    (unchanged_at g.S.Store c.args.conn.now end it.same, none)
