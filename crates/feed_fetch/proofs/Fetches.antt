@@ -4,8 +4,8 @@ use Rattle.std.proofs.Common.{None, Result, Ok, Err, inl, inr, refl, sym, ◌∙
 use Rattle.std.specs.Prelude.{slice_range, nat_eq, IsTrue, MatchResult}
 use Rattle.std.proofs.lemmas.Bool.Decides.{nat_tests}
 use Rattle.feed_names.specs.ReleaseName.{Name, text_of}
-use Rattle.feed_heads.specs.declared.http_fault.HttpFault.{HttpFault}
-use Rattle.feed_heads.specs.declared.http_fault.HttpFault.TheVariants as http
+use Rattle.feed_http_heads.specs.declared.http_fault.HttpFault.{HttpFault}
+use Rattle.feed_http_heads.specs.declared.http_fault.HttpFault.TheVariants as http
 use Rattle.feed_http.specs.declared.fetching.got.Method.{Method}
 use Rattle.feed_http.specs.declared.fetching.got.Method.TheVariants.{Get, Head}
 use Rattle.feed_http.specs.declared.fetching.got.Got.{Got}

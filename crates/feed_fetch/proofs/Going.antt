@@ -15,7 +15,7 @@ use Rattle.feed_model.specs.History.{Event, Offered, Piece, Lost, History, Answe
 use Rattle.feed_model.specs.Reply.{IsRight, verdict}
 use Rattle.feed_model.specs.Content.{Content, IsContent}
 use Rattle.feed_model.proofs.Goods.{IsStill, goods_still, passed_same}
-use Rattle.feed_heads.specs.declared.http_fault.HttpFault.{HttpFault}
+use Rattle.feed_http_heads.specs.declared.http_fault.HttpFault.{HttpFault}
 use Rattle.feed_fetch.specs.declared.stop.Unasked.{Unasked}
 use Rattle.feed_fetch.specs.declared.stop.Unasked.TheVariants.{Http}
 use Rattle.feed_fetch.specs.declared.stop.Stop.{Stop}

@@ -2,8 +2,8 @@
 use Rattle.std.proofs.Common.{◌≡◌, ◌⊎◌, ℕ, List, [], Option, Some, None, Result, Err, inr, subst, ap}
 use Rattle.std.specs.Prelude.{IfSome, IsSomeAnd}
 use Rattle.std.specs.Io.KnownBytes.{Appends}
-use Rattle.feed_heads.specs.declared.http_fault.HttpFault.{HttpFault}
-use Rattle.feed_heads.specs.declared.http_fault.HttpFault.TheVariants.{Write}
+use Rattle.feed_http_heads.specs.declared.http_fault.HttpFault.{HttpFault}
+use Rattle.feed_http_heads.specs.declared.http_fault.HttpFault.TheVariants.{Write}
 use Rattle.feed_http.specs.declared.fetching.got.Method.{Method}
 use Rattle.feed_http.specs.declared.fetching.got.Got.{Got}
 use Rattle.feed_http.specs.Got.{IsReply}

@@ -2,7 +2,7 @@
 use Rattle.feed_kbart.specs.declared.fault.BadFile.{BadFile}
 use Rattle.feed_names.specs.ReleaseName.{Name}
 use Rattle.std.specs.Prelude.{Bool, true, false, ◌∷◌, Result, Ok, Err, ⊤, ◌≡◌, ◌⊎◌, ℕ}
-use Rattle.feed_heads.specs.declared.http_fault.HttpFault.TheVariants as http
+use Rattle.feed_http_heads.specs.declared.http_fault.HttpFault.TheVariants as http
 use Rattle.feed_model.specs.declared.reply.Reply.{Reply}
 use Rattle.feed_model.specs.declared.reply.Reply.TheVariants as replies
 use Rattle.feed_model.specs.declared.reply.Refusal.TheVariants as refusals

@@ -2,11 +2,11 @@
 use Rattle.std.specs.Prelude.{◌≡◌, ◌⊎◌, ℕ, List, Option, Result, Ok, Err, ⊤}
 use Rattle.httparse.specs.Grammar.{RequestHead}
 use Rattle.feed_names.specs.ReleaseName.{Name}
-use Rattle.feed_heads.specs.declared.http_fault.HttpFault.{HttpFault}
-use Rattle.feed_heads.specs.declared.http_fault.HttpFault.TheVariants.{Write}
+use Rattle.feed_http_heads.specs.declared.http_fault.HttpFault.{HttpFault}
+use Rattle.feed_http_heads.specs.declared.http_fault.HttpFault.TheVariants.{Write}
 use Rattle.feed_http.specs.declared.fetching.got.Method.{Method}
 use Rattle.feed_http.specs.declared.fetching.got.Got.{Got}
-use Rattle.feed_heads.specs.RequestHeads.{BeginsWithHead}
+use Rattle.feed_http_heads.specs.RequestHeads.{BeginsWithHead}
 use Rattle.feed_http.specs.Requests.{IsNamedBy}
 use Rattle.feed_http.specs.Shelves.{Files}
 use Rattle.feed_http.specs.Served.{reply_text, served}

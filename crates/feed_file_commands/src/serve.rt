@@ -2,7 +2,7 @@
 use crate::folder::Folder;
 use feed_command::{DONE, FAILED, Faults};
 use feed_http::{HttpFault, Shelf, serve_one};
-use feed_sockets::{TimedReader, TimedWriter};
+use feed_tcp::{TimedReader, TimedWriter};
 use std::io;
 use std::io::{ErrorKind, Read, Write};
 use std::net::{Shutdown, TcpListener, TcpStream};

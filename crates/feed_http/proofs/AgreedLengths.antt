@@ -2,7 +2,7 @@
 use Rattle.std.proofs.Common.{◌≡◌, ℕ, List, Option, Some, None, Bool, true, false, refl, ◌∙◌}
 use Rattle.std.specs.List.{list_all}
 use Rattle.std.specs.Bool.{then_some}
-use Rattle.feed_heads.specs.Fields.{first_of}
+use Rattle.feed_http_heads.specs.Fields.{first_of}
 use Rattle.feed_http.specs.Judgements.{writes, agreed}
 use Rattle.feed_range.specs.Text.{number_in_64_bits}
 

@@ -6,13 +6,13 @@ use Rattle.std.specs.Io.KnownBytes.{Appends}
 use Rattle.std.proofs.lemmas.List.{append-nil}
 use Rattle.httparse.specs.Grammar.{RequestHead}
 use Rattle.feed_names.specs.ReleaseName.{Name}
-use Rattle.feed_heads.specs.declared.http_fault.HttpFault.{HttpFault}
-use Rattle.feed_heads.specs.declared.http_fault.HttpFault.TheVariants.{Write}
+use Rattle.feed_http_heads.specs.declared.http_fault.HttpFault.{HttpFault}
+use Rattle.feed_http_heads.specs.declared.http_fault.HttpFault.TheVariants.{Write}
 use Rattle.feed_http.specs.declared.serving.reply_head.ReplyHead.{ReplyHead}
 use Rattle.feed_http.specs.declared.serving.reply_head.ReplyHead.TheVariants.{Whole, NotFound}
-use Rattle.feed_heads.specs.declared.request.Request.{Request}
+use Rattle.feed_http_heads.specs.declared.request.Request.{Request}
 use Rattle.feed_http.specs.Shelves.{Files}
-use Rattle.feed_heads.specs.Requests.{lacks_host, is_head, HasHead}
+use Rattle.feed_http_heads.specs.Requests.{lacks_host, is_head, HasHead}
 use Rattle.feed_http.specs.Requests.{is_unsupported, IsNamedBy}
 use Rattle.feed_http.specs.Replies.{status_of, head_text}
 use Rattle.feed_http.specs.Served.{Reply, served, fileless, file_reply, head_alone, IsOutcomeOf}

@@ -8,8 +8,8 @@ use Rattle.std.proofs.lemmas.List.Elements.{All-push}
 use Rattle.std.proofs.lemmas.Grind.{flat_map-append}
 use Rattle.httparse.specs.Ascii.{crlf_bytes}
 use Rattle.httparse.specs.Grammar.{print_chunk_line}
-use Rattle.feed_heads.specs.declared.http_fault.HttpFault.{HttpFault}
-use Rattle.feed_heads.specs.declared.http_fault.HttpFault.TheVariants.{Read, Short, Coding, Memory}
+use Rattle.feed_http_heads.specs.declared.http_fault.HttpFault.{HttpFault}
+use Rattle.feed_http_heads.specs.declared.http_fault.HttpFault.TheVariants.{Read, Short, Coding, Memory}
 use Rattle.feed_http.specs.Chunks.{Chunk, IsChunk, print_chunk, print_chunks, bytes_of, IsLineTaken, IsChunkTaken, IsChunkedFault, IsNotChunked, IsChunkFault, IsUnfinishedLine, NeverBeginsWithLine}
 use Rattle.feed_http.specs.Chunks.{BeginsWithLine, IsFitting, IsUnfinishedBehind, IsBadBehind, IsWhyNoChunk}
 use Rattle.std.proofs.KnownBytes.{Consumes-trans}

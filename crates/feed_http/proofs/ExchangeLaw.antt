@@ -18,14 +18,14 @@ use Rattle.feed_range.specs.Content.{content_range}
 use Rattle.feed_range.specs.declared.content.ContentRange.TheVariants as range
 use Rattle.feed_range.proofs.Laws.{content_range-text}
 use Rattle.feed_http.specs.Replies.{head_text, head_of, line}
-use Rattle.feed_heads.specs.declared.http_fault.HttpFault.{HttpFault}
-use Rattle.feed_heads.specs.declared.http_fault.HttpFault.TheVariants.{Read, Memory, Length, Short, HeadTooLong, BadHead}
+use Rattle.feed_http_heads.specs.declared.http_fault.HttpFault.{HttpFault}
+use Rattle.feed_http_heads.specs.declared.http_fault.HttpFault.TheVariants.{Read, Memory, Length, Short, HeadTooLong, BadHead}
 use Rattle.feed_http.specs.declared.fetching.got.Got.{Got}
 use Rattle.feed_http.specs.declared.fetching.got.Got.TheVariants.{Piece, Size}
 use Rattle.feed_http.specs.Served.{reply_of, reply_text, head_alone}
-use Rattle.feed_heads.specs.ReplyHeads.{is_interim, print_heads, IsInterimHead, HasNoReply, IsWhyNoReply}
+use Rattle.feed_http_heads.specs.ReplyHeads.{is_interim, print_heads, IsInterimHead, HasNoReply, IsWhyNoReply}
 use Rattle.feed_http.specs.Got.{IsGot, IsReply, IsJudged, IsHeadFailure}
-use Rattle.feed_heads.proofs.BufferFilling.{take-behind}
+use Rattle.feed_http_heads.proofs.BufferFilling.{take-behind}
 use Rattle.feed_http.specs.Laws.{IsGiven, PartReadsBack, SizeReadsBack}
 use Rattle.std.specs.Result.{result_ok}
 use Rattle.feed_http.specs.declared.fetching.got.Method.{Method}

@@ -6,8 +6,8 @@ use Rattle.httparse.specs.Grammar.{RequestHead}
 use Rattle.httparse.specs.Spans.{IsRequestAt, IsRequestOf, IsRequestWithin}
 use Rattle.httparse.specs.declared.spans.RequestSpans.{RequestSpans}
 use Rattle.httparse.specs.declared.spans.HeaderSpan.{HeaderSpan}
-use Rattle.feed_heads.specs.RequestHeads.{BeginsWithHead, NeverBeginsWithHead}
-use Rattle.feed_heads.proofs.HeadsFound.{same_head, begins_with}
+use Rattle.feed_http_heads.specs.RequestHeads.{BeginsWithHead, NeverBeginsWithHead}
+use Rattle.feed_http_heads.proofs.HeadsFound.{same_head, begins_with}
 
 -- what holds of each head that was read holds of the one that the reader's bytes begin with
 pub by_head : (bytes fields : ℕ) (old new : Option (List ℕ)) (buffer : List ℕ) (headers : List HeaderSpan) (spans : RequestSpans) {Told : Type 0} (told : Option Told) (P : Told → RequestHead

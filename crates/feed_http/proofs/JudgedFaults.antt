@@ -5,8 +5,8 @@ use Rattle.std.specs.Option.{option_map_or}
 use Rattle.httparse.specs.Grammar.{ResponseHead, status_code}
 use Rattle.feed_range.specs.declared.content.ContentRange.{ContentRange}
 use Rattle.feed_range.specs.declared.content.ContentRange.TheVariants as range
-use Rattle.feed_heads.specs.declared.http_fault.HttpFault.{HttpFault}
-use Rattle.feed_heads.specs.declared.http_fault.HttpFault.TheVariants as fault
+use Rattle.feed_http_heads.specs.declared.http_fault.HttpFault.{HttpFault}
+use Rattle.feed_http_heads.specs.declared.http_fault.HttpFault.TheVariants as fault
 use Rattle.feed_http.specs.declared.fetching.got.Method.{Method}
 use Rattle.feed_http.specs.declared.fetching.judge.Framing.{Framing}
 use Rattle.feed_http.specs.declared.fetching.judge.Framing.TheVariants.{Chunked, Sized, ToEnd}
@@ -15,7 +15,7 @@ use Rattle.feed_http.specs.declared.fetching.judge.Judgement.TheVariants.{Missin
 use Rattle.feed_limits.specs.Limits.{piece_limit, file_limit}
 use Rattle.feed_http.specs.Judgements.{is_get, values, gives_file, is_transfer_coded, is_coded_otherwise, stated_of, agreed, stated_length, content_length, framed_by_length, framing_of, range_of}
 use Rattle.feed_http.specs.Judgements.{part_framed, part_judged, whole_judged, size_judged, unsatisfied_judged, unsatisfied_part, file_judged, judged}
-use Rattle.feed_heads.specs.Fields.{has_any}
+use Rattle.feed_http_heads.specs.Fields.{has_any}
 use Rattle.feed_http.specs.Got.{IsReadingFault}
 use Rattle.std.specs.Prelude.{codes}
 

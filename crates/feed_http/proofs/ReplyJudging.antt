@@ -9,17 +9,17 @@ use Rattle.httparse.specs.Grammar.{ResponseHead, print_response}
 use Rattle.httparse.specs.Spans.{IsResponseAt, IsResponseWithin}
 use Rattle.httparse.specs.declared.spans.ResponseSpans.{ResponseSpans}
 use Rattle.httparse.specs.declared.spans.HeaderSpan.{HeaderSpan}
-use Rattle.feed_heads.specs.declared.http_fault.HttpFault.{HttpFault}
+use Rattle.feed_http_heads.specs.declared.http_fault.HttpFault.{HttpFault}
 use Rattle.feed_http.specs.declared.fetching.got.Method.{Method}
 use Rattle.feed_http.specs.declared.fetching.got.Got.{Got}
 use Rattle.feed_http.specs.declared.fetching.judge.Judgement.{Judgement}
 use Rattle.feed_http.specs.Limits.{head_limit, field_limit}
-use Rattle.feed_heads.specs.ReplyHeads.{BeginsWithHeads, print_heads}
-use Rattle.feed_heads.specs.ReplyReads.{IsReplyIn}
+use Rattle.feed_http_heads.specs.ReplyHeads.{BeginsWithHeads, print_heads}
+use Rattle.feed_http_heads.specs.ReplyReads.{IsReplyIn}
 use Rattle.feed_http.specs.Judgements.{judged}
 use Rattle.feed_http.specs.Got.{IsGot, IsReply, IsReadingFault}
 use Rattle.feed_http.proofs.JudgedFaults.{judged_fault}
-use Rattle.feed_heads.proofs.ReplyReading.{split_text, part_is, counted}
+use Rattle.feed_http_heads.proofs.ReplyReading.{split_text, part_is, counted}
 
 -- a reply's head that was read within the limits, and what is known of it
 pub record IsHeadRead (buffer : List ℕ) (headers : List HeaderSpan) (start filled : ℕ) (spans : ResponseSpans) : Type 0 where

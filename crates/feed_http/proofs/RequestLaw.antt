@@ -26,7 +26,7 @@ use Rattle.feed_http.proofs.ExchangeLaw.{field, fields_of, fields_text, digits_p
 use Rattle.feed_range.specs.declared.ask.RangeAsk.TheVariants.{Part}
 use Rattle.feed_range.proofs.Laws.{ask_of-ask_text}
 use Rattle.feed_http.specs.declared.serving.reply_head.ReplyHead.TheVariants as head
-use Rattle.feed_heads.specs.RequestHeads.{BeginsWithHead}
+use Rattle.feed_http_heads.specs.RequestHeads.{BeginsWithHead}
 use Rattle.feed_http.specs.Laws.{FetchGivesSlice, HeadGivesSize}
 
 -- the head of a request with these fields behind the Host field

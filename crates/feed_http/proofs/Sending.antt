@@ -8,12 +8,12 @@ use Rattle.std.proofs.lemmas.Bool.{cases_Bool}
 use borrow.Author.Tests.{leb-true, leb-false}
 use Rattle.std.proofs.lemmas.List.{drop-drop, take-take, take_all, length-take}
 use Rattle.feed_names.specs.ReleaseName.{Name}
-use Rattle.feed_heads.specs.declared.http_fault.HttpFault.{HttpFault}
-use Rattle.feed_heads.specs.declared.http_fault.HttpFault.TheVariants.{Write, Memory, Shelf}
+use Rattle.feed_http_heads.specs.declared.http_fault.HttpFault.{HttpFault}
+use Rattle.feed_http_heads.specs.declared.http_fault.HttpFault.TheVariants.{Write, Memory, Shelf}
 use Rattle.feed_http.specs.Shelves.{Files}
 use Rattle.feed_http.specs.Served.{IsSending}
 use Rattle.std.proofs.KnownBytes.{Appends-trans}
-use Rattle.feed_heads.proofs.BufferFilling.{take_both}
+use Rattle.feed_http_heads.proofs.BufferFilling.{take_both}
 
 -- a part of a file grows by the block behind it
 pub range_more : (file : List ℕ) (first at len : ℕ) → first ≤ at

@@ -3,7 +3,7 @@ use Rattle.std.proofs.Common.{◌≡◌, List, ℕ, drop, length, codes, Option,
 use Rattle.feed_names.specs.ReleaseName.{Name, IsName, IsRefused, IsDated, IsStem}
 use Rattle.feed_names.specs.declared.name_fault.NameFault.TheVariants.{BadStem, BadDate}
 use Rattle.feed_names.proofs.NameLemmas.{one_split, one_front}
-use Rattle.feed_heads.specs.Targets.{origin_form}
+use Rattle.feed_http_heads.specs.Targets.{origin_form}
 use Rattle.feed_http.specs.Requests.{NamesRelease, IsNamedBy}
 
 -- a text without a date is not a name

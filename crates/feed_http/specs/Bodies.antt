@@ -1,7 +1,7 @@
 -- Bodies with a length, and bodies that end with the stream (RFC 9112, section 6.3).
 use Rattle.std.specs.Prelude.{◌<◌, ℕ, List, length, Option, IfSome, ⊤}
-use Rattle.feed_heads.specs.declared.http_fault.HttpFault.{HttpFault}
-use Rattle.feed_heads.specs.declared.http_fault.HttpFault.TheVariants.{Read, Short, BodyTooLong, Memory}
+use Rattle.feed_http_heads.specs.declared.http_fault.HttpFault.{HttpFault}
+use Rattle.feed_http_heads.specs.declared.http_fault.HttpFault.TheVariants.{Read, Short, BodyTooLong, Memory}
 
 -- the reader ended before this many bytes, or failed
 abbrev pub IsFillFault : ℕ → Option (List ℕ) → HttpFault → Type 0

@@ -6,8 +6,8 @@ use Rattle.std.specs.Io.KnownBytes.{Consumes}
 use Rattle.httparse.specs.Ascii.{crlf_bytes}
 use Rattle.httparse.specs.Grammar.{ChunkLine, IsChunkLine, HasNoChunkLine, MayBecomeChunkLine, print_chunk_line, chunk_size, Field, IsField, LineEnd, print_section, HasNoSection, MayBecomeSection}
 use Rattle.feed_http.specs.Limits.{chunk_line_limit, head_limit, field_limit}
-use Rattle.feed_heads.specs.declared.http_fault.HttpFault.{HttpFault}
-use Rattle.feed_heads.specs.declared.http_fault.HttpFault.TheVariants.{Read, Short, Coding, Length, BodyTooLong, Memory}
+use Rattle.feed_http_heads.specs.declared.http_fault.HttpFault.{HttpFault}
+use Rattle.feed_http_heads.specs.declared.http_fault.HttpFault.TheVariants.{Read, Short, Coding, Length, BodyTooLong, Memory}
 
 -- a chunk line within the limit
 pub record IsLine (line : ChunkLine) : Type 0 where

@@ -1,8 +1,8 @@
 -- The result of a reply (RFC 9110, sections 15.3.7 and 15.5.17; RFC 9112, section 6.3).
 use Rattle.std.specs.Prelude.{◌≡◌, ◌<◌, ◌≤◌, ◌⊎◌, ℕ, List, length, take, Result, Ok, Err, ⊤}
 use Rattle.httparse.specs.Grammar.{ResponseHead}
-use Rattle.feed_heads.specs.declared.http_fault.HttpFault.{HttpFault}
-use Rattle.feed_heads.specs.declared.http_fault.HttpFault.TheVariants.{Read, Write, Short, Length, BodyTooLong, Memory, Shelf}
+use Rattle.feed_http_heads.specs.declared.http_fault.HttpFault.{HttpFault}
+use Rattle.feed_http_heads.specs.declared.http_fault.HttpFault.TheVariants.{Read, Write, Short, Length, BodyTooLong, Memory, Shelf}
 use Rattle.feed_http.specs.declared.fetching.got.Method.{Method}
 use Rattle.feed_http.specs.declared.fetching.got.Got.{Got}
 use Rattle.feed_http.specs.declared.fetching.got.Got.TheVariants as got
@@ -12,7 +12,7 @@ use Rattle.feed_http.specs.declared.fetching.judge.Judgement.{Judgement}
 use Rattle.feed_http.specs.declared.fetching.judge.Judgement.TheVariants.{Missing, Unsatisfied, Size, Part, Whole}
 use Rattle.feed_http.specs.Limits.{head_limit, field_limit}
 use Rattle.feed_limits.specs.Limits.{file_limit}
-use Rattle.feed_heads.specs.ReplyHeads.{BeginsWithHeads, IsNoReply}
+use Rattle.feed_http_heads.specs.ReplyHeads.{BeginsWithHeads, IsNoReply}
 use Rattle.feed_http.specs.Judgements.{judged}
 use Rattle.feed_http.specs.Chunks.{IsBodyChunked, IsNotChunked}
 

@@ -11,9 +11,9 @@ use Rattle.feed_range.specs.Content.{content_range}
 use Rattle.feed_range.specs.declared.content.ContentRange.{ContentRange}
 use Rattle.feed_range.specs.declared.content.ContentRange.TheVariants as range
 use Rattle.feed_limits.specs.Limits.{piece_limit, file_limit}
-use Rattle.feed_heads.specs.Fields.{values_named, only, has_any, first_of}
-use Rattle.feed_heads.specs.declared.http_fault.HttpFault.{HttpFault}
-use Rattle.feed_heads.specs.declared.http_fault.HttpFault.TheVariants as fault
+use Rattle.feed_http_heads.specs.Fields.{values_named, only, has_any, first_of}
+use Rattle.feed_http_heads.specs.declared.http_fault.HttpFault.{HttpFault}
+use Rattle.feed_http_heads.specs.declared.http_fault.HttpFault.TheVariants as fault
 use Rattle.feed_http.specs.declared.fetching.got.Method.{Method}
 use Rattle.feed_http.specs.declared.fetching.got.Method.TheVariants.{Get, Head}
 use Rattle.feed_http.specs.declared.fetching.judge.Reply.{Reply}

@@ -5,11 +5,11 @@ use Rattle.feed_names.specs.ReleaseName.{Name, IsName, text_of}
 use Rattle.feed_http.specs.Limits.{head_limit, field_limit}
 use Rattle.feed_limits.specs.Limits.{piece_limit}
 use Rattle.feed_http.specs.RequestTexts.{is_host, get_text, head_request_text}
-use Rattle.feed_heads.specs.RequestHeads.{BeginsWithHead}
+use Rattle.feed_http_heads.specs.RequestHeads.{BeginsWithHead}
 use Rattle.feed_http.specs.Requests.{IsNamedBy}
 use Rattle.feed_http.specs.Shelves.{Files}
-use Rattle.feed_heads.specs.declared.http_fault.HttpFault.{HttpFault}
-use Rattle.feed_heads.specs.declared.http_fault.HttpFault.TheVariants.{Read, Memory}
+use Rattle.feed_http_heads.specs.declared.http_fault.HttpFault.{HttpFault}
+use Rattle.feed_http_heads.specs.declared.http_fault.HttpFault.TheVariants.{Read, Memory}
 use Rattle.feed_http.specs.declared.serving.reply_head.ReplyHead.TheVariants.{Part, Whole}
 use Rattle.feed_http.specs.declared.fetching.got.Method.TheVariants.{Get, Head}
 use Rattle.feed_http.specs.declared.fetching.got.Got.{Got}

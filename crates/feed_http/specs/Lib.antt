@@ -1,7 +1,7 @@
-pub use Rattle.feed_heads.specs.RequestHeads
-pub use Rattle.feed_heads.specs.Fields
-pub use Rattle.feed_heads.specs.ReplyHeads
-pub use Rattle.feed_heads.specs.ReplyReads
+pub use Rattle.feed_http_heads.specs.RequestHeads
+pub use Rattle.feed_http_heads.specs.Fields
+pub use Rattle.feed_http_heads.specs.ReplyHeads
+pub use Rattle.feed_http_heads.specs.ReplyReads
 pub mod Limits
 pub mod Shelves
 pub mod MemoryShelves

@@ -6,9 +6,9 @@ use Rattle.feed_names.specs.ReleaseName.{Name, IsName}
 use Rattle.feed_range.specs.Ask.{ask_of}
 use Rattle.feed_range.specs.declared.ask.RangeAsk.{RangeAsk}
 use Rattle.feed_range.specs.declared.ask.RangeAsk.TheVariants.{Whole}
-use Rattle.feed_heads.specs.Fields.{values_named, only, has_any}
-use Rattle.feed_heads.specs.Requests.{is_get, is_head}
-use Rattle.feed_heads.specs.Targets.{slash, origin_form}
+use Rattle.feed_http_heads.specs.Fields.{values_named, only, has_any}
+use Rattle.feed_http_heads.specs.Requests.{is_get, is_head}
+use Rattle.feed_http_heads.specs.Targets.{slash, origin_form}
 
 -- the path is a slash and the name of this release
 pub record NamesRelease (target : List ℕ) (name : Name) : Type 0 where

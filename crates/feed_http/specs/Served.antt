@@ -6,14 +6,14 @@ use Rattle.httparse.specs.Grammar.{RequestHead}
 use Rattle.feed_names.specs.ReleaseName.{Name}
 use Rattle.feed_range.specs.declared.ask.RangeAsk.{RangeAsk}
 use Rattle.feed_range.specs.declared.ask.RangeAsk.TheVariants as ask
-use Rattle.feed_heads.specs.declared.http_fault.HttpFault.{HttpFault}
-use Rattle.feed_heads.specs.declared.http_fault.HttpFault.TheVariants.{Read, Write, Short, Memory, Shelf}
+use Rattle.feed_http_heads.specs.declared.http_fault.HttpFault.{HttpFault}
+use Rattle.feed_http_heads.specs.declared.http_fault.HttpFault.TheVariants.{Read, Write, Short, Memory, Shelf}
 use Rattle.feed_http.specs.declared.serving.reply_head.ReplyHead.{ReplyHead}
 use Rattle.feed_http.specs.declared.serving.reply_head.ReplyHead.TheVariants.{Whole, Part, BadRequest, NotFound, Unsatisfied, NotImplemented}
 use Rattle.feed_http.specs.Shelves.{Files}
-use Rattle.feed_heads.specs.Requests.{lacks_host, is_head}
+use Rattle.feed_http_heads.specs.Requests.{lacks_host, is_head}
 use Rattle.feed_http.specs.Requests.{is_unsupported, ask_for}
-use Rattle.feed_heads.specs.RequestHeads.{NeverBeginsWithHead, IsUnfinished}
+use Rattle.feed_http_heads.specs.RequestHeads.{NeverBeginsWithHead, IsUnfinished}
 use Rattle.feed_http.specs.Replies.{status_of, head_text}
 
 -- a reply: its head and its body

@@ -1,8 +1,8 @@
 -- The files of a shelf, and the count of its failures.
 use Rattle.std.specs.Prelude.{◌≡◌, ◌<◌, ◌⊎◌, ◌^◌, ◌-◌, ℕ, List, Option}
 use Rattle.feed_names.specs.ReleaseName.{Name}
-use Rattle.feed_heads.specs.declared.http_fault.HttpFault.{HttpFault}
-use Rattle.feed_heads.specs.declared.http_fault.HttpFault.TheVariants as http
+use Rattle.feed_http_heads.specs.declared.http_fault.HttpFault.{HttpFault}
+use Rattle.feed_http_heads.specs.declared.http_fault.HttpFault.TheVariants as http
 use Rattle.feed_http.specs.declared.serving.shelf.ShelfFault.{ShelfFault}
 use Rattle.feed_http.specs.declared.serving.shelf.ShelfFault.TheVariants.{Device, Memory}
 

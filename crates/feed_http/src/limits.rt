@@ -1,4 +1,5 @@
-//! The limits of messages, with their numbers for contracts in `specs/Limits.antt`. `feed_heads` has those of heads.
+//! The limits of bodies and chunks, with their numbers for contracts in `specs/Limits.antt`; heads have theirs in
+//! `feed_http_heads`.
 
 pub(crate) const CHUNK_LINE_LIMIT: usize = 1_024;
 

@@ -5,7 +5,7 @@ use feed_command::{FAILED, Faults, MISUSED, parse_name};
 use feed_fetch::fetch_with;
 use feed_http::is_host;
 use feed_limits::PIECE_LIMIT;
-use feed_sockets::{Cause, TcpDial};
+use feed_tcp::{Cause, TcpDial};
 use std::io::{IsTerminal, Write};
 use std::time::Duration;
 

@@ -2,7 +2,7 @@
 use Rattle.std.proofs.Common.{ℕ, List, [], ◌∙◌}
 use Rattle.std.proofs.lemmas.List.{append-nil}
 use Rattle.httparse.specs.Grammar.{RequestHead}
-use Rattle.feed_heads.specs.RequestHeads.{BeginsWithHead, NeverBeginsWithHead, IsUnfinished}
+use Rattle.feed_http_heads.specs.RequestHeads.{BeginsWithHead, NeverBeginsWithHead, IsUnfinished}
 
 -- whatever follows, so with nothing that follows
 pub none_ever : (bytes fields : ℕ) (text : List ℕ) → NeverBeginsWithHead bytes fields text → (head : RequestHead) → ¬ (BeginsWithHead bytes fields text head)

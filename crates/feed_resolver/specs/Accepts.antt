@@ -7,7 +7,7 @@ use Rattle.std.specs.Str.{bytes_eq, str_eq_ignore_ascii_case}
 use Rattle.feed_range.specs.Text.{split_once, strip_prefix}
 use Rattle.feed_identifiers.specs.Text.{trimmed}
 use Rattle.httparse.specs.Grammar.{RequestHead}
-use Rattle.feed_heads.specs.Fields.{values_named, only}
+use Rattle.feed_http_heads.specs.Fields.{values_named, only}
 use Rattle.feed_resolver.specs.Parts.{parts_at}
 use Rattle.feed_resolver.specs.declared.representation.Representation.{Representation}
 use Rattle.feed_resolver.specs.declared.representation.Representation.TheVariants.{Text, Json, Html}

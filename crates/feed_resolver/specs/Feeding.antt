@@ -4,11 +4,11 @@ use Rattle.std.specs.Option.{option_map_or}
 use Rattle.std.specs.Str.{bytes_eq}
 use Rattle.feed_range.specs.Text.{strip_prefix}
 use Rattle.httparse.specs.Grammar.{RequestHead}
-use Rattle.feed_heads.specs.Limits.{head_limit, field_limit}
-use Rattle.feed_heads.specs.Fields.{values_named, only}
-use Rattle.feed_heads.specs.RequestHeads.{BeginsWithHead}
-use Rattle.feed_heads.specs.Requests.{lacks_host}
-use Rattle.feed_heads.specs.Targets.{origin_form}
+use Rattle.feed_http_heads.specs.Limits.{head_limit, field_limit}
+use Rattle.feed_http_heads.specs.Fields.{values_named, only}
+use Rattle.feed_http_heads.specs.RequestHeads.{BeginsWithHead}
+use Rattle.feed_http_heads.specs.Requests.{lacks_host}
+use Rattle.feed_http_heads.specs.Targets.{origin_form}
 use Rattle.feed_identifiers.specs.Text.{trimmed}
 use Rattle.feed_names.specs.ReleaseName.{Name, IsName}
 use Rattle.feed_releases.specs.Actives.{ActiveValue}

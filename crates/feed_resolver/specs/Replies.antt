@@ -4,11 +4,11 @@ use Rattle.std.specs.Fmt.{decimal}
 use Rattle.std.specs.Option.{option_map_or}
 use Rattle.std.specs.Str.{bytes_eq}
 use Rattle.httparse.specs.Grammar.{RequestHead}
-use Rattle.feed_heads.specs.Limits.{head_limit, field_limit}
-use Rattle.feed_heads.specs.Fields.{values_named, has_any}
-use Rattle.feed_heads.specs.RequestHeads.{BeginsWithHead}
-use Rattle.feed_heads.specs.Targets.{origin_form}
-use Rattle.feed_heads.specs.Requests.{lacks_host, is_get, is_head}
+use Rattle.feed_http_heads.specs.Limits.{head_limit, field_limit}
+use Rattle.feed_http_heads.specs.Fields.{values_named, has_any}
+use Rattle.feed_http_heads.specs.RequestHeads.{BeginsWithHead}
+use Rattle.feed_http_heads.specs.Targets.{origin_form}
+use Rattle.feed_http_heads.specs.Requests.{lacks_host, is_get, is_head}
 use Rattle.feed_answer.specs.QueryValue.{QueryValue}
 use Rattle.feed_answer.specs.Queries.{query_of}
 use Rattle.feed_answer.specs.Faults.{query_fault_text}

@@ -3,7 +3,7 @@ use Rattle.std.specs.Prelude.{ℕ, if◌then◌else◌, List, [], Bool, codes, d
 use Rattle.std.specs.Option.{option_map_or}
 use Rattle.std.specs.Str.{bytes_eq}
 use Rattle.feed_range.specs.Text.{split_once}
-use Rattle.feed_heads.specs.Targets.{origin_form}
+use Rattle.feed_http_heads.specs.Targets.{origin_form}
 use Rattle.feed_resolver.specs.declared.target.Asked.{Asked}
 use Rattle.feed_resolver.specs.declared.target.Asked.TheVariants.{Front, Status, Resolve, Package, Go, Nothing}
 

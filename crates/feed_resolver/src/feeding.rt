@@ -1,7 +1,7 @@
 //! Fetch requests to a node: an authorized POST of `/feed/` and the name of a release.
 ghost use Rattle.std.specs.Prelude.{◌≡◌, IfOk, IfSome, option_copied};
 ghost use Rattle.httparse.specs.Grammar.{RequestHead};
-ghost use Rattle.feed_heads.specs.Requests.{IsInBuffer, HasHead};
+ghost use Rattle.feed_http_heads.specs.Requests.{IsInBuffer, HasHead};
 ghost use Rattle.feed_releases.specs.Actives.{actives_of};
 ghost use Rattle.feed_releases.specs.Feeds.{releases_of};
 ghost use Rattle.feed_resolver.specs.Feeding.{behind_feed, fed_text, has_token, knows, told_head, known_reply};
@@ -12,7 +12,7 @@ use crate::representation::Representation;
 use crate::responses::{response_to, response_to_none};
 use crate::target::path_in;
 use crate::text::strip_prefix;
-use feed_heads::{FIELD_LIMIT, HEAD_LIMIT, HeadFound, Request, find_head, origin_form};
+use feed_http_heads::{FIELD_LIMIT, HEAD_LIMIT, HeadFound, Request, find_head, origin_form};
 use feed_identifiers::trim_spaces;
 use feed_keep::Keep;
 use feed_names::{NameFault, ReleaseName};

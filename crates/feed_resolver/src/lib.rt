@@ -17,7 +17,7 @@ mod status;
 mod target;
 mod text;
 
-pub use feed_heads::{HeadEnd, head_end};
+pub use feed_http_heads::{HeadEnd, head_end};
 pub use feeding::{Feeder, fetch_asked, respond_as_node};
 pub use laws::{
     escaped_has_no_markup, escaped_reads_back, json_reads_back, redirects_to_link,

@@ -3,14 +3,14 @@ ghost use Rattle.std.specs.Prelude.{◌≡◌, ◌∷◌};
 ghost use Rattle.std.specs.List.{list_all};
 ghost use Rattle.std.specs.Char.{is_ascii_digit};
 ghost use Rattle.httparse.specs.Grammar.{RequestHead};
-ghost use Rattle.feed_heads.specs.Fields.{AreWithin, AreFieldsOf};
+ghost use Rattle.feed_http_heads.specs.Fields.{AreWithin, AreFieldsOf};
 ghost use Rattle.feed_resolver.specs.Accepts.{digit_at, thousandths, fraction, weight_value, weight_of, weight_in};
 ghost use Rattle.feed_resolver.specs.Accepts.{weight_under, wish, most_wished};
 ghost use Rattle.feed_resolver.specs.Accepts.{accepted, by_accept, format_in, format_of};
 ghost use Rattle.feed_resolver.specs.Accepts.{representation_of};
 
 use crate::text::{split_once, strip_prefix};
-use feed_heads::Fields;
+use feed_http_heads::Fields;
 use feed_identifiers::trim_spaces;
 
 /// The format of an answer.

@@ -1,7 +1,7 @@
 //! Computes the reply to the head of a request.
 ghost use Rattle.std.specs.Prelude.{◌≡◌, IfOk, position};
 ghost use Rattle.httparse.specs.Grammar.{RequestHead};
-ghost use Rattle.feed_heads.specs.Requests.{IsInBuffer, HasHead};
+ghost use Rattle.feed_http_heads.specs.Requests.{IsInBuffer, HasHead};
 ghost use Rattle.feed_releases.specs.Actives.{actives_of};
 ghost use Rattle.feed_model.specs.History.{History};
 ghost use Rattle.feed_model.specs.Content.{IsContent};
@@ -24,7 +24,7 @@ use crate::representation::{Representation, by_accept, representation_of};
 use crate::status::{put_front_page, put_status};
 use crate::target::{Asked, asked_of, package_of, path_in, query_in};
 use feed_answer::{Query, QueryFault};
-use feed_heads::{FIELD_LIMIT, HEAD_LIMIT, HeadFound, Request, find_head, origin_form};
+use feed_http_heads::{FIELD_LIMIT, HEAD_LIMIT, HeadFound, Request, find_head, origin_form};
 use feed_keep::Keep;
 use feed_releases::{ActiveRelease, Feed};
 use httparse::spans::EMPTY_HEADER_SPAN;

@@ -3,9 +3,9 @@ use Rattle.std.proofs.Common.{◌≡◌, ◌≢◌, [], ◌∷◌, Bool, IsTrue,
 use Rattle.sqlite.specs.Effect.{IsDatabase}
 use Rattle.sqlite.specs.Change.{automatics}
 use Rattle.sqlite.specs.State.{State, HasCleanDisk}
-use Rattle.feed_rows.specs.Layout.{earlier_schema, feed_schema, no_schema, reason}
-use Rattle.feed_rows.specs.Tables.{IsEarlier, IsOurs}
-use Rattle.feed_statements.specs.Effects.{IsLive, TellsNumber}
+use Rattle.feed_store_model.specs.Layout.{earlier_schema, feed_schema, no_schema, reason}
+use Rattle.feed_store_model.specs.Tables.{IsEarlier, IsOurs}
+use Rattle.feed_store_write.specs.Effects.{IsLive, TellsNumber}
 use Rattle.feed_store.specs.Adopted.{IsAdopted}
 use Rattle.feed_store.specs.Upgraded.{IsBroughtUp, IsFirst}
 

@@ -9,12 +9,12 @@ use Rattle.feed_model.specs.declared.state.State.{State}
 use Rattle.feed_model.specs.declared.state.State.TheVariants.{Staged, Broken, Active}
 use Rattle.feed_model.specs.Content.{Content, Record, names}
 use Rattle.feed_model.proofs.Names.{name_self}
-use Rattle.feed_rows.specs.Tables.{IsEarlier, IsEarlierListed, IsTabled, earlier_content_of}
-use Rattle.feed_rows.proofs.Explained.{all_records}
-use Rattle.feed_rows.proofs.Ours.{tabled_earlier}
-use Rattle.feed_rows.proofs.Stored.{stored}
-use Rattle.feed_statements.specs.Effects.{IsUpgraded, UpgradesIf}
-use Rattle.feed_statements.specs.Upgrading.{AreStored, IsStoredIf, explain, explain_by, explained_with}
+use Rattle.feed_store_model.specs.Tables.{IsEarlier, IsEarlierListed, IsTabled, earlier_content_of}
+use Rattle.feed_store_model.proofs.Explained.{all_records}
+use Rattle.feed_store_model.proofs.Ours.{tabled_earlier}
+use Rattle.feed_store_model.proofs.Stored.{stored}
+use Rattle.feed_store_write.specs.Effects.{IsUpgraded, UpgradesIf}
+use Rattle.feed_store_write.specs.Upgrading.{AreStored, IsStoredIf, explain, explain_by, explained_with}
 use Rattle.feed_store.specs.Upgraded.{AreReasoned, GetsReasons, IsBroughtUp, IsReasonOf, IsReasoned}
 
 -- one record more

@@ -1,7 +1,7 @@
 -- Names that are taken in a schema.
 use Rattle.std.proofs.Common.{inl, refl}
 use Rattle.sqlite_schema.specs.Names.{same_name}
-use Rattle.feed_rows.specs.Layout.{earlier_schema, feed_schema}
+use Rattle.feed_store_model.specs.Layout.{earlier_schema, feed_schema}
 use Rattle.feed_store.specs.Adopted.{TakesAllOrNone}
 
 -- the tables of a keeper have the names, in either layout

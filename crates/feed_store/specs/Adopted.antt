@@ -10,9 +10,9 @@ use Rattle.sqlite_disk.specs.declared.Disk.{Ghosts}
 use Rattle.sqlite_schema.specs.Names.{same_name}
 use Rattle.sqlite_store.specs.declared.store.FileStore.{FileStore}
 use Rattle.sqlite_wal.specs.Recovery.{Image}
-use Rattle.feed_rows.specs.Tables.{IsEarlier, IsOurs}
-use Rattle.feed_statements.specs.Effects.{IsBlank, IsLive, Leads}
-use Rattle.feed_statements.specs.Schemas.{HasNoTable}
+use Rattle.feed_store_model.specs.Tables.{IsEarlier, IsOurs}
+use Rattle.feed_store_write.specs.Effects.{IsBlank, IsLive, Leads}
+use Rattle.feed_store_write.specs.Schemas.{HasNoTable}
 use Rattle.feed_store.specs.Upgraded.{IsBroughtUp}
 
 -- the tables are made in an empty database

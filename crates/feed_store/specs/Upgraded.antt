@@ -10,7 +10,7 @@ use Rattle.feed_model.specs.declared.state.State.{State}
 use Rattle.feed_model.specs.declared.state.State.TheVariants.{Staged, Broken, Active}
 use Rattle.feed_model.specs.Content.{Content, Record, names}
 use Rattle.feed_keep.specs.BadFile.{IsBadOf}
-use Rattle.feed_rows.specs.Tables.{IsEarlierListed, IsListed, IsOurs, earlier_content_of, content_of}
+use Rattle.feed_store_model.specs.Tables.{IsEarlierListed, IsListed, IsOurs, earlier_content_of, content_of}
 
 -- the layout's number is 1
 abbrev pub IsFirst : Database → Type 0

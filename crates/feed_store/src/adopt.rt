@@ -1,11 +1,11 @@
 //! Decides whether a database is a node's, and creates or upgrades its tables.
 ghost use Rattle.std.specs.Prelude.{◌≡◌, false, IfOk, IsTrue, OnErr};
 ghost use Rattle.std.specs.List.{list_any};
-ghost use Rattle.feed_rows.specs.Layout.{earlier_schema};
+ghost use Rattle.feed_store_model.specs.Layout.{earlier_schema};
 ghost use Rattle.feed_keep.specs.Shown.{shown};
-ghost use Rattle.feed_rows.specs.Tables.{IsEarlier, IsEarlierListed, IsTabled, earlier_content_of};
-ghost use Rattle.feed_statements.specs.Effects.{IsLive, TellsNumber};
-ghost use Rattle.feed_statements.specs.Upgrading.{AreStored};
+ghost use Rattle.feed_store_model.specs.Tables.{IsEarlier, IsEarlierListed, IsTabled, earlier_content_of};
+ghost use Rattle.feed_store_write.specs.Effects.{IsLive, TellsNumber};
+ghost use Rattle.feed_store_write.specs.Upgrading.{AreStored};
 ghost use Rattle.feed_store.specs.Adopted.{AreTaken, IsAdopted, IsLaidOut, TakesAllOrNone, is_taken};
 ghost use Rattle.feed_store.specs.Upgraded.{GetsReasons, IsBroughtUp, IsFirst};
 ghost use Rattle.sqlite.specs.Held.{state};
@@ -15,8 +15,8 @@ ghost use Rattle.sqlite_schema.specs.Names.{same_name};
 use crate::fault::{StoreFault, fault_of};
 use crate::reasons::reasoned;
 use feed_keep::Record;
-use feed_reading::read_unexplained;
-use feed_statements::{has_number, is_blank, is_earlier, is_laid_out, lay_out, upgrade};
+use feed_store_read::read_unexplained;
+use feed_store_write::{has_number, is_blank, is_earlier, is_laid_out, lay_out, upgrade};
 use sqlite::{Alter, Connection};
 use sqlite_schema::names::same_name;
 use sqlite_schema::schema::{Column, Kind, Schema, Table, View};

@@ -2,7 +2,7 @@
 ghost use Rattle.feed_model.specs.Content.{IsContent};
 ghost use Rattle.feed_model.specs.Earlier.{IsEarlierContent, without_refused};
 ghost use Rattle.feed_model.specs.History.{History};
-ghost use Rattle.feed_rows.specs.Tables.{IsEarlierListed, content_of, earlier_content_of};
+ghost use Rattle.feed_store_model.specs.Tables.{IsEarlierListed, content_of, earlier_content_of};
 ghost use Rattle.feed_store.specs.Upgraded.{IsBroughtUp};
 ghost use Rattle.sqlite.specs.Effect.{Database};
 

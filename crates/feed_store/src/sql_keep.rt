@@ -4,8 +4,8 @@ ghost use Rattle.std.specs.Prelude.{◌≡◌, false, None, IfErr, IfOk, MatchRe
 use crate::adopt::made_ready;
 use crate::fault::{AdoptFault, StoreFault};
 use feed_keep::{Change, Keep, KeepFault, Record};
-use feed_reading::read_records;
-use feed_statements::commit_change;
+use feed_store_read::read_records;
+use feed_store_write::commit_change;
 use sqlite::{Alter, Connection, Error, ErrorCode, MemStore};
 use std::alloc::Global;
 use std::marker::Model;
@@ -23,8 +23,8 @@ impl<S: Alter> Model for SqlKeep<S> {
     ghost use Rattle.std.specs.Prelude.{ℕ, Bool, false, ◌≡◌, IsTrue};
     ghost use Rattle.std.specs.Coded.{coded×, coded_ℕ, coded_bool};
     ghost use Rattle.sqlite.specs.Held.{Held, held_code, state};
-    ghost use Rattle.feed_rows.specs.Tables.{IsOurs};
-    ghost use Rattle.feed_statements.specs.Effects.{IsLive};
+    ghost use Rattle.feed_store_model.specs.Tables.{IsOurs};
+    ghost use Rattle.feed_store_write.specs.Effects.{IsLive};
 
     ghost Value = { Held S × (ℕ × Bool) };
 
@@ -38,7 +38,7 @@ impl<S: Alter> Model for SqlKeep<S> {
 
 impl<S: Alter> SqlKeep<S> {
     ghost use Rattle.sqlite.specs.Held.{state};
-    ghost use Rattle.feed_rows.specs.Live.{IsLive};
+    ghost use Rattle.feed_store_model.specs.Live.{IsLive};
     ghost use Rattle.feed_store.specs.Adopted.{IsAdopted, TakesAllOrNone};
 
     /// Takes over a connection that is in no transaction, and lifts its limit of steps. A database that has none of the
@@ -91,8 +91,8 @@ impl<S: Alter> Keep for SqlKeep<S> {
     ghost use Rattle.feed_keep.specs.Cause.{IsCounted};
     ghost use Rattle.feed_keep.specs.Shown.{shown_change};
     ghost use Rattle.sqlite.specs.Held.{state};
-    ghost use Rattle.feed_rows.specs.Live.{IsLive};
-    ghost use Rattle.feed_rows.specs.Tables.{IsListed, content_of};
+    ghost use Rattle.feed_store_model.specs.Live.{IsLive};
+    ghost use Rattle.feed_store_model.specs.Tables.{IsListed, content_of};
 
     ghost content = { λ k. content_of (state S.Store k.0).now };
 
@@ -149,7 +149,7 @@ impl SqlKeep<MemStore> {
     ghost use Rattle.std.specs.Prelude.{IsTrue};
     ghost use Rattle.sqlite.specs.Held.{state};
     ghost use Rattle.sqlite.specs.Steps.{over_memory};
-    ghost use Rattle.feed_statements.specs.Effects.{IsBlank, IsLive};
+    ghost use Rattle.feed_store_write.specs.Effects.{IsBlank, IsLive};
 
     /// An empty keeper in memory.
     pub fn open_memory(alloc: Global) -> Result<SqlKeep<MemStore>, StoreFault>

@@ -2,12 +2,12 @@
 #![tactic(auto)]
 
 use clap::error::ErrorKind;
+use feed_cli::{From, Request};
 use feed_command::{FAILED, Faults, MISUSED, take_stack};
 use feed_database::run_at;
 use feed_file_commands::{answer_file, check_files, serve_folder};
 use feed_node_commands::{Command, Upstream};
 use feed_replay::replay_input;
-use feed_words::{From, Request};
 use std::io;
 use std::io::{BufWriter, Write};
 use std::process::ExitCode;
@@ -29,7 +29,7 @@ fn status_of(rt: &HostRuntime) -> u8 {
     if !take_stack(words.len()) {
         return faults.report("Memory", FAILED);
     }
-    let (is_verbose, request) = match feed_words::read(rt.alloc(), words.as_slice()) {
+    let (is_verbose, request) = match feed_cli::read(rt.alloc(), words.as_slice()) {
         Ok(read) => read,
         Err(error) if error.kind() == ErrorKind::OutOfMemory => {
             return faults.report("Memory", FAILED);

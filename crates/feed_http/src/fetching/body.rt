@@ -3,7 +3,7 @@ ghost use Rattle.std.specs.Prelude.{◌≡◌, ◌≤◌, ◌<◌, length, OnOk,
 ghost use Rattle.std.specs.Io.KnownBytes.{Consumes, IsAtEnd};
 ghost use Rattle.feed_http.specs.Bodies.{IsFillFault, IsSizedFault, IsEndlessFault};
 
-use feed_heads::HttpFault;
+use feed_http_heads::HttpFault;
 use std::alloc::Global;
 use std::io::Read;
 

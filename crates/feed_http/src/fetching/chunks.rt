@@ -12,7 +12,7 @@ ghost use Rattle.feed_http.specs.Chunks.{IsChunkTaken, IsChunkFault, IsBodyChunk
 use crate::fetching::body::read_sized;
 use crate::limits::CHUNK_LINE_LIMIT;
 use arrayvec::ArrayVec;
-use feed_heads::{FIELD_LIMIT, HEAD_LIMIT, HttpFault};
+use feed_http_heads::{FIELD_LIMIT, HEAD_LIMIT, HttpFault};
 use httparse::spans::{EMPTY_HEADER_SPAN, parse_headers};
 use httparse::{Status, parse_chunk_size};
 use std::alloc::Global;

@@ -2,7 +2,7 @@
 ghost use Rattle.std.specs.Prelude.{◌≡◌, IfSome};
 ghost use Rattle.feed_range.specs.Content.{IsInOrder};
 ghost use Rattle.httparse.specs.Grammar.{ResponseHead};
-ghost use Rattle.feed_heads.specs.Fields.{AreWithin, AreFieldsOf};
+ghost use Rattle.feed_http_heads.specs.Fields.{AreWithin, AreFieldsOf};
 ghost use Rattle.feed_http.specs.Judgements.{is_identity, is_chunked, is_transfer_coded, is_coded_otherwise};
 ghost use Rattle.feed_http.specs.Judgements.{stated_length, framing_of, framed_by_length, range_of, part_judged};
 ghost use Rattle.feed_http.specs.Judgements.{part_framed, whole_judged, size_judged, unsatisfied_part, file_judged};
@@ -10,7 +10,7 @@ ghost use Rattle.feed_http.specs.Judgements.{judged, gives_file, IsInBuffer, Has
 
 use crate::fetching::got::Method;
 use crate::fetching::length::agreed_length;
-use feed_heads::{Fields, HttpFault};
+use feed_http_heads::{Fields, HttpFault};
 use feed_limits::{FILE_LIMIT, PIECE_LIMIT};
 use feed_range::ContentRange;
 use httparse::spans::{HeaderSpan, ResponseSpans};

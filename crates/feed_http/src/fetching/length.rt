@@ -3,10 +3,10 @@ ghost use Rattle.std.specs.Prelude.{◌≡◌, List, length};
 ghost use Rattle.std.specs.List.{list_all};
 ghost use Rattle.httparse.specs.Grammar.{Field};
 ghost use Rattle.httparse.specs.Spans.{IsHeaderWithin};
-ghost use Rattle.feed_heads.specs.Fields.{values_named, agrees, AreWithin, AreFieldsOf};
+ghost use Rattle.feed_http_heads.specs.Fields.{values_named, agrees, AreWithin, AreFieldsOf};
 ghost use Rattle.feed_http.specs.Judgements.{writes, agreed, content_length};
 
-use feed_heads::{Fields, is_named};
+use feed_http_heads::{Fields, is_named};
 use feed_range::read_number;
 use httparse::spans::HeaderSpan;
 

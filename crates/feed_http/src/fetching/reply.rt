@@ -6,7 +6,7 @@ use crate::fetching::body::{read_sized, read_to_end};
 use crate::fetching::chunks::read_chunked;
 use crate::fetching::got::{Bytes, Got, Method};
 use crate::fetching::judge::{Framing, Judgement, Reply};
-use feed_heads::{FIELD_LIMIT, HEAD_LIMIT, HttpFault, read_reply_head};
+use feed_http_heads::{FIELD_LIMIT, HEAD_LIMIT, HttpFault, read_reply_head};
 use feed_limits::FILE_LIMIT;
 use httparse::spans::EMPTY_HEADER_SPAN;
 use std::alloc::Global;

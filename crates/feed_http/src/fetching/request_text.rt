@@ -7,7 +7,7 @@ ghost use Rattle.feed_http.specs.RequestTexts.{is_host, is_host_byte, start_text
 
 use crate::limits::HOST_LIMIT;
 use arrayvec::ArrayVec;
-use feed_heads::HttpFault;
+use feed_http_heads::HttpFault;
 use feed_names::ReleaseName;
 use feed_range::write_ask;
 use std::io;

@@ -4,7 +4,7 @@ ghost use Rattle.std.specs.Io.KnownBytes.{Appends};
 ghost use Rattle.feed_http.specs.Replies.{status_of, head_text, refusal_text, IsPartInside};
 
 use arrayvec::ArrayVec;
-use feed_heads::HttpFault;
+use feed_http_heads::HttpFault;
 use std::io;
 use std::io::Write;
 

@@ -2,11 +2,11 @@
 ghost use Rattle.std.specs.Prelude.{◌≡◌, IfOk, IsOkUnless, option_copied};
 ghost use Rattle.httparse.specs.Grammar.{RequestHead};
 ghost use Rattle.feed_range.specs.Ask.{IsInside};
-ghost use Rattle.feed_heads.specs.Fields.{AreWithin, AreFieldsOf};
-ghost use Rattle.feed_heads.specs.Requests.{IsInBuffer, HasHead};
+ghost use Rattle.feed_http_heads.specs.Fields.{AreWithin, AreFieldsOf};
+ghost use Rattle.feed_http_heads.specs.Requests.{IsInBuffer, HasHead};
 ghost use Rattle.feed_http.specs.Requests.{is_unsupported, range_value, ask_for, IsNamedBy};
 
-use feed_heads::{Fields, HttpFault, Request, origin_form};
+use feed_http_heads::{Fields, HttpFault, Request, origin_form};
 use feed_names::{NameFault, ReleaseName};
 use feed_range::RangeAsk;
 use std::alloc::Global;

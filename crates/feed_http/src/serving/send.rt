@@ -5,7 +5,7 @@ ghost use Rattle.feed_http.specs.Shelves.{CountsFailure};
 ghost use Rattle.feed_http.specs.Served.{IsSending, IsReplyFault};
 
 use crate::serving::shelf::Shelf;
-use feed_heads::HttpFault;
+use feed_http_heads::HttpFault;
 use feed_names::ReleaseName;
 use std::alloc::Global;
 use std::io::Write;

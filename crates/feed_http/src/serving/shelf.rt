@@ -6,7 +6,7 @@ ghost use Rattle.std.specs.Option.{option_map};
 ghost use Rattle.feed_http.specs.Shelves.{Files, CountsFailure};
 ghost use Rattle.feed_http.specs.declared.serving.shelf.ShelfFault.TheVariants.{Device};
 
-use feed_heads::HttpFault;
+use feed_http_heads::HttpFault;
 use feed_names::ReleaseName;
 use std::alloc::Global;
 use thiserror::Error;

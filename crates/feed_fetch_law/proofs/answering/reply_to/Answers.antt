@@ -1,5 +1,5 @@
 use Rattle.std.proofs.Common.{◌≡◌, Ok, Err, refl}
-use Rattle.feed_heads.specs.declared.http_fault.HttpFault.TheVariants.{Short}
+use Rattle.feed_http_heads.specs.declared.http_fault.HttpFault.TheVariants.{Short}
 use Rattle.feed_http.specs.MemoryShelves.{file_named}
 use Rattle.feed_fetch_law.proofs.Serving.{IsServed-outcome, IsServed-unfinished}
 use Rattle.feed_fetch_law.proofs.answering.reply_to.Goals as goal

@@ -1,6 +1,6 @@
 use Rattle.std.proofs.Common.{arith, sym}
 use Rattle.std.proofs.lemmas.Result.{IfOk-weaker}
-use Rattle.feed_heads.proofs.HeadsFound.{front_is}
+use Rattle.feed_http_heads.proofs.HeadsFound.{front_is}
 use Rattle.feed_resolver.specs.Feeding.{IsAskedBy}
 use Rattle.feed_resolver.proofs.feeding.fetch_asked.Goals as goal
 

@@ -1,6 +1,6 @@
 use Rattle.std.proofs.Common.{arith, inl, inr}
 use Rattle.std.proofs.lemmas.Result.{IfOk-weaker}
-use Rattle.feed_heads.proofs.HeadsFound.{front_is}
+use Rattle.feed_http_heads.proofs.HeadsFound.{front_is}
 use Rattle.feed_resolver.specs.Feeding.{IsNodeReply}
 use Rattle.feed_resolver.proofs.HeadsAnswered.{none_ever}
 use Rattle.feed_resolver.proofs.feeding.node_reply_with.Goals as goal

@@ -1,7 +1,7 @@
 use Rattle.std.proofs.Common.{◌≡◌, ◌∙◌}
 use Rattle.std.proofs.lemmas.Result.{IfOk-weaker}
 use Rattle.httparse.specs.Grammar.{RequestHead}
-use Rattle.feed_heads.specs.Requests.{HasHead}
+use Rattle.feed_http_heads.specs.Requests.{HasHead}
 use Rattle.feed_resolver.specs.Targets.{asked_of, path_in}
 use Rattle.feed_resolver.specs.Replies.{by_path, resolved, packaged}
 use Rattle.feed_resolver.proofs.Asking.{resolve_asked, package_asked}

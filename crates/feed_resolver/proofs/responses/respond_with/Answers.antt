@@ -1,6 +1,6 @@
 use Rattle.std.proofs.Common.{◌≡◌, arith, inl, inr}
 use Rattle.std.proofs.lemmas.Result.{IfOk-weaker}
-use Rattle.feed_heads.proofs.HeadsFound.{front_is}
+use Rattle.feed_http_heads.proofs.HeadsFound.{front_is}
 use Rattle.feed_resolver.specs.Replies.{IsResponse, response_to_none}
 use Rattle.feed_resolver.proofs.HeadsAnswered.{none_ever, none_yet}
 use Rattle.feed_resolver.proofs.responses.respond_with.Goals as goal

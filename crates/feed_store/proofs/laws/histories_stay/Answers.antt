@@ -1,4 +1,4 @@
-use Rattle.feed_rows.specs.Tables.{content_of, earlier_content_of}
+use Rattle.feed_store_model.specs.Tables.{content_of, earlier_content_of}
 use Rattle.feed_store.proofs.Histories.{explained}
 use Rattle.feed_store.proofs.laws.histories_stay.Goals as goal
 

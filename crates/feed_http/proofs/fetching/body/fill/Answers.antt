@@ -1,6 +1,6 @@
 use Rattle.std.proofs.Common.{arith}
 use Rattle.std.proofs.KnownBytes.{Consumes-nil}
-use Rattle.feed_heads.proofs.BufferFilling.{put_mid_fits, read_more}
+use Rattle.feed_http_heads.proofs.BufferFilling.{put_mid_fits, read_more}
 use Rattle.feed_http.proofs.fetching.body.fill.Goals as goal
 
 pub loop-filled-init : goal.loop-filled-init

@@ -1,6 +1,6 @@
 use Rattle.std.proofs.Common.{ap, ◌∙◌, Some}
 use Rattle.feed_http.specs.Judgements.{content_length}
-use Rattle.feed_heads.proofs.NamedFields.{first_value}
+use Rattle.feed_http_heads.proofs.NamedFields.{first_value}
 use Rattle.feed_http.proofs.AgreedLengths.{agreed_on_none, agreed_on_no_length, agreed_on}
 use Rattle.feed_http.proofs.fetching.length.agreed_length.Goals as goal
 

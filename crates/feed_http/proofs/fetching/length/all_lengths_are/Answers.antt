@@ -2,9 +2,9 @@ use Rattle.std.proofs.Common.{ap, sym, ◌∙◌, true, false}
 use Rattle.std.specs.List.{list_all}
 use Rattle.std.proofs.lemmas.List.{take_all}
 use Rattle.std.proofs.lemmas.List.Folds.{list_all_at}
-use Rattle.feed_heads.specs.Fields.{agrees}
+use Rattle.feed_http_heads.specs.Fields.{agrees}
 use Rattle.feed_http.specs.Judgements.{writes, content_length}
-use Rattle.feed_heads.proofs.NamedFields.{all_values}
+use Rattle.feed_http_heads.proofs.NamedFields.{all_values}
 use Rattle.feed_http.proofs.fetching.length.all_lengths_are.Goals as goal
 
 pub returns-then-not-agrees_with_length : goal.returns-then-not-agrees_with_length

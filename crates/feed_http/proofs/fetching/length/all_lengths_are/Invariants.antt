@@ -1,6 +1,6 @@
 use Rattle.std.proofs.Common.{◌≡◌, take, true}
 use Rattle.std.specs.List.{list_all}
-use Rattle.feed_heads.specs.Fields.{agrees}
+use Rattle.feed_http_heads.specs.Fields.{agrees}
 use Rattle.feed_http.specs.Judgements.{writes, content_length}
 use Rattle.feed_http.proofs.fetching.length.all_lengths_are.Given as goal
 

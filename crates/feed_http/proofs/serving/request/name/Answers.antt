@@ -1,7 +1,7 @@
 use Rattle.std.proofs.Common.{List, ℕ, subst}
 use Rattle.std.proofs.lemmas.Result.{IfOk-weaker}
 use Rattle.httparse.specs.Grammar.{RequestHead}
-use Rattle.feed_heads.specs.Requests.{HasHead}
+use Rattle.feed_http_heads.specs.Requests.{HasHead}
 use Rattle.feed_http.specs.Requests.{IsNamedBy}
 use Rattle.feed_http.proofs.serving.request.name.Goals as goal
 

@@ -1,8 +1,8 @@
 use Rattle.std.proofs.Common.{Ok, Err, Result, OnOk, OnErr, sym, subst}
 use Rattle.std.proofs.Math.Logic.{∥∥₁_map, ∥∥₁_elim}
 use Rattle.sqlite.specs.Held.{state}
-use Rattle.feed_rows.specs.Tables.{IsOurs}
-use Rattle.feed_rows.proofs.ContentSet.{content_set}
+use Rattle.feed_store_model.specs.Tables.{IsOurs}
+use Rattle.feed_store_model.proofs.ContentSet.{content_set}
 use Rattle.feed_store.proofs.sql_keep.SqlKeepKeep.commit.Goals as goal
 
 -- of either answer

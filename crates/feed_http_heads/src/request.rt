@@ -1,0 +1,70 @@
+//! A request's head, in the buffer into which it was read.
+ghost use Rattle.std.specs.Prelude.{◌≡◌};
+ghost use Rattle.httparse.specs.Grammar.{RequestHead};
+ghost use Rattle.feed_http_heads.specs.Fields.{AreWithin, AreFieldsOf};
+ghost use Rattle.feed_http_heads.specs.Requests.{lacks_host, is_get, is_head, IsInBuffer, HasHead};
+
+use crate::fields::Fields;
+use httparse::spans::{HeaderSpan, RequestSpans};
+
+/// A request's head, in the buffer into which it was read.
+#[derive(Clone, Copy)]
+pub struct Request<'b> {
+    pub buffer: &'b [u8],
+    pub headers: &'b [HeaderSpan],
+    pub spans: RequestSpans,
+}
+
+impl<'b> Request<'b> {
+    /// Returns the fields of the head.
+    pub fn fields(&self) -> Fields<'_>
+        requires { IsInBuffer self.now }
+        ensures within { AreWithin result }
+        ensures fields { (head : RequestHead) → HasHead self.now head → AreFieldsOf result head.fields }
+    {
+        Fields {
+            buffer: self.buffer,
+            headers: &self.headers[..self.spans.headers],
+        }
+    }
+
+    /// Returns the method (RFC 9110, section 9.1). It is case-sensitive.
+    pub fn method(&self) -> &[u8]
+        requires { IsInBuffer self.now }
+        ensures { (head : RequestHead) → HasHead self.now head → result.now ≡ head.method }
+    {
+        self.spans.method.of(self.buffer)
+    }
+
+    /// Returns the target (RFC 9112, section 3.2), which is not decoded.
+    pub fn target(&self) -> &'b [u8]
+        requires { IsInBuffer self.now }
+        ensures { (head : RequestHead) → HasHead self.now head → result.now ≡ head.target }
+    {
+        self.spans.path.of(self.buffer)
+    }
+
+    /// Returns whether a request of HTTP/1.1 does not have exactly one Host field (RFC 9112, section 3.2).
+    pub fn lacks_host(&self) -> bool
+        requires { IsInBuffer self.now }
+        ensures { (head : RequestHead) → HasHead self.now head → result ≡ lacks_host head }
+    {
+        self.spans.version == 1 && self.fields().sole_value(b"host").is_none()
+    }
+
+    /// Returns whether the method is HEAD (RFC 9110, section 9.3.2).
+    pub fn is_head(&self) -> bool
+        requires { IsInBuffer self.now }
+        ensures { (head : RequestHead) → HasHead self.now head → result ≡ is_head head }
+    {
+        self.spans.method.of(self.buffer) == b"HEAD".as_slice()
+    }
+
+    /// Returns whether the method is GET (RFC 9110, section 9.3.1).
+    pub fn is_get(&self) -> bool
+        requires { IsInBuffer self.now }
+        ensures { (head : RequestHead) → HasHead self.now head → result ≡ is_get head }
+    {
+        self.spans.method.of(self.buffer) == b"GET".as_slice()
+    }
+}

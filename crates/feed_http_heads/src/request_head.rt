@@ -1,0 +1,53 @@
+//! Reading the head of a request (RFC 9112, section 3).
+ghost use Rattle.std.specs.Prelude.{◌≤◌, length, take, IfOk, IfErr, IfSome};
+ghost use Rattle.std.specs.Io.KnownBytes.{Consumes};
+ghost use Rattle.httparse.specs.Spans.{IsRequestWithin, IsRequestOf};
+ghost use Rattle.feed_http_heads.specs.RequestHeads.{IsHeadFault, IsWhyNoRequest};
+
+use crate::http_fault::HttpFault;
+use httparse::Status;
+use httparse::spans::{HeaderSpan, RequestSpans, parse_request};
+use std::io::Read;
+
+/// A request's head in a buffer.
+#[derive(Clone, Copy)]
+pub struct RequestRead {
+    pub spans: RequestSpans,
+    /// The number of bytes read into the buffer: the head, and the bytes that arrived with it.
+    pub filled: usize,
+}
+
+/// Reads into the buffer until a head is complete, however the reader splits its bytes.
+pub fn read_request<R: Read>(
+    reader: &mut R,
+    buffer: &mut [u8],
+    headers: &mut [HeaderSpan],
+) -> Result<RequestRead, HttpFault>
+    ensures filled { IfOk result (λ read. read.filled ≤ length buffer.new) }
+    ensures within { IfOk result (λ read.
+        IsRequestWithin (take read.filled buffer.new) headers.new read.spans) }
+    ensures head { IfOk result (λ read.
+        IsRequestOf (take read.filled buffer.new) headers.new read.spans) }
+    ensures taken { IfOk result (λ read.
+        Consumes (R.remaining reader.old) (R.remaining reader.new) (take read.filled buffer.new)) }
+    ensures faults { IfErr result IsHeadFault }
+    ensures why { IfErr result (λ fault. IfSome (R.remaining reader.old)
+        (IsWhyNoRequest (length buffer.old) (length headers.old) fault)) }
+{
+    let mut filled = 0usize;
+    while filled < buffer.len() {
+        let Ok(count) = reader.read(&mut buffer[filled..]) else {
+            return Err(HttpFault::Read);
+        };
+        if count == 0 {
+            return Err(HttpFault::Short);
+        }
+        filled += count;
+        match parse_request(&buffer[..filled], headers) {
+            Ok(Status::Complete(spans)) => return Ok(RequestRead { spans, filled }),
+            Ok(Status::Partial) => {}
+            Err(_) => return Err(HttpFault::BadHead),
+        }
+    }
+    Err(HttpFault::HeadTooLong)
+}

@@ -1,0 +1,175 @@
+//! The access log of a node: a line in the common log format for each request.
+use crate::desk::Desk;
+use crate::resolver::is_post;
+use feed_dates::write_date;
+use feed_node_connection::{Connection, UNAVAILABLE};
+use feed_node_server::Log;
+use std::io;
+use std::io::Write;
+use std::net::SocketAddr;
+use std::time::{SystemTime, UNIX_EPOCH};
+
+/// A log that prints a line for each connection that was answered, and keeps the first error of a print.
+#[derive(Drop)]
+pub struct AccessLog<'o, O: Write> {
+    rt: &'o HostRuntime,
+    out: &'o mut O,
+    desk: &'o Desk,
+    outcome: io::Result<()>,
+    is_clean: bool,
+}
+
+impl<'o, O: Write> AccessLog<'o, O> {
+    pub fn new(rt: &'o HostRuntime, out: &'o mut O, desk: &'o Desk) -> AccessLog<'o, O> {
+        AccessLog {
+            rt,
+            out,
+            desk,
+            outcome: Ok(()),
+            is_clean: true,
+        }
+    }
+
+    /// Flushes the output, and returns the first error.
+    pub fn flushed(&mut self) -> io::Result<()> {
+        if self.is_clean {
+            return Ok(());
+        }
+        self.is_clean = true;
+        std::mem::replace(&mut self.outcome, Ok(()))?;
+        self.out.flush()
+    }
+}
+
+impl<'o, O: Write> Log for AccessLog<'o, O> {
+    fn closed(&mut self, addr: SocketAddr, connection: &Connection) {
+        if connection.reply().is_empty() {
+            return;
+        }
+        if connection.reply() != UNAVAILABLE {
+            self.desk.free(connection.reply().len());
+        }
+        self.is_clean = false;
+        if self.outcome.is_ok() {
+            self.outcome = put_line(self.rt, self.out, addr, connection);
+        }
+    }
+
+    // A POST that is not refused feeds the node, and its client receives the lines of the fetch.
+    fn keeps(&self, connection: &Connection) -> bool {
+        is_post(connection.heard()) && status_of(connection.reply()) == b"200".as_slice()
+    }
+}
+
+fn put_line<O: Write>(
+    rt: &HostRuntime,
+    out: &mut O,
+    addr: SocketAddr,
+    connection: &Connection,
+) -> io::Result<()> {
+    put_client(rt, out, addr)?;
+    put_exchange(out, connection)
+}
+
+// Prints the address of the client and the time.
+fn put_client<O: Write>(rt: &HostRuntime, out: &mut O, addr: SocketAddr) -> io::Result<()> {
+    write!(out, "{} - - [", addr.ip())?;
+    let now = SystemTime::now(rt)?;
+    let seconds = match now.duration_since(UNIX_EPOCH) {
+        Ok(passed) => passed.as_secs(),
+        Err(_) => 0,
+    };
+    put_time(out, seconds)?;
+    out.write_all(b" +0000]")
+}
+
+// Prints the request, the status of the reply and the length of its body.
+fn put_exchange<O: Write>(out: &mut O, connection: &Connection) -> io::Result<()> {
+    out.write_all(b" \"")?;
+    put_escaped(out, request_line(connection.heard()))?;
+    out.write_all(b"\" ")?;
+    out.write_all(status_of(connection.reply()))?;
+    write!(out, " {}\n", body_of(connection.reply()).len())
+}
+
+// Returns the name of a month, by the digits of its number.
+fn month_of(tens: u8, ones: u8) -> &'static [u8] {
+    match (tens, ones) {
+        (b'0', b'1') => b"Jan",
+        (b'0', b'2') => b"Feb",
+        (b'0', b'3') => b"Mar",
+        (b'0', b'4') => b"Apr",
+        (b'0', b'5') => b"May",
+        (b'0', b'6') => b"Jun",
+        (b'0', b'7') => b"Jul",
+        (b'0', b'8') => b"Aug",
+        (b'0', b'9') => b"Sep",
+        (b'1', b'0') => b"Oct",
+        (b'1', b'1') => b"Nov",
+        _ => b"Dec",
+    }
+}
+
+// Prints a day as 25/Nov/2026.
+fn put_day<O: Write>(out: &mut O, date: [u8; 10]) -> io::Result<()> {
+    let [a, b, c, d, _, e, f, _, g, h] = date;
+    out.write_all(&[g, h, b'/'])?;
+    out.write_all(month_of(e, f))?;
+    out.write_all(&[b'/', a, b, c, d])
+}
+
+// Prints the time, in seconds since 1970, as 25/Nov/2026:07:45:00.
+fn put_time<O: Write>(out: &mut O, seconds: u64) -> io::Result<()> {
+    let day = (seconds / 86_400).min(i32::MAX as u64) as i32;
+    match write_date(day) {
+        Some(date) => put_day(out, date)?,
+        None => {}
+    }
+    let time = seconds % 86_400;
+    write!(
+        out,
+        ":{:02}:{:02}:{:02}",
+        time / 3_600,
+        time / 60 % 60,
+        time % 60
+    )
+}
+
+// Returns the first line of a head.
+fn request_line(heard: &[u8]) -> &[u8] {
+    match heard
+        .iter()
+        .position(|byte| *byte == b'\r' || *byte == b'\n')
+    {
+        Some(place) => &heard[..place],
+        None => heard,
+    }
+}
+
+fn status_of(reply: &[u8]) -> &[u8] {
+    reply.get(9..12).unwrap_or(b"-")
+}
+
+// Returns the body of a reply.
+fn body_of(reply: &[u8]) -> &[u8] {
+    let mut rest = reply;
+    for _ in 0..reply.len() {
+        if let Some(body) = rest.strip_prefix(b"\r\n\r\n".as_slice()) {
+            return body;
+        }
+        rest = rest.get(1..).unwrap_or(b"");
+    }
+    b""
+}
+
+// Prints a text for a pair of quotes: `"`, `\` and bytes that are not visible ASCII become `\xHH`.
+fn put_escaped<O: Write>(out: &mut O, text: &[u8]) -> io::Result<()> {
+    for byte in text {
+        if *byte == b'"' || *byte == b'\\' || *byte < 32 || *byte > 126 {
+            write!(out, "\\x{:02X}", *byte)?;
+        } else {
+            out.write_all(&[*byte])?;
+        }
+    }
+    Ok(())
+}

@@ -1,5 +1,0 @@
-use Rattle.feed_rows.proofs.AnyOrder.{any_order}
-use Rattle.feed_rows.proofs.laws.order_of_rows_is_free.Goals as goal
-
-pub returns : goal.returns
-returns c = any_order

@@ -1,0 +1,38 @@
+-- What is read of the releases, and what a reading leaves.
+use Rattle.std.specs.Prelude.{◌≡◌, ◌⊎◌, [], List, map, IsPermutation}
+use Rattle.std.specs.List.{AllByRecursion}
+use Rattle.std.specs.List.Sorted.{IsSorted}
+use Rattle.std.specs.Ordering.{nat_cmp, on}
+use Rattle.std.specs.Cmp.Lexicographic.{slice_cmp}
+use Rattle.sqlite_value.specs.declared.value.Value.TheVariants.{Int}
+use Rattle.sqlite_value.specs.Order.{Row}
+use Rattle.sqlite_trees.specs.Tree.{rowid}
+use Rattle.sqlite.specs.Effect.{Database}
+use Rattle.sqlite.specs.State.{State, IsRolledBack, IsUnchanged}
+use Rattle.feed_keep.specs.Shown.{shown}
+use Rattle.feed_store_model.specs.Live.{IsLive}
+use Rattle.feed_store_model.specs.Tables.{IsReleaseRow, record_in, text_in}
+use Rattle.feed_store_read.specs.declared.releases.Releases.{Releases}
+
+-- a call writes nothing; where it fails, what was not committed may be undone
+pub record Leaves (old new : State) : Type 0 where
+  pub live : IsLive new → IsLive old
+  pub kept : IsLive new → IsUnchanged old new ⊎ IsRolledBack old new
+  pub limit : new.step_limit ≡ old.step_limit
+
+-- the rows are of these releases, one after another
+pub record ShowReleases (rows : List Row) (found : Releases) : Type 0 where
+  pub proper : AllByRecursion IsReleaseRow rows
+  pub numbers : map rowid rows ≡ map Int found.ids.items
+  pub shows : shown found.records.items ≡ map (record_in []) rows
+
+-- no text comes before one that stands ahead of it
+abbrev pub AreTextsInOrder : List Row → Type 0
+AreTextsInOrder = IsSorted (on text_in (slice_cmp nat_cmp))
+
+-- the rows of the table are of these releases, and stand in the order of their texts
+pub record AreReleases (db : Database) (found : Releases) : Type 0 where
+  pub rows : List Row
+  pub moved : IsPermutation (db.trees 1) rows
+  pub order : AreTextsInOrder rows
+  pub show : ShowReleases rows found

@@ -1,0 +1,56 @@
+//! What is looked for in what was read, beyond its rows.
+ghost use Rattle.std.specs.Prelude.{◌≡◌, ◌↔◌, All, IsTrue};
+ghost use Rattle.std.specs.List.{IsDistinct};
+ghost use Rattle.std.specs.Ordering.{int_eq, is_lt, nat_cmp, int_cmp};
+ghost use Rattle.feed_model.specs.Change.{comes_before};
+ghost use Rattle.feed_model.specs.Content.{names};
+ghost use Rattle.feed_parts.specs.Shown.{shown_parts};
+ghost use Rattle.feed_keep.specs.Shown.{shown};
+ghost use Rattle.feed_store_read.specs.Order.{AreNamesUp, ArePartsUp};
+
+use feed_keep::{Part, Record, stands_before};
+
+/// Whether each name comes before those behind it.
+pub fn names_ascend(records: &[Record]) -> bool
+    ensures { IsTrue result ↔ AreNamesUp (names (shown records.now)) }
+{
+    records.is_sorted_by(
+        |one: &Record, other: &Record| -> bool
+            ensures { result ≡ comes_before one.now.name other.now.name }
+        { stands_before(&one.name, &other.name) },
+    )
+}
+
+/// Whether each part of a record begins before those behind it.
+pub fn places_ascend(records: &[Record]) -> bool
+    ensures { IsTrue result ↔ All (λ r. ArePartsUp (shown_parts r.parts.items)) records.now }
+{
+    for record in records {
+        if !parts_ascend(&record.parts) {
+            return false;
+        }
+    }
+    true
+}
+
+fn parts_ascend(parts: &[Part]) -> bool
+    ensures { IsTrue result ↔ ArePartsUp (shown_parts parts.now) }
+{
+    parts.is_sorted_by(
+        |one: &Part, other: &Part| -> bool
+            ensures { result ≡ is_lt (nat_cmp one.now.first other.now.first) }
+        { one.first < other.first },
+    )
+}
+
+/// Whether no number stands twice. It puts them in order.
+pub fn are_apart(ids: &mut [i64]) -> bool
+    ensures { IsTrue result ↔ IsDistinct int_eq ids.old }
+{
+    ids.sort_unstable();
+    ids.is_sorted_by(
+        |one: &i64, other: &i64| -> bool
+            ensures { result ≡ is_lt (int_cmp one.now other.now) }
+        { one < other },
+    )
+}

@@ -1,0 +1,77 @@
+//! Selects the kept parts, and gives each to its release.
+ghost use Rattle.std.specs.Prelude.{◌≡◌, ◌≢◌, ◌++◌, ◌∷◌, [], false, All, IfOk, List, MatchBool};
+ghost use Rattle.std.specs.Prelude.{MatchOption};
+ghost use Rattle.sqlite.specs.Held.{state};
+ghost use Rattle.sqlite.specs.State.{IsUnchanged};
+ghost use Rattle.sqlite_value.specs.Order.{Row as Values};
+ghost use Rattle.feed_names.specs.ReleaseName.{text_of};
+ghost use Rattle.feed_model.specs.Content.{Content, names};
+ghost use Rattle.feed_keep.specs.Shown.{shown};
+ghost use Rattle.feed_store_model.specs.Live.{IsLive};
+ghost use Rattle.feed_store_model.specs.Tables.{IsEarlierListed, IsTabled, IsPieceRow, text_in};
+ghost use Rattle.feed_store_read.specs.Order.{AreNamesUp};
+ghost use Rattle.feed_store_read.specs.Pieces.{ArePieces, ShowPieces};
+ghost use Rattle.feed_store_read.specs.Releases.{AreReleases, Leaves};
+
+use crate::giving::give;
+use crate::piece_row::piece_in;
+use crate::releases::Releases;
+use feed_keep::Record;
+use sqlite::{Alter, Connection, Error, ErrorCode, Row};
+use std::alloc::Global;
+
+/// Gives each part to the release of its name, and gives the numbers of their rows. Nothing where a row is none that
+/// this product writes, or is of no release.
+pub fn select_pieces<S: Alter>(
+    alloc: Global,
+    conn: &mut Connection<S>,
+    found: &mut Releases,
+) -> Result<Option<Vec<i64>>, Error>
+    requires up { AreNamesUp (names (shown found.old.records.items)) }
+    ensures names { names (shown found.new.records.items) ≡ names (shown found.old.records.items) }
+    ensures ids { found.new.ids ≡ found.old.ids }
+    ensures idle { conn.old.in_transaction ≡ false → conn.new.in_transaction ≡ false }
+    ensures leaves { Leaves (state S.Store conn.old) (state S.Store conn.new) }
+    ensures read { IsLive (state S.Store conn.new) → IsTabled (state S.Store conn.old).now → IfOk result
+        (λ read. IsUnchanged (state S.Store conn.old) (state S.Store conn.new)
+        × MatchOption read (AreReleases (state S.Store conn.old).now found.old
+        → ¬ (IsEarlierListed (state S.Store conn.old).now))
+        (λ ids. ArePieces (state S.Store conn.old).now ids.items
+        (shown found.old.records.items) (shown found.new.records.items))) }
+{
+    let mut ids = Vec::new(alloc);
+    let mut rows = conn.query(
+        "SELECT rowid, name, place, bytes FROM feed_piece ORDER BY name, place",
+        &[],
+    )?;
+    'rows: for _ in 0..u64::MAX {
+        let Some(row) = rows.next()? else {
+            return Ok(Some(ids));
+        };
+        if !take_piece(alloc, &mut ids, &mut found.records, row)? {
+            return Ok(None);
+        }
+    }
+    Err(Error::SqliteFailure(ErrorCode::TooBig))
+}
+
+// Gives the part of a row to its release; or not, where the row is none that this product writes, or is of no release.
+fn take_piece(
+    alloc: Global,
+    ids: &mut Vec<i64>,
+    records: &mut Vec<Record>,
+    row: &Row,
+) -> Result<bool, Error>
+    requires up { AreNamesUp (names (shown records.old.items)) }
+    ensures names { names (shown records.new.items) ≡ names (shown records.old.items) }
+    ensures taken { IfOk result (λ taken. MatchBool taken ((rows : List Values) (start : Content)
+        → ShowPieces rows ids.old.items start (shown records.old.items)
+        → ShowPieces (rows ++ row.now ∷ []) ids.new.items start (shown records.new.items))
+        (IsPieceRow row.now → All (λ r. text_of r.name ≢ text_in row.now) records.old.items)) }
+{
+    let Some(piece) = piece_in(row) else {
+        return Ok(false);
+    };
+    ids.push(piece.id)?;
+    Ok(give(alloc, records, piece.text, piece.first, piece.bytes)?)
+}

@@ -1,0 +1,88 @@
+//! Selects the reasons of the broken releases, and gives each to its release.
+ghost use Rattle.std.specs.Prelude.{◌≡◌, ◌≢◌, ◌++◌, ◌∷◌, [], false, All, IfOk, List, MatchBool, MatchOption, map};
+ghost use Rattle.sqlite.specs.Held.{state};
+ghost use Rattle.sqlite.specs.State.{IsUnchanged};
+ghost use Rattle.sqlite_value.specs.Order.{Row as Values};
+ghost use Rattle.feed_names.specs.ReleaseName.{text_of};
+ghost use Rattle.feed_model.specs.Content.{Content, names};
+ghost use Rattle.feed_keep.specs.Shown.{shown};
+ghost use Rattle.feed_store_model.specs.Live.{IsLive};
+ghost use Rattle.feed_store_model.specs.Tables.{IsListed, IsOurs, IsReasonRow, earlier_content_of, text_in};
+ghost use Rattle.feed_store_read.specs.Order.{AreNamesUp};
+ghost use Rattle.feed_store_read.specs.Reasons.{AreReasonsOf, ShowReasons, reasoned};
+ghost use Rattle.feed_store_read.specs.Releases.{Leaves};
+
+use crate::giving::find;
+use crate::reason_row::said_in;
+use feed_kbart::BadFile;
+use feed_keep::Record;
+use sqlite::{Alter, Connection, Error, ErrorCode, Row};
+use std::alloc::Global;
+
+/// Gives each reason to the record of its name, and gives the numbers of their rows. Nothing where a row is none that
+/// this product writes, or is of no record.
+pub fn select_reasons<S: Alter>(
+    alloc: Global,
+    conn: &mut Connection<S>,
+    records: &mut Vec<Record>,
+) -> Result<Option<Vec<i64>>, Error>
+    requires up { AreNamesUp (names (shown records.old.items)) }
+    ensures names { names (shown records.new.items) ≡ names (shown records.old.items) }
+    ensures parts { map (λ r. r.parts) (shown records.new.items) ≡ map (λ r. r.parts) (shown records.old.items) }
+    ensures idle { conn.old.in_transaction ≡ false → conn.new.in_transaction ≡ false }
+    ensures leaves { Leaves (state S.Store conn.old) (state S.Store conn.new) }
+    ensures read { IsLive (state S.Store conn.new) → IsOurs (state S.Store conn.old).now → IfOk result
+        (λ read. IsUnchanged (state S.Store conn.old) (state S.Store conn.new)
+        × MatchOption read (shown records.old.items ≡ earlier_content_of (state S.Store conn.old).now
+        → ¬ (IsListed (state S.Store conn.old).now))
+        (λ ids. AreReasonsOf (state S.Store conn.old).now ids.items (shown records.old.items)
+        (shown records.new.items))) }
+{
+    let mut ids = Vec::new(alloc);
+    let mut rows = conn.query(
+        "SELECT rowid, name, reason, label FROM feed_reason ORDER BY name",
+        &[],
+    )?;
+    'rows: for _ in 0..u64::MAX {
+        let Some(row) = rows.next()? else {
+            return Ok(Some(ids));
+        };
+        if !take_reason(&mut ids, records, row)? {
+            return Ok(None);
+        }
+    }
+    Err(Error::SqliteFailure(ErrorCode::TooBig))
+}
+
+// Gives the reason of a row to its record; or not, where the row is none that this product writes, or is of no record.
+fn take_reason(ids: &mut Vec<i64>, records: &mut Vec<Record>, row: &Row) -> Result<bool, Error>
+    requires up { AreNamesUp (names (shown records.old.items)) }
+    ensures names { names (shown records.new.items) ≡ names (shown records.old.items) }
+    ensures parts { map (λ r. r.parts) (shown records.new.items) ≡ map (λ r. r.parts) (shown records.old.items) }
+    ensures taken { IfOk result (λ taken. MatchBool taken ((rows : List Values) (start : Content)
+        → ShowReasons rows ids.old.items start (shown records.old.items)
+        → ShowReasons (rows ++ row.now ∷ []) ids.new.items start (shown records.new.items))
+        (IsReasonRow row.now → All (λ r. text_of r.name ≢ text_in row.now) records.old.items)) }
+{
+    let Some(said) = said_in(row) else {
+        return Ok(false);
+    };
+    ids.push(said.id)?;
+    Ok(explain(records, said.text, said.why))
+}
+
+// Gives a reason to the record that has this name, if it has none yet; or not, where none has the name.
+fn explain(records: &mut Vec<Record>, text: &[u8], why: BadFile) -> bool
+    requires up { AreNamesUp (names (shown records.old.items)) }
+    ensures names { names (shown records.new.items) ≡ names (shown records.old.items) }
+    ensures parts { map (λ r. r.parts) (shown records.new.items) ≡ map (λ r. r.parts) (shown records.old.items) }
+    ensures given { MatchBool result (shown records.new.items ≡ map (reasoned text.now why) (shown records.old.items))
+        (All (λ r. text_of r.name ≢ text.now) records.old.items) }
+{
+    let Some(at) = find(records, text) else {
+        return false;
+    };
+    let record = &mut records[at];
+    record.reason = record.reason.or(Some(why));
+    true
+}

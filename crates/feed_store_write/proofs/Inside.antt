@@ -1,0 +1,50 @@
+-- A statement inside a transaction.
+use Rattle.std.proofs.Common.{arith, ◌≡◌, ℕ, List, Bool, true, false, Ok, Err, Result, IsErr, OnOk, refl}
+use Rattle.std.proofs.lemmas.Result.{on_ok_weaker}
+use Rattle.sqlite_value.specs.Order.{Row}
+use Rattle.sqlite.specs.declared.error.Error.{Error}
+use Rattle.sqlite.specs.Effect.{Database}
+use Rattle.sqlite.specs.Held.{Held, state}
+use Rattle.sqlite.specs.State.{State, Executes, ExecutesInside, HasCleanDisk, KeepsCommit}
+use Rattle.sqlite.proofs.InsideLemmas.{inside_keeps, keeps_then}
+use Rattle.sqlite.proofs.StateLemmas.{survives_then}
+use Rattle.sqlite_trees.specs.declared.store.Store.{Ghosts}
+use Rattle.feed_store_write.specs.Effects.{IsMade, IsRun, Keeps, LeavesDisk}
+
+module _ (text : List ℕ) (params : Row) (old new : State) where
+  -- a transaction that goes on runs it; one that has ended takes no statement
+  pub ran_inside : (result : Result ℕ Error) → (old.in_transaction ≡ false → IsErr result) → (old.in_transaction ≡ true → ExecutesInside 0 text params old new result)
+      → OnOk result (IsRun text params old new)
+  ran_inside result ended runs = by result old.in_transaction refl ended runs
+    where
+      by : (result : Result ℕ Error) (b : Bool) → old.in_transaction ≡ b → (old.in_transaction ≡ false → IsErr result)
+          → (old.in_transaction ≡ true → ExecutesInside 0 text params old new result) → OnOk result (IsRun text params old new)
+      by (Err e) b is ended runs = tt
+      by (Ok count) false is ended runs = absurd (let e = ended is in cc)
+      by (Ok count) true is ended runs = let it = runs is in record { count = count; runs = it.0; committed = it.1.committed_is; inside = λ _. it.1.mode }
+
+  -- what the statement makes is made inside the transaction
+  pub made_by : {X E : Type 0} (Change : Database → Database → Type 0) (result : Result X E) → ((count : ℕ) → Executes text params old new (Ok count) → Change old.now new.now)
+      → OnOk result (IsRun text params old new) → OnOk result (IsMade Change old new)
+  made_by Change result makes = on_ok_weaker result (λ it. record { change = makes it.count it.runs; committed = it.committed; inside = it.inside })
+
+  -- and commits nothing
+  pub kept_inside : (result : Result ℕ Error) → (old.in_transaction ≡ false → new ≡ old) → (old.in_transaction ≡ true → ExecutesInside 0 text params old new result)
+      → KeepsCommit old new
+  kept_inside result ended runs = by old.in_transaction refl
+    where
+      by : (b : Bool) → old.in_transaction ≡ b → KeepsCommit old new
+      by false is = let e = ended is in rw e (record { was_open = λ is_on. is_on; committed = λ is_on. refl })
+      by true is = inside_keeps old new 0 false text params result (runs is)
+
+-- the disk had returned what was written
+pub clean_before : {S : Type 0} (store : Ghosts S) (b c : Held S) → LeavesDisk store b c → HasCleanDisk (state store c) → HasCleanDisk (state store b)
+clean_before store b c two clean = omega (arith, two.clean)
+
+-- two calls, one after the other
+module _ {S : Type 0} (store : Ghosts S) (a b c : Held S) (one : LeavesDisk store a b) (two : LeavesDisk store b c) where
+  pub both_keep : Keeps store a b → Keeps store b c → Keeps store a c
+  both_keep first second clean = keeps_then (state store a) (state store b) (state store c) (first (clean_before store b c two clean)) (second clean)
+
+  pub both_leave : LeavesDisk store a c
+  both_leave = survives_then (state store a) (state store b) (state store c) (λ _. ⊥) (λ _. ⊥) (λ _. ⊥) (λ _ db none. none) (λ _ db none. none) one two

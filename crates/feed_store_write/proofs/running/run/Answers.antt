@@ -1,0 +1,20 @@
+use Rattle.std.proofs.Common.{Ok, ap}
+use Rattle.sqlite.specs.Held.{state}
+use Rattle.sqlite.specs.Values.{bound}
+use Rattle.feed_store_write.proofs.Inside.{kept_inside, ran_inside}
+use Rattle.feed_store_write.proofs.running.run.Goals as goal
+
+pub returns-clause-ran : goal.returns-clause-ran
+returns-clause-ran g c clean =
+    ran_inside c.args.sql.now (bound c.args.params.now) (state g.S.Store c.args.tx.now.conn.now) (state g.S.Store c.execute.new.self.conn.now) (Ok c.in_ok-execute.field-0)
+    (λ off. absurd (let e = (c.in_ok-execute.ensures.ended off).0 in cc)) (λ live. c.in_ok-execute.ensures.runs clean live)
+
+pub returns-clause-kept : goal.returns-clause-kept
+returns-clause-kept g c clean =
+    kept_inside c.args.sql.now (bound c.args.params.now) (state g.S.Store c.args.tx.now.conn.now) (state g.S.Store c.execute.new.self.conn.now) c.execute.result
+    (λ off. ap (state g.S.Store) (c.execute.ensures.ended off).1) (λ live. c.execute.ensures.runs clean live)
+
+pub returns-in_err-execute-clause-kept : goal.returns-in_err-execute-clause-kept
+returns-in_err-execute-clause-kept g c clean =
+    kept_inside c.args.sql.now (bound c.args.params.now) (state g.S.Store c.args.tx.now.conn.now) (state g.S.Store c.execute.new.self.conn.now) c.execute.result
+    (λ off. ap (state g.S.Store) (c.execute.ensures.ended off).1) (λ live. c.execute.ensures.runs clean live)

@@ -1,0 +1,56 @@
+use Rattle.std.proofs.Common.{◌≡◌, ◌∷◌, ◌++◌, [], ◌+◌, take, List, refl, rules, subst, sym, ◌∙◌, ap}
+use Rattle.std.proofs.lemmas.List.{map-append, take_more, take_all}
+use Rattle.sqlite.specs.Held.{state}
+use Rattle.feed_model.specs.Content as model
+use Rattle.feed_model.specs.Change.{changed}
+use Rattle.feed_parts.specs.declared.part.Part.{Part}
+use Rattle.feed_parts.specs.Shown.{shown_part, shown_parts}
+use Rattle.feed_store_model.specs.Records.{with_parts}
+use Rattle.feed_store_write.specs.Effects.{Changes, IsMade}
+use Rattle.feed_store_write.proofs.Inside.{both_keep, both_leave, clean_before}
+use Rattle.feed_store_write.proofs.Sequence.{none_added, one_more}
+use Rattle.feed_store_write.proofs.statements.insert_parts.Goals as goal
+
+pub loop-part-init : goal.loop-part-init
+loop-part-init g c = record {
+  lent = refl;
+  survives = search rules;
+  kept = λ clean. record { was_open = λ on. on; committed = λ on. refl };
+  made = λ clean. none_added c.args.name.now (state g.S.Store c.args.tx.now.conn.now);
+}
+
+pub loop-part-preserved : goal.loop-part-preserved
+loop-part-preserved g c =
+    let n = c.args.name.now in
+    let parts = c.args.parts.now in
+    let at = c.loop-part.part-index in
+    let old = state g.S.Store c.args.tx.now.conn.now in
+    let mid = state g.S.Store c.loop-part.tx.conn.now in
+    let new = state g.S.Store c.insert_part.new.tx.conn.now in
+    let passed : take (at + 1) parts ≡ take at parts ++ c.part-item.result ∷ [] =
+    take_more parts at c.part-item.result c.loop-part-test.true ∙ ap (λ (p : Part). take at parts ++ p ∷ []) (sym c.part-item.is) in
+    let more : shown_parts (take (at + 1) parts) ≡ shown_parts (take at parts) ++ shown_part c.part-item.result ∷ [] =
+    ap shown_parts passed ∙ map-append shown_part (take at parts) (c.part-item.result ∷ []) in record {
+      lent = search rules;
+      survives = both_leave g.S.Store c.args.tx.now.conn.now c.loop-part.tx.conn.now c.insert_part.new.tx.conn.now c.loop-part.invariant.survives c.insert_part.ensures.survives;
+      kept = both_keep g.S.Store c.args.tx.now.conn.now c.loop-part.tx.conn.now c.insert_part.new.tx.conn.now c.loop-part.invariant.survives c.insert_part.ensures.survives
+          c.loop-part.invariant.kept c.insert_part.ensures.kept;
+      made = λ clean. subst (λ (ps : List model.Part). IsMade (Changes (changed n (with_parts ps))) old new) (sym more)
+          (one_more n (shown_parts (take at parts)) (shown_part c.part-item.result) old mid new (c.loop-part.invariant.made (clean_before g.S.Store c.loop-part.tx.conn.now
+          c.insert_part.new.tx.conn.now c.insert_part.ensures.survives clean))
+          (c.in_ok-insert_part.ensures.made clean));
+    }
+
+pub returns-clause-made : goal.returns-clause-made
+returns-clause-made g c clean =
+    subst (λ (ps : List Part). IsMade (Changes (changed c.args.name.now (with_parts (shown_parts ps)))) (state g.S.Store c.args.tx.now.conn.now) (state g.S.Store c.loop-part.tx.conn.now))
+    (take_all c.loop-part.part-index c.args.parts.now c.loop-part-test.false) (c.loop-part.invariant.made clean)
+
+pub returns-in_err-insert_part-clause-kept : goal.returns-in_err-insert_part-clause-kept
+returns-in_err-insert_part-clause-kept g c =
+    both_keep g.S.Store c.args.tx.now.conn.now c.loop-part.tx.conn.now c.insert_part.new.tx.conn.now c.loop-part.invariant.survives c.insert_part.ensures.survives c.loop-part.invariant.kept
+    c.insert_part.ensures.kept
+
+pub returns-in_err-insert_part-clause-survives : goal.returns-in_err-insert_part-clause-survives
+returns-in_err-insert_part-clause-survives g c =
+    both_leave g.S.Store c.args.tx.now.conn.now c.loop-part.tx.conn.now c.insert_part.new.tx.conn.now c.loop-part.invariant.survives c.insert_part.ensures.survives

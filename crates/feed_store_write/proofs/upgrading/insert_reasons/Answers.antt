@@ -1,0 +1,54 @@
+use Rattle.std.proofs.Common.{◌≡◌, ◌∷◌, ◌++◌, [], ◌+◌, take, List, refl, rules, subst, sym, ◌∙◌, ap}
+use Rattle.std.proofs.lemmas.List.{map-append, take_more, take_all}
+use Rattle.sqlite.specs.Held.{state}
+use Rattle.feed_model.specs.Content as model
+use Rattle.feed_keep.specs.declared.record.Record.{Record}
+use Rattle.feed_keep.specs.Shown.{shown, shown_record}
+use Rattle.feed_store_write.specs.Effects.{ChangesIf, IsMade}
+use Rattle.feed_store_write.specs.Upgrading.{AreStored, explained_with}
+use Rattle.feed_store_write.proofs.Inside.{both_keep, both_leave, clean_before}
+use Rattle.feed_store_write.proofs.Steps.{none_explained, one_explained}
+use Rattle.feed_store_write.proofs.upgrading.insert_reasons.Goals as goal
+
+pub loop-record-init : goal.loop-record-init
+loop-record-init g c = record {
+  lent = refl;
+  survives = search rules;
+  kept = λ clean. record { was_open = λ on. on; committed = λ on. refl };
+  made = λ clean. none_explained (state g.S.Store c.args.tx.now.conn.now);
+}
+
+pub loop-record-preserved : goal.loop-record-preserved
+loop-record-preserved g c =
+    let records = c.args.records.now in
+    let at = c.loop-record.record-index in
+    let old = state g.S.Store c.args.tx.now.conn.now in
+    let mid = state g.S.Store c.loop-record.tx.conn.now in
+    let new = state g.S.Store c.insert_reason_of.new.tx.conn.now in
+    let passed : take (at + 1) records ≡ take at records ++ c.record-item.result ∷ [] =
+    take_more records at c.record-item.result c.loop-record-test.true ∙ ap (λ (r : Record). take at records ++ r ∷ []) (sym c.record-item.is) in
+    let more : shown (take (at + 1) records) ≡ shown (take at records) ++ shown_record c.record-item.result ∷ [] =
+    ap shown passed ∙ map-append shown_record (take at records) (c.record-item.result ∷ []) in record {
+      lent = search rules;
+      survives = both_leave g.S.Store c.args.tx.now.conn.now c.loop-record.tx.conn.now c.insert_reason_of.new.tx.conn.now c.loop-record.invariant.survives c.insert_reason_of.ensures.survives;
+      kept = both_keep g.S.Store c.args.tx.now.conn.now c.loop-record.tx.conn.now c.insert_reason_of.new.tx.conn.now c.loop-record.invariant.survives c.insert_reason_of.ensures.survives
+          c.loop-record.invariant.kept c.insert_reason_of.ensures.kept;
+      made = λ clean. subst (λ (rs : List model.Record). IsMade (ChangesIf (AreStored rs) (explained_with rs)) old new) (sym more)
+          (one_explained (shown (take at records)) (shown_record c.record-item.result) old mid new (c.loop-record.invariant.made (clean_before g.S.Store c.loop-record.tx.conn.now
+          c.insert_reason_of.new.tx.conn.now c.insert_reason_of.ensures.survives clean))
+          (c.in_ok-insert_reason_of.ensures.made clean));
+    }
+
+pub returns-clause-made : goal.returns-clause-made
+returns-clause-made g c clean =
+    subst (λ (rs : List Record). IsMade (ChangesIf (AreStored (shown rs)) (explained_with (shown rs))) (state g.S.Store c.args.tx.now.conn.now) (state g.S.Store c.loop-record.tx.conn.now))
+    (take_all c.loop-record.record-index c.args.records.now c.loop-record-test.false) (c.loop-record.invariant.made clean)
+
+pub returns-in_err-insert_reason_of-clause-kept : goal.returns-in_err-insert_reason_of-clause-kept
+returns-in_err-insert_reason_of-clause-kept g c =
+    both_keep g.S.Store c.args.tx.now.conn.now c.loop-record.tx.conn.now c.insert_reason_of.new.tx.conn.now c.loop-record.invariant.survives c.insert_reason_of.ensures.survives
+    c.loop-record.invariant.kept c.insert_reason_of.ensures.kept
+
+pub returns-in_err-insert_reason_of-clause-survives : goal.returns-in_err-insert_reason_of-clause-survives
+returns-in_err-insert_reason_of-clause-survives g c =
+    both_leave g.S.Store c.args.tx.now.conn.now c.loop-record.tx.conn.now c.insert_reason_of.new.tx.conn.now c.loop-record.invariant.survives c.insert_reason_of.ensures.survives

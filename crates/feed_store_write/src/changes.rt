@@ -1,0 +1,129 @@
+//! Commits each change of the records as one transaction.
+ghost use Rattle.std.specs.Prelude.{◌≡◌, false, OnOk, OnErr};
+ghost use Rattle.feed_model.specs.Change.{Add, Break, after, changed, grown, without_earlier, IsAllowed};
+ghost use Rattle.feed_parts.specs.Shown.{shown_parts};
+ghost use Rattle.feed_keep.specs.Shown.{shown_change};
+ghost use Rattle.feed_store_write.specs.Effects.{AllowedChanges, Changes, IsLive, Keeps, LeavesDisk, Makes};
+ghost use Rattle.sqlite.specs.Held.{state};
+
+use crate::statements::{drop_earlier, insert_parts, insert_reason, insert_release, set_state};
+use feed_kbart::BadFile;
+use feed_keep::{Change, Part, State};
+use feed_names::ReleaseName;
+use sqlite::{Alter, Connection, Error, ErrorCode, Transaction};
+
+/// Makes a change of the records in one transaction: the whole of it, or nothing. It refuses inside a transaction. The
+/// error is what SQLite says of the statement that failed, and `TooBig` for a size or a place beyond 32 bits.
+pub fn commit_change<S: Alter>(conn: &mut Connection<S>, change: &Change<'_>) -> Result<(), Error>
+    requires { conn.old.in_transaction ≡ false }
+    ensures idle { conn.new.in_transaction ≡ false }
+    ensures live { IsLive (state S.Store conn.new) → IsLive (state S.Store conn.old) }
+    ensures whole { IsLive (state S.Store conn.new) → OnOk result (AllowedChanges (shown_change change.now)
+        (state S.Store conn.old).now (state S.Store conn.new).now) }
+    ensures neither { IsLive (state S.Store conn.new)
+        → OnErr result ((state S.Store conn.new).now ≡ (state S.Store conn.old).now) }
+{
+    if !conn.is_autocommit() {
+        return Err(Error::SqliteFailure(ErrorCode::TransactionState));
+    }
+    let mut tx = conn.transaction();
+    make(&mut tx, change)?;
+    tx.commit()
+}
+
+// Makes a change inside a transaction.
+fn make<S: Alter>(tx: &mut Transaction<'_, S>, change: &Change<'_>) -> Result<(), Error>
+    ensures same_reference { tx.new.conn.ghost_name ≡ tx.old.conn.ghost_name }
+    ensures made { Makes S.Store (AllowedChanges (shown_change change.now)) tx.old.conn.now tx.new.conn.now result }
+    ensures kept { Keeps S.Store tx.old.conn.now tx.new.conn.now }
+    ensures survives { LeavesDisk S.Store tx.old.conn.now tx.new.conn.now }
+{
+    match change {
+        Change::Add { name, size } => add(tx, name, *size),
+        Change::Pieces { name, parts } => insert_parts(tx, name, parts),
+        Change::Break {
+            name,
+            parts,
+            reason,
+        } => break_off(tx, name, parts, *reason),
+        Change::Activate { name, parts } => activate(tx, name, parts),
+    }
+}
+
+// Adds the record of a release. It refuses a size beyond 32 bits, which no file has.
+fn add<S: Alter>(tx: &mut Transaction<'_, S>, name: &ReleaseName, size: u64) -> Result<(), Error>
+    ensures same_reference { tx.new.conn.ghost_name ≡ tx.old.conn.ghost_name }
+    ensures made { Makes S.Store (AllowedChanges (Add name.now size)) tx.old.conn.now tx.new.conn.now result }
+    ensures kept { Keeps S.Store tx.old.conn.now tx.new.conn.now }
+    ensures survives { LeavesDisk S.Store tx.old.conn.now tx.new.conn.now }
+{
+    let Ok(short) = u32::try_from(size) else {
+        return Err(Error::SqliteFailure(ErrorCode::TooBig));
+    };
+    if size == 0 {
+        return add_empty(tx, name);
+    }
+    insert_release(tx, name, short, State::Staged)
+}
+
+// Adds the record of a release whose file is empty, and so whole, and bad.
+fn add_empty<S: Alter>(tx: &mut Transaction<'_, S>, name: &ReleaseName) -> Result<(), Error>
+    ensures same_reference { tx.new.conn.ghost_name ≡ tx.old.conn.ghost_name }
+    ensures made { Makes S.Store (AllowedChanges (Add name.now 0)) tx.old.conn.now tx.new.conn.now result }
+    ensures kept { Keeps S.Store tx.old.conn.now tx.new.conn.now }
+    ensures survives { LeavesDisk S.Store tx.old.conn.now tx.new.conn.now }
+{
+    insert_release(tx, name, 0, State::Broken)?;
+    insert_reason(tx, name, BadFile::NoHeader)
+}
+
+// Adds the last parts of a release whose file is bad, and why it is.
+fn break_off<S: Alter>(
+    tx: &mut Transaction<'_, S>,
+    name: &ReleaseName,
+    parts: &[Part],
+    why: BadFile,
+) -> Result<(), Error>
+    ensures same_reference { tx.new.conn.ghost_name ≡ tx.old.conn.ghost_name }
+    ensures made { Makes S.Store (AllowedChanges (Break name.now (shown_parts parts.now) why))
+        tx.old.conn.now tx.new.conn.now result }
+    ensures kept { Keeps S.Store tx.old.conn.now tx.new.conn.now }
+    ensures survives { LeavesDisk S.Store tx.old.conn.now tx.new.conn.now }
+{
+    finish(tx, name, parts, State::Broken)?;
+    insert_reason(tx, name, why)
+}
+
+// Adds the last parts of a release, and sets its state.
+fn finish<S: Alter>(
+    tx: &mut Transaction<'_, S>,
+    name: &ReleaseName,
+    parts: &[Part],
+    value: State,
+) -> Result<(), Error>
+    ensures same_reference { tx.new.conn.ghost_name ≡ tx.old.conn.ghost_name }
+    ensures made { Makes S.Store (Changes (changed name.now (grown (shown_parts parts.now) value)))
+        tx.old.conn.now tx.new.conn.now result }
+    ensures kept { Keeps S.Store tx.old.conn.now tx.new.conn.now }
+    ensures survives { LeavesDisk S.Store tx.old.conn.now tx.new.conn.now }
+{
+    insert_parts(tx, name, parts)?;
+    set_state(tx, name, value)
+}
+
+// The same for a release that becomes active. The package's records of earlier days go.
+fn activate<S: Alter>(
+    tx: &mut Transaction<'_, S>,
+    name: &ReleaseName,
+    parts: &[Part],
+) -> Result<(), Error>
+    ensures same_reference { tx.new.conn.ghost_name ≡ tx.old.conn.ghost_name }
+    ensures made { Makes S.Store (Changes
+        (λ c. without_earlier name.now (changed name.now (grown (shown_parts parts.now) State.Active) c)))
+        tx.old.conn.now tx.new.conn.now result }
+    ensures kept { Keeps S.Store tx.old.conn.now tx.new.conn.now }
+    ensures survives { LeavesDisk S.Store tx.old.conn.now tx.new.conn.now }
+{
+    finish(tx, name, parts, State::Active)?;
+    drop_earlier(tx, name)
+}

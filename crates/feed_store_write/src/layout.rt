@@ -1,0 +1,132 @@
+//! Creates the tables of an empty database.
+ghost use Rattle.std.specs.Prelude.{◌≡◌, false, IsTrue, OnErr, OnOk};
+ghost use Rattle.feed_store_write.specs.Effects.{Extends, IsBlank, IsLive, Keeps, Leads, LeavesDisk, Makes};
+ghost use Rattle.feed_store_write.specs.Schemas.{HasAllTables, HasLayoutTable, HasNoTable, HasPieceTable};
+ghost use Rattle.feed_store_write.specs.Schemas.{HasReleaseTable};
+ghost use Rattle.sqlite.specs.Held.{state};
+ghost use Rattle.sqlite.specs.State.{HasCleanDisk};
+
+use crate::running::run;
+use sqlite::{Alter, Connection, Error, ErrorCode, Transaction};
+
+/// Makes the tables in an empty database, with the number of the layout, in one transaction: all of it, or nothing. It
+/// refuses inside a transaction. The error is what SQLite says of the statement that failed.
+pub fn lay_out<S: Alter>(conn: &mut Connection<S>) -> Result<(), Error>
+    requires { conn.old.in_transaction ≡ false }
+    ensures idle { conn.new.in_transaction ≡ false }
+    ensures limit { conn.new.step_limit ≡ conn.old.step_limit }
+    ensures open { HasCleanDisk (state S.Store conn.new) → OnOk result (IsTrue (state S.Store conn.new).is_open) }
+    ensures live { IsLive (state S.Store conn.new) → IsLive (state S.Store conn.old) }
+    ensures whole { IsLive (state S.Store conn.new) → OnOk result (Leads HasNoTable IsBlank
+        (state S.Store conn.old).now (state S.Store conn.new).now) }
+    ensures neither { IsLive (state S.Store conn.new)
+        → OnErr result ((state S.Store conn.new).now ≡ (state S.Store conn.old).now) }
+{
+    if !conn.is_autocommit() {
+        return Err(Error::SqliteFailure(ErrorCode::TransactionState));
+    }
+    let mut tx = conn.transaction();
+    fill(&mut tx)?;
+    tx.commit()
+}
+
+// The tables, and the row of the layout.
+fn fill<S: Alter>(tx: &mut Transaction<'_, S>) -> Result<(), Error>
+    ensures same_reference { tx.new.conn.ghost_name ≡ tx.old.conn.ghost_name }
+    ensures made { Makes S.Store (Leads HasNoTable IsBlank) tx.old.conn.now tx.new.conn.now result }
+    ensures kept { Keeps S.Store tx.old.conn.now tx.new.conn.now }
+    ensures survives { LeavesDisk S.Store tx.old.conn.now tx.new.conn.now }
+{
+    create_layout(tx)?;
+    create_release(tx)?;
+    create_piece(tx)?;
+    create_reason(tx)?;
+    insert_version(tx)
+}
+
+fn create_layout<S: Alter>(tx: &mut Transaction<'_, S>) -> Result<(), Error>
+    ensures same_reference { tx.new.conn.ghost_name ≡ tx.old.conn.ghost_name }
+    ensures made { Makes S.Store (Leads HasNoTable HasLayoutTable)
+        tx.old.conn.now tx.new.conn.now result }
+    ensures kept { Keeps S.Store tx.old.conn.now tx.new.conn.now }
+    ensures survives { LeavesDisk S.Store tx.old.conn.now tx.new.conn.now }
+{
+    run(
+        tx,
+        "CREATE TABLE feed_layout (version INTEGER PRIMARY KEY) STRICT",
+        &[],
+    )
+}
+
+fn create_release<S: Alter>(tx: &mut Transaction<'_, S>) -> Result<(), Error>
+    ensures same_reference { tx.new.conn.ghost_name ≡ tx.old.conn.ghost_name }
+    ensures made { Makes S.Store (Leads HasLayoutTable HasReleaseTable)
+        tx.old.conn.now tx.new.conn.now result }
+    ensures kept { Keeps S.Store tx.old.conn.now tx.new.conn.now }
+    ensures survives { LeavesDisk S.Store tx.old.conn.now tx.new.conn.now }
+{
+    run(
+        tx,
+        "CREATE TABLE feed_release (
+  name TEXT NOT NULL PRIMARY KEY,
+  package TEXT NOT NULL,
+  day INTEGER NOT NULL,
+  size INTEGER NOT NULL,
+  state INTEGER NOT NULL,
+  CHECK (size >= 0),
+  CHECK (state BETWEEN 0 AND 2)
+) STRICT",
+        &[],
+    )
+}
+
+fn create_piece<S: Alter>(tx: &mut Transaction<'_, S>) -> Result<(), Error>
+    ensures same_reference { tx.new.conn.ghost_name ≡ tx.old.conn.ghost_name }
+    ensures made { Makes S.Store (Leads HasReleaseTable HasPieceTable)
+        tx.old.conn.now tx.new.conn.now result }
+    ensures kept { Keeps S.Store tx.old.conn.now tx.new.conn.now }
+    ensures survives { LeavesDisk S.Store tx.old.conn.now tx.new.conn.now }
+{
+    run(
+        tx,
+        "CREATE TABLE feed_piece (
+  name TEXT NOT NULL REFERENCES feed_release (name) ON DELETE CASCADE,
+  place INTEGER NOT NULL,
+  bytes BLOB NOT NULL,
+  PRIMARY KEY (name, place),
+  CHECK (place >= 0)
+) STRICT",
+        &[],
+    )
+}
+
+/// Makes the table of the reasons.
+pub(crate) fn create_reason<S: Alter>(tx: &mut Transaction<'_, S>) -> Result<(), Error>
+    ensures same_reference { tx.new.conn.ghost_name ≡ tx.old.conn.ghost_name }
+    ensures made { Makes S.Store Extends tx.old.conn.now tx.new.conn.now result }
+    ensures blank { Makes S.Store (Leads HasPieceTable HasAllTables) tx.old.conn.now tx.new.conn.now result }
+    ensures kept { Keeps S.Store tx.old.conn.now tx.new.conn.now }
+    ensures survives { LeavesDisk S.Store tx.old.conn.now tx.new.conn.now }
+{
+    run(
+        tx,
+        "CREATE TABLE feed_reason (
+  name TEXT NOT NULL PRIMARY KEY REFERENCES feed_release (name) ON DELETE CASCADE,
+  reason INTEGER NOT NULL,
+  label INTEGER NOT NULL,
+  CHECK (reason BETWEEN 1 AND 5),
+  CHECK (label BETWEEN 0 AND 13)
+) STRICT",
+        &[],
+    )
+}
+
+fn insert_version<S: Alter>(tx: &mut Transaction<'_, S>) -> Result<(), Error>
+    ensures same_reference { tx.new.conn.ghost_name ≡ tx.old.conn.ghost_name }
+    ensures made { Makes S.Store (Leads HasAllTables IsBlank)
+        tx.old.conn.now tx.new.conn.now result }
+    ensures kept { Keeps S.Store tx.old.conn.now tx.new.conn.now }
+    ensures survives { LeavesDisk S.Store tx.old.conn.now tx.new.conn.now }
+{
+    run(tx, "INSERT INTO feed_layout (version) VALUES (2)", &[])
+}

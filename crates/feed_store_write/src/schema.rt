@@ -1,0 +1,412 @@
+//! Compares the schema of a database with those of the two layouts.
+ghost use Rattle.std.specs.Prelude.{◌≡◌, ◌≤◌, ◌↔◌, IsTrue, [], ◌∷◌, ℕ, codes};
+ghost use Rattle.std.specs.Prelude.{false, length, pos, suc};
+ghost use Rattle.sqlite_schema.specs.declared.schema.Kind.TheVariants.{Integer};
+ghost use Rattle.feed_store_model.specs.Layout.{between, bound_by, column_of, earlier_schema, feed_schema, layout};
+ghost use Rattle.feed_store_model.specs.Layout.{no_schema, owner, piece, reason, release};
+ghost use Rattle.feed_store_write.specs.Schemas.{IsPlain, automatic, piece_index, reason_index, release_index};
+ghost use Rattle.sqlite_schema.specs.Code.{term_in, term_to};
+ghost use Rattle.sqlite_sql.specs.Term.{col, lit, op2};
+ghost use Rattle.sqlite_sql.specs.declared.ops.BinaryOp.TheVariants.{Compare};
+ghost use Rattle.sqlite_sql.specs.declared.ops.CompareOp.TheVariants.{Ge};
+ghost use Rattle.sqlite_value.specs.declared.keys.Collation.TheVariants.{Binary};
+ghost use Rattle.sqlite_value.specs.declared.value.Value.TheVariants.{Int};
+
+use sqlite_items::Items;
+use sqlite_schema::code::{Op, Terms};
+use sqlite_schema::schema::{Action, Column, Index, Kind, Reference, Schema, Table};
+use sqlite_sql::ops::{BinaryOp, CompareOp};
+use sqlite_value::keys::{Collation, Order};
+use sqlite_value::value::{Bytes, Value};
+
+fn is_word(bytes: &Bytes, word: &[u8]) -> bool
+    ensures { IsTrue result ↔ (bytes.now ≡ word.now) }
+{
+    bytes.as_slice() == word
+}
+
+fn are_places(places: &Items<usize>, wanted: &[usize]) -> bool
+    ensures { IsTrue result ↔ (places.now ≡ wanted.now) }
+{
+    places.as_slice() == wanted
+}
+
+// Whether a column takes values of a kind alone, and no NULL.
+fn is_column(column: &Column, kind: Kind, name: &[u8]) -> bool
+    ensures { IsTrue result ↔ (column.now ≡ column_of kind name.now) }
+{
+    is_word(&column.name, name)
+        && column.kind == kind
+        && column.is_strict
+        && column.not_null
+        && matches!(column.default, Value::Null)
+        && column.collation == Collation::Binary
+}
+
+// Whether a part goes with its release.
+fn is_owner(reference: &Reference) -> bool
+    ensures { IsTrue result ↔ (reference.now ≡ owner) }
+{
+    let [parent_column] = reference.parent_columns.as_slice() else {
+        return false;
+    };
+    are_places(&reference.columns, &[1])
+        && is_word(&reference.parent, b"feed_release")
+        && is_word(parent_column, b"name")
+        && reference.on_delete == Action::Cascade
+        && reference.on_update == Action::NoAction
+        && !reference.is_deferred
+}
+
+fn is_operator(operator: BinaryOp, wanted: BinaryOp) -> bool
+    ensures { IsTrue result ↔ (operator ≡ wanted) }
+{
+    operator == wanted
+}
+
+// Whether the node at a place is this column of the row.
+fn is_place(nodes: &[Op], at: usize, place: usize) -> bool
+    ensures { (depth : ℕ) → IsTrue result ↔ (term_to nodes.now (suc depth) at ≡ col 1 place) }
+{
+    match nodes.get(at) {
+        Some(Op::Column(1, found)) => *found == place,
+        _ => false,
+    }
+}
+
+// Whether the node at a place is this number.
+fn is_number(nodes: &[Op], at: usize, number: u32) -> bool
+    ensures { (depth : ℕ) → IsTrue result ↔ (term_to nodes.now (suc depth) at ≡ lit (Int (pos number))) }
+{
+    match nodes.get(at) {
+        Some(Op::Literal(Value::Int(found))) => *found == i64::from(number),
+        _ => false,
+    }
+}
+
+// Whether the node at a place compares a column so with a number.
+fn is_bound(nodes: &[Op], at: usize, how: CompareOp, place: usize, number: u32) -> bool
+    ensures { (depth : ℕ) → IsTrue result ↔ (term_to nodes.now (suc (suc depth)) at
+        ≡ op2 (Compare how Binary) (col 1 place) (lit (Int (pos number)))) }
+{
+    match nodes.get(at) {
+        Some(Op::Binary(op, left, right)) => {
+            is_operator(*op, BinaryOp::Compare(how, Collation::Binary))
+                & is_place(nodes, *left, place)
+                & is_number(nodes, *right, number)
+        }
+        _ => false,
+    }
+}
+
+// Whether the node at a place says that a column lies between two numbers.
+fn is_between(nodes: &[Op], at: usize, place: usize, least: u32, most: u32) -> bool
+    ensures { (depth : ℕ) → IsTrue result ↔ (term_to nodes.now (suc (suc (suc depth))) at
+        ≡ between place least most) }
+{
+    match nodes.get(at) {
+        Some(Op::Binary(op, left, right)) => {
+            is_operator(*op, BinaryOp::And)
+                & is_bound(nodes, *left, CompareOp::Ge, place, least)
+                & is_bound(nodes, *right, CompareOp::Le, place, most)
+        }
+        _ => false,
+    }
+}
+
+fn are_at_least(nodes: &[Op], count: usize) -> bool
+    ensures { IsTrue result ↔ (count ≤ length nodes.now) }
+{
+    count <= nodes.len()
+}
+
+// Whether the expression at a place says that a column is at least 0.
+fn is_lower_bound(nodes: &[Op], at: usize, place: usize) -> bool
+    ensures { IsTrue result ↔ (term_in nodes.now at ≡ bound_by Ge place 0) }
+{
+    are_at_least(nodes, 2) & is_bound(nodes, at, CompareOp::Ge, place, 0)
+}
+
+// Whether it says that a column lies between two numbers.
+fn is_range(nodes: &[Op], at: usize, place: usize, least: u32, most: u32) -> bool
+    ensures { IsTrue result ↔ (term_in nodes.now at ≡ between place least most) }
+{
+    are_at_least(nodes, 3) & is_between(nodes, at, place, least, most)
+}
+
+// Whether the rules of a table are those of the releases.
+fn are_release_checks(terms: &Terms) -> bool
+    ensures { IsTrue result ↔ (terms.now ≡ release.checks) }
+{
+    let nodes = terms.nodes.as_slice();
+    match terms.roots.as_slice() {
+        [size, state] => is_lower_bound(nodes, *size, 4) & is_range(nodes, *state, 5, 0, 2),
+        _ => false,
+    }
+}
+
+// Whether they are those of the parts.
+fn are_piece_checks(terms: &Terms) -> bool
+    ensures { IsTrue result ↔ (terms.now ≡ piece.checks) }
+{
+    match terms.roots.as_slice() {
+        [place] => is_lower_bound(terms.nodes.as_slice(), *place, 2),
+        _ => false,
+    }
+}
+
+// Whether they are those of the reasons.
+fn are_reason_checks(terms: &Terms) -> bool
+    ensures { IsTrue result ↔ (terms.now ≡ reason.checks) }
+{
+    let nodes = terms.nodes.as_slice();
+    match terms.roots.as_slice() {
+        [number, label] => is_range(nodes, *number, 2, 1, 5) & is_range(nodes, *label, 3, 0, 13),
+        _ => false,
+    }
+}
+
+fn is_no_term(terms: &Terms) -> bool
+    ensures { IsTrue result ↔ (terms.now ≡ []) }
+{
+    terms.roots.is_empty()
+}
+
+// Whether no default of a table is computed, and its rows have no running number.
+fn is_plain(table: &Table) -> bool
+    ensures { IsTrue result ↔ IsPlain table.now }
+{
+    table.computed.is_empty()
+        && table.stamps.places.is_empty()
+        && is_no_term(&table.stamps.terms)
+        && table.stamps.formats.is_empty()
+        && !table.is_counted
+}
+
+fn is_layout(table: &Table) -> bool
+    ensures { IsTrue result ↔ (table.now ≡ layout) }
+{
+    let [column] = table.columns.as_slice() else {
+        return false;
+    };
+    is_word(&table.name, b"feed_layout")
+        && table.tree == 0
+        && is_version(column)
+        && table.key == Some(0)
+        && are_places(&table.primary, &[0])
+        && table.uniques.is_empty()
+        && table.orders.is_empty()
+        && is_no_term(&table.checks)
+        && table.references.is_empty()
+        && is_plain(table)
+}
+
+// Whether a column is the one of the layout.
+fn is_version(column: &Column) -> bool
+    ensures { IsTrue result ↔ (column.now ≡ record (column_of Integer (codes "version")) { not_null = false }) }
+{
+    is_word(&column.name, b"version")
+        && column.kind == Kind::Integer
+        && column.is_strict
+        && !column.not_null
+        && matches!(column.default, Value::Null)
+        && column.collation == Collation::Binary
+}
+
+fn is_release(table: &Table) -> bool
+    ensures { IsTrue result ↔ (table.now ≡ release) }
+{
+    is_word(&table.name, b"feed_release")
+        && table.tree == 1
+        && are_release_columns(&table.columns)
+        && table.key.is_none()
+        && are_places(&table.primary, &[1])
+        && is_one_key(&table.uniques, &[1])
+        && is_plain_order(&table.orders)
+        && are_release_checks(&table.checks)
+        && table.references.is_empty()
+        && is_plain(table)
+}
+
+fn are_release_columns(columns: &Items<Column>) -> bool
+    ensures { IsTrue result ↔ (columns.now ≡ release.columns) }
+{
+    let [name, package, day, size, state] = columns.as_slice() else {
+        return false;
+    };
+    is_column(name, Kind::Text, b"name")
+        && is_column(package, Kind::Text, b"package")
+        && is_column(day, Kind::Integer, b"day")
+        && is_column(size, Kind::Integer, b"size")
+        && is_column(state, Kind::Integer, b"state")
+}
+
+// Whether a table has one unique key, of these columns.
+fn is_one_key(keys: &Items<Items<usize>>, places: &[usize]) -> bool
+    ensures { IsTrue result ↔ (keys.now ≡ places.now ∷ []) }
+{
+    match keys.as_slice() {
+        [key] => are_places(key, places),
+        _ => false,
+    }
+}
+
+fn is_plain_order(orders: &Items<Order>) -> bool
+    ensures { IsTrue result ↔ (orders.now ≡ release.orders) }
+{
+    match orders.as_slice() {
+        [order] => order.digits == 0,
+        _ => false,
+    }
+}
+
+fn is_piece(table: &Table) -> bool
+    ensures { IsTrue result ↔ (table.now ≡ piece) }
+{
+    let [reference] = table.references.as_slice() else {
+        return false;
+    };
+    is_word(&table.name, b"feed_piece")
+        && table.tree == 3
+        && are_piece_columns(&table.columns)
+        && table.key.is_none()
+        && are_places(&table.primary, &[1, 2])
+        && is_one_key(&table.uniques, &[1, 2])
+        && is_plain_order(&table.orders)
+        && are_piece_checks(&table.checks)
+        && is_owner(reference)
+        && is_plain(table)
+}
+
+fn are_piece_columns(columns: &Items<Column>) -> bool
+    ensures { IsTrue result ↔ (columns.now ≡ piece.columns) }
+{
+    let [name, place, bytes] = columns.as_slice() else {
+        return false;
+    };
+    is_column(name, Kind::Text, b"name")
+        && is_column(place, Kind::Integer, b"place")
+        && is_column(bytes, Kind::Blob, b"bytes")
+}
+
+fn is_reason(table: &Table) -> bool
+    ensures { IsTrue result ↔ (table.now ≡ reason) }
+{
+    let [reference] = table.references.as_slice() else {
+        return false;
+    };
+    is_word(&table.name, b"feed_reason")
+        && table.tree == 5
+        && are_reason_columns(&table.columns)
+        && table.key.is_none()
+        && are_places(&table.primary, &[1])
+        && is_one_key(&table.uniques, &[1])
+        && is_plain_order(&table.orders)
+        && are_reason_checks(&table.checks)
+        && is_owner(reference)
+        && is_plain(table)
+}
+
+fn are_reason_columns(columns: &Items<Column>) -> bool
+    ensures { IsTrue result ↔ (columns.now ≡ reason.columns) }
+{
+    let [name, number, label] = columns.as_slice() else {
+        return false;
+    };
+    is_column(name, Kind::Text, b"name")
+        && is_column(number, Kind::Integer, b"reason")
+        && is_column(label, Kind::Integer, b"label")
+}
+
+// Whether an index is the one that a table has for its unique key.
+fn is_automatic(index: &Index, name: &[u8], tree: u32, table: u32, places: &[usize]) -> bool
+    ensures { IsTrue result ↔ (index.now ≡ automatic name.now tree table places.now) }
+{
+    is_word(&index.name, name)
+        && index.tree == tree
+        && index.table == table
+        && are_places(&index.columns, places)
+        && index.order.digits == 0
+        && index.is_unique
+}
+
+fn are_earlier_tables(tables: &Items<Table>) -> bool
+    ensures { IsTrue result ↔ (tables.now ≡ earlier_schema.tables) }
+{
+    match tables.as_slice() {
+        [first, second, third] => is_layout(first) && is_release(second) && is_piece(third),
+        _ => false,
+    }
+}
+
+fn are_tables(tables: &Items<Table>) -> bool
+    ensures { IsTrue result ↔ (tables.now ≡ feed_schema.tables) }
+{
+    match tables.as_slice() {
+        [first, second, third, fourth] => {
+            is_layout(first) && is_release(second) && is_piece(third) && is_reason(fourth)
+        }
+        _ => false,
+    }
+}
+
+fn is_release_index(index: &Index) -> bool
+    ensures { IsTrue result ↔ (index.now ≡ release_index) }
+{
+    is_automatic(index, b"sqlite_autoindex_feed_release_1", 2, 1, &[1])
+}
+
+fn is_piece_index(index: &Index) -> bool
+    ensures { IsTrue result ↔ (index.now ≡ piece_index) }
+{
+    is_automatic(index, b"sqlite_autoindex_feed_piece_1", 4, 3, &[1, 2])
+}
+
+fn is_reason_index(index: &Index) -> bool
+    ensures { IsTrue result ↔ (index.now ≡ reason_index) }
+{
+    is_automatic(index, b"sqlite_autoindex_feed_reason_1", 6, 5, &[1])
+}
+
+fn are_earlier_indexes(indexes: &Items<Index>) -> bool
+    ensures { IsTrue result ↔ (indexes.now ≡ release_index ∷ piece_index ∷ []) }
+{
+    match indexes.as_slice() {
+        [first, second] => is_release_index(first) && is_piece_index(second),
+        _ => false,
+    }
+}
+
+fn are_indexes(indexes: &Items<Index>) -> bool
+    ensures { IsTrue result ↔ (indexes.now ≡ release_index ∷ piece_index ∷ reason_index ∷ []) }
+{
+    match indexes.as_slice() {
+        [first, second, third] => {
+            is_release_index(first) && is_piece_index(second) && is_reason_index(third)
+        }
+        _ => false,
+    }
+}
+
+/// Whether a database has the tables of layout 1 and no other, with the indexes that their keys have.
+pub fn is_earlier(schema: &Schema) -> bool
+    ensures { IsTrue result ↔ (schema.now ≡ earlier_schema) }
+{
+    are_earlier_tables(&schema.tables)
+        & are_earlier_indexes(&schema.indexes)
+        & schema.views.is_empty()
+}
+
+/// Whether a database has the tables of layout 2 and no other, with the indexes that their keys have.
+pub fn is_laid_out(schema: &Schema) -> bool
+    ensures { IsTrue result ↔ (schema.now ≡ feed_schema) }
+{
+    are_tables(&schema.tables) & are_indexes(&schema.indexes) & schema.views.is_empty()
+}
+
+/// Whether a database has no table.
+pub fn is_blank(schema: &Schema) -> bool
+    ensures { IsTrue result ↔ (schema.now ≡ no_schema) }
+{
+    schema.tables.is_empty() & schema.indexes.is_empty() & schema.views.is_empty()
+}

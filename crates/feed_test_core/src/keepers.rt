@@ -1,0 +1,88 @@
+//! The keepers that words name.
+use feed_core::{ListKeep, Part, Record, State};
+use feed_test_support::{Failing, name_of};
+use std::alloc::Global;
+use std::slice;
+use std::test::Fail;
+
+/// The keepers of `failing`.
+pub fn failing(alloc: Global, words: &[String]) -> Result<Vec<Failing>, Fail> {
+    let mut keepers = Vec::new(alloc);
+    let mut left = words.iter();
+    for _ in 0..words.len() {
+        let Some(word) = left.next() else {
+            break;
+        };
+        keepers.push(match word.as_str() {
+            "sound" => Failing::after_commits(alloc, u64::MAX),
+            "load" => Failing::at_load(alloc, next_number(&mut left)?),
+            "commits" => Failing::after_commits(alloc, next_number(&mut left)?),
+            _ => return Err(unknown(word)),
+        })?;
+    }
+    Ok(keepers)
+}
+
+/// The keepers of `holding`.
+pub fn holding(alloc: Global, words: &[String]) -> Result<Vec<ListKeep>, Fail> {
+    let mut keepers = Vec::new(alloc);
+    let mut left = words.iter();
+    for _ in 0..words.len() {
+        let Some(word) = left.next() else {
+            break;
+        };
+        keepers.push(match word.as_str() {
+            "empty" => ListKeep::new(alloc),
+            "record" => keeper_of_record(alloc, &mut left)?,
+            _ => return Err(unknown(word)),
+        })?;
+    }
+    Ok(keepers)
+}
+
+// `NAME SIZE STATE FIRST TEXT`
+fn keeper_of_record(alloc: Global, left: &mut slice::Iter<'_, String>) -> Result<ListKeep, Fail> {
+    let name = next_word(left)?;
+    let size = next_number(left)?;
+    let state = match next_word(left)? {
+        "Staged" => State::Staged,
+        "Active" => State::Active,
+        word => return Err(unknown(word)),
+    };
+    let first = next_number(left)?;
+    let bytes = next_word(left)?.as_bytes();
+    let mut parts = Vec::new(alloc);
+    if !bytes.is_empty() {
+        parts.push(Part {
+            first,
+            bytes: Vec::from_slice(alloc, bytes)?,
+        })?;
+    }
+    let records = [Record {
+        name: name_of(alloc, name)?,
+        size,
+        state,
+        reason: None,
+        parts,
+    }];
+    Ok(ListKeep::of(alloc, Vec::from_array(alloc, records)?))
+}
+
+fn next_word<'a>(left: &mut slice::Iter<'a, String>) -> Result<&'a str, Fail> {
+    match left.next() {
+        Some(word) => Ok(word.as_str()),
+        None => Err(Fail::new("a word is missing")),
+    }
+}
+
+fn next_number(left: &mut slice::Iter<'_, String>) -> Result<u64, Fail> {
+    let word = next_word(left)?;
+    match word.parse::<u64>() {
+        Ok(number) => Ok(number),
+        Err(_) => Err(Fail::new(format_args!("{word}: a number expected"))),
+    }
+}
+
+fn unknown(word: &str) -> Fail {
+    Fail::new(format_args!("{word}: unknown keeper"))
+}

@@ -1,0 +1,85 @@
+//! A replay over keepers that fail or that hold records, led by the words of the command line and by a script: what the
+//! tests of worlds run.
+//!
+//!     feed_test_core failing KEEPER.. < SCRIPT
+//!     feed_test_core holding KEEPER.. < SCRIPT
+//!     feed_test_core full KEEPER.. < SCRIPT
+//!
+//! The script is one of `kbfeed replay`. There is a node for each KEEPER, whatever number the script names, and a
+//! script publishes no files by their paths. A KEEPER of `failing` and `full` holds nothing, and is one of
+//!
+//!     sound                                 a keeper that does not fail
+//!     load N                                the load after N others fails
+//!     commits N                             every commit after N fails
+//!
+//! One of `holding` does not fail, and is one of
+//!
+//!     empty                                 a keeper that holds nothing
+//!     record NAME SIZE STATE FIRST TEXT     a keeper that holds one record: Staged or Active, with these bytes, or
+//!                                           none, at its place FIRST
+//!
+//! `failing` and `holding` print the transcript, or why there is none, and then each keeper that is handed back: its
+//! number, how often it failed, and its records. `full` prints the number of shorter writers into which the transcript
+//! does not go. Where words or the script are wrong, the last line tells it, and the status is 2.
+#![tactic(auto)]
+
+mod keepers;
+mod shown;
+
+use feed_core::WorldEvent;
+use feed_script::{FileCause, Files, LineFault, Script, read_script};
+use keepers::{failing, holding};
+use shown::{show, show_full};
+use std::alloc::Global;
+use std::env;
+use std::io::Read;
+use std::process::{ExitCode, Termination};
+use std::test::Fail;
+
+fn main(rt: HostRuntime) -> ExitCode {
+    let done = run(&rt);
+    let is_done = done.is_ok();
+    let status = done.report(&rt);
+    if is_done { status } else { ExitCode::from(2) }
+}
+
+fn run(rt: &HostRuntime) -> Result<(), Fail> {
+    let mut words = Vec::new(rt.alloc());
+    for word in env::args(rt)? {
+        words.push(word)?;
+    }
+    let events = events_of(rt)?;
+    let [_, command, keepers @ ..] = words.as_slice() else {
+        return Err(Fail::new("no command: failing, holding or full expected"));
+    };
+    match command.as_str() {
+        "failing" => show(rt, failing(rt.alloc(), keepers)?, &events),
+        "holding" => show(rt, holding(rt.alloc(), keepers)?, &events),
+        "full" => show_full(rt, failing(rt.alloc(), keepers)?, &events),
+        _ => Err(Fail::new(format_args!("{command}: failing, holding or full expected"))),
+    }
+}
+
+// No file is published by its path.
+#[derive(Drop)]
+struct NoFiles;
+
+impl Files for NoFiles {
+    fn bytes_of(&mut self, _alloc: Global, _path: &[u8]) -> Result<Vec<u8>, LineFault> {
+        Err(LineFault::BadFile)
+    }
+
+    fn cause(&self) -> Option<&FileCause> {
+        None
+    }
+}
+
+// The events of the script that is standard input.
+fn events_of(rt: &HostRuntime) -> Result<Vec<WorldEvent>, Fail> {
+    let mut text = Vec::new(rt.alloc());
+    rt.reader().read_to_end(&mut text)?;
+    match read_script(rt.alloc(), &text, &mut NoFiles) {
+        Ok(Script { nodes: _, events }) => Ok(events),
+        Err(fault) => Err(Fail::new(fault)),
+    }
+}

@@ -1,0 +1,76 @@
+//! What a replay shows, and what its keepers hold then.
+use feed_core::{Keep, ReplayFault, Transcript, WorldEvent, WriteFault, replay};
+use feed_test_support::content_of;
+use std::test::Fail;
+
+/// Prints what happens to nodes over these keepers, and what is handed back.
+pub fn show<K: Keep + Drop>(
+    rt: &HostRuntime,
+    keepers: Vec<K>,
+    events: &[WorldEvent],
+) -> Result<(), Fail> {
+    match replay(rt.alloc(), keepers, events) {
+        Ok(transcript) => show_transcript(rt, transcript),
+        Err(ReplayFault::Start { node, keeper }) => {
+            println!(rt; "refused Start")?;
+            show_keeper(rt, node, keeper)
+        }
+        Err(ReplayFault::Nodes) => Ok(println!(rt; "refused Nodes")?),
+        Err(ReplayFault::Memory) => Ok(println!(rt; "refused Memory")?),
+    }
+}
+
+fn show_transcript<K: Keep + Drop>(
+    rt: &HostRuntime,
+    transcript: Transcript<K>,
+) -> Result<(), Fail> {
+    let mut text = Vec::new(rt.alloc());
+    transcript.write(&mut text)?;
+    print!(rt; "{}", str::from_utf8(&text)?)?;
+    let mut node = 0_usize;
+    for keeper in transcript.into_keepers() {
+        node = node.saturating_add(1);
+        show_keeper(rt, node, keeper)?;
+    }
+    Ok(())
+}
+
+fn show_keeper<K: Keep + Drop>(rt: &HostRuntime, node: usize, keeper: K) -> Result<(), Fail> {
+    let mut keeper = keeper;
+    println!(rt; "keeper {node}, failures {}", keeper.failures())?;
+    let records = content_of(rt.alloc(), &mut keeper)?;
+    print!(rt; "{}", str::from_utf8(&records)?)?;
+    Ok(())
+}
+
+/// Writes the transcript into each writer that is too short for it, and prints how many refuse it.
+pub fn show_full<K: Keep + Drop>(
+    rt: &HostRuntime,
+    keepers: Vec<K>,
+    events: &[WorldEvent],
+) -> Result<(), Fail> {
+    let Ok(transcript) = replay(rt.alloc(), keepers, events) else {
+        return Err(Fail::new("the replay does not begin"));
+    };
+    let mut text = Vec::new(rt.alloc());
+    transcript.write(&mut text)?;
+    let mut count = 0_usize;
+    for room in 0..text.len() {
+        if is_too_long(rt, &transcript, room)? {
+            count = count.saturating_add(1);
+        }
+    }
+    println!(rt; "{count} of {} are full", text.len())?;
+    Ok(())
+}
+
+// Whether the transcript does not go into so many bytes.
+fn is_too_long<K: Keep + Drop>(
+    rt: &HostRuntime,
+    transcript: &Transcript<K>,
+    room: usize,
+) -> Result<bool, Fail> {
+    let mut bytes = vec![in rt.alloc(); 0_u8; room]?;
+    let mut writer = bytes.as_mut_slice();
+    Ok(transcript.write(&mut writer) == Err(WriteFault::Write))
+}

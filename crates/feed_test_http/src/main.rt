@@ -1,0 +1,115 @@
+//! Both ends of HTTP, the resolver and the connections of a node, led by the lines of standard input: what
+//! `tests/http_*.session` run.
+//!
+//!     feed_test_http STEP < LINES
+//!
+//! A line is a command and its words, separated by one space; the last word is the rest of the line. In a TEXT `\r`,
+//! `\n`, `\t` and `\xHH` are bytes, as they are in what is printed. Each reader gives at most STEP bytes at a call.
+//!
+//! Values of Range and Content-Range:
+//!
+//!     range LENGTH TEXT               the places of a file of LENGTH bytes that a Range value asks for
+//!     content-range TEXT              what a Content-Range value says, or its fault and the number of the fault
+//!     number TEXT                     the number that a text is
+//!     write-range ROOM FIRST LAST     writes the Range value for these places, in ROOM bytes
+//!     write-content-range ROOM TEXT   parses a Content-Range value and writes it again, in ROOM bytes
+//!     laws                            calls the laws of both crates, which do nothing; prints nothing
+//!
+//! Exchanges:
+//!
+//!     host TEXT                       whether a node takes the text as a host
+//!     get HOST NAME FIRST LAST        the GET that a node writes
+//!     head HOST NAME                  the HEAD that it writes
+//!     reply get|head TEXT             what a node reads from a reply
+//!     file NAME TEXT                  puts a file on the server's shelf; prints nothing
+//!     request TEXT                    the status of the server's reply to a request, or its fault, and the reply
+//!     serve TEXT                      the same, from a shelf in memory whose calls are not counted
+//!     counts                          the calls of the last exchange's reader and writer, the longest block that was
+//!                                     asked of the shelf, and how often the shelf failed
+//!
+//! These hold for the next exchange, and print nothing:
+//!
+//!     front N                         only the first N bytes of the TEXT arrive
+//!     fail-read N                     the reader fails at its call N, counted from 1
+//!     fail-write N                    so does the writer
+//!     fail-shelf N                    so does the shelf
+//!
+//! A node, with the releases that it received:
+//!
+//!     release NAME TEXT               offers a release to the node, and sends its whole file
+//!     respond TEXT                    the resolver's reply to a request
+//!     respond-as-node TOKEN free|busy TEXT    the node's reply, if TOKEN authorizes a fetch; `-` is no token
+//!     fetch-asked TOKEN TEXT          the release that a request asks the node to fetch, `no name`, or `none`
+//!     head-end TEXT                   whether a text begins with the head of a request, and where the head ends
+//!
+//! A connection to it, which replies with the bytes of the request. Each command prints what the connection waits for,
+//! and how many bytes of the reply are left:
+//!
+//!     connection LIMIT                opens a new one, whose steps may take so many milliseconds
+//!     came TEXT                       bytes arrive
+//!     took N                          the peer takes so many bytes
+//!     passed N                        so many milliseconds pass
+//!     converse ends|waits short|serves TEXT    moves a new one on 200 times, over a reader that then ends or waits,
+//!                                     short of memory for the reply or not; prints what it waits for, whether it
+//!                                     lingers, and what was written
+//!
+//! A line that is none of these ends the program with its number, what is wrong, and status 2.
+#![tactic(auto)]
+
+mod connections;
+mod driver;
+mod ends;
+mod escapes;
+mod exchanges;
+mod fault;
+mod line;
+mod node;
+mod ranges;
+mod shelf;
+
+use driver::Driver;
+use fault::Fault;
+use std::env;
+use std::io::Read;
+use std::process::ExitCode;
+
+fn main(rt: HostRuntime) -> ExitCode {
+    match lead(&rt) {
+        Ok(()) => ExitCode::SUCCESS,
+        Err((0, fault)) => {
+            let _printed = eprintln!(rt; "{fault}");
+            ExitCode::from(2)
+        }
+        Err((line, fault)) => {
+            let _printed = eprintln!(rt; "line {line}: {fault}");
+            ExitCode::from(2)
+        }
+    }
+}
+
+// Takes each line. The error has the number of its line, or 0 if it comes before the first.
+fn lead(rt: &HostRuntime) -> Result<(), (usize, Fault)> {
+    let step = step_of(rt).map_err(|fault| (0, fault))?;
+    let text = input_of(rt).map_err(|fault| (0, fault))?;
+    let mut driver = Driver::new(rt, step).map_err(|fault| (0, fault))?;
+    for (at, line) in text.lines().enumerate() {
+        driver
+            .take(line)
+            .map_err(|fault| (at.saturating_add(1), fault))?;
+    }
+    Ok(())
+}
+
+fn step_of(rt: &HostRuntime) -> Result<usize, Fault> {
+    let mut words = env::args(rt)?;
+    let Some(word) = words.nth(1) else {
+        return Err(Fault::NoStep);
+    };
+    word.as_str().parse::<usize>().map_err(|_| Fault::NoStep)
+}
+
+fn input_of(rt: &HostRuntime) -> Result<String, Fault> {
+    let mut text = String::new(rt.alloc());
+    rt.reader().read_to_string(&mut text)?;
+    Ok(text)
+}

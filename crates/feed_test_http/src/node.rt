@@ -1,0 +1,106 @@
+//! A node: its feed, what it replies to a request, and a connection to it.
+use crate::escapes::Escaped;
+use crate::fault::Fault;
+use crate::line::Line;
+use feed_keep::ListKeep;
+use feed_names::ReleaseName;
+use feed_node_connection::Connection;
+use feed_releases::{Event, Feed, Refusal, Reply};
+use feed_resolver::{Feeder, fetch_asked, head_end, respond, respond_as_node};
+
+/// The feed of a node over a keeper in memory, and one connection to it.
+#[derive(Drop)]
+pub struct Node<'a> {
+    pub rt: &'a HostRuntime,
+    pub step: usize,
+    pub connection: Connection,
+    feed: Feed<ListKeep>,
+}
+
+impl<'a> Node<'a> {
+    pub fn new(rt: &'a HostRuntime, step: usize) -> Result<Node<'a>, Fault> {
+        match Feed::open(rt.alloc(), ListKeep::new(rt.alloc())) {
+            Ok(feed) => Ok(Node {
+                rt,
+                step,
+                connection: Connection::new(rt.alloc(), 1),
+                feed,
+            }),
+            Err(_) => Err(Fault::Memory),
+        }
+    }
+
+    /// Takes a line of this command.
+    pub fn take(&mut self, command: &str, line: Line<'_>) -> Result<(), Fault> {
+        match command {
+            "release" => self.release(line),
+            "respond" => self.respond(line),
+            "respond-as-node" => self.respond_as_node(line),
+            "fetch-asked" => self.fetch_asked(line),
+            "head-end" => self.head_end(line),
+            _ => self.take_connection(command, line),
+        }
+    }
+
+    fn release(&mut self, mut line: Line<'_>) -> Result<(), Fault> {
+        let name = line.name(self.rt.alloc())?;
+        let bytes = line.text(self.rt.alloc())?;
+        offer(&mut self.feed, &name, bytes.len() as u64);
+        let answer = arrive(&mut self.feed, &name, &bytes);
+        match answer {
+            Ok(reply) => println!(self.rt; "{reply}")?,
+            Err(refusal) => println!(self.rt; "refused {refusal}")?,
+        }
+        Ok(())
+    }
+
+    fn respond(&self, line: Line<'_>) -> Result<(), Fault> {
+        let request = line.text(self.rt.alloc())?;
+        let reply = respond(self.rt.alloc(), &request, &self.feed)?;
+        println!(self.rt; "{}", Escaped(&reply))?;
+        Ok(())
+    }
+
+    fn respond_as_node(&self, mut line: Line<'_>) -> Result<(), Fault> {
+        let token = match line.word()? {
+            "-" => None,
+            token => Some(token.as_bytes()),
+        };
+        let is_busy = line.flag("busy", "free")?;
+        let request = line.text(self.rt.alloc())?;
+        let feeder = Feeder { token, is_busy };
+        let reply = respond_as_node(self.rt.alloc(), &request, &feeder, &self.feed)?;
+        println!(self.rt; "{}", Escaped(&reply))?;
+        Ok(())
+    }
+
+    fn fetch_asked(&self, mut line: Line<'_>) -> Result<(), Fault> {
+        let token = line.word()?.as_bytes();
+        let request = line.text(self.rt.alloc())?;
+        match fetch_asked(self.rt.alloc(), &request, token) {
+            Some(Ok(name)) => println!(self.rt; "{}", Escaped(name.text()))?,
+            Some(Err(_)) => println!(self.rt; "no name")?,
+            None => println!(self.rt; "none")?,
+        }
+        Ok(())
+    }
+
+    fn head_end(&self, line: Line<'_>) -> Result<(), Fault> {
+        let bytes = line.text(self.rt.alloc())?;
+        println!(self.rt; "{:?}", head_end(&bytes))?;
+        Ok(())
+    }
+}
+
+fn offer(feed: &mut Feed<ListKeep>, name: &ReleaseName, size: u64) {
+    let _answer = feed.handle(&Event::Offered { name, size });
+}
+
+fn arrive(feed: &mut Feed<ListKeep>, name: &ReleaseName, bytes: &[u8]) -> Result<Reply, Refusal> {
+    feed.handle(&Event::Piece {
+        name,
+        first: 0,
+        total: None,
+        bytes,
+    })
+}
