@@ -36,7 +36,7 @@ help:
 	@echo
 	@echo "For daily work:"
 	@echo "make check CRATE=x       proves one crate over the work that earlier checks kept"
-	@echo "make sessions [ONLY=x]   runs the sessions of tests/, or one of them, with the program that is built"
+	@echo "make sessions [ONLY=x]   runs the sessions of tests/, or some by name, with the program that is built"
 	@echo "make pages               compares the pages with the sources and the sessions"
 	@echo "make fmt                 lays out every crate's sources, as the proofs require"
 	@echo "make lint                widths and module docs, and shellcheck and a Python linter if they are installed"
@@ -52,15 +52,17 @@ replay:
 	@tools/replay $(REPLAY)
 
 test:
-	@began=$$(date +%s); tools/check_pages && rt ci && tests/run; status=$$?; spent=$$(($$(date +%s) - began)); \
-	echo "the gate took $$((spent / 60)) min $$((spent % 60)) s on $$(nproc) processors"; exit $$status
+	@began=$$(date +%s); rm -f $(OUT)/sessions; \
+	tools/check_pages && rt ci && tests/run --summary $(OUT)/sessions; status=$$?; spent=$$(($$(date +%s) - began)); \
+	echo "the gate took $$((spent / 60)) min $$((spent % 60)) s on $$(nproc) processors"; \
+	cat $(OUT)/sessions 2> /dev/null; exit $$status
 
 check:
 	@[ -d "crates/$(CRATE)/src" ] || { echo "make check CRATE=NAME: a crate of crates.txt" >&2; exit 2; }
 	@cd "crates/$(CRATE)" && rt check
 
 sessions:
-	@tests/run $(if $(ONLY),$(firstword $(wildcard tests/$(ONLY).session tests/*/$(ONLY).session) tests/$(ONLY).session))
+	@tests/run $(ONLY)
 
 pages:
 	@tools/check_pages

@@ -1,5 +1,4 @@
-//! Both ends of HTTP, the resolver and the connections of a node, led by the lines of standard input: what
-//! `tests/http_*.session` run.
+//! Both ends of HTTP, the resolver and the connections of a node, driven by the lines of standard input.
 //!
 //!     feed_test_http STEP < LINES
 //!

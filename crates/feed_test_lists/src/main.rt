@@ -1,5 +1,5 @@
 //! A program that runs the parsers of identifiers, dates, names, queries and holdings lists on the lines of its input,
-//! for `tests/parsers.session` and `tests/lists.session`.
+//! for `tests/sessions/lists`.
 //!
 //! Each line of standard input is a command, and prints what the call returns. An absent value is printed as `none`.
 //! TEXT is the rest of the line as it is, spaces included; other words are separated by one space.

@@ -1,0 +1,228 @@
+#!/usr/bin/env python3
+"""fleet.py FOLDER: three nodes behind nginx, with the files of samples/fleet/, take in a new release one after another,
+while four clients ask through nginx. One node is ended in the middle of its fetch, and comes back. Every reply has to
+be the answer that a replay of the old or of the new release gives, no node may go back for any client, and no request
+may fail. FOLDER is where the files of the test are made; `kbfeed` and `nginx` are on the path. Prints what is wrong,
+and what was done."""
+import collections
+import http.client
+import os
+import pathlib
+import re
+import signal
+import socket
+import subprocess
+import sys
+import threading
+import time
+
+HERE = pathlib.Path(__file__).resolve().parent
+SAMPLES = HERE.parent.parent / "samples" / "fleet"
+NAMES = ["Fleet_2024-01-01.txt", "Fleet_2024-02-01.txt"]
+ROWS = 3_000
+PIECE = 4_096
+TOKEN = "a token of this test alone".replace(" ", "-")
+
+
+def ports(count):
+    """Ports that are free now."""
+    held = [socket.create_server(("127.0.0.1", 0)) for _ in range(count)]
+    found = [it.getsockname()[1] for it in held]
+    for it in held:
+        it.close()
+    return found
+
+
+def waited(port):
+    for _ in range(200):
+        try:
+            socket.create_connection(("127.0.0.1", port), timeout=5).close()
+            return
+        except OSError:
+            time.sleep(0.05)
+    sys.exit(f"nothing listens on {port}")
+
+
+def make_lists(folder):
+    """Two releases, of which the second has one volume more in each row."""
+    folder.mkdir()
+    text = subprocess.run([sys.executable, HERE / "many_rows.py", str(ROWS), "100"], stdout=subprocess.PIPE, text=True,
+                          check=True).stdout
+    (folder / NAMES[0]).write_text(text, encoding="ascii")
+    (folder / NAMES[1]).write_text(text.replace("Title", "Renamed"), encoding="ascii")
+    return sorted(set(re.findall(r"\t(\d{4}-\d{3}[\dX])\t", text)))
+
+
+def replayed(folder, name, queries):
+    """What a replay of a release answers."""
+    size = (folder / name).stat().st_size
+    lines = ["nodes 1", f"publish-file {name} {folder / name}", f"offer 1 {name}", f"deliver 1 {name} 0 {size}"]
+    lines += [f"ask 1 Fleet {query}" for query in queries]
+    printed = subprocess.run(["kbfeed", "replay"], input="\n".join(lines) + "\n", stdout=subprocess.PIPE, text=True,
+                             check=True).stdout
+    answers = re.split(r"^(?=release )", printed, flags=re.M)[1:]
+    return dict(zip(queries, answers))
+
+
+class Client(threading.Thread):
+    """Asks one query after another, and keeps which node gave which release's answer."""
+
+    def __init__(self, front, answers):
+        super().__init__(daemon=True)
+        self.front, self.answers = front, answers
+        self.queries = list(answers[0])
+        self.is_asked_to_end = False
+        self.count, self.wrong = 0, []
+        self.latest = collections.defaultdict(int)
+        self.seen = set()
+
+    def run(self):
+        while not self.is_asked_to_end and len(self.wrong) < 5:
+            self.ask(self.queries[self.count % len(self.queries)])
+            self.count += 1
+
+    def ask(self, query):
+        try:
+            conn = http.client.HTTPConnection("127.0.0.1", self.front, timeout=30)
+            conn.request("GET", f"/resolve/Fleet?{query}")
+            reply = conn.getresponse()
+            text = reply.read().decode("ascii")
+            conn.close()
+        except (OSError, http.client.HTTPException) as fault:
+            self.wrong.append(f"{query}: {fault!r}")
+            return
+        node = reply.headers["X-Node"].split(", ")[-1]
+        release = [at for at in (0, 1) if text == self.answers[at][query]]
+        if reply.status != 200 or not release:
+            self.wrong.append(f"{query}: {reply.status} {text[:200]!r} of {node}")
+        elif release[0] < self.latest[node]:
+            self.wrong.append(f"{node} went back")
+        else:
+            self.latest[node] = release[0]
+            self.seen.add((node, release[0]))
+
+
+class Fleet:
+    def __init__(self, folder):
+        self.folder = folder
+        self.front, self.way, self.origin, *self.ports = ports(6)
+        self.begun = {}
+        (folder / "token").write_text(TOKEN + "\n", encoding="ascii")
+        (folder / "nodes").write_text("".join(f"127.0.0.1:{port}\n" for port in self.ports), encoding="ascii")
+
+    def begin(self, name, *words):
+        log = open(self.folder / f"{name}.log", "ab")
+        self.begun[name] = subprocess.Popen(words, stdout=log, stderr=log, stdin=subprocess.DEVNULL)
+
+    def begin_node(self, at):
+        port = self.ports[at]
+        self.begin(f"node{at}", "kbfeed", "node", self.folder / f"node{at}.db", f"127.0.0.1:{port}", "--from",
+                   f"127.0.0.1:{self.way}", "--token", self.folder / "token", "--piece", str(PIECE))
+        waited(port)
+
+    def begin_nginx(self):
+        """nginx with the sample, whose ports and whose knowledge base are those of the test."""
+        text = (SAMPLES / "nginx.conf").read_text(encoding="ascii")
+        for at, port in enumerate(self.ports):
+            text = text.replace(f"127.0.0.1:{8081 + at}", f"127.0.0.1:{port}")
+        text = text.replace("127.0.0.1:8080", f"127.0.0.1:{self.front}")
+        text = text.replace("127.0.0.1:8090", f"127.0.0.1:{self.way}")
+        text = text.replace("https://lists.example/kbart/", f"http://127.0.0.1:{self.origin}/")
+        text = "".join(line for line in text.splitlines(True) if "proxy_ssl_" not in line)
+        (self.folder / "kbfeed.conf").write_text(text, encoding="ascii")
+        (self.folder / "nginx.conf").write_text(
+            f"daemon off; pid {self.folder}/nginx.pid; error_log {self.folder}/error.log; worker_processes 1;\n"
+            "events { worker_connections 256; }\n"
+            f"http {{ access_log off; {self.paths()} include {self.folder}/kbfeed.conf; }}\n", encoding="ascii")
+        self.begin("nginx", "nginx", "-e", self.folder / "error.log", "-p", self.folder, "-c",
+                   self.folder / "nginx.conf")
+        waited(self.front)
+
+    def paths(self):
+        kinds = ["client_body", "proxy", "fastcgi", "uwsgi", "scgi"]
+        return " ".join(f"{kind}_temp_path {self.folder}/{kind};" for kind in kinds)
+
+    def feed(self, name, nodes="nodes"):
+        return subprocess.run([SAMPLES / "feed", self.folder / "token", self.folder / nodes, name],
+                              stdout=subprocess.PIPE, text=True)
+
+    def kill(self, name):
+        self.begun[name].send_signal(signal.SIGKILL)
+        self.begun[name].wait()
+
+    def end(self):
+        for process in self.begun.values():
+            process.terminate()
+        for process in self.begun.values():
+            process.wait()
+
+
+def fed_and_killed(fleet, at):
+    """Has a node fetch the new release, and ends it in the middle. Whether it was."""
+    node = f"127.0.0.1:{fleet.ports[at]}"
+    (fleet.folder / "one").write_text(node + "\n", encoding="ascii")
+    peer = socket.create_connection(("127.0.0.1", fleet.ports[at]), timeout=30)
+    peer.sendall(f"POST /feed/{NAMES[1]} HTTP/1.1\r\nHost: {node}\r\nAuthorization: Bearer {TOKEN}\r\n\r\n".encode())
+    told = b""
+    while b"stored missing" not in told:
+        part = peer.recv(4_096)
+        if not part:
+            break
+        told += part
+    fleet.kill(f"node{at}")
+    peer.close()
+    return b"stored missing" in told and b"activated" not in told
+
+
+def main():
+    folder = pathlib.Path(sys.argv[1]).resolve()
+    folder.mkdir()
+    fleet = Fleet(folder)
+    issns = make_lists(folder / "lists")
+    queries = [f"rft.issn={issn.replace('-', '')}&rft.date={1900 + at}" for at, issn in enumerate(issns[:40])]
+    answers = [replayed(folder / "lists", name, queries) for name in NAMES]
+    if any(answers[0][query] == answers[1][query] for query in queries):
+        print("the releases have equal answers")
+    try:
+        fleet.begin("serve", "kbfeed", "serve", folder / "lists", f"127.0.0.1:{fleet.origin}")
+        waited(fleet.origin)
+        for at in range(3):
+            fleet.begin_node(at)
+        fleet.begin_nginx()
+        if fleet.feed(NAMES[0]).returncode:
+            print("the first release does not arrive")
+        clients = [Client(fleet.front, answers) for _ in range(4)]
+        for client in clients:
+            client.start()
+        time.sleep(0.5)
+        if not fed_and_killed(fleet, 1):
+            print("the node was not ended in the middle of its fetch")
+        time.sleep(0.5)
+        fleet.begin_node(1)
+        fed = fleet.feed(NAMES[1])
+        if fed.returncode or fed.stdout.count(" activated\n") != 3:
+            print(f"the second release does not arrive: {fed.stdout}")
+        # A node that was ended is asked again after fail_timeout.
+        time.sleep(6)
+        for client in clients:
+            client.is_asked_to_end = True
+        for client in clients:
+            client.join(60)
+    finally:
+        fleet.end()
+    wrong = [it for client in clients for it in client.wrong]
+    seen = set().union(*(client.seen for client in clients))
+    for line in wrong:
+        print(line)
+    if len(seen) != 6:
+        print(f"not each node gave the answers of both releases: {sorted(seen)}")
+    asked = sum(client.count for client in clients)
+    if asked < 200:
+        print(f"{asked} requests are few")
+    print(f"3 nodes, {len(clients)} clients, {len(wrong)} requests that failed or had a wrong answer")
+    if os.environ.get("VERBOSE"):
+        print(asked, "requests")
+
+
+if __name__ == "__main__":
+    main()

@@ -1,0 +1,37 @@
+# A server for a session: `serving WORD..` begins `kbfeed serve WORD..` on a port that is free, waits until it listens,
+# and sets ADDR and SERVER; its lines are in the file log. `served` waits for its end, and prints them.
+serving() {
+  folder=$1; shift
+  for PORT in $(seq $((20000 + $$ % 20000)) $((20020 + $$ % 20000))); do
+    ADDR=127.0.0.1:$PORT
+    : > log
+    kbfeed serve "$folder" "$ADDR" "$@" > log 2> faults & SERVER=$!
+    until [ -s log ] || ! kill -0 $SERVER 2> /dev/null; do sleep 0.05; done
+    [ -s log ] && return
+    wait $SERVER
+  done
+  cat faults
+  return 1
+}
+
+served() { wait $SERVER; status=$?; cat log faults; return $status; }
+
+# Sends the bytes of standard input, ends its side, and prints the reply without its carriage returns.
+sent() { python3 "$TESTS/drivers/raw_client.py" "$ADDR" | tr -d '\r'; }
+
+# A node for a session, over its database node.db: `answering WORD..` begins `kbfeed node node.db WORD..` on a free
+# port, waits until it listens, and sets ADDR and NODE; its log is in the file access. `ended` ends it at once.
+answering() {
+  for PORT in $(seq $((20000 + $$ % 20000)) $((20020 + $$ % 20000))); do
+    ADDR=127.0.0.1:$PORT
+    : > access
+    kbfeed node node.db "$ADDR" "$@" > access 2> faults & NODE=$!
+    until [ -s access ] || ! kill -0 $NODE 2> /dev/null; do sleep 0.05; done
+    [ -s access ] && return
+    wait $NODE
+  done
+  cat faults
+  return 1
+}
+
+ended() { kill -9 $NODE; wait $NODE 2> /dev/null; true; }
