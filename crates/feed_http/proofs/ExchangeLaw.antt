@@ -33,7 +33,7 @@ use Rattle.feed_http.specs.declared.fetching.got.Method.TheVariants.{Get, Head}
 use Rattle.feed_http.specs.Judgements.{judged, part_judged, framed_by_length, stated_of, size_judged}
 use Rattle.feed_http.specs.declared.serving.reply_head.ReplyHead.TheVariants.{Part, Whole}
 use Rattle.std.proofs.lemmas.List.Elements.{All-append, All-weaker, All-cons, All-nil}
-use Rattle.feed_range.proofs.Digits.{tells, numerals, number_of-digits}
+use Rattle.feed_range.proofs.Digits.{digit_test, numerals, number_of-digits}
 use Rattle.feed_range.specs.Text.{number_of}
 use borrow.Author.Tests.{eq-eqb, lt-ltb, le-ltb, lt-leb}
 use Rattle.feed_http.specs.declared.fetching.judge.Framing.TheVariants.{Sized}
@@ -57,7 +57,7 @@ digit_visible d range = grind (arith, nat_tests)
 visible_front : (ds more : List ℕ) → list_all is_ascii_digit ds ≡ true → 0 < length ds → skip_ows (ds ++ more) ≡ ds ++ more
 visible_front [] more all some = absurd (omega arith)
 visible_front (d ∷ ds) more all some =
-    let parts = tells.parts d ds all in
+    let parts = digit_test.parts d ds all in
     let visible : is_ows d ≡ false = digit_visible d parts.0 in
     rw visible refl
 

@@ -12,7 +12,7 @@ use Rattle.httparse.specs.Grammar.{Field, field_value}
 use Rattle.httparse.specs.Spans.{span_bytes, header_bytes, name_and_value, AreFieldsAt}
 use Rattle.httparse.specs.declared.spans.Span.{Span}
 use Rattle.httparse.specs.declared.spans.HeaderSpan.{HeaderSpan}
-use Rattle.feed_http_heads.specs.Fields.{is_named, spans_named, values_named, only, has_any, first_of, agrees}
+use Rattle.feed_http_heads.specs.Fields.{is_named, spans_named, values_named, only, has_any, first_of, has_other_name_or}
 
 abbrev values_of : List ℕ → List (List ℕ × List ℕ) → List (List ℕ)
 values_of name [] = []
@@ -91,16 +91,16 @@ pub several_spans : (buffer name : List ℕ) (hs : List HeaderSpan) (found : Opt
 several_spans buffer name hs None i d below named before some = absurd (false≢true (sym some))
 several_spans buffer name hs (Some span) i d below named before some = rw (spans-cut buffer name hs i d below named, before) refl
 
--- what each header agrees with each value passes
+-- each header passes if each value does
 all_agree : (test : List ℕ → Bool) (buffer name : List ℕ) (hs : List HeaderSpan)
-    → list_all (agrees test buffer name) hs ≡ list_all test (map (span_bytes buffer) (spans_named buffer name hs))
+    → list_all (has_other_name_or test buffer name) hs ≡ list_all test (map (span_bytes buffer) (spans_named buffer name hs))
 all_agree test buffer name [] = refl
 all_agree test buffer name (h ∷ hs) = elim (cases_Bool (is_named buffer name h)) [
   | inl e ↦ rw e (ap (λ b. test (span_bytes buffer h.value) && b) (all_agree test buffer name hs))
   | inr e ↦ rw e (all_agree test buffer name hs)
 ]
 
-pub all_values : (test : List ℕ → Bool) (buffer name : List ℕ) (hs : List HeaderSpan) (b : Bool) → b ≡ list_all (agrees test buffer name) hs
+pub all_values : (test : List ℕ → Bool) (buffer name : List ℕ) (hs : List HeaderSpan) (b : Bool) → b ≡ list_all (has_other_name_or test buffer name) hs
     → (fields : List Field) → AreFieldsAt buffer hs (length hs) fields → b ≡ list_all test (values_named name fields)
 all_values test buffer name hs b is fields are = is ∙ all_agree test buffer name hs ∙ ap (list_all test) (values_are buffer name hs fields are)
 

@@ -39,8 +39,8 @@ abbrev pub spans_named : List ℕ → List ℕ → List HeaderSpan → List Span
 spans_named buffer name headers = map (λ header. header.value) (filter (is_named buffer name) headers)
 
 -- the header has another name, or a value that passes the test
-abbrev pub agrees : (List ℕ → Bool) → List ℕ → List ℕ → HeaderSpan → Bool
-agrees test buffer name header = not (is_named buffer name header) || test (span_bytes buffer header.value)
+abbrev pub has_other_name_or : (List ℕ → Bool) → List ℕ → List ℕ → HeaderSpan → Bool
+has_other_name_or test buffer name header = not (is_named buffer name header) || test (span_bytes buffer header.value)
 
 -- the headers are inside the buffer
 abbrev pub AreWithin : Fields → Type 0

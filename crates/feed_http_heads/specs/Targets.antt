@@ -12,9 +12,9 @@ abbrev pub from_slash : List ℕ → List ℕ
 from_slash text = option_map_or (λ place. drop place text) (position (λ byte. byte == slash) text) []
 
 -- the text after a leading `http://`, ignoring case
-abbrev pub behind_scheme : List ℕ → Option (List ℕ)
-behind_scheme target = if str_eq_ignore_ascii_case (take 7 target) (codes "http://") then Some (drop 7 target) else None
+abbrev pub after_scheme : List ℕ → Option (List ℕ)
+after_scheme target = if str_eq_ignore_ascii_case (take 7 target) (codes "http://") then Some (drop 7 target) else None
 
 -- a target from its path on, without a leading `http://` and host
 abbrev pub origin_form : List ℕ → List ℕ
-origin_form target = option_map_or from_slash (behind_scheme target) target
+origin_form target = option_map_or from_slash (after_scheme target) target

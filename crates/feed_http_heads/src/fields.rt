@@ -4,7 +4,7 @@ ghost use Rattle.std.specs.List.{list_all};
 ghost use Rattle.std.specs.Str.{str_eq_ignore_ascii_case};
 ghost use Rattle.httparse.specs.Grammar.{Field};
 ghost use Rattle.httparse.specs.Spans.{IsWithin, IsHeaderWithin};
-ghost use Rattle.feed_http_heads.specs.Fields.{is_named, only, has_any, first_of, values_named, spans_named, agrees};
+ghost use Rattle.feed_http_heads.specs.Fields.{is_named, only, has_any, first_of, values_named, spans_named, has_other_name_or};
 ghost use Rattle.feed_http_heads.specs.Fields.{AreWithin, AreFieldsOf};
 
 use httparse::spans::{HeaderSpan, Span};
@@ -23,9 +23,9 @@ pub fn is_named(buffer: &[u8], header: HeaderSpan, name: &[u8]) -> bool
     header.name.of(buffer).eq_ignore_ascii_case(name)
 }
 
-fn agrees_with_text(buffer: &[u8], header: HeaderSpan, name: &[u8], text: &[u8]) -> bool
+fn has_other_name_or_text(buffer: &[u8], header: HeaderSpan, name: &[u8], text: &[u8]) -> bool
     requires { IsHeaderWithin (length buffer.now) header }
-    ensures { result ≡ agrees (λ value. str_eq_ignore_ascii_case value text.now) buffer.now name.now header }
+    ensures { result ≡ has_other_name_or (λ value. str_eq_ignore_ascii_case value text.now) buffer.now name.now header }
 {
     !is_named(buffer, header, name) || header.value.of(buffer).eq_ignore_ascii_case(text)
 }
@@ -96,7 +96,7 @@ impl<'b> Fields<'b> {
             (values_named name.now fields) }
     {
         for header in self.headers {
-            if !agrees_with_text(self.buffer, *header, name, text) {
+            if !has_other_name_or_text(self.buffer, *header, name, text) {
                 return false;
             }
         }

@@ -1,10 +1,13 @@
 //! A request's head, in the buffer into which it was read.
-ghost use Rattle.std.specs.Prelude.{◌≡◌};
+ghost use Rattle.std.specs.Prelude.{◌≡◌, take};
 ghost use Rattle.httparse.specs.Grammar.{RequestHead};
+ghost use Rattle.httparse.specs.Spans.{IsRequestWithin, IsRequestAt};
 ghost use Rattle.feed_http_heads.specs.Fields.{AreWithin, AreFieldsOf};
+ghost use Rattle.feed_http_heads.specs.Limits.{head_limit};
 ghost use Rattle.feed_http_heads.specs.Requests.{lacks_host, is_get, is_head, IsInBuffer, HasHead};
 
 use crate::fields::Fields;
+use crate::limits::HEAD_LIMIT;
 use httparse::spans::{HeaderSpan, RequestSpans};
 
 /// A request's head, in the buffer into which it was read.
@@ -16,6 +19,20 @@ pub struct Request<'b> {
 }
 
 impl<'b> Request<'b> {
+    /// Returns the request whose head `find_head` found at the front of these bytes.
+    pub fn new(bytes: &'b [u8], headers: &'b [HeaderSpan], spans: RequestSpans) -> Request<'b>
+        requires { IsRequestWithin (take head_limit bytes.now) headers.now spans }
+        ensures within { IsInBuffer result }
+        ensures head { (head : RequestHead) → IsRequestAt (take head_limit bytes.now) headers.now spans head
+            → HasHead result head }
+    {
+        Request {
+            buffer: &bytes[..bytes.len().min(HEAD_LIMIT)],
+            headers,
+            spans,
+        }
+    }
+
     /// Returns the fields of the head.
     pub fn fields(&self) -> Fields<'_>
         requires { IsInBuffer self.now }

@@ -1,20 +1,20 @@
 //! Finding the path in the target of a request.
 ghost use Rattle.std.specs.Prelude.{◌≡◌, ◌==◌, option_copied, position};
-ghost use Rattle.feed_http_heads.specs.Targets.{slash, from_slash, behind_scheme, origin_form};
+ghost use Rattle.feed_http_heads.specs.Targets.{slash, from_slash, after_scheme, origin_form};
 
 /// Returns a target from its path on. A target may be a complete URI, with a scheme and a host before the path
 /// (RFC 9112, section 3.2.2).
 pub fn origin_form(target: &[u8]) -> &[u8]
     ensures { result.now ≡ origin_form target.now }
 {
-    match behind_scheme(target) {
+    match after_scheme(target) {
         Some(rest) => from_slash(rest),
         None => target,
     }
 }
 
-fn behind_scheme(target: &[u8]) -> Option<&[u8]>
-    ensures { option_copied result ≡ behind_scheme target.now }
+fn after_scheme(target: &[u8]) -> Option<&[u8]>
+    ensures { option_copied result ≡ after_scheme target.now }
 {
     let (front, rest) = target.split_at_checked(7)?;
     front.eq_ignore_ascii_case(b"http://").then_some(rest)

@@ -8,7 +8,7 @@ use Rattle.std.proofs.lemmas.List.Folds.{list_all-append}
 use Rattle.std.proofs.Math.Seq.{drop-append-add}
 use borrow.Author.Tests.{eq-eqb, ne_eqb, lt-ltb, not-true}
 use Rattle.feed_range.specs.Text.{split_once}
-use Rattle.feed_range.proofs.Digits.{both, tells}
+use Rattle.feed_range.proofs.Digits.{both, digit_test}
 
 -- the byte is not in the text
 abbrev pub lacks : ℕ → List ℕ → Bool
@@ -21,7 +21,7 @@ lacks-append byte front back here there = list_all-append (λ other. not (other 
 pub lacks-digits : (byte : ℕ) (ds : List ℕ) → byte < 48 → list_all is_ascii_digit ds ≡ true → lacks byte ds ≡ true
 lacks-digits byte [] below all = refl
 lacks-digits byte (d ∷ ds) below all =
-    let parts = tells.parts d ds all in
+    let parts = digit_test.parts d ds all in
     let apart : (d ≡ byte → ⊥) = λ e. absurd (omega (arith, e, parts.0)) in
     rw (ne_eqb d byte apart, lacks-digits byte ds below parts.1) refl
 

@@ -14,16 +14,16 @@ use borrow.Author.Tests.{ltb-true, lt-ltb}
 use Rattle.feed_range.specs.Text.{is_number, number_of, in_64_bits}
 
 -- the test of digits accepts exactly the digits
-pub tells : IsDigitsTest (λ ds. list_all is_ascii_digit ds ≡ true)
-tells = search rules
+pub digit_test : IsDigitsTest (λ ds. list_all is_ascii_digit ds ≡ true)
+digit_test = search rules
 
 -- numerals are what the test passes, with their values
 pub numerals : IsNumeralModel (λ ds. list_all is_ascii_digit ds ≡ true) (digits_value 10)
-numerals = numerals_by_value (λ ds. list_all is_ascii_digit ds ≡ true) tells
+numerals = numerals_by_value (λ ds. list_all is_ascii_digit ds ≡ true) digit_test
 
 digits_ascii : (ds : List ℕ) → list_all is_ascii_digit ds ≡ true → IsAscii ds
 digits_ascii [] all = IsAscii-nil
-digits_ascii (c ∷ cs) all = let parts = tells.parts c cs all in IsAscii-cons c cs (omega (arith, parts.0)) (digits_ascii cs parts.1)
+digits_ascii (c ∷ cs) all = let parts = digit_test.parts c cs all in IsAscii-cons c cs (omega (arith, parts.0)) (digits_ascii cs parts.1)
 
 -- digits are a text
 pub digits_utf8 : (ds : List ℕ) → list_all is_ascii_digit ds ≡ true → IsUtf8 ds

@@ -13,7 +13,7 @@ use Rattle.feed_range.specs.Content.{is_star, total_of, part_of, range_of, conte
 use Rattle.feed_range.specs.declared.ask.RangeAsk.TheVariants as ask
 use Rattle.feed_range.specs.declared.content.ContentRange.{ContentRange}
 use Rattle.feed_range.specs.declared.content.ContentRange.TheVariants.{Part, Unsatisfied}
-use Rattle.feed_range.proofs.Digits.{tells, numerals, number_of-digits}
+use Rattle.feed_range.proofs.Digits.{digit_test, numerals, number_of-digits}
 use Rattle.feed_range.proofs.Cuts.{lacks, lacks-append, lacks-digits, split_once-at}
 
 some-decimal : (n : ℕ) → n < 2 ^ 64 → 0 < length (decimal n)
@@ -68,7 +68,7 @@ lacks-places first last low high =
 is_star-digits : (ds more : List ℕ) → list_all is_ascii_digit ds ≡ true → 0 < length ds → is_star (ds ++ more) ≡ false
 is_star-digits [] more all some = absurd (omega arith)
 is_star-digits (d ∷ ds) more all some =
-    let parts = tells.parts d ds all in
+    let parts = digit_test.parts d ds all in
     let apart : (d ≡ 42 → ⊥) = λ e. absurd (omega (arith, e, parts.0)) in
     rw (ne_eqb d 42 apart) refl
 

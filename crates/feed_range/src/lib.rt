@@ -10,7 +10,7 @@ mod text;
 
 pub use ask::{RangeAsk, ask_reads_back, asks_by_form, write_ask};
 pub use content::{ContentRange, RangeFault, content_range_reads_back, write_content_range};
-pub use text::read_number;
+pub use text::{read_number, split_once, strip_prefix};
 
 /// Why a value was not written.
 #[derive(Clone, Copy, Debug, PartialEq, Eq, Error)]

@@ -1,14 +1,15 @@
 //! Splitting a field value: its prefix, the texts around a byte, and numbers.
-ghost use Rattle.std.specs.Prelude.{◌≡◌, ◌==◌, IsTrue, option_copied};
+ghost use Rattle.std.specs.Prelude.{◌≡◌, ◌==◌, All, false, IfNone, IfSome, IsTrue, option_copied};
 ghost use Rattle.std.specs.Char.{is_ascii_digit};
 ghost use Rattle.std.specs.List.{list_all, position};
 ghost use Rattle.std.specs.Option.{option_map};
 ghost use Rattle.std.specs.Str.Parse.{digits_value};
 ghost use Rattle.feed_range.specs.Text.{strip_prefix, split_once, is_number, number_of, in_64_bits, number_in_64_bits};
 ghost use Rattle.feed_range.specs.Text.{capped_number};
+ghost use Rattle.feed_range.specs.Parts.{IsFirstPart, IsOnePart};
 
 /// Returns the text after a leading prefix, ignoring case.
-pub(crate) fn strip_prefix<'a>(text: &'a [u8], prefix: &[u8]) -> Option<&'a [u8]>
+pub fn strip_prefix<'a>(text: &'a [u8], prefix: &[u8]) -> Option<&'a [u8]>
     ensures { option_copied result ≡ strip_prefix prefix.now text.now }
 {
     let (front, rest) = text.split_at_checked(prefix.len())?;
@@ -16,17 +17,22 @@ pub(crate) fn strip_prefix<'a>(text: &'a [u8], prefix: &[u8]) -> Option<&'a [u8]
 }
 
 fn place_of(text: &[u8], byte: u8) -> Option<usize>
-    ensures { result ≡ position (λ other. other == byte) text.now }
+    ensures value { result ≡ position (λ other. other == byte) text.now }
+    ensures none { IfNone result (All (λ other. (other == byte) ≡ false) text.now) }
 {
     text.iter().position(|other| *other == byte)
 }
 
 /// Returns the texts before and after the first such byte.
-pub(crate) fn split_once(text: &[u8], byte: u8) -> Option<(&[u8], &[u8])>
-    ensures { option_map (λ parts. (parts.0.now, parts.1.now)) result ≡ split_once byte text.now }
+pub fn split_once(text: &[u8], byte: u8) -> Option<(&[u8], &[u8])>
+    ensures value { option_map (λ parts. (parts.0.now, parts.1.now)) result ≡ split_once byte text.now }
+    ensures parts { IfSome result (λ parts. IsFirstPart byte text.now parts.0.now parts.1.now) }
+    ensures whole { IfNone result (IsOnePart byte text.now) }
 {
-    let place = place_of(text, byte)?;
-    Some((&text[..place], &text[place + 1..]))
+    match place_of(text, byte) {
+        Some(place) => Some((&text[..place], &text[place + 1..])),
+        None => None,
+    }
 }
 
 fn has_digits_alone(text: &[u8]) -> bool

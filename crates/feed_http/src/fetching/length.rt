@@ -3,16 +3,16 @@ ghost use Rattle.std.specs.Prelude.{◌≡◌, List, length};
 ghost use Rattle.std.specs.List.{list_all};
 ghost use Rattle.httparse.specs.Grammar.{Field};
 ghost use Rattle.httparse.specs.Spans.{IsHeaderWithin};
-ghost use Rattle.feed_http_heads.specs.Fields.{values_named, agrees, AreWithin, AreFieldsOf};
+ghost use Rattle.feed_http_heads.specs.Fields.{values_named, has_other_name_or, AreWithin, AreFieldsOf};
 ghost use Rattle.feed_http.specs.Judgements.{writes, agreed, content_length};
 
 use feed_http_heads::{Fields, is_named};
 use feed_range::read_number;
 use httparse::spans::HeaderSpan;
 
-fn agrees_with_length(buffer: &[u8], header: HeaderSpan, size: u64) -> bool
+fn has_other_name_or_length(buffer: &[u8], header: HeaderSpan, size: u64) -> bool
     requires { IsHeaderWithin (length buffer.now) header }
-    ensures { result ≡ agrees (writes size) buffer.now content_length header }
+    ensures { result ≡ has_other_name_or (writes size) buffer.now content_length header }
 {
     !is_named(buffer, header, b"content-length")
         || read_number(header.value.of(buffer)) == Some(size)
@@ -24,7 +24,7 @@ fn all_lengths_are(found: &Fields<'_>, size: u64) -> bool
         → result ≡ list_all (writes size) (values_named content_length fields) }
 {
     for header in found.headers {
-        if !agrees_with_length(found.buffer, *header, size) {
+        if !has_other_name_or_length(found.buffer, *header, size) {
             return false;
         }
     }

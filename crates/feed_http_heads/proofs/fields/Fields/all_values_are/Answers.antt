@@ -3,17 +3,17 @@ use Rattle.std.specs.List.{list_all}
 use Rattle.std.specs.Str.{str_eq_ignore_ascii_case}
 use Rattle.std.proofs.lemmas.List.{take_all}
 use Rattle.std.proofs.lemmas.List.Folds.{list_all_at}
-use Rattle.feed_http_heads.specs.Fields.{agrees}
+use Rattle.feed_http_heads.specs.Fields.{has_other_name_or}
 use Rattle.feed_http_heads.proofs.NamedFields.{all_values}
 use Rattle.feed_http_heads.proofs.fields.Fields.all_values_are.Goals as goal
 
-pub returns-then-not-agrees_with_text : goal.returns-then-not-agrees_with_text
-returns-then-not-agrees_with_text c = all_values (λ value. str_eq_ignore_ascii_case value c.args.text.now) c.args.self.now.buffer.now c.args.name.now c.args.self.now.headers.now false
-    (sym (list_all_at (agrees (λ value. str_eq_ignore_ascii_case value c.args.text.now) c.args.self.now.buffer.now c.args.name.now)
+pub returns-then-not-has_other_name_or_text : goal.returns-then-not-has_other_name_or_text
+returns-then-not-has_other_name_or_text c = all_values (λ value. str_eq_ignore_ascii_case value c.args.text.now) c.args.self.now.buffer.now c.args.name.now c.args.self.now.headers.now false
+    (sym (list_all_at (has_other_name_or (λ value. str_eq_ignore_ascii_case value c.args.text.now) c.args.self.now.buffer.now c.args.name.now)
     c.args.self.now.headers.now c.loop-header.header-index _ c.loop-header-test.true
-    (sym c.agrees_with_text.ensures ∙ c.if-not-agrees_with_text.true)))
+    (sym c.has_other_name_or_text.ensures ∙ c.if-not-has_other_name_or_text.true)))
 
 pub returns : goal.returns
 returns c = all_values (λ value. str_eq_ignore_ascii_case value c.args.text.now) c.args.self.now.buffer.now c.args.name.now c.args.self.now.headers.now true
-    (sym (ap (list_all (agrees (λ value. str_eq_ignore_ascii_case value c.args.text.now) c.args.self.now.buffer.now c.args.name.now)) (sym
+    (sym (ap (list_all (has_other_name_or (λ value. str_eq_ignore_ascii_case value c.args.text.now) c.args.self.now.buffer.now c.args.name.now)) (sym
     (take_all c.loop-header.header-index c.args.self.now.headers.now c.loop-header-test.false)) ∙ c.loop-header.invariant))
