@@ -1,4 +1,4 @@
-//! The commands of the command line and their arguments: a table, and the loop that builds clap's command from it.
+//! The commands of the program with their arguments: a table, and the loop that builds clap's command from it.
 use crate::helps::{
     ANSWER_HELP, ASK_HELP, CHECK_HELP, FETCH_HELP, NODE_HELP, REPLAY_HELP, SERVE_HELP, STATUS_HELP,
     WHY_HELP,
@@ -7,12 +7,12 @@ use clap::builder::ValueParser;
 use clap::{Arg, ArgAction, Command};
 use std::alloc::{AllocError, Global};
 
-// With the toolchain, as `rt version` prints it, which builds no program that it has not proved.
+// The version of the program, and that of the toolchain, as `rt version` prints it: it builds only what it has proved.
 const VERSION: &str = "0.1.0\nrattle-kit-13f logic dac8208d650f15bf\nproved";
 
 /// A command of the program.
 #[derive(Clone, Copy)]
-enum Verb {
+enum Subcommand {
     Replay,
     Check,
     Answer,
@@ -26,8 +26,8 @@ enum Verb {
 
 /// An argument of a command.
 #[derive(Clone, Copy)]
-struct Row {
-    /// The name under which its value is looked up, and the long name of an option.
+struct Argument {
+    /// The name by which its value is looked up, and the long name of an option.
     id: &'static str,
     kind: Kind,
     help: &'static str,
@@ -49,97 +49,100 @@ enum Kind {
         value: &'static str,
         needs: &'static [&'static str],
     },
-    /// As an option with a number from 1 to a limit.
+    /// As an option with a number from 1 to a limit, and a default.
     Number {
         value: &'static str,
         limit: u64,
+        default: &'static str,
     },
 }
 
-const DATABASE: Row = Row {
+const DATABASE: Argument = Argument {
     id: "DB",
     kind: Kind::Positional,
     help: "The path of the node's database",
 };
 
-const LISTENING_ADDRESS: Row = Row {
+const LISTENING_ADDRESS: Argument = Argument {
     id: "ADDR",
     kind: Kind::Positional,
-    help: "Where it listens, as 127.0.0.1:8080",
+    help: "The address to listen at, as 127.0.0.1:8080",
 };
 
-const QUERY: Row = Row {
+const QUERY: Argument = Argument {
     id: "QUERY",
     kind: Kind::Positional,
-    help: "The query of an OpenURL, as rft.issn=2434561x or rft.isbn=9780306406157",
+    help: "An OpenURL query, as rft.issn=2434561x or rft.isbn=9780306406157",
 };
 
-const RELEASE: Row = Row {
+const RELEASE: Argument = Argument {
     id: "NAME",
     kind: Kind::Positional,
     help: "The name of the release, as Acme_Global_All_2024-01-01.txt",
 };
 
-const PIECE: Row = Row {
+const PIECE: Argument = Argument {
     id: "piece",
     kind: Kind::Number {
         value: "N",
         limit: 1_048_576,
+        default: "262144",
     },
-    help: "How many bytes a request asks for, 1 to 1048576 [default: 262144]",
+    help: "The most bytes in one request, 1 to 1048576",
 };
 
-const CLIENT_TIMEOUT: Row = Row {
+const CLIENT_TIMEOUT: Argument = Argument {
     id: "timeout",
     kind: Kind::Number {
         value: "SECONDS",
         limit: 3_600,
+        default: "30",
     },
-    help: "How long a client may take, 1 to 3600 [default: 30]",
+    help: "How long a client may take, 1 to 3600",
 };
 
-static CHECK: [Row; 6] = [
-    Row {
+static CHECK: [Argument; 6] = [
+    Argument {
         id: "FILE",
         kind: Kind::Positionals,
         help: "The paths of the files, or - for standard input",
     },
-    Row {
+    Argument {
         id: "name",
         kind: Kind::Text {
             value: "NAME",
             needs: &[],
         },
-        help: "The release name of what comes from standard input",
+        help: "The release name of standard input",
     },
-    Row {
+    Argument {
         id: "strict",
         kind: Kind::Flag { excludes: &[] },
-        help: "Ends with status 1 where a record is set aside",
+        help: "Exits with 1 if a record is skipped",
     },
-    Row {
+    Argument {
         id: "summary",
         kind: Kind::Flag {
             excludes: &["explain", "json"],
         },
         help: "Prints one line for each file",
     },
-    Row {
+    Argument {
         id: "explain",
         kind: Kind::Flag {
             excludes: &["json"],
         },
-        help: "Prints for each record that is set aside its line, its title and why",
+        help: "Prints the line, the title and the reason of each skipped record",
     },
-    Row {
+    Argument {
         id: "json",
         kind: Kind::Flag { excludes: &[] },
         help: "Prints a JSON object for each file",
     },
 ];
 
-static ANSWER: [Row; 2] = [
-    Row {
+static ANSWER: [Argument; 2] = [
+    Argument {
         id: "FILE",
         kind: Kind::Positional,
         help: "The path of the file",
@@ -147,77 +150,80 @@ static ANSWER: [Row; 2] = [
     QUERY,
 ];
 
-static SERVE: [Row; 4] = [
-    Row {
+static SERVE: [Argument; 4] = [
+    Argument {
         id: "DIR",
         kind: Kind::Positional,
         help: "The folder of the lists",
     },
     LISTENING_ADDRESS,
-    Row {
+    Argument {
         id: "count",
         kind: Kind::Number {
             value: "N",
             limit: 1_000_000,
+            default: "1000000",
         },
-        help: "How many connections are served, 1 to 1000000 [default: 1000000]",
+        help: "How many connections to serve, 1 to 1000000",
     },
     CLIENT_TIMEOUT,
 ];
 
-static NODE: [Row; 7] = [
+static NODE: [Argument; 7] = [
     DATABASE,
     LISTENING_ADDRESS,
-    Row {
+    Argument {
         id: "from",
         kind: Kind::Text {
             value: "HOST:PORT",
             needs: &["token"],
         },
-        help: "Where releases are fetched from, as 127.0.0.1:8080",
+        help: "The server to fetch releases from, as 127.0.0.1:8080",
     },
-    Row {
+    Argument {
         id: "token",
         kind: Kind::Text {
             value: "FILE",
             needs: &["from"],
         },
-        help: "The file whose first line those know who feed the node",
+        help: "The file whose first line is the token that authorizes a fetch",
     },
     PIECE,
-    Row {
+    Argument {
         id: "clients",
         kind: Kind::Number {
             value: "N",
             limit: 65_536,
+            default: "1024",
         },
-        help: "How many connections it has at a time, 1 to 65536 [default: 1024]",
+        help: "The most connections at a time, 1 to 65536",
     },
     CLIENT_TIMEOUT,
 ];
 
-static FETCH: [Row; 5] = [
+static FETCH: [Argument; 5] = [
     DATABASE,
-    Row {
+    Argument {
         id: "ADDR",
         kind: Kind::Positional,
-        help: "Where the server listens, as 127.0.0.1:8080",
+        help: "The address of the server, as 127.0.0.1:8080",
     },
     RELEASE,
     PIECE,
-    Row {
+    Argument {
         id: "timeout",
         kind: Kind::Number {
             value: "SECONDS",
             limit: 3_600,
+            default: "30",
         },
-        help: "How long a connection may wait, 1 to 3600 [default: 30]",
+        help: "How long a connection may pause, 1 to 3600",
     },
 ];
 
-static ASK: [Row; 3] = [
+static ASK: [Argument; 3] = [
     DATABASE,
-    Row {
+    Argument {
         id: "PACKAGE",
         kind: Kind::Positional,
         help: "The package, as Acme_Global_All",
@@ -225,63 +231,63 @@ static ASK: [Row; 3] = [
     QUERY,
 ];
 
-static STATUS: [Row; 1] = [DATABASE];
+static STATUS: [Argument; 1] = [DATABASE];
 
-static WHY: [Row; 2] = [DATABASE, RELEASE];
+static WHY: [Argument; 2] = [DATABASE, RELEASE];
 
 // The commands with their names, in the order of the help.
-const COMMANDS: [(&str, Verb); 9] = [
-    ("replay", Verb::Replay),
-    ("check", Verb::Check),
-    ("answer", Verb::Answer),
-    ("serve", Verb::Serve),
-    ("node", Verb::Node),
-    ("fetch", Verb::Fetch),
-    ("ask", Verb::Ask),
-    ("status", Verb::Status),
-    ("why", Verb::Why),
+const SUBCOMMANDS: [(&str, Subcommand); 9] = [
+    ("replay", Subcommand::Replay),
+    ("check", Subcommand::Check),
+    ("answer", Subcommand::Answer),
+    ("serve", Subcommand::Serve),
+    ("node", Subcommand::Node),
+    ("fetch", Subcommand::Fetch),
+    ("ask", Subcommand::Ask),
+    ("status", Subcommand::Status),
+    ("why", Subcommand::Why),
 ];
 
-impl Verb {
+impl Subcommand {
     fn about(self) -> &'static str {
         match self {
-            Verb::Replay => "Replays a script of published files and nodes",
-            Verb::Check => "Checks holdings lists",
-            Verb::Answer => "Answers a query from a holdings list",
-            Verb::Serve => "Serves a folder of releases over HTTP",
-            Verb::Node => "Answers readers over HTTP from the database of a node",
-            Verb::Fetch => "Fetches a release into the database of a node",
-            Verb::Ask => "Answers a query from the database of a node",
-            Verb::Status => "Prints the releases that a node has recorded",
-            Verb::Why => "Prints why a release of a node is broken",
+            Subcommand::Replay => "Replays a script of published files and nodes",
+            Subcommand::Check => "Checks holdings lists",
+            Subcommand::Answer => "Answers a query from a holdings list",
+            Subcommand::Serve => "Serves a folder of releases over HTTP",
+            Subcommand::Node => "Answers readers over HTTP from the database of a node",
+            Subcommand::Fetch => "Fetches a release into the database of a node",
+            Subcommand::Ask => "Answers a query from the database of a node",
+            Subcommand::Status => "Prints the releases that a node has recorded",
+            Subcommand::Why => "Prints why a release of a node is broken",
         }
     }
 
     fn help(self) -> &'static str {
         match self {
-            Verb::Replay => REPLAY_HELP,
-            Verb::Check => CHECK_HELP,
-            Verb::Answer => ANSWER_HELP,
-            Verb::Serve => SERVE_HELP,
-            Verb::Node => NODE_HELP,
-            Verb::Fetch => FETCH_HELP,
-            Verb::Ask => ASK_HELP,
-            Verb::Status => STATUS_HELP,
-            Verb::Why => WHY_HELP,
+            Subcommand::Replay => REPLAY_HELP,
+            Subcommand::Check => CHECK_HELP,
+            Subcommand::Answer => ANSWER_HELP,
+            Subcommand::Serve => SERVE_HELP,
+            Subcommand::Node => NODE_HELP,
+            Subcommand::Fetch => FETCH_HELP,
+            Subcommand::Ask => ASK_HELP,
+            Subcommand::Status => STATUS_HELP,
+            Subcommand::Why => WHY_HELP,
         }
     }
 
-    fn rows(self) -> &'static [Row] {
+    fn arguments(self) -> &'static [Argument] {
         match self {
-            Verb::Replay => &[],
-            Verb::Check => &CHECK,
-            Verb::Answer => &ANSWER,
-            Verb::Serve => &SERVE,
-            Verb::Node => &NODE,
-            Verb::Fetch => &FETCH,
-            Verb::Ask => &ASK,
-            Verb::Status => &STATUS,
-            Verb::Why => &WHY,
+            Subcommand::Replay => &[],
+            Subcommand::Check => &CHECK,
+            Subcommand::Answer => &ANSWER,
+            Subcommand::Serve => &SERVE,
+            Subcommand::Node => &NODE,
+            Subcommand::Fetch => &FETCH,
+            Subcommand::Ask => &ASK,
+            Subcommand::Status => &STATUS,
+            Subcommand::Why => &WHY,
         }
     }
 }
@@ -293,8 +299,8 @@ pub fn program<'a>(alloc: Global) -> Result<Command<'a>, AllocError> {
         .version(VERSION)
         .subcommand_required(true)
         .arg(verbose(alloc))?;
-    for (name, verb) in COMMANDS {
-        program = program.subcommand(command(alloc, name, verb)?)?;
+    for (name, subcommand) in SUBCOMMANDS {
+        program = program.subcommand(command_of(alloc, name, subcommand)?)?;
     }
     Ok(program)
 }
@@ -305,53 +311,57 @@ fn verbose<'a>(alloc: Global) -> Arg<'a> {
         .long("verbose")
         .global(true)
         .action(ArgAction::SetTrue)
-        .help("Says on a second line what a fault is about, and its cause")
+        .help("Prints what a fault is about, and its cause, on a second line")
 }
 
-fn command<'a>(alloc: Global, name: &'static str, verb: Verb) -> Result<Command<'a>, AllocError> {
+fn command_of<'a>(
+    alloc: Global,
+    name: &'static str,
+    subcommand: Subcommand,
+) -> Result<Command<'a>, AllocError> {
     let mut command = Command::new(alloc, name)
-        .about(verb.about())
-        .long_about(verb.help());
-    for row in verb.rows() {
-        command = command.arg(argument(alloc, row)?)?;
+        .about(subcommand.about())
+        .long_about(subcommand.help());
+    for argument in subcommand.arguments() {
+        command = command.arg(arg_of(alloc, argument)?)?;
     }
     Ok(command)
 }
 
-fn argument<'a>(alloc: Global, row: &'static Row) -> Result<Arg<'a>, AllocError> {
-    let argument = Arg::new(alloc, row.id).help(row.help);
-    match row.kind {
-        Kind::Positional => Ok(argument.required(true)),
-        Kind::Positionals => Ok(repeated(argument)),
-        Kind::Flag { excludes } => flag(argument.long(row.id), excludes),
-        Kind::Text { value, needs } => text(argument.long(row.id), value, needs),
-        Kind::Number { value, limit } => Ok(number(argument.long(row.id), value, limit)),
+fn arg_of<'a>(alloc: Global, argument: &'static Argument) -> Result<Arg<'a>, AllocError> {
+    let Argument { id, kind, help } = *argument;
+    let arg = Arg::new(alloc, id).help(help);
+    match kind {
+        Kind::Positional => Ok(arg.required(true)),
+        Kind::Positionals => Ok(repeat(arg)),
+        Kind::Flag { excludes } => flag(arg.long(id), excludes),
+        Kind::Text { value, needs } => text(arg.long(id), value, needs),
+        Kind::Number {
+            value,
+            limit,
+            default,
+        } => Ok(number(arg.long(id), value, limit, default)),
     }
 }
 
-fn repeated(argument: Arg<'_>) -> Arg<'_> {
-    argument
-        .required(true)
-        .action(ArgAction::Append)
-        .num_args(1..)
+fn repeat(arg: Arg<'_>) -> Arg<'_> {
+    arg.required(true).action(ArgAction::Append).num_args(1..)
 }
 
-fn flag<'a>(argument: Arg<'a>, excludes: &[&'static str]) -> Result<Arg<'a>, AllocError> {
-    argument
-        .action(ArgAction::SetTrue)
-        .conflicts_with_all(excludes)
+fn flag<'a>(arg: Arg<'a>, excludes: &[&'static str]) -> Result<Arg<'a>, AllocError> {
+    arg.action(ArgAction::SetTrue).conflicts_with_all(excludes)
 }
 
 fn text<'a>(
-    argument: Arg<'a>,
+    arg: Arg<'a>,
     value: &'static str,
     needs: &[&'static str],
 ) -> Result<Arg<'a>, AllocError> {
-    argument.value_name(value).requires_all(needs)
+    arg.value_name(value).requires_all(needs)
 }
 
-fn number<'a>(argument: Arg<'a>, value: &'static str, limit: u64) -> Arg<'a> {
-    argument
-        .value_name(value)
+fn number<'a>(arg: Arg<'a>, value: &'static str, limit: u64, default: &'static str) -> Arg<'a> {
+    arg.value_name(value)
         .value_parser(ValueParser::unsigned(1, limit))
+        .default_value(default)
 }

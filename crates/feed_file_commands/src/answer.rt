@@ -7,9 +7,9 @@ use feed_names::ReleaseName;
 use std::alloc::Global;
 use std::io::{Read, Write};
 
-// A query, and the name of the release that it is asked of.
+// A query, and the release that answers it, by its name and by the text of the name.
 #[derive(Drop)]
-struct Asked<'a> {
+struct Question<'a> {
     query: Query,
     name: ReleaseName,
     text: &'a str,
@@ -25,31 +25,31 @@ pub fn answer_file<O: Write, F: Write + Drop>(
     out: &mut O,
     faults: &mut Faults<F>,
 ) -> u8 {
-    let asked = match parse_asked(rt.alloc(), file_name(path), query, faults) {
-        Ok(asked) => asked,
+    let question = match parse_question(rt.alloc(), file_name(path), query, faults) {
+        Ok(question) => question,
         Err(status) => return status,
     };
     match open_file(rt, path, faults) {
-        Ok(file) => print_answer(rt.alloc(), &asked, file, out, faults),
+        Ok(file) => print_answer(rt.alloc(), &question, file, out, faults),
         Err(status) => status,
     }
 }
 
-fn parse_asked<'a, F: Write + Drop>(
+fn parse_question<'a, F: Write + Drop>(
     alloc: Global,
     text: &'a str,
     query: &str,
     faults: &mut Faults<F>,
-) -> Result<Asked<'a>, u8> {
+) -> Result<Question<'a>, u8> {
     let query = parse_query(alloc, query, faults)?;
     let name = parse_name(alloc, text, REFUSED, faults)?;
-    Ok(Asked { query, name, text })
+    Ok(Question { query, name, text })
 }
 
 // Reads the file and prints the answer.
 fn print_answer<R: Read + Drop, O: Write, F: Write + Drop>(
     alloc: Global,
-    asked: &Asked<'_>,
+    question: &Question<'_>,
     file: R,
     out: &mut O,
     faults: &mut Faults<F>,
@@ -57,12 +57,12 @@ fn print_answer<R: Read + Drop, O: Write, F: Write + Drop>(
     let mut file = Watched::new(file);
     let holdings = match read_file(alloc, &mut file) {
         Ok(holdings) => holdings,
-        Err(fault) => return report_file(faults, fault, asked.text, file),
+        Err(fault) => return report_file(faults, fault, question.text, file),
     };
-    let Ok(answer) = answer(alloc, &holdings, &asked.query) else {
+    let Ok(answer) = answer(alloc, &holdings, &question.query) else {
         return faults.report("Memory", FAILED);
     };
-    match answer.write(out, &asked.name) {
+    match answer.write(out, &question.name) {
         Ok(()) => faults.check_print(out.flush(), DONE),
         Err(WriteFault::Write) => faults.report_unprinted(out),
     }

@@ -1,4 +1,4 @@
-//! `kbfeed check`: what a file holds, or why it is bad.
+//! `kbfeed check`: what files hold, or why they are bad.
 use feed_command::{
     DONE, FAILED, Faults, MISUSED, REFUSED, Watched, open_file, parse_name, read_up_to,
 };
@@ -8,72 +8,68 @@ use feed_report::{Form, Report};
 use std::alloc::Global;
 use std::io::{ErrorKind, Read, Write};
 
-// The limit of a file.
+// The limit of a file, as `-v` prints it.
 const LONG_FILE: &str = "a list has at most 268,435,456 bytes";
 
-/// Checks the files at these paths, or standard input under a name for the path `-`, one after another, and prints what
-/// each holds, in a form. A strict check refuses a file with a record that is skipped. Returns the highest exit status
-/// of a file, or `MISUSED` for a name without `-` and for `-` without one.
+/// How files are checked.
+#[derive(Clone, Copy)]
+pub struct Check<'a> {
+    /// The release name of standard input, or empty.
+    pub name: &'a str,
+    pub form: Form,
+    /// Whether a file with a record that is skipped is refused.
+    pub is_strict: bool,
+}
+
+/// Checks the files at these paths, or standard input for the path `-`, one after another, and prints what each holds.
+/// Returns the highest exit status of a file, or `MISUSED` for a name without `-` and for `-` without one.
 pub fn check_files<O: Write, F: Write + Drop>(
     rt: &HostRuntime,
     paths: &[&str],
-    name: &str,
-    form: Form,
-    is_strict: bool,
+    check: Check<'_>,
     out: &mut O,
     faults: &mut Faults<F>,
 ) -> u8 {
-    if !name.is_empty() && !paths.iter().any(|path| *path == "-") {
+    if !check.name.is_empty() && !paths.iter().any(|path| *path == "-") {
         return faults.report("--name NAME needs FILE -", MISUSED);
     }
     let mut status = DONE;
     for path in paths {
-        status = status.max(check_path(rt, path, name, form, is_strict, out, faults));
+        status = status.max(check_path(rt, path, check, out, faults));
     }
     status
 }
 
-// Checks the file at a path, or standard input under a name.
+// Checks the file at a path, or standard input.
 fn check_path<O: Write, F: Write + Drop>(
     rt: &HostRuntime,
     path: &str,
-    name: &str,
-    form: Form,
-    is_strict: bool,
+    check: Check<'_>,
     out: &mut O,
     faults: &mut Faults<F>,
 ) -> u8 {
     if path == "-" {
-        if name.is_empty() {
+        if check.name.is_empty() {
             return faults.report("- needs --name NAME", MISUSED);
         }
-        return check_one(rt.alloc(), name, rt.reader(), form, is_strict, out, faults);
+        return check_file(rt.alloc(), check.name, rt.reader(), check, out, faults);
     }
     match open_file(rt, path, faults) {
-        Ok(file) => check_one(
-            rt.alloc(),
-            file_name(path),
-            file,
-            form,
-            is_strict,
-            out,
-            faults,
-        ),
+        Ok(file) => check_file(rt.alloc(), file_name(path), file, check, out, faults),
         Err(status) => status,
     }
 }
 
-// Reads a file under its name and prints what it holds to `out`, in a form: `release NAME`, `rows N aside M`, and a
-// line `aside NUMBER REASON` for each record that is skipped, or what `Form` says in place of it. A bad file prints
+// Reads a file under its name and prints what it holds to `out`: `release NAME`, `rows N aside M`, and a line
+// `aside NUMBER REASON` for each record that is skipped, or what `Form` has in place of it. A bad file prints
 // `broken REASON` in place of the last two. A fault prints one line to `faults`. Returns the exit status: 1 for an
 // invalid name, a file that is bad or too long, and a strict check that skips a record, 3 for a failing read or print
 // and for running out of memory.
-fn check_one<R: Read + Drop, O: Write, F: Write + Drop>(
+fn check_file<R: Read + Drop, O: Write, F: Write + Drop>(
     alloc: Global,
     text: &str,
     file: R,
-    form: Form,
-    is_strict: bool,
+    check: Check<'_>,
     out: &mut O,
     faults: &mut Faults<F>,
 ) -> u8 {
@@ -84,7 +80,7 @@ fn check_one<R: Read + Drop, O: Write, F: Write + Drop>(
     let mut report = Report {
         alloc,
         name: &name,
-        form,
+        form: check.form,
         text: &[],
     };
     if let Err(error) = report.print_release(out) {
@@ -92,19 +88,15 @@ fn check_one<R: Read + Drop, O: Write, F: Write + Drop>(
     }
     let mut file = Watched::new(file);
     let mut kept = Vec::new(alloc);
-    let judged = if form.is_explained() {
+    let counted = if check.form.is_explained() {
         read_kept(alloc, &mut file, &mut kept)
     } else {
         count_file(alloc, &mut file)
     };
     report.text = &kept;
-    match judged {
+    match counted {
         Ok(count) => {
-            let status = if is_strict && !count.aside().is_empty() {
-                REFUSED
-            } else {
-                DONE
-            };
+            let status = status_of(&count, check.is_strict);
             faults.check_print(report.print_count(out, &count), status)
         }
         Err(KbartFault::Bad(why)) => faults.check_print(report.print_broken(out, why), REFUSED),
@@ -115,7 +107,16 @@ fn check_one<R: Read + Drop, O: Write, F: Write + Drop>(
     }
 }
 
-// Reads a file, and keeps its text.
+// Returns the status of a good file: a strict check refuses one with a record that is skipped.
+fn status_of(count: &FileCount, is_strict: bool) -> u8 {
+    if is_strict && !count.aside().is_empty() {
+        REFUSED
+    } else {
+        DONE
+    }
+}
+
+// Reads a file, keeps its text, and counts its rows.
 fn read_kept<R: Read>(
     alloc: Global,
     file: &mut R,

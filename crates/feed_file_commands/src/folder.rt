@@ -1,4 +1,4 @@
-//! The releases of a folder, as a shelf of files.
+//! The releases of a folder, as a shelf that the HTTP server reads from.
 ghost use Rattle.std.specs.Prelude.{◌≡◌, ◌≤◌, IfOk, length};
 ghost use Rattle.feed_http.specs.Shelves.{CountsFailure};
 
@@ -9,22 +9,22 @@ use std::fs::File;
 use std::io::{ErrorKind, Read, Seek, SeekFrom};
 use std::{fs, io, str};
 
-/// The plain files of a folder that have the name of a release; a symbolic link stands for what it names. A file is
-/// opened as its size is asked for, and its bytes are those of that opening, whatever stands under the name since.
+/// The plain files of a folder whose names are release names. Symbolic links are followed. A call of `size` opens the
+/// file, and `read` reads that file, even if another one has taken its name since.
 #[derive(Drop)]
 pub struct Folder<'a> {
     rt: &'a HostRuntime,
     path: &'a str,
     failures: u64,
-    opened: Option<Opened>,
+    open_file: Option<OpenFile>,
 }
 
-// The file that is read, and the place of its next byte.
+// An open file, and the place from which the system reads next.
 #[derive(Drop)]
-struct Opened {
+struct OpenFile {
     name: ReleaseName,
     file: File,
-    at: u64,
+    next: u64,
 }
 
 impl<'a> Folder<'a> {
@@ -33,7 +33,7 @@ impl<'a> Folder<'a> {
             rt,
             path,
             failures: 0,
-            opened: None,
+            open_file: None,
         }
     }
 
@@ -45,12 +45,12 @@ impl<'a> Folder<'a> {
         }
     }
 
-    // Opens the file of a name and returns its size, if there is one. Other kinds of files are not opened, since that
-    // may wait, as it does for a pipe.
+    // Opens the plain file of a name and returns its size, or `None` if the file is of another kind. It does not open
+    // such a file, since that may wait, as it does for a pipe.
     fn open(&mut self, name: &ReleaseName) -> io::Result<Option<u64>>
         ensures { self.new.failures ≡ self.old.failures }
     {
-        self.opened = None;
+        self.open_file = None;
         let alloc = self.rt.alloc();
         let text = str::from_utf8(name.text()).unwrap_or("");
         let path = format!(in alloc; "{}/{text}", self.path)?;
@@ -62,16 +62,16 @@ impl<'a> Folder<'a> {
         if !metadata.is_file() {
             return Ok(None);
         }
-        self.opened = Some(Opened {
+        self.open_file = Some(OpenFile {
             name: name.try_clone()?,
             file,
-            at: 0,
+            next: 0,
         });
         Ok(Some(metadata.len()))
     }
 
-    // Reads exactly `len` bytes of the open file from a place on.
-    fn bytes(
+    // Reads exactly `len` bytes of the open file, from a place on. The next place is unknown after a failed read.
+    fn read_bytes(
         &mut self,
         alloc: Global,
         name: &ReleaseName,
@@ -81,28 +81,28 @@ impl<'a> Folder<'a> {
         ensures len { IfOk result (λ bytes. length bytes.items ≡ len) }
         ensures kept { self.new.failures ≡ self.old.failures }
     {
-        let Some(opened) = &mut self.opened else {
+        let Some(open) = &mut self.open_file else {
             return Err(io::Error::from(ErrorKind::NotFound));
         };
-        if opened.name != *name {
+        if open.name != *name {
             return Err(io::Error::from(ErrorKind::NotFound));
         }
-        if opened.at != first {
-            opened.file.seek(SeekFrom::Start(first))?;
+        if open.next != first {
+            open.file.seek(SeekFrom::Start(first))?;
         }
         let mut bytes = vec![in alloc; 0u8; len]?;
-        opened.at = u64::MAX;
-        opened.file.read_exact(bytes.as_mut_slice())?;
-        opened.at = first.saturating_add(len as u64);
+        open.next = u64::MAX;
+        open.file.read_exact(bytes.as_mut_slice())?;
+        open.next = first.saturating_add(len as u64);
         Ok(bytes)
     }
 
-    // Returns the fault that an error of the system is. One of the device is counted.
-    fn fault_of(&mut self, fault: &io::Error) -> ShelfFault
+    // Returns the fault of an error of the system, and counts it if it is one of the device.
+    fn fault_of(&mut self, error: &io::Error) -> ShelfFault
         ensures rises { self.old.failures ≤ self.new.failures }
         ensures device { result ≡ ShelfFault.Device → CountsFailure self.old.failures self.new.failures }
     {
-        if fault.kind() == ErrorKind::OutOfMemory {
+        if error.kind() == ErrorKind::OutOfMemory {
             return ShelfFault::Memory;
         }
         self.failures = self.failures.saturating_add(1);
@@ -120,9 +120,9 @@ impl Shelf for Folder<'_> {
     fn size(&mut self, name: &ReleaseName) -> Result<Option<u64>, ShelfFault> {
         match self.open(name) {
             Ok(size) => Ok(size),
-            Err(fault) => match fault.kind() {
+            Err(error) => match error.kind() {
                 ErrorKind::NotFound | ErrorKind::NotADirectory => Ok(None),
-                _ => Err(self.fault_of(&fault)),
+                _ => Err(self.fault_of(&error)),
             },
         }
     }
@@ -134,9 +134,9 @@ impl Shelf for Folder<'_> {
         first: u64,
         len: usize,
     ) -> Result<Vec<u8>, ShelfFault> {
-        match self.bytes(alloc, name, first, len) {
+        match self.read_bytes(alloc, name, first, len) {
             Ok(bytes) => Ok(bytes),
-            Err(fault) => Err(self.fault_of(&fault)),
+            Err(error) => Err(self.fault_of(&error)),
         }
     }
 }

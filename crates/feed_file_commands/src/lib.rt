@@ -7,5 +7,5 @@ mod folder;
 mod serve;
 
 pub use answer::answer_file;
-pub use check::check_files;
+pub use check::{Check, check_files};
 pub use serve::serve_folder;

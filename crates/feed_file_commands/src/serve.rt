@@ -8,10 +8,20 @@ use std::io::{ErrorKind, Read, Write};
 use std::net::{Shutdown, TcpListener, TcpStream};
 use std::time::Duration;
 
-/// Serves the releases of a folder at an address: it prints `listening`, then serves `count` connections one after
-/// another, each of which may take `time` for its request and for its reply, and prints for each `served STATUS` or
-/// `fault NAME`, at once. Returns the exit status: 0 once all were served, 3 if the address cannot be bound, a
-/// connection not be accepted or a line not be printed, which is reported.
+// The statuses of the replies to a request that was not read to its end.
+const BAD_REQUEST: u16 = 400;
+
+const NOT_IMPLEMENTED: u16 = 501;
+
+// The most reads of a lingering close, and the milliseconds that each may wait.
+const LINGERING_READS: u32 = 16;
+
+const LINGERING_WAIT: u64 = 100;
+
+/// Serves the releases of a folder at an address. It prints `listening` and then serves `count` connections one after
+/// another. Each may take `time` for its request, and as long for its reply. For each it prints `served STATUS` or
+/// `fault NAME` at once. Returns the exit status: 0 once all were served, 3 if the address cannot be bound, a
+/// connection cannot be accepted or a line cannot be printed, which is reported.
 pub fn serve_folder<O: Write, F: Write + Drop>(
     rt: &HostRuntime,
     dir: &str,
@@ -27,10 +37,7 @@ pub fn serve_folder<O: Write, F: Write + Drop>(
     };
     let mut folder = Folder::new(rt, dir);
     if !folder.is_there() {
-        faults.note(
-            dir,
-            "no folder is there, so that each name is answered by 404",
-        );
+        faults.note(dir, "no such folder, so each name is answered by 404");
     }
     let announced = writeln!(out, "listening").and_then(|()| out.flush());
     if let Err(error) = announced {
@@ -39,7 +46,7 @@ pub fn serve_folder<O: Write, F: Write + Drop>(
     serve_connections(rt, &listener, &mut folder, count, time, out, faults)
 }
 
-// Serves connections one after another from a shelf.
+// Serves connections from a shelf, one after another.
 fn serve_connections<S: Shelf, O: Write, F: Write + Drop>(
     rt: &HostRuntime,
     listener: &TcpListener,
@@ -49,32 +56,38 @@ fn serve_connections<S: Shelf, O: Write, F: Write + Drop>(
     out: &mut O,
     faults: &mut Faults<F>,
 ) -> u8 {
-    let mut served = 0_u64;
-    for _ in 0..u64::MAX {
-        if served >= count {
-            break;
-        }
-        let stream = match listener.accept() {
-            Ok((stream, _)) => stream,
-            // The client has gone, or a signal came: the next one is waited for.
-            Err(error) if is_passing(error.kind()) => continue,
+    for _ in 0..count {
+        let stream = match accept(listener) {
+            Ok(stream) => stream,
             Err(error) => return faults.report_with("Accept", "the next connection", error, FAILED),
         };
-        let line = print_outcome(out, serve_stream(rt, &stream, shelf, time));
-        if let Err(error) = line {
+        let outcome = serve_connection(rt, &stream, shelf, time);
+        if let Err(error) = print_outcome(out, outcome) {
             return faults.check_print(Err(error), FAILED);
         }
-        served += 1;
     }
     DONE
+}
+
+// Accepts the next connection. It waits for another one if a client leaves before it is accepted, and if a signal
+// comes. The loop has an end that it does not reach, since each function must return.
+fn accept(listener: &TcpListener) -> io::Result<TcpStream> {
+    for _ in 0..u64::MAX {
+        match listener.accept() {
+            Ok((stream, _)) => return Ok(stream),
+            Err(error) if is_passing(error.kind()) => {}
+            Err(error) => return Err(error),
+        }
+    }
+    Err(io::Error::from(ErrorKind::Interrupted))
 }
 
 fn is_passing(kind: ErrorKind) -> bool {
     kind == ErrorKind::ConnectionAborted || kind == ErrorKind::Interrupted
 }
 
-// Serves one connection.
-fn serve_stream<S: Shelf>(
+// Serves one request of a connection, and returns the status of the reply.
+fn serve_connection<S: Shelf>(
     rt: &HostRuntime,
     stream: &TcpStream,
     shelf: &mut S,
@@ -87,26 +100,21 @@ fn serve_stream<S: Shelf>(
         return Err(HttpFault::Write);
     };
     let status = serve_one(rt.alloc(), &mut reader, &mut writer, shelf)?;
-    if status == 400 || status == 501 {
-        linger(stream);
+    if status == BAD_REQUEST || status == NOT_IMPLEMENTED {
+        end_reply(stream);
     }
     Ok(status)
 }
 
-// How many reads of what a refused client still sends are taken, and how many milliseconds each may wait.
-const LAST_READS: u32 = 16;
-
-const LAST_WAIT: u64 = 100;
-
-// Ends a reply to a request that was not read whole. A connection that is closed over unread bytes is reset, and the
-// reply may be lost with it, so some of them are taken first.
-fn linger(stream: &TcpStream) {
+// Ends the reply to a request that was not read to its end, by a lingering close. A connection that is closed over
+// unread bytes is reset, and the client may lose the reply. So this ends our side first, and then reads some of them.
+fn end_reply(stream: &TcpStream) {
     let _ = stream.shutdown(Shutdown::Write);
-    let _ = stream.set_read_timeout(Some(Duration::from_millis(LAST_WAIT)));
-    let mut dropped = [0u8; 4_096];
+    let _ = stream.set_read_timeout(Some(Duration::from_millis(LINGERING_WAIT)));
+    let mut unread = [0u8; 4_096];
     let mut reader = stream;
-    for _ in 0..LAST_READS {
-        match reader.read(&mut dropped) {
+    for _ in 0..LINGERING_READS {
+        match reader.read(&mut unread) {
             Ok(0) => break,
             Ok(_) => {}
             Err(_) => break,

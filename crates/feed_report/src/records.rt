@@ -3,9 +3,10 @@ use csv::{ByteRecord, Reader};
 use feed_kbart::{DayRange, Label, REQUIRED_LABELS, Reason, record_reader, trim_spaces};
 use std::alloc::{AllocError, Global};
 
-const LABELS: u8 = 13;
+// How many labels there are: their places are 1 to this.
+const LABEL_COUNT: u8 = 13;
 
-const MARK: [u8; 3] = [0xEF, 0xBB, 0xBF];
+const BYTE_ORDER_MARK: [u8; 3] = [0xEF, 0xBB, 0xBF];
 
 /// A cursor over the records of a list, which begins at the header.
 #[derive(Drop)]
@@ -13,24 +14,29 @@ pub struct Records<'a> {
     text: &'a [u8],
     reader: Reader<&'a [u8]>,
     fields: ByteRecord,
-    places: Vec<Option<usize>>,
+    // The column of each label, in the order of their places.
+    columns: Vec<Option<usize>>,
+    // The number of the current record, and its line.
     number: u32,
     line: usize,
-    counted: usize,
+    // How many bytes of the text come before that line.
+    passed: usize,
 }
 
 impl<'a> Records<'a> {
     /// Reads the header of a list, which is UTF-8 and begins with at most one byte-order mark.
-    pub fn of(alloc: Global, text: &'a [u8]) -> Result<Records<'a>, AllocError> {
-        let text = text.strip_prefix(MARK.as_slice()).unwrap_or(text);
+    pub fn new(alloc: Global, text: &'a [u8]) -> Result<Records<'a>, AllocError> {
+        let text = text
+            .strip_prefix(BYTE_ORDER_MARK.as_slice())
+            .unwrap_or(text);
         let mut records = Records {
             text,
             reader: record_reader(alloc, text)?,
             fields: ByteRecord::new(alloc),
-            places: Vec::new(alloc),
+            columns: Vec::new(alloc),
             number: 0,
             line: 1,
-            counted: 0,
+            passed: 0,
         };
         match records.read_header() {
             Ok(()) => Ok(records),
@@ -40,9 +46,9 @@ impl<'a> Records<'a> {
 
     fn read_header(&mut self) -> Result<(), AllocError> {
         self.go_to(1)?;
-        for place in 1..=LABELS {
+        for place in 1..=LABEL_COUNT {
             let column = Label::of_place(place).and_then(|label| column_of(&self.fields, label));
-            self.places.push(column)?;
+            self.columns.push(column)?;
         }
         Ok(())
     }
@@ -59,19 +65,22 @@ impl<'a> Records<'a> {
         Ok(())
     }
 
-    // Counts the lines from the record before to this one. The lines between them are empty.
+    // Counts the lines from the record before to the current one, and the empty lines between them.
     fn count_lines(&mut self) {
         let read = match self.fields.position() {
             Some(position) => position.byte() as usize,
             None => 0,
         };
-        let rest = self.text.get(self.counted..).unwrap_or(&[]);
-        let before = read.saturating_sub(self.counted);
+        let rest = self.text.get(self.passed..).unwrap_or(&[]);
+        let before = read.saturating_sub(self.passed);
         let skipped = rest.get(before..).unwrap_or(&[]);
-        let empty = skipped.iter().take_while(|byte| ends_line(**byte)).count();
-        let passed = before.saturating_add(empty).min(rest.len());
-        self.line = self.line.saturating_add(line_ends(&rest[..passed]));
-        self.counted = self.counted.saturating_add(passed);
+        let empty = skipped
+            .iter()
+            .take_while(|byte| is_line_end(**byte))
+            .count();
+        let more = before.saturating_add(empty).min(rest.len());
+        self.line = self.line.saturating_add(count_line_ends(&rest[..more]));
+        self.passed = self.passed.saturating_add(more);
     }
 
     /// Returns the line of the file on which the record begins, counted from 1.
@@ -82,14 +91,14 @@ impl<'a> Records<'a> {
     /// Returns the record's field under a label, which is empty if there is none.
     pub fn field(&self, label: Label) -> &[u8] {
         let at = usize::from(label.place()).saturating_sub(1);
-        match self.places.get(at) {
+        match self.columns.get(at) {
             Some(Some(column)) => self.fields.get(*column).unwrap_or(&[]),
             _ => &[],
         }
     }
 
-    /// Returns whether a reason is about the field under a label.
-    pub fn offends(&self, label: Label, reason: Reason) -> bool {
+    /// Returns whether a reason to skip the record is about its field under a label.
+    pub fn is_at_fault(&self, label: Label, reason: Reason) -> bool {
         match (reason, label) {
             (Reason::OtherType | Reason::NoIsbn, Label::PublicationType) => true,
             (Reason::NoIssn | Reason::NoIsbn, Label::PrintIdentifier | Label::OnlineIdentifier) =>
@@ -108,7 +117,7 @@ impl<'a> Records<'a> {
         let mut missing = Vec::new(alloc);
         for label in REQUIRED_LABELS {
             let at = usize::from(label.place()).saturating_sub(1);
-            if let Some(None) = self.places.get(at) {
+            if let Some(None) = self.columns.get(at) {
                 missing.push(label)?;
             }
         }
@@ -121,16 +130,16 @@ fn column_of(header: &ByteRecord, label: Label) -> Option<usize> {
     header.iter().position(|field| label.is(field))
 }
 
-fn ends_line(byte: u8) -> bool {
+fn is_line_end(byte: u8) -> bool {
     byte == b'\r' || byte == b'\n'
 }
 
 // Counts the line ends of a text. CR LF is one.
-fn line_ends(text: &[u8]) -> usize {
+fn count_line_ends(text: &[u8]) -> usize {
     let mut ends = 0usize;
     let mut before = 0u8;
     for byte in text {
-        if ends_line(*byte) && (*byte != b'\n' || before != b'\r') {
+        if is_line_end(*byte) && (*byte != b'\n' || before != b'\r') {
             ends = ends.saturating_add(1);
         }
         before = *byte;

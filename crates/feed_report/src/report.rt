@@ -1,10 +1,11 @@
 //! The report on a checked list in each of its forms.
+use crate::json::{Commas, write_text};
 use crate::records::Records;
 use feed_kbart::{Aside, BadFile, FileCount, Label, Reason};
 use feed_names::ReleaseName;
 use std::alloc::{AllocError, Global};
-use std::io::{ErrorKind, Write};
-use std::{io, str};
+use std::io;
+use std::io::Write;
 
 // The reasons, in the order in which they are checked.
 const REASONS: [Reason; 5] = [
@@ -15,8 +16,8 @@ const REASONS: [Reason; 5] = [
     Reason::Reversed,
 ];
 
-// The labels whose fields a reason may be about.
-const JUDGED: [Label; 5] = [
+// The labels of the fields that a reason may be about.
+const CHECKED_LABELS: [Label; 5] = [
     Label::PublicationType,
     Label::PrintIdentifier,
     Label::OnlineIdentifier,
@@ -27,12 +28,12 @@ const JUDGED: [Label; 5] = [
 /// The form of a report.
 #[derive(Clone, Copy, Debug, PartialEq, Eq)]
 pub enum Form {
-    /// A line for the release, one for the rows, and one for each record that is set aside.
+    /// A line for the release, one for the rows, and one for each record that is skipped.
     Lines,
     /// One line for each list.
     Summary,
-    /// As `Lines`, and below each record its line in the file, its title and the fields that it is set aside for; below
-    /// a bad file each required label that it lacks.
+    /// As `Lines`, and below each record its line in the file, its title and the fields that are the reason; below a
+    /// bad file each required label that it lacks.
     Explained,
     /// One JSON object on a line for each list, with the contents of `Explained`.
     Json,
@@ -45,7 +46,7 @@ impl Form {
     }
 }
 
-/// A list that is reported: its name, the form, and its text if the form quotes it.
+/// The list that a report is on: its name, the form, and its text if the form quotes it.
 #[derive(Clone, Copy)]
 pub struct Report<'a> {
     pub alloc: Global,
@@ -102,7 +103,7 @@ impl Report<'_> {
     fn print_explained<O: Write>(&self, out: &mut O, count: &FileCount) -> io::Result<()> {
         print_rows(out, count)?;
         out.write_all(b"\n")?;
-        let mut records = Records::of(self.alloc, self.text)?;
+        let mut records = Records::new(self.alloc, self.text)?;
         self.print_explanations(out, &mut records, count.aside())
     }
 
@@ -110,9 +111,9 @@ impl Report<'_> {
         &self,
         out: &mut O,
         records: &mut Records<'_>,
-        aside: &[Aside],
+        skipped: &[Aside],
     ) -> io::Result<()> {
-        for record in aside {
+        for record in skipped {
             self.print_explanation(out, records, *record)?;
         }
         Ok(())
@@ -122,27 +123,28 @@ impl Report<'_> {
         &self,
         out: &mut O,
         records: &mut Records<'_>,
-        aside: Aside,
+        skipped: Aside,
     ) -> io::Result<()> {
-        let Aside { number, reason } = aside;
+        let Aside { number, reason } = skipped;
         records.go_to(number)?;
         let line = records.line();
         write!(out, "aside {number} {reason}\n  line {line} ")?;
-        self.print_quoted(out, records.field(Label::PublicationTitle))?;
+        write_text(self.alloc, out, records.field(Label::PublicationTitle))?;
         out.write_all(b"\n")?;
-        self.print_offending(out, records, reason)
+        self.print_fields(out, records, reason)
     }
 
-    fn print_offending<O: Write>(
+    // Prints the fields of the current record that a reason is about.
+    fn print_fields<O: Write>(
         &self,
         out: &mut O,
         records: &Records<'_>,
         reason: Reason,
     ) -> io::Result<()> {
-        for label in JUDGED {
-            if records.offends(label, reason) {
+        for label in CHECKED_LABELS {
+            if records.is_at_fault(label, reason) {
                 write!(out, "  {label} ")?;
-                self.print_quoted(out, records.field(label))?;
+                write_text(self.alloc, out, records.field(label))?;
                 out.write_all(b"\n")?;
             }
         }
@@ -153,8 +155,9 @@ impl Report<'_> {
         self.print_json_name(out)?;
         let rows = count.rows();
         write!(out, "\"rows\":{rows},\"aside\":[")?;
-        let mut records = Records::of(self.alloc, self.text)?;
-        self.print_json_records(out, &mut records, count.aside())
+        let mut records = Records::new(self.alloc, self.text)?;
+        self.print_json_records(out, &mut records, count.aside())?;
+        out.write_all(b"]}\n")
     }
 
     // Prints the beginning of an object. A release's name has no character that JSON escapes.
@@ -168,50 +171,51 @@ impl Report<'_> {
         &self,
         out: &mut O,
         records: &mut Records<'_>,
-        aside: &[Aside],
+        skipped: &[Aside],
     ) -> io::Result<()> {
-        let mut comma = "";
-        for record in aside {
-            self.print_json_record(out, records, *record, comma)?;
-            comma = ",";
+        let mut commas = Commas::new();
+        for record in skipped {
+            commas.write(out)?;
+            self.print_json_record(out, records, *record)?;
         }
-        out.write_all(b"]}\n")
+        Ok(())
     }
 
     fn print_json_record<O: Write>(
         &self,
         out: &mut O,
         records: &mut Records<'_>,
-        aside: Aside,
-        comma: &str,
+        skipped: Aside,
     ) -> io::Result<()> {
-        let Aside { number, reason } = aside;
+        let Aside { number, reason } = skipped;
         records.go_to(number)?;
         let line = records.line();
         write!(
             out,
-            "{comma}{{\"number\":{number},\"line\":{line},\"reason\":\"{reason}\",\"title\":"
+            "{{\"number\":{number},\"line\":{line},\"reason\":\"{reason}\",\"title\":"
         )?;
-        self.print_quoted(out, records.field(Label::PublicationTitle))?;
-        self.print_json_values(out, records, reason)
+        write_text(self.alloc, out, records.field(Label::PublicationTitle))?;
+        out.write_all(b",\"values\":{")?;
+        self.print_json_fields(out, records, reason)?;
+        out.write_all(b"}}")
     }
 
-    fn print_json_values<O: Write>(
+    // Prints the members of an object that has the fields of the current record that a reason is about.
+    fn print_json_fields<O: Write>(
         &self,
         out: &mut O,
         records: &Records<'_>,
         reason: Reason,
     ) -> io::Result<()> {
-        out.write_all(b",\"values\":{")?;
-        let mut comma = "";
-        for label in JUDGED {
-            if records.offends(label, reason) {
-                write!(out, "{comma}\"{label}\":")?;
-                self.print_quoted(out, records.field(label))?;
-                comma = ",";
+        let mut commas = Commas::new();
+        for label in CHECKED_LABELS {
+            if records.is_at_fault(label, reason) {
+                commas.write(out)?;
+                write!(out, "\"{label}\":")?;
+                write_text(self.alloc, out, records.field(label))?;
             }
         }
-        out.write_all(b"}}")
+        Ok(())
     }
 
     fn print_broken_summary<O: Write>(&self, out: &mut O, why: BadFile) -> io::Result<()> {
@@ -227,10 +231,11 @@ impl Report<'_> {
 
     fn print_broken_json<O: Write>(&self, out: &mut O, why: BadFile) -> io::Result<()> {
         self.print_json_name(out)?;
-        let word = word_of(why);
-        write!(out, "\"broken\":\"{word}\",\"labels\":[")?;
+        let name = name_of(why);
+        write!(out, "\"broken\":\"{name}\",\"labels\":[")?;
         let labels = self.labels_of(why)?;
-        print_json_labels(out, &labels)
+        print_json_labels(out, &labels)?;
+        out.write_all(b"]}\n")
     }
 
     // Returns the labels that a bad header is about: all that it lacks, or the first that appears twice.
@@ -243,17 +248,8 @@ impl Report<'_> {
     }
 
     fn missing_labels(&self) -> Result<Vec<Label>, AllocError> {
-        let records = Records::of(self.alloc, self.text)?;
+        let records = Records::new(self.alloc, self.text)?;
         records.missing_labels(self.alloc)
-    }
-
-    // Prints a text as a JSON string, with each control character escaped.
-    fn print_quoted<O: Write>(&self, out: &mut O, text: &[u8]) -> io::Result<()> {
-        let text = str::from_utf8(text).unwrap_or("");
-        match serde_json::to_vec(self.alloc, &text) {
-            Ok(quoted) => out.write_all(&quoted),
-            Err(_) => Err(io::Error::from(ErrorKind::OutOfMemory)),
-        }
     }
 }
 
@@ -272,10 +268,10 @@ fn print_rows<O: Write>(out: &mut O, count: &FileCount) -> io::Result<()> {
     write!(out, "rows {rows} aside {aside}")
 }
 
-// Prints how many records each reason holds for, if it holds for any.
-fn print_reasons<O: Write>(out: &mut O, aside: &[Aside]) -> io::Result<()> {
+// Prints the number of records that are skipped for each reason that any is skipped for.
+fn print_reasons<O: Write>(out: &mut O, skipped: &[Aside]) -> io::Result<()> {
     for reason in REASONS {
-        let count = count_of(aside, reason);
+        let count = count_of(skipped, reason);
         if count > 0 {
             write!(out, " {reason} {count}")?;
         }
@@ -283,8 +279,8 @@ fn print_reasons<O: Write>(out: &mut O, aside: &[Aside]) -> io::Result<()> {
     Ok(())
 }
 
-fn count_of(aside: &[Aside], reason: Reason) -> usize {
-    aside
+fn count_of(skipped: &[Aside], reason: Reason) -> usize {
+    skipped
         .iter()
         .filter(|record| record.reason == reason)
         .count()
@@ -298,16 +294,16 @@ fn print_labels<O: Write>(out: &mut O, labels: &[Label]) -> io::Result<()> {
 }
 
 fn print_json_labels<O: Write>(out: &mut O, labels: &[Label]) -> io::Result<()> {
-    let mut comma = "";
+    let mut commas = Commas::new();
     for label in labels {
-        write!(out, "{comma}\"{label}\"")?;
-        comma = ",";
+        commas.write(out)?;
+        write!(out, "\"{label}\"")?;
     }
-    out.write_all(b"]}\n")
+    Ok(())
 }
 
-// Returns why a file is bad, without the label.
-fn word_of(why: BadFile) -> &'static str {
+// Returns the name of a fault, without the label that it is about.
+fn name_of(why: BadFile) -> &'static str {
     match why {
         BadFile::NotUtf8 => "NotUtf8",
         BadFile::TwoMarks => "TwoMarks",

@@ -1,58 +1,61 @@
 //! kbfeed: a feed of holdings lists of serials and books (KBART files) for a fleet of OpenURL link resolvers.
 #![tactic(auto)]
 
-use clap::error::ErrorKind;
-use feed_cli::{From, Request};
+use feed_cli::{Request, Source, parse};
 use feed_command::{FAILED, Faults, MISUSED, take_stack};
 use feed_database::run_at;
-use feed_file_commands::{answer_file, check_files, serve_folder};
+use feed_file_commands::{Check, answer_file, check_files, serve_folder};
 use feed_node_commands::{Command, Upstream};
 use feed_replay::replay_input;
 use std::io;
-use std::io::{BufWriter, Write};
+use std::io::{BufWriter, ErrorKind, Write};
 use std::process::ExitCode;
 
 fn main(rt: HostRuntime) -> ExitCode {
-    ExitCode::from(status_of(&rt))
+    ExitCode::from(run(&rt))
 }
 
-// Reads the arguments, does what they ask for, and returns the exit status.
-fn status_of(rt: &HostRuntime) -> u8 {
+// Reads the arguments, runs the command and returns the exit status.
+fn run(rt: &HostRuntime) -> u8 {
     let mut faults = Faults::new(rt.stderr(), false);
-    let words = match words_of(rt) {
-        Ok(words) => words,
-        Err(error) if error.kind() == io::ErrorKind::InvalidData => {
-            return faults.report("a word is not UTF-8", MISUSED);
+    match read_arguments(rt) {
+        Ok(arguments) => run_arguments(rt, &arguments, &mut faults),
+        Err(error) if error.kind() == ErrorKind::InvalidData => {
+            faults.report("an argument is not UTF-8", MISUSED)
         }
-        Err(_) => return faults.report("Memory", FAILED),
-    };
-    if !take_stack(words.len()) {
+        Err(_) => faults.report("Memory", FAILED),
+    }
+}
+
+fn read_arguments(rt: &HostRuntime) -> io::Result<Vec<String>> {
+    let arguments = std::env::args(rt)?.collect(rt.alloc())?;
+    Ok(arguments)
+}
+
+fn run_arguments<F: Write + Drop>(
+    rt: &HostRuntime,
+    arguments: &[String],
+    faults: &mut Faults<F>,
+) -> u8 {
+    if !take_stack(arguments.len()) {
         return faults.report("Memory", FAILED);
     }
-    let (is_verbose, request) = match feed_cli::read(rt.alloc(), words.as_slice()) {
-        Ok(read) => read,
-        Err(error) if error.kind() == ErrorKind::OutOfMemory => {
-            return faults.report("Memory", FAILED);
-        }
-        Err(error) => {
-            let status = error.exit_code() as u8;
-            return faults.check_print(error.print(rt), status);
-        }
-    };
-    let mut faults = Faults::new(rt.stderr(), is_verbose);
-    let Ok(mut out) = BufWriter::new(rt.alloc(), io::writer(rt)) else {
-        return faults.report("Memory", FAILED);
-    };
-    run(rt, request, &mut out, &mut faults)
+    match parse(rt.alloc(), arguments) {
+        Ok((is_verbose, request)) => match BufWriter::new(rt.alloc(), io::writer(rt)) {
+            Ok(mut out) => run_request(
+                rt,
+                request,
+                &mut out,
+                &mut Faults::new(rt.stderr(), is_verbose),
+            ),
+            Err(_) => faults.report("Memory", FAILED),
+        },
+        Err(usage) if usage.is_out_of_memory() => faults.report("Memory", FAILED),
+        Err(usage) => faults.check_print(usage.print(rt), usage.status()),
+    }
 }
 
-fn words_of(rt: &HostRuntime) -> io::Result<Vec<String>> {
-    let words = std::env::args(rt)?.collect(rt.alloc())?;
-    Ok(words)
-}
-
-// Runs a command and returns the exit status.
-fn run<O: Write, F: Write + Drop>(
+fn run_request<O: Write, F: Write + Drop>(
     rt: &HostRuntime,
     request: Request<'_>,
     out: &mut O,
@@ -63,23 +66,30 @@ fn run<O: Write, F: Write + Drop>(
         Request::Check {
             files,
             name,
-            manner,
-        } => return check_files(rt, &files, name, manner.form, manner.strict, out, faults),
+            options,
+        } => {
+            let check = Check {
+                name,
+                form: options.form,
+                is_strict: options.is_strict,
+            };
+            return check_files(rt, &files, check, out, faults);
+        }
         Request::Answer { file, query } => return answer_file(rt, file, query, out, faults),
-        Request::Serve { dir, addr, serving } => {
-            return serve_folder(rt, dir, addr, serving.count, serving.time, out, faults);
+        Request::Serve { dir, addr, options } => {
+            return serve_folder(rt, dir, addr, options.count, options.time, out, faults);
         }
         Request::Node {
             db,
             addr,
-            hosting,
-            from,
+            options,
+            source,
         } => {
             let node = Command::Node {
                 addr,
-                clients: hosting.clients,
-                time: hosting.time,
-                upstream: upstream_of(from),
+                clients: options.clients,
+                time: options.time,
+                upstream: upstream_of(source),
             };
             (db, node)
         }
@@ -87,13 +97,13 @@ fn run<O: Write, F: Write + Drop>(
             db,
             addr,
             name,
-            fetching,
+            options,
         } => {
             let fetch = Command::Fetch {
                 addr,
                 name,
-                piece: fetching.piece,
-                time: fetching.time,
+                piece: options.piece,
+                time: options.time,
             };
             (db, fetch)
         }
@@ -104,13 +114,15 @@ fn run<O: Write, F: Write + Drop>(
     run_at(rt, db, command, out, faults)
 }
 
-fn upstream_of(from: Option<From<'_>>) -> Option<Upstream<'_>> {
-    match from {
-        Some(From { addr, token, piece }) => Some(Upstream {
-            addr,
-            token_file: token,
-            piece,
-        }),
-        None => None,
-    }
+fn upstream_of(source: Option<Source<'_>>) -> Option<Upstream<'_>> {
+    let Source {
+        addr,
+        token_file,
+        piece,
+    } = source?;
+    Some(Upstream {
+        addr,
+        token_file,
+        piece,
+    })
 }
