@@ -11,32 +11,32 @@ use Rattle.feed_world.specs.declared.line.Why.{Why}
 use Rattle.feed_world.specs.declared.line.Why.TheVariants.{Feed, NoNode, Down}
 use Rattle.feed_world.specs.World.{WorldEvent, Line, IsDown, Refused, Replied, Restarted, Stopped}
 use Rattle.feed_keep.specs.Cause.{HasFailed, HasFailedSince}
-use Rattle.feed_core.specs.Counts.{AreCounted, IsToldOf, TellsDevice, node_of}
+use Rattle.feed_core.specs.Counts.{AreCounted, HasDeviceFailure, IsDeviceFailure, node_of}
 use Rattle.feed_keep.proofs.Failed.{failed_since, failed_before, failed_later}
 use Rattle.feed_model.specs.History.{History}
 use Rattle.feed_core.specs.Step.{IsAway}
-use Rattle.feed_core.proofs.Going.{AreOf}
+use Rattle.feed_core.proofs.WorldSteps.{AreOf}
 use Rattle.feed_core.proofs.Shows.{map-push}
 
 -- no failure is reported for a node from this number on
-pub counted_same : {M : Type 0} (is_told : ℕ → Type 0) (failed : M → ℕ) (node : ℕ) (xs : List M) → ((i : ℕ) → is_told i → i < node) → AreCounted is_told failed failed node xs xs
-counted_same is_told failed node [] before = tt
-counted_same is_told failed node (x ∷ xs) before = (omega arith, (λ t. absurd (omega (arith, before node t))), counted_same is_told failed (suc node) xs (λ i t. omega (arith, before i t)))
+pub counted_same : {M : Type 0} (has_failure : ℕ → Type 0) (failed : M → ℕ) (node : ℕ) (xs : List M) → ((i : ℕ) → has_failure i → i < node) → AreCounted has_failure failed failed node xs xs
+counted_same has_failure failed node [] before = tt
+counted_same has_failure failed node (x ∷ xs) before = (omega arith, (λ t. absurd (omega (arith, before node t))), counted_same has_failure failed (suc node) xs (λ i t. omega (arith, before i t)))
 
 -- a failure is reported for at most one node
-pub counted_set : {M : Type 0} (is_told : ℕ → Type 0) (failed : M → ℕ) (node : ℕ) (xs : List M) (at : ℕ) (x z : M) → at < length xs → x ≡ get_or xs at x → failed x ≤ failed z
-    → (is_told (node + at) → HasFailedSince (failed x) (failed z)) → ((i : ℕ) → is_told i → i ≡ node + at) → AreCounted is_told failed failed node xs (slice_set xs at z)
-counted_set is_told failed node [] at x z lt is le rise one = absurd (omega arith)
-counted_set {M} is_told failed node (y ∷ ys) zero x z lt is le rise one = (
+pub counted_set : {M : Type 0} (has_failure : ℕ → Type 0) (failed : M → ℕ) (node : ℕ) (xs : List M) (at : ℕ) (x z : M) → at < length xs → x ≡ get_or xs at x → failed x ≤ failed z
+    → (has_failure (node + at) → HasFailedSince (failed x) (failed z)) → ((i : ℕ) → has_failure i → i ≡ node + at) → AreCounted has_failure failed failed node xs (slice_set xs at z)
+counted_set has_failure failed node [] at x z lt is le rise one = absurd (omega arith)
+counted_set {M} has_failure failed node (y ∷ ys) zero x z lt is le rise one = (
   subst (λ (v : M). failed v ≤ failed z) is le,
-  (λ t. subst (λ (v : M). HasFailedSince (failed v) (failed z)) is (rise (subst is_told (omega arith) t))),
-  counted_same is_told failed
+  (λ t. subst (λ (v : M). HasFailedSince (failed v) (failed z)) is (rise (subst has_failure (omega arith) t))),
+  counted_same has_failure failed
       (suc node) ys (λ i t. omega (arith, one i t)),
 )
-counted_set is_told failed node (y ∷ ys) (suc at) x z lt is le rise one = (
+counted_set has_failure failed node (y ∷ ys) (suc at) x z lt is le rise one = (
   omega arith,
   (λ t. absurd (omega (arith, one node t))),
-  counted_set is_told failed (suc node) ys at x z (omega arith) is le (λ t. rise (subst is_told (omega arith) t))
+  counted_set has_failure failed (suc node) ys at x z (omega arith) is le (λ t. rise (subst has_failure (omega arith) t))
       (λ i t. omega (arith, one i t)),
 )
 
@@ -70,58 +70,58 @@ counted_of f g node (x ∷ xs) [] a = absurd a
 counted_of f g node (x ∷ xs) (y ∷ ys) a = (a.0, (λ t. absurd t), counted_of f g (suc node) xs ys a.1)
 
 -- the lines that report a failure
-pub replied_not : (reply : Reply) → ¬ (TellsDevice (Replied reply))
+pub replied_not : (reply : Reply) → ¬ (IsDeviceFailure (Replied reply))
 replied_not reply (inl e) = absurd (cc)
 replied_not reply (inr e) = absurd (cc)
 
-pub restarted_not : ¬ (TellsDevice Restarted)
+pub restarted_not : ¬ (IsDeviceFailure Restarted)
 restarted_not (inl e) = absurd (cc)
 restarted_not (inr e) = absurd (cc)
 
-pub stopped_not : ¬ (TellsDevice Stopped)
+pub stopped_not : ¬ (IsDeviceFailure Stopped)
 stopped_not (inl e) = absurd (cc)
 stopped_not (inr e) = absurd (cc)
 
-pub tells_down : (cause : KeepFault) → TellsDevice (IsDown cause) → cause ≡ causes.Device
+pub tells_down : (cause : KeepFault) → IsDeviceFailure (IsDown cause) → cause ≡ causes.Device
 tells_down cause (inl e) = cc
 tells_down cause (inr e) = absurd (cc)
 
-pub tells_refused : (why : Why) → TellsDevice (Refused why) → why ≡ Feed refusals.Device
+pub tells_refused : (why : Why) → IsDeviceFailure (Refused why) → why ≡ Feed refusals.Device
 tells_refused why (inl e) = absurd (cc)
 tells_refused why (inr e) = cc
 
-pub no_node_not : ¬ (TellsDevice (Refused NoNode))
+pub no_node_not : ¬ (IsDeviceFailure (Refused NoNode))
 no_node_not t = let e = tells_refused NoNode t in absurd (cc)
 
-pub down_not : ¬ (TellsDevice (Refused Down))
+pub down_not : ¬ (IsDeviceFailure (Refused Down))
 down_not t = let e = tells_refused Down t in absurd (cc)
 
 -- the reason why nothing happens at a node is not a device failure, unless that is what arrived
-pub away_not : {M T : Type 0} (stands : M → Bool → History → Type 0) (xs : List M) (node : ℕ) (arrived : Result T Why) (reason : Why) → (arrived ≡ Err (Feed refusals.Device) → ⊥)
-    → IsAway stands xs node arrived reason → ¬ (TellsDevice (Refused reason))
-away_not stands xs node arrived reason sent (inl none) told = no_node_not (subst (λ (r : Why). TellsDevice (Refused r)) none.0 told)
-away_not stands xs node arrived reason sent (inr (inl away)) told = sent (away.told ∙ ap Err (tells_refused reason told))
-away_not stands xs node arrived reason sent (inr (inr down)) told = down_not (subst (λ (r : Why). TellsDevice (Refused r)) down.0 told)
+pub away_not : {M T : Type 0} (has_state : M → Bool → History → Type 0) (xs : List M) (node : ℕ) (arrived : Result T Why) (reason : Why) → (arrived ≡ Err (Feed refusals.Device) → ⊥)
+    → IsAway has_state xs node arrived reason → ¬ (IsDeviceFailure (Refused reason))
+away_not has_state xs node arrived reason sent (inl none) to_event = no_node_not (subst (λ (r : Why). IsDeviceFailure (Refused r)) none.0 to_event)
+away_not has_state xs node arrived reason sent (inr (inl away)) to_event = sent (away.to_event ∙ ap Err (tells_refused reason to_event))
+away_not has_state xs node arrived reason sent (inr (inr down)) to_event = down_not (subst (λ (r : Why). IsDeviceFailure (Refused r)) down.0 to_event)
 
 -- nothing changes
-pub counted_stay : {M : Type 0} (failed : M → ℕ) (xs : List M) (node : ℕ) (line : Line) → ¬ (TellsDevice line) → AreCounted (λ i. (i ≡ node) × TellsDevice line) failed failed 1 xs xs
-counted_stay failed xs node line not = counted_same (λ i. (i ≡ node) × TellsDevice line) failed 1 xs (λ i t. absurd (not t.1))
+pub counted_stay : {M : Type 0} (failed : M → ℕ) (xs : List M) (node : ℕ) (line : Line) → ¬ (IsDeviceFailure line) → AreCounted (λ i. (i ≡ node) × IsDeviceFailure line) failed failed 1 xs xs
+counted_stay failed xs node line not = counted_same (λ i. (i ≡ node) × IsDeviceFailure line) failed 1 xs (λ i t. absurd (not t.1))
 
 -- one node changes
 pub counted_step : {M : Type 0} (failed : M → ℕ) (xs ys : List M) (at node : ℕ) (x z : M) (line : Line) → at < length xs → x ≡ get_or xs at x → ys ≡ slice_set xs at z
-    → node ≡ at + 1 → failed x ≤ failed z → (TellsDevice line → HasFailed (failed x) (failed z)) → AreCounted (λ i. (i ≡ node) × TellsDevice line) failed failed 1 xs ys
+    → node ≡ at + 1 → failed x ≤ failed z → (IsDeviceFailure line → HasFailed (failed x) (failed z)) → AreCounted (λ i. (i ≡ node) × IsDeviceFailure line) failed failed 1 xs ys
 counted_step {M} failed xs ys at node x z line lt is now number le rise =
-    subst (λ (zs : List M). AreCounted (λ i. (i ≡ node) × TellsDevice line) failed failed 1 xs zs) (sym now)
-    (counted_set (λ i. (i ≡ node) × TellsDevice line) failed 1 xs at x z lt is le (λ t. failed_since (failed x) (failed z) (rise t.1)) (λ i t. omega (arith, t.0, number)))
+    subst (λ (zs : List M). AreCounted (λ i. (i ≡ node) × IsDeviceFailure line) failed failed 1 xs zs) (sym now)
+    (counted_set (λ i. (i ≡ node) × IsDeviceFailure line) failed 1 xs at x z lt is le (λ t. failed_since (failed x) (failed z) (rise t.1)) (λ i t. omega (arith, t.0, number)))
 
 -- the node of an event
-pub counted_at : {M : Type 0} (failed : M → ℕ) (xs ys : List M) (node : ℕ) (line : Line) → AreCounted (λ i. (i ≡ node) × TellsDevice line) failed failed 1 xs ys
-    → AreCounted (λ i. (Some node ≡ Some i) × TellsDevice line) failed failed 1 xs ys
-counted_at failed xs ys node line a = counted_as (λ i. (i ≡ node) × TellsDevice line) (λ i. (Some node ≡ Some i) × TellsDevice line) failed failed 1 xs ys
+pub counted_at : {M : Type 0} (failed : M → ℕ) (xs ys : List M) (node : ℕ) (line : Line) → AreCounted (λ i. (i ≡ node) × IsDeviceFailure line) failed failed 1 xs ys
+    → AreCounted (λ i. (Some node ≡ Some i) × IsDeviceFailure line) failed failed 1 xs ys
+counted_at failed xs ys node line a = counted_as (λ i. (i ≡ node) × IsDeviceFailure line) (λ i. (Some node ≡ Some i) × IsDeviceFailure line) failed failed 1 xs ys
     (λ i t. (let e = t.0 in (cc, t.1))) a
 
-told_more : (es : List WorldEvent) (ls : List Line) (e : WorldEvent) (l : Line) (node : ℕ) → length es ≡ length ls → IsToldOf (es ++ e ∷ []) (ls ++ l ∷ []) node
-    → IsToldOf es ls node ⊎ ((node_of e ≡ Some node) × TellsDevice l)
+told_more : (es : List WorldEvent) (ls : List Line) (e : WorldEvent) (l : Line) (node : ℕ) → length es ≡ length ls → HasDeviceFailure (es ++ e ∷ []) (ls ++ l ∷ []) node
+    → HasDeviceFailure es ls node ⊎ ((node_of e ≡ Some node) × IsDeviceFailure l)
 told_more [] [] e l node same (inl t) = inr t
 told_more [] [] e l node same (inr t) = absurd t
 told_more [] (y ∷ ys) e l node same t = absurd (omega (arith, same))
@@ -129,19 +129,20 @@ told_more (x ∷ xs) [] e l node same t = absurd (omega (arith, same))
 told_more (x ∷ xs) (y ∷ ys) e l node same (inl t) = inl (inl t)
 told_more (x ∷ xs) (y ∷ ys) e l node same (inr t) = pick (told_more xs ys e l node (omega (arith, same)) t)
   where
-    pick : IsToldOf xs ys node ⊎ ((node_of e ≡ Some node) × TellsDevice l) → (((node_of x ≡ Some node) × TellsDevice y) ⊎ IsToldOf xs ys node)
-        ⊎ ((node_of e ≡ Some node) × TellsDevice l)
+    pick : HasDeviceFailure xs ys node ⊎ ((node_of e ≡ Some node) × IsDeviceFailure l) → (((node_of x ≡ Some node) × IsDeviceFailure y) ⊎ HasDeviceFailure xs ys node)
+        ⊎ ((node_of e ≡ Some node) × IsDeviceFailure l)
     pick (inl u) = inl (inr u)
     pick (inr u) = inr u
 
 -- one more event and one more line
-pub counted_more : {M E L : Type 0} (failed : M → ℕ) (told : E → WorldEvent) (shown : L → Line) (es : List E) (ls ks : List L) (i : ℕ) (e : E) (l : L) (xs ys zs : List M)
-    → e ≡ get_or es i e → i < length es → length ls ≡ i → ks ≡ ls ++ l ∷ [] → AreCounted (IsToldOf (map told (take i es)) (map shown ls)) failed failed 1 xs ys
-    → AreCounted (λ n. (node_of (told e) ≡ Some n) × TellsDevice (shown l)) failed failed 1 ys zs → AreCounted (IsToldOf (map told (take (i + 1) es)) (map shown ks)) failed failed 1 xs zs
-counted_more {M} {E} failed told shown es ls ks i e l xs ys zs at lt same is before step =
-    rw (is, take_more es i e lt, map-push told (take i es) (get_or es i e), map-push shown ls l)
-    (subst (λ (x : E). AreCounted (IsToldOf (map told (take i es) ++ told x ∷ []) (map shown ls ++ shown l ∷ [])) failed failed 1 xs zs) at
-    (counted_as (λ n. IsToldOf (map told (take i es)) (map shown ls) n ⊎ ((node_of (told e) ≡ Some n) × TellsDevice (shown l)))
-    (IsToldOf (map told (take i es) ++ told e ∷ []) (map shown ls ++ shown l ∷ [])) failed failed 1 xs zs
-    (λ n t. told_more (map told (take i es)) (map shown ls) (told e) (shown l) n (omega (arith, length-map (take i es) told, length-map ls shown, length-take i es, lt, same)) t)
-    (counted_then (IsToldOf (map told (take i es)) (map shown ls)) (λ n. (node_of (told e) ≡ Some n) × TellsDevice (shown l)) failed failed failed 1 xs ys zs before step)))
+pub counted_more : {M E L : Type 0} (failed : M → ℕ) (to_event : E → WorldEvent) (shown : L → Line) (es : List E) (ls ks : List L) (i : ℕ) (e : E) (l : L) (xs ys zs : List M)
+    → e ≡ get_or es i e → i < length es → length ls ≡ i → ks ≡ ls ++ l ∷ [] → AreCounted (HasDeviceFailure (map to_event (take i es)) (map shown ls)) failed failed 1 xs ys
+    → AreCounted (λ n. (node_of (to_event e) ≡ Some n) × IsDeviceFailure (shown l)) failed failed 1 ys zs
+    → AreCounted (HasDeviceFailure (map to_event (take (i + 1) es)) (map shown ks)) failed failed 1 xs zs
+counted_more {M} {E} failed to_event shown es ls ks i e l xs ys zs at lt same is before step =
+    rw (is, take_more es i e lt, map-push to_event (take i es) (get_or es i e), map-push shown ls l)
+    (subst (λ (x : E). AreCounted (HasDeviceFailure (map to_event (take i es) ++ to_event x ∷ []) (map shown ls ++ shown l ∷ [])) failed failed 1 xs zs) at
+    (counted_as (λ n. HasDeviceFailure (map to_event (take i es)) (map shown ls) n ⊎ ((node_of (to_event e) ≡ Some n) × IsDeviceFailure (shown l)))
+    (HasDeviceFailure (map to_event (take i es) ++ to_event e ∷ []) (map shown ls ++ shown l ∷ [])) failed failed 1 xs zs
+    (λ n t. told_more (map to_event (take i es)) (map shown ls) (to_event e) (shown l) n (omega (arith, length-map (take i es) to_event, length-map ls shown, length-take i es, lt, same)) t)
+    (counted_then (HasDeviceFailure (map to_event (take i es)) (map shown ls)) (λ n. (node_of (to_event e) ≡ Some n) × IsDeviceFailure (shown l)) failed failed failed 1 xs ys zs before step)))

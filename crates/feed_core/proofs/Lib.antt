@@ -3,6 +3,6 @@ mod Shows
 mod Empty
 mod Shelves
 mod Asked
-mod Going
+mod WorldSteps
 mod Counts
 mod Wrong

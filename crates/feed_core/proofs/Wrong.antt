@@ -3,11 +3,11 @@ use Rattle.std.proofs.Common.{ℕ, [], ◌∷◌, inl, inr, refl, arith}
 use Rattle.feed_model.specs.declared.keep_fault.KeepFault.TheVariants.{Device}
 use Rattle.feed_world.specs.World.{Restart, IsDown}
 use Rattle.feed_keep.specs.Cause.{HasFailedSince}
-use Rattle.feed_core.specs.Counts.{AreCounted, IsToldOf}
+use Rattle.feed_core.specs.Counts.{AreCounted, HasDeviceFailure}
 
 -- the second of two nodes does not start: its device failed
 abbrev second_is_down : ℕ → Type 0
-second_is_down = IsToldOf (Restart 2 ∷ []) (IsDown Device ∷ [])
+second_is_down = HasDeviceFailure (Restart 2 ∷ []) (IsDown Device ∷ [])
 
 never : HasFailedSince 0 0 → ⊥
 never (inl rose) = absurd (omega (arith, rose))

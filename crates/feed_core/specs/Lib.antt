@@ -5,7 +5,7 @@ pub use Rattle.feed_model.specs.Change
 pub use Rattle.feed_keep.specs.Shown
 pub use Rattle.feed_keep.specs.Cause
 pub use Rattle.feed_keep.specs.Arranged
-pub use Rattle.feed_releases.specs.Told
+pub use Rattle.feed_releases.specs.Events
 pub use Rattle.feed_releases.specs.ReleaseValue
 pub use Rattle.feed_releases.specs.NextRange
 pub use Rattle.feed_releases.specs.Answered

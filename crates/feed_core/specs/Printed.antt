@@ -5,5 +5,5 @@ use Rattle.feed_world.specs.Shown.{shown_line}
 use Rattle.feed_world.specs.LineText.{line_text}
 
 -- the text of a line of the code
-abbrev pub printed : code_line.Line → List ℕ
-printed line = line_text (shown_line line)
+abbrev pub text_of_line : code_line.Line → List ℕ
+text_of_line line = line_text (shown_line line)

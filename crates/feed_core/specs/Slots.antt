@@ -14,9 +14,9 @@ IsSlotClean clean (Down keeper) = clean keeper
 
 -- the node is up, and its feed's releases are a content of the history; or it is down, and so is its keeper's content,
 -- which is a list of records
-abbrev pub SlotStands : {K : Type 0} {k : Ghosts K} → (K → Content) → (K → Type 0) → Slot K k → Bool → History → Type 0
-SlotStands content listed (Up feed) up h = (up ≡ true) × IsContent (recorded feed) h
-SlotStands content listed (Down keeper) up h = (up ≡ false) × IsContent (content keeper) h × ∥ listed keeper ∥₁
+abbrev pub HasSlotState : {K : Type 0} {k : Ghosts K} → (K → Content) → (K → Type 0) → Slot K k → Bool → History → Type 0
+HasSlotState content listed (Up feed) up h = (up ≡ true) × IsContent (recorded feed) h
+HasSlotState content listed (Down keeper) up h = (up ≡ false) × IsContent (content keeper) h × ∥ listed keeper ∥₁
 
 -- the number of failures of its keeper's device
 abbrev pub slot_failed : {K : Type 0} {k : Ghosts K} → (K → ℕ) → Slot K k → ℕ

@@ -12,11 +12,13 @@ use Rattle.feed_model.specs.Content.{Content, IsContent}
 use Rattle.feed_keep.specs.Cause.{HasFailed}
 use Rattle.feed_core.specs.Nodes.{IsStartRefused, shown_arrived}
 use Rattle.feed_releases.specs.declared.event.Event as code_event
+use Rattle.feed_releases.specs.declared.feed.Point.{Point}
+use Rattle.feed_releases.specs.declared.feed.Point.TheVariants.{Before, After}
 use Rattle.feed_core.specs.declared.world.ReplayFault.{ReplayFault}
 use Rattle.feed_core.specs.declared.world.ReplayFault.TheVariants as faults
 use Rattle.feed_world.specs.declared.line.Why as why
 use Rattle.feed_world.specs.declared.line.Why.TheVariants as whys
-use Rattle.feed_world.specs.World.{World, Node, WorldEvent, Sent, Line, Shelf, Happens, Shows, arriving, start, file_on}
+use Rattle.feed_world.specs.World.{World, Node, WorldEvent, StopBefore, StopAfter, Sent, Line, Shelf, Happens, Shows, arriving, start, file_on}
 
 -- the content of each keeper is as promised
 abbrev pub AllClean : {M : Type 0} → (M → Type 0) → List M → Type 0
@@ -25,59 +27,64 @@ AllClean clean (x ∷ xs) = clean x × AllClean clean xs
 
 -- each node has the history of the world's node
 abbrev pub AreNodes : {M : Type 0} → (M → Bool → History → Type 0) → List M → List Node → Type 0
-AreNodes stands [] [] = Unit {0}
-AreNodes stands (x ∷ xs) (y ∷ ys) = stands x y.up y.history × AreNodes stands xs ys
-AreNodes stands [] (y ∷ ys) = ⊥
-AreNodes stands (x ∷ xs) [] = ⊥
+AreNodes has_state [] [] = Unit {0}
+AreNodes has_state (x ∷ xs) (y ∷ ys) = has_state x y.up y.history × AreNodes has_state xs ys
+AreNodes has_state [] (y ∷ ys) = ⊥
+AreNodes has_state (x ∷ xs) [] = ⊥
 
 -- exactly one node is replaced, the law holds for it, and it was clean before if it is now
-pub record Changes {M : Type 0} (clean : M → Type 0) (law : M → M → Type 0) (old new : List M) (at : ℕ) : Type 0 where
+pub record IsReplaced {M : Type 0} (clean : M → Type 0) (law : M → M → Type 0) (old new : List M) (at : ℕ) : Type 0 where
   pub before : M
   pub after : M
   pub was : before ≡ slice_index_or old at before
   pub now : new ≡ slice_set old at after
-  pub still : clean after → clean before
-  pub goes : law before after
+  pub was_clean : clean after → clean before
+  pub holds : law before after
 
 -- the node with this number is at this place, and up
-pub record IsReady {M : Type 0} (stands : M → Bool → History → Type 0) (nodes : List M) (node at : ℕ) : Type 0 where
+pub record IsReady {M : Type 0} (has_state : M → Bool → History → Type 0) (nodes : List M) (node at : ℕ) : Type 0 where
   pub number : node ≡ suc at
   pub within : at < length nodes
-  pub up : (x : M) → x ≡ slice_index_or nodes at x → (up : Bool) (h : History) → stands x up h → up ≡ true
+  pub up : (x : M) → x ≡ slice_index_or nodes at x → (up : Bool) (h : History) → has_state x up h → up ≡ true
 
 -- a node has this number, and this is why nothing arrives at it
 pub record IsTurnedAway {M T : Type 0} (nodes : List M) (node : ℕ) (arrived : Result T why.Why) (reason : why.Why) : Type 0 where
   pub at : ℕ
   pub number : node ≡ suc at
   pub within : at < length nodes
-  pub told : arrived ≡ Err reason
+  pub refused : arrived ≡ Err reason
 
 -- a node has this number, and it is down
-pub record IsNotUp {M T : Type 0} (stands : M → Bool → History → Type 0) (nodes : List M) (node : ℕ) (arrived : Result T why.Why) : Type 0 where
+pub record IsNotUp {M T : Type 0} (has_state : M → Bool → History → Type 0) (nodes : List M) (node : ℕ) (arrived : Result T why.Why) : Type 0 where
   pub at : ℕ
   pub number : node ≡ suc at
   pub within : at < length nodes
   pub what : T
   pub came : arrived ≡ Ok what
-  pub up : (x : M) → x ≡ slice_index_or nodes at x → (up : Bool) (h : History) → stands x up h → up ≡ false
+  pub up : (x : M) → x ≡ slice_index_or nodes at x → (up : Bool) (h : History) → has_state x up h → up ≡ false
 
 -- why nothing happens at a node: no node has this number, nothing arrives, or it is down
 abbrev pub IsAway : {M T : Type 0} → (M → Bool → History → Type 0) → List M → ℕ → Result T why.Why → why.Why → Type 0
-IsAway stands nodes node arrived reason =
+IsAway has_state nodes node arrived reason =
     ((reason ≡ whys.NoNode) × ((node ≡ 0) ⊎ (length nodes < node)))
-    ⊎ (IsTurnedAway nodes node arrived reason ⊎ ((reason ≡ whys.Down) × IsNotUp stands nodes node arrived))
+    ⊎ (IsTurnedAway nodes node arrived reason ⊎ ((reason ≡ whys.Down) × IsNotUp has_state nodes node arrived))
 
 -- If all nodes are clean now, they were clean before; and from each world that they represent, whose published files
 -- fit, the event may be shown by this line and lead to a world that they represent.
-abbrev pub Goes : {M : Type 0} → (M → Type 0) → (M → Bool → History → Type 0) → (Shelf → Type 0) → List M → List M → WorldEvent → Line → Type 0
-Goes clean stands fits old new event line =
-    AllClean clean new → AllClean clean old × ((w : World) → fits w.shelf → AreNodes stands old w.nodes → (v : World) × Happens w event line v × (v.shelf ≡ w.shelf)
-    × AreNodes stands new v.nodes)
+abbrev pub IsNodeStep : {M : Type 0} → (M → Type 0) → (M → Bool → History → Type 0) → (Shelf → Type 0) → List M → List M → WorldEvent → Line → Type 0
+IsNodeStep clean has_state fits old new event line =
+    AllClean clean new → AllClean clean old × ((w : World) → fits w.shelf → AreNodes has_state old w.nodes → (v : World) × Happens w event line v × (v.shelf ≡ w.shelf)
+    × AreNodes has_state new v.nodes)
 
 -- the same for a message to a node, given what arrives of it
-abbrev pub Takes : {M : Type 0} → (M → Type 0) → (M → Bool → History → Type 0) → Result code_event.Event why.Why → List M → List M → (Sent → WorldEvent) → Line → Type 0
-Takes clean stands arrived old new telling line =
-    (sent : Sent) → Goes clean stands (λ shelf. arriving shelf sent ≡ shown_arrived arrived) old new (telling sent) line
+abbrev pub IsMessageStep : {M : Type 0} → (M → Type 0) → (M → Bool → History → Type 0) → Result code_event.Event why.Why → List M → List M → (Sent → WorldEvent) → Line → Type 0
+IsMessageStep clean has_state arrived old new telling line =
+    (sent : Sent) → IsNodeStep clean has_state (λ shelf. arriving shelf sent ≡ shown_arrived arrived) old new (telling sent) line
+
+-- the event of a world at which a node stops, at this point of what is sent to it
+abbrev pub stop_event : Point → ℕ → Sent → WorldEvent
+stop_event Before node sent = StopBefore node sent
+stop_event After node sent = StopAfter node sent
 
 -- the file found by the text of a name
 abbrev pub file_at : List (Bor (List ℕ) × Bor (List ℕ)) → Bor (List ℕ) → Option (List ℕ)
@@ -88,17 +95,17 @@ abbrev pub IsShelf : List (Bor (List ℕ) × Bor (List ℕ)) → Shelf → Type 
 IsShelf files shelf = (n : Name) (key : Bor (List ℕ)) → IsName key.now n → file_on shelf n ≡ file_at files key
 
 -- the same, with a shelf on which more may be published
-abbrev pub GoesTo : {M : Type 0} → (M → Type 0) → (M → Bool → History → Type 0) → List (Bor (List ℕ) × Bor (List ℕ)) → List (Bor (List ℕ) × Bor (List ℕ)) → List M
+abbrev pub IsWorldStep : {M : Type 0} → (M → Type 0) → (M → Bool → History → Type 0) → List (Bor (List ℕ) × Bor (List ℕ)) → List (Bor (List ℕ) × Bor (List ℕ)) → List M
     → List M → WorldEvent → Line → Type 0
-GoesTo clean stands before files old new event line =
-    AllClean clean new → AllClean clean old × ((w : World) → IsShelf before w.shelf → AreNodes stands old w.nodes → (v : World) × Happens w event line v × IsShelf files v.shelf
-    × AreNodes stands new v.nodes)
+IsWorldStep clean has_state before files old new event line =
+    AllClean clean new → AllClean clean old × ((w : World) → IsShelf before w.shelf → AreNodes has_state old w.nodes → (v : World) × Happens w event line v × IsShelf files v.shelf
+    × AreNodes has_state new v.nodes)
 
 -- If all nodes are clean, the lines so far show the events so far, and the nodes represent the world that they lead to.
 abbrev pub HasShown : {M : Type 0} → (M → Type 0) → (M → Bool → History → Type 0) → ℕ → List WorldEvent → List Line → List (Bor (List ℕ) × Bor (List ℕ)) → List M
     → Type 0
-HasShown clean stands count events lines files nodes =
-    AllClean clean nodes → (w : World) × Shows (start count) events lines w × IsShelf files w.shelf × AreNodes stands nodes w.nodes
+HasShown clean has_state count events lines files nodes =
+    AllClean clean nodes → (w : World) × Shows (start count) events lines w × IsShelf files w.shelf × AreNodes has_state nodes w.nodes
 
 -- each keeper has a content of the history of the world's node
 abbrev pub AreKept : {K : Type 0} → (K → Content) → List K → List Node → Type 0

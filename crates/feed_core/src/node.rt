@@ -3,9 +3,9 @@ ghost use Rattle.std.specs.Prelude.{◌≡◌, ◌≢◌, ◌∷◌, ℕ, Bool, 
 ghost use Rattle.feed_model.specs.History.{History, Answer, Reports};
 ghost use Rattle.feed_model.specs.Reply.{IsRight};
 ghost use Rattle.feed_keep.specs.Cause.{HasCounted, IsCounted};
-ghost use Rattle.feed_releases.specs.Told.{told};
+ghost use Rattle.feed_releases.specs.Events.{event_of};
 ghost use Rattle.feed_world.specs.World.{IsAsked};
-ghost use Rattle.feed_core.specs.Nodes.{Comes, shown_outcome};
+ghost use Rattle.feed_core.specs.Nodes.{IsReopened, shown_outcome};
 
 use feed_model::{KeepFault, Refusal, Reply};
 use feed_names::ReleaseName;
@@ -19,43 +19,44 @@ pub trait Node {
     ghost clean: { Self → Type 0 };
 
     /// Whether it is up, and its history.
-    ghost stands: { Self → Bool → History → Type 0 };
+    ghost has_state: { Self → Bool → History → Type 0 };
 
     /// The number of failures of its keeper's device.
     ghost failed: { Self → ℕ };
 
     fn is_up(&self) -> bool
-        ensures { (up : Bool) (h : History) → stands self.now up h → result ≡ up };
+        ensures { (up : Bool) (h : History) → has_state self.now up h → result ≡ up };
 
     /// Returns the active release of a package.
     fn report(&self, package: &[u8]) -> Option<&ReleaseName>
-        ensures { (h : History) → stands self.now true h → Reports h «package».now
+        ensures { (h : History) → has_state self.now true h → Reports h «package».now
             (option_map (λ name. name.now) result) };
 
     /// Returns the text that answers a query about a package, or why there is none.
     fn ask(&self, alloc: Global, package: &[u8], query: &[u8]) -> Result<Vec<u8>, Why>
-        ensures asked { (h : History) → stands self.now true h
+        ensures answered { (h : History) → has_state self.now true h
             → IsAsked h «package».now query.now (shown_outcome (λ text. text.items) result) }
         ensures device { result ≢ Err (Why.Feed Refusal.Device) };
 
     /// Handles an event.
     fn handle(&mut self, event: &Event<'_>) -> Result<Reply, Refusal>
         ensures clean { clean self.new → clean self.old }
-        ensures right { (h : History) → stands self.old true h → IsRight h (told event.now) result
-            × stands self.new true ((told event.now, result) ∷ h) }
+        ensures right { (h : History) → has_state self.old true h → IsRight h (event_of event.now) result
+            × has_state self.new true ((event_of event.now, result) ∷ h) }
         ensures device { IsCounted (result ≡ Err Refusal.Device) (failed self.old) (failed self.new) };
 
     /// Opens the node again, as after a stop between two events or before the commit of one.
     fn restart(self, alloc: Global) -> (Self, Result<(), KeepFault>)
         ensures clean { clean result.0 → clean self }
-        ensures same { (up : Bool) (h : History) → clean result.0 → stands self up h
-            → Comes (stands result.0) h result.1 }
+        ensures same { (up : Bool) (h : History) → clean result.0 → has_state self up h
+            → IsReopened (has_state result.0) h result.1 }
         ensures device { IsCounted (result.1 ≡ Err KeepFault.Device) (failed self) (failed result.0) };
 
     /// Stops the node after the commit of an event and before its answer, and opens it again.
     fn stop_after(self, alloc: Global, event: &Event<'_>) -> (Self, Result<(), KeepFault>)
         ensures clean { clean result.0 → clean self }
-        ensures right { (h : History) → clean result.0 → stands self true h → (answer : Answer)
-            × IsRight h (told event.now) answer × Comes (stands result.0) ((told event.now, answer) ∷ h) result.1 }
+        ensures right { (h : History) → clean result.0 → has_state self true h → (answer : Answer)
+            × IsRight h (event_of event.now) answer
+            × IsReopened (has_state result.0) ((event_of event.now, answer) ∷ h) result.1 }
         ensures device { HasCounted (result.1 ≡ Err KeepFault.Device) (failed self) (failed result.0) };
 }

@@ -4,9 +4,9 @@ ghost use Rattle.feed_model.specs.History.{History};
 ghost use Rattle.feed_model.specs.Content.{IsContent};
 ghost use Rattle.feed_keep.specs.Cause.{HasFailed, IsCounted};
 ghost use Rattle.feed_releases.specs.Feeds.{recorded};
-ghost use Rattle.feed_core.specs.Slots.{IsSlotClean, SlotStands, slot_failed};
+ghost use Rattle.feed_core.specs.Slots.{IsSlotClean, HasSlotState, slot_failed};
 ghost use Rattle.feed_world.specs.World.{IsAsked};
-ghost use Rattle.feed_core.specs.Nodes.{Comes, IsStartRefused, shown_outcome};
+ghost use Rattle.feed_core.specs.Nodes.{IsReopened, IsStartRefused, shown_outcome};
 
 use crate::node::Node;
 use crate::text::Text;
@@ -33,7 +33,7 @@ pub enum Slot<K: Keep + Drop> {
 impl<K: Keep + Drop> Slot<K> {
     /// Starts a node on an empty keeper. The error returns a keeper that is not empty.
     pub fn start(alloc: Global, keeper: K) -> Result<Slot<K>, OpenFault<K>>
-        ensures ok { IfOk result (λ s. SlotStands K.content K.listed s true []) }
+        ensures ok { IfOk result (λ s. HasSlotState K.content K.listed s true []) }
         ensures counted { IfOk result (λ s. K.failed keeper ≤ slot_failed K.failed s) }
         ensures err { IfErr result (λ fault. fault.cause ≢ KeepFault.Memory
             → IsStartRefused (HasFailed (K.failed keeper) (K.failed fault.keeper)) (K.clean fault.keeper)
@@ -60,7 +60,7 @@ impl<K: Keep + Drop> Slot<K> {
     /// Returns the keeper of the node, up or down.
     pub fn into_keeper(self) -> K
         ensures clean { K.clean result → IsSlotClean K.clean self }
-        ensures content { K.clean result → (up : Bool) (h : History) → SlotStands K.content K.listed self up h
+        ensures content { K.clean result → (up : Bool) (h : History) → HasSlotState K.content K.listed self up h
             → IsContent (K.content result) h × ∥ K.listed result ∥₁ }
         ensures failed { K.failed result ≡ slot_failed K.failed self }
     {
@@ -72,10 +72,10 @@ impl<K: Keep + Drop> Slot<K> {
 }
 
 // Opens a keeper, and returns why the node is down if this fails.
-fn opened<K: Keep + Drop>(alloc: Global, keeper: K) -> (Slot<K>, Result<(), KeepFault>)
+fn open_slot<K: Keep + Drop>(alloc: Global, keeper: K) -> (Slot<K>, Result<(), KeepFault>)
     ensures clean { IsSlotClean K.clean result.0 → K.clean keeper }
     ensures same { (h : History) → IsSlotClean K.clean result.0 → IsContent (K.content keeper) h
-        → ∥ K.listed keeper ∥₁ → Comes (SlotStands K.content K.listed result.0) h result.1 }
+        → ∥ K.listed keeper ∥₁ → IsReopened (HasSlotState K.content K.listed result.0) h result.1 }
     ensures device { IsCounted (result.1 ≡ Err KeepFault.Device) (K.failed keeper) (slot_failed K.failed result.0) }
 {
     match Feed::open(alloc, keeper) {
@@ -87,7 +87,7 @@ fn opened<K: Keep + Drop>(alloc: Global, keeper: K) -> (Slot<K>, Result<(), Keep
 impl<K: Keep + Drop> Node for Slot<K> {
     ghost clean = { IsSlotClean K.clean };
 
-    ghost stands = { SlotStands K.content K.listed };
+    ghost has_state = { HasSlotState K.content K.listed };
 
     ghost failed = { slot_failed K.failed };
 
@@ -107,7 +107,7 @@ impl<K: Keep + Drop> Node for Slot<K> {
 
     fn ask(&self, alloc: Global, package: &[u8], query: &[u8]) -> Result<Vec<u8>, Why> {
         match self {
-            Slot::Up(feed) => asked(alloc, feed, package, query),
+            Slot::Up(feed) => answer_text(alloc, feed, package, query),
             Slot::Down(_) => Err(Why::Down),
         }
     }
@@ -120,25 +120,25 @@ impl<K: Keep + Drop> Node for Slot<K> {
     }
 
     fn restart(self, alloc: Global) -> (Slot<K>, Result<(), KeepFault>) {
-        opened(alloc, self.into_keeper())
+        open_slot(alloc, self.into_keeper())
     }
 
     fn stop_after(self, alloc: Global, event: &Event<'_>) -> (Slot<K>, Result<(), KeepFault>) {
         match self {
-            Slot::Up(feed) => opened(alloc, feed.stop_at(event, Point::After)),
-            Slot::Down(keeper) => opened(alloc, keeper),
+            Slot::Up(feed) => open_slot(alloc, feed.stop_at(event, Point::After)),
+            Slot::Down(keeper) => open_slot(alloc, keeper),
         }
     }
 }
 
 // Returns the text of a feed's answer. An error of the query takes precedence.
-fn asked<K: Keep + Drop>(
+fn answer_text<K: Keep + Drop>(
     alloc: Global,
     feed: &Feed<K>,
     package: &[u8],
     query: &[u8],
 ) -> Result<Vec<u8>, Why>
-    ensures asked { (h : History) → IsContent (recorded feed.now) h
+    ensures answered { (h : History) → IsContent (recorded feed.now) h
         → IsAsked h «package».now query.now (shown_outcome (λ text. text.items) result) }
     ensures device { result ≢ Err (Why.Feed Refusal.Device) }
 {

@@ -4,17 +4,17 @@ ghost use Rattle.std.specs.Prelude.{Bool, true, Ok, Err, IfOk, IfErr, IfSome};
 ghost use Rattle.std.specs.Prelude.{IfNone, insert, length, vec_len, vec_capacity};
 ghost use Rattle.feed_model.specs.History.{History, Answer};
 ghost use Rattle.feed_model.specs.Reply.{IsRight};
-ghost use Rattle.feed_world.specs.World.{Tell, Restart, StopBefore, StopAfter, Report, Ask};
+ghost use Rattle.feed_world.specs.World.{Tell, Restart, Report, Ask};
 ghost use Rattle.feed_world.specs.Shown.{shown_line};
 ghost use Rattle.feed_keep.specs.Cause.{HasCounted};
-ghost use Rattle.feed_core.specs.Counts.{IsCountedAt, TellsDevice};
-ghost use Rattle.feed_releases.specs.Told.{told};
-ghost use Rattle.feed_core.specs.Nodes.{Comes};
-ghost use Rattle.feed_core.specs.Step.{Changes, Goes, IsAway, IsReady, Takes};
+ghost use Rattle.feed_core.specs.Counts.{IsCountedAt, IsDeviceFailure};
+ghost use Rattle.feed_releases.specs.Events.{event_of};
+ghost use Rattle.feed_core.specs.Nodes.{HasStopped, IsReopened};
+ghost use Rattle.feed_core.specs.Step.{IsAway, IsMessageStep, IsNodeStep, IsReady, IsReplaced, stop_event};
 
 use crate::node::Node;
 use feed_model::{KeepFault, Refusal};
-use feed_releases::Event;
+use feed_releases::{Event, Point};
 use feed_world::{Line, Why};
 use std::alloc::{AllocError, Global};
 
@@ -38,8 +38,8 @@ fn ready_at<N: Node, T: Drop>(
     node: u64,
     arrived: Result<T, Why>,
 ) -> Result<(usize, T), Why>
-    ensures ready { IfOk result (λ ready. IsReady N.stands nodes.now node ready.0 × (arrived ≡ Ok ready.1)) }
-    ensures away { IfErr result (IsAway N.stands nodes.now node arrived) }
+    ensures ready { IfOk result (λ ready. IsReady N.has_state nodes.now node ready.0 × (arrived ≡ Ok ready.1)) }
+    ensures away { IfErr result (IsAway N.has_state nodes.now node arrived) }
 {
     let Some(at) = place(nodes.len(), node) else {
         return Err(Why::NoNode);
@@ -64,11 +64,15 @@ fn put_back<N: Node + Drop>(nodes: &mut Vec<N>, at: usize, node: N)
 }
 
 // Opens the node at a place again.
-fn reopened<N: Node + Drop>(alloc: Global, nodes: &mut Vec<N>, at: usize) -> Result<(), KeepFault>
+fn restart_node<N: Node + Drop>(
+    alloc: Global,
+    nodes: &mut Vec<N>,
+    at: usize,
+) -> Result<(), KeepFault>
     requires within { at < vec_len nodes.old }
-    ensures { Changes N.clean (λ x z. HasCounted (result ≡ Err KeepFault.Device) (N.failed x) (N.failed z)
-        × ((up : Bool) (h : History) → N.clean z → N.stands x up h
-        → Comes (N.stands z) h result)) nodes.old.items nodes.new.items at }
+    ensures { IsReplaced N.clean (λ x z. HasCounted (result ≡ Err KeepFault.Device) (N.failed x) (N.failed z)
+        × ((up : Bool) (h : History) → N.clean z → N.has_state x up h
+        → IsReopened (N.has_state z) h result)) nodes.old.items nodes.new.items at }
 {
     let (node, outcome) = nodes.remove(at).restart(alloc);
     put_back(nodes, at, node);
@@ -76,25 +80,44 @@ fn reopened<N: Node + Drop>(alloc: Global, nodes: &mut Vec<N>, at: usize) -> Res
 }
 
 // Stops the node at a place after the commit of an event, and opens it again.
-fn stopped_after<N: Node + Drop>(
+fn stop_node_after<N: Node + Drop>(
     alloc: Global,
     nodes: &mut Vec<N>,
     at: usize,
     event: &Event<'_>,
 ) -> Result<(), KeepFault>
     requires within { at < vec_len nodes.old }
-    ensures { Changes N.clean (λ x z. HasCounted (result ≡ Err KeepFault.Device) (N.failed x) (N.failed z)
-        × ((h : History) → N.clean z → N.stands x true h → (answer : Answer) × IsRight h (told event.now) answer
-        × Comes (N.stands z) ((told event.now, answer) ∷ h) result)) nodes.old.items nodes.new.items at }
+    ensures { IsReplaced N.clean (λ x z. HasCounted (result ≡ Err KeepFault.Device) (N.failed x) (N.failed z)
+        × ((h : History) → N.clean z → N.has_state x true h → (answer : Answer) × IsRight h (event_of event.now) answer
+        × IsReopened (N.has_state z) ((event_of event.now, answer) ∷ h) result)) nodes.old.items nodes.new.items at }
 {
     let (node, outcome) = nodes.remove(at).stop_after(alloc, event);
     put_back(nodes, at, node);
     outcome
 }
 
+// Stops the node at a place before or after the commit of an event, and opens it again.
+fn stop_node<N: Node + Drop>(
+    alloc: Global,
+    nodes: &mut Vec<N>,
+    at: usize,
+    event: &Event<'_>,
+    point: Point,
+) -> Result<(), KeepFault>
+    requires within { at < vec_len nodes.old }
+    ensures { IsReplaced N.clean (λ x z. HasCounted (result ≡ Err KeepFault.Device) (N.failed x) (N.failed z)
+        × ((h : History) → N.clean z → N.has_state x true h
+        → HasStopped (N.has_state z) point (event_of event.now) h result)) nodes.old.items nodes.new.items at }
+{
+    match point {
+        Point::Before => restart_node(alloc, nodes, at),
+        Point::After => stop_node_after(alloc, nodes, at, event),
+    }
+}
+
 /// Opens a node again.
 pub(crate) fn restart_at<N: Node + Drop>(alloc: Global, nodes: &mut Vec<N>, node: u64) -> Line
-    ensures step { Goes N.clean N.stands (λ _. Unit {0}) nodes.old.items nodes.new.items (Restart node)
+    ensures step { IsNodeStep N.clean N.has_state (λ _. Unit {0}) nodes.old.items nodes.new.items (Restart node)
         (shown_line result) }
     ensures count { length nodes.new.items ≡ length nodes.old.items }
     ensures device { IsCountedAt N.failed node (shown_line result) nodes.old.items nodes.new.items }
@@ -102,7 +125,7 @@ pub(crate) fn restart_at<N: Node + Drop>(alloc: Global, nodes: &mut Vec<N>, node
     let Some(at) = place(nodes.len(), node) else {
         return Line::Refused(Why::NoNode);
     };
-    match reopened(alloc, nodes, at) {
+    match restart_node(alloc, nodes, at) {
         Ok(()) => Line::Restarted,
         Err(cause) => Line::Down(cause),
     }
@@ -114,7 +137,7 @@ pub(crate) fn tell_at<N: Node>(
     node: u64,
     arrived: Result<Event<'_>, Why>,
 ) -> Line
-    ensures step { Takes N.clean N.stands arrived.entry nodes.old.items nodes.new.items (Tell node)
+    ensures step { IsMessageStep N.clean N.has_state arrived.entry nodes.old.items nodes.new.items (Tell node)
         (shown_line result) }
     ensures count { length nodes.new.items ≡ length nodes.old.items }
     ensures device { arrived.entry ≢ Err (Why.Feed Refusal.Device)
@@ -130,38 +153,16 @@ pub(crate) fn tell_at<N: Node>(
     }
 }
 
-/// Stops a node before the commit of what arrives at it, and opens it again.
-pub(crate) fn stop_before_at<N: Node + Drop>(
+/// Stops a node before or after the commit of what arrives at it, and opens it again.
+pub(crate) fn stop_at<N: Node + Drop>(
     alloc: Global,
     nodes: &mut Vec<N>,
     node: u64,
     arrived: Result<Event<'_>, Why>,
+    point: Point,
 ) -> Line
-    ensures step { Takes N.clean N.stands arrived.entry nodes.old.items nodes.new.items (StopBefore node)
-        (shown_line result) }
-    ensures count { length nodes.new.items ≡ length nodes.old.items }
-    ensures device { arrived.entry ≢ Err (Why.Feed Refusal.Device)
-        → IsCountedAt N.failed node (shown_line result) nodes.old.items nodes.new.items }
-{
-    let (at, _event) = match ready_at(nodes, node, arrived) {
-        Ok(ready) => ready,
-        Err(why) => return Line::Refused(why),
-    };
-    match reopened(alloc, nodes, at) {
-        Ok(()) => Line::Stopped,
-        Err(cause) => Line::Down(cause),
-    }
-}
-
-/// Stops a node after the commit of what arrives at it, and opens it again.
-pub(crate) fn stop_after_at<N: Node + Drop>(
-    alloc: Global,
-    nodes: &mut Vec<N>,
-    node: u64,
-    arrived: Result<Event<'_>, Why>,
-) -> Line
-    ensures step { Takes N.clean N.stands arrived.entry nodes.old.items nodes.new.items (StopAfter node)
-        (shown_line result) }
+    ensures step { IsMessageStep N.clean N.has_state arrived.entry nodes.old.items nodes.new.items
+        (stop_event point node) (shown_line result) }
     ensures count { length nodes.new.items ≡ length nodes.old.items }
     ensures device { arrived.entry ≢ Err (Why.Feed Refusal.Device)
         → IsCountedAt N.failed node (shown_line result) nodes.old.items nodes.new.items }
@@ -170,7 +171,7 @@ pub(crate) fn stop_after_at<N: Node + Drop>(
         Ok(ready) => ready,
         Err(why) => return Line::Refused(why),
     };
-    match stopped_after(alloc, nodes, at, &event) {
+    match stop_node(alloc, nodes, at, &event, point) {
         Ok(()) => Line::Stopped,
         Err(cause) => Line::Down(cause),
     }
@@ -178,9 +179,9 @@ pub(crate) fn stop_after_at<N: Node + Drop>(
 
 /// Reports the active release of a package at a node.
 pub(crate) fn report_at<N: Node>(nodes: &[N], node: u64, package: &[u8]) -> Result<Line, AllocError>
-    ensures step { IfOk result (λ line. Goes N.clean N.stands (λ _. Unit {0})
+    ensures step { IfOk result (λ line. IsNodeStep N.clean N.has_state (λ _. Unit {0})
         nodes.now nodes.now (Report node «package».now) (shown_line line)) }
-    ensures device { IfOk result (λ line. ¬ (TellsDevice (shown_line line))) }
+    ensures device { IfOk result (λ line. ¬ (IsDeviceFailure (shown_line line))) }
 {
     let (at, ()) = match ready_at(nodes, node, Ok(())) {
         Ok(ready) => ready,
@@ -200,9 +201,9 @@ pub(crate) fn ask_at<N: Node>(
     package: &[u8],
     query: &[u8],
 ) -> Line
-    ensures step { Goes N.clean N.stands (λ _. Unit {0})
+    ensures step { IsNodeStep N.clean N.has_state (λ _. Unit {0})
         nodes.now nodes.now (Ask node «package».now query.now) (shown_line result) }
-    ensures device { ¬ (TellsDevice (shown_line result)) }
+    ensures device { ¬ (IsDeviceFailure (shown_line result)) }
 {
     let (at, ()) = match ready_at(nodes, node, Ok(())) {
         Ok(ready) => ready,

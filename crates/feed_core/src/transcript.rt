@@ -2,7 +2,7 @@
 ghost use Rattle.std.specs.Prelude.{◌≡◌, OnOk};
 ghost use Rattle.std.specs.List.{flat_map};
 ghost use Rattle.std.specs.Io.KnownBytes.{Appends};
-ghost use Rattle.feed_core.specs.Printed.{printed};
+ghost use Rattle.feed_core.specs.Printed.{text_of_line};
 ghost use Rattle.feed_core.specs.Transcripts.{keepers_of, lines_of};
 
 use feed_answer::WriteFault;
@@ -34,7 +34,7 @@ impl<K: Drop> Transcript<K> {
     /// Writes the lines, each ended by LF. If the writer fails, it is unspecified how much it has accepted.
     pub fn write<W: Write>(&self, writer: &mut W) -> Result<(), WriteFault>
         ensures { OnOk result (Appends (W.contents writer.old) (W.contents writer.new)
-            (flat_map printed (lines_of self.now))) }
+            (flat_map text_of_line (lines_of self.now))) }
     {
         for line in &self.lines {
             match line.write(writer) {

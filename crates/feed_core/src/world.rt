@@ -8,24 +8,21 @@ ghost use Rattle.feed_world.specs.World.{World, start, Shows};
 ghost use Rattle.feed_world.specs.Shown.{shown_event, shown_line};
 ghost use Rattle.feed_world.specs.Headline.{IsHeadline};
 ghost use Rattle.feed_keep.specs.Cause.{HasFailed};
-ghost use Rattle.feed_core.specs.Counts.{AreCounted, IsToldOf, TellsDevice, node_of};
-ghost use Rattle.feed_core.specs.Slots.{IsSlotClean, SlotStands, slot_failed};
+ghost use Rattle.feed_core.specs.Counts.{AreCounted, HasDeviceFailure, IsDeviceFailure, node_of};
+ghost use Rattle.feed_core.specs.Slots.{IsSlotClean, HasSlotState, slot_failed};
 ghost use Rattle.feed_core.specs.Transcripts.{keepers_of, lines_of};
-ghost use Rattle.feed_core.specs.Step.{AllClean, AreNodes, AreKept, GoesTo, IsStart};
+ghost use Rattle.feed_core.specs.Step.{AllClean, AreNodes, AreKept, IsWorldStep, IsStart};
 
 use crate::node::Node;
 use crate::shelf::Shelf;
 use crate::slot::Slot;
-use crate::step::{ask_at, report_at, restart_at, stop_after_at, stop_before_at, tell_at};
+use crate::step::{ask_at, report_at, restart_at, stop_at, tell_at};
 use crate::transcript::Transcript;
 use feed_keep::Keep;
 use feed_model::KeepFault;
-use feed_releases::OpenFault;
-use feed_world::{Line, WorldEvent, headline};
+use feed_releases::{OpenFault, Point};
+use feed_world::{Line, NODE_LIMIT, WorldEvent, headline};
 use std::alloc::{AllocError, Global};
-
-/// The most nodes that a world may have. It has at least one.
-pub const NODE_LIMIT: usize = 16;
 
 /// Why a replay could not begin or continue.
 #[derive(Drop)]
@@ -51,7 +48,7 @@ pub fn replay<K: Keep + Drop>(
     ensures headline { IfOk result (λ t. AllClean K.clean (keepers_of t)
         → IsHeadline (map shown_event events.now) (map shown_line (lines_of t))) }
     ensures count { IfOk result (λ t. length (lines_of t) ≡ length events.now) }
-    ensures device { IfOk result (λ t. AreCounted (IsToldOf (map shown_event events.now)
+    ensures device { IfOk result (λ t. AreCounted (HasDeviceFailure (map shown_event events.now)
         (map shown_line (lines_of t))) K.failed K.failed 1 keepers.items (keepers_of t)) }
     ensures nodes { ((vec_len keepers ≡ 0) ⊎ (16 < vec_len keepers)) ↔ IsErrOf result ReplayFault.Nodes }
     ensures start { IfErr result (λ fault. IsStart K.clean K.content K.listed K.failed keepers.items fault) }
@@ -64,7 +61,7 @@ pub fn replay<K: Keep + Drop>(
     };
     let nodes = start_all(alloc, keepers)?;
     match show_all(alloc, nodes, events) {
-        Ok((lines, nodes)) => Ok(Transcript::of(lines, keepers_back(room, nodes))),
+        Ok((lines, nodes)) => Ok(Transcript::of(lines, collect_keepers(room, nodes))),
         Err(_) => Err(ReplayFault::Memory),
     }
 }
@@ -72,7 +69,7 @@ pub fn replay<K: Keep + Drop>(
 // Starts nodes on empty keepers.
 fn start_all<K: Keep + Drop>(alloc: Global, keepers: Vec<K>) -> Result<Vec<Slot<K>>, ReplayFault<K>>
     ensures count { IfOk result (λ nodes. length nodes.items ≡ vec_len keepers) }
-    ensures started { IfOk result (λ nodes. AreNodes (SlotStands K.content K.listed) nodes.items
+    ensures started { IfOk result (λ nodes. AreNodes (HasSlotState K.content K.listed) nodes.items
         (start (length nodes.items)).nodes) }
     ensures counted { IfOk result (λ nodes. AreCounted (λ _. ⊥) K.failed
         (slot_failed K.failed) 1 keepers.items nodes.items) }
@@ -89,14 +86,14 @@ fn start_all<K: Keep + Drop>(alloc: Global, keepers: Vec<K>) -> Result<Vec<Slot<
                     return Err(ReplayFault::Memory);
                 };
             }
-            Err(fault) => return Err(not_started(fault, nodes.len() + 1)),
+            Err(fault) => return Err(start_fault(fault, nodes.len() + 1)),
         }
     }
     Ok(nodes)
 }
 
 // Returns why the node with this number did not start.
-fn not_started<K: Keep + Drop>(fault: OpenFault<K>, node: usize) -> ReplayFault<K>
+fn start_fault<K: Keep + Drop>(fault: OpenFault<K>, node: usize) -> ReplayFault<K>
     ensures { ((fault.cause ≡ KeepFault.Memory) × (result ≡ ReplayFault.Memory))
         ⊎ ((fault.cause ≢ KeepFault.Memory) × (result ≡ ReplayFault.Start node fault.keeper)) }
 {
@@ -110,12 +107,12 @@ fn not_started<K: Keep + Drop>(fault: OpenFault<K>, node: usize) -> ReplayFault<
 }
 
 // Returns the keepers of the nodes, in their order, in the vector that was reserved for them.
-fn keepers_back<K: Keep + Drop>(room: Vec<K>, nodes: Vec<Slot<K>>) -> Vec<K>
+fn collect_keepers<K: Keep + Drop>(room: Vec<K>, nodes: Vec<Slot<K>>) -> Vec<K>
     requires empty { room.items ≡ [] }
     requires room { vec_len nodes ≤ vec_capacity room }
     ensures clean { AllClean K.clean result.items → AllClean (IsSlotClean K.clean) nodes.items }
     ensures kept { AllClean K.clean result.items → (w : World)
-        → AreNodes (SlotStands K.content K.listed) nodes.items w.nodes → AreKept K.content result.items w.nodes }
+        → AreNodes (HasSlotState K.content K.listed) nodes.items w.nodes → AreKept K.content result.items w.nodes }
     ensures counted { AreCounted (λ _. ⊥) (slot_failed K.failed) K.failed 1 nodes.items result.items }
 {
     let mut keepers = room;
@@ -131,13 +128,13 @@ fn show_all<N: Node + Drop>(
     nodes: Vec<N>,
     events: &[WorldEvent],
 ) -> Result<(Vec<Line>, Vec<N>), AllocError>
-    requires { AreNodes N.stands nodes.items (start (vec_len nodes)).nodes }
+    requires { AreNodes N.has_state nodes.items (start (vec_len nodes)).nodes }
     ensures shown { IfOk result (λ t. AllClean N.clean t.1.items → (w : World)
         × Shows (start (vec_len nodes)) (map shown_event events.now) (map shown_line t.0.items) w
-        × AreNodes N.stands t.1.items w.nodes) }
+        × AreNodes N.has_state t.1.items w.nodes) }
     ensures headline { IfOk result (λ t. AllClean N.clean t.1.items
         → IsHeadline (map shown_event events.now) (map shown_line t.0.items)) }
-    ensures device { IfOk result (λ t. AreCounted (IsToldOf (map shown_event events.now)
+    ensures device { IfOk result (λ t. AreCounted (HasDeviceFailure (map shown_event events.now)
         (map shown_line t.0.items)) N.failed N.failed 1 nodes.items t.1.items) }
     ensures lines { IfOk result (λ t. vec_len t.0 ≡ length events.now) }
     ensures count { IfOk result (λ t. length t.1.items ≡ vec_len nodes) }
@@ -160,11 +157,11 @@ fn show<'a, N: Node + Drop>(
     nodes: &mut Vec<N>,
     event: &'a WorldEvent,
 ) -> Result<Line, AllocError>
-    ensures step { IfOk result (λ line. GoesTo N.clean N.stands
+    ensures step { IfOk result (λ line. IsWorldStep N.clean N.has_state
         shelf.old.files.entries shelf.new.files.entries nodes.old.items nodes.new.items
         (shown_event event.now) (shown_line line)) }
     ensures device { IfOk result (λ line. AreCounted (λ i. (node_of (shown_event event.now) ≡ Some i)
-        × TellsDevice (shown_line line)) N.failed N.failed 1 nodes.old.items nodes.new.items) }
+        × IsDeviceFailure (shown_line line)) N.failed N.failed 1 nodes.old.items nodes.new.items) }
     ensures count { IfOk result (λ _. length nodes.new.items ≡ length nodes.old.items) }
 {
     match event {
@@ -179,10 +176,10 @@ fn show<'a, N: Node + Drop>(
         WorldEvent::Lose { node, name } => Ok(tell_at(nodes, *node, shelf.lose(name))),
         WorldEvent::Restart { node } => Ok(restart_at(alloc, nodes, *node)),
         WorldEvent::StopBefore { node, what } => {
-            Ok(stop_before_at(alloc, nodes, *node, shelf.sent(what)))
+            Ok(stop_at(alloc, nodes, *node, shelf.sent(what), Point::Before))
         }
         WorldEvent::StopAfter { node, what } => {
-            Ok(stop_after_at(alloc, nodes, *node, shelf.sent(what)))
+            Ok(stop_at(alloc, nodes, *node, shelf.sent(what), Point::After))
         }
         WorldEvent::Report { node, package } => Ok(report_at(nodes, *node, package)?),
         WorldEvent::Ask {

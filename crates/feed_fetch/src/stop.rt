@@ -1,7 +1,7 @@
 //! Why a request or a fetch stopped.
 use crate::dial::DialFault;
 use feed_http::HttpFault;
-use feed_releases::Refusal;
+use feed_model::Refusal;
 
 /// Why a request got no answer.
 #[derive(Clone, Copy, Debug, PartialEq, Eq)]

@@ -2,7 +2,7 @@
 ghost use Rattle.std.specs.Prelude.{ℕ, List, Option, ◌≡◌, ◌⊎◌, Err, IfErr};
 ghost use Rattle.feed_model.specs.History.{Piece};
 ghost use Rattle.feed_releases.specs.Feeds.{recorded};
-ghost use Rattle.feed_releases.specs.Told.{told};
+ghost use Rattle.feed_releases.specs.Events.{event_of};
 ghost use Rattle.feed_fetch.specs.Answers.{Tells, brings_new, goes_on, is_news, IsStoppedAt};
 ghost use Rattle.feed_fetch.specs.Fetched.{GoesOn, IsTakenFrom};
 
@@ -10,8 +10,9 @@ use crate::stop::Stop;
 use feed_http::Got;
 use feed_keep::Keep;
 use feed_limits::PIECE_LIMIT;
+use feed_model::Reply;
 use feed_names::ReleaseName;
-use feed_releases::{Event, Feed, Reply};
+use feed_releases::{Event, Feed};
 use std::io::Write;
 
 /// Passes an event to the feed, and prints its answer.
@@ -21,7 +22,7 @@ pub fn tell<K: Keep + Drop, O: Write>(
     out: &mut O,
 ) -> Result<Reply, Stop>
     ensures { Tells (λ answer. (result ≡ goes_on answer) ⊎ (result ≡ Err Stop.Print))
-        (recorded feed.old) (told event.now) (recorded feed.new) }
+        (recorded feed.old) (event_of event.now) (recorded feed.new) }
 {
     match feed.handle(event) {
         Ok(reply) => {

@@ -15,10 +15,10 @@ HasFailedSince before now = (before < now) ⊎ (most_failures ≤ now)
 
 -- the count never falls; if a failure is reported, it rose or has its greatest value
 abbrev pub HasCounted : Type 0 → ℕ → ℕ → Type 0
-HasCounted told before now = (before ≤ now) × (told → HasFailed before now)
+HasCounted reported before now = (before ≤ now) × (reported → HasFailed before now)
 
 -- the count never falls; it rises (or has its greatest value) if a failure is reported, and otherwise stays the same
-pub record IsCounted (told : Type 0) (before now : ℕ) : Type 0 where
+pub record IsCounted (reported : Type 0) (before now : ℕ) : Type 0 where
   pub rises : before ≤ now
-  pub failed : told → HasFailed before now
-  pub stays : ¬ told → now ≡ before
+  pub failed : reported → HasFailed before now
+  pub stays : ¬ reported → now ≡ before

@@ -9,9 +9,7 @@ mod name_order;
 mod record;
 
 pub use bad_file::bad_of;
-pub use feed_model::{KeepFault, State};
-pub use feed_parts::Part;
 pub use keep::{Change, Keep};
 pub use list_keep::ListKeep;
-pub use name_order::{is_before, stands_before};
+pub use name_order::{is_earlier, is_listed_before};
 pub use record::Record;

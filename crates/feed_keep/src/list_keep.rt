@@ -15,12 +15,12 @@ ghost use Rattle.feed_keep.specs.Order.{AreNamesInOrder};
 ghost use Rattle.feed_keep.specs.Shown.{shown, shown_record, IsRecordAt};
 
 use crate::keep::{Change, Keep};
-use crate::name_order::{is_before, stands_before};
+use crate::name_order::{is_earlier, is_listed_before};
 use crate::record::Record;
 use feed_kbart::BadFile;
 use feed_model::{KeepFault, State};
 use feed_names::ReleaseName;
-use feed_parts::{Part, copied, copied_in_order};
+use feed_parts::{Part, copy_in_order, copy_parts};
 use std::alloc::{AllocError, Global};
 use std::cmp::Ordering;
 
@@ -77,7 +77,7 @@ impl Keep for ListKeep {
         if has_twice(&self.records) {
             return Err(KeepFault::Damaged);
         }
-        match copied_records(alloc, &self.records) {
+        match copy_records(alloc, &self.records) {
             Ok(records) => Ok(records),
             Err(_) => Err(KeepFault::Memory),
         }
@@ -152,7 +152,7 @@ fn grow(
     let Some(at) = find_record(records, name) else {
         return Ok(());
     };
-    let mut new = copied(alloc, parts)?;
+    let mut new = copy_parts(alloc, parts)?;
     let record = &mut records[at];
     record.parts.append(&mut new)?;
     record.state = state;
@@ -181,7 +181,7 @@ fn drop_earlier(records: &mut Vec<Record>, name: &ReleaseName)
     records.retain(
         |record: &Record| -> bool
             ensures { result ≡ not (is_earlier record.now.name name.entry.now) }
-        { !is_before(&record.name, name) },
+        { !is_earlier(&record.name, name) },
     );
 }
 
@@ -203,7 +203,7 @@ fn place_for(records: &[Record], name: &ReleaseName) -> usize
         → shown (insert records.now result r) ≡ insert_record (shown_record r) (shown records.now) }
 {
     for (at, record) in records.iter().enumerate() {
-        if !stands_before(&record.name, name) {
+        if !is_listed_before(&record.name, name) {
             return at;
         }
     }
@@ -234,7 +234,7 @@ fn has_twice(records: &[Record]) -> bool
 }
 
 // Copies the records, and sorts the parts of each.
-fn copied_records(alloc: Global, records: &[Record]) -> Result<Vec<Record>, AllocError>
+fn copy_records(alloc: Global, records: &[Record]) -> Result<Vec<Record>, AllocError>
     ensures { IfOk result (λ copy. shown copy.items ≡ ordered (shown records.now)) }
 {
     let mut copy = Vec::with_capacity(alloc, records.len())?;
@@ -244,7 +244,7 @@ fn copied_records(alloc: Global, records: &[Record]) -> Result<Vec<Record>, Allo
             size: record.size,
             state: record.state,
             reason: record.reason,
-            parts: copied_in_order(alloc, &record.parts)?,
+            parts: copy_in_order(alloc, &record.parts)?,
         };
         copy.push(record)?;
     }

@@ -6,7 +6,7 @@ use Rattle.feed_model.specs.declared.reply.Reply.TheVariants as replies
 use Rattle.feed_model.specs.declared.reply.Refusal.TheVariants as refusals
 use Rattle.feed_model.specs.declared.state.State.TheVariants.{Staged, Broken, Active}
 use Rattle.feed_model.specs.History.{Offered, Piece, Lost, History, size_of, kept, IsFile, IsWhole, IsPassed, IsHeld}
-use Rattle.feed_model.specs.Reply.{missing_below, IsRightWithin, IsRight, gone_on}
+use Rattle.feed_model.specs.Reply.{missing_below, IsRightWithin, IsRight, history_after}
 use Rattle.feed_model.specs.Earlier.{earlier_limit, without_refused}
 use Rattle.feed_model.specs.Content.{Part, Record, record_of, byte_in, AreParts}
 use Rattle.feed_model.specs.Change.{Pieces, merged, new_record, without_earlier, after}
@@ -158,7 +158,7 @@ an_unknown_release = inr (small, inr (nothing_is_passed, inl (nothing_is_held, r
     small (inl e) = absurd (cc)
     small (inr lt) = absurd (omega arith)
 
-newest_event_first : gone_on [] (Offered january 4 ∷ Lost january ∷ []) (Ok replies.Noted ∷ Ok replies.Nothing ∷ []) ≡ (Lost january, Ok replies.Nothing) ∷
+newest_event_first : history_after [] (Offered january 4 ∷ Lost january ∷ []) (Ok replies.Noted ∷ Ok replies.Nothing ∷ []) ≡ (Lost january, Ok replies.Nothing) ∷
     (Offered january 4, Ok replies.Noted) ∷ []
 newest_event_first = refl
 

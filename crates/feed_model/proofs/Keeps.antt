@@ -2,7 +2,7 @@
 use Rattle.std.proofs.Common.{◌≡◌, ◌↔◌, ◌<◌, ℕ, zero, suc, List, Option, Some, None, IsSome, refl, sym, subst, arith, ◌+◌, ◌⊎◌, inl, inr}
 use Rattle.feed_model.specs.Reply.{missing_below}
 use Rattle.feed_model.specs.Content.{Part, Record, byte_in}
-use Rattle.feed_model.specs.Change.{merged, Completes}
+use Rattle.feed_model.specs.Change.{merged, IsCompleteWith}
 
 -- no place is missing exactly if each has a byte
 pub none_missing : (f : ℕ → Option ℕ) (n : ℕ) → (missing_below f n ≡ 0) ↔ ((place : ℕ) → place < n → IsSome (f place))
@@ -37,5 +37,5 @@ none_missing f n = (each n, none n)
         by None is again some = absurd (has (f n) some is)
         by (Some x) is again some = let u : missing_below f n + 0 ≡ 0 = omega (arith, again) in rw is u
 
-pub completes_by : (r : Record) (ps : List Part) → missing_below (byte_in (merged r.parts ps)) r.size ≡ 0 → Completes ps r
+pub completes_by : (r : Record) (ps : List Part) → missing_below (byte_in (merged r.parts ps)) r.size ≡ 0 → IsCompleteWith ps r
 completes_by r ps none = (none_missing (byte_in (merged r.parts ps)) r.size).0 none

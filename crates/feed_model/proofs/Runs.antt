@@ -2,23 +2,23 @@
 use Rattle.std.proofs.Common.{◌≡◌, ◌<◌, ◌+◌, ◌++◌, ℕ, List, [], ◌∷◌, length, map, take, get_or, refl, sym, ◌∙◌, ap, subst, arith}
 use Rattle.std.proofs.lemmas.List.{take_more, length-append}
 use Rattle.feed_model.specs.History.{Event, Answer, History}
-use Rattle.feed_model.specs.Reply.{gone_on}
+use Rattle.feed_model.specs.Reply.{history_after}
 use Rattle.feed_model.specs.Content.{Content, IsContent}
 use Rattle.feed_model.specs.Handles.{Handles, Runs}
 
-pub gone_on-push : (h : History) (events : List Event) (answers : List Answer) (event : Event) (answer : Answer) → length events ≡ length answers
-    → gone_on h (events ++ event ∷ []) (answers ++ answer ∷ []) ≡ (event, answer) ∷ gone_on h events answers
-gone_on-push h [] [] event answer same = refl
-gone_on-push h [] (b ∷ bs) event answer same = absurd (omega arith)
-gone_on-push h (x ∷ xs) [] event answer same = absurd (omega arith)
-gone_on-push h (x ∷ xs) (b ∷ bs) event answer same = gone_on-push ((x, b) ∷ h) xs bs event answer (omega arith)
+pub history_after-push : (h : History) (events : List Event) (answers : List Answer) (event : Event) (answer : Answer) → length events ≡ length answers
+    → history_after h (events ++ event ∷ []) (answers ++ answer ∷ []) ≡ (event, answer) ∷ history_after h events answers
+history_after-push h [] [] event answer same = refl
+history_after-push h [] (b ∷ bs) event answer same = absurd (omega arith)
+history_after-push h (x ∷ xs) [] event answer same = absurd (omega arith)
+history_after-push h (x ∷ xs) (b ∷ bs) event answer same = history_after-push ((x, b) ∷ h) xs bs event answer (omega arith)
 
 -- one step more
 pub run_push : (c m c' : Content) (events : List Event) (answers : List Answer) (event : Event) (answer : Answer) → Runs c events answers m → Handles m event answer c'
     → Runs c (events ++ event ∷ []) (answers ++ answer ∷ []) c'
 run_push c m c' events answers event answer runs step = record {
   each = omega (arith, length-append events (event ∷ []), length-append answers (answer ∷ []), runs.each);
-  content = λ h is. subst (IsContent c') (sym (gone_on-push h events answers event answer runs.each)) (step (gone_on h events answers) (runs.content h is)).1;
+  content = λ h is. subst (IsContent c') (sym (history_after-push h events answers event answer runs.each)) (step (history_after h events answers) (runs.content h is)).1;
 }
 
 map-push : {X : Type 0} (told : X → Event) (xs : List X) (x : X) → map told (xs ++ x ∷ []) ≡ map told xs ++ told x ∷ []

@@ -11,7 +11,7 @@ use Rattle.feed_model.specs.History.{History, IsFile, IsHeld}
 use Rattle.feed_model.specs.Reply.{missing_below}
 use Rattle.feed_model.specs.Content.{Record, Content, names, byte_in, IsText, IsState, IsReason, IsRecord, IsContent}
 use Rattle.feed_model.specs.Handles.{HasLaterActive}
-use Rattle.feed_model.specs.Sound.{BearsOut, Explains, IsSoundRecord, IsSound}
+use Rattle.feed_model.specs.Sound.{IsStateOf, Explains, IsSoundRecord, IsSound}
 use Rattle.feed_model.proofs.Counting.{length_names}
 use Rattle.feed_model.proofs.Held.{held_limit}
 use Rattle.feed_model.proofs.Limits.{size_limit, kept_inside}
@@ -60,16 +60,16 @@ text_by h n r text x file =
     let size : length text ≡ r.size = (let e : Some r.size ≡ Some (length text) = sym x.size ∙ file.0 in cc) in
     record { count = size; bytes = λ place lt. x.bytes place ∙ file.1 place (omega (arith, size, lt)) }
 
-bears_out : (h : History) (n : Name) (r : Record) → IsRecord h n r → (s : State) → IsState h n s → BearsOut s r.size r.parts
-bears_out h n r x Staged lacks = by (missing_below (byte_in r.parts) r.size) refl
+is_recorded_as : (h : History) (n : Name) (r : Record) → IsRecord h n r → (s : State) → IsState h n s → IsStateOf s r.size r.parts
+is_recorded_as h n r x Staged lacks = by (missing_below (byte_in r.parts) r.size) refl
   where
     by : (k : ℕ) → missing_below (byte_in r.parts) r.size ≡ k → 0 < missing_below (byte_in r.parts) r.size
     by (suc k) e = omega (arith, e)
     by zero e =
         let text = whole_text (byte_in r.parts) r.size ((none_missing (byte_in r.parts) r.size).0 e) in
         absurd (lacks (text.0, (x.size ∙ ap Some (sym text.1), λ place lt. sym (x.bytes place) ∙ text.2 place (omega (arith, text.1, lt)))))
-bears_out h n r x Broken bad = (bad.0, text_by h n r bad.0 x bad.1, bad.2)
-bears_out h n r x Active active = (active.0.0, text_by h n r active.0.0 x active.0.1, active.0.2)
+is_recorded_as h n r x Broken bad = (bad.0, text_by h n r bad.0 x bad.1, bad.2)
+is_recorded_as h n r x Active active = (active.0.0, text_by h n r active.0.0 x active.0.1, active.0.2)
 
 explained : (h : History) (n : Name) (r : Record) → IsRecord h n r → (s : State) (o : Option BadFile) → IsReason h n s o → Explains s r.size r.parts o
 explained h n r x Staged o is = is
@@ -81,7 +81,7 @@ sound_by c h n r is x = record {
   size = size_limit h is.legal n r.size x.size;
   parts = x.parts;
   inside = within_by 0 r.size r.parts x.parts (λ place s. kept_inside h is.legal n r.size place x.size (subst IsSome (x.bytes place) s));
-  state = bears_out h n r x r.state x.state;
+  state = is_recorded_as h n r x r.state x.state;
   reason = explained h n r x r.state r.reason x.reason;
 }
 

@@ -83,8 +83,8 @@ pub record TakesParts (c : Content) (n : Name) (ps : List Part) (r : Record) : T
   pub inside : All (λ p. end_of p ≤ r.size) ps
 
 -- with these parts no place is missing
-abbrev pub Completes : List Part → Record → Type 0
-Completes ps r = (place : ℕ) → place < r.size → IsSome (byte_in (merged r.parts ps) place)
+abbrev pub IsCompleteWith : List Part → Record → Type 0
+IsCompleteWith ps r = (place : ℕ) → place < r.size → IsSome (byte_in (merged r.parts ps) place)
 
 -- with these parts the file is bad for this reason
 abbrev pub IsBadWith : List Part → BadFile → Record → Type 0
@@ -98,5 +98,5 @@ NoneIsLater c n = (a : Record) → record_of c a.name ≡ Some a → a.state ≡
 abbrev pub IsAllowed : Change → Content → Type 0
 IsAllowed (Add n size) c = (record_of c n ≡ None) × (length c < max_held) × (size ≤ max_file)
 IsAllowed (Pieces n ps) c = (r : Record) × TakesParts c n ps r
-IsAllowed (Break n ps why) c = (r : Record) × TakesParts c n ps r × Completes ps r × IsBadWith ps why r
-IsAllowed (Activate n ps) c = (r : Record) × TakesParts c n ps r × Completes ps r × NoneIsLater c n
+IsAllowed (Break n ps why) c = (r : Record) × TakesParts c n ps r × IsCompleteWith ps r × IsBadWith ps why r
+IsAllowed (Activate n ps) c = (r : Record) × TakesParts c n ps r × IsCompleteWith ps r × NoneIsLater c n

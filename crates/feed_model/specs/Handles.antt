@@ -3,7 +3,7 @@ use Rattle.std.specs.Prelude.{◌≡◌, List, ◌∷◌, length, Some}
 use Rattle.feed_names.specs.ReleaseName.{Name, IsEarlier}
 use Rattle.feed_model.specs.declared.state.State.TheVariants.{Active}
 use Rattle.feed_model.specs.History.{Event, Answer, History}
-use Rattle.feed_model.specs.Reply.{IsRight, gone_on}
+use Rattle.feed_model.specs.Reply.{IsRight, history_after}
 use Rattle.feed_model.specs.Content.{Record, Content, record_of, IsContent}
 
 -- for every history that has the content c, the answer is right, and c' is a content of the history with the event and
@@ -18,4 +18,4 @@ HasLaterActive c n = (a : Record) × (record_of c a.name ≡ Some a) × (a.state
 -- for every history that has the content c, c' is a content of the history continued by these events and answers
 pub record Runs (c : Content) (events : List Event) (answers : List Answer) (c' : Content) : Type 0 where
   pub each : length events ≡ length answers
-  pub content : (h : History) → IsContent c h → IsContent c' (gone_on h events answers)
+  pub content : (h : History) → IsContent c h → IsContent c' (history_after h events answers)

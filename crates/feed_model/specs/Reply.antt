@@ -98,6 +98,6 @@ abbrev pub IsLegal : History → Type 0
 IsLegal h = IsLegalWithin max_file h
 
 -- the history continued by these events and answers, in order
-abbrev pub gone_on : History → List Event → List Answer → History
-gone_on h (event ∷ events) (answer ∷ answers) = gone_on ((event, answer) ∷ h) events answers
-gone_on h _ _ = h
+abbrev pub history_after : History → List Event → List Answer → History
+history_after h (event ∷ events) (answer ∷ answers) = history_after ((event, answer) ∷ h) events answers
+history_after h _ _ = h

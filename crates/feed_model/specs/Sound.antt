@@ -12,10 +12,10 @@ use Rattle.feed_model.specs.Handles.{HasLaterActive}
 
 -- the parts match the state: a staged release misses a place; a broken one has a complete, bad file; an active one has
 -- a complete, good file
-abbrev pub BearsOut : State → ℕ → List Part → Type 0
-BearsOut Staged size parts = 0 < missing_below (byte_in parts) size
-BearsOut Broken size parts = (text : List ℕ) × IsText size parts text × (fault_of text ≢ None)
-BearsOut Active size parts = (text : List ℕ) × IsText size parts text × (fault_of text ≡ None)
+abbrev pub IsStateOf : State → ℕ → List Part → Type 0
+IsStateOf Staged size parts = 0 < missing_below (byte_in parts) size
+IsStateOf Broken size parts = (text : List ℕ) × IsText size parts text × (fault_of text ≢ None)
+IsStateOf Active size parts = (text : List ℕ) × IsText size parts text × (fault_of text ≡ None)
 
 -- the parts of a broken release are bad for this reason; any other release has no reason
 abbrev pub Explains : State → ℕ → List Part → Option BadFile → Type 0
@@ -28,7 +28,7 @@ pub record IsSoundRecord (r : Record) : Type 0 where
   pub size : r.size ≤ max_file
   pub parts : AreParts r.parts
   pub inside : All (λ p. end_of p ≤ r.size) r.parts
-  pub state : BearsOut r.state r.size r.parts
+  pub state : IsStateOf r.state r.size r.parts
   pub reason : Explains r.state r.size r.parts r.reason
 
 -- each name has one record, at most as many as a feed may have; none is of an earlier day than an active one of its

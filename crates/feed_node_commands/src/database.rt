@@ -1,6 +1,7 @@
 //! The database of a node, and how its feed is opened and closed.
 use feed_command::{FAILED, Faults, REFUSED};
-use feed_keep::{Keep, KeepFault};
+use feed_keep::Keep;
+use feed_model::KeepFault;
 use feed_releases::Feed;
 use std::alloc::Global;
 use std::io::Write;

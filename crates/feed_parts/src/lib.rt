@@ -9,7 +9,7 @@ mod reading;
 mod segments;
 
 pub use gaps::Gap;
-pub use merging::copied_in_order;
-pub use part::{Part, copied};
+pub use merging::copy_in_order;
+pub use part::{Part, copy_parts};
 pub use reading::{SegmentReader, whole_reader};
 pub use segments::Segments;

@@ -6,7 +6,7 @@ ghost use Rattle.feed_model.specs.Content.{AreParts};
 ghost use Rattle.feed_model.specs.Change.{merged};
 ghost use Rattle.feed_parts.specs.Shown.{shown_parts};
 
-use crate::part::{Part, copied};
+use crate::part::{Part, copy_parts};
 use std::alloc::{AllocError, Global};
 
 // Merges new parts, which are in order, into the stored ones. There is room for them, so this does not allocate. It
@@ -46,10 +46,10 @@ fn merge_runs(parts: &mut [Part], kept: usize)
 }
 
 /// Copies the parts and sorts them. Parts that begin at the same place keep their order.
-pub fn copied_in_order(alloc: Global, parts: &[Part]) -> Result<Vec<Part>, AllocError>
+pub fn copy_in_order(alloc: Global, parts: &[Part]) -> Result<Vec<Part>, AllocError>
     ensures { IfOk result (λ copy. shown_parts copy.items ≡ merged [] (shown_parts parts.now)) }
 {
-    let mut copy = copied(alloc, parts)?;
+    let mut copy = copy_parts(alloc, parts)?;
     copy.sort_by_key(|part| part.first)?;
     Ok(copy)
 }

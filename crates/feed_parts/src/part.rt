@@ -21,7 +21,7 @@ pub(crate) fn end_of(part: &Part) -> u64
 }
 
 /// Copies the parts.
-pub fn copied(alloc: Global, parts: &[Part]) -> Result<Vec<Part>, AllocError>
+pub fn copy_parts(alloc: Global, parts: &[Part]) -> Result<Vec<Part>, AllocError>
     ensures { IfOk result (λ copy. shown_parts copy.items ≡ shown_parts parts.now) }
 {
     let mut copy = Vec::with_capacity(alloc, parts.len())?;

@@ -12,7 +12,7 @@ use Rattle.feed_model.specs.History.{History}
 use Rattle.feed_model.specs.Content.{Part, IsText, IsContent}
 use Rattle.feed_model.proofs.Reports.{file_of_record}
 use Rattle.feed_releases.specs.ReleaseValue.{ReleaseValue, content_of, IsKnown}
-use Rattle.feed_releases.specs.Actives.{ActiveValue, active_of, actives_of, comes_before, insert_active, inserted, IsReported, AreKnown}
+use Rattle.feed_releases.specs.Actives.{ActiveValue, active_of, actives_of, is_package_before, insert_active, inserted, IsReported, AreKnown}
 use Rattle.feed_releases.proofs.Finding.{own_at, reports_at}
 
 -- what is known of a release with holdings: it is active, and they are those of its text
@@ -56,7 +56,7 @@ collected P (r ∷ rs) each = go r.holdings refl (collected P rs (λ i d holding
 -- one put among others
 pub put_in : (P : ActiveValue → Type 0) (a : ActiveValue) (xs : List ActiveValue) → P a → AllByRecursion P xs → AllByRecursion P (insert_active a xs)
 put_in P a [] here all = (here, tt)
-put_in P a (x ∷ xs) here all = elim (cases_Bool (comes_before x a)) [
+put_in P a (x ∷ xs) here all = elim (cases_Bool (is_package_before x a)) [
   | inl e ↦ rw e (all.0, put_in P a xs here all.1)
   | inr e ↦ rw e (here, all)
 ]

@@ -17,13 +17,13 @@ use Rattle.feed_model.specs.declared.state.State.{State}
 use Rattle.feed_model.specs.declared.state.State.TheVariants.{Staged, Broken, Active}
 use Rattle.feed_model.specs.History.{History, Reports}
 use Rattle.feed_model.specs.Content.{Part, Record, names, IsContent}
-use Rattle.feed_model.proofs.Names.{name_self}
+use Rattle.feed_model.proofs.HasActive.{name_self}
 use Rattle.feed_model.proofs.Lookups.{name-record_of}
 use Rattle.feed_model.proofs.Tests.{record_good, not_passed_active}
 use Rattle.feed_model.proofs.Reports.{active_one}
 use Rattle.feed_releases.specs.ReleaseValue.{ReleaseValue, content_of, IsKnown}
-use Rattle.feed_releases.specs.Actives.{ActiveValue, active_of, actives_of, package_cmp, comes_before, insert_active, inserted, AreKnown}
-use Rattle.feed_releases.specs.Actives.{Names, IsReported, AreReported, names_of, ReportAlike}
+use Rattle.feed_releases.specs.Actives.{ActiveValue, active_of, actives_of, package_cmp, is_package_before, insert_active, inserted, AreKnown}
+use Rattle.feed_releases.specs.Actives.{HasActive, IsReported, AreReported, names_of, ReportAlike}
 use Rattle.feed_releases.proofs.Finding.{apart_at, place_of, reports_at}
 use Rattle.feed_releases.proofs.ActivesReported.{holds, collected, put_in, each_reported}
 
@@ -62,7 +62,7 @@ is_less Equal e = absurd (cc)
 is_less Greater e = absurd (cc)
 
 -- of two packages that differ, where the one does not come first, the other does
-other_first : (a b : ActiveValue) → comes_before b a ≡ false → a.name.stem ≢ b.name.stem → package_cmp a b ≡ Less
+other_first : (a b : ActiveValue) → is_package_before b a ≡ false → a.name.stem ≢ b.name.stem → package_cmp a b ≡ Less
 other_first a b e apart = by (package_cmp b a) refl
   where
     by : (o : Ordering) → package_cmp b a ≡ o → package_cmp a b ≡ Less
@@ -78,7 +78,7 @@ below_all a b (c ∷ actives) below all = (by_packages.trans a b c below all.0, 
 insert_ordered : (a : ActiveValue) (actives : List ActiveValue) → Ordered actives → IsApart a actives → Ordered (insert_active a actives)
 unfolding IsStrictlySortedBy
 insert_ordered a [] up apart = (tt, tt)
-insert_ordered a (b ∷ actives) up apart = elim (cases_Bool (comes_before b a)) [
+insert_ordered a (b ∷ actives) up apart = elim (cases_Bool (is_package_before b a)) [
   | inl e ↦ rw e (put_in (λ c. package_cmp b c ≡ Less) a actives (is_less (package_cmp b a) e) up.0, insert_ordered a actives up.1 apart.1)
   | inr e ↦ rw e (let first = other_first a b e apart.0 in ((first, below_all a b actives first up.0), up))
 ]
@@ -143,7 +143,7 @@ apart_collected (r ∷ rs) apart = by r.holdings refl (apart_collected rs (λ i 
 
 among_insert : (n : Name) (a : ActiveValue) (actives : List ActiveValue) → (a.name ≡ n) ⊎ IsAmong n actives → IsAmong n (insert_active a actives)
 among_insert n a [] is = is
-among_insert n a (b ∷ actives) is = elim (cases_Bool (comes_before b a)) [
+among_insert n a (b ∷ actives) is = elim (cases_Bool (is_package_before b a)) [
   | inl e ↦ rw e (elim is [
     | inl same ↦ inr (among_insert n a actives (inl same))
     | inr among ↦ elim among [
@@ -192,7 +192,7 @@ among_reported (r ∷ rs) h n is known reported =
     let named : release.kept.name ≡ n = ap (λ (x : Record). x.name) kept ∙ name-record_of (content_of all) n found.0 found.1 in
     subst (λ (m : Name). IsAmong m (actives_of all)) named (among_all release.kept.name [] (filter_map active_of all) (inr (among_collected all at.0 r held.0 at.1 held.1)))
 
-place_among : (n : Name) (actives : List ActiveValue) → IsAmong n actives → Names actives n
+place_among : (n : Name) (actives : List ActiveValue) → IsAmong n actives → HasActive actives n
 place_among n [] none = absurd none
 place_among n (a ∷ actives) (inl same) = (0, omega arith, λ d. same)
 place_among n (a ∷ actives) (inr among) = let place = place_among n actives among in (suc place.0, (let lt = place.1 in omega arith), place.2)

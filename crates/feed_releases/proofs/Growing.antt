@@ -14,13 +14,13 @@ use Rattle.feed_releases.specs.declared.overlap.Overlap.TheVariants.{New}
 use Rattle.feed_releases.specs.declared.release.growth.Growth.{Growth}
 use Rattle.feed_releases.specs.declared.standing.Standing.{Standing}
 use Rattle.feed_releases.specs.declared.standing.Standing.TheVariants.{Partial, Bad, Good}
-use Rattle.feed_releases.specs.ReleaseValue.{LiesOver}
-use Rattle.feed_releases.specs.Standing.{StandsSo, change_to, reply_of, stood}
+use Rattle.feed_releases.specs.ReleaseValue.{IsOverlapOf}
+use Rattle.feed_releases.specs.Standing.{IsStandingOf, change_to, reply_of, record_after}
 use Rattle.feed_releases.specs.Growth.{IsGrowth, change_of, parts_of}
 
 right_so : (c : Content) (n : Name) (first : ℕ) (total : Option ℕ) (bytes : List ℕ) (r : Record) (ps : List Part) (missing : ℕ) (s : Standing) → Reaches c n first total bytes r
-    → LiesOver r first bytes New
-    → Adds r.size r.parts first bytes ps → missing ≡ missing_below (byte_in (merged r.parts ps)) r.size → StandsSo r.size (merged r.parts ps) missing s
+    → IsOverlapOf r first bytes New
+    → Adds r.size r.parts first bytes ps → missing ≡ missing_below (byte_in (merged r.parts ps)) r.size → IsStandingOf r.size (merged r.parts ps) missing s
     → Handles c (Piece n first total bytes)
     (Ok (reply_of missing s)) (after (change_to s n ps) c)
 right_so c n first total bytes r ps missing Partial reach lies adds count so = piece_stored c n first total bytes r ps missing reach lies.2 lies.0 lies.1 adds count so
@@ -31,19 +31,19 @@ right_so c n first total bytes r ps missing (Good holdings) reach lies adds coun
 
 -- the answer is right
 pub growth_right : (c : Content) (n : Name) (first : ℕ) (total : Option ℕ) (bytes : List ℕ) (r : Record) (growth : Growth) → r.name ≡ n → Reaches c n first total bytes r
-    → LiesOver r first bytes New → IsGrowth r first bytes growth → Handles c (Piece n first total bytes) (Ok (reply_of growth.missing growth.standing)) (after (change_of r growth) c)
+    → IsOverlapOf r first bytes New → IsGrowth r first bytes growth → Handles c (Piece n first total bytes) (Ok (reply_of growth.missing growth.standing)) (after (change_of r growth) c)
 growth_right c n first total bytes r growth name reach lies is =
     rw name (right_so c n first total bytes r (parts_of growth) growth.missing growth.standing reach lies is.adds is.missing is.stands)
 
 allowed_so : (c : Content) (n : Name) (r : Record) (ps : List Part) (missing : ℕ) (s : Standing) → TakesParts c n ps r → NoneIsLater c n
-    → missing ≡ missing_below (byte_in (merged r.parts ps)) r.size → StandsSo r.size (merged r.parts ps) missing s → IsAllowed (change_to s n ps) c
+    → missing ≡ missing_below (byte_in (merged r.parts ps)) r.size → IsStandingOf r.size (merged r.parts ps) missing s → IsAllowed (change_to s n ps) c
 allowed_so c n r ps missing Partial takes free count so = (r, takes)
 allowed_so c n r ps missing (Bad why) takes free count so = (r, takes, completes_by r ps (sym count ∙ so.0), so.1)
 allowed_so c n r ps missing (Good holdings) takes free count so = (r, takes, completes_by r ps (sym count ∙ so.0), free)
 
 -- the change is one that the keeper allows
 pub growth_allowed : (c : Content) (n : Name) (first : ℕ) (total : Option ℕ) (bytes : List ℕ) (r : Record) (growth : Growth) → r.name ≡ n → Reaches c n first total bytes r
-    → LiesOver r first bytes New → IsGrowth r first bytes growth → IsAllowed (change_of r growth) c
+    → IsOverlapOf r first bytes New → IsGrowth r first bytes growth → IsAllowed (change_of r growth) c
 growth_allowed c n first total bytes r growth name reach lies is =
     let takes : TakesParts c n (parts_of growth) r = record {
       found = reach.found;
@@ -57,19 +57,19 @@ growth_allowed c n first total bytes r growth name reach lies is =
 
 -- a release that is activated takes the place of the earlier ones, and only that one
 pub after_activated : (n : Name) (r : Record) (growth : Growth) (c : Content) → r.name ≡ n → reply_of growth.missing growth.standing ≡ Activated
-    → after (change_of r growth) c ≡ without_earlier n (changed n (stood (parts_of growth) growth.standing) c)
+    → after (change_of r growth) c ≡ without_earlier n (changed n (record_after (parts_of growth) growth.standing) c)
 after_activated n r growth c name e = rw name (by growth.standing e)
   where
-    by : (s : Standing) → reply_of growth.missing s ≡ Activated → after (change_to s n (parts_of growth)) c ≡ without_earlier n (changed n (stood (parts_of growth) s) c)
+    by : (s : Standing) → reply_of growth.missing s ≡ Activated → after (change_to s n (parts_of growth)) c ≡ without_earlier n (changed n (record_after (parts_of growth) s) c)
     by Partial e = absurd (cc)
     by (Bad why) e = absurd (cc)
     by (Good holdings) e = refl
 
 pub after_kept : (n : Name) (r : Record) (growth : Growth) (c : Content) → r.name ≡ n → reply_of growth.missing growth.standing ≢ Activated
-    → after (change_of r growth) c ≡ changed n (stood (parts_of growth) growth.standing) c
+    → after (change_of r growth) c ≡ changed n (record_after (parts_of growth) growth.standing) c
 after_kept n r growth c name not = rw name (by growth.standing not)
   where
-    by : (s : Standing) → reply_of growth.missing s ≢ Activated → after (change_to s n (parts_of growth)) c ≡ changed n (stood (parts_of growth) s) c
+    by : (s : Standing) → reply_of growth.missing s ≢ Activated → after (change_to s n (parts_of growth)) c ≡ changed n (record_after (parts_of growth) s) c
     by Partial not = refl
     by (Bad why) not = refl
     by (Good holdings) not = absurd (not refl)

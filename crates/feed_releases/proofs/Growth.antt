@@ -10,7 +10,7 @@ use Rattle.feed_model.proofs.Faults.{fault_of-empty}
 use Rattle.feed_model.specs.Parts.{AreWithin}
 use Rattle.feed_releases.specs.declared.standing.Standing.{Standing}
 use Rattle.feed_releases.specs.declared.standing.Standing.TheVariants.{Partial, Bad}
-use Rattle.feed_releases.specs.Standing.{stood}
+use Rattle.feed_releases.specs.Standing.{record_after}
 use Rattle.feed_releases.specs.ReleaseValue.{ReleaseValue, IsRelease, content_of, IsPlaceOf}
 use Rattle.feed_releases.proofs.Finding.{found_at, set_at}
 
@@ -61,6 +61,6 @@ set_back (y ∷ ys) zero r x here same = ap (λ z. z ∷ ys) (same ∙ here)
 set_back (y ∷ ys) (suc at) r x here same = ap (λ zs. y ∷ zs) (set_back ys at r x here same)
 
 -- a release changed at its place is its record changed under its name
-pub stood_at : (rs : List ReleaseValue) (n : Name) (at : ℕ) (r x : ReleaseValue) (new : List Part) (s : Standing) → IsPlaceOf rs n at → r ≡ get_or rs at r
-    → x.kept ≡ stood new s r.kept → content_of (set rs at x) ≡ changed n (stood new s) (content_of rs)
-stood_at rs n at r x new s place here is = set_at rs n at r x (stood new s) place (is ∙ ap (λ (y : ReleaseValue). stood new s y.kept) here)
+pub record_after_at : (rs : List ReleaseValue) (n : Name) (at : ℕ) (r x : ReleaseValue) (new : List Part) (s : Standing) → IsPlaceOf rs n at → r ≡ get_or rs at r
+    → x.kept ≡ record_after new s r.kept → content_of (set rs at x) ≡ changed n (record_after new s) (content_of rs)
+record_after_at rs n at r x new s place here is = set_at rs n at r x (record_after new s) place (is ∙ ap (λ (y : ReleaseValue). record_after new s y.kept) here)

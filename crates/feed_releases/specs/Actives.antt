@@ -25,13 +25,13 @@ abbrev pub package_cmp : ActiveValue → ActiveValue → Ordering
 package_cmp a b = slice_cmp nat_cmp a.name.stem b.name.stem
 
 -- the package of the one is less than that of the other
-abbrev pub comes_before : ActiveValue → ActiveValue → Bool
-comes_before a b = is_lt (package_cmp a b)
+abbrev pub is_package_before : ActiveValue → ActiveValue → Bool
+is_package_before a b = is_lt (package_cmp a b)
 
 -- inserts an active release among others, behind those whose packages are less than its own
 abbrev pub insert_active : ActiveValue → List ActiveValue → List ActiveValue
 insert_active a [] = a ∷ []
-insert_active a (b ∷ others) = if comes_before b a then b ∷ insert_active a others else a ∷ b ∷ others
+insert_active a (b ∷ others) = if is_package_before b a then b ∷ insert_active a others else a ∷ b ∷ others
 
 -- inserts active releases among others, one after another
 abbrev pub inserted : List ActiveValue → List ActiveValue → List ActiveValue
@@ -58,13 +58,13 @@ pub record IsReported (h : History) (active : ActiveValue) : Type 0 where
   pub holdings : active.holdings ≡ holdings_of text
 
 -- one of the active releases has this name
-abbrev pub Names : List ActiveValue → Name → Type 0
-Names actives n = (k : ℕ) × (k < length actives) × ((d : ActiveValue) → (slice_index_or actives k d).name ≡ n)
+abbrev pub HasActive : List ActiveValue → Name → Type 0
+HasActive actives n = (k : ℕ) × (k < length actives) × ((d : ActiveValue) → (slice_index_or actives k d).name ≡ n)
 
 -- the list has exactly the active releases of the history, each once, ordered by package
 pub record AreReported (h : History) (actives : List ActiveValue) : Type 0 where
   pub each : All (IsReported h) actives
-  pub every : (stem : List ℕ) (n : Name) → Reports h stem (Some n) → Names actives n
+  pub every : (stem : List ℕ) (n : Name) → Reports h stem (Some n) → HasActive actives n
   pub by_package : IsStrictlySortedBy package_cmp actives
 
 -- the names of active releases

@@ -5,7 +5,7 @@ use Rattle.feed_model.specs.Reply.{missing_below}
 use Rattle.feed_model.specs.Content.{Part, Record, byte_in}
 use Rattle.feed_model.specs.Change.{Change, merged}
 use Rattle.feed_model.specs.Parts.{Adds}
-use Rattle.feed_releases.specs.Standing.{StandsSo, change_to}
+use Rattle.feed_releases.specs.Standing.{IsStandingOf, change_to}
 use Rattle.feed_releases.specs.declared.release.growth.Growth.{Growth}
 
 -- the new parts, as model values
@@ -23,4 +23,4 @@ pub record IsGrowth (r : Record) (first : ℕ) (bytes : List ℕ) (growth : Grow
   pub some : 0 < length (parts_of growth)
   pub adds : Adds r.size r.parts first bytes (parts_of growth)
   pub missing : growth.missing ≡ missing_below (byte_in (merged r.parts (parts_of growth))) r.size
-  pub stands : StandsSo r.size (merged r.parts (parts_of growth)) growth.missing growth.standing
+  pub stands : IsStandingOf r.size (merged r.parts (parts_of growth)) growth.missing growth.standing

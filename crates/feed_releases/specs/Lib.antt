@@ -3,7 +3,7 @@ pub use Rattle.feed_model.specs.Reply
 pub use Rattle.feed_model.specs.Handles
 pub use Rattle.feed_model.specs.Sound
 pub use Rattle.feed_keep.specs.Cause
-pub mod Told
+pub mod Events
 pub mod Judged
 pub mod Standing
 pub mod ReleaseValue

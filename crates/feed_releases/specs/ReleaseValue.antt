@@ -9,7 +9,7 @@ use Rattle.feed_model.specs.Content.{Part, Record, Content, byte_in, IsText}
 use Rattle.feed_model.specs.declared.state.State.{State}
 use Rattle.feed_model.specs.declared.state.State.TheVariants.{Staged, Broken, Active}
 use Rattle.feed_model.specs.Parts.{DiffersIn, AgreesIn, HasNew, Covers, AreWithin}
-use Rattle.feed_releases.specs.Standing.{StandsSo, state_of, reason_of}
+use Rattle.feed_releases.specs.Standing.{IsStandingOf, state_of, reason_of}
 use Rattle.feed_releases.specs.declared.standing.Standing.{Standing}
 use Rattle.feed_releases.specs.declared.overlap.Overlap.{Overlap}
 use Rattle.feed_releases.specs.declared.overlap.Overlap.TheVariants.{Conflict, Kept, New}
@@ -34,7 +34,7 @@ record_with name size standing parts = record { name = name; size = size; state 
 pub record IsRelease (size : ℕ) (parts : List Part) (standing : Standing) : Type 0 where
   pub within : AreWithin size parts
   pub limit : size ≤ max_file
-  pub stands : StandsSo size parts (missing_below (byte_in parts) size) standing
+  pub stands : IsStandingOf size parts (missing_below (byte_in parts) size) standing
 
 -- the records of releases
 abbrev pub content_of : List ReleaseValue → Content
@@ -55,7 +55,7 @@ abbrev pub IsActiveOf : List ℕ → ReleaseValue → Type 0
 IsActiveOf stem r = (r.kept.state ≡ Active) × (r.kept.name.stem ≡ stem)
 
 -- how a piece overlaps the stored bytes of a release
-abbrev pub LiesOver : Record → ℕ → List ℕ → Overlap → Type 0
-LiesOver r first bytes Conflict = DiffersIn r.parts first bytes
-LiesOver r first bytes Kept = AgreesIn r.parts first bytes × Covers r.parts first bytes
-LiesOver r first bytes New = AgreesIn r.parts first bytes × HasNew r.parts first bytes × (r.state ≡ Staged)
+abbrev pub IsOverlapOf : Record → ℕ → List ℕ → Overlap → Type 0
+IsOverlapOf r first bytes Conflict = DiffersIn r.parts first bytes
+IsOverlapOf r first bytes Kept = AgreesIn r.parts first bytes × Covers r.parts first bytes
+IsOverlapOf r first bytes New = AgreesIn r.parts first bytes × HasNew r.parts first bytes × (r.state ≡ Staged)

@@ -45,14 +45,14 @@ change_to (Bad why) n ps = Break n ps why
 change_to (Good holdings) n ps = Activate n ps
 
 -- the release's record after this change
-abbrev pub stood : List Part → Standing → Record → Record
-stood ps Partial r = grown ps states.Staged r
-stood ps (Bad why) r = broken_with ps why r
-stood ps (Good holdings) r = grown ps states.Active r
+abbrev pub record_after : List Part → Standing → Record → Record
+record_after ps Partial r = grown ps states.Staged r
+record_after ps (Bad why) r = broken_with ps why r
+record_after ps (Good holdings) r = grown ps states.Active r
 
 -- the parts have this status: places are missing; or none is, and their text is bad for this reason, or good with these
 -- rows
-abbrev pub StandsSo : ℕ → List Part → ℕ → Standing → Type 0
-StandsSo size parts missing Partial = 0 < missing
-StandsSo size parts missing (Bad why) = (missing ≡ 0) × IsJudged size parts (Err (faults.Bad why))
-StandsSo size parts missing (Good holdings) = (missing ≡ 0) × IsJudged size parts (Ok holdings)
+abbrev pub IsStandingOf : ℕ → List Part → ℕ → Standing → Type 0
+IsStandingOf size parts missing Partial = 0 < missing
+IsStandingOf size parts missing (Bad why) = (missing ≡ 0) × IsJudged size parts (Err (faults.Bad why))
+IsStandingOf size parts missing (Good holdings) = (missing ≡ 0) × IsJudged size parts (Ok holdings)

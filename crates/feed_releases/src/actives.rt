@@ -1,6 +1,6 @@
 //! The active releases of a feed, ordered by package. There are at most 256 of them.
 ghost use Rattle.std.specs.Prelude.{◌≡◌, ◌≤◌, IfOk, OnOk, length, insert};
-ghost use Rattle.feed_releases.specs.Actives.{active_of, actives_of, comes_before, insert_active};
+ghost use Rattle.feed_releases.specs.Actives.{active_of, actives_of, is_package_before, insert_active};
 ghost use Rattle.feed_releases.specs.Actives.{IsKnownRelease, AreKnown};
 
 use crate::release::Release;
@@ -47,8 +47,8 @@ impl<'a> ActiveRelease<'a> {
     }
 }
 
-fn stands_before(active: &ActiveRelease<'_>, other: &ActiveRelease<'_>) -> bool
-    ensures { result ≡ comes_before active.now other.now }
+fn is_listed_before(active: &ActiveRelease<'_>, other: &ActiveRelease<'_>) -> bool
+    ensures { result ≡ is_package_before active.now other.now }
 {
     active.name.package().cmp(&other.name.package()).is_lt()
 }
@@ -58,7 +58,7 @@ fn place_for(actives: &[ActiveRelease<'_>], active: &ActiveRelease<'_>) -> usize
     ensures place { insert actives.now result active.now ≡ insert_active active.now actives.now }
 {
     for (at, other) in actives.iter().enumerate() {
-        if !stands_before(other, active) {
+        if !is_listed_before(other, active) {
             return at;
         }
     }

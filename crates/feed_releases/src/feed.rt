@@ -9,7 +9,7 @@ mod reopen;
 
 use crate::actives::{ActiveRelease, actives_of};
 use crate::event::Event;
-use crate::feed::reopen::reopened;
+use crate::feed::reopen::from_records;
 use crate::release::Release;
 use crate::releases::{active_of, find};
 use feed_answer::{Answer, Query, answer};
@@ -63,7 +63,7 @@ impl<K: Keep + Drop> Feed<K> {
     ghost use Rattle.std.specs.Prelude.{All, Err, map, IfOk, IfErr, OnErr, IsTrue, option_map};
     ghost use Rattle.std.specs.List.{Contains};
     ghost use Rattle.feed_model.specs.History.{Answer as event_answer, History, Reports};
-    ghost use Rattle.feed_model.specs.Reply.{IsRight, gone_on};
+    ghost use Rattle.feed_model.specs.Reply.{IsRight, history_after};
     ghost use Rattle.feed_model.specs.Sound.{IsSound};
     ghost use Rattle.feed_model.specs.Content.{IsContent};
     ghost use Rattle.feed_model.specs.Handles.{Handles};
@@ -71,7 +71,7 @@ impl<K: Keep + Drop> Feed<K> {
     ghost use Rattle.feed_releases.specs.Answered.{IsAnswered};
     ghost use Rattle.feed_releases.specs.NextRange.{IsNextRange};
     ghost use Rattle.feed_releases.specs.Reason.{HasReason};
-    ghost use Rattle.feed_releases.specs.Told.{told};
+    ghost use Rattle.feed_releases.specs.Events.{event_of};
     ghost use Rattle.feed_keep.specs.Cause.{HasFailedSince, IsCounted};
     ghost use Rattle.feed_releases.specs.Feeds.{CommitsNothing, keeper_of, recorded, releases_of};
 
@@ -102,7 +102,7 @@ impl<K: Keep + Drop> Feed<K> {
             Ok(records) => records,
             Err(cause) => return Err(OpenFault { cause, keeper }),
         };
-        match reopened(alloc, records) {
+        match from_records(alloc, records) {
             Ok(releases) => Ok(Feed {
                 alloc,
                 keeper,
@@ -116,7 +116,7 @@ impl<K: Keep + Drop> Feed<K> {
     /// history with the event and the answer added. After a refusal, and after a reply without new bytes, the feed is
     /// as before. It answers `Full` only if it already has the most releases that it may record.
     pub fn handle(&mut self, event: &Event<'_>) -> Result<Reply, Refusal>
-        ensures right { Handles (recorded self.old) (told event.now) result (recorded self.new) }
+        ensures right { Handles (recorded self.old) (event_of event.now) result (recorded self.new) }
         ensures refused { OnErr result (releases_of self.new ≡ releases_of self.old) }
         ensures idle { CommitsNothing result → releases_of self.new ≡ releases_of self.old }
         ensures full { result ≡ Err Refusal.Full → length (releases_of self.old) ≡ max_held }
@@ -140,7 +140,7 @@ impl<K: Keep + Drop> Feed<K> {
     /// memory for the list of answers, the feed has handled no event.
     pub fn run(&mut self, events: &[Event<'_>]) -> Result<Vec<Result<Reply, Refusal>>, AllocError>
         ensures right { IfOk result (λ answers. (h : History) → IsContent (recorded self.old) h
-            → IsContent (recorded self.new) (gone_on h (map told events.now) answers.items)) }
+            → IsContent (recorded self.new) (history_after h (map event_of events.now) answers.items)) }
         ensures count { IfOk result (λ answers. length answers.items ≡ length events.now) }
         ensures clean { K.clean (keeper_of self.new) → K.clean (keeper_of self.old) }
         ensures counted { K.failed (keeper_of self.old) ≤ K.failed (keeper_of self.new) }
@@ -240,10 +240,10 @@ impl<K: Keep + Drop> Feed<K> {
         ensures before { point ≡ Point.Before → (result ≡ keeper_of self)
             × (K.clean result → K.content result ≡ recorded self) }
         ensures after { point ≡ Point.After → K.clean result → (h : History) → IsContent (recorded self) h
-            → (answer : event_answer) × IsRight h (told event.now) answer
-            × IsContent (K.content result) ((told event.now, answer) ∷ h) }
+            → (answer : event_answer) × IsRight h (event_of event.now) answer
+            × IsContent (K.content result) ((event_of event.now, answer) ∷ h) }
         ensures idle { point ≡ Point.After → K.clean result
-            → (answer : event_answer) × Handles (recorded self) (told event.now) answer (K.content result)
+            → (answer : event_answer) × Handles (recorded self) (event_of event.now) answer (K.content result)
             × (CommitsNothing answer → K.content result ≡ recorded self) }
         ensures listed { K.clean result → ∥ K.listed result ∥₁ }
         ensures clean { K.clean result → K.clean (keeper_of self) }

@@ -15,5 +15,4 @@ mod standing;
 pub use actives::ActiveRelease;
 pub use event::Event;
 pub use feed::{AnswerFault, Feed, OpenFault, Point};
-pub use feed_model::{Refusal, Reply};
 pub use laws::{answers_stay, list_alike};

@@ -4,7 +4,7 @@ ghost use Rattle.feed_model.specs.Reply.{max_file};
 ghost use Rattle.feed_model.specs.Content.{byte_in};
 ghost use Rattle.feed_model.specs.Change.{new_record};
 ghost use Rattle.feed_releases.specs.NextRange.{IsNextOf};
-ghost use Rattle.feed_releases.specs.ReleaseValue.{IsKnown, LiesOver};
+ghost use Rattle.feed_releases.specs.ReleaseValue.{IsKnown, IsOverlapOf};
 
 mod growth;
 mod reopen;
@@ -108,7 +108,7 @@ impl Release {
     /// Returns how a piece inside the file overlaps the stored bytes. Does not allocate.
     pub(crate) fn overlap(&self, first: u64, bytes: &[u8]) -> Overlap
         requires inside { first + length bytes.now ≤ self.now.kept.size }
-        ensures { LiesOver self.now.kept first bytes.now result }
+        ensures { IsOverlapOf self.now.kept first bytes.now result }
     {
         if self.kept.conflicts(first, bytes) {
             Overlap::Conflict

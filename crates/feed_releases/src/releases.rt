@@ -7,7 +7,7 @@ ghost use Rattle.feed_model.specs.Change.{insert_record, is_earlier, without_ear
 ghost use Rattle.feed_releases.specs.ReleaseValue.{ReleaseValue, content_of, IsPlaceOf, IsActiveAfter, IsActiveOf};
 
 use crate::release::Release;
-use feed_keep::{is_before, stands_before};
+use feed_keep::{is_earlier, is_listed_before};
 use feed_model::State;
 use feed_names::ReleaseName;
 
@@ -61,7 +61,7 @@ pub(crate) fn place_for(releases: &[Release], name: &ReleaseName) -> usize
         → content_of (insert releases.now result r) ≡ insert_record r.kept (content_of releases.now) }
 {
     for (at, release) in releases.iter().enumerate() {
-        if !stands_before(release.name(), name) {
+        if !is_listed_before(release.name(), name) {
             return at;
         }
     }
@@ -76,6 +76,6 @@ pub(crate) fn drop_earlier(releases: &mut Vec<Release>, name: &ReleaseName)
     releases.retain(
         |release: &Release| -> bool
             ensures { result ≡ not (is_earlier release.now.kept.name name.entry.now) }
-        { !is_before(release.name(), name) },
+        { !is_earlier(release.name(), name) },
     );
 }

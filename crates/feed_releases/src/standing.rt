@@ -43,7 +43,7 @@ impl Standing {
     }
 
     /// Returns whether this state and this reason match the status.
-    pub(crate) fn bears_out(&self, state: State, reason: Option<BadFile>) -> bool
+    pub(crate) fn is_recorded_as(&self, state: State, reason: Option<BadFile>) -> bool
         ensures { IsTrue result ↔ ((state_of self.now ≡ state) × (reason_of self.now ≡ reason)) }
     {
         self.state() == state && self.reason() == reason

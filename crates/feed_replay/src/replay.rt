@@ -2,8 +2,11 @@
 use crate::causes::{LONG_SCRIPT, cause_of_line};
 use crate::disk::Disk;
 use feed_command::{DONE, FAILED, Faults, REFUSED, read_up_to};
-use feed_core::{KeepFault, Line, ListKeep, Refusal, ReplayFault, Transcript, Why, replay};
-use feed_script::{Files, LineFault, SCRIPT_LIMIT, Script, ScriptFault, line_shown, read_script};
+use feed_core::{ReplayFault, Transcript, replay};
+use feed_keep::ListKeep;
+use feed_model::{KeepFault, Refusal};
+use feed_script::{Files, LineFault, SCRIPT_LIMIT, Script, ScriptFault, line_excerpt, read_script};
+use feed_world::{Line, Why};
 use std::alloc::{AllocError, Global};
 use std::io::{Read, Write};
 
@@ -90,7 +93,7 @@ fn report_script<P: Files, F: Write + Drop>(
 ) -> u8 {
     match fault {
         ScriptFault::Line { line, fault: why } => {
-            let shown = line_shown(script, line);
+            let shown = line_excerpt(script, line);
             match (why, files.cause()) {
                 (LineFault::BadFile, Some(cause)) => {
                     faults.report_with(fault, shown, cause, REFUSED)

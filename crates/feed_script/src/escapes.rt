@@ -10,7 +10,7 @@ use std::alloc::Global;
 /// # Errors
 ///
 /// Returns `BadText` if a `\` begins no escape, and `Memory` if an allocation fails.
-pub fn unescaped(alloc: Global, text: &[u8]) -> Result<Vec<u8>, LineFault> {
+pub fn unescape(alloc: Global, text: &[u8]) -> Result<Vec<u8>, LineFault> {
     let mut bytes = Vec::with_capacity(alloc, text.len())?;
     let mut rest = text;
     while let (plain, Some(escape)) = split_at(rest, b'\\') {

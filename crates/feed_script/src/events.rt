@@ -1,10 +1,10 @@
 //! The parsers of a script's lines, a function for each kind of event.
-use crate::escapes::unescaped;
+use crate::escapes::unescape;
 use crate::faults::LineFault;
 use crate::files::Files;
 use crate::words::{Words, split_word};
-use feed_core::{NODE_LIMIT, Sent, WorldEvent};
 use feed_names::{NameFault, ReleaseName};
+use feed_world::{NODE_LIMIT, Sent, WorldEvent};
 use std::alloc::Global;
 
 const LONGEST_NUMBER: usize = 20;
@@ -51,7 +51,7 @@ fn read_publish(alloc: Global, mut words: Words<'_>) -> Result<WorldEvent, LineF
     let name = words.word()?;
     let text = words.text();
     let name = read_name(alloc, name)?;
-    let bytes = unescaped(alloc, text)?;
+    let bytes = unescape(alloc, text)?;
     Ok(WorldEvent::Publish { name, bytes })
 }
 
@@ -106,17 +106,17 @@ fn read_restart(mut words: Words<'_>) -> Result<WorldEvent, LineFault> {
 }
 
 fn read_stop_before(alloc: Global, words: Words<'_>) -> Result<WorldEvent, LineFault> {
-    let (node, what) = read_stopped(alloc, words)?;
+    let (node, what) = read_stop(alloc, words)?;
     Ok(WorldEvent::StopBefore { node, what })
 }
 
 fn read_stop_after(alloc: Global, words: Words<'_>) -> Result<WorldEvent, LineFault> {
-    let (node, what) = read_stopped(alloc, words)?;
+    let (node, what) = read_stop(alloc, words)?;
     Ok(WorldEvent::StopAfter { node, what })
 }
 
 // `NODE offer NAME` or `NODE deliver NAME FIRST LEN`
-fn read_stopped(alloc: Global, mut words: Words<'_>) -> Result<(u64, Sent), LineFault> {
+fn read_stop(alloc: Global, mut words: Words<'_>) -> Result<(u64, Sent), LineFault> {
     let node = words.word()?;
     match words.word()? {
         b"offer" => {

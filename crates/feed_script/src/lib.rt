@@ -10,4 +10,4 @@ mod words;
 
 pub use faults::{LineFault, ScriptFault};
 pub use files::{FileCause, Files};
-pub use script::{SCRIPT_LIMIT, Script, line_shown, read_script};
+pub use script::{SCRIPT_LIMIT, Script, line_excerpt, read_script};

@@ -3,7 +3,7 @@ use crate::events::{read_event, read_nodes};
 use crate::faults::{LineFault, ScriptFault};
 use crate::files::Files;
 use crate::words::split_at;
-use feed_core::WorldEvent;
+use feed_world::WorldEvent;
 use memchr::memchr_iter;
 use std::alloc::Global;
 use std::str;
@@ -112,7 +112,7 @@ fn read_line<P: Files>(
 
 /// Returns the first 80 bytes of a line, or the empty text if there is no such line
 /// or they are not UTF-8.
-pub fn line_shown(script: &[u8], line: usize) -> &str {
+pub fn line_excerpt(script: &[u8], line: usize) -> &str {
     let mut rest = script;
     for _ in 1..line {
         match split_at(rest, b'\n') {

@@ -4,7 +4,8 @@ ghost use Rattle.feed_keep.specs.Shown.{shown, shown_record};
 ghost use Rattle.feed_store.specs.Upgraded.{AreReasoned, IsReasonOf};
 
 use feed_kbart::BadFile;
-use feed_keep::{Record, State, bad_of};
+use feed_keep::{Record, bad_of};
+use feed_model::State;
 use std::alloc::{AllocError, Global};
 
 /// The same records, each broken one with the reason of its file, and each other one with none.

@@ -3,7 +3,8 @@ ghost use Rattle.std.specs.Prelude.{◌≡◌, false, None, IfErr, IfOk, MatchRe
 
 use crate::adopt::made_ready;
 use crate::fault::{AdoptFault, StoreFault};
-use feed_keep::{Change, Keep, KeepFault, Record};
+use feed_keep::{Change, Keep, Record};
+use feed_model::KeepFault;
 use feed_store_read::read_records;
 use feed_store_write::commit_change;
 use sqlite::{Alter, Connection, Error, ErrorCode, MemStore};

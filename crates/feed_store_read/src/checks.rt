@@ -8,7 +8,8 @@ ghost use Rattle.feed_parts.specs.Shown.{shown_parts};
 ghost use Rattle.feed_keep.specs.Shown.{shown};
 ghost use Rattle.feed_store_read.specs.Order.{AreNamesUp, ArePartsUp};
 
-use feed_keep::{Part, Record, stands_before};
+use feed_keep::{Record, is_listed_before};
+use feed_parts::Part;
 
 /// Whether each name comes before those behind it.
 pub fn names_ascend(records: &[Record]) -> bool
@@ -17,7 +18,7 @@ pub fn names_ascend(records: &[Record]) -> bool
     records.is_sorted_by(
         |one: &Record, other: &Record| -> bool
             ensures { result ≡ comes_before one.now.name other.now.name }
-        { stands_before(&one.name, &other.name) },
+        { is_listed_before(&one.name, &other.name) },
     )
 }
 

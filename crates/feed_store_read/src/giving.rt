@@ -9,7 +9,8 @@ ghost use Rattle.feed_keep.specs.Shown.{shown};
 ghost use Rattle.feed_store_read.specs.Order.{AreNamesUp};
 ghost use Rattle.feed_store_read.specs.Pieces.{given_to};
 
-use feed_keep::{Part, Record};
+use feed_keep::Record;
+use feed_parts::Part;
 use std::alloc::{AllocError, Global};
 use std::cmp::Ordering;
 

@@ -8,8 +8,9 @@ ghost use Rattle.feed_store_model.specs.Tables.{IsReleaseRow, number_of};
 ghost use Rattle.feed_store_read.specs.Reading.{IsReleaseOf};
 
 use crate::columns::{integer_at, number_at, text_at};
-use feed_keep::{Record, State};
+use feed_keep::Record;
 use feed_limits::FILE_LIMIT;
+use feed_model::State;
 use feed_names::{NameFault, ReleaseName, one_release_for_text, one_text_for_release};
 use sqlite::{Error, ErrorCode, Row};
 use std::alloc::Global;

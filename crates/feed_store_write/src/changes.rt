@@ -8,8 +8,10 @@ ghost use Rattle.sqlite.specs.Held.{state};
 
 use crate::statements::{drop_earlier, insert_parts, insert_reason, insert_release, set_state};
 use feed_kbart::BadFile;
-use feed_keep::{Change, Part, State};
+use feed_keep::Change;
+use feed_model::State;
 use feed_names::ReleaseName;
+use feed_parts::Part;
 use sqlite::{Alter, Connection, Error, ErrorCode, Transaction};
 
 /// Makes a change of the records in one transaction: the whole of it, or nothing. It refuses inside a transaction. The

@@ -9,8 +9,9 @@ ghost use Rattle.feed_store_write.specs.Effects.{Changes, ChangesIf, Keeps, Leav
 
 use crate::running::{as_text, run};
 use feed_kbart::BadFile;
-use feed_keep::{Part, State};
+use feed_model::State;
 use feed_names::ReleaseName;
+use feed_parts::Part;
 use sqlite::types::ToSql;
 use sqlite::{Alter, Error, ErrorCode, Transaction};
 

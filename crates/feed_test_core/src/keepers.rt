@@ -1,5 +1,7 @@
 //! The keepers that words name.
-use feed_core::{ListKeep, Part, Record, State};
+use feed_keep::{ListKeep, Record};
+use feed_model::State;
+use feed_parts::Part;
 use feed_test_support::{Failing, name_of};
 use std::alloc::Global;
 use std::slice;

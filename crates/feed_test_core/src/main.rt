@@ -26,8 +26,8 @@
 mod keepers;
 mod shown;
 
-use feed_core::WorldEvent;
 use feed_script::{FileCause, Files, LineFault, Script, read_script};
+use feed_world::WorldEvent;
 use keepers::{failing, holding};
 use shown::{show, show_full};
 use std::alloc::Global;

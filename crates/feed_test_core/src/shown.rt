@@ -1,6 +1,9 @@
 //! What a replay shows, and what its keepers hold then.
-use feed_core::{Keep, ReplayFault, Transcript, WorldEvent, WriteFault, replay};
-use feed_test_support::content_of;
+use feed_answer::WriteFault;
+use feed_core::{ReplayFault, Transcript, replay};
+use feed_keep::Keep;
+use feed_test_support::content_text;
+use feed_world::WorldEvent;
 use std::test::Fail;
 
 /// Prints what happens to nodes over these keepers, and what is handed back.
@@ -38,7 +41,7 @@ fn show_transcript<K: Keep + Drop>(
 fn show_keeper<K: Keep + Drop>(rt: &HostRuntime, node: usize, keeper: K) -> Result<(), Fail> {
     let mut keeper = keeper;
     println!(rt; "keeper {node}, failures {}", keeper.failures())?;
-    let records = content_of(rt.alloc(), &mut keeper)?;
+    let records = content_text(rt.alloc(), &mut keeper)?;
     print!(rt; "{}", str::from_utf8(&records)?)?;
     Ok(())
 }

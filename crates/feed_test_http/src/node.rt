@@ -3,9 +3,10 @@ use crate::escapes::Escaped;
 use crate::fault::Fault;
 use crate::line::Line;
 use feed_keep::ListKeep;
+use feed_model::{Refusal, Reply};
 use feed_names::ReleaseName;
 use feed_node_connection::Connection;
-use feed_releases::{Event, Feed, Refusal, Reply};
+use feed_releases::{Event, Feed};
 use feed_resolver::{Feeder, fetch_asked, head_end, respond, respond_as_node};
 
 /// The feed of a node over a keeper in memory, and one connection to it.

@@ -1,7 +1,8 @@
 //! The keeper of the driver: the plain keeper in memory, with a device that fails when it is told to.
 ghost use Rattle.feed_keep.specs.InMemory.{IsListed, content_of_list};
 
-use feed_keep::{Change, Keep, KeepFault, ListKeep, Record};
+use feed_keep::{Change, Keep, ListKeep, Record};
+use feed_model::KeepFault;
 use std::alloc::Global;
 
 /// A keeper over a list, with a device that fails at one load, and at some commits.

@@ -6,7 +6,7 @@ use crate::fault::Fault;
 use crate::printing::{print_bytes, print_count, print_flag, print_parts, print_word};
 use crate::words::{Piece, number_of, parts_of, piece_of};
 use feed_limits::PIECE_LIMIT;
-use feed_parts::{SegmentReader, Segments, copied, copied_in_order};
+use feed_parts::{SegmentReader, Segments, copy_in_order, copy_parts};
 use std::alloc::Global;
 use std::io::Read;
 
@@ -160,12 +160,12 @@ fn read_with(
 
 fn print_in_order(rt: &HostRuntime, words: &[&str]) -> Result<(), Fault> {
     let parts = parts_of(rt, words)?;
-    let copy = copied_in_order(rt.alloc(), &parts)?;
+    let copy = copy_in_order(rt.alloc(), &parts)?;
     print_parts(rt, &copy)
 }
 
 fn print_copy(rt: &HostRuntime, segments: &Segments) -> Result<(), Fault> {
-    let copy = copied(rt.alloc(), segments.parts())?;
+    let copy = copy_parts(rt.alloc(), segments.parts())?;
     print_parts(rt, &copy)
 }
 

@@ -1,8 +1,9 @@
 //! The words of a command.
 use crate::fault::Fault;
 use feed_kbart::{BadFile, Label};
-use feed_keep::{Part, State};
+use feed_model::State;
 use feed_names::ReleaseName;
+use feed_parts::Part;
 use std::alloc::{AllocError, Global};
 use std::fs;
 

@@ -1,9 +1,10 @@
 //! The steps of a feed over a database file.
 use feed_keep::Keep;
+use feed_model::{Refusal, Reply};
 use feed_names::ReleaseName;
-use feed_releases::{Event, Feed, Refusal, Reply};
+use feed_releases::{Event, Feed};
 use feed_store::SqlKeep;
-use feed_test_support::{content_of, name_of};
+use feed_test_support::{content_text, name_of};
 use sqlite_std_file::File;
 use sqlite_store::FileStore;
 use std::test::Fail;
@@ -97,7 +98,7 @@ fn taken<D: Database>(
 
 fn listed<K: Keep + Drop>(rt: &HostRuntime, feed: Feed<K>) -> Result<Feed<K>, Fail> {
     let mut keeper = feed.restart();
-    let text = content_of(rt.alloc(), &mut keeper)?;
+    let text = content_text(rt.alloc(), &mut keeper)?;
     print!(rt; "{}", str::from_utf8(&text)?)?;
     over(rt, keeper)
 }

@@ -1,7 +1,8 @@
 //! A keeper whose device fails on demand.
 ghost use Rattle.feed_keep.specs.InMemory.{IsListed, content_of_list};
 
-use feed_keep::{Change, Keep, KeepFault, ListKeep, Record};
+use feed_keep::{Change, Keep, ListKeep, Record};
+use feed_model::KeepFault;
 use std::alloc::Global;
 
 /// A keeper in memory, with a device that fails at one load, at one commit, or at every commit after some number.

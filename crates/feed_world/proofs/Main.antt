@@ -10,7 +10,7 @@ use Rattle.feed_model.specs.History.{IsFile, IsWhole, Reports}
 use Rattle.feed_answer.specs.Queries.{query_of}
 use Rattle.feed_world.specs.World.{World, Node, WorldEvent, Report, Ask, Line, Active, Text, Refused, node_at, start, report_line, file_says, IsRefused, IfUp, OrMemory, Happens, Shows}
 use Rattle.feed_model.specs.File.{fault_of}
-use Rattle.feed_world.specs.Headline.{file_of, IsOneMoment, Stands, Answers, IsNoOlder, IsGoodRelease, IsFrom, IsHeadline, HasAlike, IsLatest, IsUpAt}
+use Rattle.feed_world.specs.Headline.{file_of, IsOneMoment, IsShownAt, IsAnswerAt, IsNoOlder, IsGoodRelease, IsFrom, IsHeadline, HasAlike, IsLatest, IsUpAt}
 use Rattle.feed_model.proofs.Reports.{reports_one}
 use Rattle.feed_world.proofs.Over.{file_published, later_report, reports_alike, latest_active}
 use Rattle.feed_world.proofs.Slices.{same_some}
@@ -43,7 +43,7 @@ gap_quiet count events lines j k a e f l m p together lt =
     (λ i g is. (let t = gap_event events j k i g is in together (suc j + i) g (omega (arith, lt)) (omega (arith, t.1)) t.0)) p.gap
 
 met : (count : ℕ) (events : List WorldEvent) (lines : List Line) (w : World) → Shows (start count) events lines w → (k a : ℕ) (stem : List ℕ) (n : Name) (query : List ℕ) (x : Line)
-    → Answers events lines k a stem n query x → Met count events lines k a stem n query x
+    → IsAnswerAt events lines k a stem n query x → Met count events lines k a stem n query x
 met count events lines w s k a stem n query x t = by (order t.report k)
   where
     by : (t.report < k) ⊎ ((t.report ≡ k) ⊎ (k < t.report)) → Met count events lines k a stem n query x
@@ -79,7 +79,7 @@ published_at count events lines w i x n file s at f =
     sym (shows_files (start count) w events lines n s) ∙ file_published w.shelf x.history n file ((shows_sound (start count) w events lines (sound_start count) s).over i x at) f
 
 whole : (count : ℕ) (events : List WorldEvent) (lines : List Line) (w : World) → Shows (start count) events lines w → (k a : ℕ) (stem : List ℕ) (n : Name) (query : List ℕ) (x : Line)
-    → Answers events lines k a stem n query x → (file : List ℕ) × (file_of (take k events) n ≡ Some file) × (x ≡ file_says n file (query_of query))
+    → IsAnswerAt events lines k a stem n query x → (file : List ℕ) × (file_of (take k events) n ≡ Some file) × (x ≡ file_says n file (query_of query))
 whole count events lines w s k a stem n query x t = by (ask_shown p.old p.new a stem n query x p.reports p.step)
   where
     p : Met count events lines k a stem n query x
@@ -91,7 +91,7 @@ whole count events lines w s k a stem n query x t = by (ask_shown p.old p.new a 
     by (inl r) = (r.0, published_at count (take k events) (take k lines) p.old a r.1 n r.0 p.come r.2 r.3, r.4)
 
 same : (count : ℕ) (events : List WorldEvent) (lines : List Line) (w : World) → Shows (start count) events lines w → (j k a b : ℕ) (stem : List ℕ) (n : Name) (query : List ℕ) (x y : Line)
-    → Answers events lines j a stem n query x → Answers events lines k b stem n query y → x ≡ y
+    → IsAnswerAt events lines j a stem n query x → IsAnswerAt events lines k b stem n query y → x ≡ y
 same count events lines w s j k a b stem n query x y t u =
     let p = whole count events lines w s j a stem n query x t in
     let q = whole count events lines w s k b stem n query y u in
@@ -110,7 +110,7 @@ sound_after : (count : ℕ) (es : List WorldEvent) (ls : List Line) (w : World) 
 sound_after count es ls w e l v s h = sound_step w e v (shows_sound (start count) w es ls (sound_start count) s) (moves w e l v h)
 
 later : (count : ℕ) (events : List WorldEvent) (lines : List Line) (w : World) → Shows (start count) events lines w → (j k a : ℕ) (stem : List ℕ) (n : Name) (line : Line) → j < k
-    → Stands events lines j (Report a stem) (Active n) → Stands events lines k (Report a stem) line → (line ≡ Refused whys.Down) ⊎ ((m : Name) × (line ≡ Active m) × IsNoOlder n m)
+    → IsShownAt events lines j (Report a stem) (Active n) → IsShownAt events lines k (Report a stem) line → (line ≡ Refused whys.Down) ⊎ ((m : Name) × (line ≡ Active m) × IsNoOlder n m)
 later count events lines w s j k a stem n line lt t u = by (report_shown p.three p.four a stem line g.0 g.1 p.second)
   where
     p : AreAt (start count) events lines j k (Report a stem) (Active n) (Report a stem) line
@@ -163,14 +163,14 @@ says_on count events lines w j k a stem e f l m lt s c d g h x y =
     subst (IsNoOlder x.name) is t.2
 
 report_says : (count : ℕ) (events : List WorldEvent) (lines : List Line) (w : World) (s : Shows (start count) events lines w) (k a : ℕ) (stem : List ℕ) (n : Name)
-    (t : Stands events lines k (Report a stem) (Active n))
+    (t : IsShownAt events lines k (Report a stem) (Active n))
     → Says count w events lines k a stem (Report a stem) (Active n) (place_of (start count) w events lines k (Report a stem) (Active n) s t.happened t.shown)
 report_says count events lines w s k a stem n t =
     let p = place_of (start count) w events lines k (Report a stem) (Active n) s t.happened t.shown in
     let r = active_shown p.old p.new a stem n p.step in record { name = n; stays = r.0; up = r.1 }
 
 named : (count : ℕ) (events : List WorldEvent) (lines : List Line) (w : World) → Shows (start count) events lines w → (k a : ℕ) (stem : List ℕ) (n : Name)
-    → Stands events lines k (Report a stem) (Active n) → IsGoodRelease events k stem n
+    → IsShownAt events lines k (Report a stem) (Active n) → IsGoodRelease events k stem n
 unfolding report_says
 named count events lines w s k a stem n t =
     let r = report_says count events lines w s k a stem n t in
@@ -178,14 +178,14 @@ named count events lines w s k a stem n t =
     says_good count events lines w k a stem (Report a stem) (Active n) (place_of (start count) w events lines k (Report a stem) (Active n) s t.happened t.shown) r good.0 good.1 good.2
 
 text_says : (count : ℕ) (events : List WorldEvent) (lines : List Line) (w : World) (s : Shows (start count) events lines w) (k a : ℕ) (stem query text : List ℕ)
-    (t : Stands events lines k (Ask a stem query) (Text text))
+    (t : IsShownAt events lines k (Ask a stem query) (Text text))
     → Says count w events lines k a stem (Ask a stem query) (Text text) (place_of (start count) w events lines k (Ask a stem query) (Text text) s t.happened t.shown)
 text_says count events lines w s k a stem query text t =
     let p = place_of (start count) w events lines k (Ask a stem query) (Text text) s t.happened t.shown in
     let r = text_shown p.old p.new a stem query text p.step in record { name = r.1; stays = r.0; up = r.2 }
 
 from_it : (count : ℕ) (events : List WorldEvent) (lines : List Line) (w : World) (s : Shows (start count) events lines w) (k a : ℕ) (stem query text : List ℕ)
-    (t : Stands events lines k (Ask a stem query) (Text text)) → IsFrom events lines k a stem query text (text_says count events lines w s k a stem query text t).name
+    (t : IsShownAt events lines k (Ask a stem query) (Text text)) → IsFrom events lines k a stem query text (text_says count events lines w s k a stem query text t).name
 unfolding text_says report_says
 from_it count events lines w s k a stem query text t = record {
   release = good;
@@ -213,11 +213,11 @@ from_it count events lines w s k a stem query text t = record {
         (published_at count (take k events) (take k lines) p.old a f.3.1 f.1 f.3.0 p.come f.3.2 f.3.3) good.published
 
 from : (count : ℕ) (events : List WorldEvent) (lines : List Line) (w : World) → Shows (start count) events lines w → (k a : ℕ) (stem : List ℕ) (query : List ℕ) (text : List ℕ)
-    → Stands events lines k (Ask a stem query) (Text text) → (n : Name) × IsFrom events lines k a stem query text n
+    → IsShownAt events lines k (Ask a stem query) (Text text) → (n : Name) × IsFrom events lines k a stem query text n
 from count events lines w s k a stem query text t = ((text_says count events lines w s k a stem query text t).name, from_it count events lines w s k a stem query text t)
 
 onward : (count : ℕ) (events : List WorldEvent) (lines : List Line) (w : World) → Shows (start count) events lines w → (j k a : ℕ) (stem : List ℕ) (q r : List ℕ) (text other : List ℕ)
-    → j < k → Stands events lines j (Ask a stem q) (Text text) → Stands events lines k (Ask a stem r) (Text other)
+    → j < k → IsShownAt events lines j (Ask a stem q) (Text text) → IsShownAt events lines k (Ask a stem r) (Text other)
     → (n : Name) × (m : Name) × IsFrom events lines j a stem q text n × IsFrom events lines k a stem r other m × IsNoOlder n m
 onward count events lines w s j k a stem q r text other lt t u =
     let x = text_says count events lines w s j a stem q text t in
@@ -243,7 +243,7 @@ report_stays : (w v : World) (a : ℕ) (stem : List ℕ) (x : Line) → Happens 
 report_stays w v a stem x h = quiet_step w (Report a stem) v a tt (moves w (Report a stem) x v h)
 
 still_before : (count : ℕ) (events : List WorldEvent) (lines : List Line) (w : World) → Shows (start count) events lines w → (j k a : ℕ) (stem : List ℕ) (x y : Line) → j < k
-    → Stands events lines j (Report a stem) x → Stands events lines k (Report a stem) y → IsOneMoment events a j k → x ≡ y
+    → IsShownAt events lines j (Report a stem) x → IsShownAt events lines k (Report a stem) y → IsOneMoment events a j k → x ≡ y
 still_before count events lines w s j k a stem x y lt t u together =
     let p = places_of (start count) w events lines j k (Report a stem) (Report a stem) x y lt s t.happened t.shown u.happened u.shown in
     let same : node_at p.three.nodes a ≡ node_at p.one.nodes a = gap_quiet count events lines j k a (Report a stem) (Report a stem) x y p together lt ∙ report_stays p.one p.two a stem x p.first in
@@ -251,7 +251,7 @@ still_before count events lines w s j k a stem x y lt t u together =
     (subst (λ (o : Option Node). MatchOption o (IsRefused whys.NoNode p.three y p.four) (λ n. IfUp n p.three y p.four (Reported p.three stem y p.four n))) same p.second)
 
 still : (count : ℕ) (events : List WorldEvent) (lines : List Line) (w : World) → Shows (start count) events lines w → (j k a : ℕ) (stem : List ℕ) (x y : Line)
-    → Stands events lines j (Report a stem) x → Stands events lines k (Report a stem) y → IsOneMoment events a j k → x ≡ y
+    → IsShownAt events lines j (Report a stem) x → IsShownAt events lines k (Report a stem) y → IsOneMoment events a j k → x ≡ y
 still count events lines w s j k a stem x y t u together = by (order j k)
   where
     by : (j < k) ⊎ ((j ≡ k) ⊎ (k < j)) → x ≡ y

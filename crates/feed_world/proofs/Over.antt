@@ -7,7 +7,7 @@ use Rattle.feed_world.specs.declared.line.Why.TheVariants as whys
 use Rattle.feed_names.specs.ReleaseName.{name_eq}
 use Rattle.feed_model.specs.File.{fault_of}
 use Rattle.feed_model.specs.History.{Event, Offered, Piece, Lost, History, Answer, is_noted, is_taken, or_else, byte_at, size_of, kept, IsFile, IsWhole, IsGood, IsActive, Reports}
-use Rattle.feed_world.specs.World.{Shelf, file_on, Sent, Offer, Deliver, Lose, arriving, delivered}
+use Rattle.feed_world.specs.World.{Shelf, file_on, Sent, Offer, Deliver, Lose, arriving, delivery_event}
 use Rattle.feed_world.specs.Headline.{HasAlike}
 use Rattle.feed_model.proofs.Names.{name_is}
 use Rattle.feed_model.proofs.Reports.{reports_one}
@@ -38,7 +38,7 @@ arriving_true shelf (Offer n) e is = by (file_on shelf n) refl
         let u : ◌≡◌ {A = Result Event why.Why} (Ok (Offered n (length file))) (Ok e) = rw at at is in let v : Offered n (length file) ≡ e = cc in subst (IsTrueOf shelf) v (file, at, refl)
 arriving_true shelf (Deliver n first len) e is = by (file_on shelf n) refl
   where
-    slice : (file : List ℕ) → file_on shelf n ≡ Some file → (t : Bool) → nat_le (first + len) (length file) ≡ t → delivered n first len (Some file) ≡ Ok e → IsTrueOf shelf e
+    slice : (file : List ℕ) → file_on shelf n ≡ Some file → (t : Bool) → nat_le (first + len) (length file) ≡ t → delivery_event n first len (Some file) ≡ Ok e → IsTrueOf shelf e
     slice file at true t u =
         let v : ◌≡◌ {A = Result Event why.Why} (Ok (Piece n first (Some (length file)) (take len (drop first file)))) (Ok e) = rw t at u in let w : Piece n first (Some (length file))
         (take len (drop first file)) ≡ e = cc in subst (IsTrueOf shelf) w (file, at, byte-slice file first len)

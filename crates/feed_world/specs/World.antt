@@ -82,25 +82,25 @@ abbrev pub start : ℕ → World
 start count = record { shelf = []; nodes = replicate count (record { up = true; history = [] }) }
 
 -- an offer as it arrives: with the size of the published file
-abbrev pub offered : Name → Option (List ℕ) → Result Event why.Why
-offered n None = Err whys.Unpublished
-offered n (Some file) = Ok (Offered n (length file))
+abbrev pub offer_event : Name → Option (List ℕ) → Result Event why.Why
+offer_event n None = Err whys.Unpublished
+offer_event n (Some file) = Ok (Offered n (length file))
 
 -- a delivery as it arrives: a slice of the published file, and the size of the file
-abbrev pub delivered : Name → ℕ → ℕ → Option (List ℕ) → Result Event why.Why
-delivered n first len None = Err whys.Unpublished
-delivered n first len (Some file) = if nat_le (first + len) (length file) then Ok (Piece n first (Some (length file)) (take len (drop first file))) else Err whys.NoSlice
+abbrev pub delivery_event : Name → ℕ → ℕ → Option (List ℕ) → Result Event why.Why
+delivery_event n first len None = Err whys.Unpublished
+delivery_event n first len (Some file) = if nat_le (first + len) (length file) then Ok (Piece n first (Some (length file)) (take len (drop first file))) else Err whys.NoSlice
 
 -- a loss as it arrives
-abbrev pub lost : Name → Option (List ℕ) → Result Event why.Why
-lost n None = Err whys.Unpublished
-lost n (Some file) = Ok (Lost n)
+abbrev pub loss_event : Name → Option (List ℕ) → Result Event why.Why
+loss_event n None = Err whys.Unpublished
+loss_event n (Some file) = Ok (Lost n)
 
 -- the feed's event for what is sent to a node, or why nothing arrives
 abbrev pub arriving : Shelf → Sent → Result Event why.Why
-arriving shelf (Offer n) = offered n (file_on shelf n)
-arriving shelf (Deliver n first len) = delivered n first len (file_on shelf n)
-arriving shelf (Lose n) = lost n (file_on shelf n)
+arriving shelf (Offer n) = offer_event n (file_on shelf n)
+arriving shelf (Deliver n first len) = delivery_event n first len (file_on shelf n)
+arriving shelf (Lose n) = loss_event n (file_on shelf n)
 
 -- the event is refused, and nothing changes
 abbrev pub IsRefused : why.Why → World → Line → World → Type 0

@@ -1,6 +1,9 @@
 //! The events of a world of published files and nodes.
 use feed_names::ReleaseName;
 
+/// The most nodes that a world may have. It has at least one.
+pub const NODE_LIMIT: usize = 16;
+
 /// The event during which a node stops: an offer with the size of the published file, or the `len` bytes of the
 /// published file from the place `first` on.
 #[derive(Drop)]

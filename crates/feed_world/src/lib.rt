@@ -6,6 +6,6 @@ mod event;
 mod laws;
 mod line;
 
-pub use event::{Sent, WorldEvent};
+pub use event::{NODE_LIMIT, Sent, WorldEvent};
 pub use laws::{headline, histories, latest_is_reported, order_is_free};
 pub use line::{Line, Why};

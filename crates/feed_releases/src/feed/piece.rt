@@ -14,7 +14,7 @@ impl<K: Keep + Drop> Feed<K> {
     ghost use Rattle.feed_model.specs.History.{Piece};
     ghost use Rattle.feed_model.specs.Content.{Record, record_of};
     ghost use Rattle.feed_model.specs.Parts.{Reaches};
-    ghost use Rattle.feed_releases.specs.ReleaseValue.{IsPlaceOf, LiesOver};
+    ghost use Rattle.feed_releases.specs.ReleaseValue.{IsPlaceOf, IsOverlapOf};
     ghost use Rattle.feed_releases.specs.Feeds.{IsAnsweredBy, recorded, releases_of};
 
     /// Answers a piece. The first case that holds decides.
@@ -64,7 +64,7 @@ impl<K: Keep + Drop> Feed<K> {
         requires reaches { (r : Record) → record_of (recorded self.old) name.now ≡ Some r
             → Reaches (recorded self.old) name.now first total bytes.now r }
         requires new { (r : Record) → record_of (recorded self.old) name.now ≡ Some r
-            → LiesOver r first bytes.now Overlap.New }
+            → IsOverlapOf r first bytes.now Overlap.New }
         ensures { IsAnsweredBy self.old self.new (Piece name.now first total bytes.now) result }
     {
         let growth = self.releases[at].growth(self.alloc, first, bytes)?;

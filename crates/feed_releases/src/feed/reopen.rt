@@ -16,7 +16,7 @@ use feed_model::KeepFault;
 use std::alloc::Global;
 
 /// Returns the releases of a keeper's records, in their order.
-pub(crate) fn reopened(alloc: Global, records: Vec<Record>) -> Result<Vec<Release>, KeepFault>
+pub(crate) fn from_records(alloc: Global, records: Vec<Record>) -> Result<Vec<Release>, KeepFault>
     requires distinct { IsDistinct name_eq (names (shown records.items)) }
     ensures content { IfOk result (λ releases. content_of releases.items ≡ shown records.items) }
     ensures sound { IfOk result (λ _. IsSound (shown records.items)) }
@@ -30,7 +30,7 @@ pub(crate) fn reopened(alloc: Global, records: Vec<Record>) -> Result<Vec<Releas
         return Err(KeepFault::Memory);
     };
     for record in records {
-        match Release::reopened(alloc, record) {
+        match Release::from_record(alloc, record) {
             Ok(release) => releases.push_reserved(release),
             Err(cause) => return Err(cause),
         }

@@ -3,8 +3,8 @@ ghost use Rattle.std.specs.Prelude.{◌≡◌, ◌≤◌, ◌+◌, ℕ, List, le
 ghost use Rattle.feed_model.specs.Reply.{max_piece};
 ghost use Rattle.feed_model.specs.Change.{IsAllowed};
 ghost use Rattle.feed_releases.specs.Committed.{IsCommitted};
-ghost use Rattle.feed_releases.specs.ReleaseValue.{LiesOver};
-ghost use Rattle.feed_releases.specs.Standing.{reply_of, rows_of, stood};
+ghost use Rattle.feed_releases.specs.ReleaseValue.{IsOverlapOf};
+ghost use Rattle.feed_releases.specs.Standing.{reply_of, rows_of, record_after};
 ghost use Rattle.feed_releases.specs.Growth.{IsGrowth, change_of, parts_of};
 
 use crate::commit::commit;
@@ -30,7 +30,7 @@ impl Release {
     pub(crate) fn growth(&self, alloc: Global, first: u64, bytes: &[u8]) -> Result<Growth, Refusal>
         requires inside { first + length bytes.now ≤ self.now.kept.size }
         requires piece { length bytes.now ≤ max_piece }
-        requires new { LiesOver self.now.kept first bytes.now Overlap.New }
+        requires new { IsOverlapOf self.now.kept first bytes.now Overlap.New }
         ensures growth { IfOk result (IsGrowth self.now.kept first bytes.now) }
         ensures refused { OnErr result (result ≡ Err Refusal.Memory) }
     {
@@ -64,7 +64,7 @@ impl Release {
         requires allowed { K.clean keeper.old → IsAllowed (change_of self.old.kept growth) (K.content keeper.old) }
         ensures reply { IfOk result (λ reply. reply ≡ reply_of growth.missing growth.standing) }
         ensures taken { OnOk result (self.new ≡ record {
-          kept = stood (parts_of growth) growth.standing self.old.kept;
+          kept = record_after (parts_of growth) growth.standing self.old.kept;
           holdings = rows_of growth.standing;
         }) }
         ensures same { OnErr result (self.new ≡ self.old) }

@@ -5,7 +5,7 @@ ghost use Rattle.feed_model.specs.Content.{byte_in};
 ghost use Rattle.feed_model.specs.Parts.{AreWithin};
 ghost use Rattle.feed_model.specs.Sound.{IsSoundRecord};
 ghost use Rattle.feed_keep.specs.Shown.{shown_record};
-ghost use Rattle.feed_releases.specs.Standing.{StandsSo};
+ghost use Rattle.feed_releases.specs.Standing.{IsStandingOf};
 
 use crate::release::Release;
 use crate::standing::Standing;
@@ -19,7 +19,7 @@ use std::alloc::{AllocError, Global};
 impl Release {
     /// Returns the release of a record. The error is `Damaged` if no feed can have produced the record. Reads the file
     /// of a complete release to check this.
-    pub(crate) fn reopened(alloc: Global, kept: Record) -> Result<Release, KeepFault>
+    pub(crate) fn from_record(alloc: Global, kept: Record) -> Result<Release, KeepFault>
         ensures ok { IfOk result (λ release. (release.kept ≡ shown_record kept)
             × IsSoundRecord (shown_record kept)) }
         ensures err { IfErr result (λ cause. (cause ≡ KeepFault.Memory)
@@ -41,7 +41,7 @@ impl Release {
         let Ok(standing) = standing_of(alloc, size, &kept) else {
             return Err(KeepFault::Memory);
         };
-        if !standing.bears_out(state, reason) {
+        if !standing.is_recorded_as(state, reason) {
             return Err(KeepFault::Damaged);
         }
         Ok(Release {
@@ -57,7 +57,7 @@ impl Release {
 fn standing_of(alloc: Global, size: u64, kept: &Segments) -> Result<Standing, AllocError>
     requires { AreWithin size kept.now.parts }
     ensures { IfOk result (λ standing.
-        StandsSo size kept.now.parts (missing_below (byte_in kept.now.parts) size) standing) }
+        IsStandingOf size kept.now.parts (missing_below (byte_in kept.now.parts) size) standing) }
 {
     if kept.missing(size) > 0 {
         return Ok(Standing::Partial);

@@ -2,15 +2,15 @@ use Rattle.std.proofs.Common.{◌≡◌, take, map, length}
 use Rattle.std.specs.Prelude.{vec_len}
 use Rattle.feed_world.specs.Shown.{shown_event, shown_line}
 use Rattle.feed_core.specs.Step.{HasShown}
-use Rattle.feed_core.specs.Counts.{AreCounted, IsToldOf}
+use Rattle.feed_core.specs.Counts.{AreCounted, HasDeviceFailure}
 use Rattle.feed_core.proofs.world.show_all.Given as goal
 
 -- the lines so far are right, the nodes represent the world that they lead to, and devices failed wherever a failure is
 -- reported
 abbrev pub invariant-loop-event : goal.invariant-loop-event
 invariant-loop-event g l = record {
-  shown : HasShown g.N.Node.clean g.N.Node.stands (vec_len l.initial.nodes) (map shown_event (take l.event-index l.events)) (map shown_line l.lines.items) l.shelf.files.entries l.nodes.items;
-  counted : AreCounted (IsToldOf (map shown_event (take l.event-index l.events)) (map shown_line l.lines.items)) g.N.Node.failed g.N.Node.failed 1 l.initial.nodes.items l.nodes.items;
+  shown : HasShown g.N.Node.clean g.N.Node.has_state (vec_len l.initial.nodes) (map shown_event (take l.event-index l.events)) (map shown_line l.lines.items) l.shelf.files.entries l.nodes.items;
+  counted : AreCounted (HasDeviceFailure (map shown_event (take l.event-index l.events)) (map shown_line l.lines.items)) g.N.Node.failed g.N.Node.failed 1 l.initial.nodes.items l.nodes.items;
   lines : length l.lines.items ≡ l.event-index;
   count : length l.nodes.items ≡ vec_len l.initial.nodes;
 }

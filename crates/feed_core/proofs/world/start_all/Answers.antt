@@ -1,28 +1,28 @@
 use Rattle.std.proofs.Common.{inl, inr, length, arith, ◌≤◌}
-use Rattle.feed_core.specs.Slots.{SlotStands, slot_failed}
+use Rattle.feed_core.specs.Slots.{HasSlotState, slot_failed}
 use Rattle.feed_core.proofs.Empty.{start_more}
-use Rattle.feed_core.proofs.Going.{went_next, went_all, went_count, went_at}
+use Rattle.feed_core.proofs.WorldSteps.{done_next, done_all, done_count, done_at}
 use Rattle.feed_core.proofs.Counts.{counted_of}
 use Rattle.std.proofs.lemmas.List.{nil_from_length}
 use Rattle.feed_core.proofs.world.start_all.Goals as goal
 
 pub loop-keeper-preserved : goal.loop-keeper-preserved
 loop-keeper-preserved g c = record {
-  so = went_next (λ k s. g.K.Keep.failed k ≤ slot_failed g.K.Keep.failed s) c.args.keepers.items c.loop-keeper.keeper-iterator.rest.items c.next.new.self.rest.items c.loop-keeper.nodes.items
+  so = done_next (λ k s. g.K.Keep.failed k ≤ slot_failed g.K.Keep.failed s) c.args.keepers.items c.loop-keeper.keeper-iterator.rest.items c.next.new.self.rest.items c.loop-keeper.nodes.items
       c.push.new.self.items c.in-Some.keeper c.in-Ok-start.slot c.loop-keeper.invariant.so c.in-Some.ensures.steps.0 c.in-Ok-start.ensures.counted c.in-Ok-push.ensures.items;
-  stood = start_more
-      (SlotStands g.K.Keep.content g.K.Keep.listed) c.loop-keeper.nodes.items c.push.new.self.items c.in-Ok-start.slot c.in-Ok-push.ensures.items
-      c.loop-keeper.invariant.stood c.in-Ok-start.ensures.ok;
+  in_state = start_more
+      (HasSlotState g.K.Keep.content g.K.Keep.listed) c.loop-keeper.nodes.items c.push.new.self.items c.in-Ok-start.slot c.in-Ok-push.ensures.items
+      c.loop-keeper.invariant.in_state c.in-Ok-start.ensures.ok;
 }
 
 pub returns-in-Err-clause-start : goal.returns-in-Err-clause-start
-returns-in-Err-clause-start g c = elim c.not_started.ensures [
+returns-in-Err-clause-start g c = elim c.start_fault.ensures [
   | inl memory ↦ rw memory.1 tt
   | inr other ↦ rw other.1 (record {
     before = c.in-Some.keeper;
     at = length c.loop-keeper.nodes.items;
     number = omega (arith, c.len-in-Err.ensures, c.loop-keeper.nodes.ok.0);
-    given = went_at (λ k s. g.K.Keep.failed k ≤ slot_failed g.K.Keep.failed s) c.args.keepers.items c.loop-keeper.keeper-iterator.rest.items c.next.new.self.rest.items
+    given = done_at (λ k s. g.K.Keep.failed k ≤ slot_failed g.K.Keep.failed s) c.args.keepers.items c.loop-keeper.keeper-iterator.rest.items c.next.new.self.rest.items
         c.loop-keeper.nodes.items c.in-Some.keeper c.loop-keeper.invariant.so c.in-Some.ensures.steps.0;
     kept = c.in-Err.ensures.kept;
     was_clean = c.in-Err.ensures.kept_clean;
@@ -35,7 +35,7 @@ pub returns-clause-count : goal.returns-clause-count
 returns-clause-count g c =
     omega (
       arith,
-      went_count
+      done_count
           (λ k s. g.K.Keep.failed k ≤ slot_failed g.K.Keep.failed s) c.args.keepers.items c.loop-keeper.keeper-iterator.rest.items c.loop-keeper.nodes.items c.loop-keeper.invariant.so,
       c.loop-keeper.keeper-iterator.rest.ok.0,
       c.in-None.ensures.steps.0,
@@ -45,5 +45,5 @@ returns-clause-count g c =
 pub returns-clause-counted : goal.returns-clause-counted
 returns-clause-counted g c =
     counted_of g.K.Keep.failed (slot_failed g.K.Keep.failed) 1 c.args.keepers.items c.loop-keeper.nodes.items
-    (went_all (λ k s. g.K.Keep.failed k ≤ slot_failed g.K.Keep.failed s) c.args.keepers.items c.loop-keeper.keeper-iterator.rest.items c.loop-keeper.nodes.items c.loop-keeper.invariant.so
+    (done_all (λ k s. g.K.Keep.failed k ≤ slot_failed g.K.Keep.failed s) c.args.keepers.items c.loop-keeper.keeper-iterator.rest.items c.loop-keeper.nodes.items c.loop-keeper.invariant.so
     (nil_from_length c.loop-keeper.keeper-iterator.rest.items (omega (arith, c.loop-keeper.keeper-iterator.rest.ok.0, c.in-None.ensures.steps.0))))

@@ -29,5 +29,5 @@ returns-in-Ok-clause-distinct c =
 
 pub returns-in-Ok-clause-order : goal.returns-in-Ok-clause-order
 returns-in-Ok-clause-order c =
-    let copied = c.in-Ok.ensures ∙ ap (λ (rs : List code.Record). ordered (shown rs)) c.deref-2.ensures.value in
-    subst IsInOrder (sym copied) (ordered_in_order (shown c.args.self.now.records.items) c.args.self.now.order)
+    let copy_parts = c.in-Ok.ensures ∙ ap (λ (rs : List code.Record). ordered (shown rs)) c.deref-2.ensures.value in
+    subst IsInOrder (sym copy_parts) (ordered_in_order (shown c.args.self.now.records.items) c.args.self.now.order)

@@ -3,7 +3,7 @@ use Rattle.feed_model.specs.Content.{record_of}
 use Rattle.feed_model.specs.Parts.{Reaches}
 use Rattle.feed_model.proofs.Pieces.{piece_older, piece_unknown, piece_wrong_size, piece_outside, piece_conflict, piece_repeated}
 use Rattle.feed_releases.specs.declared.overlap.Overlap.TheVariants.{New}
-use Rattle.feed_releases.specs.ReleaseValue.{content_of, LiesOver}
+use Rattle.feed_releases.specs.ReleaseValue.{content_of, IsOverlapOf}
 use Rattle.feed_releases.proofs.Answering.{idle, small, sized, other_size, one_record}
 use Rattle.feed_releases.proofs.Finding.{later_at, none_later}
 use Rattle.feed_releases.proofs.Growth.{found_here}
@@ -71,7 +71,7 @@ take_in-requires-clause-new g c x found_x =
     let rs = c.args.self.now.releases.items in
     let r = c.index-release.result.now in
     let found = found_here rs c.args.name.now c.in-Some.at r (rw c.deref-2.ensures.value at c.in-Some.ensures.found) c.index-release.ensures in
-    one_record (record_of (content_of rs) c.args.name.now) r.kept x (λ k. LiesOver k c.args.first c.args.bytes.now New) found found_x c.in-New.ensures
+    one_record (record_of (content_of rs) c.args.name.now) r.kept x (λ k. IsOverlapOf k c.args.first c.args.bytes.now New) found found_x c.in-New.ensures
 
 pub returns-in-Conflict : goal.returns-in-Conflict
 returns-in-Conflict g c =

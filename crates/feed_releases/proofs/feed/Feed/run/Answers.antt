@@ -1,13 +1,13 @@
 use Rattle.std.proofs.Common.{arith}
 use Rattle.feed_model.proofs.Runs.{run_more}
-use Rattle.feed_releases.specs.Told.{told}
+use Rattle.feed_releases.specs.Events.{event_of}
 use Rattle.feed_releases.specs.ReleaseValue.{content_of}
 use Rattle.feed_releases.proofs.Failed.{answered_more}
 use Rattle.feed_releases.proofs.feed.Feed.run.Goals as goal
 
 pub loop-event-preserved : goal.loop-event-preserved
 loop-event-preserved g c = record {
-  stands = run_more told _ (content_of c.loop-event.self.releases.items)
+  stands = run_more event_of _ (content_of c.loop-event.self.releases.items)
       (content_of c.handle.new.self.releases.items) c.args.events.now c.loop-event.event-index c.event-item.result c.loop-event.answers.items c.push_reserved.new.self.items c.handle.result
       c.loop-event-test.true c.event-item.is c.push_reserved.ensures.items c.loop-event.invariant.stands c.handle.ensures.right;
   count = omega (arith, c.push_reserved.ensures.len, c.loop-event.invariant.count);

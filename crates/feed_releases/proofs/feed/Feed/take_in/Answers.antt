@@ -6,7 +6,7 @@ use Rattle.feed_keep.proofs.Failed.{told_as}
 use Rattle.feed_releases.specs.ReleaseValue.{ReleaseValue, content_of}
 use Rattle.feed_releases.specs.Growth.{change_of, parts_of}
 use Rattle.feed_releases.proofs.Answering.{idle, grown_commits, memory_not, memory_not_full, only_memory, refused, refused_with, taken_in}
-use Rattle.feed_releases.proofs.Growth.{found_here, length-set, name_at, one_at, set_back, stood_at}
+use Rattle.feed_releases.proofs.Growth.{found_here, length-set, name_at, one_at, set_back, record_after_at}
 use Rattle.feed_releases.proofs.Growing.{growth_right, growth_allowed, after_activated, after_kept}
 use Rattle.feed_releases.proofs.feed.Feed.take_in.Goals as goal
 
@@ -65,7 +65,7 @@ invariant_of-self-in-Activated-clause-mirrors g c = λ clean.
     let n = c.args.name.now in
     let r = c.index_mut.result.now in
     let growth = c.in_ok-growth.growth in
-    let grown = stood_at rs n c.args.at r c.grow.new.self (parts_of growth) growth.standing c.requires.place c.index_mut.ensures.value
+    let grown = record_after_at rs n c.args.at r c.grow.new.self (parts_of growth) growth.standing c.requires.place c.index_mut.ensures.value
     (ap (λ (y : ReleaseValue). y.kept) c.in_ok-reply.ensures.taken) in
     c.in_ok-reply.ensures.committed.made clean ∙ ap (after (change_of r.kept growth)) (c.args.self.now.mirrors (c.in_ok-reply.ensures.committed.was clean))
     ∙ after_activated n r.kept growth (content_of rs) (name_at rs n c.args.at r c.requires.place c.index_mut.ensures.value) (sym c.in_ok-reply.ensures.reply ∙ c.in-Activated.is)
@@ -81,7 +81,7 @@ invariant_of-self-in_default-clause-mirrors g c = λ clean.
     let n = c.args.name.now in
     let r = c.index_mut.result.now in
     let growth = c.in_ok-growth.growth in
-    let grown = stood_at rs n c.args.at r c.grow.new.self (parts_of growth) growth.standing c.requires.place c.index_mut.ensures.value
+    let grown = record_after_at rs n c.args.at r c.grow.new.self (parts_of growth) growth.standing c.requires.place c.index_mut.ensures.value
     (ap (λ (y : ReleaseValue). y.kept) c.in_ok-reply.ensures.taken) in
     c.in_ok-reply.ensures.committed.made clean ∙ ap (after (change_of r.kept growth)) (c.args.self.now.mirrors (c.in_ok-reply.ensures.committed.was clean))
     ∙ after_kept n r.kept growth (content_of rs) (name_at rs n c.args.at r c.requires.place c.index_mut.ensures.value) (λ e. c.in_default.not-Activated (c.in_ok-reply.ensures.reply ∙ e))
@@ -99,7 +99,7 @@ returns-in-Activated g c =
     let found = found_here rs n c.args.at r c.requires.place c.index_mut.ensures.value in
     let name = name_at rs n c.args.at r c.requires.place c.index_mut.ensures.value in
     let same = one_at rs c.args.at c.index.result.now r c.requires.place.within c.index.ensures c.index_mut.ensures.value in
-    let grown = stood_at rs n c.args.at r c.grow.new.self (parts_of growth) growth.standing c.requires.place c.index_mut.ensures.value
+    let grown = record_after_at rs n c.args.at r c.grow.new.self (parts_of growth) growth.standing c.requires.place c.index_mut.ensures.value
     (ap (λ (y : ReleaseValue). y.kept) c.in_ok-reply.ensures.taken) in
     let content = c.drop_earlier.ensures.dropped ∙ ap (without_earlier n) grown
     ∙ sym (after_activated n r.kept growth (content_of rs) name (sym c.in_ok-reply.ensures.reply ∙ c.in-Activated.is)) in
@@ -117,7 +117,7 @@ returns-in_default g c =
     let found = found_here rs n c.args.at r c.requires.place c.index_mut.ensures.value in
     let name = name_at rs n c.args.at r c.requires.place c.index_mut.ensures.value in
     let same = one_at rs c.args.at c.index.result.now r c.requires.place.within c.index.ensures c.index_mut.ensures.value in
-    let grown = stood_at rs n c.args.at r c.grow.new.self (parts_of growth) growth.standing c.requires.place c.index_mut.ensures.value
+    let grown = record_after_at rs n c.args.at r c.grow.new.self (parts_of growth) growth.standing c.requires.place c.index_mut.ensures.value
     (ap (λ (y : ReleaseValue). y.kept) c.in_ok-reply.ensures.taken) in
     let content = grown ∙ sym (after_kept n r.kept growth (content_of rs) name (λ e. c.in_default.not-Activated (c.in_ok-reply.ensures.reply ∙ e))) in
     rw c.in_ok-reply.ensures.reply (taken_in c.args.self.now _ _ _ c.in_ok-reply.ensures.committed.was (told_as c.in_ok-reply.ensures.committed.counted (λ e. cc) (λ e. cc))

@@ -2,8 +2,8 @@ use Rattle.std.proofs.Common.{rules, List, [], length, inl, inr, refl, ap, subst
 use Rattle.std.proofs.lemmas.List.{nil_from_length}
 use Rattle.feed_keep.specs.declared.record.Record as code
 use Rattle.feed_releases.proofs.Reopened.{AreReopened, reopened_start, reopened_next, reopened_all, reopened_count, reopened_not, reopened_sound, reopened_late}
-use Rattle.feed_releases.proofs.feed.reopen.reopened.Goals as goal
-use Rattle.feed_releases.proofs.feed.reopen.reopened.Goals.{In-None}
+use Rattle.feed_releases.proofs.feed.reopen.from_records.Goals as goal
+use Rattle.feed_releases.proofs.feed.reopen.from_records.Goals.{In-None}
 
 -- nothing is left
 all_done : (c : In-None) → AreReopened c.args.records.items c.loop-record.releases.items []
@@ -42,7 +42,7 @@ push_reserved-requires c =
 pub loop-record-preserved : goal.loop-record-preserved
 loop-record-preserved c = record {
   so = reopened_next c.args.records.items c.loop-record.record-iterator.rest.items c.next.new.self.rest.items c.loop-record.releases.items c.push_reserved.new.self.items c.in-Some.record
-      c.in-Ok-reopened.release c.loop-record.invariant.so c.in-Some.ensures.steps.0 c.in-Ok-reopened.ensures.ok.0 c.in-Ok-reopened.ensures.ok.1 c.push_reserved.ensures.items;
+      c.in-Ok-from_record.release c.loop-record.invariant.so c.in-Some.ensures.steps.0 c.in-Ok-from_record.ensures.ok.0 c.in-Ok-from_record.ensures.ok.1 c.push_reserved.ensures.items;
   room = omega (arith, c.loop-record.invariant.room, c.push_reserved.ensures.capacity);
 }
 

@@ -3,7 +3,7 @@ use Rattle.std.proofs.lemmas.Fn.{always_returns_same}
 use Rattle.std.proofs.lemmas.List.Sorted.{IsNonDecreasingBy-from_sort_by_key}
 use Rattle.feed_model.specs.Change.{merged}
 use Rattle.feed_parts.proofs.Stable.{sorted_stably}
-use Rattle.feed_parts.proofs.merging.copied_in_order.Goals as goal
+use Rattle.feed_parts.proofs.merging.copy_in_order.Goals as goal
 
 pub returns : goal.returns
 returns c =

@@ -1,6 +1,6 @@
 use Rattle.std.proofs.Common.{◌∙◌, ap, arith, insert}
 use Rattle.feed_core.proofs.Steps.{insert-remove}
-use Rattle.feed_core.proofs.step.reopened.Goals as goal
+use Rattle.feed_core.proofs.step.restart_node.Goals as goal
 
 pub returns : goal.returns
 returns g c = record {
@@ -9,6 +9,6 @@ returns g c = record {
   was = c.remove.ensures.value;
   now = c.put_back.ensures ∙ ap (λ xs. insert xs c.args.at c.restart-node.result.0) c.remove.ensures.items ∙ insert-remove c.args.nodes.now.items c.args.at c.restart-node.result.0
       (omega (arith, c.requires.within, c.args.nodes.now.ok.0));
-  still = c.restart-node.ensures.clean;
-  goes = ((c.restart-node.ensures.device.rises, c.restart-node.ensures.device.failed), λ up h clean stood. c.restart-node.ensures.same up h clean stood);
+  was_clean = c.restart-node.ensures.clean;
+  holds = ((c.restart-node.ensures.device.rises, c.restart-node.ensures.device.failed), λ up h clean in_state. c.restart-node.ensures.same up h clean in_state);
 }

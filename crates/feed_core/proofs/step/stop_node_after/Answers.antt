@@ -1,6 +1,6 @@
 use Rattle.std.proofs.Common.{◌∙◌, ap, arith, insert}
 use Rattle.feed_core.proofs.Steps.{insert-remove}
-use Rattle.feed_core.proofs.step.stopped_after.Goals as goal
+use Rattle.feed_core.proofs.step.stop_node_after.Goals as goal
 
 pub returns : goal.returns
 returns g c = record {
@@ -9,6 +9,6 @@ returns g c = record {
   was = c.remove.ensures.value;
   now = c.put_back.ensures ∙ ap (λ xs. insert xs c.args.at c.stop_after-node.result.0) c.remove.ensures.items ∙ insert-remove c.args.nodes.now.items c.args.at c.stop_after-node.result.0
       (omega (arith, c.requires.within, c.args.nodes.now.ok.0));
-  still = c.stop_after-node.ensures.clean;
-  goes = (c.stop_after-node.ensures.device, λ h clean stood. c.stop_after-node.ensures.right h clean stood);
+  was_clean = c.stop_after-node.ensures.clean;
+  holds = (c.stop_after-node.ensures.device, λ h clean in_state. c.stop_after-node.ensures.right h clean in_state);
 }

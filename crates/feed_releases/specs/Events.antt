@@ -4,7 +4,7 @@ use Rattle.feed_releases.specs.declared.event.Event as code_event
 use Rattle.feed_releases.specs.declared.event.Event.TheVariants as events
 
 -- the model value of an event
-abbrev pub told : code_event.Event → Event
-told (events.Offered n size) = Offered n.now size
-told (events.Piece n first total bytes) = Piece n.now first total bytes.now
-told (events.Lost n) = Lost n.now
+abbrev pub event_of : code_event.Event → Event
+event_of (events.Offered n size) = Offered n.now size
+event_of (events.Piece n first total bytes) = Piece n.now first total bytes.now
+event_of (events.Lost n) = Lost n.now

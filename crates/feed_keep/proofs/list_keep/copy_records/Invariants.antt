@@ -1,7 +1,7 @@
 use Rattle.std.proofs.Common.{◌≡◌, take}
 use Rattle.feed_keep.specs.Shown.{shown}
 use Rattle.feed_keep.specs.Arranged.{ordered}
-use Rattle.feed_keep.proofs.list_keep.copied_records.Given as goal
+use Rattle.feed_keep.proofs.list_keep.copy_records.Given as goal
 
 -- the records that were passed are copied, each with its parts in order
 abbrev pub invariant-loop-record : goal.invariant-loop-record
