@@ -1,2 +1,2 @@
-pub mod Stands
-pub mod Exchanges
+pub mod States
+pub mod Streams

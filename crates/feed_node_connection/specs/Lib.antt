@@ -1,4 +1,4 @@
-pub mod Happenings
+pub mod Events
 pub mod Replies
-pub mod Standing
-pub mod Exchanged
+pub mod States
+pub mod Streams

@@ -1,14 +1,14 @@
 //! The state machine of one connection of a node, without its socket.
 ghost use Rattle.std.specs.Prelude.{◌≡◌, ◌≢◌, ◌+◌, ◌<◌, ◌≤◌, List, ◌∷◌, [], length, take, OnOk, vec_len};
-ghost use Rattle.feed_node_connection.specs.Happenings.{Happening, Came, Went, Passed};
+ghost use Rattle.feed_node_connection.specs.Events.{Event, Received, Sent, Elapsed};
 
-use crate::judged::{Verdict, judged};
-use crate::respond::{Respond, response};
+use crate::head_state::{HeadState, head_state};
+use crate::respond::{Reply, ReplySummary, Respond, make_reply};
 use feed_http_heads::HEAD_LIMIT;
 use std::alloc::{AllocError, Global};
 
 /// The number of bytes of a reply that a peer must accept within the time in which it has to send its head.
-pub const SLOWEST: usize = 16_384;
+pub const MIN_PROGRESS: usize = 16_384;
 
 /// The event that a connection waits for.
 #[derive(Clone, Copy, Debug, PartialEq, Eq)]
@@ -21,60 +21,63 @@ pub enum Wants {
     Close,
 }
 
+/// How far a connection is.
 #[derive(Clone, Copy, Debug, PartialEq, Eq)]
 pub enum Phase {
     /// The head is incomplete.
-    Hearing,
+    Receiving,
     /// A part of the reply remains to be sent.
-    Telling,
+    Sending,
     /// The whole reply was sent. Further bytes from the peer are dropped until it closes its side, because closing a
     /// connection with unread bytes may lose the reply (RFC 9112, section 9.6).
     Lingering,
     /// The whole reply was sent, and the connection waits for nothing.
-    Whole,
-    /// The time was up, the peer was gone, or memory ran out.
-    Cut,
+    Complete,
+    /// The time limit passed, the peer closed its side, or memory ran out.
+    Aborted,
 }
 
 /// A connection that receives one request and sends one reply.
 #[derive(Drop)]
 pub struct Connection {
     phase: Phase,
-    heard: Vec<u8>,
+    received: Vec<u8>,
     reply: Vec<u8>,
     sent: usize,
     more_may_come: bool,
     /// The bytes sent since the timer was last restarted.
-    since: usize,
+    sent_since: usize,
     /// The milliseconds since then.
-    quiet: u64,
+    elapsed: u64,
     limit: u64,
-    ghost bounded: { vec_len heard ≤ 8192 },
+    summary: Option<ReplySummary>,
+    ghost bounded: { vec_len received ≤ 8192 },
     ghost within: { sent ≤ vec_len reply },
-    ghost slow: { since < 16384 },
-    ghost in_time: { quiet ≤ limit },
+    ghost slow: { sent_since < 16384 },
+    ghost in_time: { elapsed ≤ limit },
 }
 
 impl Connection {
-    ghost use Rattle.feed_node_connection.specs.Standing.{StandsAt, ComesOn, rest_of, wants_in, IsDone};
-    ghost use Rattle.feed_node_connection.specs.Standing.{HasTakenIn, HasBegun, lingers_in, is_told_in};
+    ghost use Rattle.feed_node_connection.specs.States.{HasState, HasReceived, pending_of, wants_in, IsReplySent};
+    ghost use Rattle.feed_node_connection.specs.States.{HasAppended, HasBegunReply, is_lingering_in, is_reply_sent_in};
 
     /// Returns a connection in which each step may take `limit` milliseconds: receiving the head, sending every 16,384
     /// bytes of the reply, and sending the rest.
     pub fn new(alloc: Global, limit: u64) -> Connection
         requires { 0 < limit }
-        ensures stands { StandsAt result [] }
+        ensures state { HasState result [] }
         ensures limit { result.limit ≡ limit }
     {
         Connection {
-            phase: Phase::Hearing,
-            heard: Vec::new(alloc),
+            phase: Phase::Receiving,
+            received: Vec::new(alloc),
             reply: Vec::new(alloc),
             sent: 0,
             more_may_come: true,
-            since: 0,
-            quiet: 0,
+            sent_since: 0,
+            elapsed: 0,
             limit,
+            summary: None,
         }
     }
 
@@ -83,17 +86,17 @@ impl Connection {
         ensures { result ≡ wants_in self.now.phase }
     {
         match self.phase {
-            Phase::Hearing => Wants::Bytes,
-            Phase::Telling => Wants::Room,
+            Phase::Receiving => Wants::Bytes,
+            Phase::Sending => Wants::Room,
             Phase::Lingering => Wants::Bytes,
-            Phase::Whole => Wants::Close,
-            Phase::Cut => Wants::Close,
+            Phase::Complete => Wants::Close,
+            Phase::Aborted => Wants::Close,
         }
     }
 
     /// Returns whether the reply was sent and the peer may send more. If so, the caller shuts down the sending side.
     pub fn is_lingering(&self) -> bool
-        ensures { result ≡ lingers_in self.now.phase }
+        ensures { result ≡ is_lingering_in self.now.phase }
     {
         match self.phase {
             Phase::Lingering => true,
@@ -102,86 +105,88 @@ impl Connection {
     }
 
     /// Returns whether the whole reply was sent.
-    pub fn is_told(&self) -> bool
-        ensures { result ≡ is_told_in self.now.phase }
+    pub fn is_reply_sent(&self) -> bool
+        ensures { result ≡ is_reply_sent_in self.now.phase }
     {
         match self.phase {
             Phase::Lingering => true,
-            Phase::Whole => true,
+            Phase::Complete => true,
             _ => false,
         }
     }
 
-    /// Takes bytes received. Drops those after the head.
-    pub fn came<R: Respond>(&mut self, alloc: Global, responder: &R, bytes: &[u8])
-        ensures stands { (history : List Happening) → StandsAt self.old history
-            → ComesOn (R.replies responder.now) self.new bytes.now history }
+    /// Adds received bytes to the head, and makes the reply once the head is complete or invalid. Drops bytes after the
+    /// head.
+    pub fn receive<R: Respond>(&mut self, alloc: Global, responder: &R, bytes: &[u8])
+        ensures state { (history : List Event) → HasState self.old history
+            → HasReceived (R.replies responder.now) self.new bytes.now history }
         ensures limit { self.new.limit ≡ self.old.limit }
     {
-        let Phase::Hearing = self.phase else {
+        let Phase::Receiving = self.phase else {
             return;
         };
-        let room = HEAD_LIMIT - self.heard.len();
+        let room = HEAD_LIMIT - self.received.len();
         let (front, _) = bytes.split_at(bytes.len().min(room));
-        if self.take_in(alloc, responder, front).is_err() {
-            self.phase = Phase::Cut;
+        if self.append_request(alloc, responder, front).is_err() {
+            self.phase = Phase::Aborted;
         }
     }
 
-    fn take_in<R: Respond>(
+    fn append_request<R: Respond>(
         &mut self,
         alloc: Global,
         responder: &R,
         bytes: &[u8],
     ) -> Result<(), AllocError>
-        requires hearing { self.old.phase ≡ Phase.Hearing }
-        requires room { vec_len self.old.heard + length bytes.now ≤ HEAD_LIMIT }
-        ensures taken { OnOk result (HasTakenIn (R.replies responder.now) bytes.now self.old self.new) }
+        requires hearing { self.old.phase ≡ Phase.Receiving }
+        requires room { vec_len self.old.received + length bytes.now ≤ HEAD_LIMIT }
+        ensures appended { OnOk result (HasAppended (R.replies responder.now) bytes.now self.old self.new) }
         ensures limit { self.new.limit ≡ self.old.limit }
     {
-        self.heard.extend_from_slice(bytes)?;
-        match judged(&self.heard) {
-            Verdict::More => Ok(()),
-            Verdict::Enough { more_may_come } => {
-                let reply = response(alloc, responder, &self.heard)?;
-                self.begin(reply, more_may_come);
+        self.received.extend_from_slice(bytes)?;
+        match head_state(&self.received) {
+            HeadState::Incomplete => Ok(()),
+            HeadState::Enough { more_may_come } => {
+                let reply = make_reply(alloc, responder, &self.received)?;
+                self.begin_reply(reply, more_may_come);
                 Ok(())
             }
         }
     }
 
-    fn begin(&mut self, reply: Vec<u8>, more_may_come: bool)
-        ensures begun { HasBegun reply.items self.new }
+    fn begin_reply(&mut self, reply: Reply, more_may_come: bool)
+        ensures begun { HasBegunReply reply.bytes.items self.new }
         ensures limit { self.new.limit ≡ self.old.limit }
     {
-        self.reply = reply;
+        self.summary = Some(reply.summary);
+        self.reply = reply.bytes;
         self.sent = 0;
-        self.since = 0;
-        self.quiet = 0;
+        self.sent_since = 0;
+        self.elapsed = 0;
         self.more_may_come = more_may_come;
         self.phase = if self.reply.is_empty() {
-            self.done()
+            self.phase_after_reply()
         } else {
-            Phase::Telling
+            Phase::Sending
         };
     }
 
     // The phase after the whole reply was sent.
-    fn done(&self) -> Phase
-        ensures { IsDone result }
+    fn phase_after_reply(&self) -> Phase
+        ensures { IsReplySent result }
     {
         if self.more_may_come {
             Phase::Lingering
         } else {
-            Phase::Whole
+            Phase::Complete
         }
     }
 
     /// Returns the bytes received: the request's head and what arrived with it, or bytes that are not a head.
-    pub fn heard(&self) -> &[u8]
-        ensures { result.now ≡ self.now.heard.items }
+    pub fn request_bytes(&self) -> &[u8]
+        ensures { result.now ≡ self.now.received.items }
     {
-        &self.heard
+        &self.received
     }
 
     /// Returns the whole reply. It is empty until the reply is made.
@@ -191,73 +196,80 @@ impl Connection {
         &self.reply
     }
 
-    /// Returns the milliseconds since the timer was last restarted.
-    pub fn quiet(&self) -> u64
-        ensures { result ≡ self.now.quiet }
+    /// Returns the status of the reply and the length of its body, once there is a reply.
+    pub fn summary(&self) -> Option<ReplySummary>
+        ensures { result ≡ self.now.summary }
     {
-        self.quiet
+        self.summary
     }
 
-    /// Returns the rest of the reply.
-    pub fn rest(&self) -> &[u8]
-        ensures { result.now ≡ rest_of self.now }
+    /// Returns the milliseconds since the timer was last restarted.
+    pub fn elapsed(&self) -> u64
+        ensures { result ≡ self.now.elapsed }
+    {
+        self.elapsed
+    }
+
+    /// Returns the part of the reply that remains to be sent.
+    pub fn pending_reply(&self) -> &[u8]
+        ensures { result.now ≡ pending_of self.now }
     {
         match self.phase {
-            Phase::Telling => &self.reply[self.sent..],
+            Phase::Sending => &self.reply[self.sent..],
             _ => b"",
         }
     }
 
-    /// Records that the peer accepted this many bytes of the rest.
-    pub fn took(&mut self, count: usize)
+    /// Records that the peer accepted this many bytes of `pending_reply`.
+    pub fn mark_sent(&mut self, count: usize)
         requires some { 0 < count }
-        requires within { count ≤ length (rest_of self.old) }
-        ensures stands { (history : List Happening) → StandsAt self.old history
-            → StandsAt self.new (Went (take count (rest_of self.old)) ∷ history) }
+        requires within { count ≤ length (pending_of self.old) }
+        ensures state { (history : List Event) → HasState self.old history
+            → HasState self.new (Sent (take count (pending_of self.old)) ∷ history) }
         ensures limit { self.new.limit ≡ self.old.limit }
     {
-        if count >= SLOWEST - self.since {
-            self.since = 0;
-            self.quiet = 0;
+        if count >= MIN_PROGRESS - self.sent_since {
+            self.sent_since = 0;
+            self.elapsed = 0;
         } else {
-            self.since += count;
+            self.sent_since += count;
         }
         self.sent += count;
         if self.sent == self.reply.len() {
-            self.phase = self.done();
+            self.phase = self.phase_after_reply();
         }
     }
 
     /// Records that this many milliseconds have passed.
-    pub fn passed(&mut self, millis: u64)
-        ensures stands { (history : List Happening) → StandsAt self.old history
-            → StandsAt self.new (Passed millis ∷ history) }
-        ensures kept { self.old.quiet + millis < self.old.limit → self.new.phase ≡ self.old.phase }
+    pub fn advance_clock(&mut self, millis: u64)
+        ensures state { (history : List Event) → HasState self.old history
+            → HasState self.new (Elapsed millis ∷ history) }
+        ensures kept { self.old.elapsed + millis < self.old.limit → self.new.phase ≡ self.old.phase }
         ensures limit { self.new.limit ≡ self.old.limit }
     {
         if self.wants() == Wants::Close {
             return;
         }
-        if millis >= self.limit - self.quiet {
+        if millis >= self.limit - self.elapsed {
             self.end();
         } else {
-            self.quiet += millis;
+            self.elapsed += millis;
         }
     }
 
-    /// Ends the connection: the peer is gone, or sends no more.
+    /// Ends the connection, because the peer closed its side or a read or write failed.
     pub fn end(&mut self)
-        ensures stands { (history : List Happening) → StandsAt self.old history
-            → StandsAt self.new history }
+        ensures state { (history : List Event) → HasState self.old history
+            → HasState self.new history }
         ensures over { wants_in self.new.phase ≡ Wants.Close }
         ensures limit { self.new.limit ≡ self.old.limit }
     {
         self.phase = match self.phase {
-            Phase::Hearing => Phase::Cut,
-            Phase::Telling => Phase::Cut,
-            Phase::Lingering => Phase::Whole,
-            Phase::Whole => Phase::Whole,
-            Phase::Cut => Phase::Cut,
+            Phase::Receiving => Phase::Aborted,
+            Phase::Sending => Phase::Aborted,
+            Phase::Lingering => Phase::Complete,
+            Phase::Complete => Phase::Complete,
+            Phase::Aborted => Phase::Aborted,
         };
     }
 }

@@ -3,12 +3,12 @@
 #![tactic(auto)]
 
 mod connection;
-mod exchange;
-mod judged;
+mod head_state;
 mod laws;
 mod respond;
+mod streams;
 
-pub use connection::{Connection, Phase, SLOWEST, Wants};
-pub use exchange::advance;
-pub use laws::standing_is_right;
-pub use respond::{Respond, UNAVAILABLE};
+pub use connection::{Connection, MIN_PROGRESS, Phase, Wants};
+pub use laws::state_is_right;
+pub use respond::{Reply, ReplySummary, Respond, RespondFault, UNAVAILABLE};
+pub use streams::advance;

@@ -1,13 +1,65 @@
-//! The trait `Respond`: makes the replies of a node.
-ghost use Rattle.std.specs.Prelude.{IfOk};
-ghost use Rattle.feed_node_connection.specs.Replies.{IsRespondedTo};
+//! The trait `Respond`, which makes the replies of a node, and the reply if there can be no other.
+ghost use Rattle.std.specs.Prelude.{◌≡◌, IfOk};
+ghost use Rattle.feed_node_connection.specs.Replies.{IsRespondedTo, unavailable};
 
 use std::alloc::{AllocError, Global};
 
-/// The reply if memory for any other runs out (RFC 9110, section 15.6.4).
+/// The reply if the responder makes none (RFC 9110, section 15.6.4).
 pub const UNAVAILABLE: &[u8] =
     b"HTTP/1.1 503 Service Unavailable\r\nContent-Type: text/plain; charset=utf-8\r\n\
     Content-Length: 7\r\nRetry-After: 1\r\nConnection: close\r\n\r\nMemory\n";
+
+/// Why a responder makes no reply.
+#[derive(Clone, Copy, Debug, PartialEq, Eq)]
+pub enum RespondFault {
+    /// Memory ran out.
+    Memory,
+    /// The node has too much to do. The client may send its request again.
+    Busy,
+}
+
+impl From<AllocError> for RespondFault {
+    fn from(_error: AllocError) -> RespondFault {
+        RespondFault::Memory
+    }
+}
+
+/// The facts about a reply that a log records.
+#[derive(Clone, Copy)]
+pub struct ReplySummary {
+    /// The status code.
+    pub status: u16,
+    /// The number of bytes of the body: 0 in a reply to HEAD.
+    pub body_len: usize,
+    /// Whether the bytes are only the head of a reply whose body follows later, line by line.
+    pub is_streamed: bool,
+    /// Why the reply is `UNAVAILABLE`, or `None` if the responder made it.
+    pub fault: Option<RespondFault>,
+}
+
+/// A reply: its bytes, and the facts about it that a log records.
+#[derive(Drop)]
+pub struct Reply {
+    pub bytes: Vec<u8>,
+    pub summary: ReplySummary,
+}
+
+impl Reply {
+    /// Returns a complete reply with this status code and this number of bytes in its body.
+    pub fn new(bytes: Vec<u8>, status: u16, body_len: usize) -> Reply
+        ensures { result.bytes ≡ bytes }
+    {
+        Reply {
+            bytes,
+            summary: ReplySummary {
+                status,
+                body_len,
+                is_streamed: false,
+                fault: None,
+            },
+        }
+    }
+}
 
 /// Makes the replies of a node.
 pub trait Respond {
@@ -17,20 +69,34 @@ pub trait Respond {
     ghost replies: { Self → List ℕ → List ℕ → Type 0 };
 
     /// Returns the reply to bytes that begin with the head of a request, or that never will, whatever follows.
-    fn respond(&self, alloc: Global, bytes: &[u8]) -> Result<Vec<u8>, AllocError>
-        ensures { IfOk result (λ reply. replies self.now bytes.now reply.items) };
+    fn respond(&self, alloc: Global, bytes: &[u8]) -> Result<Reply, RespondFault>
+        ensures { IfOk result (λ reply. replies self.now bytes.now reply.bytes.items) };
 }
 
-/// Returns the reply, or `UNAVAILABLE` if memory runs out.
-pub(crate) fn response<R: Respond>(
+/// Returns the reply of the responder, or `UNAVAILABLE` if it makes none.
+pub(crate) fn make_reply<R: Respond>(
     alloc: Global,
     responder: &R,
     bytes: &[u8],
-) -> Result<Vec<u8>, AllocError>
-    ensures { IfOk result (λ reply. IsRespondedTo (R.replies responder.now) bytes.now reply.items) }
+) -> Result<Reply, AllocError>
+    ensures { IfOk result (λ reply. IsRespondedTo (R.replies responder.now) bytes.now reply.bytes.items) }
 {
     match responder.respond(alloc, bytes) {
         Ok(reply) => Ok(reply),
-        Err(_) => Vec::from_slice(alloc, UNAVAILABLE),
+        Err(fault) => unavailable(alloc, fault),
     }
+}
+
+fn unavailable(alloc: Global, fault: RespondFault) -> Result<Reply, AllocError>
+    ensures { IfOk result (λ reply. reply.bytes.items ≡ unavailable) }
+{
+    Ok(Reply {
+        bytes: Vec::from_slice(alloc, UNAVAILABLE)?,
+        summary: ReplySummary {
+            status: 503,
+            body_len: 7,
+            is_streamed: false,
+            fault: Some(fault),
+        },
+    })
 }

@@ -4,13 +4,14 @@ use mio::net::TcpStream;
 use std::alloc::Global;
 use std::net::{Shutdown, SocketAddr};
 
+/// A client: its connection, and the socket of it.
 #[derive(Drop)]
 pub struct Peer {
     pub stream: TcpStream,
     pub addr: SocketAddr,
     pub connection: Connection,
     /// Whether the writing side of the socket was shut down.
-    is_ended: bool,
+    is_shut_down: bool,
 }
 
 impl Peer {
@@ -19,11 +20,11 @@ impl Peer {
             stream,
             addr,
             connection,
-            is_ended: false,
+            is_shut_down: false,
         }
     }
 
-    /// Continues until the socket would block or the connection is over.
+    /// Receives and sends until the socket would block or the connection is over.
     pub fn advance<S: Respond>(&mut self, alloc: Global, responder: &S, buffer: &mut [u8]) {
         feed_node_connection::advance(
             &mut self.connection,
@@ -35,23 +36,26 @@ impl Peer {
         );
     }
 
-    /// Returns whether the reply has just been sent whole.
-    pub fn is_just_told(&self) -> bool {
-        self.connection.is_told() && !self.is_ended
+    /// Returns whether the head of a streamed reply was sent, so that its body may follow.
+    pub fn begins_stream(&self) -> bool {
+        match self.connection.summary() {
+            Some(summary) => summary.is_streamed && self.connection.is_reply_sent(),
+            None => false,
+        }
     }
 
     /// Shuts down the writing side once the reply is sent. Returns whether the connection is over.
-    pub fn settle(&mut self) -> bool {
-        if self.connection.is_lingering() && !self.is_ended {
-            self.is_ended = true;
+    pub fn shut_down_if_sent(&mut self) -> bool {
+        if self.connection.is_lingering() && !self.is_shut_down {
+            self.is_shut_down = true;
             let _ = self.stream.shutdown(Shutdown::Write);
         }
         self.is_over()
     }
 
-    /// Takes milliseconds off the connection's time. Returns whether the connection is over.
-    pub fn passed(&mut self, millis: u64) -> bool {
-        self.connection.passed(millis);
+    /// Advances the connection's clock by milliseconds. Returns whether the connection is over.
+    pub fn advance_clock(&mut self, millis: u64) -> bool {
+        self.connection.advance_clock(millis);
         self.is_over()
     }
 

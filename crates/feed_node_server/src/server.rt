@@ -1,9 +1,9 @@
-//! The server: the poll, the listener, the connections of clients and the exchange with another server.
+//! The server: the poll, the listener, the connections of clients, and the request to another server.
 ghost use Rattle.std.specs.Prelude.{◌<◌};
 
-use crate::exchange::{Asking, Exchange};
+use crate::outgoing::{Destination, OutgoingRequest};
 use crate::peer::Peer;
-use crate::telling::Telling;
+use crate::streamed_reply::StreamedReply;
 use feed_node_connection::{Connection, Respond};
 use mio::net::{TcpListener, TcpStream};
 use mio::{Events, Interest, Poll, Token};
@@ -17,9 +17,9 @@ use std::time::{Duration, Instant};
 
 const LISTENER: Token = Token(usize::MAX);
 
-const EXCHANGE: Token = Token(usize::MAX - 1);
+const OUTGOING: Token = Token(usize::MAX - 1);
 
-const TELLING: Token = Token(usize::MAX - 2);
+const STREAM: Token = Token(usize::MAX - 2);
 
 // The most milliseconds that a turn blocks.
 const TICK: u64 = 250;
@@ -42,11 +42,8 @@ pub struct Settings {
 
 /// A log of the connections.
 pub trait Log {
-    /// Called when a connection closes, or when its client is kept (`keeps`).
-    fn closed(&mut self, addr: SocketAddr, connection: &Connection);
-
-    /// Returns whether a client whose reply was sent is kept, to receive more (`Server::tell`).
-    fn keeps(&self, connection: &Connection) -> bool;
+    /// Called when a connection closes, or when the head of its streamed reply was sent.
+    fn on_close(&mut self, addr: SocketAddr, connection: &Connection);
 }
 
 /// A server over its sockets, which `turn` advances.
@@ -56,15 +53,15 @@ pub struct Server {
     poll: Poll,
     listener: TcpListener,
     peers: Slab<Peer>,
-    exchange: Option<Exchange>,
-    tellings: Slab<Telling>,
+    outgoing: Option<OutgoingRequest>,
+    streams: Slab<StreamedReply>,
     buffer: Vec<u8>,
     settings: Settings,
-    before: Instant,
+    last_tick: Instant,
     /// Whether connections may wait to be accepted that no event will report.
-    waiting: bool,
+    may_accept: bool,
     /// Whether the last turn used all of its share, so that the next one does not block.
-    pressed: bool,
+    has_more_work: bool,
 }
 
 impl Server {
@@ -75,7 +72,7 @@ impl Server {
         settings: Settings,
     ) -> io::Result<Server> {
         let alloc = rt.alloc();
-        let before = Instant::now(rt)?;
+        let last_tick = Instant::now(rt)?;
         let peers = Slab::with_capacity(alloc, settings.clients)?;
         let buffer = Vec::from_elem(alloc, 0, READ_BYTES)?;
         let (poll, listener) = listen(rt, addr)?;
@@ -84,13 +81,13 @@ impl Server {
             poll,
             listener,
             peers,
-            exchange: None,
-            tellings: Slab::new(alloc),
+            outgoing: None,
+            streams: Slab::new(alloc),
             buffer,
             settings,
-            before,
-            waiting: false,
-            pressed: false,
+            last_tick,
+            may_accept: false,
+            has_more_work: false,
         })
     }
 
@@ -104,55 +101,55 @@ impl Server {
         Ok(Events::with_capacity(self.alloc, EVENTS)?)
     }
 
-    /// Begins an exchange with another server. It replaces one that is under way.
-    pub fn ask<R: Net + AllocGlobal>(
+    /// Begins a request to another server. It replaces one that is under way.
+    pub fn begin_request<R: Net + AllocGlobal>(
         &mut self,
         rt: &R,
-        asking: Asking,
+        destination: Destination,
         request: Vec<u8>,
     ) -> io::Result<()> {
-        let mut exchange = Exchange::begin(rt, asking, request)?;
+        let mut outgoing = OutgoingRequest::begin(rt, destination, request)?;
         let both = Interest::READABLE | Interest::WRITABLE;
         self.poll
             .registry()
-            .register(&mut exchange.stream, EXCHANGE, both)?;
-        self.exchange = Some(exchange);
+            .register(&mut outgoing.stream, OUTGOING, both)?;
+        self.outgoing = Some(outgoing);
         Ok(())
     }
 
-    /// Takes the exchange, if it is over.
-    pub fn answered(&mut self) -> Option<Exchange> {
-        let exchange = self.exchange.take()?;
-        if exchange.is_over() {
-            return Some(exchange);
+    /// Takes the request to another server, with its reply, if it is over.
+    pub fn take_finished_request(&mut self) -> Option<OutgoingRequest> {
+        let outgoing = self.outgoing.take()?;
+        if outgoing.is_over() {
+            return Some(outgoing);
         }
-        self.exchange = Some(exchange);
+        self.outgoing = Some(outgoing);
         None
     }
 
-    /// Sends a text to the clients that were kept.
-    pub fn tell(&mut self, text: &[u8]) {
-        self.tellings.retain(|_, telling| {
-            telling.tell(text);
+    /// Appends a text to the bodies of the streamed replies.
+    pub fn send_to_streams(&mut self, text: &[u8]) {
+        self.streams.retain(|_, stream| {
+            stream.append(text);
             true
         });
-        self.advance_tellings();
+        self.advance_streams();
     }
 
-    /// Ends the replies to the clients that were kept.
-    pub fn end_telling(&mut self) {
-        self.tellings.retain(|_, telling| {
-            telling.end();
+    /// Completes the streamed replies.
+    pub fn finish_streams(&mut self) {
+        self.streams.retain(|_, stream| {
+            stream.finish();
             true
         });
-        self.advance_tellings();
+        self.advance_streams();
     }
 
-    fn advance_tellings(&mut self) {
+    fn advance_streams(&mut self) {
         let buffer = &mut self.buffer;
-        self.tellings.retain(|_, telling| {
-            telling.advance(buffer);
-            !telling.is_over()
+        self.streams.retain(|_, stream| {
+            stream.advance(buffer);
+            !stream.is_over()
         });
     }
 
@@ -164,29 +161,29 @@ impl Server {
         events: &mut Events,
         log: &mut L,
     ) -> io::Result<()> {
-        let wait = if self.pressed { 0 } else { TICK };
+        let wait = if self.has_more_work { 0 } else { TICK };
         self.poll.poll(events, Some(Duration::from_millis(wait)))?;
         for event in events.iter() {
-            self.answer(event.token(), responder, log);
+            self.on_event(event.token(), responder, log);
         }
-        let pressed = self.take(responder, log);
-        self.pressed = self.advance_exchange() || pressed;
-        self.advance_tellings();
+        let has_more_work = self.accept_waiting(responder, log);
+        self.has_more_work = self.advance_outgoing() || has_more_work;
+        self.advance_streams();
         let now = Instant::now(rt)?;
         let passed = now
-            .saturating_duration_since(self.before)
+            .saturating_duration_since(self.last_tick)
             .as_millis()
             .min(u64::MAX as u128) as u64;
         if passed >= TICK {
-            self.before = now;
-            self.pass(passed, log);
+            self.last_tick = now;
+            self.advance_clock(passed, log);
         }
         Ok(())
     }
 
-    fn answer<S: Respond, L: Log>(&mut self, token: Token, responder: &S, log: &mut L) {
+    fn on_event<S: Respond, L: Log>(&mut self, token: Token, responder: &S, log: &mut L) {
         if token == LISTENER {
-            self.waiting = true;
+            self.may_accept = true;
         } else {
             self.advance(token.0, responder, log);
         }
@@ -197,54 +194,54 @@ impl Server {
             return;
         };
         peer.advance(self.alloc, responder, &mut self.buffer);
-        if peer.is_just_told() && log.keeps(&peer.connection) {
+        if peer.begins_stream() {
             if let Some(peer) = self.peers.try_remove(key) {
-                self.keep(peer, log);
+                self.stream_to(peer, log);
             }
-        } else if peer.settle() {
+        } else if peer.shut_down_if_sent() {
             self.close(key, log);
         }
     }
 
-    // Advances the exchange. Returns whether it used all of its share of the turn.
-    fn advance_exchange(&mut self) -> bool {
-        match &mut self.exchange {
-            Some(exchange) => exchange.advance(),
+    // Advances the request to another server. Returns whether it used all of its share of the turn.
+    fn advance_outgoing(&mut self) -> bool {
+        match &mut self.outgoing {
+            Some(outgoing) => outgoing.advance(),
             None => false,
         }
     }
 
-    // Keeps a client whose reply was sent, to send it more.
-    fn keep<L: Log>(&mut self, peer: Peer, log: &mut L) {
-        log.closed(peer.addr, &peer.connection);
+    // Keeps a client that has the head of its streamed reply, to send the body.
+    fn stream_to<L: Log>(&mut self, peer: Peer, log: &mut L) {
+        log.on_close(peer.addr, &peer.connection);
         let mut stream = peer.stream;
         let both = Interest::READABLE | Interest::WRITABLE;
         let registry = self.poll.registry();
-        let known = registry.reregister(&mut stream, TELLING, both);
-        if known.is_err() && registry.register(&mut stream, TELLING, both).is_err() {
+        let known = registry.reregister(&mut stream, STREAM, both);
+        if known.is_err() && registry.register(&mut stream, STREAM, both).is_err() {
             return;
         }
-        let telling = Telling::new(self.alloc, stream, self.settings.limit);
-        let _ = self.tellings.insert(telling);
+        let stream = StreamedReply::new(self.alloc, stream, self.settings.limit);
+        let _ = self.streams.insert(stream);
     }
 
     fn close<L: Log>(&mut self, key: usize, log: &mut L) {
         if let Some(peer) = self.peers.try_remove(key) {
-            log.closed(peer.addr, &peer.connection);
+            log.on_close(peer.addr, &peer.connection);
         }
     }
 
     // Accepts connections until none waits, or the system refuses one, which the next turn tries again. A flood gets a
     // bounded share of a turn. Returns whether it used all of it.
-    fn take<S: Respond, L: Log>(&mut self, responder: &S, log: &mut L) -> bool {
+    fn accept_waiting<S: Respond, L: Log>(&mut self, responder: &S, log: &mut L) -> bool {
         for _ in 0..EVENTS {
-            if !self.waiting {
+            if !self.may_accept {
                 return false;
             }
             match self.listener.accept() {
                 Ok((stream, addr)) => self.admit(stream, addr, responder, log),
                 Err(fault) => match fault.kind() {
-                    ErrorKind::WouldBlock => self.waiting = false,
+                    ErrorKind::WouldBlock => self.may_accept = false,
                     ErrorKind::Interrupted => {}
                     ErrorKind::ConnectionAborted => {}
                     _ => return false,
@@ -254,7 +251,7 @@ impl Server {
         true
     }
 
-    // Takes in a new connection. A client may have sent its head already: then it needs no place.
+    // Begins a new connection. A client may have sent its head already: then it is answered without a registration.
     fn admit<S: Respond, L: Log>(
         &mut self,
         stream: TcpStream,
@@ -265,17 +262,17 @@ impl Server {
         let connection = Connection::new(self.alloc, self.settings.limit);
         let mut peer = Peer::new(stream, addr, connection);
         peer.advance(self.alloc, responder, &mut self.buffer);
-        if peer.is_just_told() && log.keeps(&peer.connection) {
-            self.keep(peer, log);
-        } else if peer.settle() {
-            log.closed(peer.addr, &peer.connection);
+        if peer.begins_stream() {
+            self.stream_to(peer, log);
+        } else if peer.shut_down_if_sent() {
+            log.on_close(peer.addr, &peer.connection);
         } else {
-            self.place(peer, log);
+            self.register(peer, log);
         }
     }
 
-    // Gives a connection a place in the loop.
-    fn place<L: Log>(&mut self, mut peer: Peer, log: &mut L) {
+    // Registers a connection with the poll.
+    fn register<L: Log>(&mut self, mut peer: Peer, log: &mut L) {
         self.make_room(log);
         let key = self.peers.vacant_key();
         let both = Interest::READABLE | Interest::WRITABLE;
@@ -284,42 +281,42 @@ impl Server {
             .register(&mut peer.stream, Token(key), both)
             .is_err()
         {
-            log.closed(peer.addr, &peer.connection);
+            log.on_close(peer.addr, &peer.connection);
         } else if let Err(failed) = self.peers.insert(peer) {
-            log.closed(failed.value.addr, &failed.value.connection);
+            log.on_close(failed.value.addr, &failed.value.connection);
         }
     }
 
-    // Closes the quietest connection to make room for another.
+    // Closes the connection that is idle longest, to make room for another.
     fn make_room<L: Log>(&mut self, log: &mut L) {
         if self.peers.len() < self.settings.clients {
             return;
         }
-        let mut quietest = None;
-        let mut most = 0_u64;
+        let mut idlest = None;
+        let mut longest = 0_u64;
         for (key, peer) in self.peers.iter() {
-            if quietest.is_none() || peer.connection.quiet() > most {
-                most = peer.connection.quiet();
-                quietest = Some(key);
+            if idlest.is_none() || peer.connection.elapsed() > longest {
+                longest = peer.connection.elapsed();
+                idlest = Some(key);
             }
         }
-        if let Some(key) = quietest {
+        if let Some(key) = idlest {
             self.close(key, log);
         }
     }
 
-    fn pass<L: Log>(&mut self, millis: u64, log: &mut L) {
-        if let Some(exchange) = &mut self.exchange {
-            exchange.passed(millis);
+    fn advance_clock<L: Log>(&mut self, millis: u64, log: &mut L) {
+        if let Some(outgoing) = &mut self.outgoing {
+            outgoing.advance_clock(millis);
         }
-        self.tellings.retain(|_, telling| {
-            telling.passed(millis);
-            !telling.is_over()
+        self.streams.retain(|_, stream| {
+            stream.advance_clock(millis);
+            !stream.is_over()
         });
         self.peers.retain(|_, peer| {
-            let is_over = peer.passed(millis);
+            let is_over = peer.advance_clock(millis);
             if is_over {
-                log.closed(peer.addr, &peer.connection);
+                log.on_close(peer.addr, &peer.connection);
             }
             !is_over
         });

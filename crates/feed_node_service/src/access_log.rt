@@ -1,37 +1,36 @@
 //! The access log of a node: a line in the common log format for each request.
-use crate::desk::Desk;
-use crate::resolver::is_post;
+use crate::node_state::NodeState;
 use feed_dates::write_date;
-use feed_node_connection::{Connection, UNAVAILABLE};
+use feed_node_connection::{Connection, ReplySummary};
 use feed_node_server::Log;
 use std::io;
 use std::io::Write;
 use std::net::SocketAddr;
 use std::time::{SystemTime, UNIX_EPOCH};
 
-/// A log that prints a line for each connection that was answered, and keeps the first error of a print.
+/// A log that prints a line for each connection that got a reply, and keeps the first error of a print.
 #[derive(Drop)]
 pub struct AccessLog<'o, O: Write> {
     rt: &'o HostRuntime,
     out: &'o mut O,
-    desk: &'o Desk,
+    state: &'o NodeState,
     outcome: io::Result<()>,
     is_clean: bool,
 }
 
 impl<'o, O: Write> AccessLog<'o, O> {
-    pub fn new(rt: &'o HostRuntime, out: &'o mut O, desk: &'o Desk) -> AccessLog<'o, O> {
+    pub fn new(rt: &'o HostRuntime, out: &'o mut O, state: &'o NodeState) -> AccessLog<'o, O> {
         AccessLog {
             rt,
             out,
-            desk,
+            state,
             outcome: Ok(()),
             is_clean: true,
         }
     }
 
     /// Flushes the output, and returns the first error.
-    pub fn flushed(&mut self) -> io::Result<()> {
+    pub fn flush(&mut self) -> io::Result<()> {
         if self.is_clean {
             return Ok(());
         }
@@ -42,22 +41,18 @@ impl<'o, O: Write> AccessLog<'o, O> {
 }
 
 impl<'o, O: Write> Log for AccessLog<'o, O> {
-    fn closed(&mut self, addr: SocketAddr, connection: &Connection) {
-        if connection.reply().is_empty() {
+    fn on_close(&mut self, addr: SocketAddr, connection: &Connection) {
+        let Some(summary) = connection.summary() else {
             return;
-        }
-        if connection.reply() != UNAVAILABLE {
-            self.desk.free(connection.reply().len());
+        };
+        if summary.fault.is_none() {
+            self.state.release_bytes(connection.reply().len());
         }
         self.is_clean = false;
         if self.outcome.is_ok() {
-            self.outcome = put_line(self.rt, self.out, addr, connection);
+            let request = connection.request_bytes();
+            self.outcome = put_line(self.rt, self.out, addr, request, summary);
         }
-    }
-
-    // A POST that is not refused feeds the node, and its client receives the lines of the fetch.
-    fn keeps(&self, connection: &Connection) -> bool {
-        is_post(connection.heard()) && status_of(connection.reply()) == b"200".as_slice()
     }
 }
 
@@ -65,10 +60,11 @@ fn put_line<O: Write>(
     rt: &HostRuntime,
     out: &mut O,
     addr: SocketAddr,
-    connection: &Connection,
+    request: &[u8],
+    summary: ReplySummary,
 ) -> io::Result<()> {
     put_client(rt, out, addr)?;
-    put_exchange(out, connection)
+    put_exchange(out, request, summary)
 }
 
 // Prints the address of the client and the time.
@@ -84,12 +80,10 @@ fn put_client<O: Write>(rt: &HostRuntime, out: &mut O, addr: SocketAddr) -> io::
 }
 
 // Prints the request, the status of the reply and the length of its body.
-fn put_exchange<O: Write>(out: &mut O, connection: &Connection) -> io::Result<()> {
+fn put_exchange<O: Write>(out: &mut O, request: &[u8], summary: ReplySummary) -> io::Result<()> {
     out.write_all(b" \"")?;
-    put_escaped(out, request_line(connection.heard()))?;
-    out.write_all(b"\" ")?;
-    out.write_all(status_of(connection.reply()))?;
-    write!(out, " {}\n", body_of(connection.reply()).len())
+    put_escaped(out, request_line(request))?;
+    write!(out, "\" {} {}\n", summary.status, summary.body_len)
 }
 
 // Returns the name of a month, by the digits of its number.
@@ -135,31 +129,15 @@ fn put_time<O: Write>(out: &mut O, seconds: u64) -> io::Result<()> {
     )
 }
 
-// Returns the first line of a head.
-fn request_line(heard: &[u8]) -> &[u8] {
-    match heard
+// Returns the first line of the bytes of a request.
+fn request_line(request: &[u8]) -> &[u8] {
+    match request
         .iter()
         .position(|byte| *byte == b'\r' || *byte == b'\n')
     {
-        Some(place) => &heard[..place],
-        None => heard,
+        Some(place) => &request[..place],
+        None => request,
     }
-}
-
-fn status_of(reply: &[u8]) -> &[u8] {
-    reply.get(9..12).unwrap_or(b"-")
-}
-
-// Returns the body of a reply.
-fn body_of(reply: &[u8]) -> &[u8] {
-    let mut rest = reply;
-    for _ in 0..reply.len() {
-        if let Some(body) = rest.strip_prefix(b"\r\n\r\n".as_slice()) {
-            return body;
-        }
-        rest = rest.get(1..).unwrap_or(b"");
-    }
-    b""
 }
 
 // Prints a text for a pair of quotes: `"`, `\` and bytes that are not visible ASCII become `\xHH`.

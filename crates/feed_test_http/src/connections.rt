@@ -4,10 +4,10 @@ use crate::escapes::Escaped;
 use crate::fault::Fault;
 use crate::line::Line;
 use crate::node::Node;
-use feed_node_connection::{Connection, Respond, advance};
-use std::alloc::{AllocError, Global};
+use feed_node_connection::{Connection, Reply, Respond, RespondFault, advance};
+use std::alloc::Global;
 
-/// Replies with the bytes of the request, or with no memory.
+/// Replies with the bytes of the request, or fails for lack of memory.
 #[derive(Clone, Copy)]
 struct Echo {
     is_short: bool,
@@ -18,11 +18,11 @@ impl Respond for Echo {
 
     ghost replies = { λ echo bytes reply. reply ≡ bytes };
 
-    fn respond(&self, alloc: Global, bytes: &[u8]) -> Result<Vec<u8>, AllocError> {
+    fn respond(&self, alloc: Global, bytes: &[u8]) -> Result<Reply, RespondFault> {
         if self.is_short {
-            return Err(AllocError);
+            return Err(RespondFault::Memory);
         }
-        Vec::from_slice(alloc, bytes)
+        Ok(Reply::new(Vec::from_slice(alloc, bytes)?, 200, bytes.len()))
     }
 }
 
@@ -30,13 +30,13 @@ impl Node<'_> {
     pub fn take_connection(&mut self, command: &str, line: Line<'_>) -> Result<(), Fault> {
         match command {
             "connection" => self.begin(line)?,
-            "came" => self.came(line)?,
-            "passed" => self.passed(line)?,
-            "took" => self.took(line)?,
+            "receive" => self.receive(line)?,
+            "advance-clock" => self.advance_clock(line)?,
+            "mark-sent" => self.mark_sent(line)?,
             "converse" => return self.converse(line),
             _ => return Err(Fault::NoCommand),
         }
-        let left = self.connection.rest().len();
+        let left = self.connection.pending_reply().len();
         println!(self.rt; "{:?} {left}", self.connection.wants())?;
         Ok(())
     }
@@ -50,35 +50,35 @@ impl Node<'_> {
         Ok(())
     }
 
-    fn came(&mut self, line: Line<'_>) -> Result<(), Fault> {
+    fn receive(&mut self, line: Line<'_>) -> Result<(), Fault> {
         let bytes = line.text(self.rt.alloc())?;
         self.connection
-            .came(self.rt.alloc(), &Echo { is_short: false }, &bytes);
+            .receive(self.rt.alloc(), &Echo { is_short: false }, &bytes);
         Ok(())
     }
 
-    fn passed(&mut self, mut line: Line<'_>) -> Result<(), Fault> {
-        self.connection.passed(line.number()?);
+    fn advance_clock(&mut self, mut line: Line<'_>) -> Result<(), Fault> {
+        self.connection.advance_clock(line.number()?);
         Ok(())
     }
 
-    fn took(&mut self, mut line: Line<'_>) -> Result<(), Fault> {
+    fn mark_sent(&mut self, mut line: Line<'_>) -> Result<(), Fault> {
         let count = line.count()?;
-        if count == 0 || count > self.connection.rest().len() {
+        if count == 0 || count > self.connection.pending_reply().len() {
             return Err(Fault::NoBytes);
         }
-        self.connection.took(count);
+        self.connection.mark_sent(count);
         Ok(())
     }
 
-    // Moves a new connection on 200 times.
+    // Advances a new connection 200 times.
     fn converse(&self, mut line: Line<'_>) -> Result<(), Fault> {
         let ends = line.flag("ends", "waits")?;
         let is_short = line.flag("short", "serves")?;
-        let asked = line.text(self.rt.alloc())?;
+        let request = line.text(self.rt.alloc())?;
         let mut connection = Connection::new(self.rt.alloc(), 10);
         let mut reader = Cuts {
-            bytes: &asked,
+            bytes: &request,
             step: self.step,
             fails_at: usize::MAX,
             waits: !ends,

@@ -1,0 +1,14 @@
+use Rattle.std.proofs.Common.{[], ◌∷◌, refl, take, subst}
+use Rattle.std.specs.Io.KnownBytes.{Appends}
+use Rattle.feed_node_connection.specs.Events.{Sent}
+use Rattle.feed_node_connection.specs.States.{pending_of}
+use Rattle.feed_node_connection.proofs.streams.send_once.Goals as goal
+
+pub returns-in-Ok : goal.returns-in-Ok
+returns-in-Ok g c = λ history state. record {
+  more = Sent (take c.in-Ok.count (pending_of c.args.connection.now)) ∷ [];
+  state = c.mark_sent.ensures.state history state;
+  no_reply_made = refl;
+  bytes_sent = subst (λ t. Appends (g.W.Write.contents c.args.writer.now) (g.W.Write.contents c.write.new.self) (take c.in-Ok.count t)) c.pending_reply.ensures c.in-Ok.ensures.bytes;
+  none_received = refl;
+}
