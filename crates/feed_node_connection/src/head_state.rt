@@ -6,6 +6,7 @@ ghost use Rattle.feed_node_connection.specs.Replies.{IsHeadState};
 use feed_http_heads::{FIELD_LIMIT, HEAD_LIMIT, HeadFound, Request, find_head};
 use httparse::spans::EMPTY_HEADER_SPAN;
 
+/// Whether bytes are enough for a reply.
 #[derive(Clone, Copy)]
 pub(crate) enum HeadState {
     /// The head is incomplete.
@@ -29,11 +30,7 @@ pub(crate) fn head_state(bytes: &[u8]) -> HeadState
     let mut headers = [EMPTY_HEADER_SPAN; FIELD_LIMIT];
     match find_head(bytes, &mut headers) {
         HeadFound::Whole(spans) => {
-            let request = Request {
-                buffer: bytes,
-                headers: &headers,
-                spans,
-            };
+            let request = Request::new(bytes, &headers, spans);
             HeadState::Enough {
                 more_may_come: spans.len < bytes.len() || announces_body(&request),
             }

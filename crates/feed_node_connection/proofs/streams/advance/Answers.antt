@@ -1,5 +1,5 @@
 use Rattle.std.proofs.Common.{◌++◌}
-use Rattle.feed_node_connection.proofs.Streams.{further}
+use Rattle.feed_node_connection.proofs.Steps.{further}
 use Rattle.feed_node_connection.proofs.streams.advance.Goals as goal
 
 pub returns-then-not-step : goal.returns-then-not-step

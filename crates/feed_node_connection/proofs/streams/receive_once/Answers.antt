@@ -1,6 +1,6 @@
 use Rattle.std.proofs.Common.{sym, subst}
 use Rattle.std.specs.Io.KnownBytes.{Consumes}
-use Rattle.feed_node_connection.proofs.Streams.{read_some}
+use Rattle.feed_node_connection.proofs.Steps.{read_some}
 use Rattle.feed_node_connection.proofs.streams.receive_once.Goals as goal
 
 pub returns-in-Ok : goal.returns-in-Ok

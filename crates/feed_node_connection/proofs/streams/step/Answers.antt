@@ -1,4 +1,4 @@
-use Rattle.feed_node_connection.proofs.Streams.{after_write}
+use Rattle.feed_node_connection.proofs.Steps.{after_write}
 use Rattle.feed_node_connection.proofs.streams.step.Goals as goal
 
 pub returns-in-Room : goal.returns-in-Room
