@@ -1,5 +1,5 @@
 //! The database of a node in a SQLite file.
-use feed_node_commands::{Database, DatabaseFault};
+use feed_database_commands::{Database, DatabaseFault};
 use feed_store::{SqlKeep, StoreFault};
 use sqlite_std_file::File;
 use sqlite_store::FileStore;

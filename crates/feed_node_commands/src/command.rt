@@ -1,11 +1,7 @@
-//! The commands on a database, and the function that runs one.
-use crate::ask::print_answer;
-use crate::database::Database;
-use crate::fetch::fetch_release;
+//! The commands on the database of a node, and the function that runs one.
 use crate::node::{Hosting, run_node};
-use crate::status::print_status;
-use crate::why::print_reason;
 use feed_command::Faults;
+use feed_database_commands::{Database, DatabaseCommand, run_database_command};
 use std::io::Write;
 use std::time::Duration;
 
@@ -19,25 +15,12 @@ pub enum Command<'a> {
         time: Duration,
         upstream: Option<Upstream<'a>>,
     },
-    /// Fetch a release. A request asks for `piece` bytes, and a connection may take `time`.
-    Fetch {
-        addr: &'a str,
-        name: &'a str,
-        piece: u64,
-        time: Duration,
-    },
-    Ask {
-        package: &'a str,
-        query: &'a str,
-    },
-    Status,
-    Why {
-        name: &'a str,
-    },
+    /// A command that needs no server.
+    Database(DatabaseCommand<'a>),
 }
 
-/// The server that a node fetches from when a client tells it to, the file with the token of such clients, and how many
-/// bytes a request asks for.
+/// The server from which a node fetches releases on request, the file with the token that authorizes such a request, and
+/// how many bytes each request to the server asks for.
 #[derive(Clone, Copy)]
 pub struct Upstream<'a> {
     pub addr: &'a str,
@@ -45,8 +28,8 @@ pub struct Upstream<'a> {
     pub piece: u64,
 }
 
-/// Runs a command on a database, prints its output to `out`, and returns the exit status. It is the one function that a
-/// program calls at its type of databases, since each such call is dear to prove.
+/// Runs a command on a database, prints its output to `out`, and returns the exit status. A program calls this function
+/// once at its type of databases, since each call at a concrete type takes a minute to prove.
 pub fn run_command<D: Database, O: Write, F: Write + Drop>(
     rt: &HostRuntime,
     database: &D,
@@ -68,17 +51,7 @@ pub fn run_command<D: Database, O: Write, F: Write + Drop>(
             };
             run_node(rt, database, hosting, upstream, out, faults)
         }
-        Command::Fetch {
-            addr,
-            name,
-            piece,
-            time,
-        } => fetch_release(rt, database, addr, name, piece, time, out, faults),
-        Command::Ask { package, query } => {
-            print_answer(rt.alloc(), database, package, query, out, faults)
-        }
-        Command::Status => print_status(rt.alloc(), database, out, faults),
-        Command::Why { name } => print_reason(rt.alloc(), database, name, out, faults),
+        Command::Database(command) => run_database_command(rt, database, command, out, faults),
     }
 }
 

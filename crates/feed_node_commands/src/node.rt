@@ -1,8 +1,8 @@
-//! `kbfeed node`: a link resolver that answers readers over HTTP from the database of a node, and takes in releases.
+//! `kbfeed node`: a link resolver that answers readers over HTTP from the database of a node, and fetches releases.
 use crate::command::Upstream;
-use crate::database::{Database, close_keeper, open_feed};
 use crate::token::read_token;
 use feed_command::{FAILED, Faults, MISUSED, REFUSED, open_file};
+use feed_database_commands::{Database, close_keeper, open_feed};
 use feed_http::is_host;
 use feed_node_server::{Server, Settings};
 use feed_node_service::{End, Source, run};
@@ -20,7 +20,7 @@ pub struct Hosting<'a> {
 }
 
 /// Runs a node: opens the feed of a database and answers readers at an address, without end. If it has a source, a
-/// client that has the token may have it fetch a release from there. It prints a line for each request, at once. The
+/// client that has the token can make it fetch a release from there. It prints a line for each request, at once. The
 /// first fault is reported: of the source (`Host`, `Read`, `Token`), of the database, of the address (`Bind`), of the
 /// sockets (`Poll`) and of the print.
 pub fn run_node<D: Database, O: Write, F: Write + Drop>(

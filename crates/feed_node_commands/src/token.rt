@@ -9,8 +9,8 @@ const FEWEST: usize = 16;
 
 const MOST: usize = 4_096;
 
-/// Reads the first line of a file, if it is a token: at least 16 bytes of visible ASCII. A token of RFC 6750, section
-/// 2.1, has only some of these bytes.
+/// Reads the first line of a file, if it is a token: at least 16 bytes of visible ASCII, which include all bytes of a
+/// token of RFC 6750, section 2.1.
 pub fn read_token<R: Read>(alloc: Global, file: &mut R) -> io::Result<Option<Vec<u8>>> {
     let bytes = read_up_to(alloc, file, MOST)?;
     let end = match bytes.iter().position(|byte| *byte == b'\n') {

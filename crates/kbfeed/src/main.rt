@@ -4,6 +4,7 @@
 use feed_cli::{Request, Source, parse};
 use feed_command::{FAILED, Faults, MISUSED, take_stack};
 use feed_database::run_at;
+use feed_database_commands::DatabaseCommand;
 use feed_file_commands::{Check, answer_file, check_files, serve_folder};
 use feed_node_commands::{Command, Upstream};
 use feed_replay::replay_input;
@@ -99,17 +100,22 @@ fn run_request<O: Write, F: Write + Drop>(
             name,
             options,
         } => {
-            let fetch = Command::Fetch {
+            let fetch = DatabaseCommand::Fetch {
                 addr,
                 name,
                 piece: options.piece,
                 time: options.time,
             };
-            (db, fetch)
+            (db, Command::Database(fetch))
         }
-        Request::Ask { db, package, query } => (db, Command::Ask { package, query }),
-        Request::Status { db } => (db, Command::Status),
-        Request::Why { db, name } => (db, Command::Why { name }),
+        Request::Ask { db, package, query } => {
+            (
+                db,
+                Command::Database(DatabaseCommand::Ask { package, query }),
+            )
+        }
+        Request::Status { db } => (db, Command::Database(DatabaseCommand::Status)),
+        Request::Why { db, name } => (db, Command::Database(DatabaseCommand::Why { name })),
     };
     run_at(rt, db, command, out, faults)
 }

@@ -8,8 +8,8 @@ use std::io;
 use std::io::Write;
 
 /// Opens the database and its feed, and prints a line for each release that is recorded, ordered by name: the name,
-/// `staged`, `active` or `broken`, the size of the file and how many bytes of it are missing, and behind these the
-/// reason of a broken one, with a tab between each two. Returns the exit status: 1 for a database that is not ours or
+/// `staged`, `active` or `broken`, the size of the file, how many bytes of it are missing, and the reason of a
+/// broken one, with a tab between each two. Returns the exit status: 1 for a database that is not ours or
 /// damaged, 3 for a failing device or print and for running out of memory.
 pub fn print_status<D: Database, O: Write, F: Write + Drop>(
     alloc: Global,
@@ -36,9 +36,9 @@ pub fn print_status<D: Database, O: Write, F: Write + Drop>(
 
 fn print_records<O: Write>(out: &mut O, records: &[Record]) -> io::Result<()> {
     for record in records {
-        let state = word_of(record.state);
+        let state = state_name(record.state);
         let size = record.size;
-        let missing = missing_of(record);
+        let missing = missing_bytes(record);
         out.write_all(record.name.text())?;
         write!(out, "\t{state}\t{size}\t{missing}")?;
         if let Some(why) = record.reason {
@@ -49,7 +49,7 @@ fn print_records<O: Write>(out: &mut O, records: &[Record]) -> io::Result<()> {
     out.flush()
 }
 
-fn missing_of(record: &Record) -> u64 {
+fn missing_bytes(record: &Record) -> u64 {
     match record.state {
         State::Active | State::Broken => 0,
         State::Staged => {
@@ -62,7 +62,7 @@ fn missing_of(record: &Record) -> u64 {
     }
 }
 
-fn word_of(state: State) -> &'static str {
+fn state_name(state: State) -> &'static str {
     match state {
         State::Staged => "staged",
         State::Active => "active",

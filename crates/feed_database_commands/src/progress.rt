@@ -1,10 +1,10 @@
-//! How far a fetch is, on a terminal.
+//! The progress of a fetch, shown on a terminal.
 use std::io;
 use std::io::{ErrorKind, Write};
 use std::time::Instant;
 
 /// Passes on the lines of a fetch, each at once. If there is a screen, a line there is rewritten to show how many bytes
-/// of the file are stored, the rate and the time left. It reads them off the lines `size N` and `stored missing N`.
+/// of the file are stored, the rate and the time left. It parses these from the lines `size N` and `stored missing N`.
 #[derive(Drop)]
 pub struct Progress<'a, O: Write, S: Write + Drop> {
     rt: &'a HostRuntime,
@@ -40,8 +40,8 @@ impl<'a, O: Write, S: Write + Drop> Progress<'a, O, S> {
         self.fault
     }
 
-    // Keeps an error, unless the call is made again, and returns another of its kind.
-    fn failed(&mut self, fault: io::Error) -> io::Error {
+    // Stores an error, unless the caller will try again, and returns another of its kind.
+    fn record_fault(&mut self, fault: io::Error) -> io::Error {
         let kind = fault.kind();
         if kind != ErrorKind::Interrupted {
             self.fault = Some(fault);
@@ -50,7 +50,7 @@ impl<'a, O: Write, S: Write + Drop> Progress<'a, O, S> {
     }
 
     // Reads the next byte of a line: its first two, and the last number in it.
-    fn take(&mut self, byte: u8) {
+    fn read_byte(&mut self, byte: u8) {
         if byte == b'\n' {
             self.end_line();
             self.column = 0;
@@ -75,7 +75,7 @@ impl<'a, O: Write, S: Write + Drop> Progress<'a, O, S> {
         }
     }
 
-    // Shows how far it is. An error of the screen is ignored.
+    // Shows the progress. An error of the screen is ignored.
     fn show(&mut self, missing: u64) {
         let Ok(now) = Instant::now(self.rt) else {
             return;
@@ -118,16 +118,16 @@ impl<O: Write, S: Write + Drop> Write for Progress<'_, O, S> {
         self.clear();
         let count = match self.out.write(buf) {
             Ok(count) => count,
-            Err(fault) => return Err(self.failed(fault)),
+            Err(fault) => return Err(self.record_fault(fault)),
         };
-        let gone = &buf[..count];
-        if gone.contains(&b'\n')
+        let written = &buf[..count];
+        if written.contains(&b'\n')
             && let Err(fault) = self.out.flush()
         {
-            return Err(self.failed(fault));
+            return Err(self.record_fault(fault));
         }
-        for byte in gone {
-            self.take(*byte);
+        for byte in written {
+            self.read_byte(*byte);
         }
         Ok(count)
     }
@@ -136,7 +136,7 @@ impl<O: Write, S: Write + Drop> Write for Progress<'_, O, S> {
         self.clear();
         match self.out.flush() {
             Ok(()) => Ok(()),
-            Err(fault) => Err(self.failed(fault)),
+            Err(fault) => Err(self.record_fault(fault)),
         }
     }
 }

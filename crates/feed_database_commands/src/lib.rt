@@ -1,0 +1,13 @@
+//! The commands of kbfeed that work on the database of a node and need no server: `fetch`, `ask`, `status` and `why`.
+#![tactic(auto)]
+
+mod ask;
+mod command;
+mod database;
+mod fetch;
+mod progress;
+mod status;
+mod why;
+
+pub use command::{DatabaseCommand, run_database_command};
+pub use database::{Database, DatabaseFault, close_keeper, open_feed};
