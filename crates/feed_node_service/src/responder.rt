@@ -1,9 +1,14 @@
 //! The replies of a node to its requests.
+ghost use Rattle.std.specs.Prelude.{◌≡◌};
+
 use crate::node_state::NodeState;
+use feed_http_heads::FIELD_LIMIT;
 use feed_keep::Keep;
-use feed_node_connection::{Reply, Respond, RespondFault};
+use feed_node_connection::{Reply, ReplySummary, Respond, RespondFault};
 use feed_releases::Feed;
 use feed_resolver::{Feeder, fetch_asked, respond_as_node};
+use httparse::Status;
+use httparse::spans::{EMPTY_HEADER_SPAN, parse_response};
 use std::alloc::Global;
 
 // Returns whether bytes look like the head of a POST.
