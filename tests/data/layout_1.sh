@@ -1,6 +1,6 @@
 #!/bin/sh
-# Makes a database of layout 1, by a program that keeps no reasons, as the one that `make build` leaves at the commit
-# 8b496c2 of this repository:
+# Makes a database of layout 1, with a program that keeps no reasons, such as the one that `make build` makes at the
+# commit 8b496c2 of this repository:
 #
 #     tests/data/layout_1.sh PROGRAM DATABASE
 #

@@ -1,10 +1,10 @@
 #!/usr/bin/env python3
-"""Acts as a reader in a browser, by chromedriver (WebDriver, W3C).
+"""Acts as a reader in a browser, through chromedriver (WebDriver, W3C).
 
 browser.py ADDR LINKED [--picture FILE WIDTH]
 
 Opens the page of a node, fills in the form, and follows the first link of the answer. Prints what the reader sees.
-LINKED is the address of the page behind the link. FILE gets a picture of the answer in a window WIDTH pixels wide."""
+LINKED is the address of the linked page. FILE gets a picture of the answer in a window WIDTH pixels wide."""
 import base64
 import json
 import socket

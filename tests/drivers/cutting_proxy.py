@@ -1,7 +1,10 @@
 #!/usr/bin/env python3
-"""cutting_proxy.py ADDR SEED MOST: passes connections on to ADDR, from a port of 127.0.0.1 that is free and that it
-prints first. What comes back is cut after a number of bytes, 0 to MOST, that is drawn from the seed: every second
-connection is reset there, and the others end."""
+"""Passes connections on to a server, and cuts each reply after a random number of bytes.
+
+cutting_proxy.py ADDR SEED MOST
+
+Prints a free port of 127.0.0.1 and listens there. ADDR is the server. The number of bytes is drawn from 0 to MOST by
+the seed. Every second connection is reset after them, and the others end."""
 import random
 import socket
 import struct
@@ -20,7 +23,7 @@ def request_of(peer):
 
 
 def passed(text, address, peer, count):
-    """Sends the first bytes of the reply to a request, and whether there were more."""
+    """Sends the first bytes of the reply to a request, and returns whether there were more."""
     with socket.create_connection(address, timeout=60) as server:
         server.sendall(text)
         while block := server.recv(65_536):

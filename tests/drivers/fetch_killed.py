@@ -1,13 +1,15 @@
 #!/usr/bin/env python3
-"""fetch_killed.py ADDR FIRST SECOND KILLS: kills fetches at moments that are drawn from a seed.
+"""Kills fetches at moments that are drawn from a seed.
 
-ADDR serves the releases of the files FIRST and SECOND, of which the second is the later one of the same package. In
-each of four lanes a database gets the first release, then the second, and then another database begins. A fetch is
-killed (SIGKILL) at a moment between 0 and somewhat more than a whole one takes, and run again, until its release
-answers or it ends before; the next one is let run. After each kill the database has to open, what a fetch printed as
-kept has to be kept, and the answer has to be that of a whole release, as of its file, and never of an earlier one than
-before. Prints what is wrong, and a summary; with -v, how many answers there were after a kill of no release, of the
-first, and of the second one."""
+fetch_killed.py [-v] ADDR FIRST SECOND KILLS
+
+ADDR serves the releases of the files FIRST and SECOND; SECOND is the later release of the same package. In each of four
+lanes a database gets the first release, then the second, and then another database begins. A fetch is killed (SIGKILL)
+after a time between 0 and a little more than a whole fetch takes, and run again, until its release is active or the
+fetch ends before the kill; the next fetch may finish. After each kill the database has to open, everything that a fetch
+reported as kept has to be kept, and the answer has to be that of a whole release, as of its file, and never of an
+earlier release than before. Prints what is wrong, and a summary; with -v, also how often no release, the first and the
+second one answered after a kill."""
 import collections
 import concurrent.futures
 import pathlib
@@ -23,13 +25,13 @@ NO_RELEASE = (1, "", "kbfeed: NoRelease\n")
 
 
 def ran(*words):
-    """The status of the program, and what it printed to standard output and standard error."""
+    """The status of the program, and its standard output and standard error."""
     done = subprocess.run(["kbfeed", *words], capture_output=True, text=True, check=False)
     return done.returncode, done.stdout, done.stderr
 
 
 class Lane:
-    """Databases that are filled one after another, by fetches of which some are killed."""
+    """Databases that are filled one after another, by fetches that may be killed."""
 
     def __init__(self, number, address, files, kills):
         self.number, self.address, self.files, self.kills = number, address, files, kills
@@ -41,7 +43,7 @@ class Lane:
         self.wrong = []
 
     def fetch(self, database, file, moment=None):
-        """Fetches a file, at most up to a moment: the status, negative after a kill, and the lines."""
+        """Fetches a file, with a time limit: the status, negative after a kill, and the lines."""
         words = ["kbfeed", "fetch", database, self.address, file.name, "--piece", "1000"]
         with subprocess.Popen(words, stdout=subprocess.PIPE, stderr=subprocess.STDOUT, text=True) as running:
             try:
@@ -51,22 +53,22 @@ class Lane:
             return running.wait(), running.stdout.read().splitlines()
 
     def begun(self):
-        """A database that is not there yet."""
+        """The path of a new database."""
         self.databases += 1
         return f"lane{self.number}-{self.databases}.db"
 
     def whole_time(self):
-        """How long a fetch takes that is let run."""
+        """The time of a fetch that may finish."""
         start = time.monotonic()
-        self.judge_end(*self.fetch(self.begun(), self.files[0]))
+        self.check_end(*self.fetch(self.begun(), self.files[0]))
         return time.monotonic() - start
 
-    def judge_end(self, status, lines):
+    def check_end(self, status, lines):
         if status != 0 or lines[-1:] not in (["activated"], ["known"]):
             self.wrong.append(f"a fetch ends with {status}: {lines}")
 
-    def judge_kill(self, database, file, lines, least):
-        """Judges a database after a kill, and gives which release answers."""
+    def check_kill(self, database, file, lines, least):
+        """Checks a database after a kill, and returns the release that answers."""
         status, told, faults = ran("status", database)
         if status != 0 or faults:
             self.wrong.append(f"status ends with {status}: {faults}")
@@ -85,16 +87,16 @@ class Lane:
         return max(now, least)
 
     def fill(self, database, file, longest, least):
-        """Kills fetches of a file until it is the one that answers, and lets the next one run."""
+        """Kills fetches of a file until its release answers, and lets the next one finish."""
         done = 1 + self.files.index(file)
         while least < done and self.killed.total() < self.kills and not self.wrong:
             status, lines = self.fetch(database, file, self.drawn.uniform(0, longest))
             if status < 0:
-                least = self.judge_kill(database, file, lines, least)
+                least = self.check_kill(database, file, lines, least)
             else:
-                self.judge_end(status, lines)
+                self.check_end(status, lines)
                 least = done
-        self.judge_end(*self.fetch(database, file))
+        self.check_end(*self.fetch(database, file))
         return done
 
     def run(self):
@@ -108,7 +110,7 @@ class Lane:
 
 
 def missing_of(lines, file):
-    """How many bytes are missing at most, by the lines of a fetch."""
+    """The greatest number of missing bytes that the lines of a fetch allow."""
     if "activated" in lines:
         return 0
     told = [int(line.removeprefix("stored missing ")) for line in lines if line.startswith("stored missing ")]
@@ -116,7 +118,7 @@ def missing_of(lines, file):
 
 
 def missing_in(told, name):
-    """How many bytes of a release are missing by what `kbfeed status` prints, or 0 where it does not have it."""
+    """The number of missing bytes of a release by `kbfeed status`, or 0 if it is not listed."""
     for line in told.splitlines():
         if line.split("\t")[0] == name:
             return int(line.split("\t")[3])

@@ -1,5 +1,5 @@
-# fish_completed.fish FILE: prints each line of standard input with all that fish offers at its end, by the completions
-# of FILE.
+# fish_completed.fish FILE: prints each line of standard input with everything that fish offers at its end, by the
+# completions of FILE.
 source $argv[1]
 while read -l line
     set -l begun (string match -r '[^ ]*$' -- $line)

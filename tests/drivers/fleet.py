@@ -1,9 +1,12 @@
 #!/usr/bin/env python3
-"""fleet.py FOLDER: three nodes behind nginx, with the files of samples/fleet/, take in a new release one after another,
-while four clients ask through nginx. One node is ended in the middle of its fetch, and comes back. Every reply has to
-be the answer that a replay of the old or of the new release gives, no node may go back for any client, and no request
-may fail. FOLDER is where the files of the test are made; `kbfeed` and `nginx` are on the path. Prints what is wrong,
-and what was done."""
+"""Has three nodes behind nginx fetch a new release, one after another, while four clients query through nginx.
+
+fleet.py FOLDER
+
+The nodes and nginx use the files of samples/fleet/; `kbfeed` and `nginx` are on the path. One node is killed in the
+middle of its fetch, and restarts. Every reply has to be the answer of a replay of the old or of the new release. No
+client may get an answer of the old release from a node after one of the new, and no request may fail. FOLDER is for the
+files of the test. Prints what is wrong, and what was done."""
 import collections
 import http.client
 import os
@@ -25,7 +28,7 @@ TOKEN = "a token of this test alone".replace(" ", "-")
 
 
 def ports(count):
-    """Ports that are free now."""
+    """Free ports."""
     held = [socket.create_server(("127.0.0.1", 0)) for _ in range(count)]
     found = [it.getsockname()[1] for it in held]
     for it in held:
@@ -44,7 +47,7 @@ def waited(port):
 
 
 def make_lists(folder):
-    """Two releases, of which the second has one volume more in each row."""
+    """Writes two releases, the second with other titles, and returns their ISSNs."""
     folder.mkdir()
     text = subprocess.run([sys.executable, HERE / "many_rows.py", str(ROWS), "100"], stdout=subprocess.PIPE, text=True,
                           check=True).stdout
@@ -54,7 +57,7 @@ def make_lists(folder):
 
 
 def replayed(folder, name, queries):
-    """What a replay of a release answers."""
+    """The answers of a replay of a release."""
     size = (folder / name).stat().st_size
     lines = ["nodes 1", f"publish-file {name} {folder / name}", f"offer 1 {name}", f"deliver 1 {name} 0 {size}"]
     lines += [f"ask 1 Fleet {query}" for query in queries]
@@ -65,7 +68,7 @@ def replayed(folder, name, queries):
 
 
 class Client(threading.Thread):
-    """Asks one query after another, and keeps which node gave which release's answer."""
+    """Sends one query after another, and records which node answered from which release."""
 
     def __init__(self, front, answers):
         super().__init__(daemon=True)
@@ -121,7 +124,7 @@ class Fleet:
         waited(port)
 
     def begin_nginx(self):
-        """nginx with the sample, whose ports and whose knowledge base are those of the test."""
+        """Starts nginx with the sample configuration, with the ports and the knowledge base of the test."""
         text = (SAMPLES / "nginx.conf").read_text(encoding="ascii")
         for at, port in enumerate(self.ports):
             text = text.replace(f"127.0.0.1:{8081 + at}", f"127.0.0.1:{port}")
@@ -158,7 +161,7 @@ class Fleet:
 
 
 def fed_and_killed(fleet, at):
-    """Has a node fetch the new release, and ends it in the middle. Whether it was."""
+    """Has a node fetch the new release, and kills it in the middle. Returns whether that was so."""
     node = f"127.0.0.1:{fleet.ports[at]}"
     (fleet.folder / "one").write_text(node + "\n", encoding="ascii")
     peer = socket.create_connection(("127.0.0.1", fleet.ports[at]), timeout=30)
@@ -202,7 +205,7 @@ def main():
         fed = fleet.feed(NAMES[1])
         if fed.returncode or fed.stdout.count(" activated\n") != 3:
             print(f"the second release does not arrive: {fed.stdout}")
-        # A node that was ended is asked again after fail_timeout.
+        # nginx asks a node that was stopped again after fail_timeout.
         time.sleep(6)
         for client in clients:
             client.is_asked_to_end = True

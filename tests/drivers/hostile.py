@@ -1,18 +1,18 @@
 #!/usr/bin/env python3
-"""Hostile files, request heads and replies, made from a seed, for the program `kbfeed` on the path.
+"""Gives hostile files, request heads and replies, made from a seed, to the program `kbfeed` on the path.
 
 hostile.py files COUNT SEED [--ends]
 hostile.py heads COUNT SEED [--ends]
 hostile.py replies COUNT SEED [--ends]
 
-Each is made of good ones: cut, spliced, repeated, with bytes that are changed, left out or put in, in other encodings,
-with very many columns, fields or chunks, or of one very long line; or it is made of bytes at random. A file is given to
-`check` and to `answer`, a head is sent to `serve`, and replies are given to `fetch`. Each has to end with an answer or
-a fault that has a name, within a second of the processor and 300 MiB: no signal, no silence, and want of memory of a
-file above 16 MiB alone, since a line of so many tabs has as many fields. Beyond that `check` and `answer` have to agree
-of a file, a body that is served has to be what its head says, and the release that a node had has to answer as before
-until another one is whole. The first input that ends in another way is kept, and told with status 1. With --ends a line
-for each kind of end says how often it came."""
+Most inputs are made of good ones: cut, spliced, repeated, with bytes changed, dropped or inserted, in other encodings,
+with very many columns, fields or chunks, or of one very long line. The others are random bytes. Files are given to
+`check` and to `answer`, heads are sent to `serve`, and replies to `fetch`. Each run has to end with an answer or a
+named fault, within a second of processor time and 300 MiB: no signal, and never without a message. Only a file above 16
+MiB may run out of memory, since a line of so many tabs has as many fields. Also, `check` and `answer` have to agree on
+a file, the body of a reply has to match its head, and a node has to answer from its release until another one is whole.
+The first input that ends in another way is saved and reported with status 1. With --ends, prints how often each kind of
+end occurred."""
 import argparse
 import collections
 import os
@@ -48,10 +48,10 @@ class Unexpected(Exception):
     """An input did not end as it has to."""
 
 
-# What is done to good bytes.
+# Changes to good bytes.
 
 def changed(draw, text):
-    """Some bytes are changed, left out or put in."""
+    """Changes, drops or inserts some bytes."""
     text = bytearray(text)
     for _ in range(draw.choice([1, 1, 2, 5, 40])):
         at = draw.randrange(len(text) + 1)
@@ -72,7 +72,7 @@ def cut(draw, text):
 
 
 def spliced(draw, text):
-    """Parts of it in another order, some of them again."""
+    """Reorders parts of it, and repeats some."""
     places = sorted(draw.randrange(len(text) + 1) for _ in range(draw.randrange(2, 6)))
     parts = [text[first:end] for first, end in zip([0, *places], [*places, len(text)])]
     return b"".join(draw.choices(parts, k=len(parts) + draw.randrange(3)))
@@ -83,7 +83,7 @@ def at_random(draw, text):
 
 
 def repeated(draw, text):
-    """A part of it very often."""
+    """Repeats a part of it very often."""
     first = draw.randrange(len(text))
     end = first + draw.randrange(1, 40)
     return text[:first] + text[first:end] * draw.choice([2, 10, 1_000]) + text[end:]
@@ -140,13 +140,13 @@ FILES = [*COMMON, encoded, ended_otherwise, of_many_columns, of_other_labels, of
 
 
 def ran(words, given=None):
-    """The status of a run, and what it printed, where it ended within the limits."""
+    """The status and the output of a run that ended within the limits."""
     done = subprocess.run([*LIMITED, *words], input=given, capture_output=True, timeout=WAIT, check=False)
     return done.returncode, done.stdout.decode(), done.stderr.decode()
 
 
 def file_ended(path):
-    """How a file ended: as the same by both commands."""
+    """How a file ended, which has to be the same for both commands."""
     status, out, err = ran(["check", "--explain", str(path)])
     if (status, err) == (3, "kbfeed: Memory\n") and path.stat().st_size > 16 * 1_048_576:
         return "Memory"
@@ -193,7 +193,7 @@ def head(draw):
 
 
 def served(address, made):
-    """What a server replies to bytes."""
+    """The reply of a server to bytes."""
     reply = b""
     with socket.create_connection(address, timeout=WAIT) as peer:
         try:
@@ -209,7 +209,7 @@ def served(address, made):
 
 
 def head_ended(reply, file):
-    """The status of a reply whose body is what its head says, or that there was none."""
+    """The status of a reply whose body matches its head, or that there was no reply."""
     if not reply:
         return "nothing"
     top, _, body = reply.partition(b"\r\n\r\n")
@@ -228,7 +228,7 @@ def head_ended(reply, file):
 
 
 def listening(folder):
-    """A server over a folder, on a port that is free, and its address."""
+    """A server over a folder, on a free port, and its address."""
     for port in range(20_000 + os.getpid() % 20_000, 60_000):
         server = subprocess.Popen(["kbfeed", "serve", str(folder), f"127.0.0.1:{port}", "--timeout", "5"],
                                   stdout=subprocess.PIPE, stderr=subprocess.DEVNULL)
@@ -358,7 +358,7 @@ FETCH_FAULTS = re.compile(r"kbfeed: (Short|HeadTooLong|BadHead|Coding|Length|Ran
 
 
 def fetch_ended(before, node, address):
-    """How a fetch ended; the node then answers as before, or from the later release where that is active."""
+    """How a fetch ended. The node then has to answer as before, or from the later release if that is active."""
     status, out, err = ran(["fetch", str(node), address, LATER, "--piece", "200"])
     last = out.splitlines()[-1] if out else ""
     if status not in (0, 1, 3) or (out and not LAST_LINES.fullmatch(last)):
@@ -403,7 +403,7 @@ def main():
     asked.add_argument("--ends", action="store_true")
     given = asked.parse_args()
     ends = collections.Counter()
-    # In memory where that is offered: each fetch syncs its database.
+    # In memory if the system has such a folder: each fetch syncs its database.
     place = "/dev/shm" if os.access("/dev/shm", os.W_OK) else None
     with tempfile.TemporaryDirectory(prefix="kbfeed-hostile-", dir=place) as name:
         folder = pathlib.Path(name)

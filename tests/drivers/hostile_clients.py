@@ -1,6 +1,10 @@
 #!/usr/bin/env python3
-"""hostile_clients.py ADDR PID: 200 connections that do a server harm if it lets them. After each kind the server has to
-serve, and at the end it must not have taken more than 16 MiB. Prints what is wrong, and the kinds that were tried."""
+"""Runs 200 connections that harm a server if it lets them.
+
+hostile_clients.py ADDR PID
+
+After each kind of client the server has to serve, and at the end it must not have taken more than 16 MiB. Prints what
+is wrong, and the kinds."""
 import socket
 import sys
 import time

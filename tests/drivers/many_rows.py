@@ -1,6 +1,9 @@
 #!/usr/bin/env python3
-"""many_rows.py ROWS TITLES: prints a good list with so many rows, of so many titles in turn. The ISSN of a title is
-made of its number, 0 for the first one."""
+"""Prints a good list.
+
+many_rows.py ROWS TITLES
+
+The list has ROWS rows, of TITLES titles in turn. The ISSN of a title is made of its number, from 0."""
 import sys
 
 LABELS = ["publication_title", "print_identifier", "online_identifier", "date_first_issue_online",

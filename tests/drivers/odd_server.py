@@ -1,8 +1,11 @@
 #!/usr/bin/env python3
-"""odd_server.py FOLDER MODE ASKED: serves the files of a folder on a port of 127.0.0.1 that is free, and prints it
-first. A connection has one request, and a line of it goes to the file ASKED, and one that says whether a peer that was
-kept waiting went in about a second. The file MODE has a method and the kind of its replies, of those below;
-all other requests are answered well."""
+"""Serves the files of a folder, with replies that are wrong in the way that a file says.
+
+odd_server.py FOLDER MODE ASKED
+
+Prints a free port of 127.0.0.1 and listens there. Each connection has one request. The file ASKED gets a line for each
+request, and one that says whether a peer that had to wait disconnected in about a second. The file MODE has a method
+and the kind of its replies, of those below. All other requests get good replies."""
 import pathlib
 import socket
 import struct
@@ -26,13 +29,13 @@ def chunked(first, last, file):
 
 
 def right(first, last, file):
-    """The right reply to a GET of places that the file has; a HEAD asks for none."""
+    """The good reply to a GET of places that the file has; a HEAD asks for none."""
     if first is None:
         return message("200 OK", f"Content-Length: {len(file)}")
     return part(first, last, len(file), file[first:last + 1])
 
 
-# The bytes of a reply, by the kind, from the places that are asked for and the file.
+# The bytes of a reply of each kind, from the requested places and the file.
 REPLIES = {
     "whole": lambda first, last, file: message("200 OK", f"Content-Length: {len(file)}", body=file),
     "endless": lambda first, last, file: message("200 OK", body=file),
@@ -81,7 +84,7 @@ def kind_of(mode, method):
 
 
 def dripped(peer, text, pause):
-    """Sends a byte of a text now and then, until the peer has gone, and gives how long that took."""
+    """Sends a byte of a text now and then until the peer disconnects, and returns how long that took."""
     start = time.monotonic()
     try:
         for at in range(len(text)):
@@ -93,7 +96,7 @@ def dripped(peer, text, pause):
 
 
 def held(peer):
-    """Sends nothing until the peer has gone, and gives how long that took."""
+    """Sends nothing until the peer disconnects, and returns how long that took."""
     start = time.monotonic()
     while peer.recv(1):
         pass
@@ -101,7 +104,7 @@ def held(peer):
 
 
 def answer(peer, mode, method, first, last, file):
-    """Answers a request, and gives after how many seconds the peer went, where it was kept waiting."""
+    """Answers a request, and returns after how many seconds the peer disconnected, if it had to wait."""
     while kind_of(mode, method) == "waits":
         time.sleep(0.02)
     kind = kind_of(mode, method)

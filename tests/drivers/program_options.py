@@ -42,7 +42,7 @@ def read_help():
 
 
 def parts_of(page):
-    """The parts of the page, each with the section that it stands in and the command that it is about."""
+    """The parts of the page, each with its section and the command that it is about."""
     for section, text in re.findall(r"^\.S[hs] (.*)\n((?:(?!\.S[hs] ).*\n)*)", page, re.M):
         if section == "SYNOPSIS":
             for part in text.split(".Nm\n")[1:]:

@@ -1,16 +1,17 @@
 #!/usr/bin/env python3
-"""raw_client.py ADDR: sends the bytes of standard input over one connection, ends its side, and prints what comes back.
+"""Sends the bytes of standard input over one connection, ends its side, and prints the bytes received.
 
-raw_client.py ADDR --hold SECONDS LEN: sends the first LEN bytes, and then nothing, and waits at most so long.
-raw_client.py ADDR --stall SECONDS: sends them all, reads nothing for so long, and prints how much came then.
-raw_client.py ADDR --drip SECONDS: sends one byte every so often, until the peer has closed or all was sent."""
+raw_client.py ADDR
+raw_client.py ADDR --hold SECONDS LEN   sends the first LEN bytes, then nothing, and waits at most SECONDS
+raw_client.py ADDR --stall SECONDS      sends them all, reads nothing for SECONDS, and prints how many bytes arrived
+raw_client.py ADDR --drip SECONDS       sends one byte every SECONDS, until the peer has closed or all were sent"""
 import socket
 import sys
 import time
 
 
 def received(peer):
-    """All that comes until the end, or until the connection is reset."""
+    """The bytes received until the end, or until the connection is reset."""
     parts = []
     try:
         while part := peer.recv(65_536):

@@ -1,16 +1,19 @@
 #!/usr/bin/env python3
 """Runs a command again and again, and refuses one of its requests for memory: the first, the second, and so on, until
-a run meets no refusal. Prints what the runs came to, and with --count how many requests were refused.
+a run meets no refusal. Prints how the runs ended, and with --count how many requests were refused.
 
 refused_allocations.py [--count] [--every N] [--fresh FILE] [--then LINE] [--or FILE] [--server ADDR] INPUT COMMAND ..
 
-Standard input is the file INPUT. A run ends as rising_limits.py says; each begins, and what it printed before a fault
-is the beginning of what the run without a refusal printed. With --or a run may also do what it does with this input,
-which is then told as `other`. With --every only every N-th request gets its run. The file of --fresh is removed before
-each run, with its write-ahead log. LINE is a line of the shell, which has all the memory: after each run it has to
-print what it prints after the run that meets no refusal. With --server the command serves one connection at ADDR: INPUT
-is sent there, and what comes back is judged as what is printed. A run of another end is printed. The C compiler cc
-makes what refuses, of refusing.c."""
+Standard input is the file INPUT. Each run has to end in a way that rising_limits.py names, except `not begun`, and its
+output before a fault has to be the beginning of the output of the run without a refusal. A run that ends otherwise is
+printed. The C compiler cc compiles refusing.c, which refuses the requests.
+
+--every N      refuses only every N-th request
+--fresh FILE   removes FILE and its write-ahead log before each run
+--then LINE    runs LINE in the shell, with all memory, after each run; it has to print the same as after the run
+               without a refusal
+--or FILE      a run may also do what it does with the input FILE, which is reported as `other`
+--server ADDR  the command serves one connection at ADDR: INPUT is sent there, and the reply is checked as output"""
 import argparse
 import os
 import pathlib
@@ -26,14 +29,14 @@ from rising_limits import KNOWN, outcome
 SOURCE = pathlib.Path(__file__).with_name("refusing.c")
 SECONDS = 60
 ENDS = [*KNOWN[1:], "other"]
-# What a server prints that had no memory for its one connection.
+# The output of a server that had no memory for its one connection.
 UNSERVED = b"listening\nfault Memory\n"
-# What a fetch prints before a fault of its reply, which is a loss to the feed.
+# A fetch prints this before a fault of its reply, which is a loss to the feed.
 LOST = b"nothing\n"
 
 
 def replied(process, address, request):
-    """What a server replies to a request, as soon as it listens; nothing where it has ended before."""
+    """The reply of a server to a request, as soon as it listens; empty if it has ended before."""
     host, port = address.rsplit(":", 1)
     while process.poll() is None:
         try:
@@ -46,8 +49,8 @@ def replied(process, address, request):
 
 
 def ran(given, path, library, refused):
-    """A run whose request `refused` is refused: how it ended, what it replied, what the line behind it prints, and how
-    many requests there were."""
+    """A run whose request `refused` is refused: how it ended, its reply, what LINE prints after it, and how many
+    requests there were."""
     for end in ["", "-wal"] if given.fresh else []:
         pathlib.Path(given.fresh + end).unlink(missing_ok=True)
     reader, writer = os.pipe()
@@ -66,7 +69,7 @@ def ran(given, path, library, refused):
 
 
 def end_of(done, reply, whole, whole_reply):
-    """What a run came to, by the run without a refusal."""
+    """How a run ended, compared with the run without a refusal."""
     came_to = outcome(done, whole)
     if (done.returncode, done.stdout, done.stderr) == (0, UNSERVED, b""):
         came_to = "fault"

@@ -1,7 +1,7 @@
 /* Loaded into a program by LD_PRELOAD: refuses one of its requests for memory, and counts them.
 
    REFUSED=K refuses the K-th request, and 0 none. At the end the count of the requests goes to the descriptor
-   REFUSED_COUNT. The C library's own functions answer all others. */
+   REFUSED_COUNT. The C library's own functions serve all others. */
 #include <errno.h>
 #include <stddef.h>
 #include <stdio.h>
@@ -20,7 +20,7 @@ static unsigned long number_of(const char *name) {
     return word ? strtoul(word, NULL, 10) : 0;
 }
 
-/* What is asked for before this is not counted: it is the loader's. */
+/* Earlier requests are the loader's, and are not counted. */
 __attribute__((constructor)) static void begin(void) {
     refused = number_of("REFUSED");
     asked = 0;

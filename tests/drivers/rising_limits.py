@@ -1,22 +1,26 @@
-"""Runs a command under a hundred rising limits of its address space, and prints what its runs came to.
+"""Runs a command under a hundred rising limits of its address space, and prints how its runs ended.
 
 rising_limits.py LEAST STEP INPUT COMMAND ..
 
-The limits are LEAST KiB, and STEP more for each run; standard input is the file INPUT. A run is right where it printed
-what the run without a limit prints, with its status. It is a fault where its status is 3 and the fault is Memory, and
-refused where it is 3 and the last line is a refusal for want of memory. It is counted where a last line says how many
-of the lines are of want of memory. It is not begun where the system ended it before it printed anything. Each run that
-is none of these is printed with its limit. Then the names of those that were met, and at last what the run under the
-greatest limit was."""
+The first limit is LEAST KiB, and each further one STEP more. Standard input is the file INPUT. A run ends as
+
+  right      its output and its status are those of the run without a limit
+  fault      its status is 3 and the fault is Memory
+  refused    its status is 3 and its last line is a refusal because memory ran out
+  counted    its last line counts the lines that report that memory ran out
+  not begun  the system ended it before it printed anything
+
+A run that ends otherwise is printed with its limit. Then come the names of the ends that occurred, and the end of the
+run under the greatest limit."""
 import resource
 import subprocess
 import sys
 
 
-# What the loader of programs says where it has no memory.
+# The messages of the program loader if it has no memory.
 LOADER = ["loading shared libraries", "data structures for initial thread"]
 
-# What a run may come to.
+# The ends of a run.
 KNOWN = ["not begun", "fault", "refused", "counted", "right"]
 
 

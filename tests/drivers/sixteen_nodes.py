@@ -1,7 +1,7 @@
-"""Prints a script of 16 nodes to standard output, and to file descriptor 3 the transcript that it must have.
+"""Prints a script of 16 nodes to standard output, and the transcript that it must have to file descriptor 3.
 
-Each node takes the bytes of a file one by one, every so many places on from the last. None of these numbers has a
-divisor in common with 205 or 243, the lengths of the two files, so every byte comes once."""
+Each node receives the bytes of a file one by one, each a fixed number of places after the last. None of these numbers
+has a divisor in common with 205 or 243, the lengths of the two files, so every byte arrives once."""
 import os
 import sys
 
@@ -17,7 +17,7 @@ FILES = [
 
 
 def byte_delivered(node, name, first, missing):
-    """What a node is told of one byte, and what is printed, with so many bytes missing then."""
+    """The line that delivers one byte to a node, and the printed line, with so many bytes missing then."""
     piece = f"{name} {first} 1"
     answer = f"stored missing {missing}" if missing else "activated"
     if first % 40 == 0:

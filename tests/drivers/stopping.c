@@ -1,10 +1,10 @@
 /* Loaded into a program by LD_PRELOAD: stops one of its files after some of the calls that read, write, cut, measure
    and sync it.
 
-   STOP_FILE is the end of the file's path, and STOP_AFTER=N lets N calls on it through. What the later ones do is
-   STOP_HOW: with `fail` each fails and changes nothing; with `half` the process ends at the first, and a write puts half
-   of its bytes before. A call that is stopped makes the empty file STOP_MARK.
-   A sync of any file that succeeds copies this to PATH.synced: a loss of power leaves at least that. */
+   STOP_FILE is the end of the file's path, and the first STOP_AFTER calls on it work. STOP_HOW says what the later ones
+   do: with `fail` each fails and changes nothing; with `half` the process ends at the first, and a write first writes
+   half of its bytes. A stopped call creates the empty file STOP_MARK.
+   A successful sync of any file copies it to PATH.synced: after a loss of power at least that is left. */
 #define _GNU_SOURCE
 #include <dlfcn.h>
 #include <errno.h>
@@ -16,7 +16,7 @@
 #include <sys/stat.h>
 #include <unistd.h>
 
-/* The function of the C library that one of this file replaces. */
+/* The function of the C library that the one here replaces. */
 #define NEXT(name) ((__typeof__(&name))dlsym(RTLD_NEXT, #name))
 
 static const char *file, *how, *mark;
@@ -51,7 +51,7 @@ static int is_stopped(int fd) {
     return 0;
 }
 
-/* Ends the process, or returns the answer of a call that failed. */
+/* Ends the process, or returns the result of a failed call. */
 static int stopped(void) {
     close(open(mark, O_CREAT | O_WRONLY, 0666));
     if (strcmp(how, "fail") != 0)
@@ -105,7 +105,7 @@ int ftruncate(int fd, off_t len) {
     return is_stopped(fd) ? stopped() : NEXT(ftruncate)(fd, len);
 }
 
-/* An open file is measured by its descriptor and an empty path. */
+/* The size of an open file is read by its descriptor and an empty path. */
 int statx(int fd, const char *restrict path, int flags, unsigned mask, struct statx *restrict found) {
     return *path == 0 && is_stopped(fd) ? stopped() : NEXT(statx)(fd, path, flags, mask, found);
 }

@@ -1,7 +1,10 @@
 #!/usr/bin/env python3
-"""terminal_faults.py LINES WORD..: runs a command whose standard error is a terminal, and whose standard output goes to
-the file LINES. Prints what came to the terminal, with carriage returns as <return>, each at the start of a line, and
-what clears a line as <clear>. Ends with the status of the command."""
+"""Runs a command whose standard error is a terminal, and prints what was written there.
+
+terminal_faults.py LINES WORD..
+
+The standard output of the command goes to the file LINES. Carriage returns are printed as <return>, each at the start
+of a line, and the sequence that clears a line as <clear>. Ends with the status of the command."""
 import os
 import pty
 import subprocess
@@ -9,7 +12,7 @@ import sys
 
 
 def shown(screen):
-    """All that is written to a terminal until nobody has it open."""
+    """Everything written to a terminal until nobody has it open."""
     parts = []
     try:
         while part := os.read(screen, 65_536):

@@ -10,7 +10,7 @@ must not take more than 64 MiB beyond what it had. The clients are
   slow       200 that send a byte of a head each second
   endless    200 that send fields without an end
   unread     100 that ask for LONG, and read nothing
-  reset      100 that go away in the middle of a head, again and again
+  reset      100 that disconnect in the middle of a head, again and again
 
 Prints what is wrong, and the kinds; with `-v` also the figures."""
 import socket
@@ -32,7 +32,7 @@ def kib_of(process):
 
 def dialled(address):
     peer = socket.socket()
-    # What a client leaves unread stays with the node, and not with the system.
+    # Unread bytes stay with the node, and not with the system.
     peer.setsockopt(socket.SOL_SOCKET, socket.SO_RCVBUF, 4_096)
     peer.settimeout(60)
     peer.connect(address)
@@ -41,7 +41,7 @@ def dialled(address):
 
 
 def sent(peer, text):
-    """Whether the peer took something of it, or will."""
+    """Whether the peer accepted some of it, or will."""
     try:
         return peer.send(text) > 0
     except BlockingIOError:
@@ -51,7 +51,7 @@ def sent(peer, text):
 
 
 def answered(address):
-    """How long one request took, and its reply."""
+    """The time of one request, and its reply."""
     began = time.monotonic()
     reply = b""
     with socket.create_connection(address, timeout=60) as peer:
@@ -62,7 +62,7 @@ def answered(address):
 
 
 class Clients:
-    """The clients that do harm; each that the node has closed comes again."""
+    """The hostile clients; each one that the node has closed connects again."""
 
     def __init__(self, address, target):
         self.address = address

@@ -1,5 +1,5 @@
-# zsh_completed.zsh FOLDER: a zsh on a terminal of its own, with the completions of FOLDER, gets each line of standard
-# input and a tab, which inserts all that is offered. Prints the words of each line then.
+# zsh_completed.zsh FOLDER: starts a zsh on a terminal of its own, with the completions of FOLDER, and types each line of
+# standard input and a tab, which inserts all offers. Prints the words of each resulting line.
 zmodload zsh/zpty
 settings=$(mktemp -d)
 cat > $settings/.zshrc << 'END'

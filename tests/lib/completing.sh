@@ -1,5 +1,5 @@
-# For sessions of completions. Each defines `offered LINE..`, which prints each line with all that its shell offers at
-# its end. `all_offers` prints the commands that are offered, and the options of each, as program_options.py does.
+# For sessions of completions. Each defines `offered LINE..`, which prints each line with everything that its shell
+# offers at its end. `all_offers` prints the offered commands, and the options of each, as program_options.py does.
 all_offers() {
   # shellcheck disable=SC2046 # the words apart
   set -- $(offered 'kbfeed ')
@@ -13,7 +13,7 @@ all_offers() {
   sort offers
 }
 
-# `compared` prints what the program has and the shell does not offer, behind -, and what else it offers, behind +.
+# `compared` prints after - what the program has and the shell does not offer, and after + what else it offers.
 compared() {
   python3 "$TESTS/drivers/program_options.py" help offers > has
   all_offers | diff has - | sed -n 's/^</-/p; s/^>/+/p'

@@ -1,6 +1,6 @@
-# For sessions that fetch. A server that they begin is ended by `ended`, or after ten minutes.
+# For sessions that fetch. `ended` ends a server that they started; it also ends after ten minutes.
 
-# Waits until a file has a line, or so many, for half a minute at most.
+# Waits until a file has a line, or a number of lines, for half a minute at most.
 filled() {
   touch "$1"
   for turn in $(seq 600); do [ "$(wc -l < "$1")" -ge "${2:-1}" ] && return; sleep 0.05; done
@@ -9,8 +9,8 @@ filled() {
 
 ended() { kill "$1"; wait "$1" 2> /dev/null; true; }
 
-# `odd` begins odd_server.py over the folder lists, and sets ADDR and ODD; what it is asked for is in the file asked.
-# `mode METHOD KIND` says how it replies from then on.
+# `odd` starts odd_server.py over the folder lists, and sets ADDR and ODD; its requests are in the file asked.
+# `mode METHOD KIND` sets how it replies from then on.
 odd() {
   mode plain; : > port; : > asked
   timeout 600 python3 "$TESTS/drivers/odd_server.py" lists mode asked > port & ODD=$!
@@ -19,7 +19,7 @@ odd() {
 
 mode() { echo "$*" > mode.new; mv mode.new mode; }
 
-# `same DB FILE QUERY` compares what a node answers with what the file answers, and prints how many rows match.
+# `same DB FILE QUERY` compares the answer of a node with that of the file, and prints how many rows match.
 same() {
   package=$(basename "$2" | sed 's/_[0-9-]*\.txt$//')
   kbfeed answer "$2" "$3" > of_file
@@ -38,8 +38,8 @@ begun() {
   return 1
 }
 
-# A release of about 3 MiB: `big_release` makes lists/$J, and the file replayed with what a node of `kbfeed replay`
-# answers that got it in slices. `big_fetched` fetches it from ADDR, and compares what the node answers.
+# A release of about 3 MiB: `big_release` makes lists/$J, and the file replayed with the answer of a node of `kbfeed
+# replay` that got it in slices. `big_fetched` fetches it from ADDR, and compares the answer of the node.
 BIG='rft.issn=00000345&rft.date=1901'
 
 big_release() {

@@ -1,5 +1,5 @@
-# A server for a session: `serving WORD..` begins `kbfeed serve WORD..` on a port that is free, waits until it listens,
-# and sets ADDR and SERVER; its lines are in the file log. `served` waits for its end, and prints them.
+# A server for a session: `serving WORD..` starts `kbfeed serve WORD..` on a free port, waits until it listens, and sets
+# ADDR and SERVER; its lines are in the file log. `served` waits until it ends, and prints them.
 serving() {
   folder=$1; shift
   for PORT in $(seq $((20000 + $$ % 20000)) $((20020 + $$ % 20000))); do
@@ -19,8 +19,8 @@ served() { wait $SERVER; status=$?; cat log faults; return $status; }
 # Sends the bytes of standard input, ends its side, and prints the reply without its carriage returns.
 sent() { python3 "$TESTS/drivers/raw_client.py" "$ADDR" | tr -d '\r'; }
 
-# A node for a session, over its database node.db: `answering WORD..` begins `kbfeed node node.db WORD..` on a free
-# port, waits until it listens, and sets ADDR and NODE; its log is in the file access. `ended` ends it at once.
+# A node for a session, over the database node.db: `answering WORD..` starts `kbfeed node node.db WORD..` on a free
+# port, waits until it listens, and sets ADDR and NODE; its log is in the file access. `ended` kills it.
 answering() {
   for PORT in $(seq $((20000 + $$ % 20000)) $((20020 + $$ % 20000))); do
     ADDR=127.0.0.1:$PORT
