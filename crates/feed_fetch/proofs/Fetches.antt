@@ -23,16 +23,17 @@ use Rattle.feed_model.specs.Reply.{max_piece}
 use Rattle.feed_limits.specs.Limits.{file_limit}
 use Rattle.feed_model.specs.Content.{Content, IsContent}
 use Rattle.feed_releases.specs.NextRange.{IsNextRange}
-use Rattle.feed_fetch.specs.declared.stop.Unasked.{Unasked}
-use Rattle.feed_fetch.specs.declared.stop.Unasked.TheVariants.{Dial, Http}
+use Rattle.feed_fetch.specs.declared.stop.RequestFault.{RequestFault}
+use Rattle.feed_fetch.specs.declared.stop.RequestFault.TheVariants.{Dial, Http}
 use Rattle.feed_fetch.specs.declared.stop.Stop.{Stop}
 use Rattle.feed_fetch.specs.declared.stop.Stop.TheVariants as stops
-use Rattle.feed_fetch.specs.Servers.{Replies, Unknown, Known, IfKnown, IsReplied, IsReadOf}
-use Rattle.feed_fetch.specs.Answers.{Tells, goes_on, is_done, is_news, is_settled, IsExcused}
-use Rattle.feed_fetch.specs.Fetched.{GoesOn, Leads, IsTold, IsTakenFrom, Serves, IsFetchable, IsOpenTo, IsFilling, IsAskedNext, OrExcused, Opened, Filled, HasFilled, Gets, missing_of}
+use Rattle.feed_dial.specs.Replies.{Replies, Unknown, Known, IfKnown}
+use Rattle.feed_fetch.specs.Servers.{IsReplied, IsReadOf}
+use Rattle.feed_fetch.specs.Answers.{HasRightAnswer, reply_or_stop, offer_result, piece_result, round_result, IsExcused}
+use Rattle.feed_fetch.specs.Effects.{IsExtension, IsTransition, IsFetchEvent, IsTakenFrom, ServesFile, IsFetchable, IsOpenTo, IsFilling, IsAskedNext, OrExcused, IsOpened, IsFilled, IsFilledAfter, IsFetched, missing_of}
 use Rattle.feed_fetch.proofs.Filling.{offer_fills, piece_fills, asked_next, nothing_next, whole_by_count, missing_most_of, IsFilledWith, IsRefusedFor}
 
-given_fault : (wanted : Got) (fault : HttpFault) → IsGiven wanted (Err fault) → IsExcused (stops.Unasked (Http fault))
+given_fault : (wanted : Got) (fault : HttpFault) → IsGiven wanted (Err fault) → IsExcused (stops.Request (Http fault))
 given_fault wanted http.Read g = tt
 given_fault wanted http.Write g = tt
 given_fault wanted http.HeadTooLong g = absurd g
@@ -46,17 +47,17 @@ given_fault wanted http.BodyTooLong g = absurd g
 given_fault wanted http.Memory g = tt
 given_fault wanted http.Shelf g = absurd g
 
-unwritten : (fault : HttpFault) → fault ≡ http.Write → IsExcused (stops.Unasked (Http fault))
-unwritten fault e = subst (λ (f : HttpFault). IsExcused (stops.Unasked (Http f))) (sym e) tt
+unwritten : (fault : HttpFault) → fault ≡ http.Write → IsExcused (stops.Request (Http fault))
+unwritten fault e = subst (λ (f : HttpFault). IsExcused (stops.Request (Http f))) (sym e) tt
 
 small_enough : (n : ℕ) → n ≤ file_limit → n < 2 ^ 64
 small_enough n le = let top : file_limit < 2 ^ 64 = lit< tt in omega (arith, le, top)
 
 -- the result of a request whose replies are all this text, by a law about that text
-read_given : (IsReplyTo : List ℕ → List ℕ → Type 0) (method : Method) (text served : List ℕ) (wanted : Got) (result : Result Got Unasked)
+read_given : (IsReplyTo : List ℕ → List ℕ → Type 0) (method : Method) (text served : List ℕ) (wanted : Got) (result : Result Got RequestFault)
     → ((reply : List ℕ) → IsReplyTo text reply → reply ≡ served)
     → ((r : Result Got HttpFault) → IsReply method served r → IsGiven wanted r)
-    → IsReadOf IsReplyTo method text result → MatchResult result (λ given. given ≡ wanted) (λ why. IsExcused (stops.Unasked why))
+    → IsReadOf IsReplyTo method text result → MatchResult result (λ given. given ≡ wanted) (λ why. IsExcused (stops.Request why))
 read_given IsReplyTo method text served wanted (Ok given) same law (reply, to, is) =
     law (Ok given) (subst (λ (t : List ℕ). IsReply method t (Ok given)) (same reply to) is)
 read_given IsReplyTo method text served wanted (Err (Dial fault)) same law is = tt
@@ -65,9 +66,9 @@ read_given IsReplyTo method text served wanted (Err (Http fault)) same law (inr 
     given_fault wanted fault (law (Err fault) (subst (λ (t : List ℕ). IsReply method t (Err fault)) (same reply to) is))
 
 -- of a server a HEAD gives the length of its file
-pub asked_size : (told : Replies) (host : List ℕ) (n : Name) (file : List ℕ) (result : Result Got Unasked) → Serves told n file → IsTrue (is_host host) → IsFetchable file
-    → IfKnown told (λ IsReplyTo. IsReadOf IsReplyTo Head (head_request_text host (text_of n)) result)
-    → MatchResult result (λ given. given ≡ got.Size (length file)) (λ why. IsExcused (stops.Unasked why))
+pub asked_size : (known : Replies) (host : List ℕ) (n : Name) (file : List ℕ) (result : Result Got RequestFault) → ServesFile known n file → IsTrue (is_host host) → IsFetchable file
+    → IfKnown known (λ IsReplyTo. IsReadOf IsReplyTo Head (head_request_text host (text_of n)) result)
+    → MatchResult result (λ given. given ≡ got.Size (length file)) (λ why. IsExcused (stops.Request why))
 asked_size Unknown host n file result serves hosted fit read = absurd serves
 asked_size (Known IsReplyTo) host n file result (files, server, on, named) hosted fit read =
     let law = head_gives_size files host n file hosted named on (small_enough (length file) fit.small) in
@@ -76,17 +77,17 @@ asked_size (Known IsReplyTo) host n file result (files, server, on, named) hoste
     law.3 read
 
 -- and a GET the places that are asked for
-pub asked_places : (told : Replies) (host : List ℕ) (n : Name) (file : List ℕ) (first last : ℕ) (result : Result Got Unasked) → Serves told n file → IsTrue (is_host host)
+pub asked_places : (known : Replies) (host : List ℕ) (n : Name) (file : List ℕ) (first last : ℕ) (result : Result Got RequestFault) → ServesFile known n file → IsTrue (is_host host)
     → IsFetchable file
     → first ≤ last → last < length file → last < first + max_piece
-    → IfKnown told (λ IsReplyTo. IsReadOf IsReplyTo Get (get_text host (text_of n) first last) result)
-    → MatchResult result (λ given. given ≡ got.Piece first (Some (length file)) (slice_range file first (last + 1))) (λ why. IsExcused (stops.Unasked why))
+    → IfKnown known (λ IsReplyTo. IsReadOf IsReplyTo Get (get_text host (text_of n) first last) result)
+    → MatchResult result (λ given. given ≡ got.Piece first (Some (length file)) (slice_range file first (last + 1))) (λ why. IsExcused (stops.Request why))
 asked_places Unknown host n file first last result serves hosted fit order within few read = absurd serves
 asked_places (Known IsReplyTo) host n file first last result (files, server, on, named) hosted fit order within few read =
     let small : length file < 2 ^ 64 = small_enough (length file) fit.small in
     let end : min last (length file - 1) ≡ last = omega (arith, within) in
     let law = fetch_gives_slice files host n file first last hosted named on order (omega (arith, within, small)) (omega (arith, order, within)) small (omega (arith, within, few, order)) in
-    let P : ℕ → Type 0 = λ m. MatchResult result (λ given. given ≡ got.Piece first (Some (length file)) (slice_range file first (m + 1))) (λ why. IsExcused (stops.Unasked why)) in
+    let P : ℕ → Type 0 = λ m. MatchResult result (λ given. given ≡ got.Piece first (Some (length file)) (slice_range file first (m + 1))) (λ why. IsExcused (stops.Request why)) in
     subst P end
     (read_given IsReplyTo Get (get_text host (text_of n) first last) _ (got.Piece first (Some (length file)) (slice_range file first (min last (length file - 1) + 1))) result
     (λ reply to. server (get_text host (text_of n) first last) reply to law.0 (Some n) law.1 law.2)
@@ -94,106 +95,106 @@ asked_places (Known IsReplyTo) host n file first last result (files, server, on,
 
 -- the offer of the file
 pub size_opens : (c d : Content) (n : Name) (size : ℕ) (file : List ℕ) (r : Result (Unit {0}) Stop) → IsFetchable file → size ≡ length file
-    → Tells (λ answer. (r ≡ is_done (goes_on answer)) ⊎ (r ≡ Err stops.Print)) c (Offered n size) d
-    → Opened n file r c d
-size_opens c d n size file r fit is tells h at ready =
-    let t = (rw is at tells) h at in
+    → HasRightAnswer (λ answer. (r ≡ offer_result (reply_or_stop answer)) ⊎ (r ≡ Err stops.Print)) c (Offered n size) d
+    → IsOpened n file r c d
+size_opens c d n size file r fit is answered h at ready =
+    let t = (rw is at answered) h at in
     ((Offered n (length file), t.0) ∷ h, by t.0 (offer_fills h n file t.0 fit ready t.1) t.2, t.3)
   where
     by : (a : Answer) → (((a ≡ Ok replies.Noted) ⊎ (a ≡ Ok replies.Known)) × IsFilling n file ((Offered n (length file), a) ∷ h)) ⊎ IsRefusedFor a
-        → (r ≡ is_done (goes_on a)) ⊎ (r ≡ Err stops.Print) → OrExcused r (IsFilling n file ((Offered n (length file), a) ∷ h))
+        → (r ≡ offer_result (reply_or_stop a)) ⊎ (r ≡ Err stops.Print) → OrExcused r (IsFilling n file ((Offered n (length file), a) ∷ h))
     by a so (inr e) = rw e tt
-    by a (inl (inl e, f)) (inl same) = let done : r ≡ Ok tt = same ∙ ap (λ (x : Answer). is_done (goes_on x)) e in rw done f
-    by a (inl (inr e, f)) (inl same) = let done : r ≡ Ok tt = same ∙ ap (λ (x : Answer). is_done (goes_on x)) e in rw done f
-    by a (inr (inl e)) (inl same) = let done : r ≡ Err (stops.Refused refusals.Memory) = same ∙ ap (λ (x : Answer). is_done (goes_on x)) e in rw done tt
-    by a (inr (inr e)) (inl same) = let done : r ≡ Err (stops.Refused refusals.Device) = same ∙ ap (λ (x : Answer). is_done (goes_on x)) e in rw done tt
+    by a (inl (inl e, f)) (inl same) = let done : r ≡ Ok tt = same ∙ ap (λ (x : Answer). offer_result (reply_or_stop x)) e in rw done f
+    by a (inl (inr e, f)) (inl same) = let done : r ≡ Ok tt = same ∙ ap (λ (x : Answer). offer_result (reply_or_stop x)) e in rw done f
+    by a (inr (inl e)) (inl same) = let done : r ≡ Err (stops.Refused refusals.Memory) = same ∙ ap (λ (x : Answer). offer_result (reply_or_stop x)) e in rw done tt
+    by a (inr (inr e)) (inl same) = let done : r ≡ Err (stops.Refused refusals.Device) = same ∙ ap (λ (x : Answer). offer_result (reply_or_stop x)) e in rw done tt
 
 -- the next piece of the file
 pub piece_filled : (c d : Content) (n : Name) (first last : ℕ) (file : List ℕ) (taken : Result Bool Stop) → IsFetchable file
-    → Tells (λ answer. (taken ≡ is_news (goes_on answer)) ⊎ (taken ≡ Err stops.Print)) c (Piece n first (Some (length file)) (slice_range file first (last + 1))) d
-    → Filled n file first last (is_settled taken) c d
-piece_filled c d n first last file taken fit tells h at asked =
-    let t = tells h at in
+    → HasRightAnswer (λ answer. (taken ≡ piece_result (reply_or_stop answer)) ⊎ (taken ≡ Err stops.Print)) c (Piece n first (Some (length file)) (slice_range file first (last + 1))) d
+    → IsFilled n file first last (round_result taken) c d
+piece_filled c d n first last file taken fit answered h at asked =
+    let t = answered h at in
     ((event, t.0) ∷ h, by t.0 (piece_fills h n file first last (slice_range file first (last + 1)) t.0 fit asked refl t.1) t.2, t.3)
   where
     event : Event
     event = Piece n first (Some (length file)) (slice_range file first (last + 1))
 
     by : (a : Answer) → ((((missing : ℕ) × (a ≡ Ok (replies.Stored missing))) ⊎ (a ≡ Ok replies.Activated)) × IsFilledWith n file h ((event, a) ∷ h)) ⊎ IsRefusedFor a
-        → (taken ≡ is_news (goes_on a)) ⊎ (taken ≡ Err stops.Print)
-        → OrExcused (is_settled taken) (IsFilling n file ((event, a) ∷ h) × (missing_of n file ((event, a) ∷ h) < missing_of n file h))
+        → (taken ≡ piece_result (reply_or_stop a)) ⊎ (taken ≡ Err stops.Print)
+        → OrExcused (round_result taken) (IsFilling n file ((event, a) ∷ h) × (missing_of n file ((event, a) ∷ h) < missing_of n file h))
     by a so (inr e) = rw e tt
-    by a (inl (inl (m, e), f)) (inl same) = let done : taken ≡ Ok true = same ∙ ap (λ (x : Answer). is_news (goes_on x)) e in rw done (f.filling, f.fewer)
-    by a (inl (inr e, f)) (inl same) = let done : taken ≡ Ok true = same ∙ ap (λ (x : Answer). is_news (goes_on x)) e in rw done (f.filling, f.fewer)
-    by a (inr (inl e)) (inl same) = let done : taken ≡ Err (stops.Refused refusals.Memory) = same ∙ ap (λ (x : Answer). is_news (goes_on x)) e in rw done tt
-    by a (inr (inr e)) (inl same) = let done : taken ≡ Err (stops.Refused refusals.Device) = same ∙ ap (λ (x : Answer). is_news (goes_on x)) e in rw done tt
+    by a (inl (inl (m, e), f)) (inl same) = let done : taken ≡ Ok true = same ∙ ap (λ (x : Answer). piece_result (reply_or_stop x)) e in rw done (f.filling, f.fewer)
+    by a (inl (inr e, f)) (inl same) = let done : taken ≡ Ok true = same ∙ ap (λ (x : Answer). piece_result (reply_or_stop x)) e in rw done (f.filling, f.fewer)
+    by a (inr (inl e)) (inl same) = let done : taken ≡ Err (stops.Refused refusals.Memory) = same ∙ ap (λ (x : Answer). piece_result (reply_or_stop x)) e in rw done tt
+    by a (inr (inr e)) (inl same) = let done : taken ≡ Err (stops.Refused refusals.Device) = same ∙ ap (λ (x : Answer). piece_result (reply_or_stop x)) e in rw done tt
 
 -- an excused stop, for any events of the feed
-pub excused_leads : (B : History → Type 0) (A : Event → Type 0) (c d : Content) (stop : Stop) (why : Unasked) → IsExcused (stops.Unasked why)
-    → GoesOn A (λ k. (stop ≡ stops.Unasked why) ⊎ (stop ≡ stops.Print)) c d
-    → Leads B (λ h k. IsExcused stop) c d
-excused_leads B A c d stop why ok goes h is before = let x = goes h is in (x.0 ++ h, by x.2, x.3)
+pub excused_transition : (B : History → Type 0) (A : Event → Type 0) (c d : Content) (stop : Stop) (why : RequestFault) → IsExcused (stops.Request why)
+    → IsExtension A (λ k. (stop ≡ stops.Request why) ⊎ (stop ≡ stops.Print)) c d
+    → IsTransition B (λ h k. IsExcused stop) c d
+excused_transition B A c d stop why ok extends h is before = let x = extends h is in (x.0 ++ h, by x.2, x.3)
   where
-    by : (stop ≡ stops.Unasked why) ⊎ (stop ≡ stops.Print) → IsExcused stop
+    by : (stop ≡ stops.Request why) ⊎ (stop ≡ stops.Print) → IsExcused stop
     by (inl e) = subst IsExcused (sym e) ok
     by (inr e) = subst IsExcused (sym e) tt
 
 -- the events made from a reply are as it gave them
-pub told_from : (told : Replies) (host : List ℕ) (n : Name) (first last : ℕ) (given : Got)
-    → IfKnown told (λ IsReplyTo. IsReadOf IsReplyTo Get (get_text host (text_of n) first last) (Ok given))
-    → (e : Event) → IsTakenFrom n given e → IsTold told host n e
-told_from Unknown host n first last given read (Piece m f t b) of = (of.0, tt)
-told_from (Known IsReplyTo) host n first last given read (Piece m f t b) of = (of.0, (first, last, given, read, of.1))
-told_from told host n first last given read (Offered m s) of = absurd of
-told_from told host n first last given read (Lost m) of = absurd of
+pub pieces_are_events : (known : Replies) (host : List ℕ) (n : Name) (first last : ℕ) (given : Got)
+    → IfKnown known (λ IsReplyTo. IsReadOf IsReplyTo Get (get_text host (text_of n) first last) (Ok given))
+    → (e : Event) → IsTakenFrom n given e → IsFetchEvent known host n e
+pieces_are_events Unknown host n first last given read (Piece m f t b) of = (of.0, tt)
+pieces_are_events (Known IsReplyTo) host n first last given read (Piece m f t b) of = (of.0, (first, last, given, read, of.1))
+pieces_are_events known host n first last given read (Offered m s) of = absurd of
+pieces_are_events known host n first last given read (Lost m) of = absurd of
 
-pub round_fills : (told : Replies) (host : List ℕ) (n : Name) (file : List ℕ) (first last : ℕ) (given : Got) (c d : Content) (taken : Result Bool Stop) (r : Result (Unit {0}) Stop)
-    → Serves told n file → IsTrue (is_host host) → IsFetchable file
-    → IfKnown told (λ IsReplyTo. IsReadOf IsReplyTo Get (get_text host (text_of n) first last) (Ok given))
-    → ((f : ℕ) (t : Option ℕ) (b : List ℕ) → given ≡ got.Piece f t b → Tells (λ answer. (taken ≡ is_news (goes_on answer)) ⊎ (taken ≡ Err stops.Print)) c (Piece n f t b) d)
-    → r ≡ is_settled taken → Filled n file first last r c d
-round_fills told host n file first last given c d taken r serves hosted fit read tells settled h at asked =
-    let is = asked_places told host n file first last (Ok given) serves hosted fit asked.order asked.within asked.few read in
-    let P : Result (Unit {0}) Stop → Type 0 = λ x. Filled n file first last x c d in
-    (subst P (sym settled) (piece_filled c d n first last file taken fit (tells first (Some (length file)) (slice_range file first (last + 1)) is))) h at asked
+pub round_fills : (known : Replies) (host : List ℕ) (n : Name) (file : List ℕ) (first last : ℕ) (given : Got) (c d : Content) (taken : Result Bool Stop) (r : Result (Unit {0}) Stop)
+    → ServesFile known n file → IsTrue (is_host host) → IsFetchable file
+    → IfKnown known (λ IsReplyTo. IsReadOf IsReplyTo Get (get_text host (text_of n) first last) (Ok given))
+    → ((f : ℕ) (t : Option ℕ) (b : List ℕ) → given ≡ got.Piece f t b → HasRightAnswer (λ answer. (taken ≡ piece_result (reply_or_stop answer)) ⊎ (taken ≡ Err stops.Print)) c (Piece n f t b) d)
+    → r ≡ round_result taken → IsFilled n file first last r c d
+round_fills known host n file first last given c d taken r serves hosted fit read answered require_progress h at asked =
+    let is = asked_places known host n file first last (Ok given) serves hosted fit asked.order asked.within asked.few read in
+    let P : Result (Unit {0}) Stop → Type 0 = λ x. IsFilled n file first last x c d in
+    (subst P (sym require_progress) (piece_filled c d n first last file taken fit (answered first (Some (length file)) (slice_range file first (last + 1)) is))) h at asked
 
-pub round_stops : (told : Replies) (host : List ℕ) (n : Name) (file : List ℕ) (first last : ℕ) (why : Unasked) (c d : Content) (stop : Stop)
-    → Serves told n file → IsTrue (is_host host) → IsFetchable file
-    → IfKnown told (λ IsReplyTo. IsReadOf IsReplyTo Get (get_text host (text_of n) first last) (Err why))
-    → GoesOn (λ e. e ≡ Lost n) (λ k. (stop ≡ stops.Unasked why) ⊎ (stop ≡ stops.Print)) c d
-    → Filled n file first last (Err stop) c d
-round_stops told host n file first last why c d stop serves hosted fit read goes h at asked =
-    let ok = asked_places told host n file first last (Err why) serves hosted fit asked.order asked.within asked.few read in
-    excused_leads (IsAskedNext n file first last) (λ e. e ≡ Lost n) c d stop why ok goes h at asked
+pub round_stops : (known : Replies) (host : List ℕ) (n : Name) (file : List ℕ) (first last : ℕ) (why : RequestFault) (c d : Content) (stop : Stop)
+    → ServesFile known n file → IsTrue (is_host host) → IsFetchable file
+    → IfKnown known (λ IsReplyTo. IsReadOf IsReplyTo Get (get_text host (text_of n) first last) (Err why))
+    → IsExtension (λ e. e ≡ Lost n) (λ k. (stop ≡ stops.Request why) ⊎ (stop ≡ stops.Print)) c d
+    → IsFilled n file first last (Err stop) c d
+round_stops known host n file first last why c d stop serves hosted fit read extends h at asked =
+    let ok = asked_places known host n file first last (Err why) serves hosted fit asked.order asked.within asked.few read in
+    excused_transition (IsAskedNext n file first last) (λ e. e ≡ Lost n) c d stop why ok extends h at asked
 
-pub offer_stops : (told : Replies) (host : List ℕ) (n : Name) (file : List ℕ) (why : Unasked) (c d : Content) (stop : Stop)
-    → Serves told n file → IsTrue (is_host host) → IsFetchable file
-    → IfKnown told (λ IsReplyTo. IsReadOf IsReplyTo Head (head_request_text host (text_of n)) (Err why))
-    → GoesOn (λ e. e ≡ Lost n) (λ k. (stop ≡ stops.Unasked why) ⊎ (stop ≡ stops.Print)) c d
-    → Opened n file (Err stop) c d
-offer_stops told host n file why c d stop serves hosted fit read goes =
-    excused_leads (IsOpenTo n file) (λ e. e ≡ Lost n) c d stop why (asked_size told host n file (Err why) serves hosted fit read) goes
+pub offer_stops : (known : Replies) (host : List ℕ) (n : Name) (file : List ℕ) (why : RequestFault) (c d : Content) (stop : Stop)
+    → ServesFile known n file → IsTrue (is_host host) → IsFetchable file
+    → IfKnown known (λ IsReplyTo. IsReadOf IsReplyTo Head (head_request_text host (text_of n)) (Err why))
+    → IsExtension (λ e. e ≡ Lost n) (λ k. (stop ≡ stops.Request why) ⊎ (stop ≡ stops.Print)) c d
+    → IsOpened n file (Err stop) c d
+offer_stops known host n file why c d stop serves hosted fit read extends =
+    excused_transition (IsOpenTo n file) (λ e. e ≡ Lost n) c d stop why (asked_size known host n file (Err why) serves hosted fit read) extends
 
 -- the length that a reply gave is offered
-pub told_size : (told : Replies) (host : List ℕ) (n : Name) (given : Got) (size : ℕ) → given ≡ got.Size size
-    → IfKnown told (λ IsReplyTo. IsReadOf IsReplyTo Head (head_request_text host (text_of n)) (Ok given)) → IsTold told host n (Offered n size)
-told_size Unknown host n given size is read = (refl, tt)
-told_size (Known IsReplyTo) host n given size is read = (refl, subst (λ (g : Got). IsReplied IsReplyTo Head (head_request_text host (text_of n)) (Ok g)) is read)
+pub size_is_event : (known : Replies) (host : List ℕ) (n : Name) (given : Got) (size : ℕ) → given ≡ got.Size size
+    → IfKnown known (λ IsReplyTo. IsReadOf IsReplyTo Head (head_request_text host (text_of n)) (Ok given)) → IsFetchEvent known host n (Offered n size)
+size_is_event Unknown host n given size is read = (refl, tt)
+size_is_event (Known IsReplyTo) host n given size is read = (refl, subst (λ (g : Got). IsReplied IsReplyTo Head (head_request_text host (text_of n)) (Ok g)) is read)
 
-pub offer_opens : (told : Replies) (host : List ℕ) (n : Name) (file : List ℕ) (given : Got) (size : ℕ) (c d : Content) (r : Result (Unit {0}) Stop)
-    → Serves told n file → IsTrue (is_host host) → IsFetchable file → given ≡ got.Size size
-    → IfKnown told (λ IsReplyTo. IsReadOf IsReplyTo Head (head_request_text host (text_of n)) (Ok given))
-    → Tells (λ answer. (r ≡ is_done (goes_on answer)) ⊎ (r ≡ Err stops.Print)) c (Offered n size) d → Opened n file r c d
-offer_opens told host n file given size c d r serves hosted fit is read tells =
-    let e : given ≡ got.Size (length file) = asked_size told host n file (Ok given) serves hosted fit read in
-    size_opens c d n size file r fit (cc) tells
+pub offer_opens : (known : Replies) (host : List ℕ) (n : Name) (file : List ℕ) (given : Got) (size : ℕ) (c d : Content) (r : Result (Unit {0}) Stop)
+    → ServesFile known n file → IsTrue (is_host host) → IsFetchable file → given ≡ got.Size size
+    → IfKnown known (λ IsReplyTo. IsReadOf IsReplyTo Head (head_request_text host (text_of n)) (Ok given))
+    → HasRightAnswer (λ answer. (r ≡ offer_result (reply_or_stop answer)) ⊎ (r ≡ Err stops.Print)) c (Offered n size) d → IsOpened n file r c d
+offer_opens known host n file given size c d r serves hosted fit is read answered =
+    let e : given ≡ got.Size (length file) = asked_size known host n file (Ok given) serves hosted fit read in
+    size_opens c d n size file r fit (cc) answered
 
-pub unoffered : (told : Replies) (host : List ℕ) (n : Name) (file : List ℕ) (given : Got) (c : Content) (r : Result ℕ Stop) (stop : Stop)
-    → Serves told n file → IsTrue (is_host host) → IsFetchable file
-    → IfKnown told (λ IsReplyTo. IsReadOf IsReplyTo Head (head_request_text host (text_of n)) (Ok given))
-    → ((size : ℕ) → given ≡ got.Size size → (r ≡ Ok size) ⊎ (r ≡ Err stops.Print)) → r ≡ Err stop → Opened n file (Err stop) c c
-unoffered told host n file given c r stop serves hosted fit read printed is h at ready =
-    (h, by (printed (length file) (asked_size told host n file (Ok given) serves hosted fit read)), at)
+pub unoffered : (known : Replies) (host : List ℕ) (n : Name) (file : List ℕ) (given : Got) (c : Content) (r : Result ℕ Stop) (stop : Stop)
+    → ServesFile known n file → IsTrue (is_host host) → IsFetchable file
+    → IfKnown known (λ IsReplyTo. IsReadOf IsReplyTo Head (head_request_text host (text_of n)) (Ok given))
+    → ((size : ℕ) → given ≡ got.Size size → (r ≡ Ok size) ⊎ (r ≡ Err stops.Print)) → r ≡ Err stop → IsOpened n file (Err stop) c c
+unoffered known host n file given c r stop serves hosted fit read printed is h at ready =
+    (h, by (printed (length file) (asked_size known host n file (Ok given) serves hosted fit read)), at)
   where
     by : (r ≡ Ok (length file)) ⊎ (r ≡ Err stops.Print) → IsExcused stop
     by (inl e) = absurd (cc)
@@ -201,11 +202,11 @@ unoffered told host n file given c r stop serves hosted fit read printed is h at
 
 -- the rounds
 
-pub fill_start : (c d : Content) (n : Name) (file : List ℕ) → Opened n file (Ok tt) c d → HasFilled n file 0 c d
+pub fill_start : (c d : Content) (n : Name) (file : List ℕ) → IsOpened n file (Ok tt) c d → IsFilledAfter n file 0 c d
 fill_start c d n file opened h at ready = let x = opened h at ready in (x.0, (x.1, (let m = missing_most_of n file x.0 in omega (arith, m))), x.2)
 
 pub fill_more : (b c d : Content) (n : Name) (file : List ℕ) (rounds max first last : ℕ) (range : Option (ℕ × ℕ)) → range ≡ Some (first, last) → max ≤ max_piece
-    → HasFilled n file rounds b c → ((h : History) → IsContent c h → IsNextRange h n max range) → Filled n file first last (Ok tt) c d → HasFilled n file (rounds + 1) b d
+    → IsFilledAfter n file rounds b c → ((h : History) → IsContent c h → IsNextRange h n max range) → IsFilled n file first last (Ok tt) c d → IsFilledAfter n file (rounds + 1) b d
 fill_more b c d n file rounds max first last range is few filled next fills h at ready =
     let x = filled h at ready in
     let y = fills x.0 x.2 (asked_next x.0 n file max first last range is few x.1.0 (next x.0 x.2)) in
@@ -213,23 +214,23 @@ fill_more b c d n file rounds max first last range is few filled next fills h at
     (y.0, (y.1.0, omega (arith, less, x.1.1)), y.2)
 
 pub fill_stops : (b c d : Content) (n : Name) (file : List ℕ) (rounds max first last : ℕ) (range : Option (ℕ × ℕ)) (stop : Stop) → range ≡ Some (first, last) → max ≤ max_piece
-    → HasFilled n file rounds b c → ((h : History) → IsContent c h → IsNextRange h n max range) → Filled n file first last (Err stop) c d → Gets n file (Err stop) b d
+    → IsFilledAfter n file rounds b c → ((h : History) → IsContent c h → IsNextRange h n max range) → IsFilled n file first last (Err stop) c d → IsFetched n file (Err stop) b d
 fill_stops b c d n file rounds max first last range stop is few filled next fills h at ready =
     let x = filled h at ready in
     let y = fills x.0 x.2 (asked_next x.0 n file max first last range is few x.1.0 (next x.0 x.2)) in
     (y.0, y.1, y.2)
 
 pub fill_ends : (b c : Content) (n : Name) (file : List ℕ) (rounds max : ℕ) (range : Option (ℕ × ℕ)) → range ≡ None → 1 ≤ max
-    → HasFilled n file rounds b c → ((h : History) → IsContent c h → IsNextRange h n max range) → Gets n file (Ok tt) b c
+    → IsFilledAfter n file rounds b c → ((h : History) → IsContent c h → IsNextRange h n max range) → IsFetched n file (Ok tt) b c
 fill_ends b c n file rounds max range is least filled next h at ready =
     let x = filled h at ready in (x.0, (x.1.0, nothing_next x.0 n file max range is least x.1.0 (next x.0 x.2)), x.2)
 
 pub fill_counts : (b c : Content) (n : Name) (file : List ℕ) (rounds : ℕ) → IsFetchable file → file_limit ≤ rounds
-    → HasFilled n file rounds b c → Gets n file (Ok tt) b c
+    → IsFilledAfter n file rounds b c → IsFetched n file (Ok tt) b c
 fill_counts b c n file rounds fit most filled h at ready =
     let x = filled h at ready in (x.0, (x.1.0, whole_by_count x.0 n file rounds fit x.1.0 x.1.1 most), x.2)
 
-pub start_stops : (c d : Content) (n : Name) (file : List ℕ) (stop : Stop) → Opened n file (Err stop) c d → Gets n file (Err stop) c d
+pub start_stops : (c d : Content) (n : Name) (file : List ℕ) (stop : Stop) → IsOpened n file (Err stop) c d → IsFetched n file (Err stop) c d
 start_stops c d n file stop opened = opened
 
 -- a good release that is not passed is the one that is reported
@@ -244,7 +245,7 @@ reported_day h n a ahead good is = by (day_cases a.day n.day)
     by (inr lt) = absurd (ahead (a, is.1, (sym is.0, lt)))
 
 -- the file of a feed that got it is good
-pub got_good : (c d : Content) (n : Name) (file : List ℕ) → IsFetchable file → Gets n file (Ok tt) c d → (h : History) → IsContent c h → IsOpenTo n file h
+pub got_good : (c d : Content) (n : Name) (file : List ℕ) → IsFetchable file → IsFetched n file (Ok tt) c d → (h : History) → IsContent c h → IsOpenTo n file h
     → (k : History) × IsContent d k × (¬ (IsPassed k n)) × IsGood k n
 got_good c d n file fit gets h at ready = let x = gets h at ready in (x.0, x.2, x.1.0.current, (file, x.1.1, fit.good))
 

@@ -21,7 +21,7 @@ use Rattle.feed_model.proofs.Bytes.{some_none, byte_at-some, slice_some}
 use Rattle.feed_model.proofs.Growth.{kept_here, keeps_but}
 use Rattle.feed_model.proofs.Others.{SameBut, good_other, good_back}
 use Rattle.feed_limits.specs.Limits.{file_limit}
-use Rattle.feed_fetch.specs.Fetched.{IsFetchable, IsOpenTo, IsFilling, IsAskedNext, missing_of}
+use Rattle.feed_fetch.specs.Effects.{IsFetchable, IsOpenTo, IsFilling, IsAskedNext, missing_of}
 
 -- a step that touches the release alone makes it no passed one
 passed_back : (n : Name) (h k : History) → SameBut n h k → IsPassed k n → IsPassed h n

@@ -9,56 +9,56 @@ use Rattle.feed_model.specs.declared.reply.Refusal.TheVariants as refusals
 use Rattle.feed_model.specs.History.{Event, Lost, Answer, History, IsPassed}
 use Rattle.feed_model.specs.Reply.{IsRight}
 use Rattle.feed_model.specs.Content.{Content, IsContent}
-use Rattle.feed_fetch.specs.declared.stop.Unasked.TheVariants.{Dial, Http}
+use Rattle.feed_fetch.specs.declared.stop.RequestFault.TheVariants.{Dial, Http}
 use Rattle.feed_fetch.specs.declared.stop.Stop.{Stop}
 use Rattle.feed_fetch.specs.declared.stop.Stop.TheVariants as stops
 
 -- whether a fetch continues after this answer, or why it stops
-abbrev pub goes_on : Answer → Result Reply Stop
-goes_on (Ok replies.Older) = Err stops.Older
-goes_on (Ok (replies.Broken why)) = Err stops.Broken
-goes_on (Ok reply) = Ok reply
-goes_on (Err refusal) = Err (stops.Refused refusal)
+abbrev pub reply_or_stop : Answer → Result Reply Stop
+reply_or_stop (Ok replies.Older) = Err stops.Older
+reply_or_stop (Ok (replies.Broken why)) = Err stops.Broken
+reply_or_stop (Ok reply) = Ok reply
+reply_or_stop (Err refusal) = Err (stops.Refused refusal)
 
 -- the reply reports new bytes
-abbrev pub brings_new : Reply → Bool
-brings_new (replies.Stored missing) = true
-brings_new replies.Activated = true
-brings_new _ = false
+abbrev pub has_new_bytes : Reply → Bool
+has_new_bytes (replies.Stored missing) = true
+has_new_bytes replies.Activated = true
+has_new_bytes _ = false
 
 -- whether a piece with this answer had new bytes
-abbrev pub is_news : Result Reply Stop → Result Bool Stop
-is_news (Ok reply) = Ok (brings_new reply)
-is_news (Err stop) = Err stop
+abbrev pub piece_result : Result Reply Stop → Result Bool Stop
+piece_result (Ok reply) = Ok (has_new_bytes reply)
+piece_result (Err stop) = Err stop
 
 -- whether the event was accepted
-abbrev pub is_done : Result Reply Stop → Result (Unit {0}) Stop
-is_done (Ok reply) = Ok tt
-is_done (Err stop) = Err stop
+abbrev pub offer_result : Result Reply Stop → Result (Unit {0}) Stop
+offer_result (Ok reply) = Ok tt
+offer_result (Err stop) = Err stop
 
 -- a round without new bytes stops the fetch
-abbrev pub is_settled : Result Bool Stop → Result (Unit {0}) Stop
-is_settled (Ok true) = Ok tt
-is_settled (Ok false) = Err stops.NoProgress
-is_settled (Err stop) = Err stop
+abbrev pub round_result : Result Bool Stop → Result (Unit {0}) Stop
+round_result (Ok true) = Ok tt
+round_result (Ok false) = Err stops.NoProgress
+round_result (Err stop) = Err stop
 
 -- for every history that has the content c, the event gets a right answer, which meets the condition, and c' is a
 -- content of the history with both added
-abbrev pub Tells : (Answer → Type 0) → Content → Event → Content → Type 0
-Tells ComesOut c event c' =
+abbrev pub HasRightAnswer : (Answer → Type 0) → Content → Event → Content → Type 0
+HasRightAnswer ComesOut c event c' =
     (h : History) → IsContent c h → (answer : Answer) × IsRight h event answer × ComesOut answer × IsContent c' ((event, answer) ∷ h)
 
 -- this was the feed's last event, with this answer
-abbrev pub IsLast : Event → Answer → History → Type 0
-IsLast e a k = (before : History) × (k ≡ (e, a) ∷ before)
+abbrev pub IsLastEvent : Event → Answer → History → Type 0
+IsLastEvent e a k = (before : History) × (k ≡ (e, a) ∷ before)
 
 -- the feed after a fetch that stops for this reason: a later release is active, or the reason is the feed's last
 -- answer; and after a failed request its last event is the loss
 abbrev pub IsStoppedAt : Name → Stop → History → Type 0
 IsStoppedAt n stops.Older k = IsPassed k n
-IsStoppedAt n stops.Broken k = (e : Event) × (why : BadFile) × IsLast e (Ok (replies.Broken why)) k
-IsStoppedAt n (stops.Refused refusal) k = (e : Event) × IsLast e (Err refusal) k
-IsStoppedAt n (stops.Unasked (Http fault)) k = IsLast (Lost n) (Ok replies.Nothing) k
+IsStoppedAt n stops.Broken k = (e : Event) × (why : BadFile) × IsLastEvent e (Ok (replies.Broken why)) k
+IsStoppedAt n (stops.Refused refusal) k = (e : Event) × IsLastEvent e (Err refusal) k
+IsStoppedAt n (stops.Request (Http fault)) k = IsLastEvent (Lost n) (Ok replies.Nothing) k
 IsStoppedAt n _ k = ⊤
 
 -- 0 if a later release is reported; 3 if memory ran out, or a device, connection, reader, writer or print failed;
@@ -67,11 +67,11 @@ abbrev pub status_of : Stop → ℕ
 status_of stops.Older = 0
 status_of (stops.Refused refusals.Memory) = 3
 status_of (stops.Refused refusals.Device) = 3
-status_of (stops.Unasked (Dial fault)) = 3
-status_of (stops.Unasked (Http http.Read)) = 3
-status_of (stops.Unasked (Http http.Write)) = 3
-status_of (stops.Unasked (Http http.Short)) = 3
-status_of (stops.Unasked (Http http.Memory)) = 3
+status_of (stops.Request (Dial fault)) = 3
+status_of (stops.Request (Http http.Read)) = 3
+status_of (stops.Request (Http http.Write)) = 3
+status_of (stops.Request (Http http.Short)) = 3
+status_of (stops.Request (Http http.Memory)) = 3
 status_of stops.Print = 3
 status_of _ = 1
 
@@ -84,9 +84,9 @@ IsStatusOf (Err stop) status = (status ≡ status_of stop) ⊎ (status ≡ 3)
 abbrev pub IsExcused : Stop → Type 0
 IsExcused (stops.Refused refusals.Memory) = ⊤
 IsExcused (stops.Refused refusals.Device) = ⊤
-IsExcused (stops.Unasked (Dial fault)) = ⊤
-IsExcused (stops.Unasked (Http http.Read)) = ⊤
-IsExcused (stops.Unasked (Http http.Write)) = ⊤
-IsExcused (stops.Unasked (Http http.Memory)) = ⊤
+IsExcused (stops.Request (Dial fault)) = ⊤
+IsExcused (stops.Request (Http http.Read)) = ⊤
+IsExcused (stops.Request (Http http.Write)) = ⊤
+IsExcused (stops.Request (Http http.Memory)) = ⊤
 IsExcused stops.Print = ⊤
 IsExcused _ = ⊥

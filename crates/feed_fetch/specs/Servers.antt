@@ -1,4 +1,4 @@
--- The replies that a peer sends to requests.
+-- The replies of a server over files, and the result of a request.
 use Rattle.std.specs.Prelude.{◌≡◌, ◌⊎◌, ℕ, List, Option, Result, Ok, Err, ⊤}
 use Rattle.httparse.specs.Grammar.{RequestHead}
 use Rattle.feed_names.specs.ReleaseName.{Name}
@@ -11,18 +11,8 @@ use Rattle.feed_http.specs.Requests.{IsNamedBy}
 use Rattle.feed_http.specs.Shelves.{Files}
 use Rattle.feed_http.specs.Served.{reply_text, served}
 use Rattle.feed_http.specs.Got.{IsReply}
-use Rattle.feed_fetch.specs.declared.stop.Unasked.{Unasked}
-use Rattle.feed_fetch.specs.declared.stop.Unasked.TheVariants.{Dial, Http}
-
--- the replies of a peer: unknown, or a relation between what is written to it and what can then be read
-pub data Replies : Type 1 where
-  Unknown : Replies
-  Known : (List ℕ → List ℕ → Type 0) → Replies
-
--- the statement holds, if the replies are known
-abbrev pub IfKnown : Replies → ((List ℕ → List ℕ → Type 0) → Type 0) → Type 0
-IfKnown Unknown P = ⊤
-IfKnown (Known IsReplyTo) P = P IsReplyTo
+use Rattle.feed_fetch.specs.declared.stop.RequestFault.{RequestFault}
+use Rattle.feed_fetch.specs.declared.stop.RequestFault.TheVariants.{Dial, Http}
 
 -- if the text begins with the head of a request, the reply is that of a server with these files
 abbrev pub IsServed : Files → List ℕ → List ℕ → Type 0
@@ -39,7 +29,7 @@ abbrev pub IsReplied : (List ℕ → List ℕ → Type 0) → Method → List �
 IsReplied IsReplyTo method text result = (reply : List ℕ) × IsReplyTo text reply × IsReply method reply result
 
 -- the result of a request with this text
-abbrev pub IsReadOf : (List ℕ → List ℕ → Type 0) → Method → List ℕ → Result Got Unasked → Type 0
+abbrev pub IsReadOf : (List ℕ → List ℕ → Type 0) → Method → List ℕ → Result Got RequestFault → Type 0
 IsReadOf IsReplyTo method text (Ok got) = IsReplied IsReplyTo method text (Ok got)
 IsReadOf IsReplyTo method text (Err (Dial fault)) = ⊤
 IsReadOf IsReplyTo method text (Err (Http fault)) = (fault ≡ Write) ⊎ IsReplied IsReplyTo method text (Err fault)

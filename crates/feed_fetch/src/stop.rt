@@ -1,11 +1,11 @@
 //! Why a request or a fetch stopped.
-use crate::dial::DialFault;
-use feed_http::HttpFault;
+use feed_dial::DialFault;
+use feed_http_heads::HttpFault;
 use feed_model::Refusal;
 
 /// Why a request got no answer.
 #[derive(Clone, Copy, Debug, PartialEq, Eq)]
-pub enum Unasked {
+pub enum RequestFault {
     /// There was no connection.
     Dial(DialFault),
     /// The exchange failed.
@@ -28,7 +28,7 @@ pub enum Stop {
     /// A reply had no new bytes.
     NoProgress,
     /// A request got no answer.
-    Unasked(Unasked),
+    Request(RequestFault),
     /// The output failed.
     Print,
 }

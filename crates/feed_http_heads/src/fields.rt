@@ -4,8 +4,8 @@ ghost use Rattle.std.specs.List.{list_all};
 ghost use Rattle.std.specs.Str.{str_eq_ignore_ascii_case};
 ghost use Rattle.httparse.specs.Grammar.{Field};
 ghost use Rattle.httparse.specs.Spans.{IsWithin, IsHeaderWithin};
-ghost use Rattle.feed_http_heads.specs.Fields.{is_named, only, has_any, first_of, values_named, spans_named, has_other_name_or};
-ghost use Rattle.feed_http_heads.specs.Fields.{AreWithin, AreFieldsOf};
+ghost use Rattle.feed_http_heads.specs.Fields.{is_named, only, has_any, first_of, values_named, spans_named};
+ghost use Rattle.feed_http_heads.specs.Fields.{has_other_name_or, AreWithin, AreFieldsOf};
 
 use httparse::spans::{HeaderSpan, Span};
 

@@ -1,6 +1,7 @@
 //! Fetches releases for a node, one request at a time, between the turns of its loop.
 use crate::recorded_dial::RecordedDial;
-use feed_fetch::{DialFault, begin, go_on, stopped};
+use feed_dial::DialFault;
+use feed_fetch::{begin, fetch_next, print_stop};
 use feed_http::{is_host, write_head_request, write_request};
 use feed_keep::Keep;
 use feed_limits::{FILE_LIMIT, PIECE_LIMIT};
@@ -198,14 +199,14 @@ impl<'a> Fetcher<'a> {
         let mut dial = RecordedDial::new(outgoing);
         let outcome = if fetch.is_begun {
             let piece = source.piece.max(1).min(PIECE_LIMIT as u64);
-            go_on(alloc, &mut dial, feed, host, &fetch.name, piece, lines)
+            fetch_next(alloc, &mut dial, feed, host, &fetch.name, piece, lines)
         } else {
             begin(alloc, &mut dial, feed, host, &fetch.name, lines).map(|()| true)
         };
         match outcome {
             Ok(continues) => continues,
             Err(stop) => {
-                let _ = stopped(stop, lines);
+                let _ = print_stop(stop, lines);
                 false
             }
         }

@@ -1,5 +1,5 @@
 //! The dial of a fetch whose one connection returns a reply that the node has received already.
-use feed_fetch::{Dial, DialFault};
+use feed_dial::{Dial, DialFault};
 use feed_node_server::OutgoingRequest;
 use std::io;
 use std::io::{ErrorKind, Read, Write};
@@ -17,7 +17,7 @@ impl<'r> RecordedDial<'r> {
 }
 
 impl<'r> Dial for RecordedDial<'r> {
-    ghost use Rattle.feed_fetch.specs.Servers.{Unknown};
+    ghost use Rattle.feed_dial.specs.Replies.{Unknown};
 
     type Conn = RecordedConn<'r>;
 

@@ -1,6 +1,6 @@
 //! Makes TCP connections with a deadline, one for each request of a fetch.
 use crate::timed::{Cause, TimedStream};
-use feed_fetch::{Dial, DialFault};
+use feed_dial::{Dial, DialFault};
 use std::io;
 use std::io::ErrorKind;
 use std::net::{TcpStream, ToSocketAddrs};
@@ -44,7 +44,7 @@ impl<'a> TcpDial<'a> {
 }
 
 impl<'a> Dial for TcpDial<'a> {
-    ghost use Rattle.feed_fetch.specs.Servers.{Unknown};
+    ghost use Rattle.feed_dial.specs.Replies.{Unknown};
 
     type Conn = TimedStream<'a>;
 

@@ -28,7 +28,7 @@
 //! Commands that fetch:
 //!
 //!     fetch PIECE        fetches by requests for PIECE bytes; prints what the fetch prints, its fault and its status
-//!     fetch-by-law PIECE [FILE]  the same, from the server of feed_fetch_law over FILE or no file
+//!     fetch-by-law PIECE [FILE]  the same, from a server in memory over FILE or no file
 //!     fail-print N       in the fetches that follow, the Nth write or flush of what is printed fails; 0: none fails
 //!     calls              prints how many writes and flushes the last fetch made
 //!     requests           prints the requests of the last fetch, each after a line `connection`

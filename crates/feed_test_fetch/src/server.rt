@@ -1,8 +1,8 @@
 //! A server in memory, and the connections to it.
 ghost use Rattle.std.specs.Prelude.{None};
-ghost use Rattle.feed_fetch.specs.Servers.{Unknown};
+ghost use Rattle.feed_dial.specs.Replies.{Unknown};
 
-use feed_fetch::{Dial, DialFault};
+use feed_dial::{Dial, DialFault};
 use feed_http::{MemoryShelf, NamedFile, serve_one};
 use std::alloc::Global;
 use std::cell::RefCell;

@@ -1,0 +1,111 @@
+-- The effect of a fetch on a feed.
+use Rattle.std.specs.Prelude.{◌≡◌, ◌<◌, ◌≤◌, ◌+◌, ◌⊎◌, ◌++◌, ℕ, List, length, slice_range, slice_get, All, Option, None, Some, Result, Ok, IfSome, IfErr, MatchResult}
+use Rattle.feed_names.specs.ReleaseName.{Name, IsName}
+use Rattle.feed_http.specs.RequestTexts.{get_text, head_request_text}
+use Rattle.feed_names.specs.ReleaseName.{text_of}
+use Rattle.feed_http.specs.declared.fetching.got.Method.TheVariants.{Get, Head}
+use Rattle.feed_http.specs.declared.fetching.got.Got.{Got}
+use Rattle.feed_http.specs.declared.fetching.got.Got.TheVariants as got
+use Rattle.feed_http.specs.Shelves.{Files}
+use Rattle.feed_dial.specs.Replies.{Replies, Unknown, Known, IfKnown}
+use Rattle.feed_fetch.specs.Servers.{IsServer, IsReplied}
+use Rattle.feed_fetch.specs.declared.stop.Stop.{Stop}
+use Rattle.feed_fetch.specs.Answers.{IsExcused, IsStoppedAt, IsStatusOf}
+use Rattle.feed_model.specs.File.{fault_of}
+use Rattle.feed_model.specs.History.{Event, Offered, Piece, Lost, History, size_of, kept, IsFile, IsPassed, IsHeld, Reports}
+use Rattle.feed_model.specs.Reply.{HoldsNumber, missing_below, max_file, max_piece, max_held}
+use Rattle.feed_model.specs.Content.{Content, IsContent}
+
+-- exactly the piece that the reply gave, or some range of the complete file that it gave, with its length
+abbrev pub IsPieceOf : Got → ℕ → Option ℕ → List ℕ → Type 0
+IsPieceOf (got.Piece place size all) first total bytes = (first ≡ place) × (total ≡ size) × (bytes ≡ all)
+IsPieceOf (got.Whole all) first total bytes = (total ≡ Some (length all)) × (first + length bytes ≤ length all) × (bytes ≡ slice_range all first (first + length bytes))
+IsPieceOf _ first total bytes = ⊥
+
+-- a piece of the release, as the reply gave it
+abbrev pub IsTakenFrom : Name → Got → Event → Type 0
+IsTakenFrom n given (Piece m first total bytes) = (m ≡ n) × IsPieceOf given first total bytes
+IsTakenFrom n given _ = ⊥
+
+-- the offer of the release, with the length that a reply gave; a piece of it, as a reply gave it; or its loss
+abbrev pub IsFetchEvent : Replies → List ℕ → Name → Event → Type 0
+IsFetchEvent replies host n (Offered m size) = (m ≡ n) × IfKnown replies (λ IsReplyTo. IsReplied IsReplyTo Head (head_request_text host (text_of n)) (Ok (got.Size size)))
+IsFetchEvent replies host n (Piece m first total bytes) =
+    (m ≡ n) × IfKnown replies (λ IsReplyTo. (low high : ℕ) × (given : Got) × IsReplied IsReplyTo Get (get_text host (text_of n) low high) (Ok given) × IsPieceOf given first total bytes)
+IsFetchEvent replies host n (Lost m) = m ≡ n
+
+-- for every history that has the content c, c' is a content of it with more events added, each of them permitted, and
+-- the result meets the condition
+abbrev pub IsExtension : (Event → Type 0) → (History → Type 0) → Content → Content → Type 0
+IsExtension IsOne Stands c c' =
+    (h : History) → IsContent c h → (added : History) × All (λ event. IsOne event.0) added × Stands (added ++ h) × IsContent c' (added ++ h)
+
+-- for every history that has the content c and meets the first condition, c' is a content of one that is related to it
+abbrev pub IsTransition : (History → Type 0) → (History → History → Type 0) → Content → Content → Type 0
+IsTransition Before After c c' = (h : History) → IsContent c h → Before h → (k : History) × After h k × IsContent c' k
+
+-- the release is reported, or a later one is
+abbrev pub IsCurrent : Name → History → Type 0
+IsCurrent n h = Reports h n.stem (Some n) ⊎ IsPassed h n
+
+-- a fetch ends with this status: 0 only if the release is reported, or a later one; and if a stop ended it, the feed
+-- agrees with the stop, which has this status
+abbrev pub EndsWithStatus : Name → ℕ → History → Type 0
+EndsWithStatus n status k = (status ≡ 0 → IsCurrent n k) × ((outcome : Result (Unit {0}) Stop) × IfErr outcome (λ stop. IsStoppedAt n stop k) × IsStatusOf outcome status)
+
+-- the replies of a peer are known, and it serves this file of the release
+abbrev pub ServesFile : Replies → Name → List ℕ → Type 0
+ServesFile Unknown n file = ⊥
+ServesFile (Known IsReplyTo) n file = (files : Files) × IsServer files IsReplyTo × (files n ≡ Some file) × IsName (text_of n) n
+
+-- a file that a release may have, and that is good
+pub record IsFetchable (file : List ℕ) : Type 0 where
+  pub small : length file ≤ max_file
+  pub good : fault_of file ≡ None
+
+-- the stored bytes of the release are those of this file
+abbrev pub IsOfFile : Name → List ℕ → History → Type 0
+IsOfFile n file h = (place byte : ℕ) → kept h n place ≡ Some byte → slice_get file place ≡ Some byte
+
+-- the release may be offered with this file: no later release is active, its size agrees if it was recorded, otherwise
+-- there is room for it, and its stored bytes are those of the file
+pub record IsOpenTo (n : Name) (file : List ℕ) (h : History) : Type 0 where
+  pub current : ¬ (IsPassed h n)
+  pub size : IfSome (size_of h n) (λ size. size ≡ length file)
+  pub bytes : IsOfFile n file h
+  pub room : IsHeld h n ⊎ (¬ (HoldsNumber h max_held))
+
+-- it was offered, and its stored bytes are those of the file
+pub record IsFilling (n : Name) (file : List ℕ) (h : History) : Type 0 where
+  pub current : ¬ (IsPassed h n)
+  pub size : size_of h n ≡ Some (length file)
+  pub bytes : IsOfFile n file h
+
+-- a range of it is requested, whose first place is missing
+pub record IsAskedNext (n : Name) (file : List ℕ) (first last : ℕ) (h : History) : Type 0 where
+  pub filling : IsFilling n file h
+  pub order : first ≤ last
+  pub within : last < length file
+  pub few : last < first + max_piece
+  pub missing : kept h n first ≡ None
+
+-- the number of missing places of the file
+abbrev pub missing_of : Name → List ℕ → History → ℕ
+missing_of n file h = missing_below (kept h n) (length file)
+
+-- this holds, unless an excused stop ended the call
+abbrev pub OrExcused : Result (Unit {0}) Stop → Type 0 → Type 0
+OrExcused result stands = MatchResult result (λ done. stands) IsExcused
+
+abbrev pub IsOpened : Name → List ℕ → Result (Unit {0}) Stop → Content → Content → Type 0
+IsOpened n file result = IsTransition (IsOpenTo n file) (λ h k. OrExcused result (IsFilling n file k))
+
+abbrev pub IsFilled : Name → List ℕ → ℕ → ℕ → Result (Unit {0}) Stop → Content → Content → Type 0
+IsFilled n file first last result = IsTransition (IsAskedNext n file first last) (λ h k. OrExcused result (IsFilling n file k × (missing_of n file k < missing_of n file h)))
+
+abbrev pub IsFetched : Name → List ℕ → Result (Unit {0}) Stop → Content → Content → Type 0
+IsFetched n file result = IsTransition (IsOpenTo n file) (λ h k. OrExcused result (IsFilling n file k × IsFile k n file))
+
+-- after this many rounds, each with at least one new place
+abbrev pub IsFilledAfter : Name → List ℕ → ℕ → Content → Content → Type 0
+IsFilledAfter n file rounds = IsTransition (IsOpenTo n file) (λ h k. IsFilling n file k × (missing_of n file k + rounds ≤ length file))

@@ -1,0 +1,113 @@
+//! Connections to a server over files in memory.
+ghost use Rattle.std.specs.Prelude.{◌≡◌, false};
+ghost use Rattle.feed_http.specs.MemoryShelves.{file_named};
+ghost use Rattle.feed_http.specs.Shelves.{Files};
+ghost use Rattle.feed_fetch.specs.Servers.{IsServed};
+
+use crate::memory_reply::{concat, reply_to};
+use feed_dial::{Dial, DialFault};
+use feed_http::NamedFile;
+use std::alloc::Global;
+use std::collections::VecDeque;
+use std::io;
+use std::io::{Read, Write};
+use std::marker::{Brand, PhantomData};
+
+/// A type that represents a list of files, so that the replies of a dial are a constant of its type.
+pub(crate) trait Archive: Drop {
+    // The file of each release, if there is one.
+    ghost files: { Files };
+}
+
+impl Archive for Brand {
+    ghost use Rattle.std.specs.Prelude.{None};
+
+    ghost files = { λ _. None };
+}
+
+/// Makes connections to a server over the files of the archive.
+#[derive(Drop)]
+pub(crate) struct MemoryDial<'a, A: Archive> {
+    alloc: Global,
+    files: &'a [NamedFile],
+    archive: PhantomData<A>,
+    ghost archived: { file_named files.now ≡ A.files },
+}
+
+impl<'a, A: Archive> MemoryDial<'a, A> {
+    pub(crate) fn new(alloc: Global, files: &'a [NamedFile]) -> Self
+        requires { file_named files.now ≡ A.files }
+    {
+        MemoryDial {
+            alloc,
+            files,
+            archive: PhantomData,
+        }
+    }
+}
+
+/// A connection to the server. It replies at once to what is written, and the reply can then be read.
+#[derive(Drop)]
+pub(crate) struct MemoryConn<'a, A: Archive> {
+    alloc: Global,
+    files: &'a [NamedFile],
+    archive: PhantomData<A>,
+    written: Vec<u8>,
+    reply: VecDeque<u8>,
+    is_read: bool,
+    ghost archived: { file_named files.now ≡ A.files },
+    ghost replied: { is_read ≡ false → IsServed A.files written.items reply.items },
+}
+
+impl<A: Archive> Read for MemoryConn<'_, A> {
+    ghost use Rattle.std.specs.Prelude.{Some};
+
+    ghost remaining = { λ conn. Some conn.reply.items };
+
+    fn read(&mut self, buf: &mut [u8]) -> io::Result<usize> {
+        self.is_read = true;
+        self.reply.read(buf)
+    }
+}
+
+/// Its contracts name what was written until something is read. A write that fails changes nothing.
+impl<A: Archive> Write for MemoryConn<'_, A> {
+    ghost use Rattle.feed_fetch.specs.MemoryConns.{unless_read};
+
+    ghost contents = { λ conn. unless_read conn.is_read conn.written.items };
+
+    fn write(&mut self, buf: &[u8]) -> io::Result<usize> {
+        let written = concat(self.alloc, &self.written, buf)?;
+        self.reply = reply_to(self.alloc, self.files, &written)?;
+        self.written = written;
+        Ok(buf.len())
+    }
+
+    fn flush(&mut self) -> io::Result<()> {
+        Ok(())
+    }
+}
+
+impl<'a, A: Archive> Dial for MemoryDial<'a, A> {
+    ghost use Rattle.feed_dial.specs.Replies.{Known};
+    ghost use Rattle.feed_fetch.specs.Servers.{IsServed};
+    ghost use Rattle.feed_fetch.specs.MemoryConns.{IsSomeAnd-unless_read};
+
+    type Conn = MemoryConn<'a, A>;
+
+    ghost replies = { Known (IsServed A.files) };
+
+    fn dial(&mut self) -> Result<MemoryConn<'a, A>, DialFault> {
+        Ok(MemoryConn {
+            alloc: self.alloc,
+            files: self.files,
+            archive: PhantomData,
+            written: Vec::new(self.alloc),
+            reply: VecDeque::new(self.alloc),
+            is_read: false,
+        })
+    }
+
+    ghost answers = { λ conn text is.
+        IsSomeAnd-unless_read conn.is_read conn.written.items conn.reply.items text A.files conn.replied is };
+}

@@ -1,0 +1,63 @@
+//! Sends one request on a connection of its own, and reads the reply.
+ghost use Rattle.std.specs.Prelude.{IsTrue};
+ghost use Rattle.feed_names.specs.ReleaseName.{text_of};
+ghost use Rattle.feed_http.specs.RequestTexts.{is_host, get_text, head_request_text};
+ghost use Rattle.feed_dial.specs.Replies.{IfKnown};
+ghost use Rattle.feed_fetch.specs.Servers.{IsReadOf};
+
+use crate::stop::RequestFault;
+use feed_dial::Dial;
+use feed_http::{Got, Method, read_reply, write_head_request, write_request};
+use feed_http_heads::HttpFault;
+use feed_names::ReleaseName;
+use std::alloc::Global;
+
+/// Requests the length of the file.
+pub fn request_size<D: Dial>(
+    alloc: Global,
+    dial: &mut D,
+    host: &[u8],
+    name: &ReleaseName,
+) -> Result<Got, RequestFault>
+    requires { IsTrue (is_host host.now) }
+    ensures { IfKnown D.replies (λ IsReplyTo.
+        IsReadOf IsReplyTo Method.Head (head_request_text host.now (text_of name.now)) result) }
+{
+    let mut conn = match dial.dial() {
+        Ok(conn) => conn,
+        Err(fault) => return Err(RequestFault::Dial(fault)),
+    };
+    let Ok(()) = write_head_request(&mut conn, host, name) else {
+        return Err(RequestFault::Http(HttpFault::Write));
+    };
+    match read_reply(alloc, &mut conn, Method::Head) {
+        Ok(got) => Ok(got),
+        Err(fault) => Err(RequestFault::Http(fault)),
+    }
+}
+
+/// Requests the range from the first to the last place of the file, both included.
+pub fn request_range<D: Dial>(
+    alloc: Global,
+    dial: &mut D,
+    host: &[u8],
+    name: &ReleaseName,
+    first: u64,
+    last: u64,
+) -> Result<Got, RequestFault>
+    requires { IsTrue (is_host host.now) }
+    ensures { IfKnown D.replies (λ IsReplyTo.
+        IsReadOf IsReplyTo Method.Get (get_text host.now (text_of name.now) first last) result) }
+{
+    let mut conn = match dial.dial() {
+        Ok(conn) => conn,
+        Err(fault) => return Err(RequestFault::Dial(fault)),
+    };
+    let Ok(()) = write_request(&mut conn, host, name, first, last) else {
+        return Err(RequestFault::Http(HttpFault::Write));
+    };
+    match read_reply(alloc, &mut conn, Method::Get) {
+        Ok(got) => Ok(got),
+        Err(fault) => Err(RequestFault::Http(fault)),
+    }
+}

@@ -1,3 +1,0 @@
-pub mod GoodFile
-pub mod Opening
-pub mod Serving

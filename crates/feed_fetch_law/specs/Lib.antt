@@ -1,2 +1,0 @@
-pub mod GoodFiles
-pub mod MemoryConns
