@@ -11,11 +11,12 @@ use Rattle.feed_kbart.specs.Files.{holdings_of}
 use Rattle.feed_model.specs.History.{History}
 use Rattle.feed_releases.specs.Actives.{ActiveValue, IsReported, names_of, ReportAlike}
 use Rattle.feed_releases.proofs.ByPackage.{listed_alike}
+use Rattle.feed_resolver_reply.specs.Replies.{ResponseValue}
 use Rattle.feed_resolver.specs.Replies.{IsResponse, IsResponseAt, response_to}
 use Rattle.feed_resolver.specs.Laws.{KeepsPublished}
 
 -- two replies to the same bytes
-one_reply : (bytes : List ℕ) (actives : List ActiveValue) (response reply : List ℕ) → IsResponse bytes actives response → IsResponse bytes actives reply → response ≡ reply
+one_reply : (bytes : List ℕ) (actives : List ActiveValue) (response reply : ResponseValue) → IsResponse bytes actives response → IsResponse bytes actives reply → response ≡ reply
 one_reply bytes actives response reply (inl (head, begins, is)) (inl (other, also, same)) =
     let heads : head ≡ other = (request_unique bytes head other begins.rest also.rest begins.reads also.reads).0 in
     is ∙ ap (λ (h : RequestHead). response_to h actives) heads ∙ sym same
@@ -30,12 +31,12 @@ of_name name holdings = record { name = name; holdings = holdings }
 abbrev from_names : (Name → List ℕ) → List Name → List ActiveValue
 from_names file names = map (λ name. of_name name (holdings_of (file name))) names
 
-told_by_names : (file : Name → List ℕ) (actives : List ActiveValue) → AllByRecursion (λ (active : ActiveValue). active.holdings ≡ holdings_of (file active.name)) actives
+given_by_names : (file : Name → List ℕ) (actives : List ActiveValue) → AllByRecursion (λ (active : ActiveValue). active.holdings ≡ holdings_of (file active.name)) actives
     → actives ≡ from_names file (names_of actives)
-told_by_names file [] all = refl
-told_by_names file (active ∷ actives) all =
+given_by_names file [] all = refl
+given_by_names file (active ∷ actives) all =
     ap (λ (h : HoldingsValue). of_name active.name h ∷ actives) all.0
-    ∙ ap (λ (more : List ActiveValue). of_name active.name (holdings_of (file active.name)) ∷ more) (told_by_names file actives all.1)
+    ∙ ap (λ (more : List ActiveValue). of_name active.name (holdings_of (file active.name)) ∷ more) (given_by_names file actives all.1)
 
 -- each holds what the published file of its name says
 published : (file : Name → List ℕ) (h : History) (actives : List ActiveValue) → KeepsPublished file h → All (IsReported h) actives
@@ -43,10 +44,10 @@ published : (file : Name → List ℕ) (h : History) (actives : List ActiveValue
 published file h actives keeps reported = λ i d within.
     let is = reported i d within in is.holdings ∙ ap holdings_of (keeps _ is.text is.file)
 
-pub same_bytes : (file : Name → List ℕ) (h k : History) (bytes response reply : List ℕ) → KeepsPublished file h → KeepsPublished file k → ReportAlike h k
+pub same_bytes : (file : Name → List ℕ) (h k : History) (bytes : List ℕ) (response reply : ResponseValue) → KeepsPublished file h → KeepsPublished file k → ReportAlike h k
     → IsResponseAt h bytes response → IsResponseAt k bytes reply → response ≡ reply
 same_bytes file h k bytes response reply keeps stores alike (one, here, is) (other, there, also) =
     let names : names_of one ≡ names_of other = listed_alike h k one other alike here there in
-    let same : one ≡ other = told_by_names file one (recursion_from_All _ one (published file h one keeps here.each)) ∙ ap (from_names file) names
-    ∙ sym (told_by_names file other (recursion_from_All _ other (published file k other stores there.each))) in
+    let same : one ≡ other = given_by_names file one (recursion_from_All _ one (published file h one keeps here.each)) ∙ ap (from_names file) names
+    ∙ sym (given_by_names file other (recursion_from_All _ other (published file k other stores there.each))) in
     one_reply bytes other response reply (subst (λ (actives : List ActiveValue). IsResponse bytes actives response) same is) also

@@ -1,13 +1,5 @@
-pub mod Escapes
-pub mod JsonStrings
-pub mod Links
-pub mod Pieces
-pub mod Parts
-pub mod Accepts
-pub mod Targets
-pub mod Hits
 pub mod Answers
-pub mod Pages
+pub mod Status
 pub mod Replies
 pub mod Laws
-pub mod Feeding
+pub mod NodeReplies

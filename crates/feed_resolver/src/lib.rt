@@ -3,25 +3,11 @@
 #![tactic(auto)]
 
 mod answers;
-mod escape;
-mod feeding;
-mod hits;
 mod laws;
-mod link;
-mod pages;
-mod piece;
-mod reply;
-mod representation;
+mod node;
 mod responses;
 mod status;
-mod target;
-mod text;
 
-pub use feed_http_heads::{HeadEnd, head_end};
-pub use feeding::{Feeder, fetch_asked, respond_as_node};
-pub use laws::{
-    escaped_has_no_markup, escaped_reads_back, json_reads_back, redirects_to_link,
-    same_releases_same_bytes,
-};
-pub use representation::Representation;
+pub use laws::same_releases_same_bytes;
+pub use node::respond_as_node;
 pub use responses::{respond, respond_with};

@@ -2,12 +2,14 @@
 use crate::escapes::Escaped;
 use crate::fault::Fault;
 use crate::line::Line;
+use feed_http_heads::head_end;
 use feed_keep::ListKeep;
 use feed_model::{Refusal, Reply};
 use feed_names::ReleaseName;
 use feed_node_connection::Connection;
 use feed_releases::{Event, Feed};
-use feed_resolver::{Feeder, fetch_asked, head_end, respond, respond_as_node};
+use feed_resolver::{respond, respond_as_node};
+use feed_resolver_request::{FetchPolicy, fetch_request};
 
 /// The feed of a node over a keeper in memory, and one connection to it.
 #[derive(Drop)]
@@ -37,7 +39,7 @@ impl<'a> Node<'a> {
             "release" => self.release(line),
             "respond" => self.respond(line),
             "respond-as-node" => self.respond_as_node(line),
-            "fetch-asked" => self.fetch_asked(line),
+            "fetch-asked" => self.fetch_request(line),
             "head-end" => self.head_end(line),
             _ => self.take_connection(command, line),
         }
@@ -58,7 +60,7 @@ impl<'a> Node<'a> {
     fn respond(&self, line: Line<'_>) -> Result<(), Fault> {
         let request = line.text(self.rt.alloc())?;
         let reply = respond(self.rt.alloc(), &request, &self.feed)?;
-        println!(self.rt; "{}", Escaped(&reply))?;
+        println!(self.rt; "{}", Escaped(reply.bytes()))?;
         Ok(())
     }
 
@@ -69,16 +71,16 @@ impl<'a> Node<'a> {
         };
         let is_busy = line.flag("busy", "free")?;
         let request = line.text(self.rt.alloc())?;
-        let feeder = Feeder { token, is_busy };
-        let reply = respond_as_node(self.rt.alloc(), &request, &feeder, &self.feed)?;
-        println!(self.rt; "{}", Escaped(&reply))?;
+        let policy = FetchPolicy { token, is_busy };
+        let reply = respond_as_node(self.rt.alloc(), &request, &policy, &self.feed)?;
+        println!(self.rt; "{}", Escaped(reply.bytes()))?;
         Ok(())
     }
 
-    fn fetch_asked(&self, mut line: Line<'_>) -> Result<(), Fault> {
+    fn fetch_request(&self, mut line: Line<'_>) -> Result<(), Fault> {
         let token = line.word()?.as_bytes();
         let request = line.text(self.rt.alloc())?;
-        match fetch_asked(self.rt.alloc(), &request, token) {
+        match fetch_request(self.rt.alloc(), &request, token) {
             Some(Ok(name)) => println!(self.rt; "{}", Escaped(name.text()))?,
             Some(Err(_)) => println!(self.rt; "no name")?,
             None => println!(self.rt; "none")?,

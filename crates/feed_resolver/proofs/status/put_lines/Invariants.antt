@@ -1,6 +1,6 @@
 use Rattle.std.proofs.Common.{◌≡◌, ◌++◌, take}
 use Rattle.std.specs.List.{flat_map}
-use Rattle.feed_resolver.specs.Pages.{active_line}
+use Rattle.feed_resolver.specs.Status.{active_line}
 use Rattle.feed_resolver.proofs.status.put_lines.Given as goal
 
 abbrev pub invariant-loop-active : goal.invariant-loop-active

@@ -1,6 +1,6 @@
 use Rattle.std.proofs.Common.{◌≡◌, ◌++◌, drop}
-use Rattle.feed_resolver.specs.Answers.{items_from}
-use Rattle.feed_resolver.specs.Pages.{active_object}
+use Rattle.feed_resolver_reply.specs.JsonLists.{items_from}
+use Rattle.feed_resolver.specs.Status.{active_object}
 use Rattle.feed_resolver.proofs.status.put_objects.Given as goal
 
 abbrev pub invariant-loop-place : goal.invariant-loop-place

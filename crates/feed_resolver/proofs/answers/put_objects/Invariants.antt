@@ -1,6 +1,0 @@
-use Rattle.std.proofs.Common.{◌≡◌, ◌++◌, drop}
-use Rattle.feed_resolver.specs.Answers.{items_from, hit_object}
-use Rattle.feed_resolver.proofs.answers.put_objects.Given as goal
-
-abbrev pub invariant-loop-place : goal.invariant-loop-place
-invariant-loop-place l = l.out.items ++ items_from hit_object l.place (drop l.place l.hits) ≡ l.fn.out.items ++ items_from hit_object 0 l.hits

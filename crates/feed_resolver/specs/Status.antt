@@ -1,0 +1,40 @@
+-- The active releases as text, as JSON and as an HTML page, and the home page.
+use Rattle.std.specs.Prelude.{ℕ, List, [], ◌∷◌, ◌++◌, codes}
+use Rattle.std.specs.List.{flat_map}
+use Rattle.feed_releases.specs.Actives.{ActiveValue}
+use Rattle.feed_resolver_request.specs.declared.representation.Representation.{Representation}
+use Rattle.feed_resolver_request.specs.declared.representation.Representation.TheVariants.{Text, Json, Html}
+use Rattle.feed_resolver_reply.specs.Escapes.{escaped}
+use Rattle.feed_resolver_reply.specs.JsonLists.{json_list}
+use Rattle.feed_resolver_reply.specs.Pieces.{joined}
+use Rattle.feed_resolver_reply.specs.Pages.{page_start, page_end, form_text}
+use Rattle.feed_resolver_hits.specs.Hits.{name_text}
+use Rattle.feed_resolver_hits.specs.HitsJson.{release_members}
+
+-- a package and its release, as an item of a page's list
+unfoldable pub active_item : ActiveValue → List ℕ
+active_item active = joined (
+    codes "<li>" ∷ escaped active.name.stem ∷ codes " (" ∷ escaped (name_text active.name) ∷ codes ")</li>\n" ∷ [])
+
+-- the list
+unfoldable pub active_items : List ActiveValue → List ℕ
+active_items actives = codes "<ul>\n" ++ (flat_map active_item actives ++ codes "</ul>\n")
+
+-- the active releases, a line for the name of each
+unfoldable pub active_line : ActiveValue → List ℕ
+active_line active = name_text active.name ++ codes "\n"
+
+-- an active release as a JSON object
+unfoldable pub active_object : ActiveValue → List ℕ
+active_object active = release_members active.name ++ codes "}"
+
+-- the active releases
+unfoldable pub status_body : Representation → List ActiveValue → List ℕ
+status_body Text actives = flat_map active_line actives
+status_body Json actives = json_list active_object actives
+status_body Html actives = page_start (codes "Active releases") ++ (active_items actives ++ page_end)
+
+-- the page with the form and the packages
+unfoldable pub home_page : List ActiveValue → List ℕ
+home_page actives =
+    page_start (codes "Find holdings") ++ (form_text ++ (active_items actives ++ codes "</main>\n</body>\n</html>\n"))

@@ -1,0 +1,72 @@
+//! Computes the reply of a node to a request: to a fetch request by its authorization, to any other as a resolver.
+ghost use Rattle.std.specs.Prelude.{◌≡◌, IfOk};
+ghost use Rattle.httparse.specs.Grammar.{RequestHead};
+ghost use Rattle.feed_http_heads.specs.Requests.{IsInBuffer, HasHead};
+ghost use Rattle.feed_releases.specs.Actives.{actives_of};
+ghost use Rattle.feed_releases.specs.Feeds.{releases_of};
+ghost use Rattle.feed_resolver.specs.NodeReplies.{node_reply, IsNodeReply, IsNodeReplyText};
+
+use crate::responses::response_to;
+use feed_http_heads::{FIELD_LIMIT, HeadFound, Request, find_head};
+use feed_keep::Keep;
+use feed_releases::{ActiveRelease, Feed};
+use feed_resolver_reply::{Response, bad_head_response, fetch_reply};
+use feed_resolver_request::{FetchPolicy, name_to_fetch};
+use httparse::spans::EMPTY_HEADER_SPAN;
+use std::alloc::{AllocError, Global};
+
+fn node_reply(
+    alloc: Global,
+    policy: &FetchPolicy<'_>,
+    request: &Request<'_>,
+    actives: &[ActiveRelease<'_>],
+) -> Result<Response, AllocError>
+    requires { IsInBuffer request.now }
+    ensures { IfOk result (λ response. (head : RequestHead) → HasHead request.now head
+        → response ≡ node_reply policy.now actives.now head) }
+{
+    if !request.lacks_host() && name_to_fetch(request).is_some() {
+        fetch_reply(alloc, policy, request)
+    } else {
+        response_to(alloc, request, actives)
+    }
+}
+
+fn node_reply_with(
+    alloc: Global,
+    bytes: &[u8],
+    policy: &FetchPolicy<'_>,
+    actives: &[ActiveRelease<'_>],
+) -> Result<Response, AllocError>
+    ensures { IfOk result (λ response. IsNodeReply policy.now bytes.now actives.now response) }
+{
+    let mut headers = [EMPTY_HEADER_SPAN; FIELD_LIMIT];
+    match find_head(bytes, &mut headers) {
+        HeadFound::Whole(spans) => {
+            let request = Request::new(bytes, &headers, spans);
+            node_reply(alloc, policy, &request, actives)
+        }
+        HeadFound::Unfinished => bad_head_response(alloc),
+        HeadFound::Never => bad_head_response(alloc),
+    }
+}
+
+/// Returns the reply of a node to a request: to a fetch request by its authorization, and to any other as `respond`.
+///
+/// # Errors
+///
+/// Running out of memory.
+pub fn respond_as_node<K: Keep + Drop>(
+    alloc: Global,
+    bytes: &[u8],
+    policy: &FetchPolicy<'_>,
+    feed: &Feed<K>,
+) -> Result<Response, AllocError>
+    ensures value { IfOk result (λ response.
+        IsNodeReply policy.now bytes.now (actives_of (releases_of feed.now)) response) }
+    ensures text { IfOk result (λ response.
+        IsNodeReplyText policy.now bytes.now (actives_of (releases_of feed.now)) response.bytes) }
+{
+    let actives = feed.actives()?;
+    node_reply_with(alloc, bytes, policy, &actives)
+}

@@ -1,0 +1,2 @@
+pub mod Redirects
+pub mod Written

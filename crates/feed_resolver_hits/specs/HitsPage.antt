@@ -1,0 +1,90 @@
+-- The hits of a query as an HTML page.
+use Rattle.std.specs.Prelude.{ℕ, if◌then◌else◌, List, [], ◌∷◌, ◌++◌, codes, Option, None, option_map}
+use Rattle.std.specs.List.{flat_map}
+use Rattle.std.specs.Fmt.{decimal}
+use Rattle.std.specs.Option.{option_and_then, option_map_or}
+use Rattle.feed_dates.specs.Days.{date_of_day}
+use Rattle.feed_kbart.specs.RowValue.{RowValue}
+use Rattle.feed_answer.specs.HitValue.{HitValue}
+use Rattle.feed_answer.specs.declared.grade.Grade.{Grade}
+use Rattle.feed_answer.specs.declared.grade.Grade.TheVariants.{Inside, Overlap, Untested}
+use Rattle.feed_resolver_reply.specs.Escapes.{escaped}
+use Rattle.feed_resolver_reply.specs.Pieces.{joined}
+use Rattle.feed_resolver_reply.specs.Pages.{page_start, page_end}
+use Rattle.feed_resolver_hits.specs.Links.{is_link}
+use Rattle.feed_resolver_hits.specs.Hits.{ReleaseHitValue}
+
+-- a grade in words for readers
+abbrev pub grade_words : Grade → List ℕ
+grade_words Inside = codes "covers all of what you asked for"
+grade_words Overlap = codes "covers a part of your date"
+grade_words Untested = codes "has the title; no date or volume was compared"
+
+-- a title, which is a link if its URL is safe to link to
+unfoldable pub title_cell : List ℕ → List ℕ → List ℕ
+title_cell url title =
+    if is_link url
+    then joined (codes "<a href=\"" ∷ escaped url ∷ codes "\">" ∷ escaped title ∷ codes "</a>" ∷ [])
+    else joined (escaped title ∷ [])
+
+-- a text, or nothing if there is none
+abbrev pub or_nothing : Option (List ℕ) → List ℕ
+or_nothing o = option_map_or (λ text. text) o []
+
+-- from the one to the other, if either is known
+abbrev pub span_text : Option (List ℕ) → Option (List ℕ) → List ℕ
+span_text None None = []
+span_text first last = joined (or_nothing first ∷ codes "&#8211;" ∷ or_nothing last ∷ [])
+
+-- the dates of a row's first and last days
+unfoldable pub dates_text : RowValue → List ℕ
+dates_text row = span_text (option_and_then date_of_day row.first_day) (option_and_then date_of_day row.last_day)
+
+-- its first and last volumes
+unfoldable pub volumes_text : RowValue → List ℕ
+volumes_text row = span_text (option_map decimal row.first_volume) (option_map decimal row.last_volume)
+
+-- the cells for the coverage
+unfoldable pub coverage_cells : HitValue → List ℕ
+coverage_cells hit =
+    joined (codes "</th><td>" ∷ grade_words hit.grade ∷ codes "</td><td>" ∷ [])
+    ++ (dates_text hit.row ++ (codes "</td><td>" ++ volumes_text hit.row))
+
+-- the cells after them
+unfoldable pub text_cells : ReleaseHitValue → List ℕ
+text_cells found = joined (
+    codes "</td><td>" ∷ escaped found.hit.row.depth
+    ∷ codes "</td><td>" ∷ escaped found.hit.row.embargo
+    ∷ codes "</td><td>" ∷ escaped found.hit.row.access
+    ∷ codes "</td><td>" ∷ escaped found.name.stem
+    ∷ codes "</td></tr>\n" ∷ [])
+
+-- the row of a hit in the table
+unfoldable pub hit_row : ReleaseHitValue → List ℕ
+hit_row found =
+    codes "<tr><th scope=\"row\">"
+    ++ (title_cell found.hit.row.url found.hit.row.title ++ (coverage_cells found.hit ++ text_cells found))
+
+-- the head of the table of hits
+unfoldable pub table_head : List ℕ
+table_head = joined (
+    codes "<div class=\"wide\">\n<table>\n<thead>\n<tr><th scope=\"col\">Title</th>" ∷ codes "<th scope=\"col\">How well it fits</th>"
+    ∷ codes "<th scope=\"col\">Dates</th><th scope=\"col\">Volumes</th><th scope=\"col\">Depth</th>"
+    ∷ codes "<th scope=\"col\">Embargo</th><th scope=\"col\">Access</th><th scope=\"col\">Package</th></tr>\n</thead>\n<tbody>\n" ∷ [])
+
+-- the end of a table
+abbrev pub table_end : List ℕ
+table_end = codes "</tbody>\n</table>\n</div>\n"
+
+-- the hits as a table
+unfoldable pub hits_table : List ReleaseHitValue → List ℕ
+hits_table hits = table_head ++ (flat_map hit_row hits ++ table_end)
+
+-- the table, or the statement that nothing matches
+abbrev pub hits_part : List ReleaseHitValue → List ℕ
+hits_part [] = codes "<p>No holdings match.</p>\n"
+hits_part (found ∷ more) = hits_table (found ∷ more)
+
+-- the hits as an HTML page
+unfoldable pub hits_page : List ReleaseHitValue → List ℕ
+hits_page hits = page_start (codes "Holdings") ++ (hits_part hits ++ page_end)

@@ -1,0 +1,211 @@
+//! Writes the hits of a query as an HTML page.
+ghost use Rattle.std.specs.Prelude.{◌≡◌, ◌++◌, ◌∷◌, [], OnOk, codes, option_map};
+ghost use Rattle.std.specs.List.{flat_map};
+ghost use Rattle.std.specs.Fmt.{decimal};
+ghost use Rattle.std.specs.Option.{option_and_then};
+ghost use Rattle.feed_dates.specs.Days.{date_of_day};
+ghost use Rattle.feed_resolver_reply.specs.Pieces.{joined, piece_text};
+ghost use Rattle.feed_resolver_hits.specs.HitsPage.{grade_words, title_cell, or_nothing, dates_text, volumes_text};
+ghost use Rattle.feed_resolver_hits.specs.HitsPage.{coverage_cells, text_cells, hit_row, table_head, table_end};
+ghost use Rattle.feed_resolver_hits.specs.HitsPage.{hits_table, hits_part, hits_page};
+
+use crate::hits::ReleaseHit;
+use crate::link::is_link;
+use feed_answer::Grade;
+use feed_dates::write_date;
+use feed_kbart::Row;
+use feed_resolver_reply::{Piece, put, put_all, put_page_end, put_page_start};
+use std::alloc::AllocError;
+
+fn grade_words(grade: Grade) -> &'static [u8]
+    ensures { result.now ≡ grade_words grade }
+{
+    match grade {
+        Grade::Inside => b"covers all of what you asked for",
+        Grade::Overlap => b"covers a part of your date",
+        Grade::Untested => b"has the title; no date or volume was compared",
+    }
+}
+
+#[tactic(auto, unfolding(crate::specs::HitsPage::title_cell))]
+fn put_title(out: &mut Vec<u8>, row: &Row) -> Result<(), AllocError>
+    ensures { OnOk result (out.new.items ≡ out.old.items ++ title_cell row.now.url row.now.title) }
+{
+    if is_link(row.url()) {
+        put_all(
+            out,
+            &[
+                Piece::Plain(b"<a href=\""),
+                Piece::Escaped(row.url()),
+                Piece::Plain(b"\">"),
+                Piece::Escaped(row.title()),
+                Piece::Plain(b"</a>"),
+            ],
+        )
+    } else {
+        put_all(out, &[Piece::Escaped(row.title())])
+    }
+}
+
+fn put_dash<'a>(out: &mut Vec<u8>, first: Piece<'a>, last: Piece<'a>) -> Result<(), AllocError>
+    ensures { OnOk result (out.new.items
+        ≡ out.old.items ++ joined (piece_text first.entry ∷ codes "&#8211;" ∷ piece_text last.entry ∷ [])) }
+{
+    put_all(out, &[first, Piece::Plain(b"&#8211;"), last])
+}
+
+fn date_piece(date: &Option<[u8; 10]>) -> Piece<'_>
+    ensures { piece_text result ≡ or_nothing date.now }
+{
+    match date {
+        Some(date) => Piece::Plain(date),
+        None => Piece::Plain(b""),
+    }
+}
+
+fn date_of(day: Option<i32>) -> Option<[u8; 10]>
+    ensures { result ≡ option_and_then date_of_day day }
+{
+    write_date(day?)
+}
+
+#[tactic(auto, unfolding(crate::specs::HitsPage::dates_text))]
+fn put_dates(out: &mut Vec<u8>, row: &Row) -> Result<(), AllocError>
+    ensures { OnOk result (out.new.items ≡ out.old.items ++ dates_text row.now) }
+{
+    let first = date_of(row.first_day());
+    let last = date_of(row.last_day());
+    if first.is_none() && last.is_none() {
+        return Ok(());
+    }
+    put_dash(out, date_piece(&first), date_piece(&last))
+}
+
+fn number_piece(number: Option<u32>) -> Piece<'static>
+    ensures { piece_text result ≡ or_nothing (option_map decimal number) }
+{
+    match number {
+        Some(number) => Piece::Number(u64::from(number)),
+        None => Piece::Plain(b""),
+    }
+}
+
+#[tactic(auto, unfolding(crate::specs::HitsPage::volumes_text))]
+fn put_volumes(out: &mut Vec<u8>, row: &Row) -> Result<(), AllocError>
+    ensures { OnOk result (out.new.items ≡ out.old.items ++ volumes_text row.now) }
+{
+    let first = row.first_volume();
+    let last = row.last_volume();
+    if first.is_none() && last.is_none() {
+        return Ok(());
+    }
+    put_dash(out, number_piece(first), number_piece(last))
+}
+
+#[tactic(auto, unfolding(crate::specs::HitsPage::coverage_cells))]
+fn put_coverage(out: &mut Vec<u8>, found: &ReleaseHit<'_>) -> Result<(), AllocError>
+    ensures { OnOk result (out.new.items ≡ out.old.items ++ coverage_cells found.now.hit) }
+{
+    put_all(
+        out,
+        &[
+            Piece::Plain(b"</th><td>"),
+            Piece::Plain(grade_words(found.grade())),
+            Piece::Plain(b"</td><td>"),
+        ],
+    )?;
+    put_dates(out, found.row())?;
+    put(out, b"</td><td>")?;
+    put_volumes(out, found.row())
+}
+
+#[tactic(auto, unfolding(crate::specs::HitsPage::text_cells))]
+fn put_text_cells(out: &mut Vec<u8>, found: &ReleaseHit<'_>) -> Result<(), AllocError>
+    ensures { OnOk result (out.new.items ≡ out.old.items ++ text_cells found.now) }
+{
+    let row = found.row();
+    put_all(
+        out,
+        &[
+            Piece::Plain(b"</td><td>"),
+            Piece::Escaped(row.depth()),
+            Piece::Plain(b"</td><td>"),
+            Piece::Escaped(row.embargo()),
+            Piece::Plain(b"</td><td>"),
+            Piece::Escaped(row.access()),
+            Piece::Plain(b"</td><td>"),
+            Piece::Escaped(found.name().package()),
+            Piece::Plain(b"</td></tr>\n"),
+        ],
+    )
+}
+
+#[tactic(auto, unfolding(crate::specs::HitsPage::hit_row))]
+fn put_row(out: &mut Vec<u8>, found: &ReleaseHit<'_>) -> Result<(), AllocError>
+    ensures { OnOk result (out.new.items ≡ out.old.items ++ hit_row found.now) }
+{
+    put(out, b"<tr><th scope=\"row\">")?;
+    put_title(out, found.row())?;
+    put_coverage(out, found)?;
+    put_text_cells(out, found)
+}
+
+fn put_rows(out: &mut Vec<u8>, hits: &[ReleaseHit<'_>]) -> Result<(), AllocError>
+    ensures { OnOk result (out.new.items ≡ out.old.items ++ flat_map hit_row hits.now) }
+{
+    for found in hits {
+        put_row(out, found)?;
+    }
+    Ok(())
+}
+
+#[tactic(auto, unfolding(crate::specs::HitsPage::table_head))]
+fn put_table_head(out: &mut Vec<u8>) -> Result<(), AllocError>
+    ensures { OnOk result (out.new.items ≡ out.old.items ++ table_head) }
+{
+    put_all(
+        out,
+        &[
+            Piece::Plain(
+                b"<div class=\"wide\">\n<table>\n<thead>\n<tr><th scope=\"col\">Title</th>\
+                  <th scope=\"col\">How well it fits</th>",
+            ),
+            Piece::Plain(
+                b"<th scope=\"col\">Dates</th><th scope=\"col\">Volumes</th><th scope=\"col\">Depth</th>",
+            ),
+            Piece::Plain(
+                b"<th scope=\"col\">Embargo</th><th scope=\"col\">Access</th><th scope=\"col\">Package</th></tr>\n\
+                  </thead>\n<tbody>\n",
+            ),
+        ],
+    )
+}
+
+#[tactic(auto, unfolding(crate::specs::HitsPage::hits_table))]
+fn put_table(out: &mut Vec<u8>, hits: &[ReleaseHit<'_>]) -> Result<(), AllocError>
+    ensures { OnOk result (out.new.items ≡ out.old.items ++ hits_table hits.now) }
+{
+    put_table_head(out)?;
+    put_rows(out, hits)?;
+    put(out, b"</tbody>\n</table>\n</div>\n")
+}
+
+fn put_hits(out: &mut Vec<u8>, hits: &[ReleaseHit<'_>]) -> Result<(), AllocError>
+    ensures { OnOk result (out.new.items ≡ out.old.items ++ hits_part hits.now) }
+{
+    if hits.is_empty() {
+        put(out, b"<p>No holdings match.</p>\n")
+    } else {
+        put_table(out, hits)
+    }
+}
+
+/// Writes the page that lists the hits.
+#[tactic(auto, unfolding(crate::specs::HitsPage::hits_page))]
+pub fn put_hits_page(out: &mut Vec<u8>, hits: &[ReleaseHit<'_>]) -> Result<(), AllocError>
+    ensures { OnOk result (out.new.items ≡ out.old.items ++ hits_page hits.now) }
+{
+    put_page_start(out, b"Holdings")?;
+    put_hits(out, hits)?;
+    put_page_end(out)
+}

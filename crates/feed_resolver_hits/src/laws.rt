@@ -1,0 +1,8 @@
+//! The law of redirects, stated as the contract of a function with an empty body.
+ghost use Rattle.feed_resolver_hits.specs.Laws.{RedirectsToLink};
+
+/// The URL of a redirect is one of `http` or `https` in visible ASCII, so no byte of a file can end a line of a reply's
+/// head.
+pub fn redirects_to_link()
+    ensures { RedirectsToLink }
+{}

@@ -1,0 +1,3 @@
+pub mod EscapedTexts
+pub mod JsonTexts
+pub mod Written

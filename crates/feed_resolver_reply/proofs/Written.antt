@@ -1,0 +1,34 @@
+-- Writing in steps writes the whole.
+use Rattle.std.proofs.Common.{◌≡◌, ℕ, List, [], ◌∷◌, ◌++◌, length, codes, ap, ◌∙◌, append_assoc}
+use Rattle.std.specs.Fmt.{decimal}
+use Rattle.feed_resolver_request.specs.declared.representation.Representation.{Representation}
+use Rattle.feed_resolver_reply.specs.Pieces.{joined}
+use Rattle.feed_resolver_reply.specs.Replies.{status_line, status_field, type_text, reply_head}
+use Rattle.feed_resolver_reply.specs.declared.status.Status.{Status}
+
+-- in three steps
+pub in_three : (old one two new a b c : List ℕ) → one ≡ old ++ a → two ≡ one ++ b → new ≡ two ++ c → new ≡ old ++ (a ++ (b ++ c))
+in_three old one two new a b c first second third =
+    third ∙ ap (λ t. t ++ c) (second ∙ ap (λ t. t ++ b) first) ∙ append_assoc (old ++ a) b c ∙ append_assoc old a (b ++ c)
+
+-- and in four
+pub in_four : (old one two three new a b c d : List ℕ) → one ≡ old ++ a → two ≡ one ++ b → three ≡ two ++ c → new ≡ three ++ d
+    → new ≡ old ++ (a ++ (b ++ (c ++ d)))
+in_four old one two three new a b c d first second third fourth =
+    in_three old one two new a b (c ++ d) first second (fourth ∙ ap (λ t. t ++ d) third ∙ append_assoc two c d)
+
+-- the head of a reply
+pub head_written : (old one two new media body location : List ℕ) (code : Status) (representation : Representation) (n : ℕ)
+    → media ≡ type_text representation → n ≡ length body
+    → one ≡ old ++ status_line code
+    → two ≡ one ++ status_field code location
+    → new ≡ two ++ joined (codes "\r\nContent-Type: " ∷ media ∷ codes "\r\nContent-Length: " ∷ decimal n
+    ∷ codes "\r\nVary: Accept\r\nX-Content-Type-Options: nosniff\r\nConnection: close\r\n\r\n" ∷ [])
+    → new ≡ old ++ reply_head (record { status = code; location = location; representation = representation; body = body })
+unfolding reply_head
+head_written old one two new media body location code representation n kind count first second third =
+    in_three old one two new
+    (status_line code) (status_field code location)
+    (joined (codes "\r\nContent-Type: " ∷ type_text representation ∷ codes "\r\nContent-Length: " ∷ decimal (length body)
+    ∷ codes "\r\nVary: Accept\r\nX-Content-Type-Options: nosniff\r\nConnection: close\r\n\r\n" ∷ []))
+    first second (rw (← kind, ← count) third)

@@ -1,0 +1,101 @@
+-- Replies, and their bytes.
+use Rattle.std.specs.Prelude.{ℕ, Bool, false, if◌then◌else◌, List, [], ◌∷◌, ◌++◌, length, codes}
+use Rattle.std.specs.Fmt.{decimal}
+use Rattle.feed_resolver_request.specs.declared.representation.Representation.{Representation}
+use Rattle.feed_resolver_request.specs.declared.representation.Representation.TheVariants.{Text, Json, Html}
+use Rattle.feed_resolver_reply.specs.Pieces.{joined}
+use Rattle.feed_resolver_reply.specs.Pages.{fault_body}
+use Rattle.feed_resolver_reply.specs.declared.status.Status.{Status}
+use Rattle.feed_resolver_reply.specs.declared.status.Status.TheVariants as status
+
+-- a reply: its status, the location of a redirect, if any, its representation, and its body
+pub record ReplyValue : Type 0 where
+  pub status : Status
+  pub location : List ℕ
+  pub representation : Representation
+  pub body : List ℕ
+
+-- the bytes of a reply, its status code, and the length of the body in them
+pub record ResponseValue : Type 0 where
+  pub bytes : List ℕ
+  pub status : ℕ
+  pub body_length : ℕ
+
+-- a reply that is not a redirect
+abbrev pub reply_with : Status → Representation → List ℕ → ReplyValue
+reply_with code representation body = record { status = code; location = []; representation = representation; body = body }
+
+-- a redirect
+abbrev pub redirect_to : List ℕ → ReplyValue
+redirect_to url = record { status = status.Found; location = url; representation = Text; body = [] }
+
+-- an error reply
+abbrev pub refusal : Status → Representation → List ℕ → ReplyValue
+refusal code representation name = reply_with code representation (fault_body representation name)
+
+-- the number of a status (RFC 9110, section 15)
+abbrev pub status_code : Status → ℕ
+status_code status.Good = 200
+status_code status.Found = 302
+status_code status.BadRequest = 400
+status_code status.Unauthorized = 401
+status_code status.NotFound = 404
+status_code status.MethodNotAllowed = 405
+status_code status.Conflict = 409
+status_code status.UriTooLong = 414
+status_code status.NotImplemented = 501
+
+-- its reason
+abbrev pub reason_text : Status → List ℕ
+reason_text status.Good = codes "OK"
+reason_text status.Found = codes "Found"
+reason_text status.BadRequest = codes "Bad Request"
+reason_text status.Unauthorized = codes "Unauthorized"
+reason_text status.NotFound = codes "Not Found"
+reason_text status.MethodNotAllowed = codes "Method Not Allowed"
+reason_text status.Conflict = codes "Conflict"
+reason_text status.UriTooLong = codes "URI Too Long"
+reason_text status.NotImplemented = codes "Not Implemented"
+
+-- the status line, without its end (RFC 9112, section 4)
+abbrev pub status_line : Status → List ℕ
+status_line code = joined (codes "HTTP/1.1 " ∷ decimal (status_code code) ∷ codes " " ∷ reason_text code ∷ [])
+
+-- the media type of a representation
+abbrev pub type_text : Representation → List ℕ
+type_text Text = codes "text/plain; charset=utf-8"
+type_text Json = codes "application/json"
+type_text Html = codes "text/html; charset=utf-8"
+
+-- the field that a status asks for (RFC 9110, sections 10.2.1, 10.2.2 and 11.6.1)
+abbrev pub status_field : Status → List ℕ → List ℕ
+status_field status.Found location = joined (codes "\r\nLocation: " ∷ location ∷ [])
+status_field status.MethodNotAllowed location = joined (codes "\r\nAllow: GET, HEAD" ∷ [])
+status_field status.Unauthorized location = joined (codes "\r\nWWW-Authenticate: Bearer" ∷ [])
+status_field code location = []
+
+-- the head of a reply
+unfoldable pub reply_head : ReplyValue → List ℕ
+reply_head reply =
+    status_line reply.status
+    ++ (status_field reply.status reply.location
+    ++ joined (
+    codes "\r\nContent-Type: " ∷ type_text reply.representation
+    ∷ codes "\r\nContent-Length: " ∷ decimal (length reply.body)
+    ∷ codes "\r\nVary: Accept\r\nX-Content-Type-Options: nosniff\r\nConnection: close\r\n\r\n" ∷ []))
+
+-- the body that is sent; the reply to a HEAD has none
+abbrev pub reply_body : Bool → ReplyValue → List ℕ
+reply_body head_alone reply = if head_alone then [] else reply.body
+
+-- the bytes of a reply, with its status code and the length of the body that is sent
+abbrev pub response_of : Bool → ReplyValue → ResponseValue
+response_of head_alone reply = record {
+  bytes = reply_head reply ++ reply_body head_alone reply;
+  status = status_code reply.status;
+  body_length = length (reply_body head_alone reply);
+}
+
+-- the reply to bytes without a valid head
+abbrev pub bad_head_response : ResponseValue
+bad_head_response = response_of false (refusal status.BadRequest Text (codes "BadHead"))

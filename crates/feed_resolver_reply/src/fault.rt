@@ -1,0 +1,79 @@
+//! Error replies, whose bodies are the name of the error.
+ghost use Rattle.std.specs.Prelude.{◌≡◌, ◌++◌, IfOk, OnOk};
+ghost use Rattle.feed_resolver_reply.specs.Pages.{fault_part, fault_body};
+ghost use Rattle.feed_resolver_reply.specs.Replies.{refusal, bad_head_response};
+ghost use Rattle.feed_resolver_request.specs.declared.representation.Representation.TheVariants as representation;
+
+use crate::page::{put_page_end, put_page_start};
+use crate::piece::{Piece, put_all};
+use crate::reply::Reply;
+use crate::response::Response;
+use crate::status::Status;
+use feed_resolver_request::Representation;
+use std::alloc::{AllocError, Global};
+
+#[tactic(auto, unfolding(crate::specs::Pages::fault_part))]
+fn put_fault_part(out: &mut Vec<u8>, name: &[u8]) -> Result<(), AllocError>
+    ensures { OnOk result (out.new.items ≡ out.old.items ++ fault_part name.now) }
+{
+    put_all(
+        out,
+        &[
+            Piece::Plain(b"<p>"),
+            Piece::Plain(name),
+            Piece::Plain(b"</p>\n"),
+        ],
+    )
+}
+
+#[tactic(auto, unfolding(crate::specs::Pages::fault_body))]
+fn put_fault_page(out: &mut Vec<u8>, name: &[u8]) -> Result<(), AllocError>
+    ensures { OnOk result (out.new.items ≡ out.old.items ++ fault_body representation.Html name.now) }
+{
+    put_page_start(out, b"Not answered")?;
+    put_fault_part(out, name)?;
+    put_page_end(out)
+}
+
+#[tactic(auto, unfolding(crate::specs::Pages::fault_body))]
+fn put_fault(
+    out: &mut Vec<u8>,
+    representation: Representation,
+    name: &[u8],
+) -> Result<(), AllocError>
+    ensures { OnOk result (out.new.items ≡ out.old.items ++ fault_body representation name.now) }
+{
+    match representation {
+        Representation::Text => put_all(out, &[Piece::Plain(name), Piece::Plain(b"\n")]),
+        Representation::Json => put_all(
+            out,
+            &[
+                Piece::Plain(b"{\"fault\":"),
+                Piece::Quoted(name),
+                Piece::Plain(b"}\n"),
+            ],
+        ),
+        Representation::Html => put_fault_page(out, name),
+    }
+}
+
+/// Returns an error reply.
+pub fn refusal(
+    alloc: Global,
+    status: Status,
+    representation: Representation,
+    name: &[u8],
+) -> Result<Reply<'static>, AllocError>
+    ensures { IfOk result (λ reply. reply ≡ refusal status representation name.now) }
+{
+    let mut body = Vec::new(alloc);
+    put_fault(&mut body, representation, name)?;
+    Ok(Reply::new(status, representation, body))
+}
+
+/// Returns the reply to bytes that do not begin with a valid head.
+pub fn bad_head_response(alloc: Global) -> Result<Response, AllocError>
+    ensures { IfOk result (λ response. response ≡ bad_head_response) }
+{
+    refusal(alloc, Status::BadRequest, Representation::Text, b"BadHead")?.response(alloc, false)
+}

@@ -1,0 +1,72 @@
+//! The reply to a request that a node fetch a release.
+ghost use Rattle.std.specs.Prelude.{◌≡◌, IfOk};
+ghost use Rattle.httparse.specs.Grammar.{RequestHead};
+ghost use Rattle.feed_http_heads.specs.Requests.{IsInBuffer, HasHead};
+ghost use Rattle.feed_resolver_reply.specs.FetchReplies.{progress_head, progress_response, authorized_reply};
+ghost use Rattle.feed_resolver_reply.specs.FetchReplies.{fetch_reply};
+
+use crate::fault::refusal;
+use crate::response::Response;
+use crate::status::Status;
+use feed_http_heads::Request;
+use feed_resolver_request::{FetchPolicy, Representation, is_authorized};
+use std::alloc::{AllocError, Global};
+
+#[tactic(auto, unfolding(crate::specs::FetchReplies::progress_head))]
+fn progress_head(alloc: Global) -> Result<Vec<u8>, AllocError>
+    ensures { IfOk result (λ text. text.items ≡ progress_head) }
+{
+    Vec::from_slice(
+        alloc,
+        b"HTTP/1.1 200 OK\r\nContent-Type: text/plain; charset=utf-8\r\nX-Content-Type-Options: nosniff\r\n\
+          Connection: close\r\n\r\n",
+    )
+}
+
+fn progress_response(alloc: Global) -> Result<Response, AllocError>
+    ensures { IfOk result (λ response. response ≡ progress_response) }
+{
+    Ok(Response {
+        bytes: progress_head(alloc)?,
+        status: 200,
+        body_length: 0,
+    })
+}
+
+fn authorized_reply(alloc: Global, is_busy: bool) -> Result<Response, AllocError>
+    ensures { IfOk result (λ response. response ≡ authorized_reply is_busy) }
+{
+    if is_busy {
+        refusal(alloc, Status::Conflict, Representation::Text, b"Busy")?.response(alloc, false)
+    } else {
+        progress_response(alloc)
+    }
+}
+
+/// Returns the reply to a fetch request: the head of a reply whose body reports the progress of the fetch, or an error.
+pub fn fetch_reply(
+    alloc: Global,
+    policy: &FetchPolicy<'_>,
+    request: &Request<'_>,
+) -> Result<Response, AllocError>
+    requires { IsInBuffer request.now }
+    ensures { IfOk result (λ response. (head : RequestHead) → HasHead request.now head
+        → response ≡ fetch_reply policy.now head) }
+{
+    let Some(token) = policy.token else {
+        return refusal(alloc, Status::NotFound, Representation::Text, b"NoTarget")?.response(
+            alloc, false,
+        );
+    };
+    if is_authorized(token, request) {
+        authorized_reply(alloc, policy.is_busy)
+    } else {
+        refusal(
+            alloc,
+            Status::Unauthorized,
+            Representation::Text,
+            b"Unauthorized",
+        )?
+        .response(alloc, false)
+    }
+}

@@ -1,0 +1,27 @@
+//! The replies of a link resolver, and how their bytes are written: the status line, the fields, and bodies as text,
+//! JSON and HTML pages in which each text of a file is escaped.
+#![tactic(auto)]
+
+mod escape;
+mod fault;
+mod fetch_reply;
+mod form;
+mod json;
+mod laws;
+mod page;
+mod piece;
+mod reply;
+mod response;
+mod status;
+
+pub use escape::put;
+pub use fault::{bad_head_response, refusal};
+pub use fetch_reply::fetch_reply;
+pub use form::put_form;
+pub use json::{put_comma, put_list_end, put_list_start};
+pub use laws::{escaped_has_no_markup, escaped_reads_back, json_reads_back};
+pub use page::{put_page_end, put_page_start};
+pub use piece::{Piece, put_all};
+pub use reply::Reply;
+pub use response::Response;
+pub use status::Status;

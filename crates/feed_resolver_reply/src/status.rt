@@ -1,0 +1,60 @@
+//! Status codes (RFC 9110, section 15).
+ghost use Rattle.std.specs.Prelude.{◌≡◌};
+ghost use Rattle.feed_resolver_reply.specs.Replies.{status_code, reason_text};
+
+/// A status code, with its reason.
+#[derive(Clone, Copy, Debug, PartialEq, Eq)]
+pub enum Status {
+    /// 200
+    Good,
+    /// 302
+    Found,
+    /// 400
+    BadRequest,
+    /// 401
+    Unauthorized,
+    /// 404
+    NotFound,
+    /// 405
+    MethodNotAllowed,
+    /// 409
+    Conflict,
+    /// 414
+    UriTooLong,
+    /// 501
+    NotImplemented,
+}
+
+/// Returns the number of a status.
+pub(crate) fn status_code(status: Status) -> u16
+    ensures { result ≡ status_code status }
+{
+    match status {
+        Status::Good => 200,
+        Status::Found => 302,
+        Status::BadRequest => 400,
+        Status::Unauthorized => 401,
+        Status::NotFound => 404,
+        Status::MethodNotAllowed => 405,
+        Status::Conflict => 409,
+        Status::UriTooLong => 414,
+        Status::NotImplemented => 501,
+    }
+}
+
+/// Returns the reason that a status line gives.
+pub(crate) fn reason_text(status: Status) -> &'static [u8]
+    ensures { result.now ≡ reason_text status }
+{
+    match status {
+        Status::Good => b"OK",
+        Status::Found => b"Found",
+        Status::BadRequest => b"Bad Request",
+        Status::Unauthorized => b"Unauthorized",
+        Status::NotFound => b"Not Found",
+        Status::MethodNotAllowed => b"Method Not Allowed",
+        Status::Conflict => b"Conflict",
+        Status::UriTooLong => b"URI Too Long",
+        Status::NotImplemented => b"Not Implemented",
+    }
+}

@@ -1,0 +1,3 @@
+pub mod Representations
+pub mod Targets
+pub mod FetchRequests

@@ -1,0 +1,48 @@
+//! Checks the bearer token of a fetch request (RFC 6750, section 2.1).
+ghost use Rattle.std.specs.Prelude.{◌≡◌};
+ghost use Rattle.httparse.specs.Grammar.{RequestHead};
+ghost use Rattle.feed_http_heads.specs.Requests.{IsInBuffer, HasHead};
+ghost use Rattle.feed_resolver_request.specs.FetchRequests.{has_token, is_authorized};
+
+use feed_http_heads::Request;
+use feed_identifiers::trim_spaces;
+use feed_range::strip_prefix;
+use std::marker::Model;
+
+/// Whether a client may make a node fetch a release now.
+#[derive(Drop)]
+pub struct FetchPolicy<'t> {
+    /// The token that authorizes a client. Without one, no client may make the node fetch.
+    pub token: Option<&'t [u8]>,
+    /// Whether a fetch is under way, which excludes another one.
+    pub is_busy: bool,
+}
+
+impl<'t> Model for FetchPolicy<'t> {
+    ghost use Rattle.std.specs.Prelude.{option_copied};
+    ghost use Rattle.feed_resolver_request.specs.FetchRequests.{FetchPolicyValue};
+
+    ghost Value = { FetchPolicyValue };
+
+    ghost view = { λ policy. record { token = option_copied policy.token; is_busy = policy.is_busy } };
+}
+
+fn has_token(token: &[u8], value: &[u8]) -> bool
+    ensures { result ≡ has_token token.now value.now }
+{
+    match strip_prefix(value, b"Bearer ") {
+        Some(rest) => trim_spaces(rest) == token,
+        None => false,
+    }
+}
+
+/// Returns whether a request has one Authorization field, and this has the token.
+pub fn is_authorized(token: &[u8], request: &Request<'_>) -> bool
+    requires { IsInBuffer request.now }
+    ensures { (head : RequestHead) → HasHead request.now head → result ≡ is_authorized token.now head }
+{
+    match request.fields().sole_value(b"authorization") {
+        Some(value) => has_token(token, value),
+        None => false,
+    }
+}

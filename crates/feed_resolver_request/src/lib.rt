@@ -1,0 +1,15 @@
+//! What a request asks of a link resolver: the resource that its target names, the representation that it prefers, and
+//! whether it may make a node fetch a release.
+#![tactic(auto)]
+
+mod authorization;
+mod fetch_target;
+mod method;
+mod representation;
+mod target;
+
+pub use authorization::{FetchPolicy, is_authorized};
+pub use fetch_target::{fetch_request, name_to_fetch};
+pub use method::is_unsupported_method;
+pub use representation::{Representation, accepted_representation, representation_of};
+pub use target::{Resource, package_in, path_in, query_in, resource_of};
