@@ -1,10 +1,10 @@
-//! What each command does.
+//! Runs the commands of the lines.
 use crate::fault::Fault;
 use crate::line::Line;
 use crate::node::Node;
 use feed_http::NamedFile;
 
-/// What is to happen in the next exchange.
+/// The faults of the streams and of the shelf in the next exchange.
 #[derive(Clone, Copy)]
 pub struct Plan {
     pub front: usize,
@@ -23,13 +23,13 @@ impl Plan {
         }
     }
 
-    /// The bytes that are there.
+    /// Returns the bytes that arrive.
     pub fn front_of<'a>(&self, bytes: &'a [u8]) -> &'a [u8] {
         &bytes[..self.front.min(bytes.len())]
     }
 }
 
-/// What was counted in the last exchange.
+/// The calls that the last exchange made.
 #[derive(Clone, Copy)]
 pub struct Counts {
     pub reads: usize,
@@ -38,7 +38,7 @@ pub struct Counts {
     pub failures: u64,
 }
 
-/// The files of the server's shelf, and what is planned and was counted.
+/// The state between two lines: the files of the server's shelf, a node, the next exchange and the last one.
 #[derive(Drop)]
 pub struct Driver<'a> {
     pub rt: &'a HostRuntime,
@@ -67,7 +67,7 @@ impl<'a> Driver<'a> {
         })
     }
 
-    /// Takes a line.
+    /// Runs the command of a line.
     pub fn take(&mut self, text: &str) -> Result<(), Fault> {
         let mut line = Line::new(text);
         let command = line.word()?;

@@ -1,9 +1,9 @@
-//! Bytes as printable text, in which a byte may be `\r`, `\n`, `\t` or `\xHH`.
+//! Reads and prints bytes as text, in which a byte may be `\r`, `\n`, `\t` or `\xHH`.
 use crate::fault::Fault;
 use std::alloc::Global;
 use std::fmt;
 
-/// The bytes that a text stands for.
+/// Returns the bytes that a text denotes.
 pub fn unescaped(alloc: Global, text: &str) -> Result<Vec<u8>, Fault> {
     let mut bytes = Vec::new(alloc);
     let mut parts = text.split('\\');
@@ -18,7 +18,7 @@ pub fn unescaped(alloc: Global, text: &str) -> Result<Vec<u8>, Fault> {
     Ok(bytes)
 }
 
-// The byte behind a backslash, and what follows it.
+// Returns the byte that follows a backslash, and the rest.
 fn front_of(part: &[u8]) -> Result<(u8, &[u8]), Fault> {
     match part {
         [b'r', rest @ ..] => Ok((b'\r', rest)),
@@ -44,7 +44,7 @@ fn digit_of(byte: u8) -> Option<u8> {
     }
 }
 
-/// Bytes, which are shown as such a text.
+/// Bytes that print as such a text.
 #[derive(Clone, Copy)]
 pub struct Escaped<'a>(pub &'a [u8]);
 

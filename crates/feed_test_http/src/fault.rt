@@ -1,8 +1,8 @@
-//! Why a line is not taken.
+//! Why a line is rejected.
 use std::alloc::AllocError;
 use std::{fmt, io};
 
-/// What is wrong with a line, or with the machine.
+/// Why a line is rejected, or why the program cannot run it.
 #[derive(Clone, Copy)]
 pub enum Fault {
     NoStep,
@@ -35,9 +35,9 @@ impl fmt::Display for Fault {
             Fault::NoRange => "not a value of Content-Range",
             Fault::NoMethod => "not a method: get or head",
             Fault::NoRoom => "more room than 4096 bytes",
-            Fault::NoFlag => "not one of the two words that may stand here",
+            Fault::NoFlag => "not one of the two words that are allowed here",
             Fault::NoTime => "not a time: 1 ms or more",
-            Fault::NoBytes => "not so many bytes are left, or none",
+            Fault::NoBytes => "fewer bytes are left, or none is to be sent",
             Fault::Memory => "out of memory",
             Fault::Device => "input or output failed",
         })

@@ -1,10 +1,10 @@
-//! The words of a line.
+//! Splits a line into words.
 use crate::escapes::unescaped;
 use crate::fault::Fault;
 use feed_names::ReleaseName;
 use std::alloc::Global;
 
-/// What is left of a line.
+/// The rest of a line.
 #[derive(Clone, Copy)]
 pub struct Line<'a> {
     rest: Option<&'a str>,
@@ -15,7 +15,7 @@ impl<'a> Line<'a> {
         Line { rest: Some(text) }
     }
 
-    /// Takes the next word.
+    /// Returns the next word, and moves past it.
     pub fn word(&mut self) -> Result<&'a str, Fault> {
         let Some(rest) = self.rest else {
             return Err(Fault::NoWord);
@@ -42,7 +42,7 @@ impl<'a> Line<'a> {
         word.parse::<usize>().map_err(|_| Fault::NoNumber)
     }
 
-    /// Takes a word that is one of two: whether it is the first.
+    /// Returns whether the next word is the first of two.
     pub fn flag(&mut self, yes: &str, no: &str) -> Result<bool, Fault> {
         let word = self.word()?;
         if word == yes {
@@ -59,7 +59,7 @@ impl<'a> Line<'a> {
         ReleaseName::parse(alloc, word.as_bytes()).map_err(|_| Fault::NoName)
     }
 
-    /// The bytes that the rest stands for. A line that ends before it has none.
+    /// Returns the bytes that the rest denotes. They are none if the line ended before.
     pub fn text(&self, alloc: Global) -> Result<Vec<u8>, Fault> {
         unescaped(alloc, self.rest.unwrap_or(""))
     }

@@ -37,7 +37,7 @@
 //!
 //!     release NAME TEXT               offers a release to the node, and sends its whole file
 //!     respond TEXT                    the resolver's reply to a request
-//!     respond-as-node TOKEN free|busy TEXT    the node's reply, if TOKEN authorizes a fetch; `-` is no token
+//!     respond-as-node TOKEN free|busy TEXT    the node's reply, if TOKEN authorizes a fetch; `-` for none
 //!     fetch-asked TOKEN TEXT          the release that a request asks the node to fetch, `no name`, or `none`
 //!     head-end TEXT                   whether a text begins with the head of a request, and where the head ends
 //!
@@ -52,7 +52,7 @@
 //!                                     short of memory for the reply or not; prints what it waits for, whether it
 //!                                     lingers, and what was written
 //!
-//! A line that is none of these ends the program with its number, what is wrong, and status 2.
+//! Any other line ends the program with status 2, and prints its number and what is wrong.
 #![tactic(auto)]
 
 mod connections;
@@ -73,7 +73,7 @@ use std::io::Read;
 use std::process::ExitCode;
 
 fn main(rt: HostRuntime) -> ExitCode {
-    match lead(&rt) {
+    match run_lines(&rt) {
         Ok(()) => ExitCode::SUCCESS,
         Err((0, fault)) => {
             let _printed = eprintln!(rt; "{fault}");
@@ -86,8 +86,8 @@ fn main(rt: HostRuntime) -> ExitCode {
     }
 }
 
-// Takes each line. The error has the number of its line, or 0 if it comes before the first.
-fn lead(rt: &HostRuntime) -> Result<(), (usize, Fault)> {
+// Runs each line. An error has the number of its line, or 0 if it occurs before the first.
+fn run_lines(rt: &HostRuntime) -> Result<(), (usize, Fault)> {
     let step = step_of(rt).map_err(|fault| (0, fault))?;
     let text = input_of(rt).map_err(|fault| (0, fault))?;
     let mut driver = Driver::new(rt, step).map_err(|fault| (0, fault))?;
