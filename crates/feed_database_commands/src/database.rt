@@ -24,7 +24,7 @@ pub trait Database {
 }
 
 /// Why a database does not open or close.
-#[derive(Clone, Copy, Debug, PartialEq, Eq)]
+#[derive(Clone, Copy)]
 pub enum DatabaseFault {
     /// Running out of memory.
     Memory,

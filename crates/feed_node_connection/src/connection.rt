@@ -22,7 +22,7 @@ pub enum Wants {
 }
 
 /// How far a connection is.
-#[derive(Clone, Copy, Debug, PartialEq, Eq)]
+#[derive(Clone, Copy)]
 pub enum Phase {
     /// The head is incomplete.
     Receiving,

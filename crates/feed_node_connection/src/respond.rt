@@ -10,7 +10,7 @@ pub const UNAVAILABLE: &[u8] =
     Content-Length: 7\r\nRetry-After: 1\r\nConnection: close\r\n\r\nMemory\n";
 
 /// Why a responder makes no reply.
-#[derive(Clone, Copy, Debug, PartialEq, Eq)]
+#[derive(Clone, Copy)]
 pub enum RespondFault {
     /// Memory ran out.
     Memory,
