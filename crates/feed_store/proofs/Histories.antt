@@ -14,7 +14,7 @@ use Rattle.feed_model.proofs.Earlier.{legal_now, release_same}
 use Rattle.feed_model.proofs.Limits.{kept_inside, size_limit}
 use Rattle.feed_model.proofs.Places.{record_of-at}
 use Rattle.feed_keep.specs.BadFile.{HasFile}
-use Rattle.feed_store.specs.Upgraded.{AreReasoned, IsReasonOf, IsReasoned}
+use Rattle.feed_store.specs.Upgraded.{AddReasons, IsReasonOf, AddsReason}
 
 module _ (h : History) (n : Name) (r : Record) (is : IsEarlierRecord h n r) (legal : IsLegal (without_refused h)) where
   same : IsSameRelease h (without_refused h) n
@@ -47,7 +47,7 @@ module _ (h : History) (n : Name) (r : Record) (is : IsEarlierRecord h n r) (leg
       let whole = is_text bad.0 bad.1 in
       absurd (bad.2 (it (has_file bad.0 whole) bad.0 whole))
 
-one_explained : (h : History) (n : Name) (r s : Record) → IsEarlierRecord h n r → IsLegal (without_refused h) → IsReasoned r s → IsExplained r s
+one_explained : (h : History) (n : Name) (r s : Record) → IsEarlierRecord h n r → IsLegal (without_refused h) → AddsReason r s → IsExplained r s
 one_explained h n r s is legal it = subst (IsExplained r) (sym it.2) (record {
   name = refl;
   size = refl;
@@ -57,14 +57,14 @@ one_explained h n r s is legal it = subst (IsExplained r) (sym it.2) (record {
 })
 
 all_explained : (h : History) (c d : Content) → IsLegal (without_refused h)
-    → ((k : ℕ) (x : Record) → k < length c → IsEarlierRecord h (get_or c k x).name (get_or c k x)) → AreReasoned c d → AreExplained c d
+    → ((k : ℕ) (x : Record) → k < length c → IsEarlierRecord h (get_or c k x).name (get_or c k x)) → AddReasons c d → AreExplained c d
 all_explained h [] [] legal each all = tt
 all_explained h [] (s ∷ ss) legal each all = absurd all
 all_explained h (r ∷ rs) [] legal each all = absurd all
 all_explained h (r ∷ rs) (s ∷ ss) legal each all =
     (one_explained h r.name r s (each 0 r (omega arith)) legal all.0, all_explained h rs ss legal (λ k x lt. each (suc k) x (omega (arith, lt))) all.1)
 
-pub explained : (h : History) (c d : Content) → IsEarlierContent c h → AreReasoned c d → AreExplained c d
+pub explained : (h : History) (c d : Content) → IsEarlierContent c h → AddReasons c d → AreExplained c d
 explained h c d is all = all_explained h c d (legal_now h is.legal) (λ k x lt. of_name (get_or c k x).name (get_or c k x) (record_of-at c k x is.distinct lt)) all
   where
     of_name : (n : Name) (r : Record) → record_of c n ≡ Some r → IsEarlierRecord h n r

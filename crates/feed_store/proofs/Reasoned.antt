@@ -9,22 +9,22 @@ use Rattle.feed_model.specs.declared.state.State.{State}
 use Rattle.feed_model.specs.declared.state.State.TheVariants.{Staged, Broken, Active}
 use Rattle.feed_model.specs.Content.{Content, Record, names}
 use Rattle.feed_model.proofs.Names.{name_self}
-use Rattle.feed_store_model.specs.Tables.{IsEarlier, IsEarlierListed, IsTabled, earlier_content_of}
+use Rattle.feed_store_model.specs.Tables.{IsLayout1, HoldsReleases, IsTabled, content_without_reasons}
 use Rattle.feed_store_model.proofs.Explained.{all_records}
 use Rattle.feed_store_model.proofs.Ours.{tabled_earlier}
 use Rattle.feed_store_model.proofs.Stored.{stored}
-use Rattle.feed_store_write.specs.Effects.{IsUpgraded, UpgradesIf}
+use Rattle.feed_store_write.specs.Effects.{IsUpgraded, IsUpgradeIf}
 use Rattle.feed_store_write.specs.Upgrading.{AreStored, IsStoredIf, explain, explain_by, explained_with}
-use Rattle.feed_store.specs.Upgraded.{AreReasoned, GetsReasons, IsBroughtUp, IsReasonOf, IsReasoned}
+use Rattle.feed_store.specs.Upgraded.{AddReasons, GetsReasons, IsUpgradedWithReasons, IsReasonOf, AddsReason}
 
 -- one record more
-pub reasoned_more : (c d : Content) (r s : Record) → AreReasoned c d → IsReasoned r s → AreReasoned (c ++ r ∷ []) (d ++ s ∷ [])
+pub reasoned_more : (c d : Content) (r s : Record) → AddReasons c d → AddsReason r s → AddReasons (c ++ r ∷ []) (d ++ s ∷ [])
 reasoned_more [] [] r s all one = (one, tt)
 reasoned_more [] (y ∷ ys) r s all one = absurd all
 reasoned_more (x ∷ xs) [] r s all one = absurd all
 reasoned_more (x ∷ xs) (y ∷ ys) r s all one = (all.0, reasoned_more xs ys r s all.1 one)
 
-pub reasoned_names : (c d : Content) → AreReasoned c d → names d ≡ names c
+pub reasoned_names : (c d : Content) → AddReasons c d → names d ≡ names c
 reasoned_names [] [] all = refl
 reasoned_names [] (s ∷ ss) all = absurd all
 reasoned_names (r ∷ rs) [] all = absurd all
@@ -37,7 +37,7 @@ reason_stored Broken r None bad = tt
 reason_stored Staged r o none = rw none tt
 reason_stored Active r o none = rw none tt
 
-pub all_stored : (c d : Content) → AreReasoned c d → AreStored d
+pub all_stored : (c d : Content) → AddReasons c d → AreStored d
 all_stored [] [] all = tt
 all_stored [] (s ∷ ss) all = absurd all
 all_stored (r ∷ rs) [] all = absurd all
@@ -59,7 +59,7 @@ fronted r rs None bare = ap (λ (o : Option BadFile). let x : Record = record r 
 fronted r rs (Some why) bare = rw (name_self r.name) refl
 
 -- records that had no reason, with the reasons of these, are these
-with_all : (c d : Content) → AreReasoned c d → IsDistinct name_eq (names c) → AllByRecursion (λ r. r.reason ≡ None) c → explained_with d c ≡ d
+with_all : (c d : Content) → AddReasons c d → IsDistinct name_eq (names c) → AllByRecursion (λ r. r.reason ≡ None) c → explained_with d c ≡ d
 with_all [] [] all apart bare = refl
 with_all [] (s ∷ ss) all apart bare = absurd all
 with_all (r ∷ rs) [] all apart bare = absurd all
@@ -72,21 +72,21 @@ with_all (r ∷ rs) (s ∷ ss) all apart bare =
     ∙ ap (λ (x : Content). s ∷ x) (with_all rs ss all.1 (IsDistinct-tail name_eq r.name (names rs) apart) bare.1)
 
 -- the content of a database of layout 1, with the reasons that its records get, is just these records
-all_explained : (db : Database) (d : Content) → GetsReasons (earlier_content_of db) d → explained_with d (earlier_content_of db) ≡ d
-all_explained db d it = with_all (earlier_content_of db) d it.reasoned it.distinct (all_records (λ r. r.reason ≡ None) (db.trees 3) (db.trees 1) (λ r h. refl))
+all_explained : (db : Database) (d : Content) → GetsReasons (content_without_reasons db) d → explained_with d (content_without_reasons db) ≡ d
+all_explained db d it = with_all (content_without_reasons db) d it.reasoned it.distinct (all_records (λ r. r.reason ≡ None) (db.trees 3) (db.trees 1) (λ r h. refl))
 
 -- an upgrade with the reasons that its records get brings a database up
-pub moved : (a b c new : Database) (d : Content) → b ≡ a → c ≡ b → IsEarlier a → AreStored d → (IsTabled b → IsEarlierListed b → GetsReasons (earlier_content_of b) d)
-    → UpgradesIf (AreStored d) (explained_with d) c new → IsBroughtUp a new
+pub moved : (a b c new : Database) (d : Content) → b ≡ a → c ≡ b → IsLayout1 a → AreStored d → (IsTabled b → HoldsReleases b → GetsReasons (content_without_reasons b) d)
+    → IsUpgradeIf (AreStored d) (explained_with d) c new → IsUpgradedWithReasons a new
 moved a b c new d same still earlier can gets upgrades =
-    let mine : IsEarlier b = subst IsEarlier (sym same) earlier in
-    let it : IsUpgraded (explained_with d) b new = subst (λ (x : Database). IsUpgraded (explained_with d) x new) still (upgrades can (subst IsEarlier (sym still) mine)) in
-    let up : IsBroughtUp b new = record {
+    let mine : IsLayout1 b = subst IsLayout1 (sym same) earlier in
+    let it : IsUpgraded (explained_with d) b new = subst (λ (x : Database). IsUpgraded (explained_with d) x new) still (upgrades can (subst IsLayout1 (sym still) mine)) in
+    let up : IsUpgradedWithReasons b new = record {
       ours = it.ours;
       listed = it.listed;
-      content = λ are. let reasons = gets (tabled_earlier b mine) are in subst (AreReasoned (earlier_content_of b)) (sym (it.content are ∙ all_explained b d reasons)) reasons.reasoned;
+      content = λ are. let reasons = gets (tabled_earlier b mine) are in subst (AddReasons (content_without_reasons b)) (sym (it.content are ∙ all_explained b d reasons)) reasons.reasoned;
     } in
-    subst (λ (x : Database). IsBroughtUp x new) same up
+    subst (λ (x : Database). IsUpgradedWithReasons x new) same up
 
 -- a list in two halves, of which the first takes one more
 pub one_yielded : {X : Type 0} (xs : List X) (x : X) (ys zs : List X) → zs ≡ x ∷ ys → (xs ++ x ∷ []) ++ ys ≡ xs ++ zs

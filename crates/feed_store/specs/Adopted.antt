@@ -10,21 +10,21 @@ use Rattle.sqlite_disk.specs.declared.Disk.{Ghosts}
 use Rattle.sqlite_schema.specs.Names.{same_name}
 use Rattle.sqlite_store.specs.declared.store.FileStore.{FileStore}
 use Rattle.sqlite_wal.specs.Recovery.{Image}
-use Rattle.feed_store_model.specs.Tables.{IsEarlier, IsOurs}
-use Rattle.feed_store_write.specs.Effects.{IsBlank, IsLive, Leads}
+use Rattle.feed_store_model.specs.Tables.{IsLayout1, IsLayout2}
+use Rattle.feed_store_write.specs.Effects.{IsBlank, IsLive, IsTransition}
 use Rattle.feed_store_write.specs.Schemas.{HasNoTable}
-use Rattle.feed_store.specs.Upgraded.{IsBroughtUp}
+use Rattle.feed_store.specs.Upgraded.{IsUpgradedWithReasons}
 
 -- the tables are made in an empty database
-abbrev pub IsLaidOut : State → State → Type 0
-IsLaidOut old new = (IsLive new → IsLive old) × (IsLive new → Leads HasNoTable IsBlank old.now new.now)
+abbrev pub IsCreated : State → State → Type 0
+IsCreated old new = (IsLive new → IsLive old) × (IsLive new → IsTransition HasNoTable IsBlank old.now new.now)
 
 -- where it says that the tables stand alone, the database is ours; one that was ours is as it was, an empty one gets the tables, and one of layout 1 is brought up
 pub record IsAdopted (old new : State) (alone : Bool) : Type 0 where
-  pub ours : IsTrue alone → IsLive new → IsOurs new.now × IsLive old
-  pub found : IsLive new → IsOurs old.now → IsTrue alone × (new.now ≡ old.now)
+  pub ours : IsTrue alone → IsLive new → IsLayout2 new.now × IsLive old
+  pub found : IsLive new → IsLayout2 old.now → IsTrue alone × (new.now ≡ old.now)
   pub blank : IsLive new → HasNoTable old.now → IsTrue alone × IsBlank new.now
-  pub earlier : IsLive new → IsEarlier old.now → IsTrue alone × IsBroughtUp old.now new.now
+  pub earlier : IsLive new → IsLayout1 old.now → IsTrue alone × IsUpgradedWithReasons old.now new.now
 
 -- a table or a view has this name, in letters of either case
 abbrev pub is_taken : Schema → List ℕ → Bool
@@ -35,12 +35,12 @@ abbrev pub earlier_names : List (List ℕ)
 earlier_names = codes "feed_layout" ∷ codes "feed_release" ∷ codes "feed_piece" ∷ []
 
 -- whether it is taken is the same for each of these names
-abbrev pub AreTaken : Bool → Schema → Type 0
-AreTaken taken schema = AllByRecursion (λ name. is_taken schema name ≡ taken) earlier_names
+abbrev pub AreNamesTaken : Bool → Schema → Type 0
+AreNamesTaken taken schema = AllByRecursion (λ name. is_taken schema name ≡ taken) earlier_names
 
 -- each of them is taken, or none of them is, nor that of the table that layout 2 adds
-abbrev pub TakesAllOrNone : Schema → Type 0
-TakesAllOrNone schema = AreTaken true schema ⊎ (AreTaken false schema × (is_taken schema (codes "feed_reason") ≡ false))
+abbrev pub HasAllNamesOrNone : Schema → Type 0
+HasAllNamesOrNone schema = AreNamesTaken true schema ⊎ (AreNamesTaken false schema × (is_taken schema (codes "feed_reason") ≡ false))
 
 -- the connection has adopted the database that an open found in the files
 abbrev pub IsOpenedAs : {D : Type 0} {g : Ghosts D} → Image → Held (FileStore D g) → Bool → Type 0

@@ -1,30 +1,30 @@
 //! Decides whether a database is a node's, and creates or upgrades its tables.
 ghost use Rattle.std.specs.Prelude.{◌≡◌, false, IfOk, IsTrue, OnErr};
 ghost use Rattle.std.specs.List.{list_any};
-ghost use Rattle.feed_store_model.specs.Layout.{earlier_schema};
+ghost use Rattle.feed_store_model.specs.Layout.{layout_1_schema};
 ghost use Rattle.feed_keep.specs.Shown.{shown};
-ghost use Rattle.feed_store_model.specs.Tables.{IsEarlier, IsEarlierListed, IsTabled, earlier_content_of};
-ghost use Rattle.feed_store_write.specs.Effects.{IsLive, TellsNumber};
+ghost use Rattle.feed_store_model.specs.Tables.{IsLayout1, HoldsReleases, IsTabled, content_without_reasons};
+ghost use Rattle.feed_store_write.specs.Effects.{IsLive, ReportsNumber};
 ghost use Rattle.feed_store_write.specs.Upgrading.{AreStored};
-ghost use Rattle.feed_store.specs.Adopted.{AreTaken, IsAdopted, IsLaidOut, TakesAllOrNone, is_taken};
-ghost use Rattle.feed_store.specs.Upgraded.{GetsReasons, IsBroughtUp, IsFirst};
+ghost use Rattle.feed_store.specs.Adopted.{AreNamesTaken, IsAdopted, IsCreated, HasAllNamesOrNone, is_taken};
+ghost use Rattle.feed_store.specs.Upgraded.{GetsReasons, IsUpgradedWithReasons, HasLayoutNumber1};
 ghost use Rattle.sqlite.specs.Held.{state};
 ghost use Rattle.sqlite.specs.State.{HasCleanDisk};
 ghost use Rattle.sqlite_schema.specs.Names.{same_name};
 
 use crate::fault::{StoreFault, fault_of};
-use crate::reasons::reasoned;
+use crate::reasons::with_reasons;
 use feed_keep::Record;
-use feed_store_read::read_unexplained;
-use feed_store_write::{has_number, is_blank, is_earlier, is_laid_out, lay_out, upgrade};
+use feed_store_read::read_without_reasons;
+use feed_store_write::{has_layout_number, has_no_table, is_layout_1, is_layout_2, create_tables, upgrade};
 use sqlite::{Alter, Connection};
 use sqlite_schema::names::same_name;
 use sqlite_schema::schema::{Column, Kind, Schema, Table, View};
 use std::alloc::Global;
 
-/// Makes the tables in a database that has none of them, brings one of layout 1 to layout 2, and looks at those of
+/// IsMadeOnOk the tables in a database that has none of them, brings one of layout 1 to layout 2, and looks at those of
 /// another one. It tells whether the database has the tables and nothing beside them.
-pub fn made_ready<S: Alter>(alloc: Global, conn: &mut Connection<S>) -> Result<bool, StoreFault>
+pub fn prepare<S: Alter>(alloc: Global, conn: &mut Connection<S>) -> Result<bool, StoreFault>
     requires { conn.old.in_transaction ≡ false }
     ensures idle { conn.new.in_transaction ≡ false }
     ensures limit { conn.new.step_limit ≡ conn.old.step_limit }
@@ -32,47 +32,47 @@ pub fn made_ready<S: Alter>(alloc: Global, conn: &mut Connection<S>) -> Result<b
         → OnErr result ((state S.Store conn.new).now ≡ (state S.Store conn.old).now) }
     ensures adopted { IfOk result (λ alone.
         IsAdopted (state S.Store conn.old) (state S.Store conn.new) alone) }
-    ensures together { IfOk result (λ _. TakesAllOrNone (state S.Store conn.old).now.schema) }
+    ensures together { IfOk result (λ _. HasAllNamesOrNone (state S.Store conn.old).now.schema) }
 {
-    if is_blank(conn.schema()) {
-        return laid_out(conn);
+    if has_no_table(conn.schema()) {
+        return make_tables(conn);
     }
-    if is_laid_out(conn.schema()) {
-        return numbered(conn, 2);
+    if is_layout_2(conn.schema()) {
+        return check_number(conn, 2);
     }
-    if is_earlier(conn.schema()) {
-        return brought_up(alloc, conn);
+    if is_layout_1(conn.schema()) {
+        return upgrade_layout(alloc, conn);
     }
-    beside_others(alloc, conn)
+    prepare_beside_others(alloc, conn)
 }
 
-// Makes the tables in an empty database.
-fn laid_out<S: Alter>(conn: &mut Connection<S>) -> Result<bool, StoreFault>
+// IsMadeOnOk the tables in an empty database.
+fn make_tables<S: Alter>(conn: &mut Connection<S>) -> Result<bool, StoreFault>
     requires { conn.old.in_transaction ≡ false }
     ensures idle { conn.new.in_transaction ≡ false }
     ensures limit { conn.new.step_limit ≡ conn.old.step_limit }
     ensures neither { IsLive (state S.Store conn.new)
         → OnErr result ((state S.Store conn.new).now ≡ (state S.Store conn.old).now) }
     ensures made { IfOk result (λ alone.
-        IsTrue alone × IsLaidOut (state S.Store conn.old) (state S.Store conn.new)) }
+        IsTrue alone × IsCreated (state S.Store conn.old) (state S.Store conn.new)) }
 {
-    match lay_out(conn) {
+    match create_tables(conn) {
         Ok(()) => Ok(true),
         Err(error) => Err(fault_of(error)),
     }
 }
 
 // Looks whether this is the layout's number.
-fn numbered<S: Alter>(conn: &mut Connection<S>, number: u32) -> Result<bool, StoreFault>
+fn check_number<S: Alter>(conn: &mut Connection<S>, number: u32) -> Result<bool, StoreFault>
     requires { conn.old.in_transaction ≡ false }
     ensures idle { conn.new.in_transaction ≡ false }
     ensures limit { conn.new.step_limit ≡ conn.old.step_limit }
     ensures live { IsLive (state S.Store conn.new) → IsLive (state S.Store conn.old) }
     ensures same { IsLive (state S.Store conn.new) → (state S.Store conn.new).now ≡ (state S.Store conn.old).now }
     ensures told { IfOk result (λ alone. IsTrue alone × (HasCleanDisk (state S.Store conn.new)
-        → TellsNumber number (state S.Store conn.old) (state S.Store conn.new) alone)) }
+        → ReportsNumber number (state S.Store conn.old) (state S.Store conn.new) alone)) }
 {
-    match has_number(conn, number) {
+    match has_layout_number(conn, number) {
         Ok(true) => Ok(true),
         Ok(false) => Err(StoreFault::NotOurs),
         Err(error) => Err(fault_of(error)),
@@ -80,7 +80,7 @@ fn numbered<S: Alter>(conn: &mut Connection<S>, number: u32) -> Result<bool, Sto
 }
 
 // Brings a database of layout 1 to layout 2, with the reason of each broken release.
-fn brought_up<S: Alter>(alloc: Global, conn: &mut Connection<S>) -> Result<bool, StoreFault>
+fn upgrade_layout<S: Alter>(alloc: Global, conn: &mut Connection<S>) -> Result<bool, StoreFault>
     requires { conn.old.in_transaction ≡ false }
     ensures idle { conn.new.in_transaction ≡ false }
     ensures limit { conn.new.step_limit ≡ conn.old.step_limit }
@@ -89,12 +89,12 @@ fn brought_up<S: Alter>(alloc: Global, conn: &mut Connection<S>) -> Result<bool,
     ensures alone { IfOk result IsTrue }
     ensures live { IsLive (state S.Store conn.new) → IsLive (state S.Store conn.old) }
     ensures first { IfOk result (λ _. IsLive (state S.Store conn.new)
-        → (state S.Store conn.old).now.schema ≡ earlier_schema → IsFirst (state S.Store conn.old).now) }
-    ensures moved { IfOk result (λ _. IsLive (state S.Store conn.new) → IsEarlier (state S.Store conn.old).now
-        → IsBroughtUp (state S.Store conn.old).now (state S.Store conn.new).now) }
+        → (state S.Store conn.old).now.schema ≡ layout_1_schema → HasLayoutNumber1 (state S.Store conn.old).now) }
+    ensures moved { IfOk result (λ _. IsLive (state S.Store conn.new) → IsLayout1 (state S.Store conn.old).now
+        → IsUpgradedWithReasons (state S.Store conn.old).now (state S.Store conn.new).now) }
 {
-    numbered(conn, 1)?;
-    let records = read_reasoned(alloc, conn)?;
+    check_number(conn, 1)?;
+    let records = read_with_reasons(alloc, conn)?;
     match upgrade(conn, &records) {
         Ok(()) => Ok(true),
         Err(error) => Err(fault_of(error)),
@@ -102,7 +102,7 @@ fn brought_up<S: Alter>(alloc: Global, conn: &mut Connection<S>) -> Result<bool,
 }
 
 // The records of a database of layout 1, with their reasons. There is none where its tables hold no list of records.
-fn read_reasoned<S: Alter>(
+fn read_with_reasons<S: Alter>(
     alloc: Global,
     conn: &mut Connection<S>,
 ) -> Result<Vec<Record>, StoreFault>
@@ -113,11 +113,11 @@ fn read_reasoned<S: Alter>(
     ensures same { IsLive (state S.Store conn.new) → (state S.Store conn.new).now ≡ (state S.Store conn.old).now }
     ensures stored { IfOk result (λ records. AreStored (shown records.items)) }
     ensures read { IfOk result (λ records. IsLive (state S.Store conn.new)
-        → IsTabled (state S.Store conn.old).now → IsEarlierListed (state S.Store conn.old).now
-        → GetsReasons (earlier_content_of (state S.Store conn.old).now) (shown records.items)) }
+        → IsTabled (state S.Store conn.old).now → HoldsReleases (state S.Store conn.old).now
+        → GetsReasons (content_without_reasons (state S.Store conn.old).now) (shown records.items)) }
 {
-    match read_unexplained(alloc, conn) {
-        Ok(Some(records)) => match reasoned(alloc, records) {
+    match read_without_reasons(alloc, conn) {
+        Ok(Some(records)) => match with_reasons(alloc, records) {
             Ok(records) => Ok(records),
             Err(_) => Err(StoreFault::Memory),
         },
@@ -128,30 +128,30 @@ fn read_reasoned<S: Alter>(
 
 // The same beside other tables: where none of the names is taken the tables are made, and else those of a layout have
 // to be there.
-fn beside_others<S: Alter>(alloc: Global, conn: &mut Connection<S>) -> Result<bool, StoreFault>
+fn prepare_beside_others<S: Alter>(alloc: Global, conn: &mut Connection<S>) -> Result<bool, StoreFault>
     requires { conn.old.in_transaction ≡ false }
     ensures idle { conn.new.in_transaction ≡ false }
     ensures limit { conn.new.step_limit ≡ conn.old.step_limit }
     ensures neither { IsLive (state S.Store conn.new)
         → OnErr result ((state S.Store conn.new).now ≡ (state S.Store conn.old).now) }
     ensures beside { IfOk result (λ alone. alone ≡ false) }
-    ensures together { IfOk result (λ _. TakesAllOrNone (state S.Store conn.old).now.schema) }
+    ensures together { IfOk result (λ _. HasAllNamesOrNone (state S.Store conn.old).now.schema) }
 {
     let schema = conn.schema();
     let has_reason = is_taken(schema, b"feed_reason");
     if are_taken(schema, false) && !has_reason {
-        laid_out(conn)?;
+        make_tables(conn)?;
         return Ok(false);
     }
     if !are_taken(schema, true) || !have_columns(schema) {
         return Err(StoreFault::NotOurs);
     }
     if !has_reason {
-        brought_up(alloc, conn)?;
+        upgrade_layout(alloc, conn)?;
         return Ok(false);
     }
     if has_table(schema, b"feed_reason", &REASON) {
-        numbered(conn, 2)?;
+        check_number(conn, 2)?;
         return Ok(false);
     }
     Err(StoreFault::NotOurs)
@@ -211,7 +211,7 @@ fn is_column(column: &Column, name: &[u8], kind: Kind) -> bool {
 
 // Whether each of the names of the tables of layout 1 is taken, or none of them is.
 fn are_taken(schema: &Schema, taken: bool) -> bool
-    ensures { IsTrue result → AreTaken taken schema.now }
+    ensures { IsTrue result → AreNamesTaken taken schema.now }
 {
     is_taken(schema, b"feed_layout") == taken
         && is_taken(schema, b"feed_release") == taken

@@ -2,8 +2,8 @@
 ghost use Rattle.feed_model.specs.Content.{IsContent};
 ghost use Rattle.feed_model.specs.Earlier.{IsEarlierContent, without_refused};
 ghost use Rattle.feed_model.specs.History.{History};
-ghost use Rattle.feed_store_model.specs.Tables.{IsEarlierListed, content_of, earlier_content_of};
-ghost use Rattle.feed_store.specs.Upgraded.{IsBroughtUp};
+ghost use Rattle.feed_store_model.specs.Tables.{HoldsReleases, stored_content, content_without_reasons};
+ghost use Rattle.feed_store.specs.Upgraded.{IsUpgradedWithReasons};
 ghost use Rattle.sqlite.specs.Effect.{Database};
 
 use feed_model::contents_move;
@@ -11,8 +11,8 @@ use feed_model::contents_move;
 /// The content of a database that is brought up is one of the same histories, but for the offers that were refused as
 /// too large. What is reported and answered is then the same, by `reports_stay` and `answers_stay`.
 pub fn histories_stay()
-    ensures { (old new : Database) (h : History) → IsEarlierListed old → IsEarlierContent (earlier_content_of old) h
-        → IsBroughtUp old new → IsContent (content_of new) (without_refused h) }
+    ensures { (old new : Database) (h : History) → HoldsReleases old → IsEarlierContent (content_without_reasons old) h
+        → IsUpgradedWithReasons old new → IsContent (stored_content new) (without_refused h) }
 {
     contents_move();
 }

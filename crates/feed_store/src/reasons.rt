@@ -1,7 +1,7 @@
 //! The reasons of records that were kept without them.
 ghost use Rattle.std.specs.Prelude.{◌≡◌, IfOk};
 ghost use Rattle.feed_keep.specs.Shown.{shown, shown_record};
-ghost use Rattle.feed_store.specs.Upgraded.{AreReasoned, IsReasonOf};
+ghost use Rattle.feed_store.specs.Upgraded.{AddReasons, IsReasonOf};
 
 use feed_kbart::BadFile;
 use feed_keep::{Record, bad_of};
@@ -9,8 +9,8 @@ use feed_model::State;
 use std::alloc::{AllocError, Global};
 
 /// The same records, each broken one with the reason of its file, and each other one with none.
-pub(crate) fn reasoned(alloc: Global, records: Vec<Record>) -> Result<Vec<Record>, AllocError>
-    ensures { IfOk result (λ told. AreReasoned (shown records.items) (shown told.items)) }
+pub(crate) fn with_reasons(alloc: Global, records: Vec<Record>) -> Result<Vec<Record>, AllocError>
+    ensures { IfOk result (λ told. AddReasons (shown records.items) (shown told.items)) }
 {
     let mut told = Vec::new(alloc);
     for record in records {

@@ -1,7 +1,7 @@
 //! The SQL store of a feed's records.
 ghost use Rattle.std.specs.Prelude.{◌≡◌, false, None, IfErr, IfOk, MatchResult};
 
-use crate::adopt::made_ready;
+use crate::adopt::prepare;
 use crate::fault::{AdoptFault, StoreFault};
 use feed_keep::{Change, Keep, Record};
 use feed_model::KeepFault;
@@ -24,7 +24,7 @@ impl<S: Alter> Model for SqlKeep<S> {
     ghost use Rattle.std.specs.Prelude.{ℕ, Bool, false, ◌≡◌, IsTrue};
     ghost use Rattle.std.specs.Coded.{coded×, coded_ℕ, coded_bool};
     ghost use Rattle.sqlite.specs.Held.{Held, held_code, state};
-    ghost use Rattle.feed_store_model.specs.Tables.{IsOurs};
+    ghost use Rattle.feed_store_model.specs.Tables.{IsLayout2};
     ghost use Rattle.feed_store_write.specs.Effects.{IsLive};
 
     ghost Value = { Held S × (ℕ × Bool) };
@@ -34,13 +34,13 @@ impl<S: Alter> Model for SqlKeep<S> {
     ghost view = { λ k. (k.conn, (k.failures, k.alone)) };
 
     ghost invariant = { λ k. (k.conn.in_transaction ≡ false)
-        × (IsTrue k.alone → IsLive (state S.Store k.conn) → IsOurs (state S.Store k.conn).now) };
+        × (IsTrue k.alone → IsLive (state S.Store k.conn) → IsLayout2 (state S.Store k.conn).now) };
 }
 
 impl<S: Alter> SqlKeep<S> {
     ghost use Rattle.sqlite.specs.Held.{state};
     ghost use Rattle.feed_store_model.specs.Live.{IsLive};
-    ghost use Rattle.feed_store.specs.Adopted.{IsAdopted, TakesAllOrNone};
+    ghost use Rattle.feed_store.specs.Adopted.{IsAdopted, HasAllNamesOrNone};
 
     /// Takes over a connection that is in no transaction, and lifts its limit of steps. A database that has none of the
     /// tables gets them; one of layout 1 is brought to layout 2, with the reason of each broken release, in one
@@ -49,7 +49,7 @@ impl<S: Alter> SqlKeep<S> {
         requires { conn.in_transaction ≡ false }
         ensures adopted { IfOk result (λ keep.
             IsAdopted (state S.Store conn) (state S.Store keep.0) keep.1.1) }
-        ensures together { IfOk result (λ _. TakesAllOrNone (state S.Store conn).now.schema) }
+        ensures together { IfOk result (λ _. HasAllNamesOrNone (state S.Store conn).now.schema) }
         ensures fresh { IfOk result (λ keep. keep.1.0 ≡ 0) }
         ensures refused { IfErr result (λ fault. fault.connection.in_transaction ≡ false) }
         ensures neither { IfErr result (λ fault. IsLive (state S.Store fault.connection)
@@ -59,7 +59,7 @@ impl<S: Alter> SqlKeep<S> {
     {
         let mut conn = conn;
         conn.set_step_limit(None);
-        match made_ready(alloc, &mut conn) {
+        match prepare(alloc, &mut conn) {
             Ok(alone) => Ok(SqlKeep {
                 conn,
                 failures: 0,
@@ -93,13 +93,13 @@ impl<S: Alter> Keep for SqlKeep<S> {
     ghost use Rattle.feed_keep.specs.Shown.{shown_change};
     ghost use Rattle.sqlite.specs.Held.{state};
     ghost use Rattle.feed_store_model.specs.Live.{IsLive};
-    ghost use Rattle.feed_store_model.specs.Tables.{IsListed, content_of};
+    ghost use Rattle.feed_store_model.specs.Tables.{HoldsRecords, stored_content};
 
-    ghost content = { λ k. content_of (state S.Store k.0).now };
+    ghost content = { λ k. stored_content (state S.Store k.0).now };
 
     ghost clean = { λ k. IsTrue k.1.1 × IsLive (state S.Store k.0) };
 
-    ghost listed = { λ k. IsListed (state S.Store k.0).now };
+    ghost listed = { λ k. HoldsRecords (state S.Store k.0).now };
 
     ghost failed = { λ k. k.1.0 };
 

@@ -17,8 +17,8 @@ use Rattle.feed_model.specs.Change.{changed}
 use Rattle.feed_model.proofs.Names.{name_is, name_self}
 use Rattle.feed_store_model.specs.Layout.{reason}
 use Rattle.feed_store_model.specs.Records.{with_reason}
-use Rattle.feed_store_model.specs.Tables.{reason_row, IsReleaseRow, IsReasonRow, AreReasons, IsChanged, IsEarlierListed, IsListed, IsOurs, is_of, record_in}
-use Rattle.feed_store_model.specs.Tables.{reason_at, reason_in, explained_by, explained, earlier_content_of, content_of}
+use Rattle.feed_store_model.specs.Tables.{reason_row, IsReleaseRow, IsReasonRow, AreReasons, IsChanged, HoldsReleases, HoldsRecords, IsLayout2, is_of, record_in}
+use Rattle.feed_store_model.specs.Tables.{reason_at, reason_in, explained_by, explained, content_without_reasons, stored_content}
 use Rattle.feed_store_model.proofs.Basics.{same_test, zero_five, one_five, three_five}
 use Rattle.feed_store_model.proofs.Unique.{same_texts, distinct_texts, distinct_reasons}
 use Rattle.feed_store_model.proofs.Ours.{still_ours, tables_of_ours}
@@ -45,7 +45,7 @@ is_text_of m n hm hn row text = same_test (is_of (text_of m) row) (name_eq m n) 
     back e = subst (λ (k : Name). is_of (text_of k) row ≡ true) (sym (name_is m n e)) text
 
 module _ (n : Name) (number place : ℕ) (why : BadFile) (named : IsName (text_of n) n) (says : reason_at number place ≡ Some why)
-    (old new : Database) (ours : IsOurs old) (it : Puts reason (said_row n number place old) old new) (are : IsListed old) where
+    (old new : Database) (ours : IsLayout2 old) (it : Puts reason (said_row n number place old) old new) (are : HoldsRecords old) where
   abbrev row : Row
   row = said_row n number place old
 
@@ -55,7 +55,7 @@ module _ (n : Name) (number place : ℕ) (why : BadFile) (named : IsName (text_o
   same_pieces : new.trees 3 ≡ old.trees 3
   same_pieces = it.others.1.1.0 three_five
 
-  rows : IsEarlierListed new
+  rows : HoldsReleases new
   rows = rw (same_releases, same_pieces) are.rows
 
   reasons : AreReasons (put_row row (old.trees 5))
@@ -64,7 +64,7 @@ module _ (n : Name) (number place : ℕ) (why : BadFile) (named : IsName (text_o
     ids = put_distinct row (old.trees 5) it.free are.reasons.ids;
   }
 
-  listed : IsListed new
+  listed : HoldsRecords new
   listed = record { rows = rows; reasons = subst AreReasons (sym it.rows) reasons }
 
   mine : is_of (text_of n) row ≡ true
@@ -89,24 +89,24 @@ module _ (n : Name) (number place : ℕ) (why : BadFile) (named : IsName (text_o
       by true false e = absurd (let g : true ≡ false = e in cc)
       by false true e = absurd (let g : false ≡ true = e in cc)
 
-  explained_put : explained (put_row row (old.trees 5)) (earlier_content_of old) ≡ changed n (with_reason why) (content_of old)
+  explained_put : explained (put_row row (old.trees 5)) (content_without_reasons old) ≡ changed n (with_reason why) (stored_content old)
   explained_put =
       let texts = distinct_texts old (tables_of_ours old ours) (texted_releases _ _ are.rows) in
       let apart = sorted_names (map (record_in (old.trees 3)) (old.trees 1)) (distinct_records (old.trees 3) (old.trees 1) are.rows.are_releases texts) in
       let are_named = all_records (λ r. IsName (text_of r.name) r.name) (old.trees 3) (old.trees 1) (λ r h. (all_has IsReleaseRow (old.trees 1) r are.rows.are_releases h).named) in
-      map_same _ (λ r. each n (with_reason why) (explained_by (old.trees 5) r)) (earlier_content_of old) (each_one (earlier_content_of old) are_named)
-      ∙ sym (map-map (each n (with_reason why)) (explained_by (old.trees 5)) (earlier_content_of old))
-      ∙ changed_map n (with_reason why) (content_of old) (subst (λ ns. IsDistinct name_eq ns) (sym (explained_names (old.trees 5) (earlier_content_of old))) apart)
+      map_same _ (λ r. each n (with_reason why) (explained_by (old.trees 5) r)) (content_without_reasons old) (each_one (content_without_reasons old) are_named)
+      ∙ sym (map-map (each n (with_reason why)) (explained_by (old.trees 5)) (content_without_reasons old))
+      ∙ changed_map n (with_reason why) (stored_content old) (subst (λ ns. IsDistinct name_eq ns) (sym (explained_names (old.trees 5) (content_without_reasons old))) apart)
     where
       each_one : (c : Content) → AllByRecursion (λ r. IsName (text_of r.name) r.name) c
           → AllByRecursion (λ r. explained_by (put_row row (old.trees 5)) r ≡ each n (with_reason why) (explained_by (old.trees 5) r)) c
       each_one (r ∷ rs) all = (one r all.0, each_one rs all.1)
       each_one [] all = tt
 
-  content : content_of new ≡ changed n (with_reason why) (content_of old)
+  content : stored_content new ≡ changed n (with_reason why) (stored_content old)
   content = rw (same_releases, same_pieces, it.rows) explained_put
 
-pub adds_reason : (n : Name) (number place : ℕ) (why : BadFile) (old new : Database) → IsName (text_of n) n → reason_at number place ≡ Some why → IsOurs old
+pub adds_reason : (n : Name) (number place : ℕ) (why : BadFile) (old new : Database) → IsName (text_of n) n → reason_at number place ≡ Some why → IsLayout2 old
     → Puts reason (said_row n number place old) old new → IsChanged (changed n (with_reason why)) old new
 adds_reason n number place why old new named says ours it = record {
   ours = still_ours old new ours (record { schema = it.schema; sound = it.sound; layout = it.others.0 zero_five });

@@ -21,9 +21,9 @@ use Rattle.feed_model.specs.declared.state.State.{State}
 use Rattle.feed_model.specs.Reply.{max_file}
 use Rattle.feed_model.specs.Content.{Part, Record}
 use Rattle.feed_model.specs.Change.{insert_record}
-use Rattle.feed_store_model.specs.Layout.{feed_schema, piece, release, reason}
-use Rattle.feed_store_model.specs.Tables.{IsReleaseRow, AreRows, AreReasons, IsChanged, IsEarlierListed, IsListed, IsOurs, release_row, text_in, part_in, is_of}
-use Rattle.feed_store_model.specs.Tables.{parts_in, reason_in, record_in, sorted_parts, earlier_content_of, content_of}
+use Rattle.feed_store_model.specs.Layout.{layout_2_schema, piece, release, reason}
+use Rattle.feed_store_model.specs.Tables.{IsReleaseRow, AreRows, AreReasons, IsChanged, HoldsReleases, HoldsRecords, IsLayout2, release_row, text_in, part_in, is_of}
+use Rattle.feed_store_model.specs.Tables.{parts_in, reason_in, record_in, sorted_parts, content_without_reasons, stored_content}
 use Rattle.feed_store_model.specs.Records.{bare}
 use Rattle.feed_store_model.proofs.Basics.{three_one, zero_one, five_one}
 use Rattle.feed_store_model.proofs.Cascade.{key_is}
@@ -45,10 +45,10 @@ last_true true e = refl
 last_true false e = absurd (let g : false ≡ true = e in cc)
 
 -- each part has a release of its text, and each reason
-owned_part : (db : Trees) (row : Row) → IsTexted row → passes ForeignKey feed_schema db piece row ≡ true → HasOwner db row
+owned_part : (db : Trees) (row : Row) → IsTexted row → passes ForeignKey layout_2_schema db piece row ≡ true → HasOwner db row
 owned_part db row texted h = last_true (list_any (λ parent. agree plain (1 ∷ []) parent (1 ∷ []) row) (db 1)) (rw (texted, key_is) at h)
 
-pub owned_reason : (db : Trees) (row : Row) → IsTexted row → passes ForeignKey feed_schema db reason row ≡ true → HasOwner db row
+pub owned_reason : (db : Trees) (row : Row) → IsTexted row → passes ForeignKey layout_2_schema db reason row ≡ true → HasOwner db row
 owned_reason db row texted h = last_true (list_any (λ parent. agree plain (1 ∷ []) parent (1 ∷ []) row) (db 1)) (rw (texted, key_is) at h)
 
 flips : (a b : Row) → same_texts a b ≡ same_texts b a
@@ -61,13 +61,13 @@ flips a b = by (same_texts a b) (same_texts b a) refl refl
     by false true e f = absurd (let g : true ≡ false = sym ((bytes_decides (text_in a) (text_in b)).1 (sym ((bytes_decides (text_in b) (text_in a)).0 f))) ∙ e in cc)
 
 -- a name without a release has no parts and no reason
-module _ (old : Database) (new : Row) (ours : IsOurs old) (are : IsListed old) (texted : IsTexted new) (free : is_taken (old.trees 1) new ≡ false)
+module _ (old : Database) (new : Row) (ours : IsLayout2 old) (are : HoldsRecords old) (texted : IsTexted new) (free : is_taken (old.trees 1) new ≡ false)
     (d : IsDistinct same_texts (put_row new (old.trees 1))) where
   apart : AllByRecursion (λ r. same_texts new r ≡ false) (old.trees 1)
   apart = IsDistinct-head same_texts new (old.trees 1)
       (IsDistinct-IsPermutation same_texts flips (put_row new (old.trees 1)) (new ∷ old.trees 1) (IsPermutation-sym _ _ (put_moved new (old.trees 1) free)) d)
 
-  sound : IsSound feed_schema old.trees
+  sound : IsSound layout_2_schema old.trees
   sound = subst (λ s. IsSound s old.trees) ours.schema ours.obeyed
 
   out : (x : Row) → IsTexted x → HasOwner old.trees x → (b : Bool) → is_of (text_in new) x ≡ b → b ≡ false
@@ -87,20 +87,20 @@ module _ (old : Database) (new : Row) (ours : IsOurs old) (are : IsListed old) (
   no_parts = none (old.trees 3) (all_from _ (old.trees 3) (λ x h.
       let tx = all_has IsTexted (old.trees 3) x (texted_pieces _ _ are.rows).texted h in
       let rules = (sound.obeys.rules ForeignKey).1.1.0 in
-      out x tx (owned_part old.trees x tx (all_has (λ row. passes ForeignKey feed_schema old.trees piece row ≡ true) (old.trees 3) x rules h)) (is_of (text_in new) x) refl))
+      out x tx (owned_part old.trees x tx (all_has (λ row. passes ForeignKey layout_2_schema old.trees piece row ≡ true) (old.trees 3) x rules h)) (is_of (text_in new) x) refl))
 
   no_reason : reason_in (old.trees 5) (text_in new) ≡ None
   no_reason = reason_is (old.trees 5) (text_in new) ∙ ap first_said (none (old.trees 5) (all_from _ (old.trees 5) (λ x h.
       let tx = all_has IsTexted (old.trees 5) x (texted_reasons _ are.reasons).texted h in
       let rules = (sound.obeys.rules ForeignKey).1.1.1.0 in
-      out x tx (owned_reason old.trees x tx (all_has (λ row. passes ForeignKey feed_schema old.trees reason row ≡ true) (old.trees 5) x rules h)) (is_of (text_in new) x) refl)))
+      out x tx (owned_reason old.trees x tx (all_has (λ row. passes ForeignKey layout_2_schema old.trees reason row ≡ true) (old.trees 5) x rules h)) (is_of (text_in new) x) refl)))
 
 -- the row of a release, under the next rowid
 abbrev pub new_row : Name → ℕ → State → Database → Row
 new_row n size s db = release_row (next_rowid (db.trees 1)) n size s
 
 module _ (n : Name) (size : ℕ) (s : State) (old new : Database) (named : IsName (text_of n) n) (limit : size ≤ max_file)
-    (it : Puts release (new_row n size s old) old new) (are : IsListed old) where
+    (it : Puts release (new_row n size s old) old new) (are : HoldsRecords old) where
   abbrev row : Row
   row = new_row n size s old
 
@@ -119,7 +119,7 @@ module _ (n : Name) (size : ℕ) (s : State) (old new : Database) (named : IsNam
       } in
       all-put_row IsReleaseRow row (old.trees 1) is_row are.rows.are_releases
 
-  rows : IsEarlierListed new
+  rows : HoldsReleases new
   rows =
       let now : AreRows (put_row row (old.trees 1)) (old.trees 3) = record {
         are_releases = all;
@@ -129,26 +129,26 @@ module _ (n : Name) (size : ℕ) (s : State) (old new : Database) (named : IsNam
       } in
       rw (it.rows, same_pieces) now
 
-  listed : IsListed new
+  listed : HoldsRecords new
   listed = record { rows = rows; reasons = subst AreReasons (sym same_reasons) are.reasons }
 
-  record_is : IsOurs old → IsDistinct same_texts (put_row row (old.trees 1)) → record_in (old.trees 3) row ≡ bare n size s
+  record_is : IsLayout2 old → IsDistinct same_texts (put_row row (old.trees 1)) → record_in (old.trees 3) row ≡ bare n size s
   record_is ours apart =
       let none : parts_in (old.trees 3) (text_of n) ≡ [] = ap (λ l. sorted_parts (map part_in l)) (no_parts old row ours are refl it.free apart) in
       ap (λ (st : State). let x : Record = record { name = n; size = size; state = st; reason = None; parts = parts_in (old.trees 3) (text_of n) } in x)
       (state_back s)
       ∙ ap (λ (ps : List Part). let x : Record = record { name = n; size = size; state = s; reason = None; parts = ps } in x) none
 
-  content : IsOurs old → content_of new ≡ insert_record (bare n size s) (content_of old)
+  content : IsLayout2 old → stored_content new ≡ insert_record (bare n size s) (stored_content old)
   content ours =
       let apart : IsDistinct same_texts (put_row row (old.trees 1)) = subst (IsDistinct same_texts) it.rows
       (distinct_texts new (tables_of new it.schema it.sound) (texted_releases _ _ rows)) in
-      let plain_content : earlier_content_of new ≡ insert_record (bare n size s) (earlier_content_of old) = rw (it.rows, same_pieces)
-      (put_content row (old.trees 1) (old.trees 3) it.free all apart ∙ ap (λ r. insert_record r (earlier_content_of old)) (record_is ours apart)) in
-      rw (same_reasons, plain_content) (explained_insert (old.trees 5) (bare n size s) (earlier_content_of old)
-      ∙ ap (λ (o : Option BadFile). let x : Record = record (bare n size s) { reason = o } in insert_record x (content_of old)) (no_reason old row ours are refl it.free apart))
+      let plain_content : content_without_reasons new ≡ insert_record (bare n size s) (content_without_reasons old) = rw (it.rows, same_pieces)
+      (put_content row (old.trees 1) (old.trees 3) it.free all apart ∙ ap (λ r. insert_record r (content_without_reasons old)) (record_is ours apart)) in
+      rw (same_reasons, plain_content) (explained_insert (old.trees 5) (bare n size s) (content_without_reasons old)
+      ∙ ap (λ (o : Option BadFile). let x : Record = record (bare n size s) { reason = o } in insert_record x (stored_content old)) (no_reason old row ours are refl it.free apart))
 
-pub adds_release : (n : Name) (size : ℕ) (s : State) (old new : Database) → IsName (text_of n) n → size ≤ max_file → IsOurs old
+pub adds_release : (n : Name) (size : ℕ) (s : State) (old new : Database) → IsName (text_of n) n → size ≤ max_file → IsLayout2 old
     → Puts release (new_row n size s old) old new → IsChanged (insert_record (bare n size s)) old new
 adds_release n size s old new named limit ours it = record {
   ours = still_ours old new ours (record { schema = it.schema; sound = it.sound; layout = it.others.0 zero_one });

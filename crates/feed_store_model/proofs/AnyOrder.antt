@@ -6,7 +6,7 @@ use Rattle.sqlite_trees.proofs.ListLemmas.{IsPermutation-filter}
 use Rattle.sqlite_rules.proofs.ListLemmas.{all_from}
 use Rattle.sqlite.specs.Effect.{Database}
 use Rattle.feed_model.specs.Content.{Part, Record}
-use Rattle.feed_store_model.specs.Tables.{HasTables, IsEarlierListed, IsListed, IsOurs, earlier_content_of, content_of, explained, is_of, part_in, parts_in, record_in, sorted, text_in}
+use Rattle.feed_store_model.specs.Tables.{HasTables, HoldsReleases, HoldsRecords, IsLayout2, content_without_reasons, stored_content, explained, is_of, part_in, parts_in, record_in, sorted, text_in}
 use Rattle.feed_store_model.proofs.Insertion.{sort_moved}
 use Rattle.feed_store_model.proofs.Order.{same_first, part_stops, part_laws, parts_sort, same_text, record_stops, record_laws, records_sort}
 use Rattle.feed_store_model.proofs.Unique.{distinct_texts, distinct_places, distinct_reasons}
@@ -15,7 +15,7 @@ use Rattle.feed_store_model.proofs.Ours.{tables_of_ours}
 use Rattle.feed_store_model.proofs.Explained.{explained_same, reason_moved}
 use Rattle.feed_store_model.proofs.AddedPart.{placed_pieces}
 
-module _ (one other : Database) (has : HasTables one) (are : IsEarlierListed one) (moved : IsPermutation (one.trees 1) (other.trees 1))
+module _ (one other : Database) (has : HasTables one) (are : HoldsReleases one) (moved : IsPermutation (one.trees 1) (other.trees 1))
     (parts_moved : IsPermutation (one.trees 3) (other.trees 3)) where
   same_parts : (text : List ℕ) → parts_in (one.trees 3) text ≡ parts_in (other.trees 3) text
   same_parts text =
@@ -30,7 +30,7 @@ module _ (one other : Database) (has : HasTables one) (are : IsEarlierListed one
   same_record row = ap (λ (ps : List Part). let x : Record = record (record_in (one.trees 3) row) { parts = ps } in x) (same_parts (text_in row))
 
   -- without reasons
-  pub any_rows : earlier_content_of one ≡ earlier_content_of other
+  pub any_rows : content_without_reasons one ≡ content_without_reasons other
   any_rows =
       let texts = distinct_texts one has (texted_releases _ _ are) in
       let f = record_in (one.trees 3) in
@@ -40,9 +40,9 @@ module _ (one other : Database) (has : HasTables one) (are : IsEarlierListed one
       ∙ sym (records_sort (map f (other.trees 1)))
       ∙ ap sorted (map_same f (record_in (other.trees 3)) (other.trees 1) (all_from _ (other.trees 1) (λ r h. same_record r)))
 
-pub any_order : (one other : Database) → IsOurs one → IsListed one → IsPermutation (one.trees 1) (other.trees 1) → IsPermutation (one.trees 3) (other.trees 3)
-    → IsPermutation (one.trees 5) (other.trees 5) → content_of one ≡ content_of other
+pub any_order : (one other : Database) → IsLayout2 one → HoldsRecords one → IsPermutation (one.trees 1) (other.trees 1) → IsPermutation (one.trees 3) (other.trees 3)
+    → IsPermutation (one.trees 5) (other.trees 5) → stored_content one ≡ stored_content other
 any_order one other ours are moved parts_moved reasons_moved =
     let texts = distinct_reasons one ours.schema ours.obeyed (texted_reasons _ are.reasons) in
     ap (explained (one.trees 5)) (any_rows one other (tables_of_ours one ours) are.rows moved parts_moved)
-    ∙ explained_same (one.trees 5) (other.trees 5) (λ t. reason_moved (one.trees 5) (other.trees 5) t texts reasons_moved) (earlier_content_of other)
+    ∙ explained_same (one.trees 5) (other.trees 5) (λ t. reason_moved (one.trees 5) (other.trees 5) t texts reasons_moved) (content_without_reasons other)

@@ -12,7 +12,7 @@ use Rattle.sqlite.specs.Query.{IsAnswer}
 use Rattle.sqlite.specs.Program.{overlay}
 use Rattle.feed_names.specs.ReleaseName.{Name}
 use Rattle.feed_model.specs.Change.{without_earlier}
-use Rattle.feed_store_model.specs.Tables.{AreReasons, IsChanged, IsListed, IsOurs, earlier_content_of, content_of}
+use Rattle.feed_store_model.specs.Tables.{AreReasons, IsChanged, HoldsRecords, IsLayout2, content_without_reasons, stored_content}
 use Rattle.feed_store_model.proofs.Rows.{answered}
 use Rattle.feed_store_model.proofs.Conditions.{earlier, goes}
 use Rattle.feed_store_model.proofs.Cascade.{Cascade}
@@ -29,7 +29,7 @@ pub record Deletes (stem : List ℕ) (day : ℤ) (old new : Database) : Type 0 w
   pub picked : IsAnswer earlier (overlay old.trees []) (Text stem ∷ Int day ∷ []) rows
   pub cascade : Cascade old.trees new.trees (ids_of rows)
 
-module _ (n : Name) (old new : Database) (ours : IsOurs old) (it : Deletes n.stem n.day old new) (are : IsListed old) where
+module _ (n : Name) (old new : Database) (ours : IsLayout2 old) (it : Deletes n.stem n.day old new) (are : HoldsRecords old) where
   abbrev gone : Row → Bool
   gone = goes n.stem n.day
 
@@ -41,20 +41,20 @@ module _ (n : Name) (old new : Database) (ours : IsOurs old) (it : Deletes n.ste
       (subst (λ xs. IsPermutation xs (ids_of it.rows)) (map-map (λ r. id_in (rowid r)) _ (filter gone (old.trees 1))) ids)
       it.cascade
 
-  listed : IsListed new
+  listed : HoldsRecords new
   listed = record {
     rows = rw (left.releases, left.pieces) (are_left (λ r. not (gone r)) (λ r. not (is_child gone (old.trees 1) r)) _ _ are.rows);
     reasons = subst AreReasons (sym left.reasons) (reasons_left (λ r. not (is_child gone (old.trees 1) r)) _ are.reasons);
   }
 
-  content : content_of new ≡ without_earlier n (content_of old)
+  content : stored_content new ≡ without_earlier n (stored_content old)
   content =
       let apart = distinct_texts old (tables_of_ours old ours) (texted_releases _ _ are.rows) in
-      let bare : earlier_content_of new ≡ without_earlier n (earlier_content_of old) =
+      let bare : content_without_reasons new ≡ without_earlier n (content_without_reasons old) =
       rw (left.releases, left.pieces) (dropped n (old.trees 1) (old.trees 3) are.rows apart) in
       rw (left.reasons, bare) (explained_dropped n (old.trees 1) (old.trees 3) (old.trees 5) are.rows apart)
 
-pub deletes_earlier : (n : Name) (old new : Database) → IsOurs old → Deletes n.stem n.day old new → IsChanged (without_earlier n) old new
+pub deletes_earlier : (n : Name) (old new : Database) → IsLayout2 old → Deletes n.stem n.day old new → IsChanged (without_earlier n) old new
 deletes_earlier n old new ours it = record {
   ours = still_ours old new ours it.keeps;
   listed = listed n old new ours it;

@@ -13,7 +13,7 @@ use Rattle.feed_names.specs.ReleaseName.{Name, text_of, name_eq}
 use Rattle.feed_kbart.specs.declared.fault.BadFile.{BadFile}
 use Rattle.feed_model.specs.Content.{Record, Content, names}
 use Rattle.feed_model.specs.Change.{changed, comes_before, insert_record, is_earlier, without_earlier}
-use Rattle.feed_store_model.specs.Tables.{AreRows, IsReleaseRow, text_in, name_in, is_of, record_in, sorted, content_in, said_in, reason_in, explained_by, explained}
+use Rattle.feed_store_model.specs.Tables.{AreRows, IsReleaseRow, text_in, name_in, is_of, record_in, sorted, content_in, reason_in_row, reason_in, explained_by, explained}
 use Rattle.feed_store_model.proofs.Gone.{is_child}
 use Rattle.feed_store_model.proofs.Unique.{same_texts, single}
 use Rattle.feed_store_model.proofs.Conditions.{goes}
@@ -71,14 +71,14 @@ all_records P pieces rows each = all_sorted P (map (record_in pieces) rows) (map
 -- the reason of the first of some rows
 abbrev pub first_said : List Row → Option BadFile
 first_said [] = None
-first_said (r ∷ rs) = said_in r
+first_said (r ∷ rs) = reason_in_row r
 
 pub reason_is : (rows : List Row) (t : List ℕ) → reason_in rows t ≡ first_said (filter (is_of t) rows)
 reason_is [] t = refl
 reason_is (r ∷ rows) t = by (is_of t r) (reason_is rows t)
   where
     by : (b : Bool) → reason_in rows t ≡ first_said (filter (is_of t) rows)
-        → (if b then said_in r else reason_in rows t) ≡ first_said (cond b (r ∷ filter (is_of t) rows) (filter (is_of t) rows))
+        → (if b then reason_in_row r else reason_in rows t) ≡ first_said (cond b (r ∷ filter (is_of t) rows) (filter (is_of t) rows))
     by true more = refl
     by false more = more
 

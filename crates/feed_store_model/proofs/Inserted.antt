@@ -12,7 +12,7 @@ use Rattle.sqlite.specs.Tree.{put_row}
 use Rattle.sqlite.specs.Effect.{Database, IsDatabase}
 use Rattle.sqlite_rules.specs.Edit.{is_taken, are_fresh}
 use Rattle.feed_store_model.proofs.Basics.{not_broken}
-use Rattle.feed_store_model.specs.Layout.{feed_schema}
+use Rattle.feed_store_model.specs.Layout.{layout_2_schema}
 
 either : (b : Bool) (x : Value) → cond b x x ≡ x
 either true x = refl
@@ -32,8 +32,8 @@ free_from rows row h = not_broken (is_taken rows row) h
 
 -- a row is put into a table, under a rowid that was free, and nothing else
 pub record Puts (table : Table) (row : Row) (old new : Database) : Type 0 where
-  pub schema : new.schema ≡ feed_schema
+  pub schema : new.schema ≡ layout_2_schema
   pub sound : IsDatabase new
   pub free : is_taken (old.trees table.tree) row ≡ false
   pub rows : new.trees table.tree ≡ put_row row (old.trees table.tree)
-  pub others : AllByRecursion (λ t. t.tree ≢ table.tree → new.trees t.tree ≡ old.trees t.tree) feed_schema.tables
+  pub others : AllByRecursion (λ t. t.tree ≢ table.tree → new.trees t.tree ≡ old.trees t.tree) layout_2_schema.tables

@@ -30,8 +30,9 @@ use Rattle.feed_model.specs.Change.{changed}
 use Rattle.feed_model.proofs.Names.{name_is, name_self}
 use Rattle.feed_store_model.specs.Layout.{release}
 use Rattle.feed_store_model.specs.Records.{with_state}
-use Rattle.feed_store_model.specs.Tables.{IsReleaseRow, AreRows, AreReasons, IsChanged, IsEarlierListed, IsListed, IsOurs, earlier_content_of, release_row, number_of, state_at, same_id, text_in}
-use Rattle.feed_store_model.specs.Tables.{name_in, is_of, record_in, parts_in, sorted, content_in, content_of}
+use Rattle.feed_store_model.specs.Tables.{IsReleaseRow, AreRows, AreReasons, IsChanged, HoldsReleases, HoldsRecords, IsLayout2}
+use Rattle.feed_store_model.specs.Tables.{content_without_reasons, release_row, number_of, state_at, same_id, text_in}
+use Rattle.feed_store_model.specs.Tables.{name_in, is_of, record_in, parts_in, sorted, content_in, stored_content}
 use Rattle.feed_store_model.proofs.Basics.{same_test}
 use Rattle.feed_store_model.proofs.Insertion.{sort_moved}
 use Rattle.feed_store_model.proofs.Order.{same_text, record_stops, record_laws, records_sort}
@@ -229,27 +230,27 @@ renewed_rows n s named old new are apart it = by (single t rows apart)
         subst (λ l. AreRenewed n s named rows (old.trees 3) l) (sym same)
         (one_new n s named rows (old.trees 3) are apart r h here.1 only (free_from (filter (λ x. not (is_of t x)) rows) (renewed r s) fresh))
 
-module _ (n : Name) (s : State) (named : IsName (text_of n) n) (old new : Database) (ours : IsOurs old)
-    (it : Sets (text_of n) (pos (number_of s)) old new) (are : IsListed old) where
+module _ (n : Name) (s : State) (named : IsName (text_of n) n) (old new : Database) (ours : IsLayout2 old)
+    (it : Sets (text_of n) (pos (number_of s)) old new) (are : HoldsRecords old) where
   apart : IsDistinct same_texts (old.trees 1)
   apart = distinct_texts old (tables_of old ours.schema ours.obeyed) (texted_releases _ _ are.rows)
 
   news : AreRenewed n s named (old.trees 1) (old.trees 3) (new.trees 1)
   news = renewed_rows n s named old new are.rows apart it
 
-  rows : IsEarlierListed new
+  rows : HoldsReleases new
   rows = rw it.pieces (record { are_releases = news.are_releases; are_pieces = are.rows.are_pieces; ids = news.ids; piece_ids = are.rows.piece_ids })
 
-  listed : IsListed new
+  listed : HoldsRecords new
   listed = record { rows = rows; reasons = subst AreReasons (sym it.reasons) are.reasons }
 
-  content : content_of new ≡ changed n (with_state s) (content_of old)
+  content : stored_content new ≡ changed n (with_state s) (stored_content old)
   content =
       let texts = distinct_texts new (tables_of new it.keeps.schema it.keeps.sound) (texted_releases _ _ rows) in
-      let bare : earlier_content_of new ≡ changed n (with_state s) (earlier_content_of old) = rw it.pieces (news.content texts) in
-      rw (it.reasons, bare) (explained_changed (old.trees 5) n (with_state s) (λ r. refl) (λ r. refl) (earlier_content_of old))
+      let bare : content_without_reasons new ≡ changed n (with_state s) (content_without_reasons old) = rw it.pieces (news.content texts) in
+      rw (it.reasons, bare) (explained_changed (old.trees 5) n (with_state s) (λ r. refl) (λ r. refl) (content_without_reasons old))
 
-pub sets_state : (n : Name) (s : State) (old new : Database) → IsName (text_of n) n → IsOurs old → Sets (text_of n) (pos (number_of s)) old new
+pub sets_state : (n : Name) (s : State) (old new : Database) → IsName (text_of n) n → IsLayout2 old → Sets (text_of n) (pos (number_of s)) old new
     → IsChanged (changed n (with_state s)) old new
 sets_state n s old new named ours it = record {
   ours = still_ours old new ours it.keeps;

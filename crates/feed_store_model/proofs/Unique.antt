@@ -21,7 +21,7 @@ use Rattle.sqlite_catalog.specs.Listing.{IsSound}
 use Rattle.sqlite.specs.Table.{Table}
 use Rattle.sqlite_schema.specs.declared.schema.Index.{Index}
 use Rattle.std.proofs.lemmas.Map.Keys.{IsDistinct-head, IsDistinct-tail}
-use Rattle.feed_store_model.specs.Layout.{schema_with, feed_schema, release, piece, reason}
+use Rattle.feed_store_model.specs.Layout.{schema_with, layout_2_schema, release, piece, reason}
 use Rattle.feed_store_model.specs.Tables.{HasTables, same_id, text_in, part_in, is_of}
 use Rattle.feed_store_model.proofs.Rows.{IsKeyed}
 use Rattle.feed_store_model.proofs.Order.{same_first}
@@ -37,7 +37,7 @@ same_texts a b = pointwise ◌==◌ (text_in a) (text_in b)
 clash_free : (more : List Table) (keys : List Index) (db : Trees) (row : Row) → passes Unique (schema_with more keys) db release row ≡ true → clashes plain (1 ∷ []) (db 1) row ≡ false
 clash_free more keys db row h = first_unbroken (clashes plain (1 ∷ []) (db 1) row) _ h
 
-reason_free : (db : Trees) (row : Row) → passes Unique feed_schema db reason row ≡ true → clashes plain (1 ∷ []) (db 5) row ≡ false
+reason_free : (db : Trees) (row : Row) → passes Unique layout_2_schema db reason row ≡ true → clashes plain (1 ∷ []) (db 5) row ≡ false
 reason_free db row h = not_broken (clashes plain (1 ∷ []) (db 5) row) h
 
 untied : (o : Ordering) → is_eq o ≡ false → is_ne o ≡ true
@@ -148,12 +148,12 @@ distinct_texts db has are =
     (λ r h. clash_free has.more has.keys db.trees r (all_has (λ row. passes Unique s db.trees release row ≡ true) (db.trees 1) r rules h))) (db.trees 1) (λ x h. h) are.ids
 
 -- no two reasons have one text
-pub distinct_reasons : (db : Database) → db.schema ≡ feed_schema → IsDatabase db → AreTexted (db.trees 5) → IsDistinct same_texts (db.trees 5)
+pub distinct_reasons : (db : Database) → db.schema ≡ layout_2_schema → IsDatabase db → AreTexted (db.trees 5) → IsDistinct same_texts (db.trees 5)
 distinct_reasons db has sound are =
-    let is : IsSound feed_schema db.trees = subst (λ s. IsSound s db.trees) has sound in
+    let is : IsSound layout_2_schema db.trees = subst (λ s. IsSound s db.trees) has sound in
     let rules = (is.obeys.rules Unique).1.1.1.0 in
     texts_apart (db.trees 5) are.keyed are.texted (all_from _ (db.trees 5)
-    (λ r h. reason_free db.trees r (all_has (λ row. passes Unique feed_schema db.trees reason row ≡ true) (db.trees 5) r rules h))) (db.trees 5) (λ x h. h) are.ids
+    (λ r h. reason_free db.trees r (all_has (λ row. passes Unique layout_2_schema db.trees reason row ≡ true) (db.trees 5) r rules h))) (db.trees 5) (λ x h. h) are.ids
 
 -- ---- at most one row has a text
 

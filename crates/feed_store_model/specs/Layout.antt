@@ -117,9 +117,9 @@ schema_with more keys = record {
 }
 
 -- layout 1: exactly three tables
-abbrev pub earlier_schema : Schema
-earlier_schema = schema_with [] []
+abbrev pub layout_1_schema : Schema
+layout_1_schema = schema_with [] []
 
 -- layout 2: exactly four tables
-abbrev pub feed_schema : Schema
-feed_schema = schema_with (reason ∷ []) (automatics reason 0 6 reason.uniques)
+abbrev pub layout_2_schema : Schema
+layout_2_schema = schema_with (reason ∷ []) (automatics reason 0 6 reason.uniques)

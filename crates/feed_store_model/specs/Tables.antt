@@ -20,7 +20,7 @@ use Rattle.sqlite_rules.specs.Edit.{id_in}
 use Rattle.sqlite.specs.Effect.{Database, IsDatabase}
 use Rattle.sqlite.specs.Table.{Table}
 use Rattle.sqlite_schema.specs.declared.schema.Index.{Index}
-use Rattle.feed_store_model.specs.Layout.{schema_with, earlier_schema, feed_schema}
+use Rattle.feed_store_model.specs.Layout.{schema_with, layout_1_schema, layout_2_schema}
 
 -- ---- the content of arbitrary rows
 
@@ -94,13 +94,13 @@ IsStored (MissingLabel label) = Contains required_labels label
 IsStored why = Unit {0}
 
 -- the reason in a row
-abbrev pub said_in : Row → Option BadFile
-said_in row = reason_at (number_in (column row 2)) (number_in (column row 3))
+abbrev pub reason_in_row : Row → Option BadFile
+reason_in_row row = reason_at (number_in (column row 2)) (number_in (column row 3))
 
 -- the reason of a name: that of its first row
 abbrev pub reason_in : List Row → List ℕ → Option BadFile
 reason_in [] text = None
-reason_in (row ∷ rows) text = if is_of text row then said_in row else reason_in rows text
+reason_in (row ∷ rows) text = if is_of text row then reason_in_row row else reason_in rows text
 
 -- the record with the reason of its name
 abbrev pub explained_by : List Row → Record → Record
@@ -110,13 +110,13 @@ explained_by reasons r = record r { reason = reason_in reasons (text_of r.name) 
 abbrev pub explained : List Row → Content → Content
 explained reasons c = map (explained_by reasons) c
 
--- the content of a database of layout 1: its releases, each with the parts of its name, and nothing else
-abbrev pub earlier_content_of : Database → Content
-earlier_content_of db = content_in (db.trees 1) (db.trees 3)
+-- the releases of a database, each with the parts of its name and without a reason: the content of layout 1
+abbrev pub content_without_reasons : Database → Content
+content_without_reasons db = content_in (db.trees 1) (db.trees 3)
 
 -- the content of a database of layout 2: the same, with the reasons
-abbrev pub content_of : Database → Content
-content_of db = explained (db.trees 5) (earlier_content_of db)
+abbrev pub stored_content : Database → Content
+stored_content db = explained (db.trees 5) (content_without_reasons db)
 
 -- ---- the rows that the product writes
 
@@ -150,7 +150,7 @@ IsPieceRow row = row ≡ piece_row (id_in (rowid row)) (text_in row) (part_in ro
 -- a row of a reason with a valid number and a valid place of its label
 pub record IsReasonRow (row : Row) : Type 0 where
   pub is : row ≡ reason_row (id_in (rowid row)) (text_in row) (number_in (column row 2)) (number_in (column row 3))
-  pub said : IsSome (said_in row)
+  pub said : IsSome (reason_in_row row)
 
 -- whether two rows have the same rowid
 abbrev pub same_id : Row → Row → Bool
@@ -168,13 +168,13 @@ pub record AreReasons (reasons : List Row) : Type 0 where
   pub are : AllByRecursion IsReasonRow reasons
   pub ids : IsDistinct same_id reasons
 
--- the tables of layout 1 hold a list of records
-abbrev pub IsEarlierListed : Database → Type 0
-IsEarlierListed db = AreRows (db.trees 1) (db.trees 3)
+-- the tables of releases and of parts hold a list of records, as those of layout 1 do
+abbrev pub HoldsReleases : Database → Type 0
+HoldsReleases db = AreRows (db.trees 1) (db.trees 3)
 
--- the tables hold a list of records
-pub record IsListed (db : Database) : Type 0 where
-  pub rows : IsEarlierListed db
+-- the tables of layout 2 hold a list of records
+pub record HoldsRecords (db : Database) : Type 0 where
+  pub rows : HoldsReleases db
   pub reasons : AreReasons (db.trees 5)
 
 -- the database has the first three tables, possibly with more tables and indexes after them, and its constraints hold
@@ -189,20 +189,20 @@ unfoldable pub IsTabled : Database → Type 0
 IsTabled db = HasTables db
 
 -- the database has exactly the tables of layout 1, its constraints hold, and the layout's number is 1
-pub record IsEarlier (db : Database) : Type 0 where
-  pub schema : db.schema ≡ earlier_schema
+pub record IsLayout1 (db : Database) : Type 0 where
+  pub schema : db.schema ≡ layout_1_schema
   pub obeyed : IsDatabase db
   pub version : map rowid (db.trees 0) ≡ Int (pos 1) ∷ []
 
 -- the database has exactly the tables of layout 2, its constraints hold, and the layout's number is 2
-pub record IsOurs (db : Database) : Type 0 where
-  pub schema : db.schema ≡ feed_schema
+pub record IsLayout2 (db : Database) : Type 0 where
+  pub schema : db.schema ≡ layout_2_schema
   pub obeyed : IsDatabase db
   pub version : map rowid (db.trees 0) ≡ Int (pos 2) ∷ []
 
 -- the effect of a change on a database of layout 2: it keeps its layout, and if it held a list of records, the change
 -- applies to it
 pub record IsChanged (f : Content → Content) (old new : Database) : Type 0 where
-  pub ours : IsOurs new
-  pub listed : IsListed old → IsListed new
-  pub content : IsListed old → content_of new ≡ f (content_of old)
+  pub ours : IsLayout2 new
+  pub listed : HoldsRecords old → HoldsRecords new
+  pub content : HoldsRecords old → stored_content new ≡ f (stored_content old)

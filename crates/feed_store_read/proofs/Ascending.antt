@@ -22,7 +22,7 @@ use Rattle.feed_model.specs.Content.{Part, Record, names}
 use Rattle.feed_keep.specs.declared.record.Record as code
 use Rattle.feed_parts.specs.Shown.{shown_parts}
 use Rattle.feed_keep.specs.Shown.{shown, shown_record}
-use Rattle.feed_store_read.specs.Order.{AreNamesUp}
+use Rattle.feed_store_read.specs.Order.{AreNamesAscending}
 use Rattle.feed_store_read.specs.Pieces.{if_named}
 
 -- ---- texts
@@ -69,10 +69,10 @@ names_shown (r ∷ rs) = ap (λ ns. r.name ∷ ns) (names_shown rs)
 abbrev name_in : code.Record → Name
 name_in r = r.name
 
-pub records_up : (rs : List code.Record) → AreNamesUp (names (shown rs)) → (i j : ℕ) (d : code.Record) → i < j → j < length rs
+pub records_up : (rs : List code.Record) → AreNamesAscending (names (shown rs)) → (i j : ℕ) (d : code.Record) → i < j → j < length rs
     → text_cmp (text_of (get_or rs i d).name) (text_of (get_or rs j d).name) ≡ Less
 records_up rs up i j d lt within =
-    let mine : AreNamesUp (map name_in rs) = subst AreNamesUp (names_shown rs) up in
+    let mine : AreNamesAscending (map name_in rs) = subst AreNamesAscending (names_shown rs) up in
     let count : length (map name_in rs) ≡ length rs = length-map rs name_in in
     let e : Name = d.name in
     rw (get_or-map name_in rs i d e (omega arith), get_or-map name_in rs j d e within) at (up_pairs name_cmp (map name_in rs) mine i j e lt (omega (arith, count)))
@@ -85,7 +85,7 @@ found_by text r = text_cmp (text_of r.name) text
 not_less : (x y : Ordering) → x ≡ ordering_reverse y → y ≡ Less → is_lt x ≡ false
 not_less x y e h = ap is_lt (e ∙ ap ordering_reverse h)
 
-pub searchable : (rs : List code.Record) (text : List ℕ) → AreNamesUp (names (shown rs)) → IsNonDecreasingBy (λ r. ordering_index (found_by text r)) rs
+pub searchable : (rs : List code.Record) (text : List ℕ) → AreNamesAscending (names (shown rs)) → IsNonDecreasingBy (λ r. ordering_index (found_by text r)) rs
 searchable rs text up = searchable_from_sorted nat_list_cmp_total (λ (r : code.Record). text_of r.name) rs text (λ k d low high.
     let a = text_of (get_or rs k d).name in
     let b = text_of (get_or rs (k + 1) d).name in
@@ -102,7 +102,7 @@ abbrev pub fuller : Record → Part → Record
 fuller r p = record r { parts = r.parts ++ p ∷ [] }
 
 -- the record of a name is the changed one, and no other
-pub set_named : (rs : List code.Record) (i : ℕ) (x d : code.Record) (text : List ℕ) (f : Record → Record) → AreNamesUp (names (shown rs)) → i < length rs
+pub set_named : (rs : List code.Record) (i : ℕ) (x d : code.Record) (text : List ℕ) (f : Record → Record) → AreNamesAscending (names (shown rs)) → i < length rs
     → text_of (get_or rs i d).name ≡ text → shown_record x ≡ f (shown_record (get_or rs i d)) → shown (set rs i x) ≡ map (if_named text f) (shown rs)
 set_named [] i x d text f up lt is same = absurd (omega arith)
 set_named (r ∷ rs) zero x d text f up lt is same =

@@ -17,12 +17,12 @@ use Rattle.feed_model.specs.Content.{Content, Part, Record, names}
 use Rattle.feed_keep.specs.declared.record.Record as code
 use Rattle.feed_keep.specs.Shown.{shown}
 use Rattle.feed_keep.specs.Order.{AreNamesInOrder, ArePartsInOrder, IsInOrder}
-use Rattle.feed_store_read.specs.Selected.{Explains}
-use Rattle.feed_store_model.specs.Tables.{AreReasons, IsListed, IsOurs, IsReasonRow, content_of, earlier_content_of, explained, reason_in}
+use Rattle.feed_store_read.specs.Selected.{AreRecordsOf}
+use Rattle.feed_store_model.specs.Tables.{AreReasons, HoldsRecords, IsLayout2, IsReasonRow, stored_content, content_without_reasons, explained, reason_in}
 use Rattle.feed_store_model.proofs.Contents.{texted_reasons}
 use Rattle.feed_store_model.proofs.Explained.{all_records, explained_same, reason_moved}
 use Rattle.feed_store_model.proofs.Unique.{distinct_reasons}
-use Rattle.feed_store_read.specs.Reasons.{AreReasonsOf, with_said}
+use Rattle.feed_store_read.specs.Reasons.{AreReasonsOf, with_row_reason}
 use Rattle.feed_store_read.proofs.Joined.{id_cmp, id_total, ids_apart, rows_apart}
 use Rattle.feed_store_read.proofs.Strict.{apart_moved}
 
@@ -36,30 +36,30 @@ pub reason_ids_apart : (db : Database) (ids : List ℤ) (old new : Content) → 
 reason_ids_apart db ids old new it are = ids_apart it.rows ids it.show.numbers (apart_moved id_cmp id_total (db.trees 5) it.rows it.moved are.ids)
 
 -- records without reasons get those of the rows
-with_all : (rows : List Row) (c : Content) → AllByRecursion (λ r. r.reason ≡ None) c → map (with_said rows) c ≡ explained rows c
+with_all : (rows : List Row) (c : Content) → AllByRecursion (λ r. r.reason ≡ None) c → map (with_row_reason rows) c ≡ explained rows c
 with_all rows [] all = refl
 with_all rows (r ∷ rs) all =
-    ap (λ (o : Option BadFile). let x : Record = record r { reason = option_or o (reason_in rows (text_of r.name)) } in x ∷ map (with_said rows) rs) all.0
+    ap (λ (o : Option BadFile). let x : Record = record r { reason = option_or o (reason_in rows (text_of r.name)) } in x ∷ map (with_row_reason rows) rs) all.0
     ∙ ap (λ (l : Content). (let x : Record = record r { reason = reason_in rows (text_of r.name) } in x) ∷ l) (with_all rows rs all.1)
 
-pub all_explained : (db : Database) (ids : List ℤ) (new : Content) → IsOurs db → IsListed db → AreReasonsOf db ids (earlier_content_of db) new → new ≡ content_of db
+pub all_explained : (db : Database) (ids : List ℤ) (new : Content) → IsLayout2 db → HoldsRecords db → AreReasonsOf db ids (content_without_reasons db) new → new ≡ stored_content db
 all_explained db ids new ours are it =
     let texts = distinct_reasons db ours.schema ours.obeyed (texted_reasons _ are.reasons) in
     it.show.shows
-    ∙ with_all it.rows (earlier_content_of db) (all_records (λ r. r.reason ≡ None) (db.trees 3) (db.trees 1) (λ r h. refl))
-    ∙ sym (explained_same (db.trees 5) it.rows (λ t. reason_moved (db.trees 5) it.rows t texts it.moved) (earlier_content_of db))
+    ∙ with_all it.rows (content_without_reasons db) (all_records (λ r. r.reason ≡ None) (db.trees 3) (db.trees 1) (λ r h. refl))
+    ∙ sym (explained_same (db.trees 5) it.rows (λ t. reason_moved (db.trees 5) it.rows t texts it.moved) (content_without_reasons db))
 
 -- ---- what was told of the records
 
 abbrev Told : Database → Result (Option (Vec code.Record Global)) Error → Type 0
-Told db r = IfOk r (λ found. MatchOption found (¬ (IsListed db)) (Explains db))
+Told db r = IfOk r (λ found. MatchOption found (¬ (HoldsRecords db)) (AreRecordsOf db))
 
-pub told_records : (db : Database) (r : Result (Option (Vec code.Record Global)) Error) → Told db r → IfOk r (λ found. IfSome found (λ records. shown records.items ≡ content_of db))
+pub told_records : (db : Database) (r : Result (Option (Vec code.Record Global)) Error) → Told db r → IfOk r (λ found. IfSome found (λ records. shown records.items ≡ stored_content db))
 told_records db (Ok (Some records)) told = told.content
 told_records db (Ok None) told = tt
 told_records db (Err e) told = tt
 
-pub told_listed : (db : Database) (r : Result (Option (Vec code.Record Global)) Error) → Told db r → IfOk r (λ found. MatchOption found (¬ (IsListed db)) (λ records. IsListed db))
+pub told_listed : (db : Database) (r : Result (Option (Vec code.Record Global)) Error) → Told db r → IfOk r (λ found. MatchOption found (¬ (HoldsRecords db)) (λ records. HoldsRecords db))
 told_listed db (Ok (Some records)) told = told.listed
 told_listed db (Ok None) told = told
 told_listed db (Err e) told = tt

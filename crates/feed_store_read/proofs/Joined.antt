@@ -25,7 +25,7 @@ use Rattle.feed_parts.specs.Shown.{shown_parts}
 use Rattle.feed_keep.specs.declared.record.Record as code
 use Rattle.feed_keep.specs.Shown.{shown}
 use Rattle.feed_names.specs.ReleaseName.{text_of}
-use Rattle.feed_store_model.specs.Tables.{HasTables, IsEarlierListed, IsPieceRow, IsReleaseRow, content_in, earlier_content_of, is_of, name_in, part_in, parts_in, record_in, same_id, text_in}
+use Rattle.feed_store_model.specs.Tables.{HasTables, HoldsReleases, IsPieceRow, IsReleaseRow, content_in, content_without_reasons, is_of, name_in, part_in, parts_in, record_in, same_id, text_in}
 use Rattle.feed_store_model.proofs.AddedPart.{placed_pieces}
 use Rattle.feed_store_model.proofs.AnyOrder.{any_rows}
 use Rattle.feed_store_model.proofs.Contents.{release_text, texted_pieces, texted_releases}
@@ -33,7 +33,7 @@ use Rattle.feed_store_model.proofs.Insertion.{IsUp, sort_same}
 use Rattle.feed_store_model.proofs.Order.{part_laws, part_stops, parts_sort, record_laws, record_stops, records_sort, same_first, same_text}
 use Rattle.feed_store_model.proofs.Unique.{distinct_places, distinct_texts}
 use Rattle.feed_store_read.specs.declared.releases.Releases.{Releases}
-use Rattle.feed_store_read.specs.Order.{AreNamesUp, ArePartsUp}
+use Rattle.feed_store_read.specs.Order.{AreNamesAscending, ArePartsAscending}
 use Rattle.feed_store_read.specs.Pieces.{ArePlacesInOrder, with_rows}
 use Rattle.feed_store_read.specs.Releases.{AreReleases}
 use Rattle.feed_store_read.specs.Selected.{AreSelected}
@@ -83,7 +83,7 @@ ids_apart rows ids same d =
 
 -- ---- the tables hold a list of records
 
-pub now_listed : (db : Database) (found : Releases) (ids : List ℤ) → AreSelected db found ids → IsDistinct int_eq found.ids.items → IsDistinct int_eq ids → IsEarlierListed db
+pub now_listed : (db : Database) (found : Releases) (ids : List ℤ) → AreSelected db found ids → IsDistinct int_eq found.ids.items → IsDistinct int_eq ids → HoldsReleases db
 now_listed db found ids it one two =
     let releases = it.releases in
     let pieces = it.pieces in
@@ -95,11 +95,11 @@ now_listed db found ids it one two =
       piece_ids = apart_moved id_cmp id_total pieces.rows (db.trees 3) (IsPermutation-sym _ _ pieces.moved) parts;
     }
 
-pub release_ids_apart : (db : Database) (found : Releases) (ids : List ℤ) → AreSelected db found ids → IsEarlierListed db → IsDistinct int_eq found.ids.items
+pub release_ids_apart : (db : Database) (found : Releases) (ids : List ℤ) → AreSelected db found ids → HoldsReleases db → IsDistinct int_eq found.ids.items
 release_ids_apart db found ids it are =
     subst (IsDistinct int_eq) (sym it.numbers) (ids_apart it.releases.rows _ it.releases.show.numbers (apart_moved id_cmp id_total (db.trees 1) it.releases.rows it.releases.moved are.ids))
 
-pub piece_ids_apart : (db : Database) (found : Releases) (ids : List ℤ) → AreSelected db found ids → IsEarlierListed db → IsDistinct int_eq ids
+pub piece_ids_apart : (db : Database) (found : Releases) (ids : List ℤ) → AreSelected db found ids → HoldsReleases db → IsDistinct int_eq ids
 piece_ids_apart db found ids it are =
     ids_apart it.pieces.rows ids it.pieces.show.numbers (apart_moved id_cmp id_total (db.trees 3) it.pieces.rows it.pieces.moved are.piece_ids)
 
@@ -113,18 +113,18 @@ others_named : (r : Row) (rows : List Row) → IsReleaseRow r → AllByRecursion
 others_named r [] is all up = tt
 others_named r (x ∷ xs) is all up = ((λ i. text_cmp (sym (release_text r is) i) (sym (release_text x all.0) i)) ∙ up.0, others_named r xs is all.1 up.1)
 
-named_up : (rows : List Row) → AllByRecursion IsReleaseRow rows → IsStrictlySortedBy (on text_in text_cmp) rows → AreNamesUp (names (map (record_in []) rows))
+named_up : (rows : List Row) → AllByRecursion IsReleaseRow rows → IsStrictlySortedBy (on text_in text_cmp) rows → AreNamesAscending (names (map (record_in []) rows))
 unfolding IsStrictlySortedBy
 named_up [] all up = tt
 named_up (r ∷ rows) all up = (others_named r rows all.0 all.1 up.0, named_up rows all.1 up.1)
 
-pub names_up : (db : Database) (found : Releases) → HasTables db → IsEarlierListed db → AreReleases db found → AreNamesUp (names (shown found.records.items))
+pub names_up : (db : Database) (found : Releases) → HasTables db → HoldsReleases db → AreReleases db found → AreNamesAscending (names (shown found.records.items))
 names_up db found ours are it =
     let apart = distinct_texts db ours (texted_releases _ _ are) in
     let tied = subst (λ e. IsDistinct e (db.trees 1)) (λ i a b. sym (is_eq-slice_cmp (text_in a) (text_in b)) i) apart in
     let mine = apart_moved (on text_in text_cmp) text_total (db.trees 1) it.rows it.moved tied in
     let up = strict_of (on text_in text_cmp) text_total it.rows it.order mine in
-    subst (λ (c : Content). AreNamesUp (names c)) (sym it.show.shows) (named_up it.rows it.show.proper up)
+    subst (λ (c : Content). AreNamesAscending (names c)) (sym it.show.shows) (named_up it.rows it.show.proper up)
 
 -- ---- the places of a name's parts ascend
 
@@ -152,8 +152,8 @@ all_of text (r ∷ rows) = by (is_of text r) refl (all_of text rows)
 same_then : (o p : Ordering) → o ≡ Equal → ordering_then o p ≡ p
 same_then o p e = rw e
 
-pub places_up : (db : Database) (rows : List Row) (text : List ℕ) → HasTables db → IsEarlierListed db → IsPermutation (db.trees 3) rows → ArePlacesInOrder rows
-    → ArePartsUp (map part_in (filter (is_of text) rows))
+pub places_up : (db : Database) (rows : List Row) (text : List ℕ) → HasTables db → HoldsReleases db → IsPermutation (db.trees 3) rows → ArePlacesInOrder rows
+    → ArePartsAscending (map part_in (filter (is_of text) rows))
 places_up db rows text ours are moved order =
     let mine = filter (is_of text) rows in
     let kept : IsSorted row_cmp mine = IsSortedBy-filter (λ x y. is_lt (row_cmp x y)) (ranks_by row_total (λ r. r)) (is_of text) rows order in
@@ -170,22 +170,22 @@ places_up db rows text ours are moved order =
     let placed = apart_moved (on first nat_cmp) (on_total first nat_cmp_total) _ (map part_in mine) parts_moved tied in
     strict_map part_in (on first nat_cmp) mine (strict_of (on place_of nat_cmp) (on_total place_of nat_cmp_total) mine up (distinct_unmap part_in (eq_by_cmp (on first nat_cmp)) mine placed))
 
-each_up : (rows releases : List Row) → ((text : List ℕ) → ArePartsUp (map part_in (filter (is_of text) rows)))
-    → AllByRecursion (λ r. ArePartsUp r.parts) (map (with_rows rows) (map (record_in []) releases))
+each_up : (rows releases : List Row) → ((text : List ℕ) → ArePartsAscending (map part_in (filter (is_of text) rows)))
+    → AllByRecursion (λ r. ArePartsAscending r.parts) (map (with_rows rows) (map (record_in []) releases))
 each_up rows [] up = tt
 each_up rows (r ∷ rs) up = (up (text_of (name_in r)), each_up rows rs up)
 
-from_shown : (rs : List code.Record) → AllByRecursion (λ r. ArePartsUp r.parts) (shown rs) → AllByRecursion (λ r. ArePartsUp (shown_parts r.parts.items)) rs
+from_shown : (rs : List code.Record) → AllByRecursion (λ r. ArePartsAscending r.parts) (shown rs) → AllByRecursion (λ r. ArePartsAscending (shown_parts r.parts.items)) rs
 from_shown [] all = tt
 from_shown (r ∷ rs) all = (all.0, from_shown rs all.1)
 
-pub all_parts_up : (db : Database) (found : Releases) (ids : List ℤ) → HasTables db → IsEarlierListed db → AreSelected db found ids
-    → All (λ r. ArePartsUp (shown_parts r.parts.items)) found.records.items
+pub all_parts_up : (db : Database) (found : Releases) (ids : List ℤ) → HasTables db → HoldsReleases db → AreSelected db found ids
+    → All (λ r. ArePartsAscending (shown_parts r.parts.items)) found.records.items
 all_parts_up db found ids ours are it =
     let rows = it.pieces.rows in
     let up = each_up rows it.releases.rows (λ text. places_up db rows text ours are it.pieces.moved it.pieces.order) in
     let is : shown found.records.items ≡ map (with_rows rows) (map (record_in []) it.releases.rows) = it.pieces.show.shows ∙ ap (map (with_rows rows)) it.releases.show.shows in
-    all_by _ _ (from_shown found.records.items (subst (AllByRecursion (λ r. ArePartsUp r.parts)) (sym is) up))
+    all_by _ _ (from_shown found.records.items (subst (AllByRecursion (λ r. ArePartsAscending r.parts)) (sym is) up))
 
 -- ---- the content
 
@@ -201,7 +201,7 @@ part_up p (q ∷ qs) all = (less (nat_lt p.first q.first) refl all.0, part_up p 
         by true h = absurd cc
         by false h = absurd cc
 
-parts_are_up : (ps : List Part) → ArePartsUp ps → IsUp part_stops ps
+parts_are_up : (ps : List Part) → ArePartsAscending ps → IsUp part_stops ps
 unfolding IsStrictlySortedBy
 parts_are_up [] up = tt
 parts_are_up (p ∷ ps) up = (part_up p ps up.0, parts_are_up ps up.1)
@@ -213,12 +213,12 @@ record_up : (r : Record) (rs : List Record) → AllByRecursion (λ n. name_cmp r
 record_up r [] all = tt
 record_up r (x ∷ xs) all = (turned (name_cmp x.name r.name) (name_cmp r.name x.name) (name_total.antisymm x.name r.name) all.0, record_up r xs all.1)
 
-records_are_up : (rs : List Record) → AreNamesUp (names rs) → IsUp record_stops rs
+records_are_up : (rs : List Record) → AreNamesAscending (names rs) → IsUp record_stops rs
 unfolding IsStrictlySortedBy
 records_are_up [] up = tt
 records_are_up (r ∷ rs) up = (record_up r rs up.0, records_are_up rs up.1)
 
-each_joined : (rows releases : List Row) → AllByRecursion IsReleaseRow releases → ((text : List ℕ) → ArePartsUp (map part_in (filter (is_of text) rows)))
+each_joined : (rows releases : List Row) → AllByRecursion IsReleaseRow releases → ((text : List ℕ) → ArePartsAscending (map part_in (filter (is_of text) rows)))
     → map (with_rows rows) (map (record_in []) releases) ≡ map (record_in rows) releases
 each_joined rows [] all up = refl
 each_joined rows (r ∷ rs) all up = λ i. (let x : Record = record (record_in [] r) { parts = parts i } in x) ∷ each_joined rows rs all.1 up i
@@ -231,15 +231,15 @@ each_joined rows (r ∷ rs) all up = λ i. (let x : Record = record (record_in [
         ∙ sym (parts_sort (mine (text_in r)) ∙ sort_same same_first part_stops part_laws (mine (text_in r)) (parts_are_up (mine (text_in r)) (up (text_in r))))
 
 -- the records that were read, with their parts, are the content
-pub joined : (db : Database) (found : Releases) (ids : List ℤ) → HasTables db → IsEarlierListed db → AreSelected db found ids → AreNamesUp (names (shown found.records.items))
-    → shown found.records.items ≡ earlier_content_of db
+pub joined : (db : Database) (found : Releases) (ids : List ℤ) → HasTables db → HoldsReleases db → AreSelected db found ids → AreNamesAscending (names (shown found.records.items))
+    → shown found.records.items ≡ content_without_reasons db
 joined db found ids ours are it up =
     let rows = it.pieces.rows in
     let releases = it.releases.rows in
     let other : Database = record { schema = db.schema; trees = λ tree. cond (tree == 1) releases rows } in
-    let any : earlier_content_of db ≡ content_in releases rows = any_rows db other ours are it.releases.moved it.pieces.moved in
+    let any : content_without_reasons db ≡ content_in releases rows = any_rows db other ours are it.releases.moved it.pieces.moved in
     let is : shown found.records.items ≡ map (record_in rows) releases =
     it.pieces.show.shows ∙ ap (map (with_rows rows)) it.releases.show.shows
     ∙ each_joined rows releases it.releases.show.proper (λ text. places_up db rows text ours are it.pieces.moved it.pieces.order) in
-    let stays = sort_same same_text record_stops record_laws (map (record_in rows) releases) (records_are_up _ (subst (λ (c : Content). AreNamesUp (names c)) is up)) in
+    let stays = sort_same same_text record_stops record_laws (map (record_in rows) releases) (records_are_up _ (subst (λ (c : Content). AreNamesAscending (names c)) is up)) in
     is ∙ sym (any ∙ records_sort (map (record_in rows) releases) ∙ stays)

@@ -13,7 +13,7 @@ use Rattle.feed_parts.specs.Shown.{shown_parts}
 use Rattle.feed_keep.specs.declared.record.Record as code
 use Rattle.feed_keep.specs.Order.{AreNamesInOrder, ArePartsInOrder, IsInOrder}
 use Rattle.feed_keep.specs.Shown.{shown, shown_record}
-use Rattle.feed_store_read.specs.Order.{AreNamesUp, ArePartsUp}
+use Rattle.feed_store_read.specs.Order.{AreNamesAscending, ArePartsAscending}
 use Rattle.feed_store_read.proofs.Ascending.{name_cmp, name_total, text_itself, up_pairs}
 use Rattle.feed_store_read.proofs.Strict.{apart_of}
 
@@ -37,13 +37,13 @@ all_differ [] d = tt
 all_differ (n ∷ ns) d = (each_differs n ns d.0, all_differ ns d.1)
 
 -- no name stands twice
-pub names_differ : (ns : List Name) → AreNamesUp ns → IsDistinct name_eq ns
+pub names_differ : (ns : List Name) → AreNamesAscending ns → IsDistinct name_eq ns
 names_differ ns up = all_differ ns (apart_of name_cmp name_total ns up)
 
 not_before : (x y : Ordering) → x ≡ ordering_reverse y → y ≡ Less → is_lt x ≡ false
 not_before x y e h = ap is_lt (e ∙ ap ordering_reverse h)
 
-names_in_order : (ns : List Name) → AreNamesUp ns → AreNamesInOrder ns
+names_in_order : (ns : List Name) → AreNamesAscending ns → AreNamesInOrder ns
 names_in_order ns up i j d lt within =
     let m = get_or ns i d in
     let n = get_or ns j d in
@@ -57,15 +57,15 @@ below m n h = by (nat_lt m n) refl (m == n) h
     by false e true h = absurd cc
     by false e false h = absurd cc
 
-parts_in_order : (ps : List Part) → ArePartsUp ps → ArePartsInOrder ps
+parts_in_order : (ps : List Part) → ArePartsAscending ps → ArePartsInOrder ps
 parts_in_order ps up i j d lt within = below _ _ (up_pairs (on (λ p. p.first) nat_cmp) ps up i j d lt within)
 
 abbrev HasUp : code.Record → Type 0
-HasUp r = ArePartsUp (shown_parts r.parts.items)
+HasUp r = ArePartsAscending (shown_parts r.parts.items)
 
 each_in_order : (rs : List code.Record) → All HasUp rs → All (λ r. ArePartsInOrder r.parts) (shown rs)
 each_in_order [] all = All-nil (λ r. ArePartsInOrder r.parts)
 each_in_order (r ∷ rs) all = All-cons (λ r. ArePartsInOrder r.parts) (shown_record r) (shown rs) (parts_in_order _ (All-head HasUp r rs all)) (each_in_order rs (All-tail HasUp r rs all))
 
-pub ascending_in_order : (rs : List code.Record) → AreNamesUp (names (shown rs)) → All (λ r. ArePartsUp (shown_parts r.parts.items)) rs → IsInOrder (shown rs)
+pub ascending_in_order : (rs : List code.Record) → AreNamesAscending (names (shown rs)) → All (λ r. ArePartsAscending (shown_parts r.parts.items)) rs → IsInOrder (shown rs)
 ascending_in_order rs up all = record { records = names_in_order _ up; parts = each_in_order rs all }

@@ -19,7 +19,7 @@ use Rattle.sqlite.specs.Table.{Table}
 use Rattle.sqlite_schema.specs.declared.schema.Index.{Index}
 use Rattle.sqlite_tied.specs.Compute.{everything}
 use Rattle.feed_store_model.specs.Layout.{schema_with, owner, piece}
-use Rattle.feed_store_model.specs.Tables.{HasTables, IsEarlierListed, IsPieceRow, IsReleaseRow, name_in, record_in, text_in}
+use Rattle.feed_store_model.specs.Tables.{HasTables, HoldsReleases, IsPieceRow, IsReleaseRow, name_in, record_in, text_in}
 use Rattle.feed_store_model.proofs.Contents.{piece_texted, release_text, release_texted}
 use Rattle.feed_store_model.proofs.Gone.{IsTexted, equal_texts}
 use Rattle.feed_store_read.specs.declared.releases.Releases.{Releases}
@@ -41,7 +41,7 @@ held_by more keys db row texted h =
     rw (texted, key_with more keys) at one
 
 -- a release has the text of the part
-parent_of : (db : Database) (row : Row) → HasTables db → IsEarlierListed db → Has (db.trees 3) row → (parent : Row) × Has (db.trees 1) parent × (text_in parent ≡ text_in row)
+parent_of : (db : Database) (row : Row) → HasTables db → HoldsReleases db → Has (db.trees 3) row → (parent : Row) × Has (db.trees 1) parent × (text_in parent ≡ text_in row)
 parent_of db row has are here =
     let s = schema_with has.more has.keys in
     let is : IsDatabase (record { schema = s; trees = db.trees }) = subst (λ s. IsDatabase (record { schema = s; trees = db.trees })) has.schema has.obeyed in
@@ -60,7 +60,7 @@ none_in_rows text [] all = tt
 none_in_rows text (r ∷ rows) all = (all.0, none_in_rows text rows all.1)
 
 -- no part is of a name that no release has
-pub no_orphan : (db : Database) (found : Releases) (rs : List code.Record) (row : Row) → HasTables db → IsEarlierListed db → AreReleases db found
+pub no_orphan : (db : Database) (found : Releases) (rs : List code.Record) (row : Row) → HasTables db → HoldsReleases db → AreReleases db found
     → names (shown rs) ≡ names (shown found.records.items) → Has (db.trees 3) row → ¬ (All (λ r. text_of r.name ≢ text_in row) rs)
 no_orphan db found rs row ours are releases same here none =
     let parent = parent_of db row ours are here in

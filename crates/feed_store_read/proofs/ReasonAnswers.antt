@@ -27,8 +27,8 @@ use Rattle.feed_model.specs.Content.{Content, Record, names}
 use Rattle.feed_model.specs.Change.{comes_before, insert_record}
 use Rattle.feed_keep.specs.declared.record.Record as code
 use Rattle.feed_keep.specs.Shown.{shown}
-use Rattle.feed_store_model.specs.Layout.{feed_schema, reason}
-use Rattle.feed_store_model.specs.Tables.{IsListed, IsOurs, IsReleaseRow, earlier_content_of, name_in, record_in, sorted, text_in}
+use Rattle.feed_store_model.specs.Layout.{layout_2_schema, reason}
+use Rattle.feed_store_model.specs.Tables.{HoldsRecords, IsLayout2, IsReleaseRow, content_without_reasons, name_in, record_in, sorted, text_in}
 use Rattle.feed_store_model.proofs.AddedRelease.{owned_reason}
 use Rattle.feed_store_model.proofs.Contents.{release_text, release_texted, texted_reasons}
 use Rattle.feed_store_model.proofs.Gone.{IsTexted, equal_texts}
@@ -47,43 +47,43 @@ pub reasons_read : IfOk (first reasons_text) IsRead
 unfolding everything
 reasons_read = λ schema base. refl
 
-reasons_plain : IsPlain (understood feed_schema reasons_text)
+reasons_plain : IsPlain (understood layout_2_schema reasons_text)
 unfolding understood everything
 reasons_plain = (refl, refl)
 
 abbrev pub reason_heads : List (List ℕ)
 reason_heads = codes "rowid" ∷ codes "name" ∷ codes "reason" ∷ codes "label" ∷ []
 
-pub reasons_select : (command_of (understood feed_schema reasons_text) ≡ Select (record { lets = []; body = table_query 5 [] piece_terms by_name }) reason_heads)
-    × (reads_listing feed_schema reasons_text ≡ false)
+pub reasons_select : (command_of (understood layout_2_schema reasons_text) ≡ Select (record { lets = []; body = table_query 5 [] piece_terms by_name }) reason_heads)
+    × (reads_listing layout_2_schema reasons_text ≡ false)
 unfolding understood everything
 reasons_select = (refl, refl)
 
-pub reasons_shown : (old new : State) (rows : List Row) → IsOurs old.now → Shown reasons_text [] old new rows → IsPermutation (old.now.trees 5) rows
+pub reasons_shown : (old new : State) (rows : List Row) → IsLayout2 old.now → Shown reasons_text [] old new rows → IsPermutation (old.now.trees 5) rows
 reasons_shown old new rows ours h =
-    let got = reads_as reasons_text [] old new feed_schema ours.schema _ reasons_select.0 reasons_plain reasons_select.1 rows h in
+    let got = reads_as reasons_text [] old new layout_2_schema ours.schema _ reasons_select.0 reasons_plain reasons_select.1 rows h in
     let a : IsAnswer (table_query 5 [] piece_terms by_name) (overlay old.now.trees []) [] rows = got.answer Null in
     let moved = answered 5 [] piece_terms by_name [] old.now.trees rows refl a in
     let show : Row → Row = λ r. eval_all piece_terms ([] ∷ r ∷ []) in
     subst (λ l. IsPermutation l rows) (ap (map show) (all_kept (old.now.trees 5)) ∙ all_same show 4 four (old.now.trees 5) (reason_widths old.now ours)) moved
 
-pub are_reasons : (old mid new : State) (rows : List Row) (ids : List ℤ) (start now : Content) → IsOurs old.now → IsUnchanged old mid → Shown reasons_text [] mid new rows
+pub are_reasons : (old mid new : State) (rows : List Row) (ids : List ℤ) (start now : Content) → IsLayout2 old.now → IsUnchanged old mid → Shown reasons_text [] mid new rows
     → ShowReasons rows ids start now → AreReasonsOf old.now ids start now
 are_reasons old mid new rows ids start now ours same h show =
     let is : mid.now ≡ old.now = same.0.now_is in
-    let mine : IsOurs mid.now = subst IsOurs (sym is) ours in record {
+    let mine : IsLayout2 mid.now = subst IsLayout2 (sym is) ours in record {
       rows = rows;
       moved = subst (λ (db : Database). IsPermutation (db.trees 5) rows) is (reasons_shown mid new rows mine h);
       show = show;
     }
 
 -- each row that is given is one of the table
-pub given_reason : {S : Type 0} (g : store.Ghosts S) (old now : Held S) (rows : List Row) (row : Row) → IsOurs (state g old).now → IsUnchanged (state g old) (state g now)
+pub given_reason : {S : Type 0} (g : store.Ghosts S) (old now : Held S) (rows : List Row) (row : Row) → IsLayout2 (state g old).now → IsUnchanged (state g old) (state g now)
     → HasGiven g reasons_text [] now (rows ++ row ∷ []) → Has ((state g old).now.trees 5) row
 given_reason g old now rows row ours same given =
     let is : (state g now).now ≡ (state g old).now = same.0.now_is in
-    let mine : IsOurs (state g now).now = subst IsOurs (sym is) ours in
-    let whole = whole_given g reasons_text now (rows ++ row ∷ []) _ _ feed_schema mine.schema refl reasons_select.0 same.0.is_open given in
+    let mine : IsLayout2 (state g now).now = subst IsLayout2 (sym is) ours in
+    let whole = whole_given g reasons_text now (rows ++ row ∷ []) _ _ layout_2_schema mine.schema refl reasons_select.0 same.0.is_open given in
     let all = (rows ++ row ∷ []) ++ whole.0 in
     let moved = reasons_shown (state g now) (state g now) all mine whole.1 in
     subst (λ (db : Database). Has (db.trees 5) row) is (has_moved all ((state g now).now.trees 5) row moved (has_middle rows row whole.0))
@@ -112,17 +112,17 @@ all_unmapped Q pieces [] all = tt
 all_unmapped Q pieces (r ∷ rows) all = (all.0, all_unmapped Q pieces rows all.1)
 
 -- no reason is of a name that no record has
-pub no_lone_reason : (db : Database) (rs : List code.Record) (row : Row) → IsOurs db → IsListed db → names (shown rs) ≡ names (earlier_content_of db)
+pub no_lone_reason : (db : Database) (rs : List code.Record) (row : Row) → IsLayout2 db → HoldsRecords db → names (shown rs) ≡ names (content_without_reasons db)
     → Has (db.trees 5) row → ¬ (All (λ r. text_of r.name ≢ text_in row) rs)
 no_lone_reason db rs row ours are same here none =
     let text = text_in row in
     let away : Name → Type 0 = λ n. text_of n ≢ text in
-    let is : IsDatabase (record { schema = feed_schema; trees = db.trees }) = subst (λ s. IsDatabase (record { schema = s; trees = db.trees })) ours.schema ours.obeyed in
+    let is : IsDatabase (record { schema = layout_2_schema; trees = db.trees }) = subst (λ s. IsDatabase (record { schema = s; trees = db.trees })) ours.schema ours.obeyed in
     let texted : IsTexted row = all_has IsTexted (db.trees 5) row (texted_reasons _ are.reasons).texted here in
-    let rule = all_has (λ r. passes ForeignKey feed_schema db.trees reason r ≡ true) (db.trees 5) row (is.obeys.rules ForeignKey).1.1.1.0 here in
+    let rule = all_has (λ r. passes ForeignKey layout_2_schema db.trees reason r ≡ true) (db.trees 5) row (is.obeys.rules ForeignKey).1.1.1.0 here in
     let parent = some_has (λ p. agree plain (1 ∷ []) p (1 ∷ []) row) (db.trees 1) (owned_reason db.trees row texted rule) in
     let release = all_has IsReleaseRow (db.trees 1) parent.0 are.rows.are_releases parent.1 in
     let named : text_in parent.0 ≡ text = (bytes_decides (text_in parent.0) text).0 (sym (equal_texts parent.0 row (release_texted parent.0 release) texted) ∙ parent.2) in
     let all : AllByRecursion (λ row. text_of (name_in row) ≢ text) (db.trees 1) = all_unmapped away (db.trees 3) (db.trees 1)
-    (all_unsorted (λ r. text_of r.name ≢ text) _ (all_unnamed away (earlier_content_of db) (subst (AllByRecursion away) same (none_named text rs none)))) in
+    (all_unsorted (λ r. text_of r.name ≢ text) _ (all_unnamed away (content_without_reasons db) (subst (AllByRecursion away) same (none_named text rs none)))) in
     all_has (λ row. text_of (name_in row) ≢ text) (db.trees 1) parent.0 all parent.1 (sym (release_text parent.0 release) ∙ named)

@@ -8,7 +8,7 @@ use Rattle.sqlite.specs.Effect.{Database}
 use Rattle.sqlite.specs.Given.{HasGiven}
 use Rattle.sqlite.specs.Held.{Held, state}
 use Rattle.sqlite.specs.State.{State, IsUnchanged, Shown}
-use Rattle.feed_store_model.specs.Tables.{HasTables, IsEarlierListed, IsPieceRow, IsReleaseRow}
+use Rattle.feed_store_model.specs.Tables.{HasTables, HoldsReleases, IsPieceRow, IsReleaseRow}
 use Rattle.feed_store_model.specs.Layout.{schema_with}
 use Rattle.feed_store_read.specs.declared.releases.Releases.{Releases}
 use Rattle.sqlite_rules.specs.Lists.{Has}
@@ -46,11 +46,11 @@ all_middle P (z ∷ xs) x ys all = all_middle P xs x ys all.1
 
 -- each row that is given is one of the table
 pub given_listed : {S : Type 0} (g : store.Ghosts S) (old now : Held S) (rows : List Row) (row : Row) → HasTables (state g old).now → IsUnchanged (state g old) (state g now)
-    → HasGiven g releases_text [] now (rows ++ row ∷ []) → IsEarlierListed (state g old).now → IsReleaseRow row
+    → HasGiven g releases_text [] now (rows ++ row ∷ []) → HoldsReleases (state g old).now → IsReleaseRow row
 given_listed g old now rows row ours same given are =
     let is : (state g now).now ≡ (state g old).now = same.0.now_is in
     let mine : HasTables (state g now).now = subst HasTables (sym is) ours in
-    let listed : IsEarlierListed (state g now).now = subst IsEarlierListed (sym is) are in
+    let listed : HoldsReleases (state g now).now = subst HoldsReleases (sym is) are in
     let whole = whole_given g releases_text now (rows ++ row ∷ []) _ _ (schema_with mine.more mine.keys) mine.schema refl (releases_select mine.more mine.keys).0 same.0.is_open given in
     let moved = releases_shown (state g now) (state g now) ((rows ++ row ∷ []) ++ whole.0) mine whole.1 in
     all_middle IsReleaseRow rows row whole.0 (all-permutation IsReleaseRow _ _ moved listed.are_releases)

@@ -25,7 +25,7 @@ use Rattle.sqlite.proofs.Callers.{EndsIn, begins_shown, command_of, given_begin,
 use Rattle.sqlite.specs.Schema.{Schema}
 use Rattle.feed_store_model.specs.Live.{IsLive}
 use Rattle.feed_store_model.proofs.ReadOnly.{IsRead, ShowsNone, read_shows_none}
-use Rattle.feed_store_read.specs.Releases.{Leaves}
+use Rattle.feed_store_read.specs.Releases.{WritesNothing}
 
 -- rows of a query were given, of which this is known, and nothing was changed
 pub record HasRead {S : Type 0} (g : store.Ghosts S) (sql : List ℕ) (Known : List Row → Type 0) (old now : Held S) : Type 0 where
@@ -81,7 +81,7 @@ whole_given g sql now rows p names schema has none is open_now given =
 
 -- a query that does not begin leaves the database alone
 pub refused_leaves : {S X : Type 0} (g : store.Ghosts S) (sql : List ℕ) (old new : Held S) (r : Result X Error) (e : Error) → r ≡ Err e → OnErr r (IsRefused g sql [] old r new)
-    → Leaves (state g old) (state g new)
+    → WritesNothing (state g old) (state g new)
 refused_leaves {X = X} g sql old new r e is held =
     let it : IsRefused g sql [] old r new = subst (λ x. OnErr x (IsRefused g sql [] old r new)) is held in
     let left : HasCleanDisk (state g new) → LeavesAlone (state g old) (state g new) =
@@ -156,8 +156,8 @@ lent_back end dropped three two one = sym (end.1 (sym (three ∙ two ∙ one)) �
 pub idle_at : {S : Type 0} {left end : Held S} → left ≡ end → left.in_transaction ≡ false → end.in_transaction ≡ false
 idle_at is idle = ap (λ h. h.in_transaction) (sym is) ∙ idle
 
-pub leaves_at : {S : Type 0} (g : store.Ghosts S) (old : Held S) {left end : Held S} → left ≡ end → Leaves (state g old) (state g left) → Leaves (state g old) (state g end)
-leaves_at g old is leaves = subst (λ h. Leaves (state g old) (state g h)) is leaves
+pub leaves_at : {S : Type 0} (g : store.Ghosts S) (old : Held S) {left end : Held S} → left ≡ end → WritesNothing (state g old) (state g left) → WritesNothing (state g old) (state g end)
+leaves_at g old is leaves = subst (λ h. WritesNothing (state g old) (state g h)) is leaves
 
 pub clean_at : {S : Type 0} (g : store.Ghosts S) {left end : Held S} → left ≡ end → HasCleanDisk (state g end) → HasCleanDisk (state g left)
 clean_at g is clean = subst (λ h. HasCleanDisk (state g h)) (sym is) clean
@@ -184,7 +184,7 @@ module _ {S : Type 0} {g : store.Ghosts S} {sql : List ℕ} {Known : List Row �
   kept clean (inl same) = inl (unchanged_then (state g old) (state g a.conn.now) (state g b.conn.now) (way.read clean).same same)
   kept clean (inr undone) = inr (then_undone (state g old) (state g a.conn.now) (state g b.conn.now) (way.read clean).same undone)
 
-  pub next_leaves : Leaves (state g old) (state g b.conn.now)
+  pub next_leaves : WritesNothing (state g old) (state g b.conn.now)
   next_leaves = record {
     live = next_live;
     kept = λ live. kept (before live.0) (left live.0);
@@ -225,5 +225,5 @@ module _ {S : Type 0} {g : store.Ghosts S} {sql : List ℕ} {Known : List Row �
       }
 
 -- the query is left as it is
-pub way_leaves : {S : Type 0} {g : store.Ghosts S} {sql : List ℕ} {Known : List Row → Type 0} {old now : Held S} → IsUnderWay g sql Known old now → Leaves (state g old) (state g now)
+pub way_leaves : {S : Type 0} {g : store.Ghosts S} {sql : List ℕ} {Known : List Row → Type 0} {old now : Held S} → IsUnderWay g sql Known old now → WritesNothing (state g old) (state g now)
 way_leaves way = record { live = way.live; kept = λ live. inl (way.read live.0).same; limit = way.limit }

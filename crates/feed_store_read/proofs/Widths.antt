@@ -12,8 +12,8 @@ use Rattle.sqlite_sql.specs.Ops.{is_null}
 use Rattle.sqlite_rules.proofs.ListLemmas.{all_has, all_from}
 use Rattle.sqlite.specs.Effect.{Database, IsDatabase}
 use Rattle.sqlite.specs.Schema.{Schema}
-use Rattle.feed_store_model.specs.Layout.{schema_with, feed_schema, release, piece, reason}
-use Rattle.feed_store_model.specs.Tables.{HasTables, IsOurs}
+use Rattle.feed_store_model.specs.Layout.{schema_with, layout_2_schema, release, piece, reason}
+use Rattle.feed_store_model.specs.Tables.{HasTables, IsLayout2}
 
 first_of : (a b : Bool) → (a && b) ≡ true → a ≡ true
 first_of true b h = refl
@@ -89,16 +89,16 @@ piece_widths db has =
     (all_has (λ row. passes Datatype s db.trees piece row ≡ true) (db.trees 3) r typed h)
     (all_has (λ row. passes NotNull s db.trees piece row ≡ true) (db.trees 3) r full h))
 
-reason_width : (db : Trees) (row : Row) → passes Datatype feed_schema db reason row ≡ true → passes NotNull feed_schema db reason row ≡ true → length row ≡ 4
+reason_width : (db : Trees) (row : Row) → passes Datatype layout_2_schema db reason row ≡ true → passes NotNull layout_2_schema db reason row ≡ true → length row ≡ 4
 reason_width db row typed full =
     width reason row refl (λ e. omega (arith, ap length e)) (refl, (refl, (refl, tt))) (first_of (are_typed reason.key 0 reason.columns (drop 1 row)) (has_computed reason row) typed) full
 
 -- a row's number, and its three columns
-pub reason_widths : (db : Database) → IsOurs db → AllByRecursion (λ row. length row ≡ 4) (db.trees 5)
+pub reason_widths : (db : Database) → IsLayout2 db → AllByRecursion (λ row. length row ≡ 4) (db.trees 5)
 reason_widths db ours =
-    let is : IsDatabase (record { schema = feed_schema; trees = db.trees }) = subst (λ s. IsDatabase (record { schema = s; trees = db.trees })) ours.schema ours.obeyed in
+    let is : IsDatabase (record { schema = layout_2_schema; trees = db.trees }) = subst (λ s. IsDatabase (record { schema = s; trees = db.trees })) ours.schema ours.obeyed in
     let typed = (is.obeys.rules Datatype).1.1.1.0 in
     let full = (is.obeys.rules NotNull).1.1.1.0 in
     all_from _ (db.trees 5) (λ r h. reason_width db.trees r
-    (all_has (λ row. passes Datatype feed_schema db.trees reason row ≡ true) (db.trees 5) r typed h)
-    (all_has (λ row. passes NotNull feed_schema db.trees reason row ≡ true) (db.trees 5) r full h))
+    (all_has (λ row. passes Datatype layout_2_schema db.trees reason row ≡ true) (db.trees 5) r typed h)
+    (all_has (λ row. passes NotNull layout_2_schema db.trees reason row ≡ true) (db.trees 5) r full h))

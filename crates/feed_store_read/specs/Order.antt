@@ -7,9 +7,9 @@ use Rattle.feed_names.specs.ReleaseName.{Name, text_of}
 use Rattle.feed_model.specs.Content.{Part}
 
 -- the text of each name comes before those of the names behind it
-abbrev pub AreNamesUp : List Name → Type 0
-AreNamesUp = IsStrictlySortedBy (on text_of (slice_cmp nat_cmp))
+abbrev pub AreNamesAscending : List Name → Type 0
+AreNamesAscending = IsStrictlySortedBy (on text_of (slice_cmp nat_cmp))
 
 -- each part begins before those behind it
-abbrev pub ArePartsUp : List Part → Type 0
-ArePartsUp = IsStrictlySortedBy (on (λ p. p.first) nat_cmp)
+abbrev pub ArePartsAscending : List Part → Type 0
+ArePartsAscending = IsStrictlySortedBy (on (λ p. p.first) nat_cmp)

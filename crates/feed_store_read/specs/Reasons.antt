@@ -9,29 +9,29 @@ use Rattle.sqlite.specs.Effect.{Database}
 use Rattle.feed_kbart.specs.declared.fault.BadFile.{BadFile}
 use Rattle.feed_names.specs.ReleaseName.{text_of}
 use Rattle.feed_model.specs.Content.{Content, Record}
-use Rattle.feed_store_model.specs.Tables.{IsReasonRow, reason_in, said_in, text_in}
+use Rattle.feed_store_model.specs.Tables.{IsReasonRow, reason_in, reason_in_row, text_in}
 use Rattle.feed_store_read.specs.Pieces.{if_named}
 
 -- the row is this reason of a text, which it has under this number
-pub record IsSaidBy (row : Row) (id : ℤ) (text : List ℕ) (why : BadFile) : Type 0 where
+pub record IsReasonIn (row : Row) (id : ℤ) (text : List ℕ) (why : BadFile) : Type 0 where
   pub is : IsReasonRow row
   pub number : rowid row ≡ Int id
   pub named : text_in row ≡ text
-  pub says : said_in row ≡ Some why
+  pub says : reason_in_row row ≡ Some why
 
 -- the record with this reason, if it has this name and no reason yet
-abbrev pub reasoned : List ℕ → BadFile → Record → Record
-reasoned text why r = if_named text (λ r. record r { reason = option_or r.reason (Some why) }) r
+abbrev pub with_first_reason : List ℕ → BadFile → Record → Record
+with_first_reason text why r = if_named text (λ r. record r { reason = option_or r.reason (Some why) }) r
 
 -- the record with the reason that these rows say of its name, if it has none yet
-abbrev pub with_said : List Row → Record → Record
-with_said rows r = record r { reason = option_or r.reason (reason_in rows (text_of r.name)) }
+abbrev pub with_row_reason : List Row → Record → Record
+with_row_reason rows r = record r { reason = option_or r.reason (reason_in rows (text_of r.name)) }
 
 -- the rows are reasons of these numbers, and explain the records
 pub record ShowReasons (rows : List Row) (ids : List ℤ) (old new : Content) : Type 0 where
   pub proper : AllByRecursion IsReasonRow rows
   pub numbers : map rowid rows ≡ map Int ids
-  pub shows : new ≡ map (with_said rows) old
+  pub shows : new ≡ map (with_row_reason rows) old
 
 -- the rows of the table are reasons of these numbers, and explain the records
 pub record AreReasonsOf (db : Database) (ids : List ℤ) (old new : Content) : Type 0 where

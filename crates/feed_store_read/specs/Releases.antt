@@ -15,7 +15,7 @@ use Rattle.feed_store_model.specs.Tables.{IsReleaseRow, record_in, text_in}
 use Rattle.feed_store_read.specs.declared.releases.Releases.{Releases}
 
 -- a call writes nothing; where it fails, what was not committed may be undone
-pub record Leaves (old new : State) : Type 0 where
+pub record WritesNothing (old new : State) : Type 0 where
   pub live : IsLive new → IsLive old
   pub kept : IsLive new → IsUnchanged old new ⊎ IsRolledBack old new
   pub limit : new.step_limit ≡ old.step_limit

@@ -4,7 +4,7 @@ use Rattle.std.specs.declared.alloc.Global.{Global}
 use Rattle.sqlite.specs.Effect.{Database}
 use Rattle.feed_keep.specs.declared.record.Record.{Record}
 use Rattle.feed_keep.specs.Shown.{shown}
-use Rattle.feed_store_model.specs.Tables.{IsEarlierListed, IsListed, content_of, earlier_content_of}
+use Rattle.feed_store_model.specs.Tables.{HoldsReleases, HoldsRecords, stored_content, content_without_reasons}
 use Rattle.feed_store_read.specs.declared.releases.Releases.{Releases}
 use Rattle.feed_store_read.specs.Pieces.{ArePieces}
 use Rattle.feed_store_read.specs.Releases.{AreReleases}
@@ -17,11 +17,11 @@ pub record AreSelected (db : Database) (found : Releases) (ids : List ℤ) : Typ
   pub pieces : ArePieces db ids (shown start.records.items) (shown found.records.items)
 
 -- the tables hold a list of records, and these are they, without reasons
-pub record Holds (db : Database) (records : Vec Record Global) : Type 0 where
-  pub listed : IsEarlierListed db
-  pub content : shown records.items ≡ earlier_content_of db
+pub record AreRecordsWithoutReasons (db : Database) (records : Vec Record Global) : Type 0 where
+  pub listed : HoldsReleases db
+  pub content : shown records.items ≡ content_without_reasons db
 
 -- the tables of layout 2 hold a list of records, and these are they
-pub record Explains (db : Database) (records : Vec Record Global) : Type 0 where
-  pub listed : IsListed db
-  pub content : shown records.items ≡ content_of db
+pub record AreRecordsOf (db : Database) (records : Vec Record Global) : Type 0 where
+  pub listed : HoldsRecords db
+  pub content : shown records.items ≡ stored_content db

@@ -6,14 +6,14 @@ ghost use Rattle.feed_model.specs.Change.{comes_before};
 ghost use Rattle.feed_model.specs.Content.{names};
 ghost use Rattle.feed_parts.specs.Shown.{shown_parts};
 ghost use Rattle.feed_keep.specs.Shown.{shown};
-ghost use Rattle.feed_store_read.specs.Order.{AreNamesUp, ArePartsUp};
+ghost use Rattle.feed_store_read.specs.Order.{AreNamesAscending, ArePartsAscending};
 
 use feed_keep::{Record, is_listed_before};
 use feed_parts::Part;
 
 /// Whether each name comes before those behind it.
-pub fn names_ascend(records: &[Record]) -> bool
-    ensures { IsTrue result ↔ AreNamesUp (names (shown records.now)) }
+pub fn are_names_ascending(records: &[Record]) -> bool
+    ensures { IsTrue result ↔ AreNamesAscending (names (shown records.now)) }
 {
     records.is_sorted_by(
         |one: &Record, other: &Record| -> bool
@@ -23,19 +23,19 @@ pub fn names_ascend(records: &[Record]) -> bool
 }
 
 /// Whether each part of a record begins before those behind it.
-pub fn places_ascend(records: &[Record]) -> bool
-    ensures { IsTrue result ↔ All (λ r. ArePartsUp (shown_parts r.parts.items)) records.now }
+pub fn are_places_ascending(records: &[Record]) -> bool
+    ensures { IsTrue result ↔ All (λ r. ArePartsAscending (shown_parts r.parts.items)) records.now }
 {
     for record in records {
-        if !parts_ascend(&record.parts) {
+        if !are_parts_ascending(&record.parts) {
             return false;
         }
     }
     true
 }
 
-fn parts_ascend(parts: &[Part]) -> bool
-    ensures { IsTrue result ↔ ArePartsUp (shown_parts parts.now) }
+fn are_parts_ascending(parts: &[Part]) -> bool
+    ensures { IsTrue result ↔ ArePartsAscending (shown_parts parts.now) }
 {
     parts.is_sorted_by(
         |one: &Part, other: &Part| -> bool
@@ -45,7 +45,7 @@ fn parts_ascend(parts: &[Part]) -> bool
 }
 
 /// Whether no number stands twice. It puts them in order.
-pub fn are_apart(ids: &mut [i64]) -> bool
+pub fn sort_distinct(ids: &mut [i64]) -> bool
     ensures { IsTrue result ↔ IsDistinct int_eq ids.old }
 {
     ids.sort_unstable();

@@ -3,7 +3,7 @@
 
 mod checks;
 mod columns;
-mod giving;
+mod records;
 mod piece_row;
 mod pieces;
 mod reading;
@@ -12,4 +12,4 @@ mod reasons;
 mod release_row;
 mod releases;
 
-pub use reading::{read_records, read_unexplained};
+pub use reading::{read_records, read_without_reasons};

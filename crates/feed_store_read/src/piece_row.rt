@@ -15,7 +15,7 @@ pub struct Piece<'a> {
 }
 
 /// The part of a row; nothing where the row is none that this product writes.
-pub fn piece_in(row: &Row) -> Option<Piece<'_>>
+pub fn piece_in_row(row: &Row) -> Option<Piece<'_>>
     ensures { MatchOption result (¬ (IsPieceRow row.now)) (λ p. row.now ≡ piece_row p.id p.text.now
         (record { first = p.first; bytes = p.bytes.now })) }
 {

@@ -8,13 +8,13 @@ ghost use Rattle.feed_names.specs.ReleaseName.{text_of};
 ghost use Rattle.feed_model.specs.Content.{Content, names};
 ghost use Rattle.feed_keep.specs.Shown.{shown};
 ghost use Rattle.feed_store_model.specs.Live.{IsLive};
-ghost use Rattle.feed_store_model.specs.Tables.{IsEarlierListed, IsTabled, IsPieceRow, text_in};
-ghost use Rattle.feed_store_read.specs.Order.{AreNamesUp};
+ghost use Rattle.feed_store_model.specs.Tables.{HoldsReleases, IsTabled, IsPieceRow, text_in};
+ghost use Rattle.feed_store_read.specs.Order.{AreNamesAscending};
 ghost use Rattle.feed_store_read.specs.Pieces.{ArePieces, ShowPieces};
-ghost use Rattle.feed_store_read.specs.Releases.{AreReleases, Leaves};
+ghost use Rattle.feed_store_read.specs.Releases.{AreReleases, WritesNothing};
 
-use crate::giving::give;
-use crate::piece_row::piece_in;
+use crate::records::add_part;
+use crate::piece_row::piece_in_row;
 use crate::releases::Releases;
 use feed_keep::Record;
 use sqlite::{Alter, Connection, Error, ErrorCode, Row};
@@ -27,15 +27,15 @@ pub fn select_pieces<S: Alter>(
     conn: &mut Connection<S>,
     found: &mut Releases,
 ) -> Result<Option<Vec<i64>>, Error>
-    requires up { AreNamesUp (names (shown found.old.records.items)) }
+    requires up { AreNamesAscending (names (shown found.old.records.items)) }
     ensures names { names (shown found.new.records.items) ≡ names (shown found.old.records.items) }
     ensures ids { found.new.ids ≡ found.old.ids }
     ensures idle { conn.old.in_transaction ≡ false → conn.new.in_transaction ≡ false }
-    ensures leaves { Leaves (state S.Store conn.old) (state S.Store conn.new) }
+    ensures leaves { WritesNothing (state S.Store conn.old) (state S.Store conn.new) }
     ensures read { IsLive (state S.Store conn.new) → IsTabled (state S.Store conn.old).now → IfOk result
         (λ read. IsUnchanged (state S.Store conn.old) (state S.Store conn.new)
         × MatchOption read (AreReleases (state S.Store conn.old).now found.old
-        → ¬ (IsEarlierListed (state S.Store conn.old).now))
+        → ¬ (HoldsReleases (state S.Store conn.old).now))
         (λ ids. ArePieces (state S.Store conn.old).now ids.items
         (shown found.old.records.items) (shown found.new.records.items))) }
 {
@@ -62,16 +62,16 @@ fn take_piece(
     records: &mut Vec<Record>,
     row: &Row,
 ) -> Result<bool, Error>
-    requires up { AreNamesUp (names (shown records.old.items)) }
+    requires up { AreNamesAscending (names (shown records.old.items)) }
     ensures names { names (shown records.new.items) ≡ names (shown records.old.items) }
     ensures taken { IfOk result (λ taken. MatchBool taken ((rows : List Values) (start : Content)
         → ShowPieces rows ids.old.items start (shown records.old.items)
         → ShowPieces (rows ++ row.now ∷ []) ids.new.items start (shown records.new.items))
         (IsPieceRow row.now → All (λ r. text_of r.name ≢ text_in row.now) records.old.items)) }
 {
-    let Some(piece) = piece_in(row) else {
+    let Some(piece) = piece_in_row(row) else {
         return Ok(false);
     };
     ids.push(piece.id)?;
-    Ok(give(alloc, records, piece.text, piece.first, piece.bytes)?)
+    Ok(add_part(alloc, records, piece.text, piece.first, piece.bytes)?)
 }

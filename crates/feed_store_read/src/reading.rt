@@ -8,13 +8,13 @@ ghost use Rattle.feed_model.specs.Content.{names};
 ghost use Rattle.feed_keep.specs.Order.{IsInOrder};
 ghost use Rattle.feed_keep.specs.Shown.{shown};
 ghost use Rattle.feed_store_model.specs.Live.{IsLive};
-ghost use Rattle.feed_store_model.specs.Tables.{IsEarlierListed, IsListed, IsOurs, IsTabled};
-ghost use Rattle.feed_store_model.specs.Tables.{content_of, earlier_content_of};
-ghost use Rattle.feed_store_read.specs.Order.{AreNamesUp};
-ghost use Rattle.feed_store_read.specs.Releases.{Leaves};
-ghost use Rattle.feed_store_read.specs.Selected.{AreSelected, Explains, Holds};
+ghost use Rattle.feed_store_model.specs.Tables.{HoldsReleases, HoldsRecords, IsLayout2, IsTabled};
+ghost use Rattle.feed_store_model.specs.Tables.{stored_content, content_without_reasons};
+ghost use Rattle.feed_store_read.specs.Order.{AreNamesAscending};
+ghost use Rattle.feed_store_read.specs.Releases.{WritesNothing};
+ghost use Rattle.feed_store_read.specs.Selected.{AreSelected, AreRecordsOf, AreRecordsWithoutReasons};
 
-use crate::checks::{are_apart, names_ascend, places_ascend};
+use crate::checks::{sort_distinct, are_names_ascending, are_places_ascending};
 use crate::pieces::select_pieces;
 use crate::reasons::select_reasons;
 use crate::releases::{Releases, select_releases};
@@ -25,7 +25,7 @@ use std::alloc::Global;
 /// All records of a database of either layout, without reasons, ordered by the texts of their names, each with its
 /// parts ordered by their first places. Nothing where the tables hold no list of records. It writes nothing, and
 /// refuses inside a transaction. The parts are held once.
-pub fn read_unexplained<S: Alter>(
+pub fn read_without_reasons<S: Alter>(
     alloc: Global,
     conn: &mut Connection<S>,
 ) -> Result<Option<Vec<Record>>, Error>
@@ -34,21 +34,21 @@ pub fn read_unexplained<S: Alter>(
     ensures live { IsLive (state S.Store conn.new) → IsLive (state S.Store conn.old) }
     ensures same { IsLive (state S.Store conn.new) → (state S.Store conn.new).now ≡ (state S.Store conn.old).now }
     ensures limit { conn.new.step_limit ≡ conn.old.step_limit }
-    ensures up { IfOk result (λ found. IfSome found (λ records. AreNamesUp (names (shown records.items)))) }
+    ensures up { IfOk result (λ found. IfSome found (λ records. AreNamesAscending (names (shown records.items)))) }
     ensures distinct { IfOk result (λ found. IfSome found
         (λ records. IsDistinct name_eq (names (shown records.items)))) }
     ensures order { IfOk result (λ found. IfSome found (λ records. IsInOrder (shown records.items))) }
     ensures records { IsLive (state S.Store conn.new) → IsTabled (state S.Store conn.old).now → IfOk result
-        (λ found. IfSome found (λ records. shown records.items ≡ earlier_content_of (state S.Store conn.old).now)) }
+        (λ found. IfSome found (λ records. shown records.items ≡ content_without_reasons (state S.Store conn.old).now)) }
     ensures listed { IsLive (state S.Store conn.new) → IsTabled (state S.Store conn.old).now → IfOk result
-        (λ found. MatchOption found (¬ (IsEarlierListed (state S.Store conn.old).now))
-        (λ records. IsEarlierListed (state S.Store conn.old).now)) }
+        (λ found. MatchOption found (¬ (HoldsReleases (state S.Store conn.old).now))
+        (λ records. HoldsReleases (state S.Store conn.old).now)) }
 {
     if !conn.is_autocommit() {
         return Err(Error::SqliteFailure(ErrorCode::TransactionState));
     }
     match select_all(alloc, conn)? {
-        Some((found, ids)) => Ok(judged(found, ids)),
+        Some((found, ids)) => Ok(check_records(found, ids)),
         None => Ok(None),
     }
 }
@@ -67,26 +67,26 @@ pub fn read_records<S: Alter>(
     ensures distinct { IfOk result (λ found. IfSome found
         (λ records. IsDistinct name_eq (names (shown records.items)))) }
     ensures order { IfOk result (λ found. IfSome found (λ records. IsInOrder (shown records.items))) }
-    ensures records { IsLive (state S.Store conn.new) → IsOurs (state S.Store conn.old).now → IfOk result
-        (λ found. IfSome found (λ records. shown records.items ≡ content_of (state S.Store conn.old).now)) }
-    ensures listed { IsLive (state S.Store conn.new) → IsOurs (state S.Store conn.old).now → IfOk result
-        (λ found. MatchOption found (¬ (IsListed (state S.Store conn.old).now))
-        (λ records. IsListed (state S.Store conn.old).now)) }
+    ensures records { IsLive (state S.Store conn.new) → IsLayout2 (state S.Store conn.old).now → IfOk result
+        (λ found. IfSome found (λ records. shown records.items ≡ stored_content (state S.Store conn.old).now)) }
+    ensures listed { IsLive (state S.Store conn.new) → IsLayout2 (state S.Store conn.old).now → IfOk result
+        (λ found. MatchOption found (¬ (HoldsRecords (state S.Store conn.old).now))
+        (λ records. HoldsRecords (state S.Store conn.old).now)) }
 {
-    match read_unexplained(alloc, conn)? {
-        Some(records) => explained(alloc, conn, records),
+    match read_without_reasons(alloc, conn)? {
+        Some(records) => read_reasons(alloc, conn, records),
         None => Ok(None),
     }
 }
 
 // The records with their reasons.
-fn explained<S: Alter>(
+fn read_reasons<S: Alter>(
     alloc: Global,
     conn: &mut Connection<S>,
     records: Vec<Record>,
 ) -> Result<Option<Vec<Record>>, Error>
     requires idle { conn.old.in_transaction ≡ false }
-    requires up { AreNamesUp (names (shown records.items)) }
+    requires up { AreNamesAscending (names (shown records.items)) }
     ensures idle { conn.new.in_transaction ≡ false }
     ensures live { IsLive (state S.Store conn.new) → IsLive (state S.Store conn.old) }
     ensures same { IsLive (state S.Store conn.new) → (state S.Store conn.new).now ≡ (state S.Store conn.old).now }
@@ -95,11 +95,11 @@ fn explained<S: Alter>(
         (λ told. names (shown told.items) ≡ names (shown records.items))) }
     ensures parts { IfOk result (λ found. IfSome found
         (λ told. map (λ r. r.parts) (shown told.items) ≡ map (λ r. r.parts) (shown records.items))) }
-    ensures told { IsLive (state S.Store conn.new) → IsOurs (state S.Store conn.old).now
-        → IsEarlierListed (state S.Store conn.old).now
-        → shown records.items ≡ earlier_content_of (state S.Store conn.old).now
-        → IfOk result (λ found. MatchOption found (¬ (IsListed (state S.Store conn.old).now))
-        (Explains (state S.Store conn.old).now)) }
+    ensures told { IsLive (state S.Store conn.new) → IsLayout2 (state S.Store conn.old).now
+        → HoldsReleases (state S.Store conn.old).now
+        → shown records.items ≡ content_without_reasons (state S.Store conn.old).now
+        → IfOk result (λ found. MatchOption found (¬ (HoldsRecords (state S.Store conn.old).now))
+        (AreRecordsOf (state S.Store conn.old).now)) }
 {
     if !conn.is_autocommit() {
         return Err(Error::SqliteFailure(ErrorCode::TransactionState));
@@ -108,7 +108,7 @@ fn explained<S: Alter>(
     let Some(mut ids) = select_reasons(alloc, conn, &mut records)? else {
         return Ok(None);
     };
-    if are_apart(&mut ids) {
+    if sort_distinct(&mut ids) {
         Ok(Some(records))
     } else {
         Ok(None)
@@ -121,16 +121,16 @@ fn select_all<S: Alter>(
     conn: &mut Connection<S>,
 ) -> Result<Option<(Releases, Vec<i64>)>, Error>
     ensures idle { conn.old.in_transaction ≡ false → conn.new.in_transaction ≡ false }
-    ensures leaves { Leaves (state S.Store conn.old) (state S.Store conn.new) }
-    ensures up { IfOk result (λ found. IfSome found (λ it. AreNamesUp (names (shown it.0.records.items)))) }
+    ensures leaves { WritesNothing (state S.Store conn.old) (state S.Store conn.new) }
+    ensures up { IfOk result (λ found. IfSome found (λ it. AreNamesAscending (names (shown it.0.records.items)))) }
     ensures read { IsLive (state S.Store conn.new) → IsTabled (state S.Store conn.old).now → IfOk result
-        (λ found. MatchOption found (¬ (IsEarlierListed (state S.Store conn.old).now))
+        (λ found. MatchOption found (¬ (HoldsReleases (state S.Store conn.old).now))
         (λ it. AreSelected (state S.Store conn.old).now it.0 it.1.items)) }
 {
     let Some(mut found) = select_releases(alloc, conn)? else {
         return Ok(None);
     };
-    if !names_ascend(&found.records) {
+    if !are_names_ascending(&found.records) {
         return Ok(None);
     }
     let Some(ids) = select_pieces(alloc, conn, &mut found)? else {
@@ -140,24 +140,24 @@ fn select_all<S: Alter>(
 }
 
 // The records that were read; nothing where a number stands twice, or a part does not begin behind the one before it.
-fn judged(found: Releases, ids: Vec<i64>) -> Option<Vec<Record>>
-    requires up { AreNamesUp (names (shown found.records.items)) }
-    ensures up { IfSome result (λ records. AreNamesUp (names (shown records.items))) }
+fn check_records(found: Releases, ids: Vec<i64>) -> Option<Vec<Record>>
+    requires up { AreNamesAscending (names (shown found.records.items)) }
+    ensures up { IfSome result (λ records. AreNamesAscending (names (shown records.items))) }
     ensures distinct { IfSome result (λ records. IsDistinct name_eq (names (shown records.items))) }
     ensures order { IfSome result (λ records. IsInOrder (shown records.items)) }
     ensures joined { (db : Database) → IsTabled db → AreSelected db found ids.items
-        → MatchOption result (¬ (IsEarlierListed db)) (Holds db) }
+        → MatchOption result (¬ (HoldsReleases db)) (AreRecordsWithoutReasons db) }
 {
     let mut release_ids = found.ids;
     let mut piece_ids = ids;
-    if !are_apart(&mut release_ids) {
+    if !sort_distinct(&mut release_ids) {
         return None;
     }
-    if !are_apart(&mut piece_ids) {
+    if !sort_distinct(&mut piece_ids) {
         return None;
     }
     let records = found.records;
-    if places_ascend(&records) {
+    if are_places_ascending(&records) {
         Some(records)
     } else {
         None

@@ -2,7 +2,7 @@
 ghost use Rattle.std.specs.Prelude.{◌≡◌, MatchOption};
 ghost use Rattle.feed_kbart.specs.Labels.{label_at};
 ghost use Rattle.feed_store_model.specs.Tables.{IsReasonRow, reason_at};
-ghost use Rattle.feed_store_read.specs.Reasons.{IsSaidBy};
+ghost use Rattle.feed_store_read.specs.Reasons.{IsReasonIn};
 
 use crate::columns::{integer_at, number_at, text_at};
 use feed_kbart::{BadFile, Label};
@@ -10,15 +10,15 @@ use sqlite::Row;
 
 /// The values of a reason's row: its number, the name of its release, and the reason.
 #[derive(Clone, Copy)]
-pub struct Said<'a> {
+pub struct Reason<'a> {
     pub id: i64,
     pub text: &'a [u8],
     pub why: BadFile,
 }
 
 /// The reason of a row; nothing where the row is none that this product writes.
-pub fn said_in(row: &Row) -> Option<Said<'_>>
-    ensures { MatchOption result (¬ (IsReasonRow row.now)) (λ said. IsSaidBy row.now said.id said.text.now said.why) }
+pub fn reason_in_row(row: &Row) -> Option<Reason<'_>>
+    ensures { MatchOption result (¬ (IsReasonRow row.now)) (λ reason. IsReasonIn row.now reason.id reason.text.now reason.why) }
 {
     if row.column_count() != 4 {
         return None;
@@ -28,7 +28,7 @@ pub fn said_in(row: &Row) -> Option<Said<'_>>
     let number = number_at(row, 2)?;
     let place = number_at(row, 3)?;
     let why = reason_of(number, place)?;
-    Some(Said { id, text, why })
+    Some(Reason { id, text, why })
 }
 
 // The reason that a number and the place of a label stand for.

@@ -7,13 +7,13 @@ ghost use Rattle.feed_names.specs.ReleaseName.{text_of};
 ghost use Rattle.feed_model.specs.Content.{Content, names};
 ghost use Rattle.feed_keep.specs.Shown.{shown};
 ghost use Rattle.feed_store_model.specs.Live.{IsLive};
-ghost use Rattle.feed_store_model.specs.Tables.{IsListed, IsOurs, IsReasonRow, earlier_content_of, text_in};
-ghost use Rattle.feed_store_read.specs.Order.{AreNamesUp};
-ghost use Rattle.feed_store_read.specs.Reasons.{AreReasonsOf, ShowReasons, reasoned};
-ghost use Rattle.feed_store_read.specs.Releases.{Leaves};
+ghost use Rattle.feed_store_model.specs.Tables.{HoldsRecords, IsLayout2, IsReasonRow, content_without_reasons, text_in};
+ghost use Rattle.feed_store_read.specs.Order.{AreNamesAscending};
+ghost use Rattle.feed_store_read.specs.Reasons.{AreReasonsOf, ShowReasons, with_first_reason};
+ghost use Rattle.feed_store_read.specs.Releases.{WritesNothing};
 
-use crate::giving::find;
-use crate::reason_row::said_in;
+use crate::records::find_record;
+use crate::reason_row::reason_in_row;
 use feed_kbart::BadFile;
 use feed_keep::Record;
 use sqlite::{Alter, Connection, Error, ErrorCode, Row};
@@ -26,15 +26,15 @@ pub fn select_reasons<S: Alter>(
     conn: &mut Connection<S>,
     records: &mut Vec<Record>,
 ) -> Result<Option<Vec<i64>>, Error>
-    requires up { AreNamesUp (names (shown records.old.items)) }
+    requires up { AreNamesAscending (names (shown records.old.items)) }
     ensures names { names (shown records.new.items) ≡ names (shown records.old.items) }
     ensures parts { map (λ r. r.parts) (shown records.new.items) ≡ map (λ r. r.parts) (shown records.old.items) }
     ensures idle { conn.old.in_transaction ≡ false → conn.new.in_transaction ≡ false }
-    ensures leaves { Leaves (state S.Store conn.old) (state S.Store conn.new) }
-    ensures read { IsLive (state S.Store conn.new) → IsOurs (state S.Store conn.old).now → IfOk result
+    ensures leaves { WritesNothing (state S.Store conn.old) (state S.Store conn.new) }
+    ensures read { IsLive (state S.Store conn.new) → IsLayout2 (state S.Store conn.old).now → IfOk result
         (λ read. IsUnchanged (state S.Store conn.old) (state S.Store conn.new)
-        × MatchOption read (shown records.old.items ≡ earlier_content_of (state S.Store conn.old).now
-        → ¬ (IsListed (state S.Store conn.old).now))
+        × MatchOption read (shown records.old.items ≡ content_without_reasons (state S.Store conn.old).now
+        → ¬ (HoldsRecords (state S.Store conn.old).now))
         (λ ids. AreReasonsOf (state S.Store conn.old).now ids.items (shown records.old.items)
         (shown records.new.items))) }
 {
@@ -56,7 +56,7 @@ pub fn select_reasons<S: Alter>(
 
 // Gives the reason of a row to its record; or not, where the row is none that this product writes, or is of no record.
 fn take_reason(ids: &mut Vec<i64>, records: &mut Vec<Record>, row: &Row) -> Result<bool, Error>
-    requires up { AreNamesUp (names (shown records.old.items)) }
+    requires up { AreNamesAscending (names (shown records.old.items)) }
     ensures names { names (shown records.new.items) ≡ names (shown records.old.items) }
     ensures parts { map (λ r. r.parts) (shown records.new.items) ≡ map (λ r. r.parts) (shown records.old.items) }
     ensures taken { IfOk result (λ taken. MatchBool taken ((rows : List Values) (start : Content)
@@ -64,22 +64,22 @@ fn take_reason(ids: &mut Vec<i64>, records: &mut Vec<Record>, row: &Row) -> Resu
         → ShowReasons (rows ++ row.now ∷ []) ids.new.items start (shown records.new.items))
         (IsReasonRow row.now → All (λ r. text_of r.name ≢ text_in row.now) records.old.items)) }
 {
-    let Some(said) = said_in(row) else {
+    let Some(reason) = reason_in_row(row) else {
         return Ok(false);
     };
-    ids.push(said.id)?;
-    Ok(explain(records, said.text, said.why))
+    ids.push(reason.id)?;
+    Ok(set_reason(records, reason.text, reason.why))
 }
 
 // Gives a reason to the record that has this name, if it has none yet; or not, where none has the name.
-fn explain(records: &mut Vec<Record>, text: &[u8], why: BadFile) -> bool
-    requires up { AreNamesUp (names (shown records.old.items)) }
+fn set_reason(records: &mut Vec<Record>, text: &[u8], why: BadFile) -> bool
+    requires up { AreNamesAscending (names (shown records.old.items)) }
     ensures names { names (shown records.new.items) ≡ names (shown records.old.items) }
     ensures parts { map (λ r. r.parts) (shown records.new.items) ≡ map (λ r. r.parts) (shown records.old.items) }
-    ensures given { MatchBool result (shown records.new.items ≡ map (reasoned text.now why) (shown records.old.items))
+    ensures given { MatchBool result (shown records.new.items ≡ map (with_first_reason text.now why) (shown records.old.items))
         (All (λ r. text_of r.name ≢ text.now) records.old.items) }
 {
-    let Some(at) = find(records, text) else {
+    let Some(at) = find_record(records, text) else {
         return false;
     };
     let record = &mut records[at];

@@ -26,7 +26,7 @@ struct Columns<'a> {
 }
 
 /// The release of a row, and the row's number; nothing where the row is none that this product writes.
-pub fn release_in(alloc: Global, row: &Row) -> Result<Option<(i64, Record)>, Error>
+pub fn release_in_row(alloc: Global, row: &Row) -> Result<Option<(i64, Record)>, Error>
     ensures { IfOk result (λ found. MatchOption found (¬ (IsReleaseRow row.now))
         (λ it. IsReleaseOf row.now it.0 it.1)) }
 {

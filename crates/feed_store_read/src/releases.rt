@@ -4,10 +4,10 @@ ghost use Rattle.sqlite.specs.Held.{state};
 ghost use Rattle.sqlite.specs.State.{IsUnchanged};
 ghost use Rattle.sqlite_value.specs.Order.{Row as Values};
 ghost use Rattle.feed_store_model.specs.Live.{IsLive};
-ghost use Rattle.feed_store_model.specs.Tables.{IsEarlierListed, IsTabled, IsReleaseRow};
-ghost use Rattle.feed_store_read.specs.Releases.{AreReleases, Leaves, ShowReleases};
+ghost use Rattle.feed_store_model.specs.Tables.{HoldsReleases, IsTabled, IsReleaseRow};
+ghost use Rattle.feed_store_read.specs.Releases.{AreReleases, WritesNothing, ShowReleases};
 
-use crate::release_row::release_in;
+use crate::release_row::release_in_row;
 use feed_keep::Record;
 use sqlite::{Alter, Connection, Error, ErrorCode, Row};
 use std::alloc::Global;
@@ -25,10 +25,10 @@ pub fn select_releases<S: Alter>(
     conn: &mut Connection<S>,
 ) -> Result<Option<Releases>, Error>
     ensures idle { conn.old.in_transaction ≡ false → conn.new.in_transaction ≡ false }
-    ensures leaves { Leaves (state S.Store conn.old) (state S.Store conn.new) }
+    ensures leaves { WritesNothing (state S.Store conn.old) (state S.Store conn.new) }
     ensures read { IsLive (state S.Store conn.new) → IsTabled (state S.Store conn.old).now → IfOk result
         (λ found. IsUnchanged (state S.Store conn.old) (state S.Store conn.new)
-        × MatchOption found (¬ (IsEarlierListed (state S.Store conn.old).now))
+        × MatchOption found (¬ (HoldsReleases (state S.Store conn.old).now))
         (AreReleases (state S.Store conn.old).now)) }
 {
     let mut found = Releases {
@@ -56,7 +56,7 @@ fn take_release(alloc: Global, found: &mut Releases, row: &Row) -> Result<bool, 
         ((rows : List Values) → ShowReleases rows found.old → ShowReleases (rows ++ row.now ∷ []) found.new)
         (¬ (IsReleaseRow row.now))) }
 {
-    let Some((id, record)) = release_in(alloc, row)? else {
+    let Some((id, record)) = release_in_row(alloc, row)? else {
         return Ok(false);
     };
     found.ids.push(id)?;

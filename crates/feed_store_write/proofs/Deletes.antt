@@ -10,28 +10,28 @@ use Rattle.sqlite.specs.Rows.{Written}
 use Rattle.sqlite.specs.Effect.{Database}
 use Rattle.sqlite.specs.State.{State, mode_of, Executes}
 use Rattle.sqlite.proofs.Callers.{IsPlain, command_of, statement_of, runs_as}
-use Rattle.feed_store_model.specs.Layout.{feed_schema}
+use Rattle.feed_store_model.specs.Layout.{layout_2_schema}
 use Rattle.feed_store_model.proofs.Cascade.{Cascade, cascades, layout_left}
 use Rattle.feed_store_model.proofs.Conditions.{earlier}
 use Rattle.feed_store_model.proofs.DroppedReleases.{Deletes}
-use Rattle.feed_store_write.specs.Texts.{delete_text}
-use Rattle.feed_store_write.proofs.Runs.{went, same_value}
+use Rattle.feed_store_write.specs.Texts.{delete_releases_text}
+use Rattle.feed_store_write.proofs.IsRunOnOk.{went, same_value}
 
-delete_is : command_of (understood feed_schema delete_text) ≡ command.Delete 1 (record { lets = []; body = earlier })
+delete_is : command_of (understood layout_2_schema delete_releases_text) ≡ command.Delete 1 (record { lets = []; body = earlier })
 unfolding understood everything
 delete_is = refl
 
-delete_plain : IsPlain (understood feed_schema delete_text)
+delete_plain : IsPlain (understood layout_2_schema delete_releases_text)
 unfolding understood everything
 delete_plain = (refl, refl)
 
-pub deletes : (old new : State) (stem : List ℕ) (day : ℤ) (count : ℕ) → old.now.schema ≡ feed_schema
-    → Executes delete_text (Text stem ∷ Int day ∷ []) old new (Ok count) → Deletes stem day old.now new.now
+pub deletes : (old new : State) (stem : List ℕ) (day : ℤ) (count : ℕ) → old.now.schema ≡ layout_2_schema
+    → Executes delete_releases_text (Text stem ∷ Int day ∷ []) old new (Ok count) → Deletes stem day old.now new.now
 deletes old new stem day count has h =
     let params = Text stem ∷ Int day ∷ [] in
     let command = command.Delete 1 (record { lets = []; body = earlier }) in
-    let w = runs_as delete_text params old new feed_schema has command delete_is delete_plain count h in
-    let text = statement_of delete_text (understood feed_schema delete_text) in
+    let w = runs_as delete_releases_text params old new layout_2_schema has command delete_is delete_plain count h in
+    let text = statement_of delete_releases_text (understood layout_2_schema delete_releases_text) in
     let done = went (subst (λ s. Does old.step_limit (mode_of old) params (record old.now { schema = s }) text None command (Ok (w.tally, new.now))) has w.changed) in
     let now = ap (λ (p : Tally × Database). p.1) (same_value (went (went done.2).2).2) in
     let given = went done.1 in

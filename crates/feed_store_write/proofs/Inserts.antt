@@ -25,14 +25,14 @@ use Rattle.sqlite.proofs.Callers.{IsPlain, command_of, statement_of, runs_as, on
 use Rattle.feed_names.specs.ReleaseName.{Name, text_of}
 use Rattle.feed_model.specs.Content.{Part}
 use Rattle.feed_model.specs.declared.state.State as model
-use Rattle.feed_store_model.specs.Layout.{feed_schema, layout, release, piece, reason}
+use Rattle.feed_store_model.specs.Layout.{layout_2_schema, layout, release, piece, reason}
 use Rattle.feed_store_model.specs.Tables.{number_of, version_row}
 use Rattle.feed_store_model.proofs.AddedPart.{part_row}
 use Rattle.feed_store_model.proofs.AddedReason.{said_row}
 use Rattle.feed_store_model.proofs.AddedRelease.{new_row}
 use Rattle.feed_store_model.proofs.Inserted.{Puts, cast_null, cast_int, free_from}
-use Rattle.feed_store_write.specs.Texts.{insert_text, part_text, said_text, version_text}
-use Rattle.feed_store_write.proofs.Runs.{went, same_value}
+use Rattle.feed_store_write.specs.Texts.{insert_release_text, insert_piece_text, insert_reason_text, insert_version_text}
+use Rattle.feed_store_write.proofs.IsRunOnOk.{went, same_value}
 
 -- the row that the sources of an insertion make
 abbrev new_rows : Trees → Table → List Row → List Row
@@ -50,20 +50,20 @@ uncounted_left true more Counts next mid is left = absurd (let e = is in cc)
 
 -- what an insertion of one row makes, in one of our tables
 module _ (text : List ℕ) (params : Row) (old new : State) (count at : ℕ) (table : Table) (terms : List Term) (width : ℕ) (row : Row)
-    (there : slice_get feed_schema.tables at ≡ Some table) (uncounted : table.is_counted ≡ false)
-    (is : command_of (understood feed_schema text) ≡ Insert at (Values terms width)) (plain : IsPlain (understood feed_schema text))
-    (has : old.now.schema ≡ feed_schema) (h : Executes text params old new (Ok count)) where
+    (there : slice_get layout_2_schema.tables at ≡ Some table) (uncounted : table.is_counted ≡ false)
+    (is : command_of (understood layout_2_schema text) ≡ Insert at (Values terms width)) (plain : IsPlain (understood layout_2_schema text))
+    (has : old.now.schema ≡ layout_2_schema) (h : Executes text params old new (Ok count)) where
   abbrev command : Command
   command = Insert at (Values terms width)
 
   pub puts : new_rows old.now.trees table (rows_of table params terms width) ≡ row ∷ []
-      → works feed_schema Enforced 0 table.tree
+      → works layout_2_schema Enforced 0 table.tree
       (taken_by old.now.trees (edit_of old.now.trees table [] Chosen 0 (rows_of table params terms width)))
       (new_rows old.now.trees table (rows_of table params terms width)) ≡ []
       → Puts table row old.now new.now
   puts news none =
-      let w = runs_as text params old new feed_schema has command is plain count h in
-      let does = subst (λ s. Does old.step_limit (mode_of old) params (record old.now { schema = s }) (statement_of text (understood feed_schema text)) None command
+      let w = runs_as text params old new layout_2_schema has command is plain count h in
+      let does = subst (λ s. Does old.step_limit (mode_of old) params (record old.now { schema = s }) (statement_of text (understood layout_2_schema text)) None command
       (Ok (w.tally, new.now))) has w.changed in
       let done = went (rw there at does) in
       let now = ap (λ (p : Tally × Database). p.1) (same_value (went (went done.2).2).2) in
@@ -74,12 +74,12 @@ module _ (text : List ℕ) (params : Row) (old new : State) (count at : ℕ) (ta
       let trees : done.0.trees ≡ written.0 = ap (λ (it : Written). it.trees) (same_value counted.2) ∙ left in
       let all : new.now.trees ≡ written.0 = ap (λ (d : Database). d.trees) now ∙ trees in
       let edit = edit_of old.now.trees table [] Chosen 0 (rows_of table params terms width) in
-      let writes : Writes feed_schema Enforced old.now.trees edit (Ok new.now.trees) =
-      subst (λ t. Writes feed_schema Enforced old.now.trees edit (Ok t)) (sym all)
-      (subst (λ sources. Writes feed_schema Enforced old.now.trees (edit_of old.now.trees table [] Chosen 0 sources) (Ok written.0)) given.1.1
-      (subst (λ b. Writes feed_schema Enforced old.now.trees (edit_of old.now.trees table [] (if b then Above (count_of (went given.2).0) else Chosen) 0 given.0)
+      let writes : Writes layout_2_schema Enforced old.now.trees edit (Ok new.now.trees) =
+      subst (λ t. Writes layout_2_schema Enforced old.now.trees edit (Ok t)) (sym all)
+      (subst (λ sources. Writes layout_2_schema Enforced old.now.trees (edit_of old.now.trees table [] Chosen 0 sources) (Ok written.0)) given.1.1
+      (subst (λ b. Writes layout_2_schema Enforced old.now.trees (edit_of old.now.trees table [] (if b then Above (count_of (went given.2).0) else Chosen) 0 given.0)
       (Ok written.0)) uncounted written.1)) in
-      let step = one_step feed_schema Enforced old.now.trees new.now.trees edit none writes in
+      let step = one_step layout_2_schema Enforced old.now.trees new.now.trees edit none writes in
       let rows = old.now.trees table.tree in record {
         schema = ap (λ (d : Database). d.schema) now;
         sound = w.sound;
@@ -94,38 +94,38 @@ release_terms = lit Null ∷ col 0 0 ∷ col 0 1 ∷ col 0 2 ∷ col 0 3 ∷ col
 abbrev piece_terms : List Term
 piece_terms = lit Null ∷ col 0 0 ∷ col 0 1 ∷ col 0 2 ∷ []
 
-release_is : command_of (understood feed_schema insert_text) ≡ Insert 1 (Values release_terms 6)
+release_is : command_of (understood layout_2_schema insert_release_text) ≡ Insert 1 (Values release_terms 6)
 unfolding understood everything
 release_is = refl
 
-release_plain : IsPlain (understood feed_schema insert_text)
+release_plain : IsPlain (understood layout_2_schema insert_release_text)
 unfolding understood everything
 release_plain = (refl, refl)
 
-piece_is : command_of (understood feed_schema part_text) ≡ Insert 2 (Values piece_terms 4)
+piece_is : command_of (understood layout_2_schema insert_piece_text) ≡ Insert 2 (Values piece_terms 4)
 unfolding understood everything
 piece_is = refl
 
-piece_plain : IsPlain (understood feed_schema part_text)
+piece_plain : IsPlain (understood layout_2_schema insert_piece_text)
 unfolding understood everything
 piece_plain = (refl, refl)
 
 abbrev reason_terms : List Term
 reason_terms = lit Null ∷ col 0 0 ∷ col 0 1 ∷ col 0 2 ∷ []
 
-reason_is : command_of (understood feed_schema said_text) ≡ Insert 3 (Values reason_terms 4)
+reason_is : command_of (understood layout_2_schema insert_reason_text) ≡ Insert 3 (Values reason_terms 4)
 unfolding understood everything
 reason_is = refl
 
-reason_plain : IsPlain (understood feed_schema said_text)
+reason_plain : IsPlain (understood layout_2_schema insert_reason_text)
 unfolding understood everything
 reason_plain = (refl, refl)
 
-version_is : command_of (understood feed_schema version_text) ≡ Insert 0 (Values (lit (Int (pos 2)) ∷ lit Null ∷ []) 2)
+version_is : command_of (understood layout_2_schema insert_version_text) ≡ Insert 0 (Values (lit (Int (pos 2)) ∷ lit Null ∷ []) 2)
 unfolding understood everything
 version_is = refl
 
-version_plain : IsPlain (understood feed_schema version_text)
+version_plain : IsPlain (understood layout_2_schema insert_version_text)
 unfolding understood everything
 version_plain = (refl, refl)
 
@@ -137,29 +137,29 @@ release_params n size s = Text (text_of n) ∷ Text n.stem ∷ Int n.day ∷ Int
 abbrev pub part_params : Name → Part → Row
 part_params n p = Text (text_of n) ∷ Int (pos p.first) ∷ Blob p.bytes ∷ []
 
-pub puts_release : (n : Name) (size : ℕ) (s : model.State) (old new : State) (count : ℕ) → old.now.schema ≡ feed_schema
-    → Executes insert_text (release_params n size s) old new (Ok count) → Puts release (new_row n size s old.now) old.now new.now
+pub puts_release : (n : Name) (size : ℕ) (s : model.State) (old new : State) (count : ℕ) → old.now.schema ≡ layout_2_schema
+    → Executes insert_release_text (release_params n size s) old new (Ok count) → Puts release (new_row n size s old.now) old.now new.now
 puts_release n size s old new count has h =
-    puts insert_text (release_params n size s) old new count 1 release release_terms 6 (new_row n size s old.now) refl refl release_is release_plain has h
+    puts insert_release_text (release_params n size s) old new count 1 release release_terms 6 (new_row n size s old.now) refl refl release_is release_plain has h
     (rw (cast_null, cast_int n.day, cast_int (pos size), cast_int (pos (number_of s)))) refl
 
-pub puts_piece : (n : Name) (p : Part) (old new : State) (count : ℕ) → old.now.schema ≡ feed_schema
-    → Executes part_text (part_params n p) old new (Ok count) → Puts piece (part_row n p old.now) old.now new.now
+pub puts_piece : (n : Name) (p : Part) (old new : State) (count : ℕ) → old.now.schema ≡ layout_2_schema
+    → Executes insert_piece_text (part_params n p) old new (Ok count) → Puts piece (part_row n p old.now) old.now new.now
 puts_piece n p old new count has h =
-    puts part_text (part_params n p) old new count 2 piece piece_terms 4 (part_row n p old.now) refl refl piece_is piece_plain has h
+    puts insert_piece_text (part_params n p) old new count 2 piece piece_terms 4 (part_row n p old.now) refl refl piece_is piece_plain has h
     (rw (cast_null, cast_int (pos p.first))) refl
 
-pub puts_version : (old new : State) (count : ℕ) → old.now.schema ≡ feed_schema → Executes version_text [] old new (Ok count)
+pub puts_version : (old new : State) (count : ℕ) → old.now.schema ≡ layout_2_schema → Executes insert_version_text [] old new (Ok count)
     → Puts layout (version_row 2) old.now new.now
 puts_version old new count has h =
-    puts version_text [] old new count 0 layout (lit (Int (pos 2)) ∷ lit Null ∷ []) 2 (version_row 2) refl refl version_is version_plain has h (rw (cast_int (pos 2), cast_null)) refl
+    puts insert_version_text [] old new count 0 layout (lit (Int (pos 2)) ∷ lit Null ∷ []) 2 (version_row 2) refl refl version_is version_plain has h (rw (cast_int (pos 2), cast_null)) refl
 
 -- the values of the statement that inserts a reason
 abbrev pub said_params : Name → ℕ → ℕ → Row
 said_params n number place = Text (text_of n) ∷ Int (pos number) ∷ Int (pos place) ∷ []
 
-pub puts_reason : (n : Name) (number place : ℕ) (old new : State) (count : ℕ) → old.now.schema ≡ feed_schema
-    → Executes said_text (said_params n number place) old new (Ok count) → Puts reason (said_row n number place old.now) old.now new.now
+pub puts_reason : (n : Name) (number place : ℕ) (old new : State) (count : ℕ) → old.now.schema ≡ layout_2_schema
+    → Executes insert_reason_text (said_params n number place) old new (Ok count) → Puts reason (said_row n number place old.now) old.now new.now
 puts_reason n number place old new count has h =
-    puts said_text (said_params n number place) old new count 3 reason reason_terms 4 (said_row n number place old.now) refl refl reason_is reason_plain has h
+    puts insert_reason_text (said_params n number place) old new count 3 reason reason_terms 4 (said_row n number place old.now) refl refl reason_is reason_plain has h
     (rw (cast_null, cast_int (pos number), cast_int (pos place))) refl

@@ -18,15 +18,15 @@ use Rattle.sqlite.specs.Table.{Table}
 use Rattle.sqlite_schema.specs.declared.schema.Index.{Index}
 use Rattle.feed_store_model.specs.Layout.{schema_with}
 use Rattle.feed_store_model.proofs.Rows.{table_query, passes, answered}
-use Rattle.feed_store_write.specs.Texts.{number_text}
+use Rattle.feed_store_write.specs.Texts.{select_version_text}
 
 number_select : (more : List Table) (keys : List Index)
-    → (command_of (understood (schema_with more keys) number_text) ≡ Select (record { lets = []; body = table_query 0 [] (col 1 0 ∷ []) [] }) (codes "version" ∷ []))
-    × (reads_listing (schema_with more keys) number_text ≡ false)
+    → (command_of (understood (schema_with more keys) select_version_text) ≡ Select (record { lets = []; body = table_query 0 [] (col 1 0 ∷ []) [] }) (codes "version" ∷ []))
+    × (reads_listing (schema_with more keys) select_version_text ≡ false)
 unfolding understood everything
 number_select more keys = (refl, refl)
 
-number_plain : (more : List Table) (keys : List Index) → IsPlain (understood (schema_with more keys) number_text)
+number_plain : (more : List Table) (keys : List Index) → IsPlain (understood (schema_with more keys) select_version_text)
 unfolding understood everything
 number_plain more keys = (refl, refl)
 
@@ -39,17 +39,17 @@ numbered [] = refl
 numbered (r ∷ rows) = ap (λ l. (rowid r ∷ []) ∷ l) (numbered rows)
 
 shown_numbers : (more : List Table) (keys : List Index) (old new : State) (rows : List Row) → old.now.schema ≡ schema_with more keys
-    → Shown number_text [] old new rows → IsPermutation (numbers (old.now.trees 0)) rows
+    → Shown select_version_text [] old new rows → IsPermutation (numbers (old.now.trees 0)) rows
 shown_numbers more keys old new rows has h =
-    let got = reads_as number_text [] old new (schema_with more keys) has _ (number_select more keys).0 (number_plain more keys) (number_select more keys).1 rows h in
+    let got = reads_as select_version_text [] old new (schema_with more keys) has _ (number_select more keys).0 (number_plain more keys) (number_select more keys).1 rows h in
     let a : IsAnswer (table_query 0 [] (col 1 0 ∷ []) []) (overlay old.now.trees []) [] rows = got.answer Null in
     subst (λ l. IsPermutation l rows) (numbered (old.now.trees 0)) (answered 0 [] (col 1 0 ∷ []) [] [] old.now.trees rows refl a)
 
 -- a selection leaves the database as it was
-unchanged : (more : List Table) (keys : List Index) (old new : State) (rows : List Row) → old.now.schema ≡ schema_with more keys → Shown number_text [] old new rows → IsUnchanged old new
+unchanged : (more : List Table) (keys : List Index) (old new : State) (rows : List Row) → old.now.schema ≡ schema_with more keys → Shown select_version_text [] old new rows → IsUnchanged old new
 unfolding Shown
 unchanged more keys old new rows has h =
-    let known = sym h.1.is ∙ ap (λ s. understood s number_text) has in
+    let known = sym h.1.is ∙ ap (λ s. understood s select_version_text) has in
     let bare = subst IsPlain (sym known) (number_plain more keys) in
     (rw bare.0 at h.2).3
 
@@ -71,7 +71,7 @@ rows_of k [] e = cc
 rows_of k (r ∷ []) e = cc
 rows_of k (r ∷ s ∷ rows) e = cc
 
-pub number_told : (k : ℕ) (more : List Table) (keys : List Index) (old new : State) (rows : List Row) → Shown number_text [] old new rows
+pub number_told : (k : ℕ) (more : List Table) (keys : List Index) (old new : State) (rows : List Row) → Shown select_version_text [] old new rows
     → old.now.schema ≡ schema_with more keys
     → IsUnchanged old new × ((rows ≡ (Int (pos k) ∷ []) ∷ []) ↔ (map rowid (old.now.trees 0) ≡ Int (pos k) ∷ []))
 number_told k more keys old new rows h has =

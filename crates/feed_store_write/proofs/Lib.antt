@@ -1,5 +1,5 @@
 pub mod Inside
-pub mod Runs
+pub mod IsRunOnOk
 pub mod Inserts
 pub mod Deletes
 pub mod Sets

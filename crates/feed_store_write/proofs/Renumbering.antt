@@ -21,10 +21,10 @@ use Rattle.sqlite.specs.Rows.{Written}
 use Rattle.sqlite.specs.Effect.{Database, IsDatabase}
 use Rattle.sqlite.specs.State.{State, mode_of, Executes}
 use Rattle.sqlite.proofs.Callers.{IsPlain, command_of, statement_of, runs_as, one_step, one_permutation}
-use Rattle.feed_store_write.specs.Texts.{upgrade_text}
-use Rattle.feed_store_write.specs.Effects.{Renumbers}
-use Rattle.feed_store_write.proofs.Runs.{went, same_value}
-use Rattle.feed_store_model.specs.Layout.{feed_schema, layout}
+use Rattle.feed_store_write.specs.Texts.{set_version_text}
+use Rattle.feed_store_write.specs.Effects.{IsRenumbering}
+use Rattle.feed_store_write.proofs.IsRunOnOk.{went, same_value}
+use Rattle.feed_store_model.specs.Layout.{layout_2_schema, layout}
 use Rattle.feed_store_model.specs.Tables.{AreReasons, version_row}
 use Rattle.feed_store_model.proofs.Basics.{one_zero, three_zero, five_zero}
 use Rattle.feed_store_model.proofs.Cascade.{key_is}
@@ -37,25 +37,25 @@ use Rattle.feed_store_model.proofs.Rows.{IsKeyed, has_id, id_itself, table_query
 abbrev pub with_number_2 : Query
 with_number_2 = table_query 0 [] (col 1 0 ∷ lit (Int (pos 2)) ∷ lit Null ∷ []) []
 
-upgrade_is : command_of (understood feed_schema upgrade_text) ≡ command.Update 0 (record { lets = []; body = with_number_2 })
+upgrade_is : command_of (understood layout_2_schema set_version_text) ≡ command.Update 0 (record { lets = []; body = with_number_2 })
 unfolding understood everything
 upgrade_is = refl
 
-upgrade_plain : IsPlain (understood feed_schema upgrade_text)
+upgrade_plain : IsPlain (understood layout_2_schema set_version_text)
 unfolding understood everything
 upgrade_plain = (refl, refl)
 
 -- nothing belongs to a row of the layout
-no_work_by : (olds news : List Row) (b : Bool) → (length news == 0) ≡ b → works feed_schema Enforced 0 0 olds news ≡ []
+no_work_by : (olds news : List Row) (b : Bool) → (length news == 0) ≡ b → works layout_2_schema Enforced 0 0 olds news ≡ []
 no_work_by olds news true h = rw (h, key_is) refl
 no_work_by olds news false h = rw h refl
 
-no_work : (olds news : List Row) → works feed_schema Enforced 0 0 olds news ≡ []
+no_work : (olds news : List Row) → works layout_2_schema Enforced 0 0 olds news ≡ []
 no_work olds news = no_work_by olds news (length news == 0) refl
 
 -- the row that the statement changes, and what it leaves
 pub record Numbers (old new : Database) : Type 0 where
-  pub schema : new.schema ≡ feed_schema
+  pub schema : new.schema ≡ layout_2_schema
   pub sound : IsDatabase new
   pub rows : List Row
   pub picked : IsAnswer with_number_2 (overlay old.trees []) [] rows
@@ -64,11 +64,11 @@ pub record Numbers (old new : Database) : Type 0 where
   pub pieces : new.trees 3 ≡ old.trees 3
   pub reasons : new.trees 5 ≡ old.trees 5
 
-pub numbers : (old new : State) (count : ℕ) → old.now.schema ≡ feed_schema → Executes upgrade_text [] old new (Ok count) → Numbers old.now new.now
+pub numbers : (old new : State) (count : ℕ) → old.now.schema ≡ layout_2_schema → Executes set_version_text [] old new (Ok count) → Numbers old.now new.now
 numbers old new count has h =
     let command = command.Update 0 (record { lets = []; body = with_number_2 }) in
-    let w = runs_as upgrade_text [] old new feed_schema has command upgrade_is upgrade_plain count h in
-    let text = statement_of upgrade_text (understood feed_schema upgrade_text) in
+    let w = runs_as set_version_text [] old new layout_2_schema has command upgrade_is upgrade_plain count h in
+    let text = statement_of set_version_text (understood layout_2_schema set_version_text) in
     let done = went (subst (λ s. Does old.step_limit (mode_of old) [] (record old.now { schema = s }) text None command (Ok (w.tally, new.now))) has w.changed) in
     let now = ap (λ (p : Tally × Database). p.1) (same_value (went (went done.2).2).2) in
     let given = went done.1 in
@@ -76,7 +76,7 @@ numbers old new count has h =
     let trees : done.0.trees ≡ written.0 = ap (λ (it : Written). it.trees) (same_value written.2) in
     let all : new.now.trees ≡ written.0 = ap (λ (d : Database). d.trees) now ∙ trees in
     let edit = edit_of old.now.trees layout (ids_of given.0) Given 1 given.0 in
-    let step = one_step feed_schema _ old.now.trees written.0 edit (no_work (taken_by old.now.trees edit) edit.news) written.1 in
+    let step = one_step layout_2_schema _ old.now.trees written.0 edit (no_work (taken_by old.now.trees edit) edit.news) written.1 in
     record {
       schema = ap (λ (d : Database). d.schema) now;
       sound = w.sound;
@@ -116,7 +116,7 @@ renumbered old new it one = by (old.trees 0) refl one
         every [] = refl
         every (r ∷ rows) = ap (λ l. r ∷ l) (every rows)
 
-pub renumbers : (old new : State) (count : ℕ) → Executes upgrade_text [] old new (Ok count) → Renumbers old.now new.now
+pub renumbers : (old new : State) (count : ℕ) → Executes set_version_text [] old new (Ok count) → IsRenumbering old.now new.now
 renumbers old new count h first earlier extended =
     let it = numbers old new count extended.schema h in
     let five : new.now.trees 5 ≡ [] = it.reasons ∙ extended.reasons in

@@ -9,9 +9,9 @@ use Rattle.sqlite.specs.declared.error.Error.{Error}
 use Rattle.sqlite.specs.Clock.{timed}
 use Rattle.sqlite.specs.State.{State, FailsToQuery, FailsToShow, IsNotRun, IsRolledBack, IsUnchanged, Shown}
 use Rattle.feed_store_model.proofs.ReadOnly.{IsRead, ShowsNone, read_shows_none}
-use Rattle.feed_store_write.specs.Texts.{number_text}
+use Rattle.feed_store_write.specs.Texts.{select_version_text}
 
-number_is_read : IfOk (first number_text) IsRead
+number_is_read : IfOk (first select_version_text) IsRead
 unfolding everything
 number_is_read = λ schema base. refl
 
@@ -30,10 +30,10 @@ undone_stays old new settled undone = record {
   same = λ is. (undone.undone is).0 ∙ sym (settled (undone.was_open is));
 }
 
-pub number_stays : (old new : State) (rows : List Row) → Shown number_text [] old new rows → Stays old new
+pub number_stays : (old new : State) (rows : List Row) → Shown select_version_text [] old new rows → Stays old new
 unfolding Shown
 number_stays old new rows h =
-    let bare : h.0.returning ≡ None = subst (λ r. IfOk r ShowsNone) h.1.is (read_shows_none number_text number_is_read old.now.schema) in
+    let bare : h.0.returning ≡ None = subst (λ r. IfOk r ShowsNone) h.1.is (read_shows_none select_version_text number_is_read old.now.schema) in
     unchanged_stays old new (rw bare at h.2).3
 
 not_shown : (old new : State) (settled : IsTrue old.is_open → old.now ≡ old.committed) (sql : List ℕ) (c : Compiled) (params : Row) (e : Error) (o : Option Returning)

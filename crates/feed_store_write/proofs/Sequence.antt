@@ -1,4 +1,4 @@
--- Changes one after another.
+-- IsContentChange one after another.
 use Rattle.std.proofs.Common.{◌≡◌, ◌≢◌, ◌≤◌, ℕ, eqb, List, [], ◌∷◌, ◌++◌, Some, None, Bool, true, false, refl, sym, ap, ◌∙◌, if◌then◌else◌, arith}
 use Rattle.std.proofs.lemmas.Bool.Decides.{nat_tests}
 use Rattle.sqlite.specs.Effect.{Database}
@@ -13,9 +13,9 @@ use Rattle.feed_model.specs.Reply.{max_file}
 use Rattle.feed_model.specs.Change.{changed, comes_before, grown, broken_with, merged, insert_part, insert_record, new_record, Add, Pieces, Break}
 use Rattle.feed_model.proofs.Names.{name_self}
 use Rattle.feed_store_model.specs.Records.{bare, with_part, with_parts, with_reason, with_state}
-use Rattle.feed_store_model.specs.Tables.{IsStored, content_of}
+use Rattle.feed_store_model.specs.Tables.{IsStored, stored_content}
 use Rattle.feed_store_model.proofs.Stored.{stored}
-use Rattle.feed_store_write.specs.Effects.{AllowedChanges, Changes, ChangesIf, IsMade, Leads}
+use Rattle.feed_store_write.specs.Effects.{IsAllowedChange, IsContentChange, IsContentChangeIf, IsMade, IsTransition}
 
 -- one change of a record after another
 changed_twice : (n : Name) (f g h : Record → Record) → ((r : Record) → (f r).name ≡ r.name) → ((r : Record) → g (f r) ≡ h r) → (c : Content)
@@ -42,22 +42,22 @@ merged_last old [] p = refl
 merged_last old (q ∷ ps) p = merged_last (insert_part q old) ps p
 
 -- the changes of two calls are one
-pub made_then : (f g h : Content → Content) (a b c : State) → ((k : Content) → g (f k) ≡ h k) → IsMade (Changes f) a b → IsMade (Changes g) b c
-    → IsMade (Changes h) a c
+pub made_then : (f g h : Content → Content) (a b c : State) → ((k : Content) → g (f k) ≡ h k) → IsMade (IsContentChange f) a b → IsMade (IsContentChange g) b c
+    → IsMade (IsContentChange h) a c
 made_then f g h a b c both one two = record {
   change = λ ours.
       let first = one.change ours in
       let second = two.change first.ours in record {
         ours = second.ours;
         listed = λ are. second.listed (first.listed are);
-        content = λ are. second.content (first.listed are) ∙ ap g (first.content are) ∙ both (content_of a.now);
+        content = λ are. second.content (first.listed are) ∙ ap g (first.content are) ∙ both (stored_content a.now);
       };
   committed = two.committed ∙ one.committed;
   inside = λ on. two.inside (one.inside on);
 }
 
 -- one kind of database becomes another one, and this a third
-pub leads_then : (P Q R : Database → Type 0) (a b c : State) → IsMade (Leads P Q) a b → IsMade (Leads Q R) b c → IsMade (Leads P R) a c
+pub leads_then : (P Q R : Database → Type 0) (a b c : State) → IsMade (IsTransition P Q) a b → IsMade (IsTransition Q R) b c → IsMade (IsTransition P R) a c
 leads_then P Q R a b c one two = record {
   change = λ has. two.change (one.change has);
   committed = two.committed ∙ one.committed;
@@ -65,24 +65,24 @@ leads_then P Q R a b c one two = record {
 }
 
 -- no part is added yet
-pub none_added : (n : Name) (s : State) → IsMade (Changes (changed n (with_parts []))) s s
+pub none_added : (n : Name) (s : State) → IsMade (IsContentChange (changed n (with_parts []))) s s
 none_added n s = record {
-  change = λ ours. record { ours = ours; listed = λ are. are; content = λ are. sym (changed_same n (content_of s.now)) };
+  change = λ ours. record { ours = ours; listed = λ are. are; content = λ are. sym (changed_same n (stored_content s.now)) };
   committed = refl;
   inside = λ on. on;
 }
 
 -- one more part is added
-pub one_more : (n : Name) (ps : List Part) (p : Part) (a b c : State) → IsMade (Changes (changed n (with_parts ps))) a b
-    → IsMade (Changes (changed n (with_part p))) b c → IsMade (Changes (changed n (with_parts (ps ++ p ∷ [])))) a c
+pub one_more : (n : Name) (ps : List Part) (p : Part) (a b c : State) → IsMade (IsContentChange (changed n (with_parts ps))) a b
+    → IsMade (IsContentChange (changed n (with_part p))) b c → IsMade (IsContentChange (changed n (with_parts (ps ++ p ∷ [])))) a c
 one_more n ps p a b c one two =
     made_then (changed n (with_parts ps)) (changed n (with_part p)) (changed n (with_parts (ps ++ p ∷ []))) a b c
     (changed_twice n (with_parts ps) (with_part p) (with_parts (ps ++ p ∷ [])) (λ r. refl)
     (λ r. ap (λ (all : List Part). let x : Record = record r { parts = all } in x) (merged_last r.parts ps p))) one two
 
 -- parts and then a state are what the change of a record is
-pub parts_then_state : (n : Name) (ps : List Part) (s : model.State) (a b c : State) → IsMade (Changes (changed n (with_parts ps))) a b
-    → IsMade (Changes (changed n (with_state s))) b c → IsMade (Changes (changed n (grown ps s))) a c
+pub parts_then_state : (n : Name) (ps : List Part) (s : model.State) (a b c : State) → IsMade (IsContentChange (changed n (with_parts ps))) a b
+    → IsMade (IsContentChange (changed n (with_state s))) b c → IsMade (IsContentChange (changed n (grown ps s))) a c
 parts_then_state n ps s a b c one two =
     made_then (changed n (with_parts ps)) (changed n (with_state s)) (changed n (grown ps s)) a b c
     (changed_twice n (with_parts ps) (with_state s) (grown ps s) (λ r. refl) (λ r. refl)) one two
@@ -109,13 +109,13 @@ pub made_as : (Change Same : Database → Database → Type 0) (a b : State) →
 made_as Change Same a b same it = record { change = same it.change; committed = it.committed; inside = it.inside }
 
 -- the parts that are added to a staged release are the change that adds them
-pub pieces_made : (n : Name) (ps : List Part) (a b : State) → IsMade (Changes (changed n (with_parts ps))) a b
-    → IsMade (AllowedChanges (Pieces n ps)) a b
-pieces_made n ps a b = made_as (Changes (changed n (with_parts ps))) (AllowedChanges (Pieces n ps)) a b (λ change allowed ours.
+pub pieces_made : (n : Name) (ps : List Part) (a b : State) → IsMade (IsContentChange (changed n (with_parts ps))) a b
+    → IsMade (IsAllowedChange (Pieces n ps)) a b
+pieces_made n ps a b = made_as (IsContentChange (changed n (with_parts ps))) (IsAllowedChange (Pieces n ps)) a b (λ change allowed ours.
     let done = change ours in record {
       ours = done.ours;
       listed = done.listed;
-      content = λ are. done.content are ∙ still_staged n ps allowed.0 (content_of a.now) allowed.1.found allowed.1.staged;
+      content = λ are. done.content are ∙ still_staged n ps allowed.0 (stored_content a.now) allowed.1.found allowed.1.staged;
     })
 
 -- ---- releases that are broken
@@ -142,8 +142,8 @@ changed_inserted f r same (x ∷ xs) free = by (name_eq x.name r.name) (comes_be
         ∙ ap (λ (q : Bool). if q then x ∷ insert_record (f r) xs else f r ∷ x ∷ xs) (sym before)
 
 -- an empty file is broken as it is offered
-pub empty_made : (n : Name) (a b c : State) → IsMade (ChangesIf (0 ≤ max_file) (insert_record (bare n 0 states.Broken))) a b
-    → IsMade (ChangesIf (IsStored NoHeader) (changed n (with_reason NoHeader))) b c → IsMade (AllowedChanges (Add n 0)) a c
+pub empty_made : (n : Name) (a b c : State) → IsMade (IsContentChangeIf (0 ≤ max_file) (insert_record (bare n 0 states.Broken))) a b
+    → IsMade (IsContentChangeIf (IsStored NoHeader) (changed n (with_reason NoHeader))) b c → IsMade (IsAllowedChange (Add n 0)) a c
 empty_made n a b c one two = record {
   change = λ allowed ours.
       let first = one.change (omega arith) ours in
@@ -151,29 +151,29 @@ empty_made n a b c one two = record {
         ours = second.ours;
         listed = λ are. second.listed (first.listed are);
         content = λ are. second.content (first.listed are) ∙ ap (changed n (with_reason NoHeader)) (first.content are)
-            ∙ changed_inserted (with_reason NoHeader) (bare n 0 states.Broken) (λ x. refl) (content_of a.now) allowed.0;
+            ∙ changed_inserted (with_reason NoHeader) (bare n 0 states.Broken) (λ x. refl) (stored_content a.now) allowed.0;
       };
   committed = two.committed ∙ one.committed;
   inside = λ on. two.inside (one.inside on);
 }
 
 -- another one is staged
-pub staged_made : (n : Name) (size : ℕ) (a b : State) → size ≢ 0 → IsMade (ChangesIf (size ≤ max_file) (insert_record (bare n size states.Staged))) a b
-    → IsMade (AllowedChanges (Add n size)) a b
-staged_made n size a b some = made_as (ChangesIf (size ≤ max_file) (insert_record (bare n size states.Staged))) (AllowedChanges (Add n size)) a b
+pub staged_made : (n : Name) (size : ℕ) (a b : State) → size ≢ 0 → IsMade (IsContentChangeIf (size ≤ max_file) (insert_record (bare n size states.Staged))) a b
+    → IsMade (IsAllowedChange (Add n size)) a b
+staged_made n size a b some = made_as (IsContentChangeIf (size ≤ max_file) (insert_record (bare n size states.Staged))) (IsAllowedChange (Add n size)) a b
     (λ change allowed ours.
     let done = change allowed.2 ours in record {
       ours = done.ours;
       listed = done.listed;
-      content = λ are. done.content are ∙ ap (λ (r : Record). insert_record r (content_of a.now)) (new_is size some);
+      content = λ are. done.content are ∙ ap (λ (r : Record). insert_record r (stored_content a.now)) (new_is size some);
     })
   where
     new_is : (k : ℕ) → k ≢ 0 → bare n k states.Staged ≡ new_record n k
     new_is k some = let off : eqb k 0 ≡ false = grind (arith, nat_tests) in rw off refl
 
 -- parts, the state and a reason are what the change of a record is
-pub break_made : (n : Name) (ps : List Part) (why : BadFile) (a b c : State) → IsMade (Changes (changed n (grown ps states.Broken))) a b
-    → IsMade (ChangesIf (IsStored why) (changed n (with_reason why))) b c → IsMade (AllowedChanges (Break n ps why)) a c
+pub break_made : (n : Name) (ps : List Part) (why : BadFile) (a b c : State) → IsMade (IsContentChange (changed n (grown ps states.Broken))) a b
+    → IsMade (IsContentChangeIf (IsStored why) (changed n (with_reason why))) b c → IsMade (IsAllowedChange (Break n ps why)) a c
 break_made n ps why a b c one two = record {
   change = λ allowed ours.
       let bad = allowed.3 in
@@ -182,7 +182,7 @@ break_made n ps why a b c one two = record {
         ours = second.ours;
         listed = λ are. second.listed (first.listed are);
         content = λ are. second.content (first.listed are) ∙ ap (changed n (with_reason why)) (first.content are)
-            ∙ changed_twice n (grown ps states.Broken) (with_reason why) (broken_with ps why) (λ r. refl) (λ r. refl) (content_of a.now);
+            ∙ changed_twice n (grown ps states.Broken) (with_reason why) (broken_with ps why) (λ r. refl) (λ r. refl) (stored_content a.now);
       };
   committed = two.committed ∙ one.committed;
   inside = λ on. two.inside (one.inside on);

@@ -17,49 +17,49 @@ use Rattle.sqlite_tied.specs.Compute.{everything}
 use Rattle.sqlite.specs.Listing.{understood}
 use Rattle.sqlite.specs.State.{State, mode_of, Executes}
 use Rattle.sqlite.proofs.Callers.{IsPlain, command_of, statement_of, runs_as, one_step}
-use Rattle.feed_store_write.specs.Texts.{set_text}
-use Rattle.feed_store_model.specs.Layout.{feed_schema, release}
-use Rattle.feed_store_write.proofs.Runs.{went, same_value}
+use Rattle.feed_store_write.specs.Texts.{set_state_text}
+use Rattle.feed_store_model.specs.Layout.{layout_2_schema, release}
+use Rattle.feed_store_write.proofs.IsRunOnOk.{went, same_value}
 use Rattle.std.proofs.Math.Dec.{eqb-suc-zero}
 use Rattle.feed_store_model.proofs.Basics.{zero_one, three_one, five_one}
 use Rattle.feed_store_model.proofs.Cascade.{key_is}
 use Rattle.feed_store_model.proofs.Conditions.{with_new_state}
 use Rattle.feed_store_model.proofs.SetState.{Sets}
 
-set_is : command_of (understood feed_schema set_text) ≡ command.Update 1 (record { lets = []; body = with_new_state })
+set_is : command_of (understood layout_2_schema set_state_text) ≡ command.Update 1 (record { lets = []; body = with_new_state })
 unfolding understood everything
 set_is = refl
 
-set_plain : IsPlain (understood feed_schema set_text)
+set_plain : IsPlain (understood layout_2_schema set_state_text)
 unfolding understood everything
 set_plain = (refl, refl)
 
 nonzero : (n : ℕ) → (suc n == 0) ≡ false
 nonzero n = eqb-suc-zero n
 
-no_work_by : (olds news : List Row) (b : Bool) → (length news == 0) ≡ b → (b ≡ true → olds ≡ []) → works feed_schema Enforced 0 1 olds news ≡ []
+no_work_by : (olds news : List Row) (b : Bool) → (length news == 0) ≡ b → (b ≡ true → olds ≡ []) → works layout_2_schema Enforced 0 1 olds news ≡ []
 no_work_by olds news false h none = rw h refl
 no_work_by olds news true h none = rw (h, key_is, none refl) refl
 
-no_work : (db : Trees) (rows : List Row) → works feed_schema Enforced 0 1 (taken_by db (edit_of db release (ids_of rows) Given 1 rows)) (edit_of db release (ids_of rows) Given 1 rows).news ≡ []
+no_work : (db : Trees) (rows : List Row) → works layout_2_schema Enforced 0 1 (taken_by db (edit_of db release (ids_of rows) Given 1 rows)) (edit_of db release (ids_of rows) Given 1 rows).news ≡ []
 no_work db [] = no_work_by _ (edit_of db release (ids_of []) Given 1 []).news true refl (λ _. refl)
 no_work db (row ∷ rows) = no_work_by (taken_by db (edit_of db release (ids_of (row ∷ rows)) Given 1 (row ∷ rows)))
     (edit_of db release (ids_of (row ∷ rows)) Given 1 (row ∷ rows)).news false (nonzero _) (λ e. absurd (let f = e in cc))
 
-pub sets : (old new : State) (name : List ℕ) (status : ℤ) (count : ℕ) → old.now.schema ≡ feed_schema → Executes set_text (Text name ∷ Int status ∷ []) old new (Ok count)
+pub sets : (old new : State) (name : List ℕ) (status : ℤ) (count : ℕ) → old.now.schema ≡ layout_2_schema → Executes set_state_text (Text name ∷ Int status ∷ []) old new (Ok count)
     → Sets name status old.now new.now
 sets old new name status count has h =
     let params = Text name ∷ Int status ∷ [] in
     let command = command.Update 1 (record { lets = []; body = with_new_state }) in
-    let w = runs_as set_text params old new feed_schema has command set_is set_plain count h in
-    let text = statement_of set_text (understood feed_schema set_text) in
+    let w = runs_as set_state_text params old new layout_2_schema has command set_is set_plain count h in
+    let text = statement_of set_state_text (understood layout_2_schema set_state_text) in
     let done = went (subst (λ s. Does old.step_limit (mode_of old) params (record old.now { schema = s }) text None command (Ok (w.tally, new.now))) has w.changed) in
     let now = ap (λ (p : Tally × Database). p.1) (same_value (went (went done.2).2).2) in
     let given = went done.1 in
     let written = went given.2 in
     let trees : done.0.trees ≡ written.0 = ap (λ (it : Written). it.trees) (same_value written.2) in
     let all : new.now.trees ≡ written.0 = ap (λ (d : Database). d.trees) now ∙ trees in
-    let step = one_step feed_schema _ old.now.trees written.0 (edit_of old.now.trees release (ids_of given.0) Given 1 given.0) (no_work old.now.trees given.0) written.1 in
+    let step = one_step layout_2_schema _ old.now.trees written.0 (edit_of old.now.trees release (ids_of given.0) Given 1 given.0) (no_work old.now.trees given.0) written.1 in
     record {
       keeps = record {
         schema = ap (λ (d : Database). d.schema) now;

@@ -3,7 +3,7 @@ use Rattle.std.proofs.Common.{◌≡◌, List, [], ◌∷◌, ◌++◌, None, re
 use Rattle.sqlite.specs.State.{State}
 use Rattle.feed_names.specs.ReleaseName.{Name}
 use Rattle.feed_model.specs.Content.{Record, Content}
-use Rattle.feed_store_write.specs.Effects.{ChangesIf, Extends, IsMade, Renumbers, UpgradesIf}
+use Rattle.feed_store_write.specs.Effects.{IsContentChangeIf, IsExtension, IsMade, IsRenumbering, IsUpgradeIf}
 use Rattle.feed_store_write.specs.Upgrading.{AreStored, IsStoredIn, IsStoredIf, explain, explain_by, explained_with}
 
 explained_last : (rs : List Record) (r : Record) (c : Content) → explained_with (rs ++ r ∷ []) c ≡ explain r (explained_with rs c)
@@ -14,11 +14,11 @@ stored_last : (rs : List Record) (r : Record) → AreStored (rs ++ r ∷ []) →
 stored_last [] r all = (tt, all.0)
 stored_last (x ∷ rs) r all = let it = stored_last rs r all.1 in ((all.0, it.0), it.1)
 
-pub none_explained : (s : State) → IsMade (ChangesIf (AreStored []) (explained_with [])) s s
+pub none_explained : (s : State) → IsMade (IsContentChangeIf (AreStored []) (explained_with [])) s s
 none_explained s = record { change = λ stored ours. record { ours = ours; listed = λ are. are; content = λ are. refl }; committed = refl; inside = λ on. on }
 
-pub one_explained : (rs : List Record) (r : Record) (a b c : State) → IsMade (ChangesIf (AreStored rs) (explained_with rs)) a b
-    → IsMade (ChangesIf (IsStoredIn r) (explain r)) b c → IsMade (ChangesIf (AreStored (rs ++ r ∷ [])) (explained_with (rs ++ r ∷ []))) a c
+pub one_explained : (rs : List Record) (r : Record) (a b c : State) → IsMade (IsContentChangeIf (AreStored rs) (explained_with rs)) a b
+    → IsMade (IsContentChangeIf (IsStoredIn r) (explain r)) b c → IsMade (IsContentChangeIf (AreStored (rs ++ r ∷ [])) (explained_with (rs ++ r ∷ []))) a c
 one_explained rs r a b c one two = record {
   change = λ stored ours.
       let each = stored_last rs r stored in
@@ -33,12 +33,12 @@ one_explained rs r a b c one two = record {
 }
 
 -- a record without a reason changes nothing
-pub no_reason_made : (n : Name) (s : State) → IsMade (ChangesIf (IsStoredIf None) (explain_by n None)) s s
+pub no_reason_made : (n : Name) (s : State) → IsMade (IsContentChangeIf (IsStoredIf None) (explain_by n None)) s s
 no_reason_made n s = record { change = λ stored ours. record { ours = ours; listed = λ are. are; content = λ are. refl }; committed = refl; inside = λ on. on }
 
 -- the table, the number and the reasons are the upgrade
-pub upgraded : (P : Type 0) (f : Content → Content) (a b c d : State) → IsMade Extends a b → IsMade Renumbers b c → IsMade (ChangesIf P f) c d
-    → IsMade (UpgradesIf P f) a d
+pub upgraded : (P : Type 0) (f : Content → Content) (a b c d : State) → IsMade IsExtension a b → IsMade IsRenumbering b c → IsMade (IsContentChangeIf P f) c d
+    → IsMade (IsUpgradeIf P f) a d
 upgraded P f a b c d one two three = record {
   change = λ holds earlier.
       let numbered = two.change a.now earlier (one.change earlier.schema) in

@@ -11,18 +11,18 @@ use Rattle.sqlite.specs.Does.{Tally, lacks_sequence}
 use Rattle.sqlite.specs.Effect.{Database, IsDatabase}
 use Rattle.sqlite.specs.State.{State, Writes, Executes}
 use Rattle.sqlite.proofs.Callers.{IsPlain, command_of, statement_of, runs_as}
-use Rattle.feed_store_model.specs.Layout.{no_schema, earlier_schema, feed_schema, layout, release}
+use Rattle.feed_store_model.specs.Layout.{no_schema, layout_1_schema, layout_2_schema, layout, release}
 use Rattle.feed_store_write.specs.Texts.{layout_text, release_text, piece_text, reason_text}
 use Rattle.feed_store_write.specs.Schemas.{table_in, with_text, first_schema, second_schema, HasNoTable, HasLayoutTable, HasReleaseTable, HasPieceTable, HasAllTables}
-use Rattle.feed_store_write.specs.Effects.{Extends, IsBlank}
+use Rattle.feed_store_write.specs.Effects.{IsExtension, IsBlank}
 use Rattle.feed_store_model.specs.Tables.{version_row}
 use Rattle.feed_store_model.proofs.Basics.{one_zero, three_zero, five_zero}
 use Rattle.feed_store_model.proofs.Inserted.{Puts}
 use Rattle.feed_store_model.proofs.Ours.{empty_content, empty_listed}
-use Rattle.feed_store_write.proofs.Runs.{went, same_value}
+use Rattle.feed_store_write.proofs.IsRunOnOk.{went, same_value}
 
 -- a text that makes a table under this schema
-pub record Makes (schema : Schema) (text : List ℕ) : Type 0 where
+pub record IsMadeOnOk (schema : Schema) (text : List ℕ) : Type 0 where
   pub command : command_of (understood schema text) ≡ CreateTable
   pub whole : statement_of text (understood schema text) ≡ text
   pub plain : IsPlain (understood schema text)
@@ -35,7 +35,7 @@ pub record Creates (schema : Schema) (text : List ℕ) (old new : Database) : Ty
   pub empty : new.trees (next_tree schema) ≡ []
   pub others : KeepsRows schema.tables old.trees new.trees
 
-pub creates : (text : List ℕ) (schema : Schema) (m : Makes schema text) (old new : State) (count : ℕ) → old.now.schema ≡ schema → Executes text [] old new (Ok count)
+pub creates : (text : List ℕ) (schema : Schema) (m : IsMadeOnOk schema text) (old new : State) (count : ℕ) → old.now.schema ≡ schema → Executes text [] old new (Ok count)
     → Creates schema text old.now new.now
 creates text schema m old new count has h =
     let w = subst (λ t. Writes old new None CreateTable t [] count) m.whole (runs_as text [] old new schema has CreateTable m.command m.plain count h) in
@@ -53,31 +53,31 @@ creates text schema m old new count has h =
       others = subst (λ (d : Database). KeepsRows schema.tables old.now.trees d.trees) (sym now) (subst (λ s. KeepsRows s.tables old.now.trees first.0.trees) has made.others);
     }
 
-makes_layout : Makes no_schema layout_text
+makes_layout : IsMadeOnOk no_schema layout_text
 unfolding understood everything
 makes_layout = record { command = refl; whole = refl; plain = (refl, refl); uncounted = refl }
 
-makes_release : Makes first_schema release_text
+makes_release : IsMadeOnOk first_schema release_text
 unfolding understood everything
 makes_release = record { command = refl; whole = refl; plain = (refl, refl); uncounted = refl }
 
-makes_piece : Makes second_schema piece_text
+makes_piece : IsMadeOnOk second_schema piece_text
 unfolding understood everything
 makes_piece = record { command = refl; whole = refl; plain = (refl, refl); uncounted = refl }
 
-third_is : with_text second_schema piece_text ≡ earlier_schema
+third_is : with_text second_schema piece_text ≡ layout_1_schema
 unfolding understood everything
 third_is = refl
 
-makes_reason : Makes earlier_schema reason_text
+makes_reason : IsMadeOnOk layout_1_schema reason_text
 unfolding understood everything
 makes_reason = record { command = refl; whole = refl; plain = (refl, refl); uncounted = refl }
 
-fourth_is : with_text earlier_schema reason_text ≡ feed_schema
+fourth_is : with_text layout_1_schema reason_text ≡ layout_2_schema
 unfolding understood everything
 fourth_is = refl
 
-next_of_earlier : next_tree earlier_schema ≡ 5
+next_of_earlier : next_tree layout_1_schema ≡ 5
 unfolding understood everything
 next_of_earlier = refl
 
@@ -116,9 +116,9 @@ creates_piece old new count has h =
     }
 
 -- the table of the reasons is made behind those of layout 1
-pub creates_reason : (old new : State) (count : ℕ) → Executes reason_text [] old new (Ok count) → Extends old.now new.now
+pub creates_reason : (old new : State) (count : ℕ) → Executes reason_text [] old new (Ok count) → IsExtension old.now new.now
 creates_reason old new count h has =
-    let it = creates reason_text earlier_schema makes_reason old new count has h in record {
+    let it = creates reason_text layout_1_schema makes_reason old new count has h in record {
       schema = it.schema_is ∙ fourth_is;
       obeyed = it.sound;
       layout = it.others.0;
@@ -127,7 +127,7 @@ creates_reason old new count h has =
       reasons = subst (λ n. new.now.trees n ≡ []) next_of_earlier it.empty;
     }
 
-pub all_tables : (old new : Database) → Extends old new → HasPieceTable old → HasAllTables new
+pub all_tables : (old new : Database) → IsExtension old new → HasPieceTable old → HasAllTables new
 all_tables old new extends has =
     let it = extends has.schema_is in
     record { schema_is = it.schema; empty = (it.layout ∙ has.empty.0, (it.releases ∙ has.empty.1.0, (it.pieces ∙ has.empty.1.1.0, (it.reasons, tt)))) }

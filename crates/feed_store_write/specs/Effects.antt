@@ -13,9 +13,9 @@ use Rattle.sqlite_value.specs.declared.value.ValueRef.{ValueRef}
 use Rattle.sqlite_value.specs.Order.{Row}
 use Rattle.sqlite.specs.Table.{Table}
 use Rattle.sqlite_schema.specs.declared.schema.Index.{Index}
-use Rattle.feed_store_model.specs.Layout.{schema_with, earlier_schema, feed_schema}
+use Rattle.feed_store_model.specs.Layout.{schema_with, layout_1_schema, layout_2_schema}
 pub use Rattle.feed_store_model.specs.Live.{IsLive}
-use Rattle.feed_store_model.specs.Tables.{IsChanged, IsEarlier, IsEarlierListed, IsListed, IsOurs, earlier_content_of, content_of}
+use Rattle.feed_store_model.specs.Tables.{IsChanged, IsLayout1, HoldsReleases, HoldsRecords, IsLayout2, content_without_reasons, stored_content}
 
 -- the change is made inside the transaction, which goes on
 pub record IsMade (Change : Database → Database → Type 0) (old new : State) : Type 0 where
@@ -24,8 +24,8 @@ pub record IsMade (Change : Database → Database → Type 0) (old new : State) 
   pub inside : IsTrue old.in_transaction → IsTrue new.in_transaction
 
 -- a call that succeeds makes the change inside the transaction
-abbrev pub Makes : {S X E : Type 0} → Ghosts S → (Database → Database → Type 0) → Held S → Held S → Result X E → Type 0
-Makes store Change old new result = HasCleanDisk (state store new) → OnOk result (IsMade Change (state store old) (state store new))
+abbrev pub IsMadeOnOk : {S X E : Type 0} → Ghosts S → (Database → Database → Type 0) → Held S → Held S → Result X E → Type 0
+IsMadeOnOk store Change old new result = HasCleanDisk (state store new) → OnOk result (IsMade Change (state store old) (state store new))
 
 -- a statement has run inside the transaction, which goes on
 pub record IsRun (text : List ℕ) (params : Row) (old new : State) : Type 0 where
@@ -35,8 +35,8 @@ pub record IsRun (text : List ℕ) (params : Row) (old new : State) : Type 0 whe
   pub inside : IsTrue old.in_transaction → IsTrue new.in_transaction
 
 -- a call that succeeds runs the statement inside the transaction
-abbrev pub Runs : {S X E : Type 0} → Ghosts S → List ℕ → List ValueRef → Held S → Held S → Result X E → Type 0
-Runs store text params old new result = HasCleanDisk (state store new) → OnOk result (IsRun text (bound params) (state store old) (state store new))
+abbrev pub IsRunOnOk : {S X E : Type 0} → Ghosts S → List ℕ → List ValueRef → Held S → Held S → Result X E → Type 0
+IsRunOnOk store text params old new result = HasCleanDisk (state store new) → OnOk result (IsRun text (bound params) (state store old) (state store new))
 
 -- a call commits nothing
 abbrev pub Keeps : {S : Type 0} → Ghosts S → Held S → Held S → Type 0
@@ -47,36 +47,36 @@ abbrev pub LeavesDisk : {S : Type 0} → Ghosts S → Held S → Held S → Type
 LeavesDisk store old new = Survives (state store old) (state store new) (λ _. ⊥)
 
 -- a database of ours stays so, and its content is changed so
-abbrev pub Changes : (Content → Content) → Database → Database → Type 0
-Changes f old new = IsOurs old → IsChanged f old new
+abbrev pub IsContentChange : (Content → Content) → Database → Database → Type 0
+IsContentChange f old new = IsLayout2 old → IsChanged f old new
 
 -- under a condition, a database of ours has its content changed so
-abbrev pub ChangesIf : Type 0 → (Content → Content) → Database → Database → Type 0
-ChangesIf Condition f old new = Condition → Changes f old new
+abbrev pub IsContentChangeIf : Type 0 → (Content → Content) → Database → Database → Type 0
+IsContentChangeIf Condition f old new = Condition → IsContentChange f old new
 
 -- where the change of the records is allowed, a database of ours has its content changed so
-abbrev pub AllowedChanges : Change → Database → Database → Type 0
-AllowedChanges change old new = IsAllowed change (content_of old) → Changes (after change) old new
+abbrev pub IsAllowedChange : Change → Database → Database → Type 0
+IsAllowedChange change old new = IsAllowed change (stored_content old) → IsContentChange (after change) old new
 
 -- one kind of database becomes another one
-abbrev pub Leads : (Database → Type 0) → (Database → Type 0) → Database → Database → Type 0
-Leads From To old new = From old → To new
+abbrev pub IsTransition : (Database → Type 0) → (Database → Type 0) → Database → Database → Type 0
+IsTransition From To old new = From old → To new
 
 -- the tables are there, the layout's number is 1, and nothing is recorded
 pub record IsBlank (db : Database) : Type 0 where
-  pub ours : IsOurs db
-  pub listed : IsListed db
-  pub content : content_of db ≡ []
+  pub ours : IsLayout2 db
+  pub listed : HoldsRecords db
+  pub content : stored_content db ≡ []
 
 -- where the first three tables are there, the database is as it was, and it is told whether the layout has this number and no other
-abbrev pub TellsNumber : ℕ → State → State → Bool → Type 0
-TellsNumber number old new is =
+abbrev pub ReportsNumber : ℕ → State → State → Bool → Type 0
+ReportsNumber number old new is =
     (more : List Table) (keys : List Index) → old.now.schema ≡ schema_with more keys
     → IsUnchanged old new × (IsTrue is ↔ (map rowid (old.now.trees 0) ≡ Int (pos number) ∷ []))
 
 -- the table of the reasons is there too, and empty, and the other tables are as they were
 pub record IsExtended (old new : Database) : Type 0 where
-  pub schema : new.schema ≡ feed_schema
+  pub schema : new.schema ≡ layout_2_schema
   pub obeyed : IsDatabase new
   pub layout : new.trees 0 ≡ old.trees 0
   pub releases : new.trees 1 ≡ old.trees 1
@@ -84,20 +84,20 @@ pub record IsExtended (old new : Database) : Type 0 where
   pub reasons : new.trees 5 ≡ []
 
 -- a database with the tables of layout 1 gets that of the reasons
-abbrev pub Extends : Database → Database → Type 0
-Extends old new = old.schema ≡ earlier_schema → IsExtended old new
+abbrev pub IsExtension : Database → Database → Type 0
+IsExtension old new = old.schema ≡ layout_1_schema → IsExtended old new
 
 -- a database of layout 1 becomes one of layout 2, whose content is this of the one before
 pub record IsUpgraded (f : Content → Content) (old new : Database) : Type 0 where
-  pub ours : IsOurs new
-  pub listed : IsEarlierListed old → IsListed new
-  pub content : IsEarlierListed old → content_of new ≡ f (earlier_content_of old)
+  pub ours : IsLayout2 new
+  pub listed : HoldsReleases old → HoldsRecords new
+  pub content : HoldsReleases old → stored_content new ≡ f (content_without_reasons old)
 
 -- under a condition, a database of layout 1 becomes one of layout 2
-abbrev pub UpgradesIf : Type 0 → (Content → Content) → Database → Database → Type 0
-UpgradesIf Condition f old new = Condition → IsEarlier old → IsUpgraded f old new
+abbrev pub IsUpgradeIf : Type 0 → (Content → Content) → Database → Database → Type 0
+IsUpgradeIf Condition f old new = Condition → IsLayout1 old → IsUpgraded f old new
 
 -- a database whose tables of layout 1 were extended gets the number of layout 2
-abbrev pub Renumbers : Database → Database → Type 0
-Renumbers old new =
-    (first : Database) → IsEarlier first → IsExtended first old → IsUpgraded (λ c. c) first new
+abbrev pub IsRenumbering : Database → Database → Type 0
+IsRenumbering old new =
+    (first : Database) → IsLayout1 first → IsExtended first old → IsUpgraded (λ c. c) first new

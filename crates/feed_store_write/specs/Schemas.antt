@@ -7,7 +7,7 @@ use Rattle.sqlite.specs.Effect.{Database}
 use Rattle.sqlite.specs.Schema.{Schema}
 use Rattle.sqlite.specs.Table.{Table}
 use Rattle.sqlite_schema.specs.declared.schema.Index.{Index}
-use Rattle.feed_store_model.specs.Layout.{earlier_schema, feed_schema, no_schema, no_table}
+use Rattle.feed_store_model.specs.Layout.{layout_1_schema, layout_2_schema, no_schema, no_table}
 use Rattle.feed_store_write.specs.Texts.{layout_text, release_text}
 
 -- the table that a text defines
@@ -46,11 +46,11 @@ HasReleaseTable = HasEmpty second_schema (0 ∷ 1 ∷ [])
 
 -- and that of the parts
 abbrev pub HasPieceTable : Database → Type 0
-HasPieceTable = HasEmpty earlier_schema (0 ∷ 1 ∷ 3 ∷ [])
+HasPieceTable = HasEmpty layout_1_schema (0 ∷ 1 ∷ 3 ∷ [])
 
 -- all four are there
 abbrev pub HasAllTables : Database → Type 0
-HasAllTables = HasEmpty feed_schema (0 ∷ 1 ∷ 3 ∷ 5 ∷ [])
+HasAllTables = HasEmpty layout_2_schema (0 ∷ 1 ∷ 3 ∷ 5 ∷ [])
 
 -- no default of the table is computed, and its rows have no running number
 abbrev pub IsPlain : Table → Type 0

@@ -19,26 +19,26 @@ reason_text =
     codes "CREATE TABLE feed_reason (\n  name TEXT NOT NULL PRIMARY KEY REFERENCES feed_release (name) ON DELETE CASCADE,\n"
     ++ codes "  reason INTEGER NOT NULL,\n  label INTEGER NOT NULL,\n  CHECK (reason BETWEEN 1 AND 5),\n  CHECK (label BETWEEN 0 AND 13)\n) STRICT"
 
-abbrev pub version_text : List ℕ
-version_text = codes "INSERT INTO feed_layout (version) VALUES (2)"
+abbrev pub insert_version_text : List ℕ
+insert_version_text = codes "INSERT INTO feed_layout (version) VALUES (2)"
 
-abbrev pub upgrade_text : List ℕ
-upgrade_text = codes "UPDATE feed_layout SET version = 2"
+abbrev pub set_version_text : List ℕ
+set_version_text = codes "UPDATE feed_layout SET version = 2"
 
-abbrev pub number_text : List ℕ
-number_text = codes "SELECT version FROM feed_layout"
+abbrev pub select_version_text : List ℕ
+select_version_text = codes "SELECT version FROM feed_layout"
 
-abbrev pub insert_text : List ℕ
-insert_text = codes "INSERT INTO feed_release (name, package, day, size, state) VALUES (?1, ?2, ?3, ?4, ?5)"
+abbrev pub insert_release_text : List ℕ
+insert_release_text = codes "INSERT INTO feed_release (name, package, day, size, state) VALUES (?1, ?2, ?3, ?4, ?5)"
 
-abbrev pub part_text : List ℕ
-part_text = codes "INSERT INTO feed_piece (name, place, bytes) VALUES (?1, ?2, ?3)"
+abbrev pub insert_piece_text : List ℕ
+insert_piece_text = codes "INSERT INTO feed_piece (name, place, bytes) VALUES (?1, ?2, ?3)"
 
-abbrev pub said_text : List ℕ
-said_text = codes "INSERT INTO feed_reason (name, reason, label) VALUES (?1, ?2, ?3)"
+abbrev pub insert_reason_text : List ℕ
+insert_reason_text = codes "INSERT INTO feed_reason (name, reason, label) VALUES (?1, ?2, ?3)"
 
-abbrev pub set_text : List ℕ
-set_text = codes "UPDATE feed_release SET state = ?2 WHERE name = ?1"
+abbrev pub set_state_text : List ℕ
+set_state_text = codes "UPDATE feed_release SET state = ?2 WHERE name = ?1"
 
-abbrev pub delete_text : List ℕ
-delete_text = codes "DELETE FROM feed_release WHERE package = ?1 AND day < ?2"
+abbrev pub delete_releases_text : List ℕ
+delete_releases_text = codes "DELETE FROM feed_release WHERE package = ?1 AND day < ?2"

@@ -3,10 +3,10 @@ ghost use Rattle.std.specs.Prelude.{◌≡◌, false, OnOk, OnErr};
 ghost use Rattle.feed_model.specs.Change.{Add, Break, after, changed, grown, without_earlier, IsAllowed};
 ghost use Rattle.feed_parts.specs.Shown.{shown_parts};
 ghost use Rattle.feed_keep.specs.Shown.{shown_change};
-ghost use Rattle.feed_store_write.specs.Effects.{AllowedChanges, Changes, IsLive, Keeps, LeavesDisk, Makes};
+ghost use Rattle.feed_store_write.specs.Effects.{IsAllowedChange, IsContentChange, IsLive, Keeps, LeavesDisk, IsMadeOnOk};
 ghost use Rattle.sqlite.specs.Held.{state};
 
-use crate::statements::{drop_earlier, insert_parts, insert_reason, insert_release, set_state};
+use crate::statements::{delete_earlier, insert_parts, insert_reason, insert_release, set_state};
 use feed_kbart::BadFile;
 use feed_keep::Change;
 use feed_model::State;
@@ -14,13 +14,13 @@ use feed_names::ReleaseName;
 use feed_parts::Part;
 use sqlite::{Alter, Connection, Error, ErrorCode, Transaction};
 
-/// Makes a change of the records in one transaction: the whole of it, or nothing. It refuses inside a transaction. The
+/// IsMadeOnOk a change of the records in one transaction: the whole of it, or nothing. It refuses inside a transaction. The
 /// error is what SQLite says of the statement that failed, and `TooBig` for a size or a place beyond 32 bits.
 pub fn commit_change<S: Alter>(conn: &mut Connection<S>, change: &Change<'_>) -> Result<(), Error>
     requires { conn.old.in_transaction ≡ false }
     ensures idle { conn.new.in_transaction ≡ false }
     ensures live { IsLive (state S.Store conn.new) → IsLive (state S.Store conn.old) }
-    ensures whole { IsLive (state S.Store conn.new) → OnOk result (AllowedChanges (shown_change change.now)
+    ensures whole { IsLive (state S.Store conn.new) → OnOk result (IsAllowedChange (shown_change change.now)
         (state S.Store conn.old).now (state S.Store conn.new).now) }
     ensures neither { IsLive (state S.Store conn.new)
         → OnErr result ((state S.Store conn.new).now ≡ (state S.Store conn.old).now) }
@@ -29,33 +29,33 @@ pub fn commit_change<S: Alter>(conn: &mut Connection<S>, change: &Change<'_>) ->
         return Err(Error::SqliteFailure(ErrorCode::TransactionState));
     }
     let mut tx = conn.transaction();
-    make(&mut tx, change)?;
+    apply_change(&mut tx, change)?;
     tx.commit()
 }
 
-// Makes a change inside a transaction.
-fn make<S: Alter>(tx: &mut Transaction<'_, S>, change: &Change<'_>) -> Result<(), Error>
+// IsMadeOnOk a change inside a transaction.
+fn apply_change<S: Alter>(tx: &mut Transaction<'_, S>, change: &Change<'_>) -> Result<(), Error>
     ensures same_reference { tx.new.conn.ghost_name ≡ tx.old.conn.ghost_name }
-    ensures made { Makes S.Store (AllowedChanges (shown_change change.now)) tx.old.conn.now tx.new.conn.now result }
+    ensures made { IsMadeOnOk S.Store (IsAllowedChange (shown_change change.now)) tx.old.conn.now tx.new.conn.now result }
     ensures kept { Keeps S.Store tx.old.conn.now tx.new.conn.now }
     ensures survives { LeavesDisk S.Store tx.old.conn.now tx.new.conn.now }
 {
     match change {
-        Change::Add { name, size } => add(tx, name, *size),
+        Change::Add { name, size } => add_release(tx, name, *size),
         Change::Pieces { name, parts } => insert_parts(tx, name, parts),
         Change::Break {
             name,
             parts,
             reason,
-        } => break_off(tx, name, parts, *reason),
+        } => break_release(tx, name, parts, *reason),
         Change::Activate { name, parts } => activate(tx, name, parts),
     }
 }
 
 // Adds the record of a release. It refuses a size beyond 32 bits, which no file has.
-fn add<S: Alter>(tx: &mut Transaction<'_, S>, name: &ReleaseName, size: u64) -> Result<(), Error>
+fn add_release<S: Alter>(tx: &mut Transaction<'_, S>, name: &ReleaseName, size: u64) -> Result<(), Error>
     ensures same_reference { tx.new.conn.ghost_name ≡ tx.old.conn.ghost_name }
-    ensures made { Makes S.Store (AllowedChanges (Add name.now size)) tx.old.conn.now tx.new.conn.now result }
+    ensures made { IsMadeOnOk S.Store (IsAllowedChange (Add name.now size)) tx.old.conn.now tx.new.conn.now result }
     ensures kept { Keeps S.Store tx.old.conn.now tx.new.conn.now }
     ensures survives { LeavesDisk S.Store tx.old.conn.now tx.new.conn.now }
 {
@@ -63,15 +63,15 @@ fn add<S: Alter>(tx: &mut Transaction<'_, S>, name: &ReleaseName, size: u64) -> 
         return Err(Error::SqliteFailure(ErrorCode::TooBig));
     };
     if size == 0 {
-        return add_empty(tx, name);
+        return add_empty_release(tx, name);
     }
     insert_release(tx, name, short, State::Staged)
 }
 
 // Adds the record of a release whose file is empty, and so whole, and bad.
-fn add_empty<S: Alter>(tx: &mut Transaction<'_, S>, name: &ReleaseName) -> Result<(), Error>
+fn add_empty_release<S: Alter>(tx: &mut Transaction<'_, S>, name: &ReleaseName) -> Result<(), Error>
     ensures same_reference { tx.new.conn.ghost_name ≡ tx.old.conn.ghost_name }
-    ensures made { Makes S.Store (AllowedChanges (Add name.now 0)) tx.old.conn.now tx.new.conn.now result }
+    ensures made { IsMadeOnOk S.Store (IsAllowedChange (Add name.now 0)) tx.old.conn.now tx.new.conn.now result }
     ensures kept { Keeps S.Store tx.old.conn.now tx.new.conn.now }
     ensures survives { LeavesDisk S.Store tx.old.conn.now tx.new.conn.now }
 {
@@ -80,14 +80,14 @@ fn add_empty<S: Alter>(tx: &mut Transaction<'_, S>, name: &ReleaseName) -> Resul
 }
 
 // Adds the last parts of a release whose file is bad, and why it is.
-fn break_off<S: Alter>(
+fn break_release<S: Alter>(
     tx: &mut Transaction<'_, S>,
     name: &ReleaseName,
     parts: &[Part],
     why: BadFile,
 ) -> Result<(), Error>
     ensures same_reference { tx.new.conn.ghost_name ≡ tx.old.conn.ghost_name }
-    ensures made { Makes S.Store (AllowedChanges (Break name.now (shown_parts parts.now) why))
+    ensures made { IsMadeOnOk S.Store (IsAllowedChange (Break name.now (shown_parts parts.now) why))
         tx.old.conn.now tx.new.conn.now result }
     ensures kept { Keeps S.Store tx.old.conn.now tx.new.conn.now }
     ensures survives { LeavesDisk S.Store tx.old.conn.now tx.new.conn.now }
@@ -104,7 +104,7 @@ fn finish<S: Alter>(
     value: State,
 ) -> Result<(), Error>
     ensures same_reference { tx.new.conn.ghost_name ≡ tx.old.conn.ghost_name }
-    ensures made { Makes S.Store (Changes (changed name.now (grown (shown_parts parts.now) value)))
+    ensures made { IsMadeOnOk S.Store (IsContentChange (changed name.now (grown (shown_parts parts.now) value)))
         tx.old.conn.now tx.new.conn.now result }
     ensures kept { Keeps S.Store tx.old.conn.now tx.new.conn.now }
     ensures survives { LeavesDisk S.Store tx.old.conn.now tx.new.conn.now }
@@ -120,12 +120,12 @@ fn activate<S: Alter>(
     parts: &[Part],
 ) -> Result<(), Error>
     ensures same_reference { tx.new.conn.ghost_name ≡ tx.old.conn.ghost_name }
-    ensures made { Makes S.Store (Changes
+    ensures made { IsMadeOnOk S.Store (IsContentChange
         (λ c. without_earlier name.now (changed name.now (grown (shown_parts parts.now) State.Active) c)))
         tx.old.conn.now tx.new.conn.now result }
     ensures kept { Keeps S.Store tx.old.conn.now tx.new.conn.now }
     ensures survives { LeavesDisk S.Store tx.old.conn.now tx.new.conn.now }
 {
     finish(tx, name, parts, State::Active)?;
-    drop_earlier(tx, name)
+    delete_earlier(tx, name)
 }

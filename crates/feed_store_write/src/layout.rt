@@ -1,6 +1,6 @@
 //! Creates the tables of an empty database.
 ghost use Rattle.std.specs.Prelude.{◌≡◌, false, IsTrue, OnErr, OnOk};
-ghost use Rattle.feed_store_write.specs.Effects.{Extends, IsBlank, IsLive, Keeps, Leads, LeavesDisk, Makes};
+ghost use Rattle.feed_store_write.specs.Effects.{IsExtension, IsBlank, IsLive, Keeps, IsTransition, LeavesDisk, IsMadeOnOk};
 ghost use Rattle.feed_store_write.specs.Schemas.{HasAllTables, HasLayoutTable, HasNoTable, HasPieceTable};
 ghost use Rattle.feed_store_write.specs.Schemas.{HasReleaseTable};
 ghost use Rattle.sqlite.specs.Held.{state};
@@ -9,15 +9,15 @@ ghost use Rattle.sqlite.specs.State.{HasCleanDisk};
 use crate::running::run;
 use sqlite::{Alter, Connection, Error, ErrorCode, Transaction};
 
-/// Makes the tables in an empty database, with the number of the layout, in one transaction: all of it, or nothing. It
+/// IsMadeOnOk the tables in an empty database, with the number of the layout, in one transaction: all of it, or nothing. It
 /// refuses inside a transaction. The error is what SQLite says of the statement that failed.
-pub fn lay_out<S: Alter>(conn: &mut Connection<S>) -> Result<(), Error>
+pub fn create_tables<S: Alter>(conn: &mut Connection<S>) -> Result<(), Error>
     requires { conn.old.in_transaction ≡ false }
     ensures idle { conn.new.in_transaction ≡ false }
     ensures limit { conn.new.step_limit ≡ conn.old.step_limit }
     ensures open { HasCleanDisk (state S.Store conn.new) → OnOk result (IsTrue (state S.Store conn.new).is_open) }
     ensures live { IsLive (state S.Store conn.new) → IsLive (state S.Store conn.old) }
-    ensures whole { IsLive (state S.Store conn.new) → OnOk result (Leads HasNoTable IsBlank
+    ensures whole { IsLive (state S.Store conn.new) → OnOk result (IsTransition HasNoTable IsBlank
         (state S.Store conn.old).now (state S.Store conn.new).now) }
     ensures neither { IsLive (state S.Store conn.new)
         → OnErr result ((state S.Store conn.new).now ≡ (state S.Store conn.old).now) }
@@ -26,14 +26,14 @@ pub fn lay_out<S: Alter>(conn: &mut Connection<S>) -> Result<(), Error>
         return Err(Error::SqliteFailure(ErrorCode::TransactionState));
     }
     let mut tx = conn.transaction();
-    fill(&mut tx)?;
+    create_all(&mut tx)?;
     tx.commit()
 }
 
 // The tables, and the row of the layout.
-fn fill<S: Alter>(tx: &mut Transaction<'_, S>) -> Result<(), Error>
+fn create_all<S: Alter>(tx: &mut Transaction<'_, S>) -> Result<(), Error>
     ensures same_reference { tx.new.conn.ghost_name ≡ tx.old.conn.ghost_name }
-    ensures made { Makes S.Store (Leads HasNoTable IsBlank) tx.old.conn.now tx.new.conn.now result }
+    ensures made { IsMadeOnOk S.Store (IsTransition HasNoTable IsBlank) tx.old.conn.now tx.new.conn.now result }
     ensures kept { Keeps S.Store tx.old.conn.now tx.new.conn.now }
     ensures survives { LeavesDisk S.Store tx.old.conn.now tx.new.conn.now }
 {
@@ -46,7 +46,7 @@ fn fill<S: Alter>(tx: &mut Transaction<'_, S>) -> Result<(), Error>
 
 fn create_layout<S: Alter>(tx: &mut Transaction<'_, S>) -> Result<(), Error>
     ensures same_reference { tx.new.conn.ghost_name ≡ tx.old.conn.ghost_name }
-    ensures made { Makes S.Store (Leads HasNoTable HasLayoutTable)
+    ensures made { IsMadeOnOk S.Store (IsTransition HasNoTable HasLayoutTable)
         tx.old.conn.now tx.new.conn.now result }
     ensures kept { Keeps S.Store tx.old.conn.now tx.new.conn.now }
     ensures survives { LeavesDisk S.Store tx.old.conn.now tx.new.conn.now }
@@ -60,7 +60,7 @@ fn create_layout<S: Alter>(tx: &mut Transaction<'_, S>) -> Result<(), Error>
 
 fn create_release<S: Alter>(tx: &mut Transaction<'_, S>) -> Result<(), Error>
     ensures same_reference { tx.new.conn.ghost_name ≡ tx.old.conn.ghost_name }
-    ensures made { Makes S.Store (Leads HasLayoutTable HasReleaseTable)
+    ensures made { IsMadeOnOk S.Store (IsTransition HasLayoutTable HasReleaseTable)
         tx.old.conn.now tx.new.conn.now result }
     ensures kept { Keeps S.Store tx.old.conn.now tx.new.conn.now }
     ensures survives { LeavesDisk S.Store tx.old.conn.now tx.new.conn.now }
@@ -82,7 +82,7 @@ fn create_release<S: Alter>(tx: &mut Transaction<'_, S>) -> Result<(), Error>
 
 fn create_piece<S: Alter>(tx: &mut Transaction<'_, S>) -> Result<(), Error>
     ensures same_reference { tx.new.conn.ghost_name ≡ tx.old.conn.ghost_name }
-    ensures made { Makes S.Store (Leads HasReleaseTable HasPieceTable)
+    ensures made { IsMadeOnOk S.Store (IsTransition HasReleaseTable HasPieceTable)
         tx.old.conn.now tx.new.conn.now result }
     ensures kept { Keeps S.Store tx.old.conn.now tx.new.conn.now }
     ensures survives { LeavesDisk S.Store tx.old.conn.now tx.new.conn.now }
@@ -100,11 +100,11 @@ fn create_piece<S: Alter>(tx: &mut Transaction<'_, S>) -> Result<(), Error>
     )
 }
 
-/// Makes the table of the reasons.
+/// IsMadeOnOk the table of the reasons.
 pub(crate) fn create_reason<S: Alter>(tx: &mut Transaction<'_, S>) -> Result<(), Error>
     ensures same_reference { tx.new.conn.ghost_name ≡ tx.old.conn.ghost_name }
-    ensures made { Makes S.Store Extends tx.old.conn.now tx.new.conn.now result }
-    ensures blank { Makes S.Store (Leads HasPieceTable HasAllTables) tx.old.conn.now tx.new.conn.now result }
+    ensures made { IsMadeOnOk S.Store IsExtension tx.old.conn.now tx.new.conn.now result }
+    ensures blank { IsMadeOnOk S.Store (IsTransition HasPieceTable HasAllTables) tx.old.conn.now tx.new.conn.now result }
     ensures kept { Keeps S.Store tx.old.conn.now tx.new.conn.now }
     ensures survives { LeavesDisk S.Store tx.old.conn.now tx.new.conn.now }
 {
@@ -123,7 +123,7 @@ pub(crate) fn create_reason<S: Alter>(tx: &mut Transaction<'_, S>) -> Result<(),
 
 fn insert_version<S: Alter>(tx: &mut Transaction<'_, S>) -> Result<(), Error>
     ensures same_reference { tx.new.conn.ghost_name ≡ tx.old.conn.ghost_name }
-    ensures made { Makes S.Store (Leads HasAllTables IsBlank)
+    ensures made { IsMadeOnOk S.Store (IsTransition HasAllTables IsBlank)
         tx.old.conn.now tx.new.conn.now result }
     ensures kept { Keeps S.Store tx.old.conn.now tx.new.conn.now }
     ensures survives { LeavesDisk S.Store tx.old.conn.now tx.new.conn.now }

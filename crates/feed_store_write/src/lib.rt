@@ -11,7 +11,7 @@ mod statements;
 mod upgrading;
 
 pub use changes::commit_change;
-pub use layout::lay_out;
-pub use number::has_number;
-pub use schema::{is_blank, is_earlier, is_laid_out};
+pub use layout::create_tables;
+pub use number::has_layout_number;
+pub use schema::{has_no_table, is_layout_1, is_layout_2};
 pub use upgrading::upgrade;

@@ -1,6 +1,6 @@
 //! Reads the number of a database's layout.
 ghost use Rattle.std.specs.Prelude.{◌≡◌, ◌∷◌, ◌↔◌, [], false, pos, IfOk, IsTrue};
-ghost use Rattle.feed_store_write.specs.Effects.{IsLive, TellsNumber};
+ghost use Rattle.feed_store_write.specs.Effects.{IsLive, ReportsNumber};
 ghost use Rattle.sqlite.specs.Held.{state};
 ghost use Rattle.sqlite.specs.State.{HasCleanDisk};
 ghost use Rattle.sqlite_value.specs.declared.value.Value.TheVariants.{Int};
@@ -10,22 +10,22 @@ use sqlite_value::value::ValueRef;
 
 /// Whether the layout of a database with the tables has this number, and no other. It writes nothing, and refuses
 /// inside a transaction. The error is SQLite's.
-pub fn has_number<S: Alter>(conn: &mut Connection<S>, number: u32) -> Result<bool, Error>
+pub fn has_layout_number<S: Alter>(conn: &mut Connection<S>, number: u32) -> Result<bool, Error>
     ensures idle { conn.old.in_transaction ≡ false → conn.new.in_transaction ≡ false }
     ensures live { IsLive (state S.Store conn.new) → IsLive (state S.Store conn.old) }
     ensures same { IsLive (state S.Store conn.new) → (state S.Store conn.new).now ≡ (state S.Store conn.old).now }
     ensures limit { conn.new.step_limit ≡ conn.old.step_limit }
     ensures told { HasCleanDisk (state S.Store conn.new) → IfOk result (λ is.
-        TellsNumber number (state S.Store conn.old) (state S.Store conn.new) is) }
+        ReportsNumber number (state S.Store conn.old) (state S.Store conn.new) is) }
 {
     if !conn.is_autocommit() {
         return Err(Error::SqliteFailure(ErrorCode::TransactionState));
     }
     let rows = conn.query_all("SELECT version FROM feed_layout", &[])?;
-    Ok(are_number(rows.as_slice(), number))
+    Ok(is_only_number(rows.as_slice(), number))
 }
 
-fn are_number(rows: &[Row], number: u32) -> bool
+fn is_only_number(rows: &[Row], number: u32) -> bool
     ensures { IsTrue result ↔ (rows.now ≡ (Int (pos number) ∷ []) ∷ []) }
 {
     match rows {

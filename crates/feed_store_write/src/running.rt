@@ -2,19 +2,19 @@
 ghost use Rattle.std.specs.Prelude.{◌≡◌, OnOk};
 ghost use Rattle.sqlite_value.specs.declared.value.Value.TheVariants.{Text};
 ghost use Rattle.sqlite_value.specs.Value.{owned};
-ghost use Rattle.feed_store_write.specs.Effects.{Keeps, LeavesDisk, Runs};
+ghost use Rattle.feed_store_write.specs.Effects.{Keeps, LeavesDisk, IsRunOnOk};
 
 use sqlite::{Alter, Error, Transaction};
 use sqlite_value::value::ValueRef;
 
-/// Runs a statement, and drops the count of its rows. A transaction that has ended takes none.
+/// IsRunOnOk a statement, and drops the count of its rows. A transaction that has ended takes none.
 pub fn run<S: Alter>(
     tx: &mut Transaction<'_, S>,
     sql: &str,
     params: &[ValueRef<'_>],
 ) -> Result<(), Error>
     ensures same_reference { tx.new.conn.ghost_name ≡ tx.old.conn.ghost_name }
-    ensures ran { Runs S.Store sql.now params.now tx.old.conn.now tx.new.conn.now result }
+    ensures ran { IsRunOnOk S.Store sql.now params.now tx.old.conn.now tx.new.conn.now result }
     ensures kept { Keeps S.Store tx.old.conn.now tx.new.conn.now }
     ensures survives { LeavesDisk S.Store tx.old.conn.now tx.new.conn.now }
 {

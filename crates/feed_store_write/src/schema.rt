@@ -2,7 +2,7 @@
 ghost use Rattle.std.specs.Prelude.{◌≡◌, ◌≤◌, ◌↔◌, IsTrue, [], ◌∷◌, ℕ, codes};
 ghost use Rattle.std.specs.Prelude.{false, length, pos, suc};
 ghost use Rattle.sqlite_schema.specs.declared.schema.Kind.TheVariants.{Integer};
-ghost use Rattle.feed_store_model.specs.Layout.{between, bound_by, column_of, earlier_schema, feed_schema, layout};
+ghost use Rattle.feed_store_model.specs.Layout.{between, bound_by, column_of, layout_1_schema, layout_2_schema, layout};
 ghost use Rattle.feed_store_model.specs.Layout.{no_schema, owner, piece, reason, release};
 ghost use Rattle.feed_store_write.specs.Schemas.{IsPlain, automatic, piece_index, reason_index, release_index};
 ghost use Rattle.sqlite_schema.specs.Code.{term_in, term_to};
@@ -166,7 +166,7 @@ fn are_reason_checks(terms: &Terms) -> bool
     }
 }
 
-fn is_no_term(terms: &Terms) -> bool
+fn has_no_term(terms: &Terms) -> bool
     ensures { IsTrue result ↔ (terms.now ≡ []) }
 {
     terms.roots.is_empty()
@@ -178,7 +178,7 @@ fn is_plain(table: &Table) -> bool
 {
     table.computed.is_empty()
         && table.stamps.places.is_empty()
-        && is_no_term(&table.stamps.terms)
+        && has_no_term(&table.stamps.terms)
         && table.stamps.formats.is_empty()
         && !table.is_counted
 }
@@ -196,7 +196,7 @@ fn is_layout(table: &Table) -> bool
         && are_places(&table.primary, &[0])
         && table.uniques.is_empty()
         && table.orders.is_empty()
-        && is_no_term(&table.checks)
+        && has_no_term(&table.checks)
         && table.references.is_empty()
         && is_plain(table)
 }
@@ -330,8 +330,8 @@ fn is_automatic(index: &Index, name: &[u8], tree: u32, table: u32, places: &[usi
         && index.is_unique
 }
 
-fn are_earlier_tables(tables: &Items<Table>) -> bool
-    ensures { IsTrue result ↔ (tables.now ≡ earlier_schema.tables) }
+fn are_layout_1_tables(tables: &Items<Table>) -> bool
+    ensures { IsTrue result ↔ (tables.now ≡ layout_1_schema.tables) }
 {
     match tables.as_slice() {
         [first, second, third] => is_layout(first) && is_release(second) && is_piece(third),
@@ -339,8 +339,8 @@ fn are_earlier_tables(tables: &Items<Table>) -> bool
     }
 }
 
-fn are_tables(tables: &Items<Table>) -> bool
-    ensures { IsTrue result ↔ (tables.now ≡ feed_schema.tables) }
+fn are_layout_2_tables(tables: &Items<Table>) -> bool
+    ensures { IsTrue result ↔ (tables.now ≡ layout_2_schema.tables) }
 {
     match tables.as_slice() {
         [first, second, third, fourth] => {
@@ -368,7 +368,7 @@ fn is_reason_index(index: &Index) -> bool
     is_automatic(index, b"sqlite_autoindex_feed_reason_1", 6, 5, &[1])
 }
 
-fn are_earlier_indexes(indexes: &Items<Index>) -> bool
+fn are_layout_1_indexes(indexes: &Items<Index>) -> bool
     ensures { IsTrue result ↔ (indexes.now ≡ release_index ∷ piece_index ∷ []) }
 {
     match indexes.as_slice() {
@@ -377,7 +377,7 @@ fn are_earlier_indexes(indexes: &Items<Index>) -> bool
     }
 }
 
-fn are_indexes(indexes: &Items<Index>) -> bool
+fn are_layout_2_indexes(indexes: &Items<Index>) -> bool
     ensures { IsTrue result ↔ (indexes.now ≡ release_index ∷ piece_index ∷ reason_index ∷ []) }
 {
     match indexes.as_slice() {
@@ -389,23 +389,23 @@ fn are_indexes(indexes: &Items<Index>) -> bool
 }
 
 /// Whether a database has the tables of layout 1 and no other, with the indexes that their keys have.
-pub fn is_earlier(schema: &Schema) -> bool
-    ensures { IsTrue result ↔ (schema.now ≡ earlier_schema) }
+pub fn is_layout_1(schema: &Schema) -> bool
+    ensures { IsTrue result ↔ (schema.now ≡ layout_1_schema) }
 {
-    are_earlier_tables(&schema.tables)
-        & are_earlier_indexes(&schema.indexes)
+    are_layout_1_tables(&schema.tables)
+        & are_layout_1_indexes(&schema.indexes)
         & schema.views.is_empty()
 }
 
 /// Whether a database has the tables of layout 2 and no other, with the indexes that their keys have.
-pub fn is_laid_out(schema: &Schema) -> bool
-    ensures { IsTrue result ↔ (schema.now ≡ feed_schema) }
+pub fn is_layout_2(schema: &Schema) -> bool
+    ensures { IsTrue result ↔ (schema.now ≡ layout_2_schema) }
 {
-    are_tables(&schema.tables) & are_indexes(&schema.indexes) & schema.views.is_empty()
+    are_layout_2_tables(&schema.tables) & are_layout_2_indexes(&schema.indexes) & schema.views.is_empty()
 }
 
 /// Whether a database has no table.
-pub fn is_blank(schema: &Schema) -> bool
+pub fn has_no_table(schema: &Schema) -> bool
     ensures { IsTrue result ↔ (schema.now ≡ no_schema) }
 {
     schema.tables.is_empty() & schema.indexes.is_empty() & schema.views.is_empty()

@@ -5,7 +5,7 @@ ghost use Rattle.feed_model.specs.Reply.{max_file};
 ghost use Rattle.feed_parts.specs.Shown.{shown_part, shown_parts};
 ghost use Rattle.feed_store_model.specs.Records.{bare, with_part, with_parts, with_reason, with_state};
 ghost use Rattle.feed_store_model.specs.Tables.{IsStored, number_of, reason_at};
-ghost use Rattle.feed_store_write.specs.Effects.{Changes, ChangesIf, Keeps, LeavesDisk, Makes};
+ghost use Rattle.feed_store_write.specs.Effects.{IsContentChange, IsContentChangeIf, Keeps, LeavesDisk, IsMadeOnOk};
 
 use crate::running::{as_text, run};
 use feed_kbart::BadFile;
@@ -23,7 +23,7 @@ pub fn insert_release<S: Alter>(
     value: State,
 ) -> Result<(), Error>
     ensures same_reference { tx.new.conn.ghost_name ≡ tx.old.conn.ghost_name }
-    ensures made { Makes S.Store (ChangesIf (size ≤ max_file) (insert_record (bare name.now size value)))
+    ensures made { IsMadeOnOk S.Store (IsContentChangeIf (size ≤ max_file) (insert_record (bare name.now size value)))
         tx.old.conn.now tx.new.conn.now result }
     ensures kept { Keeps S.Store tx.old.conn.now tx.new.conn.now }
     ensures survives { LeavesDisk S.Store tx.old.conn.now tx.new.conn.now }
@@ -48,7 +48,7 @@ pub fn insert_part<S: Alter>(
     part: &Part,
 ) -> Result<(), Error>
     ensures same_reference { tx.new.conn.ghost_name ≡ tx.old.conn.ghost_name }
-    ensures made { Makes S.Store (Changes (changed name.now (with_part (shown_part part.now))))
+    ensures made { IsMadeOnOk S.Store (IsContentChange (changed name.now (with_part (shown_part part.now))))
         tx.old.conn.now tx.new.conn.now result }
     ensures kept { Keeps S.Store tx.old.conn.now tx.new.conn.now }
     ensures survives { LeavesDisk S.Store tx.old.conn.now tx.new.conn.now }
@@ -70,7 +70,7 @@ pub fn set_state<S: Alter>(
     value: State,
 ) -> Result<(), Error>
     ensures same_reference { tx.new.conn.ghost_name ≡ tx.old.conn.ghost_name }
-    ensures made { Makes S.Store (Changes (changed name.now (with_state value)))
+    ensures made { IsMadeOnOk S.Store (IsContentChange (changed name.now (with_state value)))
         tx.old.conn.now tx.new.conn.now result }
     ensures kept { Keeps S.Store tx.old.conn.now tx.new.conn.now }
     ensures survives { LeavesDisk S.Store tx.old.conn.now tx.new.conn.now }
@@ -89,7 +89,7 @@ pub fn insert_reason<S: Alter>(
     why: BadFile,
 ) -> Result<(), Error>
     ensures same_reference { tx.new.conn.ghost_name ≡ tx.old.conn.ghost_name }
-    ensures made { Makes S.Store (ChangesIf (IsStored why) (changed name.now (with_reason why)))
+    ensures made { IsMadeOnOk S.Store (IsContentChangeIf (IsStored why) (changed name.now (with_reason why)))
         tx.old.conn.now tx.new.conn.now result }
     ensures kept { Keeps S.Store tx.old.conn.now tx.new.conn.now }
     ensures survives { LeavesDisk S.Store tx.old.conn.now tx.new.conn.now }
@@ -103,9 +103,9 @@ pub fn insert_reason<S: Alter>(
 }
 
 /// Deletes the releases of the name's package that are of earlier days, and with them their parts and reasons.
-pub fn drop_earlier<S: Alter>(tx: &mut Transaction<'_, S>, name: &ReleaseName) -> Result<(), Error>
+pub fn delete_earlier<S: Alter>(tx: &mut Transaction<'_, S>, name: &ReleaseName) -> Result<(), Error>
     ensures same_reference { tx.new.conn.ghost_name ≡ tx.old.conn.ghost_name }
-    ensures made { Makes S.Store (Changes (without_earlier name.now)) tx.old.conn.now tx.new.conn.now result }
+    ensures made { IsMadeOnOk S.Store (IsContentChange (without_earlier name.now)) tx.old.conn.now tx.new.conn.now result }
     ensures kept { Keeps S.Store tx.old.conn.now tx.new.conn.now }
     ensures survives { LeavesDisk S.Store tx.old.conn.now tx.new.conn.now }
 {
@@ -123,7 +123,7 @@ pub fn insert_parts<S: Alter>(
     parts: &[Part],
 ) -> Result<(), Error>
     ensures same_reference { tx.new.conn.ghost_name ≡ tx.old.conn.ghost_name }
-    ensures made { Makes S.Store (Changes (changed name.now (with_parts (shown_parts parts.now))))
+    ensures made { IsMadeOnOk S.Store (IsContentChange (changed name.now (with_parts (shown_parts parts.now))))
         tx.old.conn.now tx.new.conn.now result }
     ensures kept { Keeps S.Store tx.old.conn.now tx.new.conn.now }
     ensures survives { LeavesDisk S.Store tx.old.conn.now tx.new.conn.now }

@@ -1,7 +1,7 @@
 //! How a database of layout 1 becomes one of layout 2.
 ghost use Rattle.std.specs.Prelude.{◌≡◌, false, OnErr, OnOk};
 ghost use Rattle.feed_keep.specs.Shown.{shown, shown_record};
-ghost use Rattle.feed_store_write.specs.Effects.{ChangesIf, IsLive, Keeps, LeavesDisk, Makes, Renumbers, UpgradesIf};
+ghost use Rattle.feed_store_write.specs.Effects.{IsContentChangeIf, IsLive, Keeps, LeavesDisk, IsMadeOnOk, IsRenumbering, IsUpgradeIf};
 ghost use Rattle.feed_store_write.specs.Upgrading.{AreStored, IsStoredIn, explain, explained_with};
 ghost use Rattle.sqlite.specs.Held.{state};
 
@@ -11,14 +11,14 @@ use crate::statements::insert_reason;
 use feed_keep::Record;
 use sqlite::{Alter, Connection, Error, ErrorCode, Transaction};
 
-/// Makes a database of layout 1 one of layout 2, with the reasons of these records, in one transaction: all of it, or
+/// IsMadeOnOk a database of layout 1 one of layout 2, with the reasons of these records, in one transaction: all of it, or
 /// nothing. It refuses inside a transaction. The error is what SQLite says of the statement that failed.
 pub fn upgrade<S: Alter>(conn: &mut Connection<S>, records: &[Record]) -> Result<(), Error>
     requires { conn.old.in_transaction ≡ false }
     ensures idle { conn.new.in_transaction ≡ false }
     ensures limit { conn.new.step_limit ≡ conn.old.step_limit }
     ensures live { IsLive (state S.Store conn.new) → IsLive (state S.Store conn.old) }
-    ensures whole { IsLive (state S.Store conn.new) → OnOk result (UpgradesIf (AreStored (shown records.now))
+    ensures whole { IsLive (state S.Store conn.new) → OnOk result (IsUpgradeIf (AreStored (shown records.now))
         (explained_with (shown records.now)) (state S.Store conn.old).now (state S.Store conn.new).now) }
     ensures neither { IsLive (state S.Store conn.new)
         → OnErr result ((state S.Store conn.new).now ≡ (state S.Store conn.old).now) }
@@ -27,27 +27,27 @@ pub fn upgrade<S: Alter>(conn: &mut Connection<S>, records: &[Record]) -> Result
         return Err(Error::SqliteFailure(ErrorCode::TransactionState));
     }
     let mut tx = conn.transaction();
-    rebuild(&mut tx, records)?;
+    upgrade_tables(&mut tx, records)?;
     tx.commit()
 }
 
 // The table of the reasons, the number of the layout, and the reasons.
-fn rebuild<S: Alter>(tx: &mut Transaction<'_, S>, records: &[Record]) -> Result<(), Error>
+fn upgrade_tables<S: Alter>(tx: &mut Transaction<'_, S>, records: &[Record]) -> Result<(), Error>
     ensures same_reference { tx.new.conn.ghost_name ≡ tx.old.conn.ghost_name }
-    ensures made { Makes S.Store (UpgradesIf (AreStored (shown records.now)) (explained_with (shown records.now)))
+    ensures made { IsMadeOnOk S.Store (IsUpgradeIf (AreStored (shown records.now)) (explained_with (shown records.now)))
         tx.old.conn.now tx.new.conn.now result }
     ensures kept { Keeps S.Store tx.old.conn.now tx.new.conn.now }
     ensures survives { LeavesDisk S.Store tx.old.conn.now tx.new.conn.now }
 {
     create_reason(tx)?;
-    set_number(tx)?;
+    set_layout_number(tx)?;
     insert_reasons(tx, records)
 }
 
 // Sets the number of the layout.
-fn set_number<S: Alter>(tx: &mut Transaction<'_, S>) -> Result<(), Error>
+fn set_layout_number<S: Alter>(tx: &mut Transaction<'_, S>) -> Result<(), Error>
     ensures same_reference { tx.new.conn.ghost_name ≡ tx.old.conn.ghost_name }
-    ensures made { Makes S.Store Renumbers tx.old.conn.now tx.new.conn.now result }
+    ensures made { IsMadeOnOk S.Store IsRenumbering tx.old.conn.now tx.new.conn.now result }
     ensures kept { Keeps S.Store tx.old.conn.now tx.new.conn.now }
     ensures survives { LeavesDisk S.Store tx.old.conn.now tx.new.conn.now }
 {
@@ -57,7 +57,7 @@ fn set_number<S: Alter>(tx: &mut Transaction<'_, S>) -> Result<(), Error>
 // Inserts the reasons of the records that have one.
 fn insert_reasons<S: Alter>(tx: &mut Transaction<'_, S>, records: &[Record]) -> Result<(), Error>
     ensures same_reference { tx.new.conn.ghost_name ≡ tx.old.conn.ghost_name }
-    ensures made { Makes S.Store (ChangesIf (AreStored (shown records.now)) (explained_with (shown records.now)))
+    ensures made { IsMadeOnOk S.Store (IsContentChangeIf (AreStored (shown records.now)) (explained_with (shown records.now)))
         tx.old.conn.now tx.new.conn.now result }
     ensures kept { Keeps S.Store tx.old.conn.now tx.new.conn.now }
     ensures survives { LeavesDisk S.Store tx.old.conn.now tx.new.conn.now }
@@ -71,7 +71,7 @@ fn insert_reasons<S: Alter>(tx: &mut Transaction<'_, S>, records: &[Record]) -> 
 // Inserts the reason of a record, if it has one.
 fn insert_reason_of<S: Alter>(tx: &mut Transaction<'_, S>, kept: &Record) -> Result<(), Error>
     ensures same_reference { tx.new.conn.ghost_name ≡ tx.old.conn.ghost_name }
-    ensures made { Makes S.Store (ChangesIf (IsStoredIn (shown_record kept.now)) (explain (shown_record kept.now)))
+    ensures made { IsMadeOnOk S.Store (IsContentChangeIf (IsStoredIn (shown_record kept.now)) (explain (shown_record kept.now)))
         tx.old.conn.now tx.new.conn.now result }
     ensures kept { Keeps S.Store tx.old.conn.now tx.new.conn.now }
     ensures survives { LeavesDisk S.Store tx.old.conn.now tx.new.conn.now }

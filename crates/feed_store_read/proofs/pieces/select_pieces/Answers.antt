@@ -6,11 +6,11 @@ use Rattle.sqlite_rules.proofs.ListLemmas.{all_has}
 use Rattle.feed_names.specs.ReleaseName.{text_of}
 use Rattle.feed_keep.specs.Shown.{shown}
 use Rattle.feed_keep.specs.declared.record.Record.{Record}
-use Rattle.feed_store_model.specs.Tables.{IsPieceRow, IsEarlierListed, text_in}
+use Rattle.feed_store_model.specs.Tables.{IsPieceRow, HoldsReleases, text_in}
 use Rattle.feed_store_model.proofs.Ours.{tables_in}
 use Rattle.feed_store_read.specs.Texts.{pieces_text}
 use Rattle.feed_store_read.specs.Pieces.{ShowPieces}
-use Rattle.feed_store_read.specs.Releases.{AreReleases, Leaves}
+use Rattle.feed_store_read.specs.Releases.{AreReleases, WritesNothing}
 use Rattle.feed_store_read.proofs.Answers.{pieces_read}
 use Rattle.feed_store_read.proofs.GivenRows.{pieces_none}
 use Rattle.feed_store_read.proofs.Parents.{no_orphan}
@@ -128,6 +128,6 @@ returns-then-not-branch-clause-read g c live tabled =
     let it = next_row c.rows.invariant.way c.next.follows.holds-at-none c.in-Some.row (c.in_ok-row.was ∙ ap Ok c.in-Some.is) late in
     let refused : IsPieceRow row → All {X = Record} (λ r. text_of r.name ≢ text_in row) c.rows.found.records.items = rw c.if-not-branch.true at c.in_ok-take_piece.ensures.taken in
     let here = given_stands g.S.Store c.args.conn.now now it.front row ours it.same it.given in
-    let none : AreReleases old.now c.args.found.now → ¬ (IsEarlierListed old.now) = λ releases are.
+    let none : AreReleases old.now c.args.found.now → ¬ (HoldsReleases old.now) = λ releases are.
     no_orphan old.now c.args.found.now c.rows.found.records.items row ours are releases c.rows.invariant.names here (refused (all_has IsPieceRow (old.now.trees 3) row are.are_pieces here)) in
     (unchanged_at g.S.Store c.args.conn.now end it.same, none)

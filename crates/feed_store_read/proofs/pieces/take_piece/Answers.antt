@@ -14,6 +14,6 @@ returns-clause-taken c =
     let fits : FitsSigned w64 piece.id = search rules in
     let back : to_z w64 (of_z w64 piece.id) ≡ piece.id = to_z-of_z fits in
     let pushed : c.push.new.self.items ≡ c.args.ids.now.items ++ piece.id ∷ [] = c.in_ok-push.ensures.items ∙ ap (λ (n : ℤ). c.args.ids.now.items ++ n ∷ []) back in
-    both_ways c.in_ok-give.field-0 c.in_ok-give.ensures.given
+    both_ways c.in_ok-add_part.field-0 c.in_ok-add_part.ensures.given
     (λ given rows start was. piece_more rows c.args.row.now piece.id piece.text.now _ c.args.ids.now.items c.push.new.self.items start _ _ is pushed given was)
     (λ none row. subst (λ (t : List ℕ). All {X = Record} (λ r. text_of r.name ≢ t) c.args.records.now.items) (sym (ap text_in is)) none)

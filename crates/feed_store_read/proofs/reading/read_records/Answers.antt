@@ -2,38 +2,38 @@ use Rattle.std.proofs.Common.{◌≡◌, IfOk, MatchOption, sym, subst, ap, ◌�
 use Rattle.sqlite.specs.Effect.{Database}
 use Rattle.sqlite.specs.Held.{state}
 use Rattle.feed_keep.specs.Shown.{shown}
-use Rattle.feed_store_model.specs.Tables.{IsEarlierListed, IsListed, IsOurs, earlier_content_of}
+use Rattle.feed_store_model.specs.Tables.{HoldsReleases, HoldsRecords, IsLayout2, content_without_reasons}
 use Rattle.feed_store_model.proofs.Ours.{tabled_ours}
-use Rattle.feed_store_read.specs.Selected.{Explains}
+use Rattle.feed_store_read.specs.Selected.{AreRecordsOf}
 use Rattle.feed_store_read.proofs.Explaining.{told_listed, told_order, told_records}
 use Rattle.feed_store_read.proofs.reading.read_records.Goals as goal
-use Rattle.feed_store_read.proofs.reading.read_records.Goals.{After-explained}
+use Rattle.feed_store_read.proofs.reading.read_records.Goals.{After-read_reasons}
 
 pub returns-in-None-clause-listed : goal.returns-in-None-clause-listed
 returns-in-None-clause-listed g c live ours are = (rw c.in-None.is at (c.in_ok-records.ensures.listed live (tabled_ours _ ours))) are.rows
 
 pub returns-in-Some-clause-order : goal.returns-in-Some-clause-order
 returns-in-Some-clause-order g c =
-    told_order (shown c.in-Some.records.items) c.explained.result (rw c.in-Some.is at c.in_ok-records.ensures.order) c.explained.ensures.names c.explained.ensures.parts
+    told_order (shown c.in-Some.records.items) c.read_reasons.result (rw c.in-Some.is at c.in_ok-records.ensures.order) c.read_reasons.ensures.names c.read_reasons.ensures.parts
 
 pub returns-in-Some-clause-records : goal.returns-in-Some-clause-records
 returns-in-Some-clause-records g c live ours =
     let db = (state g.S.Store c.args.conn.now).now in
-    let early = c.explained.ensures.live live in
+    let early = c.read_reasons.ensures.live live in
     let has = tabled_ours db ours in
-    let first = c.read_unexplained.ensures.same early in
-    let rows : IsEarlierListed db = rw c.in-Some.is at (c.in_ok-records.ensures.listed early has) in
-    let content : shown c.in-Some.records.items ≡ earlier_content_of db = rw c.in-Some.is at (c.in_ok-records.ensures.records early has) in
-    let told = c.explained.ensures.told live (subst IsOurs (sym first) ours) (subst IsEarlierListed (sym first) rows) (content ∙ ap earlier_content_of (sym first)) in
-    told_records db c.explained.result (subst (λ (d : Database). IfOk c.explained.result (λ found. MatchOption found (¬ (IsListed d)) (Explains d))) first told)
+    let first = c.read_without_reasons.ensures.same early in
+    let rows : HoldsReleases db = rw c.in-Some.is at (c.in_ok-records.ensures.listed early has) in
+    let content : shown c.in-Some.records.items ≡ content_without_reasons db = rw c.in-Some.is at (c.in_ok-records.ensures.records early has) in
+    let told = c.read_reasons.ensures.told live (subst IsLayout2 (sym first) ours) (subst HoldsReleases (sym first) rows) (content ∙ ap content_without_reasons (sym first)) in
+    told_records db c.read_reasons.result (subst (λ (d : Database). IfOk c.read_reasons.result (λ found. MatchOption found (¬ (HoldsRecords d)) (AreRecordsOf d))) first told)
 
 pub returns-in-Some-clause-listed : goal.returns-in-Some-clause-listed
 returns-in-Some-clause-listed g c live ours =
     let db = (state g.S.Store c.args.conn.now).now in
-    let early = c.explained.ensures.live live in
+    let early = c.read_reasons.ensures.live live in
     let has = tabled_ours db ours in
-    let first = c.read_unexplained.ensures.same early in
-    let rows : IsEarlierListed db = rw c.in-Some.is at (c.in_ok-records.ensures.listed early has) in
-    let content : shown c.in-Some.records.items ≡ earlier_content_of db = rw c.in-Some.is at (c.in_ok-records.ensures.records early has) in
-    let told = c.explained.ensures.told live (subst IsOurs (sym first) ours) (subst IsEarlierListed (sym first) rows) (content ∙ ap earlier_content_of (sym first)) in
-    told_listed db c.explained.result (subst (λ (d : Database). IfOk c.explained.result (λ found. MatchOption found (¬ (IsListed d)) (Explains d))) first told)
+    let first = c.read_without_reasons.ensures.same early in
+    let rows : HoldsReleases db = rw c.in-Some.is at (c.in_ok-records.ensures.listed early has) in
+    let content : shown c.in-Some.records.items ≡ content_without_reasons db = rw c.in-Some.is at (c.in_ok-records.ensures.records early has) in
+    let told = c.read_reasons.ensures.told live (subst IsLayout2 (sym first) ours) (subst HoldsReleases (sym first) rows) (content ∙ ap content_without_reasons (sym first)) in
+    told_listed db c.read_reasons.result (subst (λ (d : Database). IfOk c.read_reasons.result (λ found. MatchOption found (¬ (HoldsRecords d)) (AreRecordsOf d))) first told)

@@ -5,19 +5,19 @@ use Rattle.feed_model.specs.Content.{names}
 use Rattle.feed_keep.specs.Shown.{shown}
 use Rattle.feed_store_model.specs.Tables.{IsTabled}
 use Rattle.feed_store_model.proofs.Ours.{tables_in}
-use Rattle.feed_store_read.specs.Order.{AreNamesUp}
+use Rattle.feed_store_read.specs.Order.{AreNamesAscending}
 use Rattle.feed_store_read.specs.Pieces.{ArePieces}
 use Rattle.feed_store_read.proofs.Joined.{names_up}
 use Rattle.feed_store_read.proofs.reading.select_all.Goals as goal
 
-pub returns-then-not-names_ascend-clause-read : goal.returns-then-not-names_ascend-clause-read
-returns-then-not-names_ascend-clause-read g c live ours are =
+pub returns-then-not-are_names_ascending-clause-read : goal.returns-then-not-are_names_ascending-clause-read
+returns-then-not-are_names_ascending-clause-read g c live ours are =
     let db = (state g.S.Store c.args.conn.now).now in
     let has = tables_in db ours in
     let read = rw c.in-Some.is at (c.in_ok-found.ensures.read live ours) in
     let up = names_up db c.in-Some.found has are read.1 in
-    let yes = c.names_ascend.ensures.1 (subst (λ rs. AreNamesUp (names (shown rs))) (sym c.deref.ensures.value) up) in
-    absurd (let g : true ≡ false = sym yes ∙ c.if-not-names_ascend.true in cc)
+    let yes = c.are_names_ascending.ensures.1 (subst (λ rs. AreNamesAscending (names (shown rs))) (sym c.deref.ensures.value) up) in
+    absurd (let g : true ≡ false = sym yes ∙ c.if-not-are_names_ascending.true in cc)
 
 pub returns-clause-read : goal.returns-clause-read
 returns-clause-read g c live ours =

@@ -7,10 +7,10 @@ use Rattle.feed_names.specs.ReleaseName.{text_of}
 use Rattle.feed_model.specs.Content.{names}
 use Rattle.feed_keep.specs.Shown.{shown}
 use Rattle.feed_keep.specs.declared.record.Record.{Record}
-use Rattle.feed_store_model.specs.Tables.{IsReasonRow, IsListed, earlier_content_of, text_in}
+use Rattle.feed_store_model.specs.Tables.{IsReasonRow, HoldsRecords, content_without_reasons, text_in}
 use Rattle.feed_store_read.specs.Texts.{reasons_text}
 use Rattle.feed_store_read.specs.Reasons.{ShowReasons}
-use Rattle.feed_store_read.specs.Releases.{Leaves}
+use Rattle.feed_store_read.specs.Releases.{WritesNothing}
 use Rattle.feed_store_read.proofs.ReasonAnswers.{are_reasons, given_reason, no_lone_reason, reasons_read}
 use Rattle.feed_store_read.proofs.GivenReasons.{reasons_none}
 use Rattle.feed_store_read.proofs.Streams.{begun_way, clean_at, idle_at, leaves_at, lent_back, next_all, next_idle, next_leaves, next_row, next_way, refused_leaves, unchanged_at, way_leaves}
@@ -124,6 +124,6 @@ returns-then-not-branch-clause-read g c live ours =
     let it = next_row c.rows.invariant.way c.next.follows.holds-at-none c.in-Some.row (c.in_ok-row.was ∙ ap Ok c.in-Some.is) late in
     let refused : IsReasonRow row → All {X = Record} (λ r. text_of r.name ≢ text_in row) c.rows.records.items = rw c.if-not-branch.true at c.in_ok-take_reason.ensures.taken in
     let here = given_reason g.S.Store c.args.conn.now now it.front row ours it.same it.given in
-    let none : shown c.args.records.now.items ≡ earlier_content_of old.now → ¬ (IsListed old.now) = λ content are.
+    let none : shown c.args.records.now.items ≡ content_without_reasons old.now → ¬ (HoldsRecords old.now) = λ content are.
     no_lone_reason old.now c.rows.records.items row ours are (c.rows.invariant.names ∙ ap names content) here (refused (all_has IsReasonRow (old.now.trees 5) row are.reasons.are here)) in
     (unchanged_at g.S.Store c.args.conn.now end it.same, none)

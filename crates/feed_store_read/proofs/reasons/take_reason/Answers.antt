@@ -8,12 +8,12 @@ use Rattle.feed_store_read.proofs.reasons.take_reason.Goals as goal
 
 pub returns-clause-taken : goal.returns-clause-taken
 returns-clause-taken c =
-    let said = c.in-Some.said in
+    let reason = c.in-Some.reason in
     let is = c.in-Some.ensures in
-    let inv = c.in-Some.said-is in
-    let fits : FitsSigned w64 said.id = search rules in
-    let back : to_z w64 (of_z w64 said.id) ≡ said.id = to_z-of_z fits in
-    let pushed : c.push.new.self.items ≡ c.args.ids.now.items ++ said.id ∷ [] = c.in_ok-push.ensures.items ∙ ap (λ (n : ℤ). c.args.ids.now.items ++ n ∷ []) back in
-    both_ways c.explain.result c.explain.ensures.given
-    (λ given rows start was. reason_more rows c.args.row.now said.id said.text.now said.why c.args.ids.now.items c.push.new.self.items start _ _ is pushed given was)
+    let inv = c.in-Some.reason-is in
+    let fits : FitsSigned w64 reason.id = search rules in
+    let back : to_z w64 (of_z w64 reason.id) ≡ reason.id = to_z-of_z fits in
+    let pushed : c.push.new.self.items ≡ c.args.ids.now.items ++ reason.id ∷ [] = c.in_ok-push.ensures.items ∙ ap (λ (n : ℤ). c.args.ids.now.items ++ n ∷ []) back in
+    both_ways c.set_reason.result c.set_reason.ensures.given
+    (λ given rows start was. reason_more rows c.args.row.now reason.id reason.text.now reason.why c.args.ids.now.items c.push.new.self.items start _ _ is pushed given was)
     (λ none row. subst (λ (t : List ℕ). All {X = Record} (λ r. text_of r.name ≢ t) c.args.records.now.items) (sym is.named) none)

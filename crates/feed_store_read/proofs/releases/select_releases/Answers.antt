@@ -1,11 +1,11 @@
 use Rattle.std.proofs.Common.{◌∙◌, ap, sym, subst, refl, Ok}
 use Rattle.sqlite.specs.Held.{state}
 use Rattle.sqlite.specs.State.{HasCleanDisk, IsUnchanged}
-use Rattle.feed_store_model.specs.Tables.{IsEarlierListed, IsReleaseRow}
+use Rattle.feed_store_model.specs.Tables.{HoldsReleases, IsReleaseRow}
 use Rattle.feed_store_model.proofs.Ours.{tables_in}
 use Rattle.feed_store_read.specs.Texts.{releases_text}
 use Rattle.feed_store_read.specs.declared.releases.Releases.{Releases}
-use Rattle.feed_store_read.specs.Releases.{Leaves, ShowReleases}
+use Rattle.feed_store_read.specs.Releases.{WritesNothing, ShowReleases}
 use Rattle.feed_store_read.proofs.Answers.{releases_read}
 use Rattle.feed_store_read.proofs.More.{show_none}
 use Rattle.feed_store_read.proofs.Streams.{begun_way, clean_at, idle_at, leaves_at, lent_back, next_all, next_idle, next_leaves, next_row, next_way, refused_leaves, unchanged_at, way_leaves}
@@ -115,5 +115,5 @@ returns-then-not-branch-clause-read g c live tabled =
     let late = clean_at g.S.Store end live.0 in
     let it = next_row c.rows.invariant.way c.next.follows.holds-at-none c.in-Some.row (c.in_ok-row.was ∙ ap Ok c.in-Some.is) late in
     let no : ¬ (IsReleaseRow c.in-Some.row.now) = rw c.if-not-branch.true at c.in_ok-take_release.ensures in
-    let none : ¬ (IsEarlierListed old.now) = λ are. no (given_listed g.S.Store c.args.conn.now now it.front c.in-Some.row.now ours it.same it.given are) in
+    let none : ¬ (HoldsReleases old.now) = λ are. no (given_listed g.S.Store c.args.conn.now now it.front c.in-Some.row.now ours it.same it.given are) in
     (unchanged_at g.S.Store c.args.conn.now end it.same, none)

@@ -1,6 +1,6 @@
 use Rattle.std.proofs.Common.{[]}
 use Rattle.sqlite.specs.Held.{state}
-use Rattle.feed_store_write.specs.Effects.{Leads}
+use Rattle.feed_store_write.specs.Effects.{IsTransition}
 use Rattle.feed_store_write.specs.Schemas.{HasPieceTable, HasReleaseTable}
 use Rattle.feed_store_write.specs.Texts.{piece_text}
 use Rattle.feed_store_write.proofs.Inside.{made_by}
@@ -11,5 +11,5 @@ pub returns-clause-made : goal.returns-clause-made
 returns-clause-made g c clean =
     let old = state g.S.Store c.args.tx.now.conn.now in
     let new = state g.S.Store c.run.new.tx.conn.now in
-    made_by piece_text [] old new (Leads HasReleaseTable HasPieceTable) c.run.result
+    made_by piece_text [] old new (IsTransition HasReleaseTable HasPieceTable) c.run.result
     (λ count ran has. creates_piece old new count has ran) (c.run.ensures.ran clean)

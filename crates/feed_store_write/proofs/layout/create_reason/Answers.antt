@@ -1,6 +1,6 @@
 use Rattle.std.proofs.Common.{[]}
 use Rattle.sqlite.specs.Held.{state}
-use Rattle.feed_store_write.specs.Effects.{Extends, Leads}
+use Rattle.feed_store_write.specs.Effects.{IsExtension, IsTransition}
 use Rattle.feed_store_write.specs.Schemas.{HasAllTables, HasPieceTable}
 use Rattle.feed_store_write.specs.Texts.{reason_text}
 use Rattle.feed_store_write.proofs.Inside.{made_by}
@@ -11,11 +11,11 @@ pub returns-clause-made : goal.returns-clause-made
 returns-clause-made g c clean =
     let old = state g.S.Store c.args.tx.now.conn.now in
     let new = state g.S.Store c.run.new.tx.conn.now in
-    made_by reason_text [] old new Extends c.run.result (λ count ran. creates_reason old new count ran) (c.run.ensures.ran clean)
+    made_by reason_text [] old new IsExtension c.run.result (λ count ran. creates_reason old new count ran) (c.run.ensures.ran clean)
 
 pub returns-clause-blank : goal.returns-clause-blank
 returns-clause-blank g c clean =
     let old = state g.S.Store c.args.tx.now.conn.now in
     let new = state g.S.Store c.run.new.tx.conn.now in
-    made_by reason_text [] old new (Leads HasPieceTable HasAllTables) c.run.result
+    made_by reason_text [] old new (IsTransition HasPieceTable HasAllTables) c.run.result
     (λ count ran has. all_tables old.now new.now (creates_reason old new count ran) has) (c.run.ensures.ran clean)

@@ -5,8 +5,8 @@ use Rattle.feed_model.specs.Change.{changed}
 use Rattle.feed_parts.specs.Shown.{shown_part}
 use Rattle.feed_store_model.specs.Records.{with_part}
 use Rattle.feed_store_model.proofs.AddedPart.{adds_part}
-use Rattle.feed_store_write.specs.Effects.{Changes}
-use Rattle.feed_store_write.specs.Texts.{part_text}
+use Rattle.feed_store_write.specs.Effects.{IsContentChange}
+use Rattle.feed_store_write.specs.Texts.{insert_piece_text}
 use Rattle.feed_store_write.proofs.Inserts.{part_params, puts_piece}
 use Rattle.feed_store_write.proofs.Inside.{made_by}
 use Rattle.feed_store_write.proofs.statements.insert_part.Goals as goal
@@ -19,6 +19,6 @@ returns-clause-made g c clean =
     let new = state g.S.Store c.run.new.tx.conn.now in
     let named : IsName (text_of n) n = subst (λ (u : List ℕ). IsName u n) c.text.ensures.value c.text.ensures.name in
     let place : c.in-Ok.place ≡ c.args.part.now.first = search rules in
-    made_by part_text (part_params n p) old new (Changes (changed n (with_part p))) c.run.result
+    made_by insert_piece_text (part_params n p) old new (IsContentChange (changed n (with_part p))) c.run.result
     (λ count ran ours. adds_part n p old.now new.now named ours (puts_piece n p old new count ours.schema ran))
     (rw (c.as_text.ensures, c.to_sql.ensures, c.to_sql-2.ensures, c.text.ensures.value, place) at (c.run.ensures.ran clean))

@@ -6,7 +6,7 @@ use Rattle.feed_model.specs.Change.{changed}
 use Rattle.feed_parts.specs.declared.part.Part.{Part}
 use Rattle.feed_parts.specs.Shown.{shown_part, shown_parts}
 use Rattle.feed_store_model.specs.Records.{with_parts}
-use Rattle.feed_store_write.specs.Effects.{Changes, IsMade}
+use Rattle.feed_store_write.specs.Effects.{IsContentChange, IsMade}
 use Rattle.feed_store_write.proofs.Inside.{both_keep, both_leave, clean_before}
 use Rattle.feed_store_write.proofs.Sequence.{none_added, one_more}
 use Rattle.feed_store_write.proofs.statements.insert_parts.Goals as goal
@@ -35,7 +35,7 @@ loop-part-preserved g c =
       survives = both_leave g.S.Store c.args.tx.now.conn.now c.loop-part.tx.conn.now c.insert_part.new.tx.conn.now c.loop-part.invariant.survives c.insert_part.ensures.survives;
       kept = both_keep g.S.Store c.args.tx.now.conn.now c.loop-part.tx.conn.now c.insert_part.new.tx.conn.now c.loop-part.invariant.survives c.insert_part.ensures.survives
           c.loop-part.invariant.kept c.insert_part.ensures.kept;
-      made = λ clean. subst (λ (ps : List model.Part). IsMade (Changes (changed n (with_parts ps))) old new) (sym more)
+      made = λ clean. subst (λ (ps : List model.Part). IsMade (IsContentChange (changed n (with_parts ps))) old new) (sym more)
           (one_more n (shown_parts (take at parts)) (shown_part c.part-item.result) old mid new (c.loop-part.invariant.made (clean_before g.S.Store c.loop-part.tx.conn.now
           c.insert_part.new.tx.conn.now c.insert_part.ensures.survives clean))
           (c.in_ok-insert_part.ensures.made clean));
@@ -43,7 +43,7 @@ loop-part-preserved g c =
 
 pub returns-clause-made : goal.returns-clause-made
 returns-clause-made g c clean =
-    subst (λ (ps : List Part). IsMade (Changes (changed c.args.name.now (with_parts (shown_parts ps)))) (state g.S.Store c.args.tx.now.conn.now) (state g.S.Store c.loop-part.tx.conn.now))
+    subst (λ (ps : List Part). IsMade (IsContentChange (changed c.args.name.now (with_parts (shown_parts ps)))) (state g.S.Store c.args.tx.now.conn.now) (state g.S.Store c.loop-part.tx.conn.now))
     (take_all c.loop-part.part-index c.args.parts.now c.loop-part-test.false) (c.loop-part.invariant.made clean)
 
 pub returns-in_err-insert_part-clause-kept : goal.returns-in_err-insert_part-clause-kept

@@ -4,7 +4,7 @@ use Rattle.sqlite.specs.State.{HasCleanDisk}
 use Rattle.feed_model.specs.Change.{changed}
 use Rattle.feed_parts.specs.Shown.{shown_parts}
 use Rattle.feed_store_model.specs.Records.{with_parts}
-use Rattle.feed_store_write.specs.Effects.{Changes, IsMade, Keeps, LeavesDisk}
+use Rattle.feed_store_write.specs.Effects.{IsContentChange, IsMade, Keeps, LeavesDisk}
 use Rattle.feed_store_write.proofs.statements.insert_parts.Given as goal
 
 -- the parts that were passed are added, inside the transaction
@@ -15,5 +15,5 @@ invariant-loop-part g l =
       lent : l.tx.conn.ghost_name ≡ l.fn.tx.conn.ghost_name;
       survives : LeavesDisk g.S.Store l.fn.tx.conn.now l.tx.conn.now;
       kept : Keeps g.S.Store l.fn.tx.conn.now l.tx.conn.now;
-      made : HasCleanDisk now → IsMade (Changes (changed l.name (with_parts (shown_parts (take l.part-index l.parts))))) old now;
+      made : HasCleanDisk now → IsMade (IsContentChange (changed l.name (with_parts (shown_parts (take l.part-index l.parts))))) old now;
     }

@@ -5,8 +5,8 @@ use Rattle.feed_model.specs.Change.{changed}
 use Rattle.feed_store_model.specs.Records.{with_reason}
 use Rattle.feed_store_model.specs.Tables.{IsStored}
 use Rattle.feed_store_model.proofs.AddedReason.{adds_reason}
-use Rattle.feed_store_write.specs.Effects.{ChangesIf}
-use Rattle.feed_store_write.specs.Texts.{said_text}
+use Rattle.feed_store_write.specs.Effects.{IsContentChangeIf}
+use Rattle.feed_store_write.specs.Texts.{insert_reason_text}
 use Rattle.feed_store_write.proofs.Inserts.{said_params, puts_reason}
 use Rattle.feed_store_write.proofs.Inside.{made_by}
 use Rattle.feed_store_write.proofs.statements.insert_reason.Goals as goal
@@ -20,7 +20,7 @@ returns-clause-made g c clean =
     let old = state g.S.Store c.args.tx.now.conn.now in
     let new = state g.S.Store c.run.new.tx.conn.now in
     let named : IsName (text_of n) n = subst (λ (u : List ℕ). IsName u n) c.text.ensures.value c.text.ensures.name in
-    made_by said_text (said_params n number place) old new (ChangesIf (IsStored why) (changed n (with_reason why))) c.run.result
+    made_by insert_reason_text (said_params n number place) old new (IsContentChangeIf (IsStored why) (changed n (with_reason why))) c.run.result
     (λ count ran stored ours. adds_reason n number place why old.now new.now named (c.numbers_of-number.ensures stored) ours
     (puts_reason n number place old new count ours.schema ran))
     (rw (c.as_text.ensures, c.to_sql.ensures, c.to_sql-2.ensures, c.text.ensures.value) at (c.run.ensures.ran clean))

@@ -6,8 +6,8 @@ use Rattle.feed_model.specs.Change.{insert_record}
 use Rattle.feed_model.specs.Reply.{max_file}
 use Rattle.feed_store_model.specs.Records.{bare}
 use Rattle.feed_store_model.proofs.AddedRelease.{adds_release}
-use Rattle.feed_store_write.specs.Effects.{ChangesIf}
-use Rattle.feed_store_write.specs.Texts.{insert_text}
+use Rattle.feed_store_write.specs.Effects.{IsContentChangeIf}
+use Rattle.feed_store_write.specs.Texts.{insert_release_text}
 use Rattle.feed_store_write.proofs.Inserts.{puts_release, release_params}
 use Rattle.feed_store_write.proofs.Inside.{made_by}
 use Rattle.feed_store_write.proofs.statements.insert_release.Goals as goal
@@ -23,7 +23,7 @@ returns-clause-made g c clean =
     let inv = c.day.type_inv in
     let fits : FitsSigned w32 c.day.result = search rules in
     let day : to_z w32 (of_z w32 c.day.result) ≡ c.day.result = to_z-of_z fits in
-    made_by insert_text (release_params n size s) old new (ChangesIf (size ≤ max_file) (insert_record (bare n size s))) c.run.result
+    made_by insert_release_text (release_params n size s) old new (IsContentChangeIf (size ≤ max_file) (insert_record (bare n size s))) c.run.result
     (λ count ran limit ours. adds_release n size s old.now new.now named limit ours (puts_release n size s old new count ours.schema ran))
     (rw (
       c.as_text.ensures,

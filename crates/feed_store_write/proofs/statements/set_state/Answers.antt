@@ -6,8 +6,8 @@ use Rattle.feed_model.specs.Change.{changed}
 use Rattle.feed_store_model.specs.Records.{with_state}
 use Rattle.feed_store_model.specs.Tables.{number_of}
 use Rattle.feed_store_model.proofs.SetState.{sets_state}
-use Rattle.feed_store_write.specs.Effects.{Changes}
-use Rattle.feed_store_write.specs.Texts.{set_text}
+use Rattle.feed_store_write.specs.Effects.{IsContentChange}
+use Rattle.feed_store_write.specs.Texts.{set_state_text}
 use Rattle.feed_store_write.proofs.Sets.{sets}
 use Rattle.feed_store_write.proofs.Inside.{made_by}
 use Rattle.feed_store_write.proofs.statements.set_state.Goals as goal
@@ -19,6 +19,6 @@ returns-clause-made g c clean =
     let old = state g.S.Store c.args.tx.now.conn.now in
     let new = state g.S.Store c.run.new.tx.conn.now in
     let named : IsName (text_of n) n = subst (λ (u : List ℕ). IsName u n) c.text.ensures.value c.text.ensures.name in
-    made_by set_text (Text (text_of n) ∷ Int (pos (number_of s)) ∷ []) old new (Changes (changed n (with_state s))) c.run.result
+    made_by set_state_text (Text (text_of n) ∷ Int (pos (number_of s)) ∷ []) old new (IsContentChange (changed n (with_state s))) c.run.result
     (λ count ran ours. sets_state n s old.now new.now named ours (sets old new (text_of n) (pos (number_of s)) count ours.schema ran))
     (rw (c.as_text.ensures, c.to_sql.ensures, c.number_of.ensures, c.text.ensures.value) at (c.run.ensures.ran clean))

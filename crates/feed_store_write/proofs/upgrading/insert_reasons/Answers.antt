@@ -4,7 +4,7 @@ use Rattle.sqlite.specs.Held.{state}
 use Rattle.feed_model.specs.Content as model
 use Rattle.feed_keep.specs.declared.record.Record.{Record}
 use Rattle.feed_keep.specs.Shown.{shown, shown_record}
-use Rattle.feed_store_write.specs.Effects.{ChangesIf, IsMade}
+use Rattle.feed_store_write.specs.Effects.{IsContentChangeIf, IsMade}
 use Rattle.feed_store_write.specs.Upgrading.{AreStored, explained_with}
 use Rattle.feed_store_write.proofs.Inside.{both_keep, both_leave, clean_before}
 use Rattle.feed_store_write.proofs.Steps.{none_explained, one_explained}
@@ -33,7 +33,7 @@ loop-record-preserved g c =
       survives = both_leave g.S.Store c.args.tx.now.conn.now c.loop-record.tx.conn.now c.insert_reason_of.new.tx.conn.now c.loop-record.invariant.survives c.insert_reason_of.ensures.survives;
       kept = both_keep g.S.Store c.args.tx.now.conn.now c.loop-record.tx.conn.now c.insert_reason_of.new.tx.conn.now c.loop-record.invariant.survives c.insert_reason_of.ensures.survives
           c.loop-record.invariant.kept c.insert_reason_of.ensures.kept;
-      made = λ clean. subst (λ (rs : List model.Record). IsMade (ChangesIf (AreStored rs) (explained_with rs)) old new) (sym more)
+      made = λ clean. subst (λ (rs : List model.Record). IsMade (IsContentChangeIf (AreStored rs) (explained_with rs)) old new) (sym more)
           (one_explained (shown (take at records)) (shown_record c.record-item.result) old mid new (c.loop-record.invariant.made (clean_before g.S.Store c.loop-record.tx.conn.now
           c.insert_reason_of.new.tx.conn.now c.insert_reason_of.ensures.survives clean))
           (c.in_ok-insert_reason_of.ensures.made clean));
@@ -41,7 +41,7 @@ loop-record-preserved g c =
 
 pub returns-clause-made : goal.returns-clause-made
 returns-clause-made g c clean =
-    subst (λ (rs : List Record). IsMade (ChangesIf (AreStored (shown rs)) (explained_with (shown rs))) (state g.S.Store c.args.tx.now.conn.now) (state g.S.Store c.loop-record.tx.conn.now))
+    subst (λ (rs : List Record). IsMade (IsContentChangeIf (AreStored (shown rs)) (explained_with (shown rs))) (state g.S.Store c.args.tx.now.conn.now) (state g.S.Store c.loop-record.tx.conn.now))
     (take_all c.loop-record.record-index c.args.records.now c.loop-record-test.false) (c.loop-record.invariant.made clean)
 
 pub returns-in_err-insert_reason_of-clause-kept : goal.returns-in_err-insert_reason_of-clause-kept

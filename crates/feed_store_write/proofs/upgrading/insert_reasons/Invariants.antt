@@ -2,7 +2,7 @@ use Rattle.std.proofs.Common.{◌≡◌, take}
 use Rattle.sqlite.specs.Held.{state}
 use Rattle.sqlite.specs.State.{HasCleanDisk}
 use Rattle.feed_keep.specs.Shown.{shown}
-use Rattle.feed_store_write.specs.Effects.{ChangesIf, IsMade, Keeps, LeavesDisk}
+use Rattle.feed_store_write.specs.Effects.{IsContentChangeIf, IsMade, Keeps, LeavesDisk}
 use Rattle.feed_store_write.specs.Upgrading.{AreStored, explained_with}
 use Rattle.feed_store_write.proofs.upgrading.insert_reasons.Given as goal
 
@@ -15,5 +15,5 @@ invariant-loop-record g l =
       lent : l.tx.conn.ghost_name ≡ l.fn.tx.conn.ghost_name;
       survives : LeavesDisk g.S.Store l.fn.tx.conn.now l.tx.conn.now;
       kept : Keeps g.S.Store l.fn.tx.conn.now l.tx.conn.now;
-      made : HasCleanDisk now → IsMade (ChangesIf (AreStored passed) (explained_with passed)) old now;
+      made : HasCleanDisk now → IsMade (IsContentChangeIf (AreStored passed) (explained_with passed)) old now;
     }

@@ -1,7 +1,7 @@
 use Rattle.std.proofs.Common.{Ok, Err, Result, OnOk, OnErr, sym, subst}
 use Rattle.std.proofs.Math.Logic.{∥∥₁_map, ∥∥₁_elim}
 use Rattle.sqlite.specs.Held.{state}
-use Rattle.feed_store_model.specs.Tables.{IsOurs}
+use Rattle.feed_store_model.specs.Tables.{IsLayout2}
 use Rattle.feed_store_model.proofs.ContentSet.{content_set}
 use Rattle.feed_store.proofs.sql_keep.SqlKeepKeep.commit.Goals as goal
 
@@ -17,9 +17,9 @@ invariant_of-self g c = (
       let was = c.commit_change.ensures.live live in
       let mine = c.self.invariant.1 ours was in
       let allowed = rw (← c.self.view_is) at c.requires.allowed in
-      either c.commit_change.result _ _ (IsOurs (state g.S.Store c.commit_change.new.conn).now) (c.commit_change.ensures.whole live) (c.commit_change.ensures.neither live)
+      either c.commit_change.result _ _ (IsLayout2 (state g.S.Store c.commit_change.new.conn).now) (c.commit_change.ensures.whole live) (c.commit_change.ensures.neither live)
       (λ changed. (changed (allowed (ours, was)) mine).ours)
-      (λ same. subst IsOurs (sym same) mine),
+      (λ same. subst IsLayout2 (sym same) mine),
 )
 
 pub returns-in-Ok-clause-made : goal.returns-in-Ok-clause-made

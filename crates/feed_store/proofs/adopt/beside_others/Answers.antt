@@ -1,8 +1,0 @@
-use Rattle.std.proofs.Common.{inr, subst, sym, ◌∙◌}
-use Rattle.feed_store.specs.Adopted.{TakesAllOrNone}
-use Rattle.feed_store.proofs.adopt.beside_others.Goals as goal
-
-pub returns-then-not-has_reason-clause-together : goal.returns-then-not-has_reason-clause-together
-returns-then-not-has_reason-clause-together g c =
-    subst TakesAllOrNone c.schema-schema.ensures.value
-    (inr (c.are_taken.ensures c.if-are_taken.true, sym c.is_taken-has_reason.ensures ∙ c.if-not-has_reason.true))

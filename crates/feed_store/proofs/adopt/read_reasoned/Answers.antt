@@ -1,6 +1,0 @@
-use Rattle.feed_keep.specs.Shown.{shown}
-use Rattle.feed_store.proofs.Reasoned.{all_stored}
-use Rattle.feed_store.proofs.adopt.read_reasoned.Goals as goal
-
-pub returns-in-Ok-clause-stored : goal.returns-in-Ok-clause-stored
-returns-in-Ok-clause-stored g c = all_stored (shown c.in-Ok-Some.records.items) (shown c.in-Ok.records.items) c.in-Ok.ensures

@@ -1,0 +1,14 @@
+use Rattle.std.proofs.Common.{◌≡◌, ◌≢◌, rules, arith}
+use Rattle.std.proofs.lemmas.Result.{on_ok_weaker}
+use Rattle.sqlite.specs.Held.{state}
+use Rattle.feed_store_write.proofs.Sequence.{staged_made}
+use Rattle.feed_store_write.proofs.changes.add_release.Goals as goal
+
+pub returns-clause-made : goal.returns-clause-made
+returns-clause-made g c clean =
+    let n = c.args.name.now in
+    let old = state g.S.Store c.args.tx.now.conn.now in
+    let new = state g.S.Store c.insert_release.new.tx.conn.now in
+    let short : c.in-Ok.short ≡ c.args.size = search rules in
+    let some : c.args.size ≢ 0 = omega (arith, c.if-size-eq0.false) in
+    on_ok_weaker c.insert_release.result (staged_made n c.args.size old new some) (rw short at (c.insert_release.ensures.made clean))

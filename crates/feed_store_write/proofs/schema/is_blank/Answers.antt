@@ -1,6 +1,0 @@
-use Rattle.feed_store_write.proofs.Recognised.{is-blank}
-use Rattle.feed_store_write.proofs.schema.is_blank.Goals as goal
-
-pub returns : goal.returns
-returns c =
-    is-blank c.args.schema.now c.is_empty.result c.is_empty-2.result c.is_empty-3.result c.is_empty.ensures c.is_empty-2.ensures c.is_empty-3.ensures
