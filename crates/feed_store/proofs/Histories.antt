@@ -1,4 +1,4 @@
--- What was a content of a history and got its reasons is explained.
+-- A content of a history that gets its reasons is explained.
 use Rattle.std.proofs.Common.{◌≡◌, ◌<◌, ℕ, List, [], ◌∷◌, suc, length, Option, Some, None, IsSome, get_or, refl, sym, subst, ◌∙◌, arith}
 use Rattle.feed_names.specs.ReleaseName.{Name}
 use Rattle.feed_kbart.specs.declared.fault.BadFile.{BadFile}

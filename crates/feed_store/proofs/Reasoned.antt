@@ -58,7 +58,7 @@ fronted : (r : Record) (rs : Content) (o : Option BadFile) → r.reason ≡ None
 fronted r rs None bare = ap (λ (o : Option BadFile). let x : Record = record r { reason = o } in x ∷ rs) bare
 fronted r rs (Some why) bare = rw (name_self r.name) refl
 
--- records that had no reason, with the reasons of these, are these
+-- records without reasons, with the reasons of other ones added, are those
 with_all : (c d : Content) → AddReasons c d → IsDistinct name_eq (names c) → AllByRecursion (λ r. r.reason ≡ None) c → explained_with d c ≡ d
 with_all [] [] all apart bare = refl
 with_all [] (s ∷ ss) all apart bare = absurd all
@@ -71,11 +71,11 @@ with_all (r ∷ rs) (s ∷ ss) all apart bare =
     ap (explained_with ss) first ∙ passed s ss rs others
     ∙ ap (λ (x : Content). s ∷ x) (with_all rs ss all.1 (IsDistinct-tail name_eq r.name (names rs) apart) bare.1)
 
--- the content of a database of layout 1, with the reasons that its records get, is just these records
+-- the content of a database of layout 1, with the reasons that its records get, is those records
 all_explained : (db : Database) (d : Content) → GetsReasons (content_without_reasons db) d → explained_with d (content_without_reasons db) ≡ d
 all_explained db d it = with_all (content_without_reasons db) d it.reasoned it.distinct (all_records (λ r. r.reason ≡ None) (db.trees 3) (db.trees 1) (λ r h. refl))
 
--- an upgrade with the reasons that its records get brings a database up
+-- an upgrade adds the reasons that the records get
 pub moved : (a b c new : Database) (d : Content) → b ≡ a → c ≡ b → IsLayout1 a → AreStored d → (IsTabled b → HoldsReleases b → GetsReasons (content_without_reasons b) d)
     → IsUpgradeIf (AreStored d) (explained_with d) c new → IsUpgradedWithReasons a new
 moved a b c new d same still earlier can gets upgrades =
@@ -88,12 +88,12 @@ moved a b c new d same still earlier can gets upgrades =
     } in
     subst (λ (x : Database). IsUpgradedWithReasons x new) same up
 
--- a list in two halves, of which the first takes one more
+-- a list in two halves; the first takes one more
 pub one_yielded : {X : Type 0} (xs : List X) (x : X) (ys zs : List X) → zs ≡ x ∷ ys → (xs ++ x ∷ []) ++ ys ≡ xs ++ zs
 one_yielded [] x ys zs e = sym e
 one_yielded (w ∷ ws) x ys zs e = ap (λ l. w ∷ l) (one_yielded ws x ys zs e)
 
--- of which the second is empty
+-- the second half is empty
 pub all_yielded : {X : Type 0} (xs ys zs : List X) → ys ≡ [] → xs ++ ys ≡ zs → xs ≡ zs
 all_yielded {X = X} xs ys zs none e = sym (right xs) ∙ ap (λ l. xs ++ l) (sym none) ∙ e
   where

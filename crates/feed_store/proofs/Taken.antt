@@ -1,14 +1,14 @@
--- Names that are taken in a schema.
+-- The names that a schema has.
 use Rattle.std.proofs.Common.{inl, refl}
 use Rattle.sqlite_schema.specs.Names.{same_name}
 use Rattle.feed_store_model.specs.Layout.{layout_1_schema, layout_2_schema}
 use Rattle.feed_store.specs.Adopted.{HasAllNamesOrNone}
 
--- the tables of a keeper have the names, in either layout
-pub ours-takes : HasAllNamesOrNone layout_2_schema
+-- the tables of either layout have the names
+pub layout_2_names : HasAllNamesOrNone layout_2_schema
 unfolding same_name
-ours-takes = inl (refl, (refl, (refl, _)))
+layout_2_names = inl (refl, (refl, (refl, _)))
 
-pub earlier-takes : HasAllNamesOrNone layout_1_schema
+pub layout_1_names : HasAllNamesOrNone layout_1_schema
 unfolding same_name
-earlier-takes = inl (refl, (refl, (refl, _)))
+layout_1_names = inl (refl, (refl, (refl, _)))

@@ -1,4 +1,4 @@
--- What an adoption makes of a database.
+-- The effect of an adoption on a database.
 use Rattle.std.specs.List.{AllByRecursion, list_any}
 use Rattle.std.specs.Prelude.{◌≡◌, ◌⊎◌, ◌||◌, ◌∷◌, [], Bool, IsTrue, List, codes, false, true, ℕ}
 use Rattle.sqlite.specs.Files.{file_state}
@@ -14,12 +14,19 @@ use Rattle.feed_store_model.specs.Tables.{IsLayout1, IsLayout2}
 use Rattle.feed_store_write.specs.Effects.{IsBlank, IsLive, IsTransition}
 use Rattle.feed_store_write.specs.Schemas.{HasNoTable}
 use Rattle.feed_store.specs.Upgraded.{IsUpgradedWithReasons}
+use Rattle.feed_store.specs.declared.adopt.Tables.{Tables}
+use Rattle.feed_store.specs.declared.adopt.Tables.TheVariants.{Alone, BesideOthers}
 
--- the tables are made in an empty database
+-- whether the tables of a feed are alone in their database
+abbrev pub is_alone : Tables → Bool
+is_alone Alone = true
+is_alone BesideOthers = false
+
+-- the tables are created in an empty database
 abbrev pub IsCreated : State → State → Type 0
 IsCreated old new = (IsLive new → IsLive old) × (IsLive new → IsTransition HasNoTable IsBlank old.now new.now)
 
--- where it says that the tables stand alone, the database is ours; one that was ours is as it was, an empty one gets the tables, and one of layout 1 is brought up
+-- if the tables are alone, the database is of layout 2; one of layout 2 is as it was, an empty one gets the tables, and one of layout 1 is upgraded
 pub record IsAdopted (old new : State) (alone : Bool) : Type 0 where
   pub ours : IsTrue alone → IsLive new → IsLayout2 new.now × IsLive old
   pub found : IsLive new → IsLayout2 old.now → IsTrue alone × (new.now ≡ old.now)
@@ -34,11 +41,11 @@ is_taken schema name = list_any (λ table. same_name table.name name) schema.tab
 abbrev pub earlier_names : List (List ℕ)
 earlier_names = codes "feed_layout" ∷ codes "feed_release" ∷ codes "feed_piece" ∷ []
 
--- whether it is taken is the same for each of these names
+-- each of the names of the tables of layout 1 is taken, or each is free
 abbrev pub AreNamesTaken : Bool → Schema → Type 0
 AreNamesTaken taken schema = AllByRecursion (λ name. is_taken schema name ≡ taken) earlier_names
 
--- each of them is taken, or none of them is, nor that of the table that layout 2 adds
+-- each name is taken, or each is free and so is that of the table that layout 2 adds
 abbrev pub HasAllNamesOrNone : Schema → Type 0
 HasAllNamesOrNone schema = AreNamesTaken true schema ⊎ (AreNamesTaken false schema × (is_taken schema (codes "feed_reason") ≡ false))
 

@@ -1,4 +1,4 @@
--- What the upgrade of a database makes of its records.
+-- The effect of an upgrade on the records of a database.
 use Rattle.std.specs.Prelude.{◌≡◌, [], ◌∷◌, map, pos, Option, None}
 use Rattle.std.specs.List.{IsDistinct}
 use Rattle.sqlite_trees.specs.Tree.{rowid}
@@ -16,7 +16,7 @@ use Rattle.feed_store_model.specs.Tables.{HoldsReleases, HoldsRecords, IsLayout2
 abbrev pub HasLayoutNumber1 : Database → Type 0
 HasLayoutNumber1 db = map rowid (db.trees 0) ≡ Int (pos 1) ∷ []
 
--- the reason of a record in this state: that of its file, if it is broken, and else none
+-- the reason of a record in this state: that of its file if it is broken, and otherwise none
 abbrev pub IsReasonOf : State → Record → Option BadFile → Type 0
 IsReasonOf Broken r o = IsBadOf r o
 IsReasonOf Staged r o = o ≡ None
@@ -33,7 +33,7 @@ AddReasons (r ∷ rs) (s ∷ ss) = AddsReason r s × AddReasons rs ss
 AddReasons [] (s ∷ ss) = ⊥
 AddReasons (r ∷ rs) [] = ⊥
 
--- the content, each of whose names stands once, is this one with the reasons of its records
+-- the old content has each name once, and the new one is the same with the reasons of its records
 pub record GetsReasons (old new : Content) : Type 0 where
   pub distinct : IsDistinct name_eq (names old)
   pub reasoned : AddReasons old new

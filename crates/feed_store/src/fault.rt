@@ -4,28 +4,28 @@ ghost use Rattle.std.specs.Prelude.{◌≢◌};
 use sqlite::{Alter, Connection, Error, ErrorCode};
 use thiserror::Error as Fault;
 
-/// Why a database is not taken as a keeper.
+/// Why a database is not adopted as a keeper.
 #[derive(Clone, Copy, Debug, PartialEq, Eq, Fault)]
 pub enum StoreFault {
-    /// Want of memory.
+    /// An allocation failed.
     #[error("Memory")]
     Memory,
-    /// The database was not read or written, for another cause than memory.
+    /// The database could not be read or written.
     #[error("Device")]
     Device,
-    /// It is no database, or its tables are not those of a keeper.
+    /// The file is not a database, or its tables are not those of a keeper.
     #[error("NotOurs")]
     NotOurs,
 }
 
-/// A connection that was not taken as a keeper, and why.
+/// A connection that was not adopted as a keeper, and why.
 #[derive(Drop)]
 pub struct AdoptFault<S: Alter> {
     pub cause: StoreFault,
     pub connection: Connection<S>,
 }
 
-/// The fault that an error of an open database is.
+/// Returns the fault for an error of an open database.
 pub(crate) fn fault_of(error: Error) -> StoreFault
     ensures { result ≢ StoreFault.NotOurs }
 {
@@ -35,7 +35,7 @@ pub(crate) fn fault_of(error: Error) -> StoreFault
     }
 }
 
-/// The fault that an error of an open is.
+/// Returns the fault for an error of opening a database.
 pub(crate) fn open_fault_of(error: Error) -> StoreFault {
     match error {
         Error::SqliteFailure(

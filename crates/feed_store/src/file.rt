@@ -11,17 +11,20 @@ use sqlite_std_file::{File, FileFrom};
 use sqlite_store::FileStore;
 
 impl SqlKeep<FileStore<File>> {
-    /// Opens the keeper of a database file, or makes the file where there is none. Beside it stands its log, of the
-    /// same path and `-wal`. The file is locked until the keeper is closed or dropped: to another process that opens it
-    /// the database is busy, here as `Device`. `NotOurs`: SQLite would not take the file, or its tables are not those
-    /// of a keeper.
+    /// Opens the keeper of a database file, or creates the file if it does not exist. The log is beside it, at the same
+    /// path with `-wal`. The file is locked until the keeper is closed or dropped.
+    ///
+    /// # Errors
+    ///
+    /// Returns `NotOurs` if SQLite rejects the file or its tables are not those of a keeper, and `Device` if another
+    /// process has it open.
     pub fn open_file(rt: &HostRuntime, path: &str) -> Result<SqlKeep<FileStore<File>>, StoreFault> {
         SqlKeep::open_from(rt, path, Unknown)
     }
 }
 
 impl<S: Start> SqlKeep<FileStore<FileFrom<S>>> {
-    /// The same, where `start` stands for what the files held before: it is how a theorem speaks of them.
+    /// Opens the keeper of a database file, as `open_file` does. Contracts see the old bytes of the files as `start`.
     pub fn open_from(
         rt: &HostRuntime,
         path: &str,
@@ -42,8 +45,8 @@ impl<S: Start> SqlKeep<FileStore<FileFrom<S>>> {
 }
 
 impl<D: Disk + Drop> SqlKeep<FileStore<D>> {
-    /// Copies the log into the database file, and closes both. Where it fails, they are closed all the same: what was
-    /// committed stands in the two together, and the next open finds it there.
+    /// Copies the log into the database file, and closes both. After an error they are closed too, and the next open
+    /// finds every commit in the two files.
     pub fn close(self) -> Result<(), StoreFault>
         ensures cause { IfErr result (λ fault. fault ≢ StoreFault.NotOurs) }
     {

@@ -1,4 +1,4 @@
-//! What a database of layout 1 means once it is upgraded to layout 2.
+//! A law on the upgrade of a database, stated as the contract of a function with an empty body.
 ghost use Rattle.feed_model.specs.Content.{IsContent};
 ghost use Rattle.feed_model.specs.Earlier.{IsEarlierContent, without_refused};
 ghost use Rattle.feed_model.specs.History.{History};
@@ -8,8 +8,8 @@ ghost use Rattle.sqlite.specs.Effect.{Database};
 
 use feed_model::contents_move;
 
-/// The content of a database that is brought up is one of the same histories, but for the offers that were refused as
-/// too large. What is reported and answered is then the same, by `reports_stay` and `answers_stay`.
+/// The content of an upgraded database is one of the same histories, without the offers that were refused as too large.
+/// Reports and answers are then the same, by `reports_stay` and `answers_stay`.
 pub fn histories_stay()
     ensures { (old new : Database) (h : History) → HoldsReleases old → IsEarlierContent (content_without_reasons old) h
         → IsUpgradedWithReasons old new → IsContent (stored_content new) (without_refused h) }

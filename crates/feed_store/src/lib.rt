@@ -1,4 +1,4 @@
-//! The keeper over SQL: a connection whose tables hold the records of a feed, and nothing beside them.
+//! The keeper over SQL: stores the records of a feed in the tables of a database.
 #![tactic(auto)]
 
 mod adopt;

@@ -1,4 +1,4 @@
-//! The reasons of records that were kept without them.
+//! Adds the reasons to records that were stored without them.
 ghost use Rattle.std.specs.Prelude.{◌≡◌, IfOk};
 ghost use Rattle.feed_keep.specs.Shown.{shown, shown_record};
 ghost use Rattle.feed_store.specs.Upgraded.{AddReasons, IsReasonOf};
@@ -8,7 +8,7 @@ use feed_keep::{Record, bad_of};
 use feed_model::State;
 use std::alloc::{AllocError, Global};
 
-/// The same records, each broken one with the reason of its file, and each other one with none.
+/// Returns the same records, each broken one with the reason of its file, and each other one with none.
 pub(crate) fn with_reasons(alloc: Global, records: Vec<Record>) -> Result<Vec<Record>, AllocError>
     ensures { IfOk result (λ told. AddReasons (shown records.items) (shown told.items)) }
 {
@@ -39,7 +39,7 @@ fn with_reason(kept: Record, reason: Option<BadFile>) -> Record
     }
 }
 
-// The reason of a record: that of its file if it is broken.
+// Returns the reason of a record: that of its file if it is broken.
 fn reason_of(alloc: Global, kept: &Record) -> Result<Option<BadFile>, AllocError>
     ensures { IfOk result (IsReasonOf kept.now.state (shown_record kept.now)) }
 {

@@ -1,7 +1,7 @@
 //! The SQL store of a feed's records.
 ghost use Rattle.std.specs.Prelude.{◌≡◌, false, None, IfErr, IfOk, MatchResult};
 
-use crate::adopt::prepare;
+use crate::adopt::{is_alone, prepare};
 use crate::fault::{AdoptFault, StoreFault};
 use feed_keep::{Change, Keep, Record};
 use feed_model::KeepFault;
@@ -11,8 +11,8 @@ use sqlite::{Alter, Connection, Error, ErrorCode, MemStore};
 use std::alloc::Global;
 use std::marker::Model;
 
-/// A keeper over SQL, which contracts see as its connection, the count of its failures, and whether its database has
-/// the tables of a keeper and nothing beside them. What is said of the records is said where it has.
+/// A keeper over SQL. Contracts see it as its connection, the count of its failures, and whether the tables of a keeper
+/// are alone in its database. The clauses on records hold if they are.
 #[derive(Drop)]
 pub struct SqlKeep<S: Alter> {
     conn: Connection<S>,
@@ -42,9 +42,13 @@ impl<S: Alter> SqlKeep<S> {
     ghost use Rattle.feed_store_model.specs.Live.{IsLive};
     ghost use Rattle.feed_store.specs.Adopted.{IsAdopted, HasAllNamesOrNone};
 
-    /// Takes over a connection that is in no transaction, and lifts its limit of steps. A database that has none of the
-    /// tables gets them; one of layout 1 is brought to layout 2, with the reason of each broken release, in one
-    /// transaction; other tables beside them are left alone. A connection that is refused is handed back.
+    /// Takes over a connection that is in no transaction, and removes its limit of steps. Creates the tables in a
+    /// database that has none of them, and upgrades one of layout 1 to layout 2 with the reason of each broken release,
+    /// each in one transaction. It leaves other tables alone.
+    ///
+    /// # Errors
+    ///
+    /// Returns the cause and the connection. Its database is unchanged.
     pub fn adopt(alloc: Global, conn: Connection<S>) -> Result<SqlKeep<S>, AdoptFault<S>>
         requires { conn.in_transaction ≡ false }
         ensures adopted { IfOk result (λ keep.
@@ -60,10 +64,10 @@ impl<S: Alter> SqlKeep<S> {
         let mut conn = conn;
         conn.set_step_limit(None);
         match prepare(alloc, &mut conn) {
-            Ok(alone) => Ok(SqlKeep {
+            Ok(tables) => Ok(SqlKeep {
                 conn,
                 failures: 0,
-                alone,
+                alone: is_alone(tables),
             }),
             Err(cause) => Err(AdoptFault {
                 cause,
@@ -72,7 +76,7 @@ impl<S: Alter> SqlKeep<S> {
         }
     }
 
-    /// The connection, which is in no transaction.
+    /// Returns the connection, which is in no transaction.
     pub fn into_connection(self) -> Connection<S>
         ensures same { result ≡ self.0 }
         ensures idle { result.in_transaction ≡ false }
@@ -119,7 +123,7 @@ impl<S: Alter> Keep for SqlKeep<S> {
         }
     }
 
-    /// As of every keeper; and where it refuses, the database is as before, whatever else stands in it.
+    /// Commits a change. After an error the database is as before, whatever else is in it.
     fn commit(&mut self, change: &Change<'_>) -> Result<(), KeepFault>
         requires listed { ⟦<SqlKeep<S> as Keep>⟧.clean self.old → ∥ ⟦<SqlKeep<S> as Keep>⟧.listed self.old ∥₁ }
         requires allowed { ⟦<SqlKeep<S> as Keep>⟧.clean self.old
@@ -152,7 +156,7 @@ impl SqlKeep<MemStore> {
     ghost use Rattle.sqlite.specs.Steps.{over_memory};
     ghost use Rattle.feed_store_write.specs.Effects.{IsBlank, IsLive};
 
-    /// An empty keeper in memory.
+    /// Opens an empty keeper in memory.
     pub fn open_memory(alloc: Global) -> Result<SqlKeep<MemStore>, StoreFault>
         ensures blank { IfOk result (λ keep. IsLive (state over_memory keep.0)
             → IsTrue keep.1.1 × IsBlank (state over_memory keep.0).now) }

@@ -1,4 +1,4 @@
--- What the answers of the selections are.
+-- The answers of the selections.
 use Rattle.std.proofs.Common.{◌≡◌, ℕ, List, [], ◌∷◌, map, filter, length, false, IfOk, IsPermutation, refl, ap, subst, ◌∙◌, codes, arith}
 use Rattle.std.specs.List.{AllByRecursion}
 use Rattle.std.specs.List.Sorted.{IsSorted}
@@ -111,7 +111,7 @@ releases_shown old new rows has h =
     let show : Row → Row = λ r. eval_all release_terms ([] ∷ r ∷ []) in
     subst (λ l. IsPermutation l rows) (ap (map show) (all_kept (old.now.trees 1)) ∙ all_same show 6 six (old.now.trees 1) (release_widths old.now has)) moved
 
--- and they stand in the order of their names
+-- and they are in the order of their names
 pub releases_order : (old new : State) (rows : List Row) → HasTables old.now → Shown releases_text [] old new rows → IsSorted (on name_key (key_cmp 0 (key ∷ []))) rows
 releases_order old new rows has h =
     let is = releases_select has.more has.keys in
@@ -127,7 +127,7 @@ pieces_shown old new rows has h =
     let show : Row → Row = λ r. eval_all piece_terms ([] ∷ r ∷ []) in
     subst (λ l. IsPermutation l rows) (ap (map show) (all_kept (old.now.trees 3)) ∙ all_same show 4 four (old.now.trees 3) (piece_widths old.now has)) moved
 
--- and they stand in the order of their names and places
+-- and they are in the order of their names and places
 pub pieces_order : (old new : State) (rows : List Row) → HasTables old.now → Shown pieces_text [] old new rows → IsSorted (on place_key (key_cmp 0 (key ∷ key ∷ []))) rows
 pieces_order old new rows has h =
     let is = pieces_select has.more has.keys in

@@ -49,7 +49,7 @@ all_explained db ids new ours are it =
     ∙ with_all it.rows (content_without_reasons db) (all_records (λ r. r.reason ≡ None) (db.trees 3) (db.trees 1) (λ r h. refl))
     ∙ sym (explained_same (db.trees 5) it.rows (λ t. reason_moved (db.trees 5) it.rows t texts it.moved) (content_without_reasons db))
 
--- ---- what was told of the records
+-- ---- what the records are
 
 abbrev Told : Database → Result (Option (Vec code.Record Global)) Error → Type 0
 Told db r = IfOk r (λ found. MatchOption found (¬ (HoldsRecords db)) (AreRecordsOf db))

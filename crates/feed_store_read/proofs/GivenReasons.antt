@@ -1,4 +1,4 @@
--- What was read of the reasons, with one more row.
+-- The reasons read so far, with one more row.
 use Rattle.std.proofs.Common.{◌≡◌, ◌++◌, ℤ, ℕ, Bool, true, false, List, [], ◌∷◌, map, Option, Some, None, IsSome, if◌then◌else◌, refl, sym, ap, ◌∙◌}
 use Rattle.std.specs.List.{AllByRecursion}
 use Rattle.std.specs.Option.{option_or}

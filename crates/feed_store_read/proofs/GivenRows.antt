@@ -1,4 +1,4 @@
--- What was read of the parts, with one more row.
+-- The parts read so far, with one more row.
 use Rattle.std.proofs.Common.{◌≡◌, ◌++◌, ℤ, ℕ, Bool, true, false, List, [], ◌∷◌, map, filter, MatchBool, refl, sym, ap, subst, ◌∙◌, append-nil, append_assoc}
 use Rattle.std.proofs.lemmas.List.{map-append}
 use Rattle.std.proofs.lemmas.List.Elements.{filter-append}

@@ -1,4 +1,4 @@
--- The answer of a selection stands in the order that it asks for.
+-- The answer of a selection is in the order that it asks for.
 use Rattle.std.proofs.Common.{pos, ◌<◌, true, subst, inl, inr, nat_lt, ◌==◌, ◌≤◌, ◌≡◌, ◌+◌, ℕ, List, [], ◌∷◌, map, flat_map, length, get_or, false, refl, sym, ap}
 use Rattle.std.proofs.Common.{◌∙◌, arith}
 use Rattle.std.specs.List.{All}

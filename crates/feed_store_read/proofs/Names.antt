@@ -1,4 +1,4 @@
--- A text that is refused is no name.
+-- A text that is rejected is not a name.
 use Rattle.std.proofs.Common.{◌≡◌, ℕ, ℤ, List, sym, ◌∙◌, subst}
 use Rattle.feed_names.specs.ReleaseName.{Name, IsName, IsDated, IsStem, EndsInTxt}
 use Rattle.feed_names.proofs.NameLemmas.{one_front, stem-take}

@@ -1,4 +1,4 @@
--- What ascends is in order, and none of it stands twice.
+-- A list that ascends is in order and has no element twice.
 use Rattle.std.proofs.Common.{◌≡◌, ◌≤◌, ℕ, Bool, true, false, cond, List, [], ◌∷◌, get_or, All, nat_lt, refl, sym, ap, ◌∙◌, arith, ◌==◌}
 use Rattle.std.specs.List.{AllByRecursion, IsDistinct}
 use Rattle.std.specs.Ordering.{eq_by_cmp, is_eq, is_lt, nat_cmp, on, ordering_reverse}
@@ -36,7 +36,7 @@ unfolding IsDistinct
 all_differ [] d = tt
 all_differ (n ∷ ns) d = (each_differs n ns d.0, all_differ ns d.1)
 
--- no name stands twice
+-- no name is there twice
 pub names_differ : (ns : List Name) → AreNamesAscending ns → IsDistinct name_eq ns
 names_differ ns up = all_differ ns (apart_of name_cmp name_total ns up)
 

@@ -29,7 +29,7 @@ and_true : (b : Bool) → (b && true) ≡ true → b ≡ true
 and_true true h = refl
 and_true false h = absurd (let g : false ≡ true = h in cc)
 
--- a part names the first column of a release, whatever tables stand behind
+-- a part names the first column of a release, whatever tables are behind
 key_with : (more : List Table) (keys : List Index) → parent_key (schema_with more keys).tables owner ≡ Some (1, 1 ∷ [], plain)
 unfolding everything
 key_with more keys = refl

@@ -1,4 +1,4 @@
--- What the selection of the reasons says of its table.
+-- The selection of the reasons shows its table.
 use Rattle.std.proofs.Common.{◌≡◌, ◌≢◌, ◌++◌, ℕ, ℤ, Bool, if◌then◌else◌, true, false, List, [], ◌∷◌, map, codes, All, IfOk, IsPermutation, refl, sym, ap, subst, ◌∙◌}
 use Rattle.std.specs.List.{AllByRecursion}
 use Rattle.std.specs.Cmp.Lexicographic.{bytes_decides}

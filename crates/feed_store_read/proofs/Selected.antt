@@ -1,4 +1,4 @@
--- What a whole selection says of its table, and what the first of its rows do.
+-- A whole selection shows its table, and each of its rows is in the table.
 use Rattle.std.proofs.Common.{ap, inl, inr, ℤ, ◌≡◌, List, [], ◌∷◌, ◌++◌, IsPermutation, refl, sym, subst}
 use Rattle.std.specs.List.{AllByRecursion}
 use Rattle.sqlite_value.specs.Order.{Row, column}

@@ -27,7 +27,7 @@ use Rattle.feed_store_model.specs.Live.{IsLive}
 use Rattle.feed_store_model.proofs.ReadOnly.{IsRead, ShowsNone, read_shows_none}
 use Rattle.feed_store_read.specs.Releases.{WritesNothing}
 
--- rows of a query were given, of which this is known, and nothing was changed
+-- a query returned rows that are known to be so, and nothing was changed
 pub record HasRead {S : Type 0} (g : store.Ghosts S) (sql : List ℕ) (Known : List Row → Type 0) (old now : Held S) : Type 0 where
   pub rows : List Row
   pub given : HasGiven g sql [] now rows
@@ -87,6 +87,7 @@ refused_leaves {X = X} g sql old new r e is held =
     let left : HasCleanDisk (state g new) → LeavesAlone (state g old) (state g new) =
     λ clean. failed_leaves sql (state g old) (state g new) e (subst (λ (x : Result X Error). IfErr x (FailsToQuery sql [] (state g old) (state g new))) is (it.err clean)) in
     record {
+      idle = it.mode;
       live = λ live. (omega (arith, it.survives.clean, live.0), was_open (state g old) (state g new) (left live.0) live.1);
       kept = λ live. left live.0;
       limit = it.survives.limit;
@@ -102,14 +103,14 @@ begun_same g sql old new read (inr h) = absurd (never_both (understood old.schem
     never_both (Ok c) none some = absurd (let e : IsSome {T = Returning} None = subst IsSome none some in cc)
     never_both (Err e) none some = some
 
--- what a query that gives its rows one by one has done so far
+-- the effect so far of a query that returns its rows one by one
 pub record IsUnderWay {S : Type 0} (g : store.Ghosts S) (sql : List ℕ) (Known : List Row → Type 0) (old now : Held S) : Type 0 where
   pub idle : old.in_transaction ≡ false → now.in_transaction ≡ false
   pub live : IsLive (state g now) → IsLive (state g old)
   pub limit : (state g now).step_limit ≡ (state g old).step_limit
   pub read : HasCleanDisk (state g now) → HasRead g sql Known old now
 
--- a row was given, after those of which this is known
+-- a row was returned, after those that are known to be so
 pub record HasRow {S : Type 0} (g : store.Ghosts S) (sql : List ℕ) (Known : List Row → Type 0) (old now : Held S) (row : Row) : Type 0 where
   pub front : List Row
   pub given : HasGiven g sql [] now (front ++ row ∷ [])
@@ -153,18 +154,6 @@ stays a b (Err e) same (inr still) = inl still
 pub lent_back : {X N : Type 0} {begun mid last : N} {name : N} {left new : X} (end : (x : X) × (name ≡ last → x ≡ new)) → new ≡ left → last ≡ mid → mid ≡ begun → begun ≡ name → left ≡ end.0
 lent_back end dropped three two one = sym (end.1 (sym (three ∙ two ∙ one)) ∙ dropped)
 
-pub idle_at : {S : Type 0} {left end : Held S} → left ≡ end → left.in_transaction ≡ false → end.in_transaction ≡ false
-idle_at is idle = ap (λ h. h.in_transaction) (sym is) ∙ idle
-
-pub leaves_at : {S : Type 0} (g : store.Ghosts S) (old : Held S) {left end : Held S} → left ≡ end → WritesNothing (state g old) (state g left) → WritesNothing (state g old) (state g end)
-leaves_at g old is leaves = subst (λ h. WritesNothing (state g old) (state g h)) is leaves
-
-pub clean_at : {S : Type 0} (g : store.Ghosts S) {left end : Held S} → left ≡ end → HasCleanDisk (state g end) → HasCleanDisk (state g left)
-clean_at g is clean = subst (λ h. HasCleanDisk (state g h)) (sym is) clean
-
-pub unchanged_at : {S : Type 0} (g : store.Ghosts S) (old : Held S) {left end : Held S} → left ≡ end → IsUnchanged (state g old) (state g left) → IsUnchanged (state g old) (state g end)
-unchanged_at g old is same = subst (λ h. IsUnchanged (state g old) (state g h)) is same
-
 -- one more call of `next`, whatever it returned
 module _ {S : Type 0} {g : store.Ghosts S} {sql : List ℕ} {Known : List Row → Type 0} {old : Held S} {a b : Rows S g} {result : Result (Option (Bor OneRow)) Error}
     (way : IsUnderWay g sql Known old a.conn.now) (moved : HasMoved g a result b) where
@@ -174,7 +163,7 @@ module _ {S : Type 0} {g : store.Ghosts S} {sql : List ℕ} {Known : List Row �
   left : HasCleanDisk (state g b.conn.now) → LeavesAlone (state g a.conn.now) (state g b.conn.now)
   left clean = stays (state g a.conn.now) (state g b.conn.now) result (moved.same clean) (moved.kept clean)
 
-  pub next_idle : old.in_transaction ≡ false → b.conn.now.in_transaction ≡ false
+  next_idle : old.in_transaction ≡ false → b.conn.now.in_transaction ≡ false
   next_idle idle = moved.mode (way.idle idle)
 
   next_live : IsLive (state g b.conn.now) → IsLive (state g old)
@@ -184,15 +173,16 @@ module _ {S : Type 0} {g : store.Ghosts S} {sql : List ℕ} {Known : List Row �
   kept clean (inl same) = inl (unchanged_then (state g old) (state g a.conn.now) (state g b.conn.now) (way.read clean).same same)
   kept clean (inr undone) = inr (then_undone (state g old) (state g a.conn.now) (state g b.conn.now) (way.read clean).same undone)
 
-  pub next_leaves : WritesNothing (state g old) (state g b.conn.now)
+  next_leaves : WritesNothing (state g old) (state g b.conn.now)
   next_leaves = record {
+    idle = next_idle;
     live = next_live;
     kept = λ live. kept (before live.0) (left live.0);
     limit = moved.survives.limit ∙ way.limit;
   }
 
   -- it returned a row
-  pub next_row : (row : Bor OneRow) → result ≡ Ok (Some row) → HasCleanDisk (state g b.conn.now) → HasRow g sql Known old b.conn.now row.now
+  next_row : (row : Bor OneRow) → result ≡ Ok (Some row) → HasCleanDisk (state g b.conn.now) → HasRow g sql Known old b.conn.now row.now
   next_row row is clean =
       let read = way.read (before clean) in
       let step : IsUnchanged (state g a.conn.now) (state g b.conn.now) = rw is at (moved.same clean) in record {
@@ -213,7 +203,7 @@ module _ {S : Type 0} {g : store.Ghosts S} {sql : List ℕ} {Known : List Row �
   }
 
   -- it returned no row
-  pub next_all : result ≡ Ok None → HasCleanDisk (state g b.conn.now) → HasAll g sql Known old a.conn.now b.conn.now
+  next_all : result ≡ Ok None → HasCleanDisk (state g b.conn.now) → HasAll g sql Known old a.conn.now b.conn.now
   next_all is clean =
       let read = way.read (before clean) in
       let step : IsUnchanged (state g a.conn.now) (state g b.conn.now) = rw is at (moved.same clean) in record {
@@ -224,6 +214,25 @@ module _ {S : Type 0} {g : store.Ghosts S} {sql : List ℕ} {Known : List Row �
         known = read.known;
       }
 
--- the query is left as it is
-pub way_leaves : {S : Type 0} {g : store.Ghosts S} {sql : List ℕ} {Known : List Row → Type 0} {old now : Held S} → IsUnderWay g sql Known old now → WritesNothing (state g old) (state g now)
-way_leaves way = record { live = way.live; kept = λ live. inl (way.read live.0).same; limit = way.limit }
+  -- the rows were dropped after the call, and the connection is its owner's again
+  module _ {end : Held S} (back : b.conn.now ≡ end) where
+    here : HasCleanDisk (state g end) → HasCleanDisk (state g b.conn.now)
+    here clean = subst (λ h. HasCleanDisk (state g h)) (sym back) clean
+
+    unchanged : IsUnchanged (state g old) (state g b.conn.now) → IsUnchanged (state g old) (state g end)
+    unchanged same = subst (λ h. IsUnchanged (state g old) (state g h)) back same
+
+    pub ended_leaves : WritesNothing (state g old) (state g end)
+    ended_leaves = subst (λ h. WritesNothing (state g old) (state g h)) back next_leaves
+
+    pub ended_row : (row : Bor OneRow) → result ≡ Ok (Some row) → IsLive (state g end) → HasRow g sql Known old b.conn.now row.now × IsUnchanged (state g old) (state g end)
+    ended_row row is live = let it = next_row row is (here live.0) in (it, unchanged it.same)
+
+    pub ended_all : result ≡ Ok None → IsLive (state g end) → HasAll g sql Known old a.conn.now b.conn.now × IsUnchanged (state g old) (state g end)
+    ended_all is live = let it = next_all is (here live.0) in (it, unchanged it.same)
+
+-- the rows were dropped before the last one
+pub way_leaves : {S : Type 0} {g : store.Ghosts S} {sql : List ℕ} {Known : List Row → Type 0} {old now end : Held S} → IsUnderWay g sql Known old now → now ≡ end
+    → WritesNothing (state g old) (state g end)
+way_leaves {g = g} {old = old} way back =
+    subst (λ h. WritesNothing (state g old) (state g h)) back (record { idle = way.idle; live = way.live; kept = λ live. inl (way.read live.0).same; limit = way.limit })

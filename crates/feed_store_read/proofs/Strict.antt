@@ -1,4 +1,4 @@
--- Lists of which each element is below those behind it.
+-- Lists whose elements are each less than those behind it.
 use Rattle.std.proofs.Common.{◌≡◌, ◌↔◌, ◌<◌, ◌+◌, suc, Bool, true, false, List, [], ◌∷◌, map, length, get_or, All, IsPermutation, IsTrue, refl, ap, subst, ◌∙◌, arith}
 use Rattle.std.specs.List.{AllAdjacentBelow, AllByRecursion, AllPairs, IsAllAdjacentAnswer, IsDistinct}
 use Rattle.std.specs.List.Sorted.{IsSorted, IsStrictlySortedBy}
@@ -100,6 +100,6 @@ turned Greater = refl
 pub ties_flip : {X : Type 0} (c : X → X → Ordering) → IsTotalOrder c → (x y : X) → eq_by_cmp c x y ≡ eq_by_cmp c y x
 ties_flip c total x y = ap is_eq (total.antisymm x y) ∙ turned (c y x)
 
--- in another order, none of them stands twice either
+-- in another order, none of them is there twice either
 pub apart_moved : {X : Type 0} (c : X → X → Ordering) → IsTotalOrder c → (xs ys : List X) → IsPermutation xs ys → IsDistinct (eq_by_cmp c) xs → IsDistinct (eq_by_cmp c) ys
 apart_moved c total xs ys moved d = IsDistinct-IsPermutation (eq_by_cmp c) (ties_flip c total) xs ys moved d

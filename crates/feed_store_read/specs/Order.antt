@@ -6,7 +6,7 @@ use Rattle.std.specs.Cmp.Lexicographic.{slice_cmp}
 use Rattle.feed_names.specs.ReleaseName.{Name, text_of}
 use Rattle.feed_model.specs.Content.{Part}
 
--- the text of each name comes before those of the names behind it
+-- the text of each name is less than those of the names behind it
 abbrev pub AreNamesAscending : List Name → Type 0
 AreNamesAscending = IsStrictlySortedBy (on text_of (slice_cmp nat_cmp))
 

@@ -1,4 +1,4 @@
--- What is read of the parts.
+-- The parts as they are read.
 use Rattle.std.specs.Prelude.{◌≡◌, ◌==◌, ◌++◌, ℕ, ℤ, List, [], ◌∷◌, map, filter, if◌then◌else◌, IsPermutation}
 use Rattle.std.specs.List.{AllByRecursion}
 use Rattle.std.specs.List.Sorted.{IsSorted}
@@ -20,21 +20,21 @@ if_named text f r = if pointwise ◌==◌ text (text_of r.name) then f r else r
 abbrev pub given_to : List ℕ → Part → Record → Record
 given_to text p r = if_named text (λ r. record r { parts = r.parts ++ p ∷ [] }) r
 
--- the record with the parts of these rows that are of its name behind its own
+-- the record with the parts of its name in the rows behind its own
 abbrev pub with_rows : List Row → Record → Record
 with_rows rows r = record r { parts = r.parts ++ map part_in (filter (is_of (text_of r.name)) rows) }
 
--- the rows are parts of these numbers, and give them to the records
+-- the rows are parts with these rowids, and add them to the records
 pub record ShowPieces (rows : List Row) (ids : List ℤ) (old new : Content) : Type 0 where
   pub proper : AllByRecursion IsPieceRow rows
   pub numbers : map rowid rows ≡ map Int ids
   pub shows : new ≡ map (with_rows rows) old
 
--- no text comes before one that stands ahead of it, and no place of a text
+-- no text is less than the one before it, and no place of a text either
 abbrev pub ArePlacesInOrder : List Row → Type 0
 ArePlacesInOrder = IsSorted (then_cmp (on text_in (slice_cmp nat_cmp)) (on (λ row. (part_in row).first) nat_cmp))
 
--- the rows of the table are parts of these numbers, in the order of their texts and places, and give them to the records
+-- the rows of the table are parts with these rowids, in the order of their texts and places, and add them to the records
 pub record ArePieces (db : Database) (ids : List ℤ) (old new : Content) : Type 0 where
   pub rows : List Row
   pub moved : IsPermutation (db.trees 3) rows

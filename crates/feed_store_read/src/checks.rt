@@ -1,4 +1,4 @@
-//! What is looked for in what was read, beyond its rows.
+//! Checks of the records that were read, beyond the form of each row.
 ghost use Rattle.std.specs.Prelude.{◌≡◌, ◌↔◌, All, IsTrue};
 ghost use Rattle.std.specs.List.{IsDistinct};
 ghost use Rattle.std.specs.Ordering.{int_eq, is_lt, nat_cmp, int_cmp};
@@ -11,7 +11,7 @@ ghost use Rattle.feed_store_read.specs.Order.{AreNamesAscending, ArePartsAscendi
 use feed_keep::{Record, is_listed_before};
 use feed_parts::Part;
 
-/// Whether each name comes before those behind it.
+/// Returns whether each name is less than the next one.
 pub fn are_names_ascending(records: &[Record]) -> bool
     ensures { IsTrue result ↔ AreNamesAscending (names (shown records.now)) }
 {
@@ -22,7 +22,7 @@ pub fn are_names_ascending(records: &[Record]) -> bool
     )
 }
 
-/// Whether each part of a record begins before those behind it.
+/// Returns whether the parts of each record begin at ascending places.
 pub fn are_places_ascending(records: &[Record]) -> bool
     ensures { IsTrue result ↔ All (λ r. ArePartsAscending (shown_parts r.parts.items)) records.now }
 {
@@ -44,7 +44,7 @@ fn are_parts_ascending(parts: &[Part]) -> bool
     )
 }
 
-/// Whether no number stands twice. It puts them in order.
+/// Sorts numbers, and returns whether they are distinct.
 pub fn sort_distinct(ids: &mut [i64]) -> bool
     ensures { IsTrue result ↔ IsDistinct int_eq ids.old }
 {

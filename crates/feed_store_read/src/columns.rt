@@ -1,4 +1,4 @@
-//! The values of a row, by their kinds.
+//! Reads the columns of a row by the kinds of their values.
 ghost use Rattle.std.specs.Prelude.{◌≡◌, ◌≢◌, ℕ, ℤ, List, MatchOption, pos};
 ghost use Rattle.sqlite_value.specs.declared.value.Value.TheVariants.{Blob, Int, Text};
 ghost use Rattle.sqlite_value.specs.Order.{column};
@@ -6,7 +6,7 @@ ghost use Rattle.sqlite_value.specs.Order.{column};
 use sqlite::Row;
 use sqlite_value::value::ValueRef;
 
-/// The text in a column.
+/// Returns the text in a column.
 pub fn text_at(row: &Row, at: usize) -> Option<&[u8]>
     ensures { MatchOption result ((text : List ℕ) → column row.now at ≢ Text text)
         (λ text. column row.now at ≡ Text text.now) }
@@ -17,7 +17,7 @@ pub fn text_at(row: &Row, at: usize) -> Option<&[u8]>
     }
 }
 
-/// The bytes in a column.
+/// Returns the bytes in a column.
 pub fn blob_at(row: &Row, at: usize) -> Option<&[u8]>
     ensures { MatchOption result ((bytes : List ℕ) → column row.now at ≢ Blob bytes)
         (λ bytes. column row.now at ≡ Blob bytes.now) }
@@ -28,7 +28,7 @@ pub fn blob_at(row: &Row, at: usize) -> Option<&[u8]>
     }
 }
 
-/// The integer in a column.
+/// Returns the integer in a column.
 pub fn integer_at(row: &Row, at: usize) -> Option<i64>
     ensures { MatchOption result ((n : ℤ) → column row.now at ≢ Int n) (λ n. column row.now at ≡ Int n) }
 {
@@ -38,7 +38,7 @@ pub fn integer_at(row: &Row, at: usize) -> Option<i64>
     }
 }
 
-/// The integer in a column, if it is none below 0.
+/// Returns the integer in a column if it is at least 0.
 pub fn number_at(row: &Row, at: usize) -> Option<u64>
     ensures { MatchOption result ((n : ℕ) → column row.now at ≢ Int (pos n))
         (λ n. column row.now at ≡ Int (pos n)) }

@@ -1,14 +1,14 @@
-//! How a database of SQL gives back the records of a feed.
+//! Reads the records of a feed from a SQL database.
 #![tactic(auto)]
 
 mod checks;
 mod columns;
-mod records;
 mod piece_row;
 mod pieces;
 mod reading;
 mod reason_row;
 mod reasons;
+mod records;
 mod release_row;
 mod releases;
 

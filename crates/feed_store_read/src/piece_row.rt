@@ -1,11 +1,11 @@
-//! A row of the table of parts, as values.
+//! Parses a row of the table of parts.
 ghost use Rattle.std.specs.Prelude.{◌≡◌, MatchOption};
 ghost use Rattle.feed_store_model.specs.Tables.{IsPieceRow, piece_row};
 
 use crate::columns::{blob_at, integer_at, number_at, text_at};
 use sqlite::Row;
 
-/// The values of a part's row: its number, the name of its release, the place of its first byte, and its bytes.
+/// A row of the table of parts: its rowid, the name of its release, the place of its first byte, and its bytes.
 #[derive(Clone, Copy)]
 pub struct Piece<'a> {
     pub id: i64,
@@ -14,7 +14,7 @@ pub struct Piece<'a> {
     pub bytes: &'a [u8],
 }
 
-/// The part of a row; nothing where the row is none that this product writes.
+/// Parses a row. Returns `None` if this product does not write such a row.
 pub fn piece_in_row(row: &Row) -> Option<Piece<'_>>
     ensures { MatchOption result (¬ (IsPieceRow row.now)) (λ p. row.now ≡ piece_row p.id p.text.now
         (record { first = p.first; bytes = p.bytes.now })) }

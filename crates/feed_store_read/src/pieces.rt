@@ -1,4 +1,4 @@
-//! Selects the kept parts, and gives each to its release.
+//! Reads the stored parts, and adds each to its release.
 ghost use Rattle.std.specs.Prelude.{◌≡◌, ◌≢◌, ◌++◌, ◌∷◌, [], false, All, IfOk, List, MatchBool};
 ghost use Rattle.std.specs.Prelude.{MatchOption};
 ghost use Rattle.sqlite.specs.Held.{state};
@@ -13,15 +13,15 @@ ghost use Rattle.feed_store_read.specs.Order.{AreNamesAscending};
 ghost use Rattle.feed_store_read.specs.Pieces.{ArePieces, ShowPieces};
 ghost use Rattle.feed_store_read.specs.Releases.{AreReleases, WritesNothing};
 
-use crate::records::add_part;
 use crate::piece_row::piece_in_row;
+use crate::records::add_part;
 use crate::releases::Releases;
 use feed_keep::Record;
 use sqlite::{Alter, Connection, Error, ErrorCode, Row};
 use std::alloc::Global;
 
-/// Gives each part to the release of its name, and gives the numbers of their rows. Nothing where a row is none that
-/// this product writes, or is of no release.
+/// Adds each stored part to the release with its name, and returns the rowids. Returns `None` if this product does not
+/// write such a row, or no release has the name.
 pub fn select_pieces<S: Alter>(
     alloc: Global,
     conn: &mut Connection<S>,
@@ -30,7 +30,6 @@ pub fn select_pieces<S: Alter>(
     requires up { AreNamesAscending (names (shown found.old.records.items)) }
     ensures names { names (shown found.new.records.items) ≡ names (shown found.old.records.items) }
     ensures ids { found.new.ids ≡ found.old.ids }
-    ensures idle { conn.old.in_transaction ≡ false → conn.new.in_transaction ≡ false }
     ensures leaves { WritesNothing (state S.Store conn.old) (state S.Store conn.new) }
     ensures read { IsLive (state S.Store conn.new) → IsTabled (state S.Store conn.old).now → IfOk result
         (λ read. IsUnchanged (state S.Store conn.old) (state S.Store conn.new)
@@ -55,7 +54,7 @@ pub fn select_pieces<S: Alter>(
     Err(Error::SqliteFailure(ErrorCode::TooBig))
 }
 
-// Gives the part of a row to its release; or not, where the row is none that this product writes, or is of no release.
+// Adds the part of a row to its release. Returns false if the row is invalid or no release has its name.
 fn take_piece(
     alloc: Global,
     ids: &mut Vec<i64>,

@@ -14,7 +14,7 @@ ghost use Rattle.feed_store_read.specs.Order.{AreNamesAscending};
 ghost use Rattle.feed_store_read.specs.Releases.{WritesNothing};
 ghost use Rattle.feed_store_read.specs.Selected.{AreSelected, AreRecordsOf, AreRecordsWithoutReasons};
 
-use crate::checks::{sort_distinct, are_names_ascending, are_places_ascending};
+use crate::checks::{are_names_ascending, are_places_ascending, sort_distinct};
 use crate::pieces::select_pieces;
 use crate::reasons::select_reasons;
 use crate::releases::{Releases, select_releases};
@@ -22,9 +22,13 @@ use feed_keep::Record;
 use sqlite::{Alter, Connection, Error, ErrorCode};
 use std::alloc::Global;
 
-/// All records of a database of either layout, without reasons, ordered by the texts of their names, each with its
-/// parts ordered by their first places. Nothing where the tables hold no list of records. It writes nothing, and
-/// refuses inside a transaction. The parts are held once.
+/// Reads all records of a database of either layout, without reasons, ordered by the texts of their names, each with
+/// its parts ordered by their first places. Returns `None` if the tables do not hold a list of records. It writes
+/// nothing, and holds the bytes of each part once.
+///
+/// # Errors
+///
+/// Returns SQLite's error, `OutOfMemory` if an allocation fails, and `TransactionState` inside a transaction.
 pub fn read_without_reasons<S: Alter>(
     alloc: Global,
     conn: &mut Connection<S>,
@@ -34,7 +38,8 @@ pub fn read_without_reasons<S: Alter>(
     ensures live { IsLive (state S.Store conn.new) → IsLive (state S.Store conn.old) }
     ensures same { IsLive (state S.Store conn.new) → (state S.Store conn.new).now ≡ (state S.Store conn.old).now }
     ensures limit { conn.new.step_limit ≡ conn.old.step_limit }
-    ensures up { IfOk result (λ found. IfSome found (λ records. AreNamesAscending (names (shown records.items)))) }
+    ensures up { IfOk result (λ found. IfSome found
+        (λ records. AreNamesAscending (names (shown records.items)))) }
     ensures distinct { IfOk result (λ found. IfSome found
         (λ records. IsDistinct name_eq (names (shown records.items)))) }
     ensures order { IfOk result (λ found. IfSome found (λ records. IsInOrder (shown records.items))) }
@@ -53,8 +58,12 @@ pub fn read_without_reasons<S: Alter>(
     }
 }
 
-/// All records of a database of layout 2, ordered by the texts of their names, each with its parts ordered by their
-/// first places. Nothing where the tables hold no list of records. It writes nothing, and refuses inside a transaction.
+/// Reads all records of a database of layout 2, ordered by the texts of their names, each with its parts ordered by
+/// their first places. Returns `None` if the tables do not hold a list of records. It writes nothing.
+///
+/// # Errors
+///
+/// As of `read_without_reasons`.
 pub fn read_records<S: Alter>(
     alloc: Global,
     conn: &mut Connection<S>,
@@ -79,7 +88,7 @@ pub fn read_records<S: Alter>(
     }
 }
 
-// The records with their reasons.
+// Reads the reasons of the records. Returns `None` if the table does not hold a list of reasons.
 fn read_reasons<S: Alter>(
     alloc: Global,
     conn: &mut Connection<S>,
@@ -115,12 +124,11 @@ fn read_reasons<S: Alter>(
     }
 }
 
-// The releases with their parts, and the numbers of the rows of the parts.
+// Reads the releases with their parts, and the rowids of the parts.
 fn select_all<S: Alter>(
     alloc: Global,
     conn: &mut Connection<S>,
 ) -> Result<Option<(Releases, Vec<i64>)>, Error>
-    ensures idle { conn.old.in_transaction ≡ false → conn.new.in_transaction ≡ false }
     ensures leaves { WritesNothing (state S.Store conn.old) (state S.Store conn.new) }
     ensures up { IfOk result (λ found. IfSome found (λ it. AreNamesAscending (names (shown it.0.records.items)))) }
     ensures read { IsLive (state S.Store conn.new) → IsTabled (state S.Store conn.old).now → IfOk result
@@ -139,7 +147,7 @@ fn select_all<S: Alter>(
     Ok(Some((found, ids)))
 }
 
-// The records that were read; nothing where a number stands twice, or a part does not begin behind the one before it.
+// Returns the records that were read. Returns `None` if a rowid is repeated or parts are not in order.
 fn check_records(found: Releases, ids: Vec<i64>) -> Option<Vec<Record>>
     requires up { AreNamesAscending (names (shown found.records.items)) }
     ensures up { IfSome result (λ records. AreNamesAscending (names (shown records.items))) }

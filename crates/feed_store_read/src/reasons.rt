@@ -1,4 +1,4 @@
-//! Selects the reasons of the broken releases, and gives each to its release.
+//! Reads the reasons of the broken releases, and sets the reason of each.
 ghost use Rattle.std.specs.Prelude.{◌≡◌, ◌≢◌, ◌++◌, ◌∷◌, [], false, All, IfOk, List, MatchBool, MatchOption, map};
 ghost use Rattle.sqlite.specs.Held.{state};
 ghost use Rattle.sqlite.specs.State.{IsUnchanged};
@@ -12,15 +12,15 @@ ghost use Rattle.feed_store_read.specs.Order.{AreNamesAscending};
 ghost use Rattle.feed_store_read.specs.Reasons.{AreReasonsOf, ShowReasons, with_first_reason};
 ghost use Rattle.feed_store_read.specs.Releases.{WritesNothing};
 
-use crate::records::find_record;
 use crate::reason_row::reason_in_row;
+use crate::records::find_record;
 use feed_kbart::BadFile;
 use feed_keep::Record;
 use sqlite::{Alter, Connection, Error, ErrorCode, Row};
 use std::alloc::Global;
 
-/// Gives each reason to the record of its name, and gives the numbers of their rows. Nothing where a row is none that
-/// this product writes, or is of no record.
+/// Sets each stored reason in the record with its name, and returns the rowids. Returns `None` if this product does not
+/// write such a row, or no record has the name.
 pub fn select_reasons<S: Alter>(
     alloc: Global,
     conn: &mut Connection<S>,
@@ -29,7 +29,6 @@ pub fn select_reasons<S: Alter>(
     requires up { AreNamesAscending (names (shown records.old.items)) }
     ensures names { names (shown records.new.items) ≡ names (shown records.old.items) }
     ensures parts { map (λ r. r.parts) (shown records.new.items) ≡ map (λ r. r.parts) (shown records.old.items) }
-    ensures idle { conn.old.in_transaction ≡ false → conn.new.in_transaction ≡ false }
     ensures leaves { WritesNothing (state S.Store conn.old) (state S.Store conn.new) }
     ensures read { IsLive (state S.Store conn.new) → IsLayout2 (state S.Store conn.old).now → IfOk result
         (λ read. IsUnchanged (state S.Store conn.old) (state S.Store conn.new)
@@ -54,7 +53,7 @@ pub fn select_reasons<S: Alter>(
     Err(Error::SqliteFailure(ErrorCode::TooBig))
 }
 
-// Gives the reason of a row to its record; or not, where the row is none that this product writes, or is of no record.
+// Sets the reason of a row in its record. Returns false if the row is invalid or no record has its name.
 fn take_reason(ids: &mut Vec<i64>, records: &mut Vec<Record>, row: &Row) -> Result<bool, Error>
     requires up { AreNamesAscending (names (shown records.old.items)) }
     ensures names { names (shown records.new.items) ≡ names (shown records.old.items) }
@@ -71,12 +70,13 @@ fn take_reason(ids: &mut Vec<i64>, records: &mut Vec<Record>, row: &Row) -> Resu
     Ok(set_reason(records, reason.text, reason.why))
 }
 
-// Gives a reason to the record that has this name, if it has none yet; or not, where none has the name.
+// Sets the reason of the record with this name if it has none yet. Returns false if there is no such record.
 fn set_reason(records: &mut Vec<Record>, text: &[u8], why: BadFile) -> bool
     requires up { AreNamesAscending (names (shown records.old.items)) }
     ensures names { names (shown records.new.items) ≡ names (shown records.old.items) }
     ensures parts { map (λ r. r.parts) (shown records.new.items) ≡ map (λ r. r.parts) (shown records.old.items) }
-    ensures given { MatchBool result (shown records.new.items ≡ map (with_first_reason text.now why) (shown records.old.items))
+    ensures given { MatchBool result
+        (shown records.new.items ≡ map (with_first_reason text.now why) (shown records.old.items))
         (All (λ r. text_of r.name ≢ text.now) records.old.items) }
 {
     let Some(at) = find_record(records, text) else {

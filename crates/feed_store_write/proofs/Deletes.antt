@@ -1,4 +1,4 @@
--- What the statement that deletes releases makes of the tables.
+-- The effect of the statement that deletes releases.
 use Rattle.std.proofs.Common.{◌≡◌, ℕ, ℤ, List, [], ◌∷◌, None, Ok, refl, sym, ap, subst, ◌∙◌}
 use Rattle.sqlite_value.specs.declared.value.Value.TheVariants.{Null, Int, Text}
 use Rattle.sqlite_rules.specs.Calls.{ids_of}

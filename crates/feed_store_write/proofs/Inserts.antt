@@ -1,4 +1,4 @@
--- What the statements that insert a row make of the tables.
+-- The effects of the statements that insert a row.
 use Rattle.std.proofs.Common.{◌≡◌, Bool, MatchBool, Option, Result, ℕ, pos, List, [], ◌∷◌, true, false, None, Some, Ok, slice_get}
 use Rattle.std.proofs.Common.{length, ◌/◌, if◌then◌else◌, refl, sym, ap, subst, ◌∙◌}
 use Rattle.sqlite_value.specs.declared.value.Value.TheVariants.{Null, Int, Text, Blob}

@@ -1,18 +1,18 @@
 -- A statement inside a transaction.
-use Rattle.std.proofs.Common.{arith, ◌≡◌, ℕ, List, Bool, true, false, Ok, Err, Result, IsErr, OnOk, refl}
+use Rattle.std.proofs.Common.{arith, ◌≡◌, ℕ, List, Bool, true, false, Ok, Err, Result, IsErr, OnOk, refl, ◌⊎◌, inl}
 use Rattle.std.proofs.lemmas.Result.{on_ok_weaker}
 use Rattle.sqlite_value.specs.Order.{Row}
 use Rattle.sqlite.specs.declared.error.Error.{Error}
 use Rattle.sqlite.specs.Effect.{Database}
 use Rattle.sqlite.specs.Held.{Held, state}
-use Rattle.sqlite.specs.State.{State, Executes, ExecutesInside, HasCleanDisk, KeepsCommit}
+use Rattle.sqlite.specs.State.{State, Executes, ExecutesInside, HasCleanDisk, KeepsCommit, Survives}
 use Rattle.sqlite.proofs.InsideLemmas.{inside_keeps, keeps_then}
 use Rattle.sqlite.proofs.StateLemmas.{survives_then}
 use Rattle.sqlite_trees.specs.declared.store.Store.{Ghosts}
-use Rattle.feed_store_write.specs.Effects.{IsMade, IsRun, Keeps, LeavesDisk}
+use Rattle.feed_store_write.specs.Effects.{CommitsNothing, IsMade, IsRun}
 
 module _ (text : List ℕ) (params : Row) (old new : State) where
-  -- a transaction that goes on runs it; one that has ended takes no statement
+  -- a transaction that is open runs it; one that has ended takes no statement
   pub ran_inside : (result : Result ℕ Error) → (old.in_transaction ≡ false → IsErr result) → (old.in_transaction ≡ true → ExecutesInside 0 text params old new result)
       → OnOk result (IsRun text params old new)
   ran_inside result ended runs = by result old.in_transaction refl ended runs
@@ -37,14 +37,21 @@ module _ (text : List ℕ) (params : Row) (old new : State) where
       by false is = let e = ended is in rw e (record { was_open = λ is_on. is_on; committed = λ is_on. refl })
       by true is = inside_keeps old new 0 false text params result (runs is)
 
--- the disk had returned what was written
-pub clean_before : {S : Type 0} (store : Ghosts S) (b c : Held S) → LeavesDisk store b c → HasCleanDisk (state store c) → HasCleanDisk (state store b)
-clean_before store b c two clean = omega (arith, two.clean)
+module _ {S : Type 0} {store : Ghosts S} where
+  -- nothing was done
+  pub nothing_done : {h : Held S} → CommitsNothing store h h
+  nothing_done = record {
+    kept = λ clean. record { was_open = λ on. on; committed = λ on. refl };
+    survives = record { clean = omega arith; shield = λ s. s; counts = omega arith; limit = refl; closes = λ clean on. inl on; crash = λ clean db it. inl it };
+  }
 
--- two calls, one after the other
-module _ {S : Type 0} (store : Ghosts S) (a b c : Held S) (one : LeavesDisk store a b) (two : LeavesDisk store b c) where
-  pub both_keep : Keeps store a b → Keeps store b c → Keeps store a c
-  both_keep first second clean = keeps_then (state store a) (state store b) (state store c) (first (clean_before store b c two clean)) (second clean)
+  -- the disk had returned what was written
+  pub clean_before : {b c : Held S} → CommitsNothing store b c → HasCleanDisk (state store c) → HasCleanDisk (state store b)
+  clean_before two clean = omega (arith, two.survives.clean)
 
-  pub both_leave : LeavesDisk store a c
-  both_leave = survives_then (state store a) (state store b) (state store c) (λ _. ⊥) (λ _. ⊥) (λ _. ⊥) (λ _ db none. none) (λ _ db none. none) one two
+  -- two calls, one after the other
+  pub both_inside : {a b c : Held S} → CommitsNothing store a b → CommitsNothing store b c → CommitsNothing store a c
+  both_inside {a} {b} {c} one two = record {
+    kept = λ clean. keeps_then (state store a) (state store b) (state store c) (one.kept (clean_before two clean)) (two.kept clean);
+    survives = survives_then (state store a) (state store b) (state store c) (λ _. ⊥) (λ _. ⊥) (λ _. ⊥) (λ _ db none. none) (λ _ db none. none) one.survives two.survives;
+  }

@@ -1,4 +1,4 @@
--- What the selection of the layout's number says of its table.
+-- The selection of the layout's number shows its table.
 use Rattle.std.proofs.Common.{◌≡◌, ◌↔◌, ◌∙◌, ℕ, List, [], ◌∷◌, map, filter, codes, false, pos, length, IsPermutation, refl, sym, ap, subst, arith}
 use Rattle.std.specs.List.{AllByRecursion}
 use Rattle.std.proofs.lemmas.List.Sorted.{IsPermutation-sym, length_permutation}

@@ -1,4 +1,4 @@
--- A schema is the layout's just where its three parts are.
+-- A schema is the layout's exactly if its three parts are.
 use Rattle.std.proofs.Common.{◌≡◌, ◌↔◌, ◌∙◌, Bool, IsTrue, List, [], ◌∷◌, refl, sym, ap}
 use Rattle.std.specs.Prelude.{◌&&◌}
 use Rattle.sqlite_tied.specs.Compute.{everything}

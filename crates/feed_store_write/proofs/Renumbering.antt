@@ -1,4 +1,4 @@
--- What the statement that sets the layout's number makes of the tables.
+-- The effect of the statement that sets the layout's number.
 use Rattle.std.proofs.Common.{◌≡◌, ◌==◌, cond, not, ℕ, List, [], ◌∷◌, map, filter, length, Bool, true, false, None, Ok, pos, IsPermutation, refl, sym, ap, subst, ◌∙◌}
 use Rattle.sqlite_value.specs.declared.value.Value.TheVariants.{Null, Int}
 use Rattle.sqlite_value.specs.Order.{Row}

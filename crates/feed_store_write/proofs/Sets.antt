@@ -1,4 +1,4 @@
--- What the statement that sets a state makes of the tables.
+-- The effect of the statement that sets a state.
 use Rattle.std.proofs.Common.{◌≡◌, ℕ, ℤ, List, [], ◌∷◌, Bool, true, false, None}
 use Rattle.std.proofs.Common.{Ok, refl, ◌==◌, length, suc, ap, subst, ◌∙◌}
 use Rattle.sqlite_value.specs.declared.value.Value.TheVariants.{Null, Int, Text}

@@ -1,4 +1,4 @@
--- What the statements that make a table make of a database.
+-- The effects of the statements that create a table.
 use Rattle.std.proofs.Common.{◌≡◌, ◌∷◌, List, ℕ, [], map, Ok, None, false, refl, sym, ap, subst, ◌∙◌}
 use Rattle.sqlite.specs.Compile.{table_defined_by}
 use Rattle.sqlite_tied.specs.Compute.{everything}

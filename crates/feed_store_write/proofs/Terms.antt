@@ -17,7 +17,7 @@ depth_of (op1 op a) = 1 + depth_of a
 depth_of (op2 op a b) = 1 + max (depth_of a) (depth_of b)
 depth_of (case t a b) = 1 + max (depth_of t) (max (depth_of a) (depth_of b))
 
--- the operator of a term, and what stands before and behind it
+-- the operator of a term, and its two operands
 abbrev operator : BinaryOp → Term → BinaryOp
 operator other (op2 op a b) = op
 operator other (lit v) = other

@@ -1,4 +1,4 @@
--- What calls make of a database.
+-- The effects of calls on a database.
 use Rattle.std.specs.Prelude.{◌≡◌, ◌↔◌, ◌∷◌, ℕ, List, Bool, IsTrue, [], map, OnOk, Ok, pos, Result}
 use Rattle.feed_model.specs.Change.{Change, IsAllowed, after}
 use Rattle.feed_model.specs.Content.{Content}
@@ -17,7 +17,7 @@ use Rattle.feed_store_model.specs.Layout.{schema_with, layout_1_schema, layout_2
 pub use Rattle.feed_store_model.specs.Live.{IsLive}
 use Rattle.feed_store_model.specs.Tables.{IsChanged, IsLayout1, HoldsReleases, HoldsRecords, IsLayout2, content_without_reasons, stored_content}
 
--- the change is made inside the transaction, which goes on
+-- the change is made inside the transaction, which stays open
 pub record IsMade (Change : Database → Database → Type 0) (old new : State) : Type 0 where
   pub change : Change old.now new.now
   pub committed : new.committed ≡ old.committed
@@ -27,7 +27,7 @@ pub record IsMade (Change : Database → Database → Type 0) (old new : State) 
 abbrev pub IsMadeOnOk : {S X E : Type 0} → Ghosts S → (Database → Database → Type 0) → Held S → Held S → Result X E → Type 0
 IsMadeOnOk store Change old new result = HasCleanDisk (state store new) → OnOk result (IsMade Change (state store old) (state store new))
 
--- a statement has run inside the transaction, which goes on
+-- a statement has run inside the transaction, which stays open
 pub record IsRun (text : List ℕ) (params : Row) (old new : State) : Type 0 where
   pub count : ℕ
   pub runs : Executes text params old new (Ok count)
@@ -38,23 +38,20 @@ pub record IsRun (text : List ℕ) (params : Row) (old new : State) : Type 0 whe
 abbrev pub IsRunOnOk : {S X E : Type 0} → Ghosts S → List ℕ → List ValueRef → Held S → Held S → Result X E → Type 0
 IsRunOnOk store text params old new result = HasCleanDisk (state store new) → OnOk result (IsRun text (bound params) (state store old) (state store new))
 
--- a call commits nothing
-abbrev pub Keeps : {S : Type 0} → Ghosts S → Held S → Held S → Type 0
-Keeps store old new = HasCleanDisk (state store new) → KeepsCommit (state store old) (state store new)
+-- a call commits nothing, and a crash leaves what it left before the call
+pub record CommitsNothing {S : Type 0} (store : Ghosts S) (old new : Held S) : Type 0 where
+  pub kept : HasCleanDisk (state store new) → KeepsCommit (state store old) (state store new)
+  pub survives : Survives (state store old) (state store new) (λ _. ⊥)
 
--- a crash leaves what it left before the call
-abbrev pub LeavesDisk : {S : Type 0} → Ghosts S → Held S → Held S → Type 0
-LeavesDisk store old new = Survives (state store old) (state store new) (λ _. ⊥)
-
--- a database of ours stays so, and its content is changed so
+-- a database of layout 2 stays one, and its content is changed so
 abbrev pub IsContentChange : (Content → Content) → Database → Database → Type 0
 IsContentChange f old new = IsLayout2 old → IsChanged f old new
 
--- under a condition, a database of ours has its content changed so
+-- under a condition, a database of layout 2 has its content changed so
 abbrev pub IsContentChangeIf : Type 0 → (Content → Content) → Database → Database → Type 0
 IsContentChangeIf Condition f old new = Condition → IsContentChange f old new
 
--- where the change of the records is allowed, a database of ours has its content changed so
+-- if the change of the records is allowed, a database of layout 2 has its content changed so
 abbrev pub IsAllowedChange : Change → Database → Database → Type 0
 IsAllowedChange change old new = IsAllowed change (stored_content old) → IsContentChange (after change) old new
 
@@ -62,13 +59,13 @@ IsAllowedChange change old new = IsAllowed change (stored_content old) → IsCon
 abbrev pub IsTransition : (Database → Type 0) → (Database → Type 0) → Database → Database → Type 0
 IsTransition From To old new = From old → To new
 
--- the tables are there, the layout's number is 1, and nothing is recorded
+-- the tables are there, the layout's number is 2, and nothing is recorded
 pub record IsBlank (db : Database) : Type 0 where
   pub ours : IsLayout2 db
   pub listed : HoldsRecords db
   pub content : stored_content db ≡ []
 
--- where the first three tables are there, the database is as it was, and it is told whether the layout has this number and no other
+-- if the first three tables are there, the database is as it was, and the answer is whether the layout has this number and no other
 abbrev pub ReportsNumber : ℕ → State → State → Bool → Type 0
 ReportsNumber number old new is =
     (more : List Table) (keys : List Index) → old.now.schema ≡ schema_with more keys

@@ -22,6 +22,7 @@ abbrev pub explained_with : List Record → Content → Content
 explained_with [] c = c
 explained_with (r ∷ rs) c = explained_with rs (explain r c)
 
+-- it can be stored, if there is one
 abbrev pub IsStoredIf : Option BadFile → Type 0
 IsStoredIf None = Unit {0}
 IsStoredIf (Some why) = IsStored why
@@ -30,5 +31,6 @@ IsStoredIf (Some why) = IsStored why
 abbrev pub IsStoredIn : Record → Type 0
 IsStoredIn r = IsStoredIf r.reason
 
+-- the reasons of all of them can be stored
 abbrev pub AreStored : List Record → Type 0
 AreStored records = AllByRecursion IsStoredIn records

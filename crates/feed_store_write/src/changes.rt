@@ -3,7 +3,7 @@ ghost use Rattle.std.specs.Prelude.{◌≡◌, false, OnOk, OnErr};
 ghost use Rattle.feed_model.specs.Change.{Add, Break, after, changed, grown, without_earlier, IsAllowed};
 ghost use Rattle.feed_parts.specs.Shown.{shown_parts};
 ghost use Rattle.feed_keep.specs.Shown.{shown_change};
-ghost use Rattle.feed_store_write.specs.Effects.{IsAllowedChange, IsContentChange, IsLive, Keeps, LeavesDisk, IsMadeOnOk};
+ghost use Rattle.feed_store_write.specs.Effects.{CommitsNothing, IsAllowedChange, IsContentChange, IsLive, IsMadeOnOk};
 ghost use Rattle.sqlite.specs.Held.{state};
 
 use crate::statements::{delete_earlier, insert_parts, insert_reason, insert_release, set_state};
@@ -14,8 +14,12 @@ use feed_names::ReleaseName;
 use feed_parts::Part;
 use sqlite::{Alter, Connection, Error, ErrorCode, Transaction};
 
-/// IsMadeOnOk a change of the records in one transaction: the whole of it, or nothing. It refuses inside a transaction. The
-/// error is what SQLite says of the statement that failed, and `TooBig` for a size or a place beyond 32 bits.
+/// Commits a change of the records in one transaction: the whole change or nothing.
+///
+/// # Errors
+///
+/// Returns SQLite's error for the statement that failed, `TooBig` for a size or a place beyond 32 bits, and
+/// `TransactionState` inside a transaction.
 pub fn commit_change<S: Alter>(conn: &mut Connection<S>, change: &Change<'_>) -> Result<(), Error>
     requires { conn.old.in_transaction ≡ false }
     ensures idle { conn.new.in_transaction ≡ false }
@@ -33,12 +37,12 @@ pub fn commit_change<S: Alter>(conn: &mut Connection<S>, change: &Change<'_>) ->
     tx.commit()
 }
 
-// IsMadeOnOk a change inside a transaction.
+// Runs the statements of a change inside a transaction.
 fn apply_change<S: Alter>(tx: &mut Transaction<'_, S>, change: &Change<'_>) -> Result<(), Error>
     ensures same_reference { tx.new.conn.ghost_name ≡ tx.old.conn.ghost_name }
-    ensures made { IsMadeOnOk S.Store (IsAllowedChange (shown_change change.now)) tx.old.conn.now tx.new.conn.now result }
-    ensures kept { Keeps S.Store tx.old.conn.now tx.new.conn.now }
-    ensures survives { LeavesDisk S.Store tx.old.conn.now tx.new.conn.now }
+    ensures made { IsMadeOnOk S.Store (IsAllowedChange (shown_change change.now))
+        tx.old.conn.now tx.new.conn.now result }
+    ensures inside { CommitsNothing S.Store tx.old.conn.now tx.new.conn.now }
 {
     match change {
         Change::Add { name, size } => add_release(tx, name, *size),
@@ -52,12 +56,15 @@ fn apply_change<S: Alter>(tx: &mut Transaction<'_, S>, change: &Change<'_>) -> R
     }
 }
 
-// Adds the record of a release. It refuses a size beyond 32 bits, which no file has.
-fn add_release<S: Alter>(tx: &mut Transaction<'_, S>, name: &ReleaseName, size: u64) -> Result<(), Error>
+// Adds the record of a release. It rejects a size beyond 32 bits, which no file has.
+fn add_release<S: Alter>(
+    tx: &mut Transaction<'_, S>,
+    name: &ReleaseName,
+    size: u64,
+) -> Result<(), Error>
     ensures same_reference { tx.new.conn.ghost_name ≡ tx.old.conn.ghost_name }
     ensures made { IsMadeOnOk S.Store (IsAllowedChange (Add name.now size)) tx.old.conn.now tx.new.conn.now result }
-    ensures kept { Keeps S.Store tx.old.conn.now tx.new.conn.now }
-    ensures survives { LeavesDisk S.Store tx.old.conn.now tx.new.conn.now }
+    ensures inside { CommitsNothing S.Store tx.old.conn.now tx.new.conn.now }
 {
     let Ok(short) = u32::try_from(size) else {
         return Err(Error::SqliteFailure(ErrorCode::TooBig));
@@ -68,18 +75,17 @@ fn add_release<S: Alter>(tx: &mut Transaction<'_, S>, name: &ReleaseName, size: 
     insert_release(tx, name, short, State::Staged)
 }
 
-// Adds the record of a release whose file is empty, and so whole, and bad.
+// Adds the record of a release with an empty file, which is complete and bad.
 fn add_empty_release<S: Alter>(tx: &mut Transaction<'_, S>, name: &ReleaseName) -> Result<(), Error>
     ensures same_reference { tx.new.conn.ghost_name ≡ tx.old.conn.ghost_name }
     ensures made { IsMadeOnOk S.Store (IsAllowedChange (Add name.now 0)) tx.old.conn.now tx.new.conn.now result }
-    ensures kept { Keeps S.Store tx.old.conn.now tx.new.conn.now }
-    ensures survives { LeavesDisk S.Store tx.old.conn.now tx.new.conn.now }
+    ensures inside { CommitsNothing S.Store tx.old.conn.now tx.new.conn.now }
 {
     insert_release(tx, name, 0, State::Broken)?;
     insert_reason(tx, name, BadFile::NoHeader)
 }
 
-// Adds the last parts of a release whose file is bad, and why it is.
+// Adds the last parts of a release with a bad file, and the reason.
 fn break_release<S: Alter>(
     tx: &mut Transaction<'_, S>,
     name: &ReleaseName,
@@ -89,8 +95,7 @@ fn break_release<S: Alter>(
     ensures same_reference { tx.new.conn.ghost_name ≡ tx.old.conn.ghost_name }
     ensures made { IsMadeOnOk S.Store (IsAllowedChange (Break name.now (shown_parts parts.now) why))
         tx.old.conn.now tx.new.conn.now result }
-    ensures kept { Keeps S.Store tx.old.conn.now tx.new.conn.now }
-    ensures survives { LeavesDisk S.Store tx.old.conn.now tx.new.conn.now }
+    ensures inside { CommitsNothing S.Store tx.old.conn.now tx.new.conn.now }
 {
     finish(tx, name, parts, State::Broken)?;
     insert_reason(tx, name, why)
@@ -106,14 +111,13 @@ fn finish<S: Alter>(
     ensures same_reference { tx.new.conn.ghost_name ≡ tx.old.conn.ghost_name }
     ensures made { IsMadeOnOk S.Store (IsContentChange (changed name.now (grown (shown_parts parts.now) value)))
         tx.old.conn.now tx.new.conn.now result }
-    ensures kept { Keeps S.Store tx.old.conn.now tx.new.conn.now }
-    ensures survives { LeavesDisk S.Store tx.old.conn.now tx.new.conn.now }
+    ensures inside { CommitsNothing S.Store tx.old.conn.now tx.new.conn.now }
 {
     insert_parts(tx, name, parts)?;
     set_state(tx, name, value)
 }
 
-// The same for a release that becomes active. The package's records of earlier days go.
+// Adds the last parts of a release that becomes active, and deletes the package's records of earlier days.
 fn activate<S: Alter>(
     tx: &mut Transaction<'_, S>,
     name: &ReleaseName,
@@ -123,8 +127,7 @@ fn activate<S: Alter>(
     ensures made { IsMadeOnOk S.Store (IsContentChange
         (λ c. without_earlier name.now (changed name.now (grown (shown_parts parts.now) State.Active) c)))
         tx.old.conn.now tx.new.conn.now result }
-    ensures kept { Keeps S.Store tx.old.conn.now tx.new.conn.now }
-    ensures survives { LeavesDisk S.Store tx.old.conn.now tx.new.conn.now }
+    ensures inside { CommitsNothing S.Store tx.old.conn.now tx.new.conn.now }
 {
     finish(tx, name, parts, State::Active)?;
     delete_earlier(tx, name)

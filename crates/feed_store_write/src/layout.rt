@@ -1,6 +1,7 @@
 //! Creates the tables of an empty database.
 ghost use Rattle.std.specs.Prelude.{◌≡◌, false, IsTrue, OnErr, OnOk};
-ghost use Rattle.feed_store_write.specs.Effects.{IsExtension, IsBlank, IsLive, Keeps, IsTransition, LeavesDisk, IsMadeOnOk};
+ghost use Rattle.feed_store_write.specs.Effects.{CommitsNothing, IsBlank, IsExtension, IsLive, IsMadeOnOk};
+ghost use Rattle.feed_store_write.specs.Effects.{IsTransition};
 ghost use Rattle.feed_store_write.specs.Schemas.{HasAllTables, HasLayoutTable, HasNoTable, HasPieceTable};
 ghost use Rattle.feed_store_write.specs.Schemas.{HasReleaseTable};
 ghost use Rattle.sqlite.specs.Held.{state};
@@ -9,8 +10,11 @@ ghost use Rattle.sqlite.specs.State.{HasCleanDisk};
 use crate::running::run;
 use sqlite::{Alter, Connection, Error, ErrorCode, Transaction};
 
-/// IsMadeOnOk the tables in an empty database, with the number of the layout, in one transaction: all of it, or nothing. It
-/// refuses inside a transaction. The error is what SQLite says of the statement that failed.
+/// Creates the tables in an empty database, with the number of the layout, in one transaction: all of them or nothing.
+///
+/// # Errors
+///
+/// Returns SQLite's error for the statement that failed, and `TransactionState` inside a transaction.
 pub fn create_tables<S: Alter>(conn: &mut Connection<S>) -> Result<(), Error>
     requires { conn.old.in_transaction ≡ false }
     ensures idle { conn.new.in_transaction ≡ false }
@@ -30,12 +34,11 @@ pub fn create_tables<S: Alter>(conn: &mut Connection<S>) -> Result<(), Error>
     tx.commit()
 }
 
-// The tables, and the row of the layout.
+// Creates the tables, and inserts the row of the layout.
 fn create_all<S: Alter>(tx: &mut Transaction<'_, S>) -> Result<(), Error>
     ensures same_reference { tx.new.conn.ghost_name ≡ tx.old.conn.ghost_name }
     ensures made { IsMadeOnOk S.Store (IsTransition HasNoTable IsBlank) tx.old.conn.now tx.new.conn.now result }
-    ensures kept { Keeps S.Store tx.old.conn.now tx.new.conn.now }
-    ensures survives { LeavesDisk S.Store tx.old.conn.now tx.new.conn.now }
+    ensures inside { CommitsNothing S.Store tx.old.conn.now tx.new.conn.now }
 {
     create_layout(tx)?;
     create_release(tx)?;
@@ -48,8 +51,7 @@ fn create_layout<S: Alter>(tx: &mut Transaction<'_, S>) -> Result<(), Error>
     ensures same_reference { tx.new.conn.ghost_name ≡ tx.old.conn.ghost_name }
     ensures made { IsMadeOnOk S.Store (IsTransition HasNoTable HasLayoutTable)
         tx.old.conn.now tx.new.conn.now result }
-    ensures kept { Keeps S.Store tx.old.conn.now tx.new.conn.now }
-    ensures survives { LeavesDisk S.Store tx.old.conn.now tx.new.conn.now }
+    ensures inside { CommitsNothing S.Store tx.old.conn.now tx.new.conn.now }
 {
     run(
         tx,
@@ -62,8 +64,7 @@ fn create_release<S: Alter>(tx: &mut Transaction<'_, S>) -> Result<(), Error>
     ensures same_reference { tx.new.conn.ghost_name ≡ tx.old.conn.ghost_name }
     ensures made { IsMadeOnOk S.Store (IsTransition HasLayoutTable HasReleaseTable)
         tx.old.conn.now tx.new.conn.now result }
-    ensures kept { Keeps S.Store tx.old.conn.now tx.new.conn.now }
-    ensures survives { LeavesDisk S.Store tx.old.conn.now tx.new.conn.now }
+    ensures inside { CommitsNothing S.Store tx.old.conn.now tx.new.conn.now }
 {
     run(
         tx,
@@ -84,8 +85,7 @@ fn create_piece<S: Alter>(tx: &mut Transaction<'_, S>) -> Result<(), Error>
     ensures same_reference { tx.new.conn.ghost_name ≡ tx.old.conn.ghost_name }
     ensures made { IsMadeOnOk S.Store (IsTransition HasReleaseTable HasPieceTable)
         tx.old.conn.now tx.new.conn.now result }
-    ensures kept { Keeps S.Store tx.old.conn.now tx.new.conn.now }
-    ensures survives { LeavesDisk S.Store tx.old.conn.now tx.new.conn.now }
+    ensures inside { CommitsNothing S.Store tx.old.conn.now tx.new.conn.now }
 {
     run(
         tx,
@@ -100,13 +100,13 @@ fn create_piece<S: Alter>(tx: &mut Transaction<'_, S>) -> Result<(), Error>
     )
 }
 
-/// IsMadeOnOk the table of the reasons.
+/// Creates the table of the reasons.
 pub(crate) fn create_reason<S: Alter>(tx: &mut Transaction<'_, S>) -> Result<(), Error>
     ensures same_reference { tx.new.conn.ghost_name ≡ tx.old.conn.ghost_name }
     ensures made { IsMadeOnOk S.Store IsExtension tx.old.conn.now tx.new.conn.now result }
-    ensures blank { IsMadeOnOk S.Store (IsTransition HasPieceTable HasAllTables) tx.old.conn.now tx.new.conn.now result }
-    ensures kept { Keeps S.Store tx.old.conn.now tx.new.conn.now }
-    ensures survives { LeavesDisk S.Store tx.old.conn.now tx.new.conn.now }
+    ensures blank { IsMadeOnOk S.Store (IsTransition HasPieceTable HasAllTables)
+        tx.old.conn.now tx.new.conn.now result }
+    ensures inside { CommitsNothing S.Store tx.old.conn.now tx.new.conn.now }
 {
     run(
         tx,
@@ -125,8 +125,7 @@ fn insert_version<S: Alter>(tx: &mut Transaction<'_, S>) -> Result<(), Error>
     ensures same_reference { tx.new.conn.ghost_name ≡ tx.old.conn.ghost_name }
     ensures made { IsMadeOnOk S.Store (IsTransition HasAllTables IsBlank)
         tx.old.conn.now tx.new.conn.now result }
-    ensures kept { Keeps S.Store tx.old.conn.now tx.new.conn.now }
-    ensures survives { LeavesDisk S.Store tx.old.conn.now tx.new.conn.now }
+    ensures inside { CommitsNothing S.Store tx.old.conn.now tx.new.conn.now }
 {
     run(tx, "INSERT INTO feed_layout (version) VALUES (2)", &[])
 }

@@ -1,5 +1,5 @@
-//! The statements by which a database of SQL keeps the records of a feed: its tables, and each change of the records as
-//! one transaction.
+//! Writes the records of a feed to a SQL database: creates and upgrades its tables, and commits each change of the
+//! records as one transaction.
 #![tactic(auto)]
 
 mod changes;

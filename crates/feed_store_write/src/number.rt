@@ -8,8 +8,11 @@ ghost use Rattle.sqlite_value.specs.declared.value.Value.TheVariants.{Int};
 use sqlite::{Alter, Connection, Error, ErrorCode, Row};
 use sqlite_value::value::ValueRef;
 
-/// Whether the layout of a database with the tables has this number, and no other. It writes nothing, and refuses
-/// inside a transaction. The error is SQLite's.
+/// Returns whether the layout of a database with the tables has this number and no other. It writes nothing.
+///
+/// # Errors
+///
+/// Returns SQLite's error, and `TransactionState` inside a transaction.
 pub fn has_layout_number<S: Alter>(conn: &mut Connection<S>, number: u32) -> Result<bool, Error>
     ensures idle { conn.old.in_transaction ≡ false → conn.new.in_transaction ≡ false }
     ensures live { IsLive (state S.Store conn.new) → IsLive (state S.Store conn.old) }

@@ -1,13 +1,13 @@
-//! One statement inside a transaction, and its values.
+//! Runs one statement inside a transaction.
 ghost use Rattle.std.specs.Prelude.{◌≡◌, OnOk};
 ghost use Rattle.sqlite_value.specs.declared.value.Value.TheVariants.{Text};
 ghost use Rattle.sqlite_value.specs.Value.{owned};
-ghost use Rattle.feed_store_write.specs.Effects.{Keeps, LeavesDisk, IsRunOnOk};
+ghost use Rattle.feed_store_write.specs.Effects.{CommitsNothing, IsRunOnOk};
 
 use sqlite::{Alter, Error, Transaction};
 use sqlite_value::value::ValueRef;
 
-/// IsRunOnOk a statement, and drops the count of its rows. A transaction that has ended takes none.
+/// Runs a statement and ignores the count of its rows. A transaction that has ended rejects it.
 pub fn run<S: Alter>(
     tx: &mut Transaction<'_, S>,
     sql: &str,
@@ -15,14 +15,13 @@ pub fn run<S: Alter>(
 ) -> Result<(), Error>
     ensures same_reference { tx.new.conn.ghost_name ≡ tx.old.conn.ghost_name }
     ensures ran { IsRunOnOk S.Store sql.now params.now tx.old.conn.now tx.new.conn.now result }
-    ensures kept { Keeps S.Store tx.old.conn.now tx.new.conn.now }
-    ensures survives { LeavesDisk S.Store tx.old.conn.now tx.new.conn.now }
+    ensures inside { CommitsNothing S.Store tx.old.conn.now tx.new.conn.now }
 {
     tx.execute(sql, params)?;
     Ok(())
 }
 
-/// The bytes of a text, as a value.
+/// Returns the bytes of a text as a value.
 pub fn as_text(bytes: &[u8]) -> ValueRef<'_>
     ensures { owned result ≡ Text bytes.now }
 {

@@ -19,6 +19,39 @@ use sqlite_sql::ops::{BinaryOp, CompareOp};
 use sqlite_value::keys::{Collation, Order};
 use sqlite_value::value::{Bytes, Value};
 
+// The numbers of the trees that hold the tables and their indexes. SQLite numbers them as they are created.
+const LAYOUT_TREE: u32 = 0;
+
+const RELEASE_TREE: u32 = 1;
+
+const RELEASE_INDEX_TREE: u32 = 2;
+
+const PIECE_TREE: u32 = 3;
+
+const PIECE_INDEX_TREE: u32 = 4;
+
+const REASON_TREE: u32 = 5;
+
+const REASON_INDEX_TREE: u32 = 6;
+
+// The places of the columns that a check limits, counted from 1 behind the rowid.
+const SIZE: usize = 4;
+
+const STATE: usize = 5;
+
+const PLACE: usize = 2;
+
+const REASON: usize = 2;
+
+const LABEL: usize = 3;
+
+// The greatest numbers that the checks allow.
+const LAST_STATE: u32 = 2;
+
+const LAST_REASON: u32 = 5;
+
+const LAST_LABEL: u32 = 13;
+
 fn is_word(bytes: &Bytes, word: &[u8]) -> bool
     ensures { IsTrue result ↔ (bytes.now ≡ word.now) }
 {
@@ -31,7 +64,7 @@ fn are_places(places: &Items<usize>, wanted: &[usize]) -> bool
     places.as_slice() == wanted
 }
 
-// Whether a column takes values of a kind alone, and no NULL.
+// Returns whether a column accepts only values of a kind, and no NULL.
 fn is_column(column: &Column, kind: Kind, name: &[u8]) -> bool
     ensures { IsTrue result ↔ (column.now ≡ column_of kind name.now) }
 {
@@ -43,7 +76,7 @@ fn is_column(column: &Column, kind: Kind, name: &[u8]) -> bool
         && column.collation == Collation::Binary
 }
 
-// Whether a part goes with its release.
+// Returns whether deleting a release deletes the rows that refer to it.
 fn is_owner(reference: &Reference) -> bool
     ensures { IsTrue result ↔ (reference.now ≡ owner) }
 {
@@ -64,7 +97,7 @@ fn is_operator(operator: BinaryOp, wanted: BinaryOp) -> bool
     operator == wanted
 }
 
-// Whether the node at a place is this column of the row.
+// Returns whether the node at a place is this column of the row.
 fn is_place(nodes: &[Op], at: usize, place: usize) -> bool
     ensures { (depth : ℕ) → IsTrue result ↔ (term_to nodes.now (suc depth) at ≡ col 1 place) }
 {
@@ -74,7 +107,7 @@ fn is_place(nodes: &[Op], at: usize, place: usize) -> bool
     }
 }
 
-// Whether the node at a place is this number.
+// Returns whether the node at a place is this number.
 fn is_number(nodes: &[Op], at: usize, number: u32) -> bool
     ensures { (depth : ℕ) → IsTrue result ↔ (term_to nodes.now (suc depth) at ≡ lit (Int (pos number))) }
 {
@@ -84,7 +117,7 @@ fn is_number(nodes: &[Op], at: usize, number: u32) -> bool
     }
 }
 
-// Whether the node at a place compares a column so with a number.
+// Returns whether the node at a place compares a column with a number in this way.
 fn is_bound(nodes: &[Op], at: usize, how: CompareOp, place: usize, number: u32) -> bool
     ensures { (depth : ℕ) → IsTrue result ↔ (term_to nodes.now (suc (suc depth)) at
         ≡ op2 (Compare how Binary) (col 1 place) (lit (Int (pos number)))) }
@@ -99,7 +132,7 @@ fn is_bound(nodes: &[Op], at: usize, how: CompareOp, place: usize, number: u32) 
     }
 }
 
-// Whether the node at a place says that a column lies between two numbers.
+// Returns whether the node at a place requires that a column is between two numbers.
 fn is_between(nodes: &[Op], at: usize, place: usize, least: u32, most: u32) -> bool
     ensures { (depth : ℕ) → IsTrue result ↔ (term_to nodes.now (suc (suc (suc depth))) at
         ≡ between place least most) }
@@ -120,48 +153,53 @@ fn are_at_least(nodes: &[Op], count: usize) -> bool
     count <= nodes.len()
 }
 
-// Whether the expression at a place says that a column is at least 0.
+// Returns whether the expression at a place requires that a column is at least 0.
 fn is_lower_bound(nodes: &[Op], at: usize, place: usize) -> bool
     ensures { IsTrue result ↔ (term_in nodes.now at ≡ bound_by Ge place 0) }
 {
     are_at_least(nodes, 2) & is_bound(nodes, at, CompareOp::Ge, place, 0)
 }
 
-// Whether it says that a column lies between two numbers.
+// Returns whether the expression at a place requires that a column is between two numbers.
 fn is_range(nodes: &[Op], at: usize, place: usize, least: u32, most: u32) -> bool
     ensures { IsTrue result ↔ (term_in nodes.now at ≡ between place least most) }
 {
     are_at_least(nodes, 3) & is_between(nodes, at, place, least, most)
 }
 
-// Whether the rules of a table are those of the releases.
+// Returns whether the checks of a table are those of the releases.
 fn are_release_checks(terms: &Terms) -> bool
     ensures { IsTrue result ↔ (terms.now ≡ release.checks) }
 {
     let nodes = terms.nodes.as_slice();
     match terms.roots.as_slice() {
-        [size, state] => is_lower_bound(nodes, *size, 4) & is_range(nodes, *state, 5, 0, 2),
+        [size, state] => {
+            is_lower_bound(nodes, *size, SIZE) & is_range(nodes, *state, STATE, 0, LAST_STATE)
+        }
         _ => false,
     }
 }
 
-// Whether they are those of the parts.
+// Returns whether the checks of a table are those of the parts.
 fn are_piece_checks(terms: &Terms) -> bool
     ensures { IsTrue result ↔ (terms.now ≡ piece.checks) }
 {
     match terms.roots.as_slice() {
-        [place] => is_lower_bound(terms.nodes.as_slice(), *place, 2),
+        [place] => is_lower_bound(terms.nodes.as_slice(), *place, PLACE),
         _ => false,
     }
 }
 
-// Whether they are those of the reasons.
+// Returns whether the checks of a table are those of the reasons.
 fn are_reason_checks(terms: &Terms) -> bool
     ensures { IsTrue result ↔ (terms.now ≡ reason.checks) }
 {
     let nodes = terms.nodes.as_slice();
     match terms.roots.as_slice() {
-        [number, label] => is_range(nodes, *number, 2, 1, 5) & is_range(nodes, *label, 3, 0, 13),
+        [number, label] => {
+            is_range(nodes, *number, REASON, 1, LAST_REASON)
+                & is_range(nodes, *label, LABEL, 0, LAST_LABEL)
+        }
         _ => false,
     }
 }
@@ -172,7 +210,7 @@ fn has_no_term(terms: &Terms) -> bool
     terms.roots.is_empty()
 }
 
-// Whether no default of a table is computed, and its rows have no running number.
+// Returns whether no default of a table is computed, and its rows have no running number.
 fn is_plain(table: &Table) -> bool
     ensures { IsTrue result ↔ IsPlain table.now }
 {
@@ -190,7 +228,7 @@ fn is_layout(table: &Table) -> bool
         return false;
     };
     is_word(&table.name, b"feed_layout")
-        && table.tree == 0
+        && table.tree == LAYOUT_TREE
         && is_version(column)
         && table.key == Some(0)
         && are_places(&table.primary, &[0])
@@ -201,7 +239,7 @@ fn is_layout(table: &Table) -> bool
         && is_plain(table)
 }
 
-// Whether a column is the one of the layout.
+// Returns whether a column is the one of the layout.
 fn is_version(column: &Column) -> bool
     ensures { IsTrue result ↔ (column.now ≡ record (column_of Integer (codes "version")) { not_null = false }) }
 {
@@ -217,7 +255,7 @@ fn is_release(table: &Table) -> bool
     ensures { IsTrue result ↔ (table.now ≡ release) }
 {
     is_word(&table.name, b"feed_release")
-        && table.tree == 1
+        && table.tree == RELEASE_TREE
         && are_release_columns(&table.columns)
         && table.key.is_none()
         && are_places(&table.primary, &[1])
@@ -241,7 +279,7 @@ fn are_release_columns(columns: &Items<Column>) -> bool
         && is_column(state, Kind::Integer, b"state")
 }
 
-// Whether a table has one unique key, of these columns.
+// Returns whether a table has one unique key, on the columns at `places`.
 fn is_one_key(keys: &Items<Items<usize>>, places: &[usize]) -> bool
     ensures { IsTrue result ↔ (keys.now ≡ places.now ∷ []) }
 {
@@ -267,7 +305,7 @@ fn is_piece(table: &Table) -> bool
         return false;
     };
     is_word(&table.name, b"feed_piece")
-        && table.tree == 3
+        && table.tree == PIECE_TREE
         && are_piece_columns(&table.columns)
         && table.key.is_none()
         && are_places(&table.primary, &[1, 2])
@@ -296,7 +334,7 @@ fn is_reason(table: &Table) -> bool
         return false;
     };
     is_word(&table.name, b"feed_reason")
-        && table.tree == 5
+        && table.tree == REASON_TREE
         && are_reason_columns(&table.columns)
         && table.key.is_none()
         && are_places(&table.primary, &[1])
@@ -318,7 +356,7 @@ fn are_reason_columns(columns: &Items<Column>) -> bool
         && is_column(label, Kind::Integer, b"label")
 }
 
-// Whether an index is the one that a table has for its unique key.
+// Returns whether an index is the one that a table has for its unique key.
 fn is_automatic(index: &Index, name: &[u8], tree: u32, table: u32, places: &[usize]) -> bool
     ensures { IsTrue result ↔ (index.now ≡ automatic name.now tree table places.now) }
 {
@@ -353,19 +391,37 @@ fn are_layout_2_tables(tables: &Items<Table>) -> bool
 fn is_release_index(index: &Index) -> bool
     ensures { IsTrue result ↔ (index.now ≡ release_index) }
 {
-    is_automatic(index, b"sqlite_autoindex_feed_release_1", 2, 1, &[1])
+    is_automatic(
+        index,
+        b"sqlite_autoindex_feed_release_1",
+        RELEASE_INDEX_TREE,
+        RELEASE_TREE,
+        &[1],
+    )
 }
 
 fn is_piece_index(index: &Index) -> bool
     ensures { IsTrue result ↔ (index.now ≡ piece_index) }
 {
-    is_automatic(index, b"sqlite_autoindex_feed_piece_1", 4, 3, &[1, 2])
+    is_automatic(
+        index,
+        b"sqlite_autoindex_feed_piece_1",
+        PIECE_INDEX_TREE,
+        PIECE_TREE,
+        &[1, 2],
+    )
 }
 
 fn is_reason_index(index: &Index) -> bool
     ensures { IsTrue result ↔ (index.now ≡ reason_index) }
 {
-    is_automatic(index, b"sqlite_autoindex_feed_reason_1", 6, 5, &[1])
+    is_automatic(
+        index,
+        b"sqlite_autoindex_feed_reason_1",
+        REASON_INDEX_TREE,
+        REASON_TREE,
+        &[1],
+    )
 }
 
 fn are_layout_1_indexes(indexes: &Items<Index>) -> bool
@@ -388,7 +444,7 @@ fn are_layout_2_indexes(indexes: &Items<Index>) -> bool
     }
 }
 
-/// Whether a database has the tables of layout 1 and no other, with the indexes that their keys have.
+/// Returns whether a database has exactly the tables of layout 1, with the indexes of their keys.
 pub fn is_layout_1(schema: &Schema) -> bool
     ensures { IsTrue result ↔ (schema.now ≡ layout_1_schema) }
 {
@@ -397,14 +453,16 @@ pub fn is_layout_1(schema: &Schema) -> bool
         & schema.views.is_empty()
 }
 
-/// Whether a database has the tables of layout 2 and no other, with the indexes that their keys have.
+/// Returns whether a database has exactly the tables of layout 2, with the indexes of their keys.
 pub fn is_layout_2(schema: &Schema) -> bool
     ensures { IsTrue result ↔ (schema.now ≡ layout_2_schema) }
 {
-    are_layout_2_tables(&schema.tables) & are_layout_2_indexes(&schema.indexes) & schema.views.is_empty()
+    are_layout_2_tables(&schema.tables)
+        & are_layout_2_indexes(&schema.indexes)
+        & schema.views.is_empty()
 }
 
-/// Whether a database has no table.
+/// Returns whether a database has no table.
 pub fn has_no_table(schema: &Schema) -> bool
     ensures { IsTrue result ↔ (schema.now ≡ no_schema) }
 {

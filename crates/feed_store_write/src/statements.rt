@@ -5,7 +5,7 @@ ghost use Rattle.feed_model.specs.Reply.{max_file};
 ghost use Rattle.feed_parts.specs.Shown.{shown_part, shown_parts};
 ghost use Rattle.feed_store_model.specs.Records.{bare, with_part, with_parts, with_reason, with_state};
 ghost use Rattle.feed_store_model.specs.Tables.{IsStored, number_of, reason_at};
-ghost use Rattle.feed_store_write.specs.Effects.{IsContentChange, IsContentChangeIf, Keeps, LeavesDisk, IsMadeOnOk};
+ghost use Rattle.feed_store_write.specs.Effects.{IsContentChange, IsContentChangeIf, CommitsNothing, IsMadeOnOk};
 
 use crate::running::{as_text, run};
 use feed_kbart::BadFile;
@@ -25,8 +25,7 @@ pub fn insert_release<S: Alter>(
     ensures same_reference { tx.new.conn.ghost_name ≡ tx.old.conn.ghost_name }
     ensures made { IsMadeOnOk S.Store (IsContentChangeIf (size ≤ max_file) (insert_record (bare name.now size value)))
         tx.old.conn.now tx.new.conn.now result }
-    ensures kept { Keeps S.Store tx.old.conn.now tx.new.conn.now }
-    ensures survives { LeavesDisk S.Store tx.old.conn.now tx.new.conn.now }
+    ensures inside { CommitsNothing S.Store tx.old.conn.now tx.new.conn.now }
 {
     run(
         tx,
@@ -41,7 +40,7 @@ pub fn insert_release<S: Alter>(
     )
 }
 
-/// Inserts a part of a release. It refuses a place beyond 32 bits, which no file has.
+/// Inserts a part of a release. It rejects a place beyond 32 bits, which no file has.
 pub fn insert_part<S: Alter>(
     tx: &mut Transaction<'_, S>,
     name: &ReleaseName,
@@ -50,8 +49,7 @@ pub fn insert_part<S: Alter>(
     ensures same_reference { tx.new.conn.ghost_name ≡ tx.old.conn.ghost_name }
     ensures made { IsMadeOnOk S.Store (IsContentChange (changed name.now (with_part (shown_part part.now))))
         tx.old.conn.now tx.new.conn.now result }
-    ensures kept { Keeps S.Store tx.old.conn.now tx.new.conn.now }
-    ensures survives { LeavesDisk S.Store tx.old.conn.now tx.new.conn.now }
+    ensures inside { CommitsNothing S.Store tx.old.conn.now tx.new.conn.now }
 {
     let Ok(place) = u32::try_from(part.first) else {
         return Err(Error::SqliteFailure(ErrorCode::TooBig));
@@ -72,8 +70,7 @@ pub fn set_state<S: Alter>(
     ensures same_reference { tx.new.conn.ghost_name ≡ tx.old.conn.ghost_name }
     ensures made { IsMadeOnOk S.Store (IsContentChange (changed name.now (with_state value)))
         tx.old.conn.now tx.new.conn.now result }
-    ensures kept { Keeps S.Store tx.old.conn.now tx.new.conn.now }
-    ensures survives { LeavesDisk S.Store tx.old.conn.now tx.new.conn.now }
+    ensures inside { CommitsNothing S.Store tx.old.conn.now tx.new.conn.now }
 {
     run(
         tx,
@@ -91,8 +88,7 @@ pub fn insert_reason<S: Alter>(
     ensures same_reference { tx.new.conn.ghost_name ≡ tx.old.conn.ghost_name }
     ensures made { IsMadeOnOk S.Store (IsContentChangeIf (IsStored why) (changed name.now (with_reason why)))
         tx.old.conn.now tx.new.conn.now result }
-    ensures kept { Keeps S.Store tx.old.conn.now tx.new.conn.now }
-    ensures survives { LeavesDisk S.Store tx.old.conn.now tx.new.conn.now }
+    ensures inside { CommitsNothing S.Store tx.old.conn.now tx.new.conn.now }
 {
     let (number, place) = numbers_of(why);
     run(
@@ -102,12 +98,15 @@ pub fn insert_reason<S: Alter>(
     )
 }
 
-/// Deletes the releases of the name's package that are of earlier days, and with them their parts and reasons.
-pub fn delete_earlier<S: Alter>(tx: &mut Transaction<'_, S>, name: &ReleaseName) -> Result<(), Error>
+/// Deletes the earlier releases of the name's package, with their parts and reasons.
+pub fn delete_earlier<S: Alter>(
+    tx: &mut Transaction<'_, S>,
+    name: &ReleaseName,
+) -> Result<(), Error>
     ensures same_reference { tx.new.conn.ghost_name ≡ tx.old.conn.ghost_name }
-    ensures made { IsMadeOnOk S.Store (IsContentChange (without_earlier name.now)) tx.old.conn.now tx.new.conn.now result }
-    ensures kept { Keeps S.Store tx.old.conn.now tx.new.conn.now }
-    ensures survives { LeavesDisk S.Store tx.old.conn.now tx.new.conn.now }
+    ensures made { IsMadeOnOk S.Store (IsContentChange (without_earlier name.now))
+        tx.old.conn.now tx.new.conn.now result }
+    ensures inside { CommitsNothing S.Store tx.old.conn.now tx.new.conn.now }
 {
     run(
         tx,
@@ -125,8 +124,7 @@ pub fn insert_parts<S: Alter>(
     ensures same_reference { tx.new.conn.ghost_name ≡ tx.old.conn.ghost_name }
     ensures made { IsMadeOnOk S.Store (IsContentChange (changed name.now (with_parts (shown_parts parts.now))))
         tx.old.conn.now tx.new.conn.now result }
-    ensures kept { Keeps S.Store tx.old.conn.now tx.new.conn.now }
-    ensures survives { LeavesDisk S.Store tx.old.conn.now tx.new.conn.now }
+    ensures inside { CommitsNothing S.Store tx.old.conn.now tx.new.conn.now }
 {
     for part in parts {
         insert_part(tx, name, part)?;
@@ -134,7 +132,7 @@ pub fn insert_parts<S: Alter>(
     Ok(())
 }
 
-// The number by which a state is stored.
+// Returns the number that stores a state.
 fn number_of(state: State) -> u32
     ensures { result ≡ number_of state }
 {
@@ -145,7 +143,7 @@ fn number_of(state: State) -> u32
     }
 }
 
-// The number by which a reason is stored, and the place of the label that it names, else 0.
+// Returns the number that stores a reason, and the place of the label that it names, or 0.
 fn numbers_of(why: BadFile) -> (u32, u32)
     ensures { IsStored why → reason_at result.0 result.1 ≡ Some why }
 {

@@ -1,7 +1,8 @@
-//! How a database of layout 1 becomes one of layout 2.
+//! Upgrades a database of layout 1 to layout 2.
 ghost use Rattle.std.specs.Prelude.{◌≡◌, false, OnErr, OnOk};
 ghost use Rattle.feed_keep.specs.Shown.{shown, shown_record};
-ghost use Rattle.feed_store_write.specs.Effects.{IsContentChangeIf, IsLive, Keeps, LeavesDisk, IsMadeOnOk, IsRenumbering, IsUpgradeIf};
+ghost use Rattle.feed_store_write.specs.Effects.{CommitsNothing, IsContentChangeIf, IsLive, IsMadeOnOk, IsRenumbering};
+ghost use Rattle.feed_store_write.specs.Effects.{IsUpgradeIf};
 ghost use Rattle.feed_store_write.specs.Upgrading.{AreStored, IsStoredIn, explain, explained_with};
 ghost use Rattle.sqlite.specs.Held.{state};
 
@@ -11,8 +12,11 @@ use crate::statements::insert_reason;
 use feed_keep::Record;
 use sqlite::{Alter, Connection, Error, ErrorCode, Transaction};
 
-/// IsMadeOnOk a database of layout 1 one of layout 2, with the reasons of these records, in one transaction: all of it, or
-/// nothing. It refuses inside a transaction. The error is what SQLite says of the statement that failed.
+/// Upgrades a database of layout 1 to layout 2, with the reasons of the records, in one transaction: all or nothing.
+///
+/// # Errors
+///
+/// Returns SQLite's error for the statement that failed, and `TransactionState` inside a transaction.
 pub fn upgrade<S: Alter>(conn: &mut Connection<S>, records: &[Record]) -> Result<(), Error>
     requires { conn.old.in_transaction ≡ false }
     ensures idle { conn.new.in_transaction ≡ false }
@@ -31,13 +35,12 @@ pub fn upgrade<S: Alter>(conn: &mut Connection<S>, records: &[Record]) -> Result
     tx.commit()
 }
 
-// The table of the reasons, the number of the layout, and the reasons.
+// Creates the table of the reasons, sets the number of the layout, and inserts the reasons.
 fn upgrade_tables<S: Alter>(tx: &mut Transaction<'_, S>, records: &[Record]) -> Result<(), Error>
     ensures same_reference { tx.new.conn.ghost_name ≡ tx.old.conn.ghost_name }
     ensures made { IsMadeOnOk S.Store (IsUpgradeIf (AreStored (shown records.now)) (explained_with (shown records.now)))
         tx.old.conn.now tx.new.conn.now result }
-    ensures kept { Keeps S.Store tx.old.conn.now tx.new.conn.now }
-    ensures survives { LeavesDisk S.Store tx.old.conn.now tx.new.conn.now }
+    ensures inside { CommitsNothing S.Store tx.old.conn.now tx.new.conn.now }
 {
     create_reason(tx)?;
     set_layout_number(tx)?;
@@ -48,8 +51,7 @@ fn upgrade_tables<S: Alter>(tx: &mut Transaction<'_, S>, records: &[Record]) -> 
 fn set_layout_number<S: Alter>(tx: &mut Transaction<'_, S>) -> Result<(), Error>
     ensures same_reference { tx.new.conn.ghost_name ≡ tx.old.conn.ghost_name }
     ensures made { IsMadeOnOk S.Store IsRenumbering tx.old.conn.now tx.new.conn.now result }
-    ensures kept { Keeps S.Store tx.old.conn.now tx.new.conn.now }
-    ensures survives { LeavesDisk S.Store tx.old.conn.now tx.new.conn.now }
+    ensures inside { CommitsNothing S.Store tx.old.conn.now tx.new.conn.now }
 {
     run(tx, "UPDATE feed_layout SET version = 2", &[])
 }
@@ -57,10 +59,10 @@ fn set_layout_number<S: Alter>(tx: &mut Transaction<'_, S>) -> Result<(), Error>
 // Inserts the reasons of the records that have one.
 fn insert_reasons<S: Alter>(tx: &mut Transaction<'_, S>, records: &[Record]) -> Result<(), Error>
     ensures same_reference { tx.new.conn.ghost_name ≡ tx.old.conn.ghost_name }
-    ensures made { IsMadeOnOk S.Store (IsContentChangeIf (AreStored (shown records.now)) (explained_with (shown records.now)))
+    ensures made { IsMadeOnOk S.Store (IsContentChangeIf (AreStored (shown records.now))
+        (explained_with (shown records.now)))
         tx.old.conn.now tx.new.conn.now result }
-    ensures kept { Keeps S.Store tx.old.conn.now tx.new.conn.now }
-    ensures survives { LeavesDisk S.Store tx.old.conn.now tx.new.conn.now }
+    ensures inside { CommitsNothing S.Store tx.old.conn.now tx.new.conn.now }
 {
     for record in records {
         insert_reason_of(tx, record)?;
@@ -71,10 +73,10 @@ fn insert_reasons<S: Alter>(tx: &mut Transaction<'_, S>, records: &[Record]) -> 
 // Inserts the reason of a record, if it has one.
 fn insert_reason_of<S: Alter>(tx: &mut Transaction<'_, S>, kept: &Record) -> Result<(), Error>
     ensures same_reference { tx.new.conn.ghost_name ≡ tx.old.conn.ghost_name }
-    ensures made { IsMadeOnOk S.Store (IsContentChangeIf (IsStoredIn (shown_record kept.now)) (explain (shown_record kept.now)))
+    ensures made { IsMadeOnOk S.Store (IsContentChangeIf (IsStoredIn (shown_record kept.now))
+        (explain (shown_record kept.now)))
         tx.old.conn.now tx.new.conn.now result }
-    ensures kept { Keeps S.Store tx.old.conn.now tx.new.conn.now }
-    ensures survives { LeavesDisk S.Store tx.old.conn.now tx.new.conn.now }
+    ensures inside { CommitsNothing S.Store tx.old.conn.now tx.new.conn.now }
 {
     match kept.reason {
         Some(why) => insert_reason(tx, &kept.name, why),

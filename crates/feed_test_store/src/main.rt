@@ -1,17 +1,17 @@
-//! A feed over a database file, led by the words of the command line: what the tests of the keeper over SQL, and the
-//! measurement of it, run.
+//! Takes steps with a feed over a database file, as its arguments say, for the tests and the measurement of the keeper
+//! over SQL.
 //!
 //!     feed_test_store DATABASE STEP..
 //!
 //! The steps:
 //!
-//!     offer NAME SIZE          a release is offered
-//!     piece NAME FIRST FILE    a piece of it comes: the bytes of a file
-//!     pieces NAME FILE LEN     the bytes of a file come as pieces of so many bytes; prints how many were stored
-//!     report PACKAGE           the package's active release
-//!     restart                  the feed is opened again over its keeper; prints nothing
-//!     close                    the keeper is closed, and the file opened again; prints nothing
-//!     records                  what the keeper holds
+//!     offer NAME SIZE          offers a release
+//!     piece NAME FIRST FILE    submits the bytes of a file as a piece of it
+//!     pieces NAME FILE LEN     submits the bytes of a file as pieces of LEN bytes, and prints how many were stored
+//!     report PACKAGE           prints the package's active release
+//!     restart                  opens the feed again over its keeper
+//!     close                    closes the keeper, and opens the file again
+//!     records                  prints the records of the keeper
 #![tactic(auto)]
 
 mod steps;
@@ -21,11 +21,11 @@ use std::test::Fail;
 use steps::{DatabaseFile, take_steps};
 
 fn main(rt: HostRuntime) -> Result<(), Fail> {
-    let mut words = Vec::new(rt.alloc());
-    for word in env::args(&rt)? {
-        words.push(word)?;
+    let mut arguments = Vec::new(rt.alloc());
+    for argument in env::args(&rt)? {
+        arguments.push(argument)?;
     }
-    let [_, path, steps @ ..] = words.as_slice() else {
+    let [_, path, steps @ ..] = arguments.as_slice() else {
         return Err(Fail::new("feed_test_store DATABASE STEP.."));
     };
     let database = DatabaseFile {

@@ -10,11 +10,11 @@ use sqlite_store::FileStore;
 use std::test::Fail;
 use std::{fs, slice};
 
-/// Where a keeper is, between its openings.
+/// A database that can be opened as a keeper.
 pub trait Database {
     type Keeper: Keep + Drop;
 
-    fn opened(&self) -> Result<Self::Keeper, Fail>;
+    fn open(&self) -> Result<Self::Keeper, Fail>;
 
     fn close(&self, keeper: Self::Keeper) -> Result<(), Fail>;
 }
@@ -29,7 +29,7 @@ pub struct DatabaseFile<'a> {
 impl Database for DatabaseFile<'_> {
     type Keeper = SqlKeep<FileStore<File>>;
 
-    fn opened(&self) -> Result<SqlKeep<FileStore<File>>, Fail> {
+    fn open(&self) -> Result<SqlKeep<FileStore<File>>, Fail> {
         SqlKeep::open_file(self.rt, self.path).map_err(|fault| Fail::new(fault))
     }
 
@@ -38,82 +38,84 @@ impl Database for DatabaseFile<'_> {
     }
 }
 
-// The words that are left of the command line.
+// The arguments that were not read yet.
 #[derive(Drop)]
-struct Words<'a> {
+struct Arguments<'a> {
     left: slice::Iter<'a, String>,
 }
 
-impl<'a> Words<'a> {
-    fn next_word(&mut self) -> Result<&'a str, Fail> {
+impl<'a> Arguments<'a> {
+    fn next_argument(&mut self) -> Result<&'a str, Fail> {
         match self.left.next() {
-            Some(word) => Ok(word.as_str()),
-            None => Err(Fail::new("a word is missing")),
+            Some(argument) => Ok(argument.as_str()),
+            None => Err(Fail::new("an argument is missing")),
         }
     }
 
     fn next_number(&mut self) -> Result<u64, Fail> {
-        Ok(self.next_word()?.parse::<u64>()?)
+        Ok(self.next_argument()?.parse::<u64>()?)
     }
 }
 
-/// Takes the steps that the words tell, with a feed over the database.
+/// Takes the steps in the arguments with a feed over the database.
 pub fn take_steps<D: Database>(
     rt: &HostRuntime,
     database: &D,
-    words: &[String],
+    arguments: &[String],
 ) -> Result<(), Fail> {
-    let mut words = Words { left: words.iter() };
-    let mut feed = over(rt, database.opened()?)?;
-    for _ in 0..words.left.len() {
-        let Some(step) = words.left.next() else {
+    let mut arguments = Arguments {
+        left: arguments.iter(),
+    };
+    let mut feed = open_feed(rt, database.open()?)?;
+    for _ in 0..arguments.left.len() {
+        let Some(step) = arguments.left.next() else {
             break;
         };
-        feed = taken(rt, database, feed, step.as_str(), &mut words)?;
+        feed = take_step(rt, database, feed, step.as_str(), &mut arguments)?;
     }
     database.close(feed.restart())
 }
 
-fn over<K: Keep + Drop>(rt: &HostRuntime, keeper: K) -> Result<Feed<K>, Fail> {
+fn open_feed<K: Keep + Drop>(rt: &HostRuntime, keeper: K) -> Result<Feed<K>, Fail> {
     Feed::open(rt.alloc(), keeper).map_err(|fault| Fail::new(fault.cause))
 }
 
-fn taken<D: Database>(
+fn take_step<D: Database>(
     rt: &HostRuntime,
     database: &D,
     feed: Feed<D::Keeper>,
     step: &str,
-    words: &mut Words<'_>,
+    arguments: &mut Arguments<'_>,
 ) -> Result<Feed<D::Keeper>, Fail> {
     match step {
-        "restart" => over(rt, feed.restart()),
+        "restart" => open_feed(rt, feed.restart()),
         "close" => {
             database.close(feed.restart())?;
-            over(rt, database.opened()?)
+            open_feed(rt, database.open()?)
         }
-        "records" => listed(rt, feed),
-        _ => told(rt, feed, step, words),
+        "records" => print_records(rt, feed),
+        _ => handle_step(rt, feed, step, arguments),
     }
 }
 
-fn listed<K: Keep + Drop>(rt: &HostRuntime, feed: Feed<K>) -> Result<Feed<K>, Fail> {
+fn print_records<K: Keep + Drop>(rt: &HostRuntime, feed: Feed<K>) -> Result<Feed<K>, Fail> {
     let mut keeper = feed.restart();
     let text = content_text(rt.alloc(), &mut keeper)?;
     print!(rt; "{}", str::from_utf8(&text)?)?;
-    over(rt, keeper)
+    open_feed(rt, keeper)
 }
 
-fn told<K: Keep + Drop>(
+fn handle_step<K: Keep + Drop>(
     rt: &HostRuntime,
     mut feed: Feed<K>,
     step: &str,
-    words: &mut Words<'_>,
+    arguments: &mut Arguments<'_>,
 ) -> Result<Feed<K>, Fail> {
     match step {
-        "offer" => offer(rt, &mut feed, words)?,
-        "piece" => piece(rt, &mut feed, words)?,
-        "pieces" => pieces(rt, &mut feed, words)?,
-        "report" => report(rt, &feed, words)?,
+        "offer" => offer(rt, &mut feed, arguments)?,
+        "piece" => piece(rt, &mut feed, arguments)?,
+        "pieces" => pieces(rt, &mut feed, arguments)?,
+        "report" => report(rt, &feed, arguments)?,
         _ => return Err(Fail::new("no such step")),
     }
     Ok(feed)
@@ -122,32 +124,32 @@ fn told<K: Keep + Drop>(
 fn offer<K: Keep + Drop>(
     rt: &HostRuntime,
     feed: &mut Feed<K>,
-    words: &mut Words<'_>,
+    arguments: &mut Arguments<'_>,
 ) -> Result<(), Fail> {
-    let name = name_of(rt.alloc(), words.next_word()?)?;
-    let size = words.next_number()?;
-    tell(rt, feed.handle(&Event::Offered { name: &name, size }))
+    let name = name_of(rt.alloc(), arguments.next_argument()?)?;
+    let size = arguments.next_number()?;
+    print_answer(rt, feed.handle(&Event::Offered { name: &name, size }))
 }
 
 fn piece<K: Keep + Drop>(
     rt: &HostRuntime,
     feed: &mut Feed<K>,
-    words: &mut Words<'_>,
+    arguments: &mut Arguments<'_>,
 ) -> Result<(), Fail> {
-    let name = name_of(rt.alloc(), words.next_word()?)?;
-    let first = words.next_number()?;
-    let bytes = fs::read(rt, words.next_word()?)?;
-    tell(rt, give(feed, &name, first, &bytes))
+    let name = name_of(rt.alloc(), arguments.next_argument()?)?;
+    let first = arguments.next_number()?;
+    let bytes = fs::read(rt, arguments.next_argument()?)?;
+    print_answer(rt, give(feed, &name, first, &bytes))
 }
 
 fn pieces<K: Keep + Drop>(
     rt: &HostRuntime,
     feed: &mut Feed<K>,
-    words: &mut Words<'_>,
+    arguments: &mut Arguments<'_>,
 ) -> Result<(), Fail> {
-    let name = name_of(rt.alloc(), words.next_word()?)?;
-    let bytes = fs::read(rt, words.next_word()?)?;
-    let len = words.next_number()?.max(1);
+    let name = name_of(rt.alloc(), arguments.next_argument()?)?;
+    let bytes = fs::read(rt, arguments.next_argument()?)?;
+    let len = arguments.next_number()?.max(1);
     let mut first = 0_u64;
     for block in bytes.chunks(usize::try_from(len)?) {
         give(feed, &name, first, block)?;
@@ -174,16 +176,16 @@ fn give<K: Keep + Drop>(
 fn report<K: Keep + Drop>(
     rt: &HostRuntime,
     feed: &Feed<K>,
-    words: &mut Words<'_>,
+    arguments: &mut Arguments<'_>,
 ) -> Result<(), Fail> {
-    match feed.report(words.next_word()?.as_bytes()) {
+    match feed.report(arguments.next_argument()?.as_bytes()) {
         Some(name) => println!(rt; "active {}", str::from_utf8(name.text())?)?,
         None => println!(rt; "none")?,
     }
     Ok(())
 }
 
-fn tell(rt: &HostRuntime, answer: Result<Reply, Refusal>) -> Result<(), Fail> {
+fn print_answer(rt: &HostRuntime, answer: Result<Reply, Refusal>) -> Result<(), Fail> {
     match answer {
         Ok(reply) => println!(rt; "{reply}")?,
         Err(refusal) => println!(rt; "refused {refusal}")?,

@@ -1,4 +1,4 @@
-use Rattle.std.proofs.Common.{[]}
+use Rattle.std.proofs.Common.{[], refl}
 use Rattle.sqlite.specs.Held.{state}
 use Rattle.feed_keep.specs.Shown.{shown}
 use Rattle.feed_store.proofs.Reasoned.{moved}
@@ -6,9 +6,8 @@ use Rattle.feed_store.proofs.adopt.upgrade_layout.Goals as goal
 
 pub returns-in-Ok-clause-first : goal.returns-in-Ok-clause-first
 returns-in-Ok-clause-first g c live schema =
-    let told = c.in_ok-check_number.ensures.told in
     let early = c.read_with_reasons.ensures.live (c.upgrade.ensures.live live) in
-    (told.1 early.0 [] [] schema).1.0 told.0
+    (c.in_ok-check_number.ensures.reported early.0 [] [] schema).1.0 refl
 
 pub returns-in-Ok-clause-moved : goal.returns-in-Ok-clause-moved
 returns-in-Ok-clause-moved g c live earlier =

@@ -14,7 +14,7 @@ use Rattle.feed_store_read.specs.Releases.{AreReleases, WritesNothing}
 use Rattle.feed_store_read.proofs.Answers.{pieces_read}
 use Rattle.feed_store_read.proofs.GivenRows.{pieces_none}
 use Rattle.feed_store_read.proofs.Parents.{no_orphan}
-use Rattle.feed_store_read.proofs.Streams.{begun_way, clean_at, idle_at, leaves_at, lent_back, next_all, next_idle, next_leaves, next_row, next_way, refused_leaves, unchanged_at, way_leaves}
+use Rattle.feed_store_read.proofs.Streams.{begun_way, ended_all, ended_leaves, ended_row, lent_back, next_way, refused_leaves, way_leaves}
 use Rattle.feed_store_read.proofs.Selected.{are_pieces, given_stands}
 use Rattle.feed_store_read.proofs.pieces.select_pieces.Goals as goal
 
@@ -45,75 +45,38 @@ rows-preserved g c =
       names = c.take_piece.ensures.names ∙ c.rows.invariant.names;
     }
 
-pub returns-in_err-row-clause-idle : goal.returns-in_err-row-clause-idle
-returns-in_err-row-clause-idle g c idle =
-    let end = lent_back c.conn-in_err-row-1.given c.drop-rows.ensures c.next.follows.holds-at-none.same_reference
-    c.rows.invariant.lent c.in_ok-rows.ensures.same_reference in
-    idle_at end (next_idle c.rows.invariant.way c.next.follows.holds-at-none idle)
-
 pub returns-in_err-row-clause-leaves : goal.returns-in_err-row-clause-leaves
 returns-in_err-row-clause-leaves g c =
-    let end = lent_back c.conn-in_err-row-1.given c.drop-rows.ensures c.next.follows.holds-at-none.same_reference
-    c.rows.invariant.lent c.in_ok-rows.ensures.same_reference in
-    leaves_at g.S.Store c.args.conn.now end (next_leaves c.rows.invariant.way c.next.follows.holds-at-none)
-
-pub returns-in_default-clause-idle : goal.returns-in_default-clause-idle
-returns-in_default-clause-idle g c idle =
-    let end = lent_back c.conn-in_default-1.given c.drop-rows-in_default.ensures c.next.follows.holds-at-none.same_reference
-    c.rows.invariant.lent c.in_ok-rows.ensures.same_reference in
-    idle_at end (next_idle c.rows.invariant.way c.next.follows.holds-at-none idle)
+    ended_leaves c.rows.invariant.way c.next.follows.holds-at-none (lent_back c.conn-in_err-row-1.given c.drop-rows.ensures c.next.follows.holds-at-none.same_reference
+    c.rows.invariant.lent c.in_ok-rows.ensures.same_reference)
 
 pub returns-in_default-clause-leaves : goal.returns-in_default-clause-leaves
 returns-in_default-clause-leaves g c =
-    let end = lent_back c.conn-in_default-1.given c.drop-rows-in_default.ensures c.next.follows.holds-at-none.same_reference
-    c.rows.invariant.lent c.in_ok-rows.ensures.same_reference in
-    leaves_at g.S.Store c.args.conn.now end (next_leaves c.rows.invariant.way c.next.follows.holds-at-none)
-
-pub returns-in_err-take_piece-clause-idle : goal.returns-in_err-take_piece-clause-idle
-returns-in_err-take_piece-clause-idle g c idle =
-    let end = lent_back c.conn-in_err-take_piece-1.given c.drop-rows-in_err-take_piece.ensures c.next.follows.holds-at-none.same_reference
-    c.rows.invariant.lent c.in_ok-rows.ensures.same_reference in
-    idle_at end (next_idle c.rows.invariant.way c.next.follows.holds-at-none idle)
+    ended_leaves c.rows.invariant.way c.next.follows.holds-at-none (lent_back c.conn-in_default-1.given c.drop-rows-in_default.ensures c.next.follows.holds-at-none.same_reference
+    c.rows.invariant.lent c.in_ok-rows.ensures.same_reference)
 
 pub returns-in_err-take_piece-clause-leaves : goal.returns-in_err-take_piece-clause-leaves
 returns-in_err-take_piece-clause-leaves g c =
-    let end = lent_back c.conn-in_err-take_piece-1.given c.drop-rows-in_err-take_piece.ensures c.next.follows.holds-at-none.same_reference
-    c.rows.invariant.lent c.in_ok-rows.ensures.same_reference in
-    leaves_at g.S.Store c.args.conn.now end (next_leaves c.rows.invariant.way c.next.follows.holds-at-none)
-
-pub returns-then-not-branch-clause-idle : goal.returns-then-not-branch-clause-idle
-returns-then-not-branch-clause-idle g c idle =
-    let end = lent_back c.conn-then-not-branch-1.given c.drop-rows-then-not-branch.ensures c.next.follows.holds-at-none.same_reference
-    c.rows.invariant.lent c.in_ok-rows.ensures.same_reference in
-    idle_at end (next_idle c.rows.invariant.way c.next.follows.holds-at-none idle)
+    ended_leaves c.rows.invariant.way c.next.follows.holds-at-none (lent_back c.conn-in_err-take_piece-1.given c.drop-rows-in_err-take_piece.ensures c.next.follows.holds-at-none.same_reference
+    c.rows.invariant.lent c.in_ok-rows.ensures.same_reference)
 
 pub returns-then-not-branch-clause-leaves : goal.returns-then-not-branch-clause-leaves
 returns-then-not-branch-clause-leaves g c =
-    let end = lent_back c.conn-then-not-branch-1.given c.drop-rows-then-not-branch.ensures c.next.follows.holds-at-none.same_reference
-    c.rows.invariant.lent c.in_ok-rows.ensures.same_reference in
-    leaves_at g.S.Store c.args.conn.now end (next_leaves c.rows.invariant.way c.next.follows.holds-at-none)
-
-pub returns-clause-idle : goal.returns-clause-idle
-returns-clause-idle g c idle =
-    let end = lent_back c.conn-2-1.given c.drop-rows-2.ensures refl
-    c.rows.invariant.lent c.in_ok-rows.ensures.same_reference in
-    idle_at end (c.rows.invariant.way.idle idle)
+    ended_leaves c.rows.invariant.way c.next.follows.holds-at-none (lent_back c.conn-then-not-branch-1.given c.drop-rows-then-not-branch.ensures c.next.follows.holds-at-none.same_reference
+    c.rows.invariant.lent c.in_ok-rows.ensures.same_reference)
 
 pub returns-clause-leaves : goal.returns-clause-leaves
 returns-clause-leaves g c =
-    let end = lent_back c.conn-2-1.given c.drop-rows-2.ensures refl
-    c.rows.invariant.lent c.in_ok-rows.ensures.same_reference in
-    leaves_at g.S.Store c.args.conn.now end (way_leaves c.rows.invariant.way)
+    way_leaves c.rows.invariant.way (lent_back c.conn-2-1.given c.drop-rows-2.ensures refl c.rows.invariant.lent c.in_ok-rows.ensures.same_reference)
 
 pub returns-in_default-clause-read : goal.returns-in_default-clause-read
 returns-in_default-clause-read g c live tabled =
     let ours = tables_in (state g.S.Store c.args.conn.now).now tabled in
-    let end = lent_back c.conn-in_default-1.given c.drop-rows-in_default.ensures c.next.follows.holds-at-none.same_reference
-    c.rows.invariant.lent c.in_ok-rows.ensures.same_reference in
-    let late = clean_at g.S.Store end live.0 in
-    let all = next_all c.rows.invariant.way c.next.follows.holds-at-none (c.in_ok-row.was ∙ ap Ok c.in_default.is) late in (
-      subst (λ h. IsUnchanged (state g.S.Store c.args.conn.now) (state g.S.Store h)) end all.same,
-      are_pieces (state g.S.Store c.args.conn.now) (state g.S.Store c.rows.rows.conn.now) (state g.S.Store c.next.follows.lender-at-none.conn.now) all.rows _ _ _ ours all.early all.whole all.known,
+    let it = ended_all c.rows.invariant.way c.next.follows.holds-at-none (lent_back c.conn-in_default-1.given c.drop-rows-in_default.ensures c.next.follows.holds-at-none.same_reference
+    c.rows.invariant.lent c.in_ok-rows.ensures.same_reference) (c.in_ok-row.was ∙ ap Ok c.in_default.is) live in (
+      it.1,
+      are_pieces (state g.S.Store c.args.conn.now) (state g.S.Store c.rows.rows.conn.now) (state g.S.Store c.next.follows.lender-at-none.conn.now)
+          it.0.rows _ _ _ ours it.0.early it.0.whole it.0.known,
     )
 
 pub returns-then-not-branch-clause-read : goal.returns-then-not-branch-clause-read
@@ -121,13 +84,11 @@ returns-then-not-branch-clause-read g c live tabled =
     let old = state g.S.Store c.args.conn.now in
     let ours = tables_in old.now tabled in
     let now = c.next.follows.lender-at-none.conn.now in
-    let end = lent_back c.conn-then-not-branch-1.given c.drop-rows-then-not-branch.ensures c.next.follows.holds-at-none.same_reference
-    c.rows.invariant.lent c.in_ok-rows.ensures.same_reference in
-    let late = clean_at g.S.Store end live.0 in
     let row = c.in-Some.row.now in
-    let it = next_row c.rows.invariant.way c.next.follows.holds-at-none c.in-Some.row (c.in_ok-row.was ∙ ap Ok c.in-Some.is) late in
+    let it = ended_row c.rows.invariant.way c.next.follows.holds-at-none (lent_back c.conn-then-not-branch-1.given c.drop-rows-then-not-branch.ensures c.next.follows.holds-at-none.same_reference
+    c.rows.invariant.lent c.in_ok-rows.ensures.same_reference) c.in-Some.row (c.in_ok-row.was ∙ ap Ok c.in-Some.is) live in
     let refused : IsPieceRow row → All {X = Record} (λ r. text_of r.name ≢ text_in row) c.rows.found.records.items = rw c.if-not-branch.true at c.in_ok-take_piece.ensures.taken in
-    let here = given_stands g.S.Store c.args.conn.now now it.front row ours it.same it.given in
+    let here = given_stands g.S.Store c.args.conn.now now it.0.front row ours it.0.same it.0.given in
     let none : AreReleases old.now c.args.found.now → ¬ (HoldsReleases old.now) = λ releases are.
     no_orphan old.now c.args.found.now c.rows.found.records.items row ours are releases c.rows.invariant.names here (refused (all_has IsPieceRow (old.now.trees 3) row are.are_pieces here)) in
-    (unchanged_at g.S.Store c.args.conn.now end it.same, none)
+    (it.1, none)

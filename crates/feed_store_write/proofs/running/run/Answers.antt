@@ -9,12 +9,16 @@ returns-clause-ran g c clean =
     ran_inside c.args.sql.now (bound c.args.params.now) (state g.S.Store c.args.tx.now.conn.now) (state g.S.Store c.execute.new.self.conn.now) (Ok c.in_ok-execute.field-0)
     (λ off. absurd (let e = (c.in_ok-execute.ensures.ended off).0 in cc)) (λ live. c.in_ok-execute.ensures.runs clean live)
 
-pub returns-clause-kept : goal.returns-clause-kept
-returns-clause-kept g c clean =
-    kept_inside c.args.sql.now (bound c.args.params.now) (state g.S.Store c.args.tx.now.conn.now) (state g.S.Store c.execute.new.self.conn.now) c.execute.result
-    (λ off. ap (state g.S.Store) (c.execute.ensures.ended off).1) (λ live. c.execute.ensures.runs clean live)
+pub returns-clause-inside : goal.returns-clause-inside
+returns-clause-inside g c = record {
+  kept = λ clean. kept_inside c.args.sql.now (bound c.args.params.now) (state g.S.Store c.args.tx.now.conn.now) (state g.S.Store c.execute.new.self.conn.now) c.execute.result
+      (λ off. ap (state g.S.Store) (c.execute.ensures.ended off).1) (λ live. c.execute.ensures.runs clean live);
+  survives = c.execute.ensures.survives;
+}
 
-pub returns-in_err-execute-clause-kept : goal.returns-in_err-execute-clause-kept
-returns-in_err-execute-clause-kept g c clean =
-    kept_inside c.args.sql.now (bound c.args.params.now) (state g.S.Store c.args.tx.now.conn.now) (state g.S.Store c.execute.new.self.conn.now) c.execute.result
-    (λ off. ap (state g.S.Store) (c.execute.ensures.ended off).1) (λ live. c.execute.ensures.runs clean live)
+pub returns-in_err-execute-clause-inside : goal.returns-in_err-execute-clause-inside
+returns-in_err-execute-clause-inside g c = record {
+  kept = λ clean. kept_inside c.args.sql.now (bound c.args.params.now) (state g.S.Store c.args.tx.now.conn.now) (state g.S.Store c.execute.new.self.conn.now) c.execute.result
+      (λ off. ap (state g.S.Store) (c.execute.ensures.ended off).1) (λ live. c.execute.ensures.runs clean live);
+  survives = c.execute.ensures.survives;
+}

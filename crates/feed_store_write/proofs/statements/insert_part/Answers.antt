@@ -8,7 +8,7 @@ use Rattle.feed_store_model.proofs.AddedPart.{adds_part}
 use Rattle.feed_store_write.specs.Effects.{IsContentChange}
 use Rattle.feed_store_write.specs.Texts.{insert_piece_text}
 use Rattle.feed_store_write.proofs.Inserts.{part_params, puts_piece}
-use Rattle.feed_store_write.proofs.Inside.{made_by}
+use Rattle.feed_store_write.proofs.Inside.{made_by, nothing_done}
 use Rattle.feed_store_write.proofs.statements.insert_part.Goals as goal
 
 pub returns-clause-made : goal.returns-clause-made
@@ -22,3 +22,6 @@ returns-clause-made g c clean =
     made_by insert_piece_text (part_params n p) old new (IsContentChange (changed n (with_part p))) c.run.result
     (λ count ran ours. adds_part n p old.now new.now named ours (puts_piece n p old new count ours.schema ran))
     (rw (c.as_text.ensures, c.to_sql.ensures, c.to_sql-2.ensures, c.text.ensures.value, place) at (c.run.ensures.ran clean))
+
+pub returns-in_default-clause-inside : goal.returns-in_default-clause-inside
+returns-in_default-clause-inside g c = nothing_done

@@ -7,15 +7,14 @@ use Rattle.feed_parts.specs.declared.part.Part.{Part}
 use Rattle.feed_parts.specs.Shown.{shown_part, shown_parts}
 use Rattle.feed_store_model.specs.Records.{with_parts}
 use Rattle.feed_store_write.specs.Effects.{IsContentChange, IsMade}
-use Rattle.feed_store_write.proofs.Inside.{both_keep, both_leave, clean_before}
+use Rattle.feed_store_write.proofs.Inside.{both_inside, clean_before, nothing_done}
 use Rattle.feed_store_write.proofs.Sequence.{none_added, one_more}
 use Rattle.feed_store_write.proofs.statements.insert_parts.Goals as goal
 
 pub loop-part-init : goal.loop-part-init
 loop-part-init g c = record {
   lent = refl;
-  survives = search rules;
-  kept = λ clean. record { was_open = λ on. on; committed = λ on. refl };
+  inside = nothing_done;
   made = λ clean. none_added c.args.name.now (state g.S.Store c.args.tx.now.conn.now);
 }
 
@@ -32,12 +31,9 @@ loop-part-preserved g c =
     let more : shown_parts (take (at + 1) parts) ≡ shown_parts (take at parts) ++ shown_part c.part-item.result ∷ [] =
     ap shown_parts passed ∙ map-append shown_part (take at parts) (c.part-item.result ∷ []) in record {
       lent = search rules;
-      survives = both_leave g.S.Store c.args.tx.now.conn.now c.loop-part.tx.conn.now c.insert_part.new.tx.conn.now c.loop-part.invariant.survives c.insert_part.ensures.survives;
-      kept = both_keep g.S.Store c.args.tx.now.conn.now c.loop-part.tx.conn.now c.insert_part.new.tx.conn.now c.loop-part.invariant.survives c.insert_part.ensures.survives
-          c.loop-part.invariant.kept c.insert_part.ensures.kept;
+      inside = both_inside c.loop-part.invariant.inside c.insert_part.ensures.inside;
       made = λ clean. subst (λ (ps : List model.Part). IsMade (IsContentChange (changed n (with_parts ps))) old new) (sym more)
-          (one_more n (shown_parts (take at parts)) (shown_part c.part-item.result) old mid new (c.loop-part.invariant.made (clean_before g.S.Store c.loop-part.tx.conn.now
-          c.insert_part.new.tx.conn.now c.insert_part.ensures.survives clean))
+          (one_more n (shown_parts (take at parts)) (shown_part c.part-item.result) old mid new (c.loop-part.invariant.made (clean_before c.insert_part.ensures.inside clean))
           (c.in_ok-insert_part.ensures.made clean));
     }
 
@@ -46,11 +42,5 @@ returns-clause-made g c clean =
     subst (λ (ps : List Part). IsMade (IsContentChange (changed c.args.name.now (with_parts (shown_parts ps)))) (state g.S.Store c.args.tx.now.conn.now) (state g.S.Store c.loop-part.tx.conn.now))
     (take_all c.loop-part.part-index c.args.parts.now c.loop-part-test.false) (c.loop-part.invariant.made clean)
 
-pub returns-in_err-insert_part-clause-kept : goal.returns-in_err-insert_part-clause-kept
-returns-in_err-insert_part-clause-kept g c =
-    both_keep g.S.Store c.args.tx.now.conn.now c.loop-part.tx.conn.now c.insert_part.new.tx.conn.now c.loop-part.invariant.survives c.insert_part.ensures.survives c.loop-part.invariant.kept
-    c.insert_part.ensures.kept
-
-pub returns-in_err-insert_part-clause-survives : goal.returns-in_err-insert_part-clause-survives
-returns-in_err-insert_part-clause-survives g c =
-    both_leave g.S.Store c.args.tx.now.conn.now c.loop-part.tx.conn.now c.insert_part.new.tx.conn.now c.loop-part.invariant.survives c.insert_part.ensures.survives
+pub returns-in_err-insert_part-clause-inside : goal.returns-in_err-insert_part-clause-inside
+returns-in_err-insert_part-clause-inside g c = both_inside c.loop-part.invariant.inside c.insert_part.ensures.inside

@@ -4,7 +4,7 @@ use Rattle.sqlite.specs.State.{HasCleanDisk}
 use Rattle.feed_model.specs.Change.{changed}
 use Rattle.feed_parts.specs.Shown.{shown_parts}
 use Rattle.feed_store_model.specs.Records.{with_parts}
-use Rattle.feed_store_write.specs.Effects.{IsContentChange, IsMade, Keeps, LeavesDisk}
+use Rattle.feed_store_write.specs.Effects.{CommitsNothing, IsContentChange, IsMade}
 use Rattle.feed_store_write.proofs.statements.insert_parts.Given as goal
 
 -- the parts that were passed are added, inside the transaction
@@ -13,7 +13,6 @@ invariant-loop-part g l =
     let old = state g.S.Store l.fn.tx.conn.now in
     let now = state g.S.Store l.tx.conn.now in record {
       lent : l.tx.conn.ghost_name ≡ l.fn.tx.conn.ghost_name;
-      survives : LeavesDisk g.S.Store l.fn.tx.conn.now l.tx.conn.now;
-      kept : Keeps g.S.Store l.fn.tx.conn.now l.tx.conn.now;
+      inside : CommitsNothing g.S.Store l.fn.tx.conn.now l.tx.conn.now;
       made : HasCleanDisk now → IsMade (IsContentChange (changed l.name (with_parts (shown_parts (take l.part-index l.parts))))) old now;
     }

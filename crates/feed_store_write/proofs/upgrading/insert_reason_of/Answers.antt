@@ -1,4 +1,5 @@
 use Rattle.sqlite.specs.Held.{state}
+use Rattle.feed_store_write.proofs.Inside.{nothing_done}
 use Rattle.feed_store_write.proofs.Steps.{no_reason_made}
 use Rattle.feed_store_write.proofs.upgrading.insert_reason_of.Goals as goal
 
@@ -7,3 +8,6 @@ returns-in-None-clause-made g c clean = rw c.in-None.is (no_reason_made c.args.k
 
 pub returns-in-Some-clause-made : goal.returns-in-Some-clause-made
 returns-in-Some-clause-made g c clean = rw c.in-Some.is (c.insert_reason.ensures.made clean)
+
+pub returns-in-None-clause-inside : goal.returns-in-None-clause-inside
+returns-in-None-clause-inside g c = nothing_done

@@ -6,15 +6,14 @@ use Rattle.feed_keep.specs.declared.record.Record.{Record}
 use Rattle.feed_keep.specs.Shown.{shown, shown_record}
 use Rattle.feed_store_write.specs.Effects.{IsContentChangeIf, IsMade}
 use Rattle.feed_store_write.specs.Upgrading.{AreStored, explained_with}
-use Rattle.feed_store_write.proofs.Inside.{both_keep, both_leave, clean_before}
+use Rattle.feed_store_write.proofs.Inside.{both_inside, clean_before, nothing_done}
 use Rattle.feed_store_write.proofs.Steps.{none_explained, one_explained}
 use Rattle.feed_store_write.proofs.upgrading.insert_reasons.Goals as goal
 
 pub loop-record-init : goal.loop-record-init
 loop-record-init g c = record {
   lent = refl;
-  survives = search rules;
-  kept = λ clean. record { was_open = λ on. on; committed = λ on. refl };
+  inside = nothing_done;
   made = λ clean. none_explained (state g.S.Store c.args.tx.now.conn.now);
 }
 
@@ -30,12 +29,9 @@ loop-record-preserved g c =
     let more : shown (take (at + 1) records) ≡ shown (take at records) ++ shown_record c.record-item.result ∷ [] =
     ap shown passed ∙ map-append shown_record (take at records) (c.record-item.result ∷ []) in record {
       lent = search rules;
-      survives = both_leave g.S.Store c.args.tx.now.conn.now c.loop-record.tx.conn.now c.insert_reason_of.new.tx.conn.now c.loop-record.invariant.survives c.insert_reason_of.ensures.survives;
-      kept = both_keep g.S.Store c.args.tx.now.conn.now c.loop-record.tx.conn.now c.insert_reason_of.new.tx.conn.now c.loop-record.invariant.survives c.insert_reason_of.ensures.survives
-          c.loop-record.invariant.kept c.insert_reason_of.ensures.kept;
+      inside = both_inside c.loop-record.invariant.inside c.insert_reason_of.ensures.inside;
       made = λ clean. subst (λ (rs : List model.Record). IsMade (IsContentChangeIf (AreStored rs) (explained_with rs)) old new) (sym more)
-          (one_explained (shown (take at records)) (shown_record c.record-item.result) old mid new (c.loop-record.invariant.made (clean_before g.S.Store c.loop-record.tx.conn.now
-          c.insert_reason_of.new.tx.conn.now c.insert_reason_of.ensures.survives clean))
+          (one_explained (shown (take at records)) (shown_record c.record-item.result) old mid new (c.loop-record.invariant.made (clean_before c.insert_reason_of.ensures.inside clean))
           (c.in_ok-insert_reason_of.ensures.made clean));
     }
 
@@ -44,11 +40,5 @@ returns-clause-made g c clean =
     subst (λ (rs : List Record). IsMade (IsContentChangeIf (AreStored (shown rs)) (explained_with (shown rs))) (state g.S.Store c.args.tx.now.conn.now) (state g.S.Store c.loop-record.tx.conn.now))
     (take_all c.loop-record.record-index c.args.records.now c.loop-record-test.false) (c.loop-record.invariant.made clean)
 
-pub returns-in_err-insert_reason_of-clause-kept : goal.returns-in_err-insert_reason_of-clause-kept
-returns-in_err-insert_reason_of-clause-kept g c =
-    both_keep g.S.Store c.args.tx.now.conn.now c.loop-record.tx.conn.now c.insert_reason_of.new.tx.conn.now c.loop-record.invariant.survives c.insert_reason_of.ensures.survives
-    c.loop-record.invariant.kept c.insert_reason_of.ensures.kept
-
-pub returns-in_err-insert_reason_of-clause-survives : goal.returns-in_err-insert_reason_of-clause-survives
-returns-in_err-insert_reason_of-clause-survives g c =
-    both_leave g.S.Store c.args.tx.now.conn.now c.loop-record.tx.conn.now c.insert_reason_of.new.tx.conn.now c.loop-record.invariant.survives c.insert_reason_of.ensures.survives
+pub returns-in_err-insert_reason_of-clause-inside : goal.returns-in_err-insert_reason_of-clause-inside
+returns-in_err-insert_reason_of-clause-inside g c = both_inside c.loop-record.invariant.inside c.insert_reason_of.ensures.inside

@@ -2,7 +2,7 @@ use Rattle.std.proofs.Common.{◌≡◌, take}
 use Rattle.sqlite.specs.Held.{state}
 use Rattle.sqlite.specs.State.{HasCleanDisk}
 use Rattle.feed_keep.specs.Shown.{shown}
-use Rattle.feed_store_write.specs.Effects.{IsContentChangeIf, IsMade, Keeps, LeavesDisk}
+use Rattle.feed_store_write.specs.Effects.{CommitsNothing, IsContentChangeIf, IsMade}
 use Rattle.feed_store_write.specs.Upgrading.{AreStored, explained_with}
 use Rattle.feed_store_write.proofs.upgrading.insert_reasons.Given as goal
 
@@ -13,7 +13,6 @@ invariant-loop-record g l =
     let now = state g.S.Store l.tx.conn.now in
     let passed = shown (take l.record-index l.records) in record {
       lent : l.tx.conn.ghost_name ≡ l.fn.tx.conn.ghost_name;
-      survives : LeavesDisk g.S.Store l.fn.tx.conn.now l.tx.conn.now;
-      kept : Keeps g.S.Store l.fn.tx.conn.now l.tx.conn.now;
+      inside : CommitsNothing g.S.Store l.fn.tx.conn.now l.tx.conn.now;
       made : HasCleanDisk now → IsMade (IsContentChangeIf (AreStored passed) (explained_with passed)) old now;
     }
