@@ -44,7 +44,8 @@ pub fn read_without_reasons<S: Alter>(
         (λ records. IsDistinct name_eq (names (shown records.items)))) }
     ensures order { IfOk result (λ found. IfSome found (λ records. IsInOrder (shown records.items))) }
     ensures records { IsLive (state S.Store conn.new) → IsTabled (state S.Store conn.old).now → IfOk result
-        (λ found. IfSome found (λ records. shown records.items ≡ content_without_reasons (state S.Store conn.old).now)) }
+        (λ found. IfSome found (λ records. shown records.items
+        ≡ content_without_reasons (state S.Store conn.old).now)) }
     ensures listed { IsLive (state S.Store conn.new) → IsTabled (state S.Store conn.old).now → IfOk result
         (λ found. MatchOption found (¬ (HoldsReleases (state S.Store conn.old).now))
         (λ records. HoldsReleases (state S.Store conn.old).now)) }
