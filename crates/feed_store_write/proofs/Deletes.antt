@@ -15,7 +15,7 @@ use Rattle.feed_store_model.proofs.Cascade.{Cascade, cascades, layout_left}
 use Rattle.feed_store_model.proofs.Conditions.{earlier}
 use Rattle.feed_store_model.proofs.DroppedReleases.{Deletes}
 use Rattle.feed_store_write.specs.Texts.{delete_releases_text}
-use Rattle.feed_store_write.proofs.IsRunOnOk.{went, same_value}
+use Rattle.feed_store_write.proofs.Runs.{went, same_value}
 
 delete_is : command_of (understood layout_2_schema delete_releases_text) ≡ command.Delete 1 (record { lets = []; body = earlier })
 unfolding understood everything

@@ -32,7 +32,7 @@ use Rattle.feed_store_model.proofs.AddedReason.{said_row}
 use Rattle.feed_store_model.proofs.AddedRelease.{new_row}
 use Rattle.feed_store_model.proofs.Inserted.{Puts, cast_null, cast_int, free_from}
 use Rattle.feed_store_write.specs.Texts.{insert_release_text, insert_piece_text, insert_reason_text, insert_version_text}
-use Rattle.feed_store_write.proofs.IsRunOnOk.{went, same_value}
+use Rattle.feed_store_write.proofs.Runs.{went, same_value}
 
 -- the row that the sources of an insertion make
 abbrev new_rows : Trees → Table → List Row → List Row

@@ -1,5 +1,5 @@
 pub mod Inside
-pub mod IsRunOnOk
+pub mod Runs
 pub mod Inserts
 pub mod Deletes
 pub mod Sets

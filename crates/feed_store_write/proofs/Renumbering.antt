@@ -23,7 +23,7 @@ use Rattle.sqlite.specs.State.{State, mode_of, Executes}
 use Rattle.sqlite.proofs.Callers.{IsPlain, command_of, statement_of, runs_as, one_step, one_permutation}
 use Rattle.feed_store_write.specs.Texts.{set_version_text}
 use Rattle.feed_store_write.specs.Effects.{IsRenumbering}
-use Rattle.feed_store_write.proofs.IsRunOnOk.{went, same_value}
+use Rattle.feed_store_write.proofs.Runs.{went, same_value}
 use Rattle.feed_store_model.specs.Layout.{layout_2_schema, layout}
 use Rattle.feed_store_model.specs.Tables.{AreReasons, version_row}
 use Rattle.feed_store_model.proofs.Basics.{one_zero, three_zero, five_zero}

@@ -19,7 +19,7 @@ use Rattle.sqlite.specs.State.{State, mode_of, Executes}
 use Rattle.sqlite.proofs.Callers.{IsPlain, command_of, statement_of, runs_as, one_step}
 use Rattle.feed_store_write.specs.Texts.{set_state_text}
 use Rattle.feed_store_model.specs.Layout.{layout_2_schema, release}
-use Rattle.feed_store_write.proofs.IsRunOnOk.{went, same_value}
+use Rattle.feed_store_write.proofs.Runs.{went, same_value}
 use Rattle.std.proofs.Math.Dec.{eqb-suc-zero}
 use Rattle.feed_store_model.proofs.Basics.{zero_one, three_one, five_one}
 use Rattle.feed_store_model.proofs.Cascade.{key_is}

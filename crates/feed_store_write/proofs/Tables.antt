@@ -19,7 +19,7 @@ use Rattle.feed_store_model.specs.Tables.{version_row}
 use Rattle.feed_store_model.proofs.Basics.{one_zero, three_zero, five_zero}
 use Rattle.feed_store_model.proofs.Inserted.{Puts}
 use Rattle.feed_store_model.proofs.Ours.{empty_content, empty_listed}
-use Rattle.feed_store_write.proofs.IsRunOnOk.{went, same_value}
+use Rattle.feed_store_write.proofs.Runs.{went, same_value}
 
 -- a text that makes a table under this schema
 pub record IsMadeOnOk (schema : Schema) (text : List ℕ) : Type 0 where
