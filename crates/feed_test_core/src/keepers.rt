@@ -1,4 +1,4 @@
-//! The keepers that words name.
+//! The keepers that arguments name.
 use feed_keep::{ListKeep, Record};
 use feed_model::State;
 use feed_parts::Part;
@@ -7,8 +7,8 @@ use std::alloc::Global;
 use std::slice;
 use std::test::Fail;
 
-/// The keepers of `failing`.
-pub fn failing(alloc: Global, words: &[String]) -> Result<Vec<Failing>, Fail> {
+/// Returns the keepers of `failing`.
+pub fn failing_keepers(alloc: Global, words: &[String]) -> Result<Vec<Failing>, Fail> {
     let mut keepers = Vec::new(alloc);
     let mut left = words.iter();
     for _ in 0..words.len() {
@@ -16,17 +16,17 @@ pub fn failing(alloc: Global, words: &[String]) -> Result<Vec<Failing>, Fail> {
             break;
         };
         keepers.push(match word.as_str() {
-            "sound" => Failing::after_commits(alloc, u64::MAX),
-            "load" => Failing::at_load(alloc, next_number(&mut left)?),
-            "commits" => Failing::after_commits(alloc, next_number(&mut left)?),
+            "sound" => Failing::over(ListKeep::new(alloc)),
+            "load" => failing_load(alloc, next_number(&mut left)?),
+            "commits" => failing_commits(alloc, next_number(&mut left)?),
             _ => return Err(unknown(word)),
         })?;
     }
     Ok(keepers)
 }
 
-/// The keepers of `holding`.
-pub fn holding(alloc: Global, words: &[String]) -> Result<Vec<ListKeep>, Fail> {
+/// Returns the keepers of `holding`.
+pub fn holding_keepers(alloc: Global, words: &[String]) -> Result<Vec<ListKeep>, Fail> {
     let mut keepers = Vec::new(alloc);
     let mut left = words.iter();
     for _ in 0..words.len() {
@@ -40,6 +40,20 @@ pub fn holding(alloc: Global, words: &[String]) -> Result<Vec<ListKeep>, Fail> {
         })?;
     }
     Ok(keepers)
+}
+
+// Returns a keeper whose load after `before` others fails.
+fn failing_load(alloc: Global, before: u64) -> Failing {
+    let mut keeper = Failing::over(ListKeep::new(alloc));
+    keeper.fail_load(before);
+    keeper
+}
+
+// Returns a keeper whose commits fail after the first `before`.
+fn failing_commits(alloc: Global, before: u64) -> Failing {
+    let mut keeper = Failing::over(ListKeep::new(alloc));
+    keeper.fail_commits(before, u64::MAX);
+    keeper
 }
 
 // `NAME SIZE STATE FIRST TEXT`

@@ -1,12 +1,11 @@
-//! A replay over keepers that fail or that hold records, led by the words of the command line and by a script: what the
-//! tests of worlds run.
+//! A program that replays a script over keepers that fail or that hold records, for the sessions of tests/.
 //!
 //!     feed_test_core failing KEEPER.. < SCRIPT
 //!     feed_test_core holding KEEPER.. < SCRIPT
 //!     feed_test_core full KEEPER.. < SCRIPT
 //!
 //! The script is one of `kbfeed replay`. There is a node for each KEEPER, whatever number the script names, and a
-//! script publishes no files by their paths. A KEEPER of `failing` and `full` holds nothing, and is one of
+//! script publishes no files by their paths. A KEEPER of `failing` and `full` holds nothing at first, and is one of
 //!
 //!     sound                                 a keeper that does not fail
 //!     load N                                the load after N others fails
@@ -18,9 +17,10 @@
 //!     record NAME SIZE STATE FIRST TEXT     a keeper that holds one record: Staged or Active, with these bytes, or
 //!                                           none, at its place FIRST
 //!
-//! `failing` and `holding` print the transcript, or why there is none, and then each keeper that is handed back: its
-//! number, how often it failed, and its records. `full` prints the number of shorter writers into which the transcript
-//! does not go. Where words or the script are wrong, the last line tells it, and the status is 2.
+//! `failing` and `holding` print the transcript, or why there is none, and then each keeper that the replay returns: its
+//! number, how often it failed, and its records. `full` writes the transcript into each buffer that is shorter than it,
+//! and prints how many refuse it. If an argument or the script is wrong, the last line says so, and the status
+//! is 2.
 #![tactic(auto)]
 
 mod keepers;
@@ -28,7 +28,7 @@ mod shown;
 
 use feed_script::{FileCause, Files, LineFault, Script, read_script};
 use feed_world::WorldEvent;
-use keepers::{failing, holding};
+use keepers::{failing_keepers, holding_keepers};
 use shown::{show, show_full};
 use std::alloc::Global;
 use std::env;
@@ -53,14 +53,14 @@ fn run(rt: &HostRuntime) -> Result<(), Fail> {
         return Err(Fail::new("no command: failing, holding or full expected"));
     };
     match command.as_str() {
-        "failing" => show(rt, failing(rt.alloc(), keepers)?, &events),
-        "holding" => show(rt, holding(rt.alloc(), keepers)?, &events),
-        "full" => show_full(rt, failing(rt.alloc(), keepers)?, &events),
+        "failing" => show(rt, failing_keepers(rt.alloc(), keepers)?, &events),
+        "holding" => show(rt, holding_keepers(rt.alloc(), keepers)?, &events),
+        "full" => show_full(rt, failing_keepers(rt.alloc(), keepers)?, &events),
         _ => Err(Fail::new(format_args!("{command}: failing, holding or full expected"))),
     }
 }
 
-// No file is published by its path.
+// The files that a script may publish by their paths: none.
 #[derive(Drop)]
 struct NoFiles;
 
@@ -74,7 +74,7 @@ impl Files for NoFiles {
     }
 }
 
-// The events of the script that is standard input.
+// Reads the events of the script on standard input.
 fn events_of(rt: &HostRuntime) -> Result<Vec<WorldEvent>, Fail> {
     let mut text = Vec::new(rt.alloc());
     rt.reader().read_to_end(&mut text)?;

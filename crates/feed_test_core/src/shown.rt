@@ -1,4 +1,4 @@
-//! What a replay shows, and what its keepers hold then.
+//! Prints the transcript of a replay, and the records of its keepers at the end.
 use feed_answer::WriteFault;
 use feed_core::{ReplayFault, Transcript, replay};
 use feed_keep::Keep;
@@ -6,7 +6,7 @@ use feed_test_support::content_text;
 use feed_world::WorldEvent;
 use std::test::Fail;
 
-/// Prints what happens to nodes over these keepers, and what is handed back.
+/// Replays events over nodes on these keepers, and prints the transcript and the keepers that the replay returns.
 pub fn show<K: Keep + Drop>(
     rt: &HostRuntime,
     keepers: Vec<K>,
@@ -46,7 +46,7 @@ fn show_keeper<K: Keep + Drop>(rt: &HostRuntime, node: usize, keeper: K) -> Resu
     Ok(())
 }
 
-/// Writes the transcript into each writer that is too short for it, and prints how many refuse it.
+/// Writes the transcript into each buffer that is shorter than it, and prints how many refuse it.
 pub fn show_full<K: Keep + Drop>(
     rt: &HostRuntime,
     keepers: Vec<K>,
@@ -67,7 +67,7 @@ pub fn show_full<K: Keep + Drop>(
     Ok(())
 }
 
-// Whether the transcript does not go into so many bytes.
+// Returns whether the transcript is too long for this many bytes.
 fn is_too_long<K: Keep + Drop>(
     rt: &HostRuntime,
     transcript: &Transcript<K>,

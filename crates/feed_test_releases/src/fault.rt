@@ -1,8 +1,8 @@
-//! Why a command is not run.
+//! The error of a command.
 use std::alloc::{AllocError, AllocFailed};
 use std::io;
 
-/// What is wrong.
+/// An error, as the sentence that the program prints.
 #[derive(Clone, Copy, Debug)]
 pub struct Fault(pub &'static str);
 

@@ -1,7 +1,6 @@
 //! Commands on a feed and its keeper.
 use crate::fault::Fault;
-use crate::keeper::Keeper;
-use crate::printing::{list_parts, print_bytes, print_count, print_flag, print_reason, print_word};
+use crate::printing::{print_bytes, print_count, print_flag, print_reason, print_word};
 use crate::words::{Piece, name_of, number_of, parts_of, piece_of, state_of};
 use feed_answer::Query;
 use feed_keep::{Keep, ListKeep, Record, bad_of};
@@ -9,16 +8,16 @@ use feed_model::{KeepFault, Refusal, Reply};
 use feed_names::ReleaseName;
 use feed_parts::Part;
 use feed_releases::{Event, Feed, OpenFault, Point};
+use feed_test_support::{Failing, records_text};
 use std::alloc::Global;
-use std::io::Write;
 use std::{io, mem};
 
-/// The feed or its keeper, and what the commands listed for them.
+/// The feed or its keeper, and the records and events that commands listed for them.
 #[derive(Drop)]
 pub struct Feeds {
     records: Vec<Record>,
-    keeper: Option<Keeper>,
-    feed: Option<Feed<Keeper>>,
+    keeper: Option<Failing>,
+    feed: Option<Feed<Failing>>,
     queue: Vec<Sent>,
     retries: bool,
 }
@@ -55,11 +54,11 @@ const UNKNOWN: Fault = Fault("no such command");
 const WORDS: Fault = Fault("the command takes other words");
 
 impl Feeds {
-    /// A keeper without records, and no feed.
+    /// Returns a keeper without records, and no feed.
     pub fn new(alloc: Global) -> Feeds {
         Feeds {
             records: Vec::new(alloc),
-            keeper: Some(Keeper::over(ListKeep::new(alloc))),
+            keeper: Some(Failing::over(ListKeep::new(alloc))),
             feed: None,
             queue: Vec::new(alloc),
             retries: false,
@@ -98,7 +97,7 @@ impl Feeds {
         }
     }
 
-    // Runs a command of several words, of which `rest` lacks the first.
+    // Runs a command of several words. `rest` has all but the first.
     fn run_words(
         &mut self,
         rt: &HostRuntime,
@@ -121,7 +120,7 @@ impl Feeds {
         }
     }
 
-    fn open_feed(&self) -> Result<&Feed<Keeper>, Fault> {
+    fn open_feed(&self) -> Result<&Feed<Failing>, Fault> {
         match &self.feed {
             Some(feed) => Ok(feed),
             None => Err(CLOSED),
@@ -166,14 +165,14 @@ impl Feeds {
             return Err(OPEN);
         }
         let records = mem::replace(&mut self.records, Vec::new(alloc));
-        self.keeper = Some(Keeper::over(ListKeep::of(alloc, records)));
+        self.keeper = Some(Failing::over(ListKeep::of(alloc, records)));
         Ok(())
     }
 
     fn print_records(&mut self, rt: &HostRuntime) -> Result<(), Fault> {
         match &mut self.keeper {
             Some(keeper) => match keeper.load(rt.alloc()) {
-                Ok(records) => print_listed(rt, &records),
+                Ok(records) => print_all(rt, &records),
                 Err(cause) => print_refused(rt, cause),
             },
             None => Err(OPEN),
@@ -226,7 +225,7 @@ impl Feeds {
     }
 
     fn stop(&mut self, rt: &HostRuntime, point: Point, words: &[&str]) -> Result<(), Fault> {
-        let sent = sent_of(rt, words)?;
+        let sent = parse_sent(rt, words)?;
         let Some(feed) = self.feed.take() else {
             return Err(CLOSED);
         };
@@ -235,7 +234,7 @@ impl Feeds {
     }
 
     fn submit(&mut self, rt: &HostRuntime, words: &[&str]) -> Result<(), Fault> {
-        let sent = sent_of(rt, words)?;
+        let sent = parse_sent(rt, words)?;
         match &mut self.feed {
             Some(feed) => submit_to(rt, feed, &sent.event(), self.retries),
             None => Err(CLOSED),
@@ -243,7 +242,7 @@ impl Feeds {
     }
 
     fn queue(&mut self, rt: &HostRuntime, words: &[&str]) -> Result<(), Fault> {
-        let sent = sent_of(rt, words)?;
+        let sent = parse_sent(rt, words)?;
         self.queue.push(sent)?;
         Ok(())
     }
@@ -261,7 +260,7 @@ impl Feeds {
     }
 }
 
-// The parts, each byte as a part of its own.
+// Returns the parts with each byte as a part of its own.
 fn split_parts(alloc: Global, parts: &[Part]) -> Result<Vec<Part>, Fault> {
     let mut bytes = Vec::new(alloc);
     for part in parts {
@@ -290,14 +289,14 @@ fn events_of(alloc: Global, queue: &[Sent]) -> Result<Vec<Event<'_>>, Fault> {
 
 fn answers_of(
     alloc: Global,
-    feed: &mut Feed<Keeper>,
+    feed: &mut Feed<Failing>,
     queue: &[Sent],
 ) -> Result<Vec<Result<Reply, Refusal>>, Fault> {
     let events = events_of(alloc, queue)?;
     Ok(feed.run(&events)?)
 }
 
-fn sent_of(rt: &HostRuntime, words: &[&str]) -> Result<Sent, Fault> {
+fn parse_sent(rt: &HostRuntime, words: &[&str]) -> Result<Sent, Fault> {
     match words {
         ["offer", name, size] => {
             let size = number_of(size)?;
@@ -320,7 +319,7 @@ fn sent_of(rt: &HostRuntime, words: &[&str]) -> Result<Sent, Fault> {
 // Submits an event, and once more if the device failed and it is retried.
 fn submit_to(
     rt: &HostRuntime,
-    feed: &mut Feed<Keeper>,
+    feed: &mut Feed<Failing>,
     event: &Event<'_>,
     retries: bool,
 ) -> Result<(), Fault> {
@@ -343,27 +342,12 @@ fn print_refused(rt: &HostRuntime, cause: KeepFault) -> Result<(), Fault> {
     Ok(println!(rt; "refused {cause}")?)
 }
 
-// Prints records, as `X_2024-01-01.txt 10 Staged 0:01 4:45` and `X_2024-01-01.txt 0 Broken (NoHeader)`.
-fn print_listed(rt: &HostRuntime, records: &[Record]) -> Result<(), Fault> {
-    let mut text = Vec::new(rt.alloc());
-    for record in records {
-        list_record(&mut text, record)?;
-    }
-    print_bytes(rt, &text)
-}
-
-fn list_record(text: &mut Vec<u8>, record: &Record) -> Result<(), Fault> {
-    text.extend_from_slice(record.name.text())?;
-    write!(text, " {} {:?}", record.size, record.state)?;
-    if let Some(why) = record.reason {
-        write!(text, " ({why})")?;
-    }
-    list_parts(text, &record.parts)?;
-    Ok(text.push(b'\n')?)
+fn print_all(rt: &HostRuntime, records: &[Record]) -> Result<(), Fault> {
+    print_bytes(rt, &records_text(rt.alloc(), records)?)
 }
 
 // `NAME MAX`
-fn print_next(rt: &HostRuntime, feed: &Feed<Keeper>, words: &[&str]) -> Result<(), Fault> {
+fn print_next(rt: &HostRuntime, feed: &Feed<Failing>, words: &[&str]) -> Result<(), Fault> {
     let [name, max] = words else {
         return Err(WORDS);
     };
@@ -376,7 +360,7 @@ fn print_next(rt: &HostRuntime, feed: &Feed<Keeper>, words: &[&str]) -> Result<(
 }
 
 // `NAME`
-fn print_reason_of(rt: &HostRuntime, feed: &Feed<Keeper>, words: &[&str]) -> Result<(), Fault> {
+fn print_reason_of(rt: &HostRuntime, feed: &Feed<Failing>, words: &[&str]) -> Result<(), Fault> {
     let [name] = words else {
         return Err(WORDS);
     };
@@ -385,7 +369,7 @@ fn print_reason_of(rt: &HostRuntime, feed: &Feed<Keeper>, words: &[&str]) -> Res
 }
 
 // `PACKAGE`
-fn print_report(rt: &HostRuntime, feed: &Feed<Keeper>, words: &[&str]) -> Result<(), Fault> {
+fn print_report(rt: &HostRuntime, feed: &Feed<Failing>, words: &[&str]) -> Result<(), Fault> {
     let [package] = words else {
         return Err(WORDS);
     };
@@ -398,7 +382,7 @@ fn print_report(rt: &HostRuntime, feed: &Feed<Keeper>, words: &[&str]) -> Result
 }
 
 // `PACKAGE QUERY`
-fn print_rows(rt: &HostRuntime, feed: &Feed<Keeper>, words: &[&str]) -> Result<(), Fault> {
+fn print_rows(rt: &HostRuntime, feed: &Feed<Failing>, words: &[&str]) -> Result<(), Fault> {
     let [package, query] = words else {
         return Err(WORDS);
     };

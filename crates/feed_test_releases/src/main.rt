@@ -3,8 +3,8 @@
 //!     feed_test_releases            commands on a feed and its keeper
 //!     feed_test_releases segments   commands on the kept parts of one file
 //!
-//! A line has one command, its words separated by spaces; an empty line has none. A line that is no command ends the
-//! program with status 2, after the number of the line and what is wrong on standard error.
+//! A line has one command, its words separated by spaces; an empty line has none. An invalid command ends the program
+//! with status 2, after it has printed the number of the line and the error on standard error.
 //!
 //! BYTES is a text, `@FILE` for the bytes of a file, or `@FILE,FROM,COUNT` for at most COUNT of them from the place
 //! FROM on. A PART is `FIRST:BYTES`, and in an event also `FIRST/TOTAL:BYTES`. A STATE is `Staged`, `Active` or
@@ -45,25 +45,24 @@
 //!
 //! Commands on the kept parts of one file, none at the beginning:
 //!
-//!     parts PART..         replaces them, or prints that these parts are no segments
+//!     parts PART..         replaces them, or prints `no segments` if these parts are not valid
 //!     piece PART           keeps what is new in a piece
 //!     new PART             prints the parts that a piece would add
 //!     whole PART SIZE      prints the file, if no place of it is missing with the piece
 //!     conflicts PART       prints whether a kept byte differs from the piece's
 //!     covers PART          prints whether each place of the piece is kept
-//!     within SIZE          prints whether no part reaches past the size
+//!     within SIZE          prints whether no part extends past the size
 //!     list, copy           print the parts, and a copy of them
 //!     count                prints how many bytes are kept
 //!     gap SIZE             prints the first gap: its first place, and the place after its last one
 //!     read                 prints the kept bytes
 //!     read-with PART ROOM..  reads the kept bytes and the piece's new ones into buffers of up to 16 bytes
 //!     find PLACE           prints the index of the last part that begins at a place or before it, and the probes
-//!     in-order PART..      prints a copy of these parts, in the order of their first places
+//!     in-order PART..      prints a copy of the parts, in the order of their first places
 #![tactic(auto)]
 
 mod fault;
 mod feeds;
-mod keeper;
 mod printing;
 mod segments;
 mod words;
@@ -118,7 +117,7 @@ fn run_segments(rt: &HostRuntime, text: &str) -> Result<(), Fault> {
     Ok(())
 }
 
-// Names the line of a fault.
+// Prints the line of an error.
 fn end_at(rt: &HostRuntime, at: usize, line: &str, done: Result<(), Fault>) -> Result<(), Fault> {
     if done.is_err() {
         let number = at.saturating_add(1);

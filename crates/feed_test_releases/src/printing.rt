@@ -1,7 +1,8 @@
-//! What commands print.
+//! Prints the results of commands.
 use crate::fault::Fault;
 use feed_kbart::BadFile;
 use feed_parts::Part;
+use feed_test_support::write_parts;
 use std::io;
 use std::io::Write;
 
@@ -33,19 +34,10 @@ pub fn print_reason(rt: &HostRuntime, reason: Option<BadFile>) -> Result<(), Fau
     }
 }
 
-/// Appends parts to a text, as ` 0:01 4:45`.
-pub fn list_parts(text: &mut Vec<u8>, parts: &[Part]) -> Result<(), Fault> {
-    for part in parts {
-        write!(text, " {}:", part.first)?;
-        text.extend_from_slice(&part.bytes)?;
-    }
-    Ok(())
-}
-
 /// Prints a line of parts, as `0:01 4:45`.
 pub fn print_parts(rt: &HostRuntime, parts: &[Part]) -> Result<(), Fault> {
     let mut text = Vec::new(rt.alloc());
-    list_parts(&mut text, parts)?;
+    write_parts(&mut text, parts)?;
     text.push(b'\n')?;
     match text.as_slice() {
         [b' ', rest @ ..] => print_bytes(rt, rest),

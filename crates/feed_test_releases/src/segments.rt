@@ -56,7 +56,7 @@ impl Kept {
     }
 }
 
-// A piece that ends at a number of 64 bits and is not above the limit of a piece.
+// Parses a piece within the limit of a piece, whose end fits 64 bits.
 fn fit_piece(rt: &HostRuntime, word: &str) -> Result<Piece, Fault>
     ensures inside { IfOk result (λ piece. piece.first + vec_len piece.bytes < 2 ^ 64) }
     ensures limit { IfOk result (λ piece. vec_len piece.bytes ≤ max_piece) }
@@ -109,7 +109,7 @@ fn print_new(rt: &HostRuntime, segments: &Segments, piece: &Piece) -> Result<(),
     print_parts(rt, new.parts())
 }
 
-// Prints the file of this size, if it is whole with the piece.
+// Prints the file of this size if it is complete with the piece.
 fn print_whole(
     rt: &HostRuntime,
     segments: &Segments,
@@ -137,7 +137,7 @@ fn print_text(rt: &HostRuntime, mut reader: SegmentReader<'_>) -> Result<(), Fau
     print_bytes(rt, &text)
 }
 
-// Prints each read: how many bytes came, and which.
+// Prints the number of bytes of each read, and the bytes.
 fn read_with(
     rt: &HostRuntime,
     segments: &Segments,

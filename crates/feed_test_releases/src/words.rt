@@ -1,4 +1,4 @@
-//! The words of a command.
+//! Parses the words of a command.
 use crate::fault::Fault;
 use feed_kbart::{BadFile, Label};
 use feed_model::State;
@@ -7,7 +7,7 @@ use feed_parts::Part;
 use std::alloc::{AllocError, Global};
 use std::fs;
 
-/// The words of a line.
+/// Returns the words of a line.
 pub fn words_of(alloc: Global, line: &str) -> Result<Vec<&str>, AllocError> {
     let mut words = Vec::new(alloc);
     for word in line.split_whitespace() {
@@ -16,7 +16,7 @@ pub fn words_of(alloc: Global, line: &str) -> Result<Vec<&str>, AllocError> {
     Ok(words)
 }
 
-/// Reads a number of 64 bits.
+/// Parses a number of 64 bits.
 pub fn number_of(word: &str) -> Result<u64, Fault> {
     match word.parse::<u64>() {
         Ok(number) => Ok(number),
@@ -24,7 +24,7 @@ pub fn number_of(word: &str) -> Result<u64, Fault> {
     }
 }
 
-/// Reads the name of a release.
+/// Parses the name of a release.
 pub fn name_of(alloc: Global, word: &str) -> Result<ReleaseName, Fault> {
     match ReleaseName::parse(alloc, word.as_bytes()) {
         Ok(name) => Ok(name),
@@ -40,7 +40,7 @@ pub struct Piece {
     pub bytes: Vec<u8>,
 }
 
-/// Reads `FIRST:BYTES` or `FIRST/TOTAL:BYTES`.
+/// Parses `FIRST:BYTES` or `FIRST/TOTAL:BYTES`.
 pub fn piece_of(rt: &HostRuntime, word: &str) -> Result<Piece, Fault> {
     let Some((places, text)) = word.split_once(':') else {
         return Err(Fault("a part is FIRST:BYTES"));
@@ -61,7 +61,7 @@ fn places_of(word: &str) -> Result<(u64, Option<u64>), Fault> {
     }
 }
 
-// A text, `@FILE` or `@FILE,FROM,COUNT`.
+// Returns the bytes of a text, `@FILE` or `@FILE,FROM,COUNT`.
 fn bytes_of(rt: &HostRuntime, text: &str) -> Result<Vec<u8>, Fault> {
     let Some(file) = text.strip_prefix('@') else {
         return Ok(Vec::from_slice(rt.alloc(), text.as_bytes())?);
@@ -84,7 +84,7 @@ fn file_of(rt: &HostRuntime, path: &str) -> Result<Vec<u8>, Fault> {
     }
 }
 
-// The bytes from a place on, at most so many.
+// Returns at most `count` of the bytes from a place on.
 fn cut(bytes: &[u8], from: u64, count: u64) -> &[u8] {
     let rest = match bytes.get(from as usize..) {
         Some(rest) => rest,
@@ -96,7 +96,7 @@ fn cut(bytes: &[u8], from: u64, count: u64) -> &[u8] {
     }
 }
 
-/// Reads parts, in the order of the words.
+/// Parses parts, in the order of the words.
 pub fn parts_of(rt: &HostRuntime, words: &[&str]) -> Result<Vec<Part>, Fault> {
     let mut parts = Vec::new(rt.alloc());
     for word in words {
@@ -110,7 +110,7 @@ pub fn parts_of(rt: &HostRuntime, words: &[&str]) -> Result<Vec<Part>, Fault> {
     Ok(parts)
 }
 
-/// Reads a state, and the reason after it.
+/// Parses a state, and the reason after it.
 pub fn state_of(word: &str) -> Result<(State, Option<BadFile>), Fault> {
     let (state, reason) = match word.split_once(':') {
         Some((state, reason)) => (state, Some(reason_of(reason)?)),

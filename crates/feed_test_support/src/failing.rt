@@ -5,7 +5,7 @@ use feed_keep::{Change, Keep, ListKeep, Record};
 use feed_model::KeepFault;
 use std::alloc::Global;
 
-/// A keeper in memory, with a device that fails at one load, at one commit, or at every commit after some number.
+/// A keeper in memory, with a device that fails at one load, and at some commits.
 #[derive(Drop)]
 pub struct Failing {
     list: ListKeep,
@@ -16,37 +16,26 @@ pub struct Failing {
 }
 
 impl Failing {
-    /// Returns a keeper that fails at the load after `loads_before` others, and at no other one.
-    pub fn at_load(alloc: Global, loads_before: u64) -> Failing {
+    /// Returns a keeper over a list, whose device does not fail.
+    pub fn over(list: ListKeep) -> Failing {
         Failing {
-            list: ListKeep::new(alloc),
-            loads_before,
+            list,
+            loads_before: u64::MAX,
             commits_before: u64::MAX,
             commits_failing: 0,
             failed: 0,
         }
     }
 
-    /// Returns a keeper that fails at the commit after `commits_before` others, and at no other one.
-    pub fn at_commit(alloc: Global, commits_before: u64) -> Failing {
-        Failing {
-            list: ListKeep::new(alloc),
-            loads_before: u64::MAX,
-            commits_before,
-            commits_failing: 1,
-            failed: 0,
-        }
+    /// Makes the load after `loads_before` others fail.
+    pub fn fail_load(&mut self, loads_before: u64) {
+        self.loads_before = loads_before;
     }
 
-    /// Returns a keeper that fails at every commit after the first `commits_before`.
-    pub fn after_commits(alloc: Global, commits_before: u64) -> Failing {
-        Failing {
-            list: ListKeep::new(alloc),
-            loads_before: u64::MAX,
-            commits_before,
-            commits_failing: u64::MAX,
-            failed: 0,
-        }
+    /// Makes `count` commits fail after `commits_before` others.
+    pub fn fail_commits(&mut self, commits_before: u64, count: u64) {
+        self.commits_before = commits_before;
+        self.commits_failing = count;
     }
 }
 

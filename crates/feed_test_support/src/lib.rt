@@ -5,4 +5,4 @@ mod failing;
 mod records;
 
 pub use failing::Failing;
-pub use records::{content_text, name_of};
+pub use records::{content_text, name_of, records_text, write_parts};
