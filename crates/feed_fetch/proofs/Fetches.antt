@@ -54,15 +54,15 @@ small_enough : (n : ℕ) → n ≤ file_limit → n < 2 ^ 64
 small_enough n le = let top : file_limit < 2 ^ 64 = lit< tt in omega (arith, le, top)
 
 -- the result of a request whose replies are all this text, by a law about that text
-read_given : (IsReplyTo : List ℕ → List ℕ → Type 0) (method : Method) (text served : List ℕ) (wanted : Got) (result : Result Got RequestFault)
-    → ((reply : List ℕ) → IsReplyTo text reply → reply ≡ served)
-    → ((r : Result Got HttpFault) → IsReply method served r → IsGiven wanted r)
+read_given : (IsReplyTo : List ℕ → List ℕ → Type 0) (method : Method) (text server_reply : List ℕ) (wanted : Got) (result : Result Got RequestFault)
+    → ((reply : List ℕ) → IsReplyTo text reply → reply ≡ server_reply)
+    → ((r : Result Got HttpFault) → IsReply method server_reply r → IsGiven wanted r)
     → IsReadOf IsReplyTo method text result → MatchResult result (λ given. given ≡ wanted) (λ why. IsExcused (stops.Request why))
-read_given IsReplyTo method text served wanted (Ok given) same law (reply, to, is) =
+read_given IsReplyTo method text server_reply wanted (Ok given) same law (reply, to, is) =
     law (Ok given) (subst (λ (t : List ℕ). IsReply method t (Ok given)) (same reply to) is)
-read_given IsReplyTo method text served wanted (Err (Dial fault)) same law is = tt
-read_given IsReplyTo method text served wanted (Err (Http fault)) same law (inl e) = unwritten fault e
-read_given IsReplyTo method text served wanted (Err (Http fault)) same law (inr (reply, to, is)) =
+read_given IsReplyTo method text server_reply wanted (Err (Dial fault)) same law is = tt
+read_given IsReplyTo method text server_reply wanted (Err (Http fault)) same law (inl e) = unwritten fault e
+read_given IsReplyTo method text server_reply wanted (Err (Http fault)) same law (inr (reply, to, is)) =
     given_fault wanted fault (law (Err fault) (subst (λ (t : List ℕ). IsReply method t (Err fault)) (same reply to) is))
 
 -- of a server a HEAD gives the length of its file

@@ -9,7 +9,7 @@ use Rattle.feed_http.specs.declared.fetching.got.Got.{Got}
 use Rattle.feed_http_heads.specs.RequestHeads.{BeginsWithHead}
 use Rattle.feed_http.specs.Requests.{IsNamedBy}
 use Rattle.feed_http.specs.Shelves.{Files}
-use Rattle.feed_http.specs.Served.{reply_text, served}
+use Rattle.feed_http.specs.ServerReplies.{reply_text, server_reply}
 use Rattle.feed_http.specs.Got.{IsReply}
 use Rattle.feed_fetch.specs.declared.stop.RequestFault.{RequestFault}
 use Rattle.feed_fetch.specs.declared.stop.RequestFault.TheVariants.{Dial, Http}
@@ -18,7 +18,7 @@ use Rattle.feed_fetch.specs.declared.stop.RequestFault.TheVariants.{Dial, Http}
 abbrev pub IsServed : Files → List ℕ → List ℕ → Type 0
 IsServed files text reply =
     (head : RequestHead) (named : Option Name) → BeginsWithHead 8192 64 text head → IsNamedBy head.target named
-    → reply ≡ reply_text (served files head named)
+    → reply ≡ reply_text (server_reply files head named)
 
 -- each reply is that of a server with these files
 abbrev pub IsServer : Files → (List ℕ → List ℕ → Type 0) → Type 0

@@ -15,7 +15,7 @@ use Rattle.feed_http.specs.Shelves.{Files}
 use Rattle.feed_http_heads.specs.Requests.{lacks_host, is_head, HasHead}
 use Rattle.feed_http.specs.Requests.{is_unsupported, IsNamedBy}
 use Rattle.feed_http.specs.Replies.{status_of, head_text}
-use Rattle.feed_http.specs.Served.{Reply, served, fileless, file_reply, head_alone, IsOutcomeOf}
+use Rattle.feed_http.specs.ServerReplies.{Reply, server_reply, reply_without_file, file_reply, head_alone, IsOutcomeOf}
 use Rattle.feed_http.proofs.Targets.{named_is}
 
 -- a head that was written alone
@@ -52,7 +52,7 @@ pub answered_named : (told : Option Files) (request : Request) (found : Option N
     → ((head : RequestHead) → HasHead request head → false ≡ lacks_host head) → ((head : RequestHead) → HasHead request head → false ≡ is_unsupported head)
     → ((head : RequestHead) → HasHead request head → IsNamedBy head.target found) → found ≡ Some name
     → IfSome told (λ files. (head : RequestHead) → HasHead request head → IsOutcomeOf (file_reply head (files name)) result old new)
-    → IfSome told (λ files. (head : RequestHead) → HasHead request head → (named : Option Name) → IsNamedBy head.target named → IsOutcomeOf (served files head named) result old new)
+    → IfSome told (λ files. (head : RequestHead) → HasHead request head → (named : Option Name) → IsNamedBy head.target named → IsOutcomeOf (server_reply files head named) result old new)
 answered_named None request found name result old new hosted supported is some outcome = tt
 answered_named (Some files) request found name result old new hosted supported is some outcome = λ head has named is_named.
     let names = rw some at (is head has) in
@@ -62,7 +62,7 @@ answered_named (Some files) request found name result old new hosted supported i
 pub needs_file : (request : Request) (found : Option Name) (name : Name) (P : Reply → Type 0)
     → ((head : RequestHead) → HasHead request head → false ≡ lacks_host head) → ((head : RequestHead) → HasHead request head → false ≡ is_unsupported head)
     → ((head : RequestHead) → HasHead request head → IsNamedBy head.target found) → found ≡ Some name
-    → (head : RequestHead) → HasHead request head → (named : Option Name) → IsNamedBy head.target named → IfSome (fileless head named) P
+    → (head : RequestHead) → HasHead request head → (named : Option Name) → IsNamedBy head.target named → IfSome (reply_without_file head named) P
 needs_file request found name P hosted supported is some head has named is_named =
     let names = rw some at (is head has) in
     rw (← hosted head has, ← supported head has, named_is head.target named name is_named names) tt
@@ -71,7 +71,7 @@ needs_file request found name P hosted supported is some head has named is_named
 pub names_none : (request : Request) (found : Option Name) (result : Result ℕ HttpFault) (old new : Option (List ℕ))
     → ((head : RequestHead) → HasHead request head → false ≡ lacks_host head) → ((head : RequestHead) → HasHead request head → false ≡ is_unsupported head)
     → ((head : RequestHead) → HasHead request head → IsNamedBy head.target found) → found ≡ None → IsOutcomeOf (head_alone NotFound) result old new
-    → (head : RequestHead) → HasHead request head → (named : Option Name) → IsNamedBy head.target named → IfSome (fileless head named) (λ reply. IsOutcomeOf reply result old new)
+    → (head : RequestHead) → HasHead request head → (named : Option Name) → IsNamedBy head.target named → IfSome (reply_without_file head named) (λ reply. IsOutcomeOf reply result old new)
 names_none request found result old new hosted supported is none outcome head has named is_named =
     let names = rw none at (is head has) in
     rw (← hosted head has, ← supported head has) (at_name named is_named names)

@@ -22,22 +22,22 @@ use Rattle.feed_http_heads.specs.declared.http_fault.HttpFault.{HttpFault}
 use Rattle.feed_http_heads.specs.declared.http_fault.HttpFault.TheVariants.{Read, Memory, Length, Short, HeadTooLong, BadHead}
 use Rattle.feed_http.specs.declared.fetching.got.Got.{Got}
 use Rattle.feed_http.specs.declared.fetching.got.Got.TheVariants.{Piece, Size}
-use Rattle.feed_http.specs.Served.{reply_of, reply_text, head_alone}
+use Rattle.feed_http.specs.ServerReplies.{reply_of, reply_text, head_alone}
 use Rattle.feed_http_heads.specs.ReplyHeads.{is_interim, print_heads, IsInterimHead, HasNoReply, IsWhyNoReply}
-use Rattle.feed_http.specs.Got.{IsGot, IsReply, IsJudged, IsHeadFailure}
+use Rattle.feed_http.specs.Got.{IsGot, IsReply, IsAnnounced, IsHeadFailure}
 use Rattle.feed_http_heads.proofs.BufferFilling.{take-behind}
 use Rattle.feed_http.specs.Laws.{IsGiven, PartReadsBack, SizeReadsBack}
 use Rattle.std.specs.Result.{result_ok}
 use Rattle.feed_http.specs.declared.fetching.got.Method.{Method}
 use Rattle.feed_http.specs.declared.fetching.got.Method.TheVariants.{Get, Head}
-use Rattle.feed_http.specs.Judgements.{judged, part_judged, framed_by_length, stated_of, size_judged}
+use Rattle.feed_http.specs.Announcements.{announcement_of, part_announcement, framing_by_length, stated_of, size_announcement}
 use Rattle.feed_http.specs.declared.serving.reply_head.ReplyHead.TheVariants.{Part, Whole}
 use Rattle.std.proofs.lemmas.List.Elements.{All-append, All-weaker, All-cons, All-nil}
 use Rattle.feed_range.proofs.Digits.{digit_test, numerals, number_of-digits}
 use Rattle.feed_range.specs.Text.{number_of}
 use borrow.Author.Tests.{eq-eqb, lt-ltb, le-ltb, lt-leb}
-use Rattle.feed_http.specs.declared.fetching.judge.Framing.TheVariants.{Sized}
-use Rattle.feed_http.specs.declared.fetching.judge.Judgement.TheVariants as judgement
+use Rattle.feed_http.specs.declared.fetching.validation.Framing.TheVariants.{Sized}
+use Rattle.feed_http.specs.declared.fetching.validation.Announcement.TheVariants as announcement
 
 -- a field as both ends write it
 unfoldable pub field : List ℕ → List ℕ → Field
@@ -184,10 +184,10 @@ head_valid places count p c = record {
 }
 
 -- what the head says
-judged_part : (places count : List ℕ) → judged Get (part_head places count) ≡ part_judged (result_ok (content_range (trim_ows (32 ∷ places)))) (framed_by_length (stated_of (trim_ows
+part_announcement_of : (places count : List ℕ) → announcement_of Get (part_head places count) ≡ part_announcement (result_ok (content_range (trim_ows (32 ∷ places)))) (framing_by_length (stated_of (trim_ows
     (32 ∷ count) ∷ [])))
 unfolding part_head part_fields field
-judged_part places count = refl
+part_announcement_of places count = refl
 
 -- what the values write
 range_trimmed : (first last size : ℕ) → size < 2 ^ 64 → trim_ows (32 ∷ range_value (decimal first) (decimal last) (decimal size)) ≡ range_value (decimal first) (decimal last) (decimal size)
@@ -209,10 +209,10 @@ length_says n small =
     rw (number, lt-ltb n (2 ^ 64) small, eq-eqb n n refl) refl
 
 head_says : (first last size : ℕ) → first ≤ last → last < size → size < 2 ^ 64 → last - first + 1 ≤ 1048576
-    → judged Get (reply_head first last size) ≡ Ok (judgement.Part first (Some size) (last - first + 1) (Sized (last - first + 1)))
+    → announcement_of Get (reply_head first last size) ≡ Ok (announcement.Part first (Some size) (last - first + 1) (Sized (last - first + 1)))
 head_says first last size ordered inside small few =
     let fits : last - first + 1 < 2 ^ 64 = omega arith in
-    judged_part (range_value (decimal first) (decimal last) (decimal size)) (decimal (last - first + 1))
+    part_announcement_of (range_value (decimal first) (decimal last) (decimal size)) (decimal (last - first + 1))
     ∙ rw (
       range_trimmed first last size small,
       range_says first last size ordered inside small,
@@ -274,7 +274,7 @@ no_interim text h body rest (i ∷ more) reads other skipped e =
     absurd (false≢true (sym other ∙ ap is_interim (sym same) ∙ one.interim))
 
 -- a piece is all of the body
-piece_given : (first size count : ℕ) (body : List ℕ) (result : Result Got HttpFault) → length body ≡ count → IsGot (judgement.Part first (Some size) count (Sized count)) body result
+piece_given : (first size count : ℕ) (body : List ℕ) (result : Result Got HttpFault) → length body ≡ count → IsGot (announcement.Part first (Some size) count (Sized count)) body result
     → IsGiven (Piece first (Some size) body) result
 piece_given first size count body (Ok given) long is = is.1 ∙ ap (λ b. Piece first (Some size) b) (is.2.1 ∙ take_all count body (omega arith))
 piece_given first size count body (Err Read) long is = tt
@@ -330,7 +330,7 @@ failed_or_given text h body wanted (Err _) reads other short few failed = absurd
 -- what is given of the one head that a text begins with is given of the text
 pub one_reply : (method : Method) (text : List ℕ) (h : ResponseHead) (body : List ℕ) (wanted : Got) (result : Result Got HttpFault) → ReadsResponse text h body → is_interim h ≡ false
     → length (print_response h) ≤ 8192 → length h.fields ≤ 64
-    → (IsJudged (judged method h) body result → IsGiven wanted result) → IsReply method text result → IsGiven wanted result
+    → (IsAnnounced (announcement_of method h) body result → IsGiven wanted result) → IsReply method text result → IsGiven wanted result
 one_reply method text h body wanted result reads other short few gives (inr failed) = failed_or_given text h body wanted result reads other short few failed
 one_reply method text h body wanted result reads other short few gives (inl got) =
     let split : text ≡ print_heads got.interim ++ (print_response got.head ++ got.rest) = got.begins.text_is ∙ append_assoc (print_heads got.interim) (print_response got.head) got.rest in
@@ -376,9 +376,9 @@ size_valid count c =
           (All-cons IsField (field (codes "Connection") (codes "close")) [] (static_field (codes "Connection") (codes "close") (omega arith) refl refl) (All-nil IsField))));
     }
 
-size_judgement : (count : List ℕ) → judged Head (size_head count) ≡ size_judged (stated_of (trim_ows (32 ∷ count) ∷ []))
+size_announcement_of : (count : List ℕ) → announcement_of Head (size_head count) ≡ size_announcement (stated_of (trim_ows (32 ∷ count) ∷ []))
 unfolding size_head field
-size_judgement count = refl
+size_announcement_of count = refl
 
 size_interim : (count : List ℕ) → is_interim (size_head count) ≡ false
 unfolding size_head
@@ -408,4 +408,4 @@ pub size_reads_back : SizeReadsBack
 size_reads_back n result small =
     one_reply Head (reply_text (head_alone (Whole n))) (size_head (decimal n)) [] (Size n) result
     (size_valid (decimal n) (digits_pass n small), ap (λ t. t ++ []) (sym (size_printed n))) (size_interim (decimal n)) (size_short n small) (size_fields (decimal n))
-    (λ is. size_given n result (rw (size_judgement (decimal n), count_trimmed n small, length_says n small) at is))
+    (λ is. size_given n result (rw (size_announcement_of (decimal n), count_trimmed n small, length_says n small) at is))

@@ -3,10 +3,10 @@ pub mod Sending
 pub mod Exchanges
 pub mod Answering
 pub mod RequestWriting
-pub mod AgreedLengths
+pub mod CommonLengths
 pub mod LineReading
 pub mod ChunkReading
-pub mod JudgedFaults
-pub mod ReplyJudging
+pub mod AnnouncedFaults
+pub mod ReplyValidation
 pub mod ExchangeLaw
 pub mod RequestLaw

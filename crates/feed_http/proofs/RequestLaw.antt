@@ -20,7 +20,7 @@ use Rattle.feed_names.specs.ReleaseName.{Name, IsName, is_stem_byte, text_of}
 use Rattle.feed_range.specs.Ask.{ask_text, ask_of}
 use Rattle.feed_http.specs.Shelves.{Files}
 use Rattle.feed_http.specs.Requests.{IsNamedBy}
-use Rattle.feed_http.specs.Served.{served, part_reply, reply_of, head_alone}
+use Rattle.feed_http.specs.ServerReplies.{server_reply, part_reply, reply_of, head_alone}
 use Rattle.feed_http.specs.RequestTexts.{is_host, is_host_byte, start_then, get_text, head_request_text}
 use Rattle.feed_http.proofs.ExchangeLaw.{field, fields_of, fields_text, digits_pass, static_field, number_field, decimal_short, decimal_digits, decimal_some, trimmed, part_reads_back, size_reads_back}
 use Rattle.feed_range.specs.declared.ask.RangeAsk.TheVariants.{Part}
@@ -123,7 +123,7 @@ get_valid host text ask name is_valid is asks =
 
 -- what is served to it
 served_get : (files : Files) (host text ask file : List ℕ) (name : Name) → files name ≡ Some file
-    → served files (get_head host text ask) (Some name) ≡ part_reply (ask_of (trim_ows (32 ∷ ask)) (length file)) file
+    → server_reply files (get_head host text ask) (Some name) ≡ part_reply (ask_of (trim_ows (32 ∷ ask)) (length file)) file
 unfolding request_head field
 served_get files host text ask file name there = rw there refl
 
@@ -190,7 +190,7 @@ fetch_gives_slice files host name file first last is_valid is there ordered smal
     let low : first < 2 ^ 64 = omega arith in
     let asked : ask_of (trim_ows (32 ∷ ask)) size ≡ Part first end = ap (λ v. ask_of v (length file)) (ask_trimmed first last small)
     ∙ ask_of-ask_text first last (length file) ordered small inside in
-    let reply : served files (get_head host text ask) (Some name) ≡ reply_of (head.Part first end size) (slice_range file first (end + 1)) =
+    let reply : server_reply files (get_head host text ask) (Some name) ≡ reply_of (head.Part first end size) (slice_range file first (end + 1)) =
     served_get files host text ask file name there ∙ ap (λ a. part_reply a file) asked in
     let after : first ≤ min last (length file - 1) = omega arith in
     let within : min last (length file - 1) < length file = omega arith in
@@ -243,7 +243,7 @@ head_names : (host text : List ℕ) (name : Name) → IsName text name → IsNam
 unfolding request_head
 head_names host text name is = record { text = text; path = refl; is_name = is }
 
-served_head : (files : Files) (host text file : List ℕ) (name : Name) → files name ≡ Some file → served files (head_head host text) (Some name) ≡ head_alone (head.Whole (length file))
+served_head : (files : Files) (host text file : List ℕ) (name : Name) → files name ≡ Some file → server_reply files (head_head host text) (Some name) ≡ head_alone (head.Whole (length file))
 unfolding request_head field
 served_head files host text file name there = rw there refl
 

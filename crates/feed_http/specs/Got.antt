@@ -6,14 +6,14 @@ use Rattle.feed_http_heads.specs.declared.http_fault.HttpFault.TheVariants.{Read
 use Rattle.feed_http.specs.declared.fetching.got.Method.{Method}
 use Rattle.feed_http.specs.declared.fetching.got.Got.{Got}
 use Rattle.feed_http.specs.declared.fetching.got.Got.TheVariants as got
-use Rattle.feed_http.specs.declared.fetching.judge.Framing.{Framing}
-use Rattle.feed_http.specs.declared.fetching.judge.Framing.TheVariants.{Chunked, Sized, ToEnd}
-use Rattle.feed_http.specs.declared.fetching.judge.Judgement.{Judgement}
-use Rattle.feed_http.specs.declared.fetching.judge.Judgement.TheVariants.{Missing, Unsatisfied, Size, Part, Whole}
+use Rattle.feed_http.specs.declared.fetching.validation.Framing.{Framing}
+use Rattle.feed_http.specs.declared.fetching.validation.Framing.TheVariants.{Chunked, Sized, ToEnd}
+use Rattle.feed_http.specs.declared.fetching.validation.Announcement.{Announcement}
+use Rattle.feed_http.specs.declared.fetching.validation.Announcement.TheVariants.{Missing, Unsatisfied, Size, Part, Whole}
 use Rattle.feed_http.specs.Limits.{head_limit, field_limit}
 use Rattle.feed_limits.specs.Limits.{file_limit}
 use Rattle.feed_http_heads.specs.ReplyHeads.{BeginsWithHeads, IsNoReply}
-use Rattle.feed_http.specs.Judgements.{judged}
+use Rattle.feed_http.specs.Announcements.{announcement_of}
 use Rattle.feed_http.specs.Chunks.{IsBodyChunked, IsNotChunked}
 
 -- the body at the front of the text, by its framing, or what is wrong with it; a body without a stated length has from
@@ -45,7 +45,7 @@ IsGivenBy IsRead gives (Ok given) = (body : List ℕ) × (given ≡ gives body) 
 IsGivenBy IsRead gives (Err fault) = IsRead (Err fault)
 
 -- the result of a validated head and the bytes after it
-abbrev pub IsGot : Judgement → List ℕ → Result Got HttpFault → Type 0
+abbrev pub IsGot : Announcement → List ℕ → Result Got HttpFault → Type 0
 IsGot Missing text result = result ≡ Ok got.Missing
 IsGot (Unsatisfied total) text result = result ≡ Ok (got.Unsatisfied total)
 IsGot (Size length) text result = result ≡ Ok (got.Size length)
@@ -53,9 +53,9 @@ IsGot (Part first total count framing) text result = IsGivenBy (IsPartBody frami
 IsGot (Whole framing) text result = IsGivenBy (IsBody framing 0 file_limit text) got.Whole result
 
 -- the first fault of the head, or the result that it announces
-abbrev pub IsJudged : Result Judgement HttpFault → List ℕ → Result Got HttpFault → Type 0
-IsJudged (Ok judgement) text result = IsGot judgement text result
-IsJudged (Err fault) text result = result ≡ Err fault
+abbrev pub IsAnnounced : Result Announcement HttpFault → List ℕ → Result Got HttpFault → Type 0
+IsAnnounced (Ok announcement) text result = IsGot announcement text result
+IsAnnounced (Err fault) text result = result ≡ Err fault
 
 -- the text begins with heads, and the last one determines the result
 pub record IsReplyGot (method : Method) (text : List ℕ) (result : Result Got HttpFault) : Type 0 where
@@ -63,7 +63,7 @@ pub record IsReplyGot (method : Method) (text : List ℕ) (result : Result Got H
   pub head : ResponseHead
   pub rest : List ℕ
   pub begins : BeginsWithHeads head_limit field_limit text interim head rest
-  pub is : IsJudged (judged method head) rest result
+  pub is : IsAnnounced (announcement_of method head) rest result
 
 -- the text does not begin with heads within the limits
 abbrev pub IsHeadFailure : List ℕ → Result Got HttpFault → Type 0

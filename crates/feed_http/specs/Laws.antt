@@ -14,7 +14,7 @@ use Rattle.feed_http.specs.declared.serving.reply_head.ReplyHead.TheVariants.{Pa
 use Rattle.feed_http.specs.declared.fetching.got.Method.TheVariants.{Get, Head}
 use Rattle.feed_http.specs.declared.fetching.got.Got.{Got}
 use Rattle.feed_http.specs.declared.fetching.got.Got.TheVariants.{Piece, Size}
-use Rattle.feed_http.specs.Served.{reply_of, head_alone, reply_text, served}
+use Rattle.feed_http.specs.ServerReplies.{reply_of, head_alone, reply_text, server_reply}
 use Rattle.feed_http.specs.Got.{IsReply}
 
 -- this is the result, unless the reader failed or memory ran out
@@ -43,7 +43,7 @@ FetchGivesSlice = (files : Files) (host : List ℕ) (name : Name) (file : List �
     → IsTrue (is_host host) → IsName (text_of name) name → files name ≡ Some file
     → first ≤ last → last < 2 ^ 64 → first < length file → length file < 2 ^ 64 → min last (length file - 1) - first + 1 ≤ piece_limit
     → (head : RequestHead) × BeginsWithHead head_limit field_limit (get_text host (text_of name) first last) head × IsNamedBy head.target (Some name)
-    × ((result : Result Got HttpFault) → IsReply Get (reply_text (served files head (Some name))) result
+    × ((result : Result Got HttpFault) → IsReply Get (reply_text (server_reply files head (Some name))) result
     → IsGiven (Piece first (Some (length file)) (slice_range file first (min last (length file - 1) + 1))) result)
 
 -- a HEAD to that server reads the file's length
@@ -51,4 +51,4 @@ abbrev pub HeadGivesSize : Type 0
 HeadGivesSize = (files : Files) (host : List ℕ) (name : Name) (file : List ℕ)
     → IsTrue (is_host host) → IsName (text_of name) name → files name ≡ Some file → length file < 2 ^ 64
     → (head : RequestHead) × BeginsWithHead head_limit field_limit (head_request_text host (text_of name)) head × IsNamedBy head.target (Some name)
-    × ((result : Result Got HttpFault) → IsReply Head (reply_text (served files head (Some name))) result → IsGiven (Size (length file)) result)
+    × ((result : Result Got HttpFault) → IsReply Head (reply_text (server_reply files head (Some name))) result → IsGiven (Size (length file)) result)

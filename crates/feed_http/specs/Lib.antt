@@ -7,9 +7,9 @@ pub mod Shelves
 pub mod MemoryShelves
 pub mod Replies
 pub mod Requests
-pub mod Served
+pub mod ServerReplies
 pub mod RequestTexts
-pub mod Judgements
+pub mod Announcements
 pub mod Bodies
 pub mod Chunks
 pub mod Got

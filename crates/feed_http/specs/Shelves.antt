@@ -1,5 +1,5 @@
 -- The files of a shelf, and the count of its failures.
-use Rattle.std.specs.Prelude.{◌≡◌, ◌<◌, ◌⊎◌, ◌^◌, ◌-◌, ℕ, List, Option}
+use Rattle.std.specs.Prelude.{◌≡◌, ◌<◌, ◌≤◌, ◌⊎◌, ◌^◌, ◌-◌, ℕ, List, Option, Result, IsErrOf}
 use Rattle.feed_names.specs.ReleaseName.{Name}
 use Rattle.feed_http_heads.specs.declared.http_fault.HttpFault.{HttpFault}
 use Rattle.feed_http_heads.specs.declared.http_fault.HttpFault.TheVariants as http
@@ -18,3 +18,9 @@ CountsFailure old new = (old < new) ⊎ (new ≡ 2 ^ 64 - 1)
 abbrev pub http_fault_of : ShelfFault → HttpFault
 http_fault_of Device = http.Shelf
 http_fault_of Memory = http.Memory
+
+-- a reply leaves the files of the shelf as they were, and its count of failures does not fall; the count includes the
+-- failure of the shelf that ended the reply
+abbrev pub IsShelfKept : Option Files → Option Files → ℕ → ℕ → Result ℕ HttpFault → Type 0
+IsShelfKept old new before after result =
+    (new ≡ old) × (before ≤ after) × (IsErrOf result http.Shelf → CountsFailure before after)

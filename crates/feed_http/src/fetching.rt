@@ -3,7 +3,7 @@
 pub(crate) mod body;
 pub(crate) mod chunks;
 pub(crate) mod got;
-pub(crate) mod judge;
 pub(crate) mod length;
 pub(crate) mod reply;
 pub(crate) mod request_text;
+pub(crate) mod validation;

@@ -31,7 +31,8 @@ impl<'a> TcpDial<'a> {
         }
     }
 
-    fn connected(&self) -> io::Result<TimedStream<'a>> {
+    // Returns a connection to the first address that accepts.
+    fn connect(&self) -> io::Result<TimedStream<'a>> {
         let mut last = io::Error::from(ErrorKind::NotFound);
         for addr in self.addr.to_socket_addrs(self.rt)? {
             match TcpStream::connect_timeout(self.rt, &addr, self.time) {
@@ -51,7 +52,7 @@ impl<'a> Dial for TcpDial<'a> {
     ghost replies = { Unknown };
 
     fn dial(&mut self) -> Result<TimedStream<'a>, DialFault> {
-        match self.connected() {
+        match self.connect() {
             Ok(stream) => Ok(stream),
             Err(fault) if fault.kind() == ErrorKind::OutOfMemory => Err(DialFault::Memory),
             Err(fault) => {

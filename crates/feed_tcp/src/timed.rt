@@ -11,20 +11,20 @@ const PACE: u64 = 65_536;
 // The deadline of an exchange, the most that one call may wait, when the socket's timeout was last set, and the bytes
 // moved since the deadline was last extended.
 #[derive(Clone, Copy)]
-struct Limit {
+struct Deadline {
     ends: Instant,
     time: Duration,
     set: Instant,
     moved: u64,
 }
 
-impl Limit {
-    fn of(rt: &HostRuntime, time: Duration) -> io::Result<Limit> {
+impl Deadline {
+    fn new(rt: &HostRuntime, time: Duration) -> io::Result<Deadline> {
         let now = Instant::now(rt)?;
         let Some(ends) = now.checked_add(time) else {
             return Err(io::Error::from(ErrorKind::InvalidInput));
         };
-        Ok(Limit {
+        Ok(Deadline {
             ends,
             time,
             set: now,
@@ -32,9 +32,9 @@ impl Limit {
         })
     }
 
-    // The most that the next call may wait, or `None` if the socket's timeout is recent enough. It is set at most once
-    // a second, because setting it is a system call.
-    fn left(&mut self, rt: &HostRuntime) -> io::Result<Option<Duration>> {
+    // Returns the most that the next call may wait, or `None` if the socket's timeout is recent enough. It is set at
+    // most once a second, because setting it is a system call.
+    fn next_timeout(&mut self, rt: &HostRuntime) -> io::Result<Option<Duration>> {
         let now = Instant::now(rt)?;
         let left = self.ends.saturating_duration_since(now);
         if left.is_zero() {
@@ -48,7 +48,7 @@ impl Limit {
     }
 
     // Extends the deadline by a second for each `PACE` bytes moved.
-    fn put_off(&mut self, count: usize) {
+    fn extend(&mut self, count: usize) {
         self.moved = self.moved.saturating_add(count as u64);
         if self.moved >= PACE {
             let more = Duration::from_secs(self.moved / PACE);
@@ -58,6 +58,29 @@ impl Limit {
             self.moved %= PACE;
         }
     }
+
+    // Reads before the deadline.
+    fn read(
+        &mut self,
+        rt: &HostRuntime,
+        mut stream: &TcpStream,
+        buf: &mut [u8],
+    ) -> io::Result<usize> {
+        if let Some(timeout) = self.next_timeout(rt)? {
+            stream.set_read_timeout(Some(timeout))?;
+        }
+        stream.read(buf)
+    }
+
+    // Writes before the deadline, and extends it by the bytes written.
+    fn write(&mut self, rt: &HostRuntime, mut stream: &TcpStream, buf: &[u8]) -> io::Result<usize> {
+        if let Some(timeout) = self.next_timeout(rt)? {
+            stream.set_write_timeout(Some(timeout))?;
+        }
+        let count = stream.write(buf)?;
+        self.extend(count);
+        Ok(count)
+    }
 }
 
 /// The receiving side of a connection. All bytes have to arrive within the time.
@@ -65,7 +88,7 @@ impl Limit {
 pub struct TimedReader<'a> {
     rt: &'a HostRuntime,
     stream: &'a TcpStream,
-    limit: Limit,
+    deadline: Deadline,
 }
 
 impl<'a> TimedReader<'a> {
@@ -75,8 +98,12 @@ impl<'a> TimedReader<'a> {
         time: Duration,
     ) -> io::Result<TimedReader<'a>> {
         stream.set_read_timeout(Some(time))?;
-        let limit = Limit::of(rt, time)?;
-        Ok(TimedReader { rt, stream, limit })
+        let deadline = Deadline::new(rt, time)?;
+        Ok(TimedReader {
+            rt,
+            stream,
+            deadline,
+        })
     }
 }
 
@@ -86,10 +113,7 @@ impl Read for TimedReader<'_> {
     ghost remaining = { λ _. None };
 
     fn read(&mut self, buf: &mut [u8]) -> io::Result<usize> {
-        if let Some(left) = self.limit.left(self.rt)? {
-            self.stream.set_read_timeout(Some(left))?;
-        }
-        self.stream.read(buf)
+        self.deadline.read(self.rt, self.stream, buf)
     }
 }
 
@@ -99,7 +123,7 @@ impl Read for TimedReader<'_> {
 pub struct TimedWriter<'a> {
     rt: &'a HostRuntime,
     stream: &'a TcpStream,
-    limit: Limit,
+    deadline: Deadline,
 }
 
 impl<'a> TimedWriter<'a> {
@@ -109,19 +133,18 @@ impl<'a> TimedWriter<'a> {
         time: Duration,
     ) -> io::Result<TimedWriter<'a>> {
         stream.set_write_timeout(Some(time))?;
-        let limit = Limit::of(rt, time)?;
-        Ok(TimedWriter { rt, stream, limit })
+        let deadline = Deadline::new(rt, time)?;
+        Ok(TimedWriter {
+            rt,
+            stream,
+            deadline,
+        })
     }
 }
 
 impl Write for TimedWriter<'_> {
     fn write(&mut self, buf: &[u8]) -> io::Result<usize> {
-        if let Some(left) = self.limit.left(self.rt)? {
-            self.stream.set_write_timeout(Some(left))?;
-        }
-        let count = self.stream.write(buf)?;
-        self.limit.put_off(count);
-        Ok(count)
+        self.deadline.write(self.rt, self.stream, buf)
     }
 
     fn flush(&mut self) -> io::Result<()> {
@@ -162,7 +185,7 @@ impl Cause {
 pub struct TimedStream<'a> {
     rt: &'a HostRuntime,
     stream: TcpStream,
-    limit: Limit,
+    deadline: Deadline,
     cause: &'a Cause,
 }
 
@@ -175,31 +198,17 @@ impl<'a> TimedStream<'a> {
     ) -> io::Result<TimedStream<'a>> {
         stream.set_read_timeout(Some(time))?;
         stream.set_write_timeout(Some(time))?;
-        let limit = Limit::of(rt, time)?;
+        let deadline = Deadline::new(rt, time)?;
         Ok(TimedStream {
             rt,
             stream,
-            limit,
+            deadline,
             cause,
         })
     }
 
-    fn limit_read(&mut self) -> io::Result<()> {
-        match self.limit.left(self.rt)? {
-            Some(left) => self.stream.set_read_timeout(Some(left)),
-            None => Ok(()),
-        }
-    }
-
-    fn limit_write(&mut self) -> io::Result<()> {
-        match self.limit.left(self.rt)? {
-            Some(left) => self.stream.set_write_timeout(Some(left)),
-            None => Ok(()),
-        }
-    }
-
-    // A call that waited too long fails with `TimedOut`, which says more than `WouldBlock`.
-    fn failed(&self, fault: io::Error) -> io::Error {
+    // Stores the error. A call that waited too long fails with `TimedOut`, which says more than `WouldBlock`.
+    fn keep(&self, fault: io::Error) -> io::Error {
         match fault.kind() {
             ErrorKind::WouldBlock => self.cause.keep(io::Error::from(ErrorKind::TimedOut)),
             _ => self.cause.keep(fault),
@@ -213,30 +222,21 @@ impl Read for TimedStream<'_> {
     ghost remaining = { λ _. None };
 
     fn read(&mut self, buf: &mut [u8]) -> io::Result<usize> {
-        if let Err(fault) = self.limit_read() {
-            return Err(self.failed(fault));
-        }
-        match self.stream.read(buf) {
+        match self.deadline.read(self.rt, &self.stream, buf) {
             Ok(count) => {
-                self.limit.put_off(count);
+                self.deadline.extend(count);
                 Ok(count)
             }
-            Err(fault) => Err(self.failed(fault)),
+            Err(fault) => Err(self.keep(fault)),
         }
     }
 }
 
 impl Write for TimedStream<'_> {
     fn write(&mut self, buf: &[u8]) -> io::Result<usize> {
-        if let Err(fault) = self.limit_write() {
-            return Err(self.failed(fault));
-        }
-        match self.stream.write(buf) {
-            Ok(count) => {
-                self.limit.put_off(count);
-                Ok(count)
-            }
-            Err(fault) => Err(self.failed(fault)),
+        match self.deadline.write(self.rt, &self.stream, buf) {
+            Ok(count) => Ok(count),
+            Err(fault) => Err(self.keep(fault)),
         }
     }
 

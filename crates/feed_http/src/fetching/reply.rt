@@ -5,7 +5,7 @@ ghost use Rattle.feed_http.specs.Got.{IsBody, IsPartBody, IsGot, IsReply, IsRead
 use crate::fetching::body::{read_sized, read_to_end};
 use crate::fetching::chunks::read_chunked;
 use crate::fetching::got::{Bytes, Got, Method};
-use crate::fetching::judge::{Framing, Judgement, Reply};
+use crate::fetching::validation::{Announcement, Framing, Reply};
 use feed_http_heads::{FIELD_LIMIT, HEAD_LIMIT, HttpFault, read_reply_head};
 use feed_limits::FILE_LIMIT;
 use httparse::spans::EMPTY_HEADER_SPAN;
@@ -45,15 +45,19 @@ fn read_part<R: Read>(
     }
 }
 
-fn read_got<R: Read>(alloc: Global, reader: &mut R, judgement: Judgement) -> Result<Got, HttpFault>
-    ensures got { IfSome (R.remaining reader.old) (λ text. IsGot judgement text result) }
+fn read_got<R: Read>(
+    alloc: Global,
+    reader: &mut R,
+    announcement: Announcement,
+) -> Result<Got, HttpFault>
+    ensures got { IfSome (R.remaining reader.old) (λ text. IsGot announcement text result) }
     ensures faults { IfErr result IsReadingFault }
 {
-    match judgement {
-        Judgement::Missing => Ok(Got::Missing),
-        Judgement::Unsatisfied { total } => Ok(Got::Unsatisfied { total }),
-        Judgement::Size(length) => Ok(Got::Size(length)),
-        Judgement::Part {
+    match announcement {
+        Announcement::Missing => Ok(Got::Missing),
+        Announcement::Unsatisfied { total } => Ok(Got::Unsatisfied { total }),
+        Announcement::Size(length) => Ok(Got::Size(length)),
+        Announcement::Part {
             first,
             total,
             count,
@@ -66,7 +70,7 @@ fn read_got<R: Read>(alloc: Global, reader: &mut R, judgement: Judgement) -> Res
                 bytes,
             })
         }
-        Judgement::Whole(framing) => {
+        Announcement::Whole(framing) => {
             let bytes = read_body(alloc, reader, framing, 0, FILE_LIMIT as u64)?;
             Ok(Got::Whole { bytes })
         }
@@ -98,7 +102,7 @@ pub fn read_reply<R: Read>(alloc: Global, reader: &mut R, method: Method) -> Res
         headers: &headers,
         spans: read.spans,
     };
-    let judgement = reply.judge(method)?;
+    let announcement = reply.validate(method)?;
     let mut body = buffer[read.start + read.spans.len..read.filled].chain(reader);
-    read_got(alloc, &mut body, judgement)
+    read_got(alloc, &mut body, announcement)
 }

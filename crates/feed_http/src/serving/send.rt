@@ -2,7 +2,7 @@
 ghost use Rattle.std.specs.Prelude.{◌≡◌, ◌≤◌, ◌+◌};
 ghost use Rattle.std.specs.Prelude.{IfSome, IsSomeAnd, IfErr, IsErrOf, length, take, drop, slice_range};
 ghost use Rattle.feed_http.specs.Shelves.{CountsFailure};
-ghost use Rattle.feed_http.specs.Served.{IsSending, IsReplyFault};
+ghost use Rattle.feed_http.specs.ServerReplies.{IsSending, IsReplyFault};
 
 use crate::serving::shelf::Shelf;
 use feed_http_heads::HttpFault;

@@ -10,9 +10,9 @@ ghost use Rattle.feed_http_heads.specs.RequestHeads.{BeginsWithHead};
 ghost use Rattle.feed_http_heads.specs.Requests.{IsInBuffer, HasHead};
 ghost use Rattle.feed_http.specs.Requests.{IsNamedBy};
 ghost use Rattle.feed_http.specs.Replies.{IsPartInside};
-ghost use Rattle.feed_http.specs.Shelves.{CountsFailure};
-ghost use Rattle.feed_http.specs.Served.{served, fileless, part_reply, file_reply, IsOutcomeOf, IsRefusalOf};
-ghost use Rattle.feed_http.specs.Served.{IsReplyFault, IsServingFault, reply_of};
+ghost use Rattle.feed_http.specs.Shelves.{CountsFailure, IsShelfKept};
+ghost use Rattle.feed_http.specs.ServerReplies.{server_reply, reply_without_file, part_reply, file_reply, IsOutcomeOf, IsRefusalOf};
+ghost use Rattle.feed_http.specs.ServerReplies.{IsReplyFault, IsServingFault, reply_of};
 
 use crate::serving::reply_head::ReplyHead;
 use crate::serving::request;
@@ -38,14 +38,12 @@ fn reply_with<W: Write, S: Shelf>(
     requires ordered { first ≤ end }
     requires inside { IfSome (S.files shelf.old) (λ files.
         IsSomeAnd (files name.now) (λ file. end ≤ length file)) }
-    ensures served { IfSome (S.files shelf.old) (λ files. IfSome (files name.now) (λ file.
+    ensures reply { IfSome (S.files shelf.old) (λ files. IfSome (files name.now) (λ file.
         IsOutcomeOf (reply_of head (slice_range file first end)) result
         (W.contents writer.old) (W.contents writer.new))) }
     ensures faults { IfErr result IsReplyFault }
-    ensures kept { S.files shelf.new ≡ S.files shelf.old }
-    ensures rises { S.failed shelf.old ≤ S.failed shelf.new }
-    ensures device { IsErrOf result HttpFault.Shelf
-        → CountsFailure (S.failed shelf.old) (S.failed shelf.new) }
+    ensures shelf { IsShelfKept (S.files shelf.old) (S.files shelf.new) (S.failed shelf.old) (S.failed shelf.new)
+        result }
 {
     let status = head.write(writer)?;
     send(alloc, writer, shelf, name, first, end)?;
@@ -63,13 +61,11 @@ fn serve_part<W: Write, S: Shelf>(
     requires asked { IsInside size ask }
     requires there { IfSome (S.files shelf.old) (λ files.
         IsSomeAnd (files name.now) (λ file. length file ≡ size)) }
-    ensures served { IfSome (S.files shelf.old) (λ files. IfSome (files name.now) (λ file.
+    ensures reply { IfSome (S.files shelf.old) (λ files. IfSome (files name.now) (λ file.
         IsOutcomeOf (part_reply ask file) result (W.contents writer.old) (W.contents writer.new))) }
     ensures faults { IfErr result IsReplyFault }
-    ensures kept { S.files shelf.new ≡ S.files shelf.old }
-    ensures rises { S.failed shelf.old ≤ S.failed shelf.new }
-    ensures device { IsErrOf result HttpFault.Shelf
-        → CountsFailure (S.failed shelf.old) (S.failed shelf.new) }
+    ensures shelf { IsShelfKept (S.files shelf.old) (S.files shelf.new) (S.failed shelf.old) (S.failed shelf.new)
+        result }
 {
     match ask {
         RangeAsk::Whole => {
@@ -99,13 +95,11 @@ fn serve_file<W: Write, S: Shelf>(
     requires request { IsInBuffer request.now }
     requires there { IfSome (S.files shelf.old) (λ files.
         IsSomeAnd (files name.now) (λ file. length file ≡ size)) }
-    ensures served { IfSome (S.files shelf.old) (λ files. (head : RequestHead) → HasHead request.now head
+    ensures reply { IfSome (S.files shelf.old) (λ files. (head : RequestHead) → HasHead request.now head
         → IsOutcomeOf (file_reply head (files name.now)) result (W.contents writer.old) (W.contents writer.new)) }
     ensures faults { IfErr result IsReplyFault }
-    ensures kept { S.files shelf.new ≡ S.files shelf.old }
-    ensures rises { S.failed shelf.old ≤ S.failed shelf.new }
-    ensures device { IsErrOf result HttpFault.Shelf
-        → CountsFailure (S.failed shelf.old) (S.failed shelf.new) }
+    ensures shelf { IsShelfKept (S.files shelf.old) (S.files shelf.new) (S.failed shelf.old) (S.failed shelf.new)
+        result }
 {
     if request.is_head() {
         return ReplyHead::Whole { length: size }.write(writer);
@@ -127,18 +121,16 @@ fn respond<W: Write, S: Shelf>(
     request: &Request<'_>,
 ) -> Result<u16, HttpFault>
     requires { IsInBuffer request.now }
-    ensures served { IfSome (S.files shelf.old) (λ files.
+    ensures reply { IfSome (S.files shelf.old) (λ files.
         (head : RequestHead) → HasHead request.now head
         → (named : Option Name) → IsNamedBy head.target named
-        → IsOutcomeOf (served files head named) result (W.contents writer.old) (W.contents writer.new)) }
-    ensures fileless { (head : RequestHead) → HasHead request.now head
-        → (named : Option Name) → IsNamedBy head.target named → IfSome (fileless head named) (λ reply.
+        → IsOutcomeOf (server_reply files head named) result (W.contents writer.old) (W.contents writer.new)) }
+    ensures reply_without_file { (head : RequestHead) → HasHead request.now head
+        → (named : Option Name) → IsNamedBy head.target named → IfSome (reply_without_file head named) (λ reply.
         IsOutcomeOf reply result (W.contents writer.old) (W.contents writer.new)) }
     ensures faults { IfErr result IsReplyFault }
-    ensures kept { S.files shelf.new ≡ S.files shelf.old }
-    ensures rises { S.failed shelf.old ≤ S.failed shelf.new }
-    ensures device { IsErrOf result HttpFault.Shelf
-        → CountsFailure (S.failed shelf.old) (S.failed shelf.new) }
+    ensures shelf { IsShelfKept (S.files shelf.old) (S.files shelf.new) (S.failed shelf.old) (S.failed shelf.new)
+        result }
 {
     if request.lacks_host() {
         return ReplyHead::BadRequest.write(writer);
@@ -174,15 +166,15 @@ pub fn serve_one<R: Read, W: Write, S: Shelf>(
     shelf: &mut S,
 ) -> Result<u16, HttpFault>
     // If the bytes begin with a head within the limits, and the contracts of the shelf name its files.
-    ensures served { IfSome (R.remaining reader.old) (λ text. IfSome (S.files shelf.old) (λ files.
+    ensures reply { IfSome (R.remaining reader.old) (λ text. IfSome (S.files shelf.old) (λ files.
         (head : RequestHead) → BeginsWithHead head_limit field_limit text head
         → (named : Option Name) → IsNamedBy head.target named
-        → IsOutcomeOf (served files head named) result (W.contents writer.old) (W.contents writer.new))) }
+        → IsOutcomeOf (server_reply files head named) result (W.contents writer.old) (W.contents writer.new))) }
 
     // The same for any shelf, if the reply does not need a file.
-    ensures fileless { IfSome (R.remaining reader.old) (λ text.
+    ensures reply_without_file { IfSome (R.remaining reader.old) (λ text.
         (head : RequestHead) → BeginsWithHead head_limit field_limit text head
-        → (named : Option Name) → IsNamedBy head.target named → IfSome (fileless head named) (λ reply.
+        → (named : Option Name) → IsNamedBy head.target named → IfSome (reply_without_file head named) (λ reply.
         IsOutcomeOf reply result (W.contents writer.old) (W.contents writer.new))) }
 
     // If the bytes do not begin with such a head.

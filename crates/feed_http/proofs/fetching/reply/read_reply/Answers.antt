@@ -1,11 +1,11 @@
 use Rattle.std.proofs.Common.{arith}
-use Rattle.feed_http.proofs.ReplyJudging.{head_refused, head_faults, body_given}
+use Rattle.feed_http.proofs.ReplyValidation.{head_refused, head_faults, body_given}
 use Rattle.feed_http.proofs.fetching.reply.read_reply.Goals as goal
 
-pub returns-in_err-judgement-clause-reply : goal.returns-in_err-judgement-clause-reply
-returns-in_err-judgement-clause-reply g c = let h = c.in_ok-read.ensures in
+pub returns-in_err-announcement-clause-reply : goal.returns-in_err-announcement-clause-reply
+returns-in_err-announcement-clause-reply g c = let h = c.in_ok-read.ensures in
     head_refused c.args.method (g.R.Read.remaining c.args.reader.now) (g.R.Read.remaining c.read_reply_head.new.reader) c.read_reply_head.new.buffer c.read_reply_head.new.headers
-    c.in_ok-read.read.start c.in_ok-read.read.filled c.in_ok-read.read.spans c.from_residual-in_err-judgement.result c.in_err-judgement.field-0.0
+    c.in_ok-read.read.start c.in_ok-read.read.filled c.in_ok-read.read.spans c.from_residual-in_err-announcement.result c.in_err-announcement.field-0.0
     (record {
       ordered = h.filled.0;
       fits = h.filled.1;
@@ -15,12 +15,12 @@ returns-in_err-judgement-clause-reply g c = let h = c.in_ok-read.ensures in
       within = h.within;
       reply = h.head;
     })
-    h.taken c.in_err-judgement.ensures.value c.from_residual-in_err-judgement.ensures.1
+    h.taken c.in_err-announcement.ensures.value c.from_residual-in_err-announcement.ensures.1
 
 pub returns-clause-reply : goal.returns-clause-reply
 returns-clause-reply g c = let h = c.in_ok-read.ensures in
     body_given c.args.method (g.R.Read.remaining c.args.reader.now) (g.R.Read.remaining c.read_reply_head.new.reader) _ c.read_reply_head.new.buffer c.read_reply_head.new.headers
-    c.in_ok-read.read.start c.in_ok-read.read.filled c.in_ok-read.read.spans c.in_ok-judgement.judgement c.read_got.result
+    c.in_ok-read.read.start c.in_ok-read.read.filled c.in_ok-read.read.spans c.in_ok-announcement.announcement c.read_got.result
     (record {
       ordered = h.filled.0;
       fits = h.filled.1;
@@ -30,12 +30,12 @@ returns-clause-reply g c = let h = c.in_ok-read.ensures in
       within = h.within;
       reply = h.head;
     })
-    h.taken c.in_ok-judgement.ensures.value c.chain-body.ensures.bytes c.read_got.ensures.got
+    h.taken c.in_ok-announcement.ensures.value c.chain-body.ensures.bytes c.read_got.ensures.got
 
-pub returns-in_err-judgement-clause-faults : goal.returns-in_err-judgement-clause-faults
-returns-in_err-judgement-clause-faults g c = let h = c.in_ok-read.ensures in
+pub returns-in_err-announcement-clause-faults : goal.returns-in_err-announcement-clause-faults
+returns-in_err-announcement-clause-faults g c = let h = c.in_ok-read.ensures in
     head_faults c.args.method c.read_reply_head.new.buffer c.read_reply_head.new.headers
-    c.in_ok-read.read.start c.in_ok-read.read.filled c.in_ok-read.read.spans c.from_residual-in_err-judgement.result c.in_err-judgement.field-0.0
+    c.in_ok-read.read.start c.in_ok-read.read.filled c.in_ok-read.read.spans c.from_residual-in_err-announcement.result c.in_err-announcement.field-0.0
     (record {
       ordered = h.filled.0;
       fits = h.filled.1;
@@ -45,4 +45,4 @@ returns-in_err-judgement-clause-faults g c = let h = c.in_ok-read.ensures in
       within = h.within;
       reply = h.head;
     })
-    c.in_err-judgement.ensures.value c.from_residual-in_err-judgement.ensures.1
+    c.in_err-announcement.ensures.value c.from_residual-in_err-announcement.ensures.1

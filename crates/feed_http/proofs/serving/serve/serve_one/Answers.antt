@@ -3,10 +3,10 @@ use Rattle.std.proofs.lemmas.List.{length-take}
 use Rattle.feed_http.proofs.Exchanges.{by_head, by_head_alone, has_head, never_served, never_asked}
 use Rattle.feed_http.proofs.serving.serve.serve_one.Goals as goal
 
-pub returns-in-Ok-clause-served : goal.returns-in-Ok-clause-served
-returns-in-Ok-clause-served g c = by_head 8192 64 (g.R.Read.remaining c.args.reader.now) (g.R.Read.remaining c.read_request.new.reader)
+pub returns-in-Ok-clause-reply : goal.returns-in-Ok-clause-reply
+returns-in-Ok-clause-reply g c = by_head 8192 64 (g.R.Read.remaining c.args.reader.now) (g.R.Read.remaining c.read_request.new.reader)
     (take c.in-Ok.read.filled c.read_request.new.buffer) c.read_request.new.headers c.in-Ok.read.spans (g.S.Shelf.files c.args.shelf.now) _
-    c.in-Ok.ensures.taken c.in-Ok.ensures.head c.respond.ensures.served
+    c.in-Ok.ensures.taken c.in-Ok.ensures.head c.respond.ensures.reply
 
 pub returns-in-Ok-clause-refused : goal.returns-in-Ok-clause-refused
 returns-in-Ok-clause-refused g c = has_head 8192 64 (g.R.Read.remaining c.args.reader.now) (g.R.Read.remaining c.read_request.new.reader)
@@ -15,21 +15,21 @@ returns-in-Ok-clause-refused g c = has_head 8192 64 (g.R.Read.remaining c.args.r
     (let buffered = c.read_request.auto.buffer in omega (arith, length-take c.in-Ok.read.filled c.read_request.new.buffer, buffered))
     (let kept = c.read_request.auto.headers in omega (arith, kept))
 
-pub returns-in-Err-BadHead-clause-served : goal.returns-in-Err-BadHead-clause-served
-returns-in-Err-BadHead-clause-served g c = never_served 8192 64 (g.R.Read.remaining c.args.reader.now) (g.S.Shelf.files c.args.shelf.now) _
+pub returns-in-Err-BadHead-clause-reply : goal.returns-in-Err-BadHead-clause-reply
+returns-in-Err-BadHead-clause-reply g c = never_served 8192 64 (g.R.Read.remaining c.args.reader.now) (g.S.Shelf.files c.args.shelf.now) _
     (rw c.in-Err-BadHead.field-0-is at c.in-Err-BadHead.ensures.why)
 
-pub returns-in-Err-HeadTooLong-clause-served : goal.returns-in-Err-HeadTooLong-clause-served
-returns-in-Err-HeadTooLong-clause-served g c = never_served 8192 64 (g.R.Read.remaining c.args.reader.now) (g.S.Shelf.files c.args.shelf.now) _
+pub returns-in-Err-HeadTooLong-clause-reply : goal.returns-in-Err-HeadTooLong-clause-reply
+returns-in-Err-HeadTooLong-clause-reply g c = never_served 8192 64 (g.R.Read.remaining c.args.reader.now) (g.S.Shelf.files c.args.shelf.now) _
     (rw c.in-Err-HeadTooLong.field-0-is at c.in-Err-HeadTooLong.ensures.why)
 
-pub returns-in-Ok-clause-fileless : goal.returns-in-Ok-clause-fileless
-returns-in-Ok-clause-fileless g c = by_head_alone 8192 64 (g.R.Read.remaining c.args.reader.now) (g.R.Read.remaining c.read_request.new.reader)
+pub returns-in-Ok-clause-reply_without_file : goal.returns-in-Ok-clause-reply_without_file
+returns-in-Ok-clause-reply_without_file g c = by_head_alone 8192 64 (g.R.Read.remaining c.args.reader.now) (g.R.Read.remaining c.read_request.new.reader)
     (take c.in-Ok.read.filled c.read_request.new.buffer) c.read_request.new.headers c.in-Ok.read.spans _
-    c.in-Ok.ensures.taken c.in-Ok.ensures.head c.respond.ensures.fileless
+    c.in-Ok.ensures.taken c.in-Ok.ensures.head c.respond.ensures.reply_without_file
 
-pub returns-in-Err-BadHead-clause-fileless : goal.returns-in-Err-BadHead-clause-fileless
-returns-in-Err-BadHead-clause-fileless g c = never_asked 8192 64 (g.R.Read.remaining c.args.reader.now) _ (rw c.in-Err-BadHead.field-0-is at c.in-Err-BadHead.ensures.why)
+pub returns-in-Err-BadHead-clause-reply_without_file : goal.returns-in-Err-BadHead-clause-reply_without_file
+returns-in-Err-BadHead-clause-reply_without_file g c = never_asked 8192 64 (g.R.Read.remaining c.args.reader.now) _ (rw c.in-Err-BadHead.field-0-is at c.in-Err-BadHead.ensures.why)
 
-pub returns-in-Err-HeadTooLong-clause-fileless : goal.returns-in-Err-HeadTooLong-clause-fileless
-returns-in-Err-HeadTooLong-clause-fileless g c = never_asked 8192 64 (g.R.Read.remaining c.args.reader.now) _ (rw c.in-Err-HeadTooLong.field-0-is at c.in-Err-HeadTooLong.ensures.why)
+pub returns-in-Err-HeadTooLong-clause-reply_without_file : goal.returns-in-Err-HeadTooLong-clause-reply_without_file
+returns-in-Err-HeadTooLong-clause-reply_without_file g c = never_asked 8192 64 (g.R.Read.remaining c.args.reader.now) _ (rw c.in-Err-HeadTooLong.field-0-is at c.in-Err-HeadTooLong.ensures.why)

@@ -3,13 +3,13 @@ ghost use Rattle.std.specs.Prelude.{◌≡◌, IfSome};
 ghost use Rattle.feed_range.specs.Content.{IsInOrder};
 ghost use Rattle.httparse.specs.Grammar.{ResponseHead};
 ghost use Rattle.feed_http_heads.specs.Fields.{AreWithin, AreFieldsOf};
-ghost use Rattle.feed_http.specs.Judgements.{is_identity, is_chunked, is_transfer_coded, is_coded_otherwise};
-ghost use Rattle.feed_http.specs.Judgements.{stated_length, framing_of, framed_by_length, range_of, part_judged};
-ghost use Rattle.feed_http.specs.Judgements.{part_framed, whole_judged, size_judged, unsatisfied_part, file_judged};
-ghost use Rattle.feed_http.specs.Judgements.{judged, gives_file, IsInBuffer, HasHead};
+ghost use Rattle.feed_http.specs.Announcements.{is_identity, is_chunked, is_transfer_coded, is_coded_otherwise};
+ghost use Rattle.feed_http.specs.Announcements.{stated_length, framing_of, framing_by_length, range_of, part_announcement};
+ghost use Rattle.feed_http.specs.Announcements.{part_with_framing, whole_announcement, size_announcement, unsatisfied_by_head, file_announcement};
+ghost use Rattle.feed_http.specs.Announcements.{announcement_of, has_file_status, IsInBuffer, HasHead};
 
 use crate::fetching::got::Method;
-use crate::fetching::length::agreed_length;
+use crate::fetching::length::common_length;
 use feed_http_heads::{Fields, HttpFault};
 use feed_limits::{FILE_LIMIT, PIECE_LIMIT};
 use feed_range::ContentRange;
@@ -27,7 +27,7 @@ pub(crate) enum Framing {
 
 /// The result of validating a reply's head: an answer, or which body follows.
 #[derive(Clone, Copy, Debug, PartialEq, Eq)]
-pub(crate) enum Judgement {
+pub(crate) enum Announcement {
     Missing,
     Unsatisfied {
         total: Option<u64>,
@@ -103,7 +103,7 @@ impl Reply<'_> {
         if !self.fields().has_field(b"content-length") {
             return Ok(None);
         }
-        match agreed_length(&self.fields()) {
+        match common_length(&self.fields()) {
             Some(length) => Ok(Some(length)),
             None => Err(HttpFault::Length),
         }
@@ -116,7 +116,7 @@ impl Reply<'_> {
         if self.is_transfer_coded() {
             return Ok(Framing::Chunked);
         }
-        framed_by_length(self.stated_length())
+        framing_by_length(self.stated_length())
     }
 
     fn range(&self) -> Option<ContentRange>
@@ -130,67 +130,67 @@ impl Reply<'_> {
         }
     }
 
-    fn gives_file(&self, method: Method) -> bool
+    fn has_file_status(&self, method: Method) -> bool
         requires { IsInBuffer self.now }
-        ensures { (head : ResponseHead) → HasHead self.now head → result ≡ gives_file method head }
+        ensures { (head : ResponseHead) → HasHead self.now head → result ≡ has_file_status method head }
     {
         self.spans.code == 200 || (self.spans.code == 206 && method == Method::Get)
     }
 
-    fn judge_unsatisfied(&self) -> Result<Judgement, HttpFault>
+    fn validate_unsatisfied(&self) -> Result<Announcement, HttpFault>
         requires { IsInBuffer self.now }
         ensures value { (head : ResponseHead) → HasHead self.now head
-            → result ≡ unsatisfied_part head }
+            → result ≡ unsatisfied_by_head head }
     {
         if !self.fields().has_field(b"content-range") {
-            return Ok(Judgement::Unsatisfied { total: None });
+            return Ok(Announcement::Unsatisfied { total: None });
         }
         match self.range() {
             Some(ContentRange::Unsatisfied { total }) => {
-                Ok(Judgement::Unsatisfied { total: Some(total) })
+                Ok(Announcement::Unsatisfied { total: Some(total) })
             }
             _ => Err(HttpFault::Range),
         }
     }
 
-    fn judge_file(&self, method: Method) -> Result<Judgement, HttpFault>
+    fn validate_file(&self, method: Method) -> Result<Announcement, HttpFault>
         requires { IsInBuffer self.now }
         ensures value { (head : ResponseHead) → HasHead self.now head
-            → result ≡ file_judged method head }
+            → result ≡ file_announcement method head }
     {
         if self.is_coded_otherwise(method) {
             return Err(HttpFault::Coding);
         }
         if method == Method::Head {
-            return judge_size(self.stated_length());
+            return validate_size(self.stated_length());
         }
         if self.spans.code == 206 {
-            return judge_part(self.range(), self.framing());
+            return validate_part(self.range(), self.framing());
         }
-        judge_whole(self.framing())
+        validate_whole(self.framing())
     }
 
     /// Validates the head of a reply to a request with this method. Returns the result, or the first fault.
-    pub(crate) fn judge(&self, method: Method) -> Result<Judgement, HttpFault>
+    pub(crate) fn validate(&self, method: Method) -> Result<Announcement, HttpFault>
         requires { IsInBuffer self.now }
         ensures value { (head : ResponseHead) → HasHead self.now head
-            → result ≡ judged method head }
+            → result ≡ announcement_of method head }
     {
         if self.spans.code == 404 {
-            return Ok(Judgement::Missing);
+            return Ok(Announcement::Missing);
         }
         if self.spans.code == 416 && method == Method::Get {
-            return self.judge_unsatisfied();
+            return self.validate_unsatisfied();
         }
-        if !self.gives_file(method) {
+        if !self.has_file_status(method) {
             return Err(HttpFault::Status(self.spans.code));
         }
-        self.judge_file(method)
+        self.validate_file(method)
     }
 }
 
-fn framed_by_length(length: Result<Option<u64>, HttpFault>) -> Result<Framing, HttpFault>
-    ensures { result ≡ framed_by_length length }
+fn framing_by_length(length: Result<Option<u64>, HttpFault>) -> Result<Framing, HttpFault>
+    ensures { result ≡ framing_by_length length }
 {
     match length {
         Ok(Some(length)) => Ok(Framing::Sized(length)),
@@ -199,22 +199,22 @@ fn framed_by_length(length: Result<Option<u64>, HttpFault>) -> Result<Framing, H
     }
 }
 
-fn judge_size(length: Result<Option<u64>, HttpFault>) -> Result<Judgement, HttpFault>
-    ensures value { result ≡ size_judged length }
+fn validate_size(length: Result<Option<u64>, HttpFault>) -> Result<Announcement, HttpFault>
+    ensures value { result ≡ size_announcement length }
 {
     match length {
-        Ok(Some(length)) => Ok(Judgement::Size(length)),
+        Ok(Some(length)) => Ok(Announcement::Size(length)),
         Ok(None) => Err(HttpFault::Length),
         Err(fault) => Err(fault),
     }
 }
 
-fn judge_part(
+fn validate_part(
     range: Option<ContentRange>,
     framing: Result<Framing, HttpFault>,
-) -> Result<Judgement, HttpFault>
+) -> Result<Announcement, HttpFault>
     requires { IfSome range IsInOrder }
-    ensures value { result ≡ part_judged range framing }
+    ensures value { result ≡ part_announcement range framing }
 {
     let Some(ContentRange::Part { first, last, total }) = range else {
         return Err(HttpFault::Range);
@@ -230,13 +230,13 @@ fn frame_part(
     total: Option<u64>,
     count: u64,
     framing: Result<Framing, HttpFault>,
-) -> Result<Judgement, HttpFault>
-    ensures value { result ≡ part_framed first total count framing }
+) -> Result<Announcement, HttpFault>
+    ensures value { result ≡ part_with_framing first total count framing }
 {
     let framing = framing?;
     match framing {
         Framing::Sized(length) if length != count => Err(HttpFault::Length),
-        _ => Ok(Judgement::Part {
+        _ => Ok(Announcement::Part {
             first,
             total,
             count,
@@ -245,12 +245,12 @@ fn frame_part(
     }
 }
 
-fn judge_whole(framing: Result<Framing, HttpFault>) -> Result<Judgement, HttpFault>
-    ensures value { result ≡ whole_judged framing }
+fn validate_whole(framing: Result<Framing, HttpFault>) -> Result<Announcement, HttpFault>
+    ensures value { result ≡ whole_announcement framing }
 {
     let framing = framing?;
     match framing {
         Framing::Sized(length) if length > FILE_LIMIT as u64 => Err(HttpFault::BodyTooLong),
-        _ => Ok(Judgement::Whole(framing)),
+        _ => Ok(Announcement::Whole(framing)),
     }
 }

@@ -1,8 +1,8 @@
 use Rattle.std.proofs.Common.{ap, ◌∙◌, Some}
-use Rattle.feed_http.specs.Judgements.{content_length}
+use Rattle.feed_http.specs.Announcements.{content_length}
 use Rattle.feed_http_heads.proofs.NamedFields.{first_value}
-use Rattle.feed_http.proofs.AgreedLengths.{agreed_on_none, agreed_on_no_length, agreed_on}
-use Rattle.feed_http.proofs.fetching.length.agreed_length.Goals as goal
+use Rattle.feed_http.proofs.CommonLengths.{agreed_on_none, agreed_on_no_length, agreed_on}
+use Rattle.feed_http.proofs.fetching.length.common_length.Goals as goal
 
 pub returns-in_err-first : goal.returns-in_err-first
 returns-in_err-first c = λ fields are. c.from_residual.ensures

@@ -12,13 +12,13 @@ use Rattle.httparse.specs.declared.spans.HeaderSpan.{HeaderSpan}
 use Rattle.feed_http_heads.specs.declared.http_fault.HttpFault.{HttpFault}
 use Rattle.feed_http.specs.declared.fetching.got.Method.{Method}
 use Rattle.feed_http.specs.declared.fetching.got.Got.{Got}
-use Rattle.feed_http.specs.declared.fetching.judge.Judgement.{Judgement}
+use Rattle.feed_http.specs.declared.fetching.validation.Announcement.{Announcement}
 use Rattle.feed_http.specs.Limits.{head_limit, field_limit}
 use Rattle.feed_http_heads.specs.ReplyHeads.{BeginsWithHeads, print_heads}
 use Rattle.feed_http_heads.specs.ReplyReads.{IsReplyIn}
-use Rattle.feed_http.specs.Judgements.{judged}
+use Rattle.feed_http.specs.Announcements.{announcement_of}
 use Rattle.feed_http.specs.Got.{IsGot, IsReply, IsReadingFault}
-use Rattle.feed_http.proofs.JudgedFaults.{judged_fault}
+use Rattle.feed_http.proofs.AnnouncedFaults.{announced_fault}
 use Rattle.feed_http_heads.proofs.ReplyReading.{split_text, part_is, counted}
 
 -- a reply's head that was read within the limits, and what is known of it
@@ -65,7 +65,7 @@ begins text buffer rest headers start filled spans read e =
       few = omega (arith, read.few, counted (drop start (take filled buffer)) headers spans read.reply.head read.within read.reply.at);
     }
 
--- the head that was read, as the judgement sees it
+-- the head that was read, as the announcement sees it
 at_part : (buffer : List ℕ) (headers : List HeaderSpan) (start filled : ℕ) (spans : ResponseSpans) (read : IsHeadRead buffer headers start filled spans)
     → IsResponseAt (take (filled - start) (drop start buffer)) headers spans read.reply.head
 at_part buffer headers start filled spans read = rw (part_is buffer start filled read.ordered) read.reply.at
@@ -74,7 +74,7 @@ at_part buffer headers start filled spans read = rw (part_is buffer start filled
 pub head_refused : (method : Method) (old new : Option (List ℕ)) (buffer : List ℕ) (headers : List HeaderSpan) (start filled : ℕ) (spans : ResponseSpans) (result : Result Got HttpFault)
     (fault : HttpFault)
     → IsHeadRead buffer headers start filled spans → Consumes old new (take filled buffer)
-    → ((head : ResponseHead) → IsResponseAt (take (filled - start) (drop start buffer)) headers spans head → Err fault ≡ judged method head)
+    → ((head : ResponseHead) → IsResponseAt (take (filled - start) (drop start buffer)) headers spans head → Err fault ≡ announcement_of method head)
     → IsErrAnd result (λ e. e ≡ fault) → IfSome old (λ text. IsReply method text result)
 head_refused method None new buffer headers start filled spans result fault read taken says is = tt
 head_refused method (Some text) None buffer headers start filled spans result fault read taken says is = absurd taken
@@ -89,21 +89,21 @@ head_refused method (Some text) (Some rest) buffer headers start filled spans (E
 
 pub head_faults : (method : Method) (buffer : List ℕ) (headers : List HeaderSpan) (start filled : ℕ) (spans : ResponseSpans) (result : Result Got HttpFault) (fault : HttpFault)
     → IsHeadRead buffer headers start filled spans
-    → ((head : ResponseHead) → IsResponseAt (take (filled - start) (drop start buffer)) headers spans head → Err fault ≡ judged method head)
+    → ((head : ResponseHead) → IsResponseAt (take (filled - start) (drop start buffer)) headers spans head → Err fault ≡ announcement_of method head)
     → IsErrAnd result (λ e. e ≡ fault) → IfErr result IsReadingFault
 head_faults method buffer headers start filled spans (Ok given) fault read says is = absurd is
 head_faults method buffer headers start filled spans (Err e) fault read says is =
-    rw is (judged_fault method read.reply.head fault (says read.reply.head (at_part buffer headers start filled spans read)))
+    rw is (announced_fault method read.reply.head fault (says read.reply.head (at_part buffer headers start filled spans read)))
 
 -- what is read behind the head is the result
-pub body_given : (method : Method) (old new chain : Option (List ℕ)) (buffer : List ℕ) (headers : List HeaderSpan) (start filled : ℕ) (spans : ResponseSpans) (judgement : Judgement)
+pub body_given : (method : Method) (old new chain : Option (List ℕ)) (buffer : List ℕ) (headers : List HeaderSpan) (start filled : ℕ) (spans : ResponseSpans) (announcement : Announcement)
     (result : Result Got HttpFault)
     → IsHeadRead buffer headers start filled spans → Consumes old new (take filled buffer)
-    → ((head : ResponseHead) → IsResponseAt (take (filled - start) (drop start buffer)) headers spans head → Ok judgement ≡ judged method head)
-    → chain ≡ option_append (Some (ahead_of buffer start filled spans)) new → IfSome chain (λ text. IsGot judgement text result) → IfSome old (λ text. IsReply method text result)
-body_given method None new chain buffer headers start filled spans judgement result read taken says e is = tt
-body_given method (Some text) None chain buffer headers start filled spans judgement result read taken says e is = absurd taken
-body_given method (Some text) (Some rest) chain buffer headers start filled spans judgement result read taken says e is = inl (record {
+    → ((head : ResponseHead) → IsResponseAt (take (filled - start) (drop start buffer)) headers spans head → Ok announcement ≡ announcement_of method head)
+    → chain ≡ option_append (Some (ahead_of buffer start filled spans)) new → IfSome chain (λ text. IsGot announcement text result) → IfSome old (λ text. IsReply method text result)
+body_given method None new chain buffer headers start filled spans announcement result read taken says e is = tt
+body_given method (Some text) None chain buffer headers start filled spans announcement result read taken says e is = absurd taken
+body_given method (Some text) (Some rest) chain buffer headers start filled spans announcement result read taken says e is = inl (record {
   interim = read.reply.interim;
   head = read.reply.head;
   rest = ahead_of buffer start filled spans ++ rest;

@@ -47,15 +47,15 @@ file_reply head (Some file) =
     else part_reply (ask_for head (length file)) file
 
 -- the reply to a request with this head, whose target names this release, if any
-abbrev pub served : Files → RequestHead → Option Name → Reply
-served files head named =
+abbrev pub server_reply : Files → RequestHead → Option Name → Reply
+server_reply files head named =
     if lacks_host head then head_alone BadRequest
     else (if is_unsupported head then head_alone NotImplemented
     else file_reply head (option_and_then files named))
 
 -- the reply that does not depend on the files: the request is rejected, or does not name a release
-abbrev pub fileless : RequestHead → Option Name → Option Reply
-fileless head named =
+abbrev pub reply_without_file : RequestHead → Option Name → Option Reply
+reply_without_file head named =
     if lacks_host head then Some (head_alone BadRequest)
     else (if is_unsupported head then Some (head_alone NotImplemented)
     else option_map_or (λ name. None) named (Some (head_alone NotFound)))
