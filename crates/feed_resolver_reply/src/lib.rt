@@ -4,7 +4,7 @@
 
 mod escape;
 mod fault;
-mod fetch_reply;
+mod fetch_replies;
 mod form;
 mod json;
 mod laws;
@@ -16,7 +16,7 @@ mod status;
 
 pub use escape::put;
 pub use fault::{bad_head_response, refusal};
-pub use fetch_reply::fetch_reply;
+pub use fetch_replies::fetch_reply;
 pub use form::put_form;
 pub use json::{put_comma, put_list_end, put_list_start};
 pub use laws::{escaped_has_no_markup, escaped_reads_back, json_reads_back};
