@@ -1,7 +1,10 @@
 //! The records of a list, by their numbers: their lines in the file, and their fields.
+use crate::json::write_text;
 use csv::{ByteRecord, Reader};
 use feed_kbart::{DayRange, Label, REQUIRED_LABELS, Reason, record_reader, trim_spaces};
 use std::alloc::{AllocError, Global};
+use std::io;
+use std::io::Write;
 
 // How many labels there are: their places are 1 to this.
 const LABEL_COUNT: u8 = 13;
@@ -11,6 +14,7 @@ const BYTE_ORDER_MARK: [u8; 3] = [0xEF, 0xBB, 0xBF];
 /// A cursor over the records of a list, which begins at the header.
 #[derive(Drop)]
 pub struct Records<'a> {
+    alloc: Global,
     text: &'a [u8],
     reader: Reader<&'a [u8]>,
     fields: ByteRecord,
@@ -30,6 +34,7 @@ impl<'a> Records<'a> {
             .strip_prefix(BYTE_ORDER_MARK.as_slice())
             .unwrap_or(text);
         let mut records = Records {
+            alloc,
             text,
             reader: record_reader(alloc, text)?,
             fields: ByteRecord::new(alloc),
@@ -88,8 +93,13 @@ impl<'a> Records<'a> {
         self.line
     }
 
-    /// Returns the record's field under a label, which is empty if there is none.
-    pub fn field(&self, label: Label) -> &[u8] {
+    /// Writes the record's field under a label as a JSON string.
+    pub fn write_field<O: Write>(&self, out: &mut O, label: Label) -> io::Result<()> {
+        write_text(self.alloc, out, self.field(label))
+    }
+
+    // Returns the record's field under a label, which is empty if there is none.
+    fn field(&self, label: Label) -> &[u8] {
         let at = usize::from(label.place()).saturating_sub(1);
         match self.columns.get(at) {
             Some(Some(column)) => self.fields.get(*column).unwrap_or(&[]),

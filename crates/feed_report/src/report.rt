@@ -1,5 +1,5 @@
 //! The report on a checked list in each of its forms.
-use crate::json::{Commas, write_text};
+use crate::json::Commas;
 use crate::records::Records;
 use feed_kbart::{Aside, BadFile, FileCount, Label, Reason};
 use feed_names::ReleaseName;
@@ -103,60 +103,14 @@ impl Report<'_> {
     fn print_explained<O: Write>(&self, out: &mut O, count: &FileCount) -> io::Result<()> {
         print_rows(out, count)?;
         out.write_all(b"\n")?;
-        let mut records = Records::new(self.alloc, self.text)?;
-        self.print_explanations(out, &mut records, count.aside())
-    }
-
-    fn print_explanations<O: Write>(
-        &self,
-        out: &mut O,
-        records: &mut Records<'_>,
-        skipped: &[Aside],
-    ) -> io::Result<()> {
-        for record in skipped {
-            self.print_explanation(out, records, *record)?;
-        }
-        Ok(())
-    }
-
-    fn print_explanation<O: Write>(
-        &self,
-        out: &mut O,
-        records: &mut Records<'_>,
-        skipped: Aside,
-    ) -> io::Result<()> {
-        let Aside { number, reason } = skipped;
-        records.go_to(number)?;
-        let line = records.line();
-        write!(out, "aside {number} {reason}\n  line {line} ")?;
-        write_text(self.alloc, out, records.field(Label::PublicationTitle))?;
-        out.write_all(b"\n")?;
-        self.print_fields(out, records, reason)
-    }
-
-    // Prints the fields of the current record that a reason is about.
-    fn print_fields<O: Write>(
-        &self,
-        out: &mut O,
-        records: &Records<'_>,
-        reason: Reason,
-    ) -> io::Result<()> {
-        for label in CHECKED_LABELS {
-            if records.is_at_fault(label, reason) {
-                write!(out, "  {label} ")?;
-                write_text(self.alloc, out, records.field(label))?;
-                out.write_all(b"\n")?;
-            }
-        }
-        Ok(())
+        self.print_skipped(out, count.aside())
     }
 
     fn print_json<O: Write>(&self, out: &mut O, count: &FileCount) -> io::Result<()> {
         self.print_json_name(out)?;
         let rows = count.rows();
         write!(out, "\"rows\":{rows},\"aside\":[")?;
-        let mut records = Records::new(self.alloc, self.text)?;
-        self.print_json_records(out, &mut records, count.aside())?;
+        self.print_skipped(out, count.aside())?;
         out.write_all(b"]}\n")
     }
 
@@ -167,7 +121,13 @@ impl Report<'_> {
         out.write_all(b"\",")
     }
 
-    fn print_json_records<O: Write>(
+    // Prints the records that are skipped, explained or as JSON.
+    fn print_skipped<O: Write>(&self, out: &mut O, skipped: &[Aside]) -> io::Result<()> {
+        let mut records = Records::new(self.alloc, self.text)?;
+        self.print_records(out, &mut records, skipped)
+    }
+
+    fn print_records<O: Write>(
         &self,
         out: &mut O,
         records: &mut Records<'_>,
@@ -175,44 +135,12 @@ impl Report<'_> {
     ) -> io::Result<()> {
         let mut commas = Commas::new();
         for record in skipped {
-            commas.write(out)?;
-            self.print_json_record(out, records, *record)?;
-        }
-        Ok(())
-    }
-
-    fn print_json_record<O: Write>(
-        &self,
-        out: &mut O,
-        records: &mut Records<'_>,
-        skipped: Aside,
-    ) -> io::Result<()> {
-        let Aside { number, reason } = skipped;
-        records.go_to(number)?;
-        let line = records.line();
-        write!(
-            out,
-            "{{\"number\":{number},\"line\":{line},\"reason\":\"{reason}\",\"title\":"
-        )?;
-        write_text(self.alloc, out, records.field(Label::PublicationTitle))?;
-        out.write_all(b",\"values\":{")?;
-        self.print_json_fields(out, records, reason)?;
-        out.write_all(b"}}")
-    }
-
-    // Prints the members of an object that has the fields of the current record that a reason is about.
-    fn print_json_fields<O: Write>(
-        &self,
-        out: &mut O,
-        records: &Records<'_>,
-        reason: Reason,
-    ) -> io::Result<()> {
-        let mut commas = Commas::new();
-        for label in CHECKED_LABELS {
-            if records.is_at_fault(label, reason) {
+            records.go_to(record.number)?;
+            if self.form == Form::Json {
                 commas.write(out)?;
-                write!(out, "\"{label}\":")?;
-                write_text(self.alloc, out, records.field(label))?;
+                print_json_record(out, records, *record)?;
+            } else {
+                print_explanation(out, records, *record)?;
             }
         }
         Ok(())
@@ -251,6 +179,65 @@ impl Report<'_> {
         let records = Records::new(self.alloc, self.text)?;
         records.missing_labels(self.alloc)
     }
+}
+
+fn print_explanation<O: Write>(
+    out: &mut O,
+    records: &Records<'_>,
+    skipped: Aside,
+) -> io::Result<()> {
+    let Aside { number, reason } = skipped;
+    let line = records.line();
+    write!(out, "aside {number} {reason}\n  line {line} ")?;
+    records.write_field(out, Label::PublicationTitle)?;
+    out.write_all(b"\n")?;
+    print_fields(out, records, reason)
+}
+
+// Prints the fields of the current record that a reason is about.
+fn print_fields<O: Write>(out: &mut O, records: &Records<'_>, reason: Reason) -> io::Result<()> {
+    for label in CHECKED_LABELS {
+        if records.is_at_fault(label, reason) {
+            write!(out, "  {label} ")?;
+            records.write_field(out, label)?;
+            out.write_all(b"\n")?;
+        }
+    }
+    Ok(())
+}
+
+fn print_json_record<O: Write>(
+    out: &mut O,
+    records: &Records<'_>,
+    skipped: Aside,
+) -> io::Result<()> {
+    let line = records.line();
+    let Aside { number, reason } = skipped;
+    write!(
+        out,
+        "{{\"number\":{number},\"line\":{line},\"reason\":\"{reason}\",\"title\":"
+    )?;
+    records.write_field(out, Label::PublicationTitle)?;
+    out.write_all(b",\"values\":{")?;
+    print_json_fields(out, records, reason)?;
+    out.write_all(b"}}")
+}
+
+// Prints the same fields as the members of an object.
+fn print_json_fields<O: Write>(
+    out: &mut O,
+    records: &Records<'_>,
+    reason: Reason,
+) -> io::Result<()> {
+    let mut commas = Commas::new();
+    for label in CHECKED_LABELS {
+        if records.is_at_fault(label, reason) {
+            commas.write(out)?;
+            write!(out, "\"{label}\":")?;
+            records.write_field(out, label)?;
+        }
+    }
+    Ok(())
 }
 
 fn print_lines<O: Write>(out: &mut O, count: &FileCount) -> io::Result<()> {
