@@ -12,7 +12,7 @@ use Rattle.std.proofs.lemmas.List.Elements.{All-contains, Contains-append_left, 
 use Rattle.std.proofs.lemmas.List.Kept.{AllPairs-from_increasing}
 use Rattle.std.proofs.lemmas.Option.{slice_get-get_or}
 use Rattle.feed_kbart.specs.Identifiers.{kind, online_isbn, online_issn, print_isbn, print_issn}
-use Rattle.feed_kbart.specs.Places.{has_isbn, has_issn, is_own, place_by, places_by, places_with, places_with_isbn}
+use Rattle.feed_kbart.specs.Places.{has_isbn, has_issn, is_same_identifier, place_by, places_by, places_with, places_with_isbn}
 use Rattle.feed_kbart.specs.declared.identifiers.Kind.{Kind}
 use Rattle.feed_kbart.specs.declared.identifiers.Kind.TheVariants.{Serial, Book}
 use Rattle.feed_kbart.specs.HoldingsValue.{HoldingsValue}
@@ -91,7 +91,7 @@ is_itself : (identifier : List ℕ) → bytes_eq identifier identifier ≡ true
 is_itself identifier = (bytes_decides identifier identifier).1 refl
 
 named_has : (print online : Option (List ℕ)) (asked : List (List ℕ)) → (is_named print asked || is_named online asked) ≡ true
-    → (identifier : List ℕ) × ((is_own identifier print || is_own identifier online) ≡ true) × Contains asked identifier
+    → (identifier : List ℕ) × ((is_same_identifier identifier print || is_same_identifier identifier online) ≡ true) × Contains asked identifier
 named_has None None asked e = absurd (cc)
 named_has None (Some online) asked e = (online, is_itself online, among_is online asked e)
 named_has (Some print) None asked e = (print, rw (is_itself print) refl, among_is print asked (alone (is_among print asked) e))

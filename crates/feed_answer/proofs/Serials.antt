@@ -11,17 +11,17 @@ use Rattle.feed_kbart.specs.Columns.{cell, columns_of}
 use Rattle.feed_kbart.specs.Coverage.{book_coverage, book_reason, serial_coverage, serial_reason}
 use Rattle.feed_kbart.specs.Files.{holdings_in, holdings_of}
 use Rattle.feed_kbart.specs.Holdings.{holdings_from, row_at}
-use Rattle.feed_kbart.specs.Records.{records_of}
+use Rattle.feed_text.specs.Records.{records_of}
 use Rattle.feed_kbart.specs.Rows.{texts_of}
 use Rattle.feed_kbart.specs.RowValue.{RowValue, row_with}
 use Rattle.feed_answer.specs.Answers.{answer_of, hit_by}
 use Rattle.feed_answer.specs.Grades.{book_grade, serial_grade}
 use Rattle.feed_answer.specs.HitValue.{HitValue}
 use Rattle.feed_answer.specs.Limits.{query_limit}
-use Rattle.feed_answer.specs.Pairs.{book_format, first_days, first_volume, has_key, is_empty, is_other_format, is_other_version, issns_among, tells_format}
-use Rattle.feed_answer.specs.Queries.{asked_by, isbns_asked, query_of, tells_journal}
+use Rattle.feed_answer.specs.Pairs.{book_format, first_days, first_volume, has_key, is_empty, is_other_format, is_other_version, issns_among, has_format}
+use Rattle.feed_answer.specs.Queries.{query_of_pairs, query_isbns, query_of, has_journal_format}
 use Rattle.feed_answer.specs.QueryValue.{QueryValue}
-use Rattle.feed_answer.specs.Serials.{SerialAnswersStay, SerialQuery, is_other_than_journal, is_serial_hit, is_serial_type, serial_answer_of}
+use Rattle.feed_answer.specs.Serials.{SerialAnswersAreUnchanged, SerialQuery, is_other_than_journal, is_serial_hit, is_serial_type, serial_answer_of}
 use Rattle.feed_answer.specs.Serials.{serial_hit_by, serial_query_by, serial_query_of, serial_row_at, serial_rows_in}
 use Rattle.feed_answer.specs.declared.fault.QueryFault.TheVariants.{TooLong}
 use Rattle.feed_answer.specs.declared.grade.Grade.{Grade}
@@ -103,14 +103,14 @@ and_false : (b : Bool) → (b && false) ≡ false
 and_false true = refl
 and_false false = refl
 
-tells_none : (pair : List ℕ × List ℕ) → is_other_than_journal pair ≡ false → tells_format book_format pair ≡ false
+tells_none : (pair : List ℕ × List ℕ) → is_other_than_journal pair ≡ false → has_format book_format pair ≡ false
 tells_none (key, value) e = go (bytes_eq value book_format) refl
   where
     and_true : (b : Bool) → (b && true && true) ≡ false → (b && true) ≡ false
     and_true true h = h
     and_true false h = h
 
-    go : (b : Bool) → bytes_eq value book_format ≡ b → tells_format book_format (key, value) ≡ false
+    go : (b : Bool) → bytes_eq value book_format ≡ b → has_format book_format (key, value) ≡ false
     go false h = rw h (and_false (has_key (codes "rft_val_fmt") (key, value)))
     go true h =
         let is : value ≡ book_format = (bytes_decides value book_format).0 h in
@@ -132,34 +132,34 @@ none_of p q follows (x ∷ xs) e = rw (follows x (first _ _ e)) (none_of p q fol
     second false b h = h
 
 asked_still : (pairs : List (List ℕ × List ℕ)) (old : SerialQuery) → serial_query_by pairs ≡ Some old
-    → asked_by pairs ≡ Ok (with_isbns old (isbns_asked pairs))
+    → query_of_pairs pairs ≡ Ok (with_isbns old (query_isbns pairs))
 asked_still pairs old asked =
     go (list_any is_other_version pairs) (list_any is_other_than_journal pairs) (is_empty (issns_among pairs)) refl refl refl asked
   where
     go : (version format none : Bool) → list_any is_other_version pairs ≡ version → list_any is_other_than_journal pairs ≡ format
         → is_empty (issns_among pairs) ≡ none
         → (if version || (format || none) then None else Some (record { issns = issns_among pairs; days = first_days pairs; volume = first_volume pairs })) ≡ Some old
-        → asked_by pairs ≡ Ok (with_isbns old (isbns_asked pairs))
+        → query_of_pairs pairs ≡ Ok (with_isbns old (query_isbns pairs))
     go true format none v f n e = absurd (cc)
     go false true none v f n e = absurd (cc)
     go false false true v f n e = absurd (cc)
     go false false false v f n e =
         let other = none_of is_other_than_journal is_other_format is_none_other pairs f in
-        let book = none_of is_other_than_journal (tells_format book_format) tells_none pairs f in
+        let book = none_of is_other_than_journal (has_format book_format) tells_none pairs f in
         let same : record { issns = issns_among pairs; days = first_days pairs; volume = first_volume pairs } ≡ old = cc in
-        rw (v, other, book, and_false (tells_journal pairs), n) (ap (λ (o : SerialQuery). Ok (with_isbns o (isbns_asked pairs))) same)
+        rw (v, other, book, and_false (has_journal_format pairs), n) (ap (λ (o : SerialQuery). Ok (with_isbns o (query_isbns pairs))) same)
 
-query_asked : (query : List ℕ) (old : SerialQuery) → serial_query_of query ≡ Some old → query_of query ≡ Ok (with_isbns old (isbns_asked (form.parse query)))
+query_asked : (query : List ℕ) (old : SerialQuery) → serial_query_of query ≡ Some old → query_of query ≡ Ok (with_isbns old (query_isbns (form.parse query)))
 unfolding serial_query_of query_of
 query_asked query old asked = go (nat_lt query_limit (length query)) refl asked
   where
     go : (long : Bool) → nat_lt query_limit (length query) ≡ long → (if long then None else serial_query_by (form.parse query)) ≡ Some old
-        → (if nat_lt query_limit (length query) then Err TooLong else asked_by (form.parse query)) ≡ Ok (with_isbns old (isbns_asked (form.parse query)))
+        → (if nat_lt query_limit (length query) then Err TooLong else query_of_pairs (form.parse query)) ≡ Ok (with_isbns old (query_isbns (form.parse query)))
     go true h e = absurd (cc)
     go false h e = rw h (asked_still (form.parse query) old e)
 
-pub answers_stay : SerialAnswersStay
+pub answers_stay : SerialAnswersAreUnchanged
 unfolding holdings_of serial_answer_of answer_of
 answers_stay text query old asked =
-    let isbns = isbns_asked (form.parse query) in
+    let isbns = query_isbns (form.parse query) in
     (with_isbns old isbns, query_asked query old asked, text_kept old isbns (records_of text))

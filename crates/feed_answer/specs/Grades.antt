@@ -17,20 +17,20 @@ grade_text Overlap = codes "overlap"
 grade_text Inside = codes "inside"
 
 -- coverage has begun by a day; without a first day it always has
-abbrev pub begins_by : Option ℤ → ℤ → Bool
-begins_by None day = true
-begins_by (Some first) day = int_le first day
+abbrev pub has_begun_by : Option ℤ → ℤ → Bool
+has_begun_by None day = true
+has_begun_by (Some first) day = int_le first day
 
 -- coverage lasts to a day; without a last day it has no end
-abbrev pub lasts_to : Option ℤ → ℤ → Bool
-lasts_to None day = true
-lasts_to (Some last) day = int_le day last
+abbrev pub has_not_ended_before : Option ℤ → ℤ → Bool
+has_not_ended_before None day = true
+has_not_ended_before (Some last) day = int_le day last
 
 -- the grade by dates, if they are tested: `Inside` if coverage includes all of the query's days, `Overlap` if only some
 abbrev pub tested_days : Option ℤ → Option ℤ → DayRange → Option Grade
 tested_days first last days =
-    if begins_by first days.last && lasts_to last days.first
-    then Some (if begins_by first days.first && lasts_to last days.last then Inside else Overlap)
+    if has_begun_by first days.last && has_not_ended_before last days.first
+    then Some (if has_begun_by first days.first && has_not_ended_before last days.last then Inside else Overlap)
     else None
 
 -- the grade by the dates alone; they are tested if both the query and the row have one
@@ -40,18 +40,18 @@ days_grade None None (Some days) = Some Untested
 days_grade first last (Some days) = tested_days first last days
 
 -- a volume is not below a first one; without a first one the side is open
-abbrev pub not_below : Option ℕ → ℕ → Bool
-not_below None volume = true
-not_below (Some first) volume = nat_le first volume
+abbrev pub is_not_below : Option ℕ → ℕ → Bool
+is_not_below None volume = true
+is_not_below (Some first) volume = nat_le first volume
 
 -- a volume is not above a last one; without a last one the side is open
-abbrev pub not_above : Option ℕ → ℕ → Bool
-not_above None volume = true
-not_above (Some last) volume = nat_le volume last
+abbrev pub is_not_above : Option ℕ → ℕ → Bool
+is_not_above None volume = true
+is_not_above (Some last) volume = nat_le volume last
 
 -- the grade by volumes, if they are tested: the query's is between the row's
 abbrev pub tested_volume : Option ℕ → Option ℕ → ℕ → Option Grade
-tested_volume first last volume = if not_below first volume && not_above last volume then Some Inside else None
+tested_volume first last volume = if is_not_below first volume && is_not_above last volume then Some Inside else None
 
 -- the grade by the volumes alone; they are tested if both the query and the row have one
 abbrev pub volume_grade : Option ℕ → Option ℕ → Option ℕ → Option Grade

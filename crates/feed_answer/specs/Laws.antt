@@ -2,17 +2,17 @@
 use Rattle.std.specs.Prelude.{◌≡◌, ◌↔◌, ℕ, List, Option, Some, None, true, ℤ, ◌≤ℤ◌}
 use Rattle.feed_dates.specs.declared.day_range.DayRange.{DayRange}
 use Rattle.feed_answer.specs.IdentifierSet.{is_among, identifier_set}
-use Rattle.feed_answer.specs.Grades.{begins_by, lasts_to, tested_days}
+use Rattle.feed_answer.specs.Grades.{has_begun_by, has_not_ended_before, tested_days}
 use Rattle.feed_answer.specs.declared.grade.Grade.TheVariants.{Inside}
 
 -- the set of a list's identifiers has each identifier of the list, and no other
-abbrev pub SetHasJustItsIdentifiers : Type 0
-SetHasJustItsIdentifiers = (identifiers : List (List ℕ)) (one : List ℕ) → is_among one (identifier_set identifiers) ≡ is_among one identifiers
+abbrev pub SetHasExactlyItsIdentifiers : Type 0
+SetHasExactlyItsIdentifiers = (identifiers : List (List ℕ)) (one : List ℕ) → is_among one (identifier_set identifiers) ≡ is_among one identifiers
 
 -- a day is covered from a first day to a last; a missing side is open
 pub record IsCovered (first last : Option ℤ) (day : ℤ) : Type 0 where
-  pub begun : begins_by first day ≡ true
-  pub lasting : lasts_to last day ≡ true
+  pub begun : has_begun_by first day ≡ true
+  pub lasting : has_not_ended_before last day ≡ true
 
 -- a day is among those asked for
 pub record IsAsked (days : DayRange) (day : ℤ) : Type 0 where
@@ -25,7 +25,7 @@ pub record AreGradedByDays (first last : Option ℤ) (days : DayRange) : Type 0 
   pub inside : (tested_days first last days ≡ Some Inside) ↔ ((day : ℤ) → IsAsked days day → IsCovered first last day)
 
 -- for all coverage with at least one day, and all days of a query
-abbrev pub GradesSpeakOfDays : Type 0
-GradesSpeakOfDays =
+abbrev pub GradesFollowDays : Type 0
+GradesFollowDays =
     (first last : Option ℤ) (days : DayRange) (some : ℤ) → IsCovered first last some → days.first ≤ℤ days.last
     → AreGradedByDays first last days

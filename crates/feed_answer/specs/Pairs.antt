@@ -5,7 +5,7 @@ use Rattle.std.specs.Str.{bytes_eq, str_eq_ignore_ascii_case}
 use Rattle.feed_identifiers.specs.Isbn.{isbn_of}
 use Rattle.feed_identifiers.specs.Issn.{issn_of}
 use Rattle.feed_identifiers.specs.Text.{trimmed}
-use Rattle.feed_kbart.specs.Text.{volume_of}
+use Rattle.feed_kbart.specs.Volumes.{volume_of}
 use Rattle.feed_dates.specs.DayRanges.{query_days_of}
 use Rattle.feed_dates.specs.declared.day_range.DayRange.{DayRange}
 use Rattle.feed_answer.specs.IdentifierSet.{identifier_set}
@@ -36,20 +36,20 @@ abbrev pub book_format : List ℕ
 book_format = codes "info:ofi/fmt:kev:mtx:book"
 
 -- a pair names this format
-abbrev pub tells_format : List ℕ → List ℕ × List ℕ → Bool
-tells_format format pair = has_key (codes "rft_val_fmt") pair && bytes_eq pair.1 format
+abbrev pub has_format : List ℕ → List ℕ × List ℕ → Bool
+has_format format pair = has_key (codes "rft_val_fmt") pair && bytes_eq pair.1 format
 
 -- a pair names a format that is neither that of journals nor that of books
 abbrev pub is_other_format : List ℕ × List ℕ → Bool
 is_other_format pair = is_other (codes "rft_val_fmt") journal_format pair && not (bytes_eq pair.1 book_format)
 
 -- a text begins with this prefix, ignoring the case of ASCII letters
-abbrev pub is_begun_by : List ℕ → List ℕ → Bool
-is_begun_by front text = str_eq_ignore_ascii_case (take (length front) text) front
+abbrev pub has_prefix : List ℕ → List ℕ → Bool
+has_prefix front text = str_eq_ignore_ascii_case (take (length front) text) front
 
 -- the ISSN of a `urn:ISSN:` name (RFC 3044)
 abbrev pub issn_of_urn : List ℕ → Option (List ℕ)
-issn_of_urn name = if is_begun_by (codes "urn:ISSN:") name then issn_of (drop 9 name) else None
+issn_of_urn name = if has_prefix (codes "urn:ISSN:") name then issn_of (drop 9 name) else None
 
 -- the ISSN that a pair names
 abbrev pub issn_of_pair : List ℕ × List ℕ → Option (List ℕ)

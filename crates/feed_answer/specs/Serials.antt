@@ -10,7 +10,7 @@ use Rattle.feed_kbart.specs.Coverage as coverage
 use Rattle.feed_kbart.specs.Coverage.{serial_coverage, serial_reason}
 use Rattle.feed_kbart.specs.Files.{holdings_of}
 use Rattle.feed_kbart.specs.Identifiers.{kind, online_issn, print_issn}
-use Rattle.feed_kbart.specs.Records.{records_of}
+use Rattle.feed_text.specs.Records.{records_of}
 use Rattle.feed_kbart.specs.Rows.{texts_of}
 use Rattle.feed_kbart.specs.RowValue.{RowValue, row_with}
 use Rattle.feed_kbart.specs.declared.identifiers.Kind.{Kind}
@@ -80,7 +80,7 @@ abbrev pub is_serial_hit : HitValue → Bool
 is_serial_hit hit = is_serial (kind hit.row.identifiers)
 
 -- every query that was accepted is still accepted, and in every list its hits on serials and their grades are the same
-abbrev pub SerialAnswersStay : Type 0
-SerialAnswersStay =
+abbrev pub SerialAnswersAreUnchanged : Type 0
+SerialAnswersAreUnchanged =
     (text query : List ℕ) (old : SerialQuery) → serial_query_of query ≡ Some old
     → (new : QueryValue) × (query_of query ≡ Ok new) × (filter is_serial_hit (answer_of (holdings_of text) new) ≡ serial_answer_of text old)

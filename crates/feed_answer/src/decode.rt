@@ -11,7 +11,7 @@ use std::alloc::{AllocError, Global};
 use std::borrow::CowSlice;
 
 // The text with a space for each `+`.
-fn spaced(alloc: Global, text: &[u8]) -> Result<Vec<u8>, AllocError>
+fn replace_plus(alloc: Global, text: &[u8]) -> Result<Vec<u8>, AllocError>
     ensures { IfOk result (λ v. v.items ≡ map form.plus_to_space text.now) }
 {
     let mut spaced = Vec::with_capacity(alloc, text.len())?;
@@ -22,7 +22,7 @@ fn spaced(alloc: Global, text: &[u8]) -> Result<Vec<u8>, AllocError>
 }
 
 // The text with the byte for each `%` that two hexadecimal digits follow.
-fn unescaped(alloc: Global, text: &[u8]) -> Result<Vec<u8>, AllocError>
+fn unescape(alloc: Global, text: &[u8]) -> Result<Vec<u8>, AllocError>
     ensures { IfOk result (λ v. v.items ≡ percent.percent_decode text.now) }
 {
     let mut bytes = Vec::with_capacity(alloc, text.len())?;
@@ -32,24 +32,24 @@ fn unescaped(alloc: Global, text: &[u8]) -> Result<Vec<u8>, AllocError>
 
 // Decodes a key or a value: `+` is a space, and `%` with two hexadecimal digits is a byte. Any other `%` is
 // itself. A text that has neither is borrowed.
-fn decoded(alloc: Global, text: &[u8]) -> Result<CowSlice<'_, u8, Global>, AllocError>
+fn decode(alloc: Global, text: &[u8]) -> Result<CowSlice<'_, u8, Global>, AllocError>
     ensures { IfOk result (λ v. cow_slice_items v ≡ form.decode text.now) }
 {
     if !text.contains(&b'+') {
         return percent_decode(text).into_cow(alloc);
     }
-    let spaced = spaced(alloc, text)?;
-    Ok(CowSlice::Owned(unescaped(alloc, &spaced)?))
+    let spaced = replace_plus(alloc, text)?;
+    Ok(CowSlice::Owned(unescape(alloc, &spaced)?))
 }
 
 /// Returns the pairs of a query, in order. Skips empty pieces between `&`. A key without `=` has the empty value.
-pub(crate) fn decoded_pairs(alloc: Global, text: &[u8]) -> Result<Vec<Pair<'_>>, AllocError>
+pub(crate) fn decode_pairs(alloc: Global, text: &[u8]) -> Result<Vec<Pair<'_>>, AllocError>
     ensures { IfOk result (λ pairs. pairs.items ≡ form.parse text.now) }
 {
     let mut pairs = Vec::new(alloc);
     for (key, value) in raw_pairs(text) {
-        let key = decoded(alloc, key)?;
-        let value = decoded(alloc, value)?;
+        let key = decode(alloc, key)?;
+        let value = decode(alloc, value)?;
         pairs.push(Pair::of(key, value))?;
     }
     Ok(pairs)

@@ -1,11 +1,12 @@
 //! Grades: how well a row covers the days or the volume that a query asks for.
 ghost use Rattle.std.specs.Prelude.{◌≡◌, Some};
-ghost use Rattle.feed_answer.specs.Grades.{begins_by, book_grade, days_grade, grade_of, is_named};
-ghost use Rattle.feed_answer.specs.Grades.{lasts_to, serial_grade, volume_grade};
+ghost use Rattle.feed_answer.specs.Grades.{has_begun_by, book_grade, days_grade, grade_of, is_named};
+ghost use Rattle.feed_answer.specs.Grades.{has_not_ended_before, serial_grade, volume_grade};
 
 use crate::query::Query;
+use feed_dates::DayRange;
 use feed_identifiers::{Isbn, Issn};
-use feed_kbart::{DayRange, Kind, Row};
+use feed_kbart::{Kind, Row};
 use std::fmt;
 
 /// The grade of a match: how well the row covers what the query asks for.
@@ -34,15 +35,15 @@ impl fmt::Display for Grade {
 }
 
 // Returns whether coverage has begun by a day. Without a first day it always has.
-fn begins_by(first: Option<i32>, day: i32) -> bool
-    ensures { result ≡ begins_by first day }
+fn has_begun_by(first: Option<i32>, day: i32) -> bool
+    ensures { result ≡ has_begun_by first day }
 {
     first.is_none_or(|first| first <= day)
 }
 
 // Returns whether coverage lasts to a day. Without a last day it has no end.
-fn lasts_to(last: Option<i32>, day: i32) -> bool
-    ensures { result ≡ lasts_to last day }
+fn has_not_ended_before(last: Option<i32>, day: i32) -> bool
+    ensures { result ≡ has_not_ended_before last day }
 {
     last.is_none_or(|last| day <= last)
 }
@@ -57,9 +58,9 @@ fn days_grade(row: &Row, days: Option<DayRange>) -> Option<Grade>
     let (first, last) = (row.first_day(), row.last_day());
     if first.is_none() && last.is_none() {
         Some(Grade::Untested)
-    } else if !(begins_by(first, days.last) && lasts_to(last, days.first)) {
+    } else if !(has_begun_by(first, days.last) && has_not_ended_before(last, days.first)) {
         None
-    } else if begins_by(first, days.first) && lasts_to(last, days.last) {
+    } else if has_begun_by(first, days.first) && has_not_ended_before(last, days.last) {
         Some(Grade::Inside)
     } else {
         Some(Grade::Overlap)

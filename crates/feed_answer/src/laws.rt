@@ -1,20 +1,20 @@
 //! Laws of queries and grades, each stated as the contract of a function with an empty body.
-ghost use Rattle.feed_answer.specs.Laws.{GradesSpeakOfDays, SetHasJustItsIdentifiers};
-ghost use Rattle.feed_answer.specs.Serials.{SerialAnswersStay};
+ghost use Rattle.feed_answer.specs.Laws.{GradesFollowDays, SetHasExactlyItsIdentifiers};
+ghost use Rattle.feed_answer.specs.Serials.{SerialAnswersAreUnchanged};
 
 /// The set of a list's identifiers has each identifier of the list, and no other.
-pub fn set_has_just_its_identifiers()
-    ensures { SetHasJustItsIdentifiers }
+pub fn set_has_exactly_its_identifiers()
+    ensures { SetHasExactlyItsIdentifiers }
 {}
 
 /// By its dates alone, a row does not match exactly if no day asked for is covered, and it is `Inside` exactly if
 /// each is.
-pub fn grades_speak_of_days()
-    ensures { GradesSpeakOfDays }
+pub fn grades_follow_days()
+    ensures { GradesFollowDays }
 {}
 
 /// The answers on serials are the same as in the versions that had serials only: every query that was accepted is
 /// still accepted, and in every list its hits on serials' rows are the same, with the same grades.
-pub fn serial_answers_stay()
-    ensures { SerialAnswersStay }
+pub fn serial_answers_are_unchanged()
+    ensures { SerialAnswersAreUnchanged }
 {}

@@ -16,6 +16,8 @@ mod query;
 pub use crate::fault::{QueryFault, WriteFault};
 pub use crate::grade::Grade;
 pub use crate::hits::{Answer, Hit};
-pub use crate::laws::{grades_speak_of_days, serial_answers_stay, set_has_just_its_identifiers};
+pub use crate::laws::{
+    grades_follow_days, serial_answers_are_unchanged, set_has_exactly_its_identifiers,
+};
 pub use crate::matching::answer;
 pub use crate::query::{QUERY_LIMIT, Query};

@@ -1,10 +1,11 @@
 //! One key/value pair of a query, and its meaning (ANSI/NISO Z39.88-2004).
 ghost use Rattle.std.specs.Prelude.{◌≡◌};
 ghost use Rattle.feed_answer.specs.Pairs.{days_of_pair, has_key, is_other, is_other_format, is_other_version};
-ghost use Rattle.feed_answer.specs.Pairs.{isbn_of_pair, issn_of_pair, issn_of_urn, tells_format, volume_of_pair};
+ghost use Rattle.feed_answer.specs.Pairs.{isbn_of_pair, issn_of_pair, issn_of_urn, has_format, volume_of_pair};
 
+use feed_dates::DayRange;
 use feed_identifiers::{Isbn, Issn, trim_spaces};
-use feed_kbart::{DayRange, read_volume};
+use feed_kbart::read_volume;
 use std::alloc::Global;
 use std::borrow::CowSlice;
 use std::marker::Model;
@@ -65,8 +66,8 @@ impl<'a> Pair<'a> {
     }
 
     /// Returns whether it names this format.
-    pub(crate) fn tells_format(&self, format: &str) -> bool
-        ensures { result ≡ tells_format format.now self.now }
+    pub(crate) fn has_format(&self, format: &str) -> bool
+        ensures { result ≡ has_format format.now self.now }
     {
         self.has_key("rft_val_fmt") && self.value.as_slice() == format.as_bytes()
     }

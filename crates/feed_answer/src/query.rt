@@ -4,15 +4,15 @@ ghost use Rattle.std.specs.List.{list_any};
 ghost use Rattle.std.specs.BTreeSet.{insert_key};
 ghost use Rattle.feed_answer.specs.IdentifierSet.{IsAscending, bytes_cmp};
 ghost use Rattle.feed_answer.specs.Pairs.{first_days, first_volume, is_other_format, is_other_version};
-ghost use Rattle.feed_answer.specs.Pairs.{isbns_among, issns_among, tells_format};
-ghost use Rattle.feed_answer.specs.Queries.{has_other_format, isbns_asked, issns_asked, tells_book};
+ghost use Rattle.feed_answer.specs.Pairs.{isbns_among, issns_among, has_format};
+ghost use Rattle.feed_answer.specs.Queries.{has_other_format, query_isbns, query_issns, has_book_format};
 ghost use Rattle.feed_answer.specs.declared.fault.QueryFault.TheVariants as fault;
 
-use crate::decode::decoded_pairs;
+use crate::decode::decode_pairs;
 use crate::fault::QueryFault;
 use crate::pair::{BOOK, JOURNAL, Pair};
+use feed_dates::DayRange;
 use feed_identifiers::{Isbn, Issn};
-use feed_kbart::DayRange;
 use std::alloc::{AllocError, Global};
 use std::cmp::Ordering;
 use std::marker::Model;
@@ -42,7 +42,7 @@ impl Model for Query {
 
 impl Query {
     ghost use Rattle.feed_answer.specs.IdentifierSet.{IsAscending};
-    ghost use Rattle.feed_answer.specs.Queries.{IsReadOf};
+    ghost use Rattle.feed_answer.specs.Queries.{IsQueryResult};
 
     /// Parses the bytes after the `?` of an OpenURL: pairs of `application/x-www-form-urlencoded` text. Keys are
     /// compared exactly.
@@ -60,20 +60,20 @@ impl Query {
     /// `NoIssn`.
     #[tactic(auto, unfolding(crate::specs::Queries::query_of))]
     pub fn read(alloc: Global, text: &[u8]) -> Result<Query, QueryFault>
-        ensures { IsReadOf text.now result }
+        ensures { IsQueryResult text.now result }
     {
         if text.len() > QUERY_LIMIT {
             return Err(QueryFault::TooLong);
         }
-        let pairs = decoded_pairs(alloc, text)?;
+        let pairs = decode_pairs(alloc, text)?;
         if has_other_version(&pairs) {
             return Err(QueryFault::Version);
         }
         if has_other_format(&pairs) {
             return Err(QueryFault::OtherFormat);
         }
-        let issns = issns_asked(alloc, &pairs)?;
-        let isbns = isbns_asked(alloc, &pairs)?;
+        let issns = query_issns(alloc, &pairs)?;
+        let isbns = query_isbns(alloc, &pairs)?;
         if issns.is_empty() && isbns.is_empty() {
             return Err(without_identifiers(&pairs));
         }
@@ -123,14 +123,14 @@ fn has_other_version(pairs: &[Pair<'_>]) -> bool
 }
 
 // Returns whether one of the pairs names this format.
-fn tells_format(pairs: &[Pair<'_>], format: &str) -> bool
-    ensures { result ≡ list_any (tells_format format.now) pairs.now }
+fn has_format(pairs: &[Pair<'_>], format: &str) -> bool
+    ensures { result ≡ list_any (has_format format.now) pairs.now }
 {
-    pairs.iter().any(|pair| pair.tells_format(format))
+    pairs.iter().any(|pair| pair.has_format(format))
 }
 
 // Returns whether one of the pairs names a format other than those of journals and of books.
-fn tells_neither(pairs: &[Pair<'_>]) -> bool
+fn has_unsupported_format(pairs: &[Pair<'_>]) -> bool
     ensures { result ≡ list_any is_other_format pairs.now }
 {
     pairs.iter().any(|pair| pair.is_other_format())
@@ -139,14 +139,14 @@ fn tells_neither(pairs: &[Pair<'_>]) -> bool
 fn has_other_format(pairs: &[Pair<'_>]) -> bool
     ensures { result ≡ has_other_format pairs.now }
 {
-    tells_neither(pairs) || (tells_format(pairs, JOURNAL) && tells_format(pairs, BOOK))
+    has_unsupported_format(pairs) || (has_format(pairs, JOURNAL) && has_format(pairs, BOOK))
 }
 
 // The error for a query without identifiers.
 fn without_identifiers(pairs: &[Pair<'_>]) -> QueryFault
-    ensures { result ≡ (if tells_book pairs.now then fault.NoIsbn else fault.NoIssn) }
+    ensures { result ≡ (if has_book_format pairs.now then fault.NoIsbn else fault.NoIssn) }
 {
-    if tells_format(pairs, BOOK) {
+    if has_format(pairs, BOOK) {
         QueryFault::NoIsbn
     } else {
         QueryFault::NoIssn
@@ -196,22 +196,22 @@ fn isbns_among(alloc: Global, pairs: &[Pair<'_>]) -> Result<Vec<Isbn>, AllocErro
 }
 
 // The ISSNs asked for. In the format of books they do not count.
-fn issns_asked(alloc: Global, pairs: &[Pair<'_>]) -> Result<Vec<Issn>, AllocError>
-    ensures value { IfOk result (λ issns. issns.items ≡ issns_asked pairs.now) }
+fn query_issns(alloc: Global, pairs: &[Pair<'_>]) -> Result<Vec<Issn>, AllocError>
+    ensures value { IfOk result (λ issns. issns.items ≡ query_issns pairs.now) }
     ensures ascending { IfOk result (λ issns. IsAscending issns.items) }
 {
-    if tells_format(pairs, BOOK) {
+    if has_format(pairs, BOOK) {
         return Ok(Vec::new(alloc));
     }
     issns_among(alloc, pairs)
 }
 
 // The ISBNs asked for. In the format of journals they do not count.
-fn isbns_asked(alloc: Global, pairs: &[Pair<'_>]) -> Result<Vec<Isbn>, AllocError>
-    ensures value { IfOk result (λ isbns. isbns.items ≡ isbns_asked pairs.now) }
+fn query_isbns(alloc: Global, pairs: &[Pair<'_>]) -> Result<Vec<Isbn>, AllocError>
+    ensures value { IfOk result (λ isbns. isbns.items ≡ query_isbns pairs.now) }
     ensures ascending { IfOk result (λ isbns. IsAscending isbns.items) }
 {
-    if tells_format(pairs, JOURNAL) {
+    if has_format(pairs, JOURNAL) {
         return Ok(Vec::new(alloc));
     }
     isbns_among(alloc, pairs)

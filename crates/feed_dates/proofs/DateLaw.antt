@@ -6,8 +6,8 @@ use Rattle.std.proofs.lemmas.Bool.{cases_lt, eqb-true}
 use Rattle.jiff_core.specs.Calendar.{days_from_civil, days_in_month, IsCivilDate}
 use Rattle.jiff_core.proofs.CalendarLemmas.{day_count-lt_month, day_count-day, days_from_civil-day_count, days_in_month_bounds}
 use Rattle.jiff_core.proofs.SignedLemmas.{signed_arith}
-use Rattle.feed_dates.specs.Days.{IsDay, written, two, is_day, day_number, day_of_parts, four_digits, two_digits}
-use Rattle.feed_dates.specs.DayRanges.{range, alone, IsDayOf, AreDaysOf, IsDateLength, DatesAreRanges, days_of_year, days_of_month, days_of}
+use Rattle.feed_dates.specs.Days.{IsDay, ymd_text, two, is_day, day_number, day_of_parts, four_digits, two_digits}
+use Rattle.feed_dates.specs.DayRanges.{range, single_day, IsDayOf, AreDaysOf, IsDateLength, DatesAreRanges, days_of_year, days_of_month, days_of}
 use Rattle.feed_dates.specs.declared.day_range.DayRange.{DayRange}
 use Rattle.feed_dates.proofs.Dates.{civil, four_digits-written, is_day-real, real-is_day, two_digits-two, two-two_digits, two-four_digits}
 
@@ -48,7 +48,7 @@ year_last y m d h = elim (cases_lt m 12) [
 ]
 
 -- what a written date begins with reads as its year, its month and its day
-year-written : (y m k a b c d : ℕ) (rest : List ℕ) → IsDay y m k → written y m k ≡ a ∷ b ∷ c ∷ d ∷ rest → four_digits a b c d ≡ Some y
+year-written : (y m k a b c d : ℕ) (rest : List ℕ) → IsDay y m k → ymd_text y m k ≡ a ∷ b ∷ c ∷ d ∷ rest → four_digits a b c d ≡ Some y
 year-written y m k a b c d rest h w =
     let ea : a ≡ 48 + y / 100 / 10 % 10 = cc in
     let eb : b ≡ 48 + y / 100 % 10 = cc in
@@ -56,14 +56,14 @@ year-written y m k a b c d rest h w =
     let ed : d ≡ 48 + y % 10 = cc in
     rw (ea, eb, ec, ed) (four_digits-written y h.year_in.1)
 
-month-written : (y m k a b c d g e f : ℕ) (rest : List ℕ) → IsDay y m k → written y m k ≡ a ∷ b ∷ c ∷ d ∷ g ∷ e ∷ f ∷ rest → (g ≡ 45) × (two_digits e f ≡ Some m)
+month-written : (y m k a b c d g e f : ℕ) (rest : List ℕ) → IsDay y m k → ymd_text y m k ≡ a ∷ b ∷ c ∷ d ∷ g ∷ e ∷ f ∷ rest → (g ≡ 45) × (two_digits e f ≡ Some m)
 month-written y m k a b c d g e f rest h w =
     let eg : g ≡ 45 = cc in
     let ee : e ≡ 48 + m / 10 % 10 = cc in
     let ef : f ≡ 48 + m % 10 = cc in
     (eg, rw (ee, ef) (two_digits-two m (omega (arith, h.month_in))))
 
-day-written : (y m k a b c d g e f u i j : ℕ) (rest : List ℕ) → IsDay y m k → written y m k ≡ a ∷ b ∷ c ∷ d ∷ g ∷ e ∷ f ∷ u ∷ i ∷ j ∷ rest
+day-written : (y m k a b c d g e f u i j : ℕ) (rest : List ℕ) → IsDay y m k → ymd_text y m k ≡ a ∷ b ∷ c ∷ d ∷ g ∷ e ∷ f ∷ u ∷ i ∷ j ∷ rest
     → (u ≡ 45) × (two_digits i j ≡ Some k)
 day-written y m k a b c d g e f u i j rest h w =
     let eu : u ≡ 45 = cc in
@@ -85,24 +85,24 @@ both_real : (y m d m2 d2 : ℕ) → IsDay y m d → IsDay y m2 d2
 both_real y m d m2 d2 h k = rw (is_day-real y m d h, is_day-real y m2 d2 k) refl
 
 -- a day alone is real
-alone_some : (p : Bool) (u : ℤ) (days : DayRange) → option_map alone (cond p (Some u) None) ≡ Some days → (p ≡ true) × (days.first ≡ u) × (days.last ≡ u)
+alone_some : (p : Bool) (u : ℤ) (days : DayRange) → option_map single_day (cond p (Some u) None) ≡ Some days → (p ≡ true) × (days.first ≡ u) × (days.last ≡ u)
 alone_some true u days e =
     let same : days ≡ record { first = u; last = u } = cc in
     (refl, ap (λ r. r.first) same, ap (λ r. r.last) same)
 alone_some false u days e = cc
 
-alone_real : (y m d : ℕ) → IsDay y m d → option_map alone (day_number y m d) ≡ Some (record { first = days_from_civil (pos y) m d; last = days_from_civil (pos y) m d })
+alone_real : (y m d : ℕ) → IsDay y m d → option_map single_day (day_number y m d) ≡ Some (record { first = days_from_civil (pos y) m d; last = days_from_civil (pos y) m d })
 alone_real y m d h = rw (is_day-real y m d h) refl
 
 some_same : (m n : ℕ) (o : Option ℕ) → o ≡ Some m → o ≡ Some n → m ≡ n
 some_same m n o e f = cc
 
 -- a written date begins with its year, and with its year and its month
-begin_year : (y m k a b c d : ℕ) → two (y / 100) ++ two y ≡ a ∷ b ∷ c ∷ d ∷ [] → written y m k ≡ (a ∷ b ∷ c ∷ d ∷ []) ++ ((45 ∷ two m) ++ (45 ∷ two k))
+begin_year : (y m k a b c d : ℕ) → two (y / 100) ++ two y ≡ a ∷ b ∷ c ∷ d ∷ [] → ymd_text y m k ≡ (a ∷ b ∷ c ∷ d ∷ []) ++ ((45 ∷ two m) ++ (45 ∷ two k))
 begin_year y m k a b c d e = ap (λ front. front ++ (45 ∷ two m) ++ (45 ∷ two k)) e
 
 begin_month : (y m k a b c d e f : ℕ) → two (y / 100) ++ two y ≡ a ∷ b ∷ c ∷ d ∷ [] → two m ≡ e ∷ f ∷ []
-    → written y m k ≡ (a ∷ b ∷ c ∷ d ∷ 45 ∷ e ∷ f ∷ []) ++ (45 ∷ two k)
+    → ymd_text y m k ≡ (a ∷ b ∷ c ∷ d ∷ 45 ∷ e ∷ f ∷ []) ++ (45 ∷ two k)
 begin_month y m k a b c d e f p q = begin_year y m k a b c d p ∙ ap (λ back. (a ∷ b ∷ c ∷ d ∷ 45 ∷ back) ++ (45 ∷ two k)) q
 
 -- `YYYY`: a day's year reads, and so does the text
@@ -211,7 +211,7 @@ day-found : (a b c d e f i j : ℕ) (days : DayRange) → days_of (a ∷ b ∷ c
     → AreDaysOf (a ∷ b ∷ c ∷ d ∷ 45 ∷ e ∷ f ∷ 45 ∷ i ∷ j ∷ []) days
 day-found a b c d e f i j days is = go (four_digits a b c d) (two_digits e f) (two_digits i j) refl refl refl is
   where
-    go : (o p q : Option ℕ) → four_digits a b c d ≡ o → two_digits e f ≡ p → two_digits i j ≡ q → option_map alone (day_of_parts o p q) ≡ Some days
+    go : (o p q : Option ℕ) → four_digits a b c d ≡ o → two_digits e f ≡ p → two_digits i j ≡ q → option_map single_day (day_of_parts o p q) ≡ Some days
         → AreDaysOf (a ∷ b ∷ c ∷ d ∷ 45 ∷ e ∷ f ∷ 45 ∷ i ∷ j ∷ []) days
     go None p q r s t is = cc
     go (Some y) None q r s t is = cc
@@ -247,18 +247,18 @@ no_date : (text : List ℕ) → days_of text ≡ None → length text ≢ 4 → 
 no_date text none a b c = rw none (λ shape n h. elim shape [ inl e ↦ a e | inr rest ↦ elim rest [ inl e ↦ b e | inr e ↦ c e ] ])
 
 -- only hyphens separate the parts of a date
-month-hyphened : (a b c d g e f : ℕ) (days : DayRange) → days_of (a ∷ b ∷ c ∷ d ∷ g ∷ e ∷ f ∷ []) ≡ Some days → AreDaysOf (a ∷ b ∷ c ∷ d ∷ g ∷ e ∷ f ∷ []) days
-month-hyphened a b c d g e f days is = go (g == 45) refl is
+month-with_hyphens : (a b c d g e f : ℕ) (days : DayRange) → days_of (a ∷ b ∷ c ∷ d ∷ g ∷ e ∷ f ∷ []) ≡ Some days → AreDaysOf (a ∷ b ∷ c ∷ d ∷ g ∷ e ∷ f ∷ []) days
+month-with_hyphens a b c d g e f days is = go (g == 45) refl is
   where
     go : (p : Bool) → (g == 45) ≡ p → cond p (days_of_month (four_digits a b c d) (two_digits e f)) None ≡ Some days → AreDaysOf (a ∷ b ∷ c ∷ d ∷ g ∷ e ∷ f ∷ []) days
     go false test is = cc
     go true test is = let hyphen : g ≡ 45 = eqb-true g 45 test in rw hyphen (month-found a b c d e f days is)
 
-day-hyphened : (a b c d g e f u i j : ℕ) (days : DayRange) → days_of (a ∷ b ∷ c ∷ d ∷ g ∷ e ∷ f ∷ u ∷ i ∷ j ∷ []) ≡ Some days
+day-with_hyphens : (a b c d g e f u i j : ℕ) (days : DayRange) → days_of (a ∷ b ∷ c ∷ d ∷ g ∷ e ∷ f ∷ u ∷ i ∷ j ∷ []) ≡ Some days
     → AreDaysOf (a ∷ b ∷ c ∷ d ∷ g ∷ e ∷ f ∷ u ∷ i ∷ j ∷ []) days
-day-hyphened a b c d g e f u i j days is = go (g == 45) (u == 45) refl refl is
+day-with_hyphens a b c d g e f u i j days is = go (g == 45) (u == 45) refl refl is
   where
-    go : (p q : Bool) → (g == 45) ≡ p → (u == 45) ≡ q → option_map alone (cond (p && q) (day_of_parts (four_digits a b c d) (two_digits e f) (two_digits i j)) None) ≡ Some days
+    go : (p q : Bool) → (g == 45) ≡ p → (u == 45) ≡ q → option_map single_day (cond (p && q) (day_of_parts (four_digits a b c d) (two_digits e f) (two_digits i j)) None) ≡ Some days
         → AreDaysOf (a ∷ b ∷ c ∷ d ∷ g ∷ e ∷ f ∷ u ∷ i ∷ j ∷ []) days
     go false q test more is = cc
     go true false test more is = cc
@@ -269,9 +269,9 @@ day-hyphened a b c d g e f u i j days is = go (g == 45) (u == 45) refl refl is
 
 pub date-law : (text : List ℕ) → DatesAreRanges text
 date-law (a ∷ b ∷ c ∷ d ∷ []) = law (a ∷ b ∷ c ∷ d ∷ []) (year-found a b c d) (λ shape n h. year-reads a b c d n h)
-date-law (a ∷ b ∷ c ∷ d ∷ g ∷ e ∷ f ∷ []) = law (a ∷ b ∷ c ∷ d ∷ g ∷ e ∷ f ∷ []) (month-hyphened a b c d g e f) (λ shape n h. month-reads a b c d g e f n h)
+date-law (a ∷ b ∷ c ∷ d ∷ g ∷ e ∷ f ∷ []) = law (a ∷ b ∷ c ∷ d ∷ g ∷ e ∷ f ∷ []) (month-with_hyphens a b c d g e f) (λ shape n h. month-reads a b c d g e f n h)
 date-law (a ∷ b ∷ c ∷ d ∷ g ∷ e ∷ f ∷ u ∷ i ∷ j ∷ []) =
-    law (a ∷ b ∷ c ∷ d ∷ g ∷ e ∷ f ∷ u ∷ i ∷ j ∷ []) (day-hyphened a b c d g e f u i j) (λ shape n h. day-reads a b c d g e f u i j n h)
+    law (a ∷ b ∷ c ∷ d ∷ g ∷ e ∷ f ∷ u ∷ i ∷ j ∷ []) (day-with_hyphens a b c d g e f u i j) (λ shape n h. day-reads a b c d g e f u i j n h)
 date-law [] = no_date [] refl (λ e. omega (arith, e)) (λ e. omega (arith, e)) (λ e. omega (arith, e))
 date-law (a ∷ []) = no_date (a ∷ []) refl (λ e. omega (arith, e)) (λ e. omega (arith, e)) (λ e. omega (arith, e))
 date-law (a ∷ b ∷ []) = no_date (a ∷ b ∷ []) refl (λ e. omega (arith, e)) (λ e. omega (arith, e)) (λ e. omega (arith, e))

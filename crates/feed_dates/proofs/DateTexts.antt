@@ -6,7 +6,7 @@ use Rattle.jiff_core.specs.Calendar.{days_from_civil, IsCivilDate}
 use Rattle.jiff_core.proofs.CalendarLemmas.{day_count-lt_month, day_count-lt_year, day_count-day, days_from_civil-day_count, days_in_month_bounds}
 use Rattle.jiff_core.proofs.SignedLemmas.{signed_arith, one_part}
 use Rattle.feed_dates.proofs.Dates.{civil}
-use Rattle.feed_dates.specs.Days.{IsDay, written, last_begun, year_of, date_text, OneDateForDay}
+use Rattle.feed_dates.specs.Days.{IsDay, ymd_text, last_begun, year_of, date_text, OneDateForDay}
 
 -- the greatest number whose span has begun is found
 last_begun_is : (start : ℕ → ℤ) (n k : ℕ) (day : ℤ) → 1 ≤ k → k ≤ n → start k ≤ℤ day → ((j : ℕ) → k < j → j ≤ n → day <ℤ start j) → last_begun start n day ≡ k
@@ -57,7 +57,7 @@ place_in_month : (y m d : ℕ) → IsDay y m d → unsigned_abs (days_from_civil
 place_in_month y m d h =
     omega (arith, signed_arith, one_part (days_from_civil (pos y) m d -ℤ days_from_civil (pos y) m 1), days_from_civil-day_count, day_count-day (pos y) m 1 d (omega arith) h.day_in.0, h.day_in)
 
-date_text-day : (y m d : ℕ) → IsDay y m d → date_text (days_from_civil (pos y) m d) ≡ written y m d
+date_text-day : (y m d : ℕ) → IsDay y m d → date_text (days_from_civil (pos y) m d) ≡ ymd_text y m d
 date_text-day y m d h = rw (year_of-day y m d h, last_begun-month y m d h, place_in_month y m d h) refl
 
 -- the date of a day is the text of its number

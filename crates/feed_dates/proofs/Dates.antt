@@ -7,7 +7,7 @@ use Rattle.std.proofs.lemmas.Bool.Decides.{nat_tests, eqb_tells}
 use Rattle.jiff_core.specs.Calendar.{days_from_civil, IsCivilDate}
 use Rattle.jiff_core.proofs.CalendarLemmas.{days_in_month_bounds, day_count_bounds, days_from_civil-day_count}
 use Rattle.jiff_core.proofs.SignedLemmas.{signed_arith}
-use Rattle.feed_dates.specs.Days.{IsDay, IsDateOf, two, written, two_digits, four_digits, is_day, day_number, day_of_parts, day_of_date, OneDayForDate}
+use Rattle.feed_dates.specs.Days.{IsDay, IsDateOf, two, ymd_text, two_digits, four_digits, is_day, day_number, day_of_parts, day_of_date, OneDayForDate}
 use Rattle.feed_dates.specs.Days.{DayNumbersFit}
 
 -- a number below ten is written by a digit
@@ -35,7 +35,7 @@ pub is_day-real : (y m d : ℕ) → IsDay y m d → is_day y m d ≡ true
 is_day-real y m d h = grind (arith, nat_tests, h.year_in, h.month_in, h.day_in)
 
 -- a written date reads as its day
-pub day_of_date-written : (y m d : ℕ) → IsDay y m d → day_of_date (written y m d) ≡ Some (days_from_civil (pos y) m d)
+pub day_of_date-written : (y m d : ℕ) → IsDay y m d → day_of_date (ymd_text y m d) ≡ Some (days_from_civil (pos y) m d)
 day_of_date-written y m d h =
     let year = four_digits-written y h.year_in.1 in
     let month = two_digits-two m (omega (arith, h.month_in)) in
@@ -84,7 +84,7 @@ parts_written : (a b c d e f i j : ℕ) (oy om od : Option ℕ) (n : ℤ) → fo
     → day_of_parts oy om od ≡ Some n → IsDateOf n (a ∷ b ∷ c ∷ d ∷ 45 ∷ e ∷ f ∷ 45 ∷ i ∷ j ∷ [])
 parts_written a b c d e f i j (Some y) (Some m) (Some k) n ry rm rd s =
     let found = day_number-some y m k n s in
-    let spelled : written y m k ≡ a ∷ b ∷ c ∷ d ∷ 45 ∷ e ∷ f ∷ 45 ∷ i ∷ j ∷ [] =
+    let spelled : ymd_text y m k ≡ a ∷ b ∷ c ∷ d ∷ 45 ∷ e ∷ f ∷ 45 ∷ i ∷ j ∷ [] =
     ap (λ year. year ++ (45 ∷ two m) ++ (45 ∷ two k)) (two-four_digits a b c d y ry)
     ∙ ap (λ month. a ∷ b ∷ c ∷ d ∷ [] ++ (45 ∷ month) ++ (45 ∷ two k)) (two-two_digits e f m rm)
     ∙ ap (λ day. a ∷ b ∷ c ∷ d ∷ 45 ∷ e ∷ f ∷ 45 ∷ day) (two-two_digits i j k rd)

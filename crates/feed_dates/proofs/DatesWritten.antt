@@ -9,7 +9,7 @@ use Rattle.jiff_core.specs.Date.{epoch_day}
 use Rattle.jiff_core.proofs.CalendarLemmas.{day_count_bounds, days_from_civil-day_count}
 use Rattle.jiff_core.proofs.DateLemmas.{epoch_day_injective}
 use Rattle.jiff_core.proofs.SignedLemmas.{signed_arith, one_part}
-use Rattle.feed_dates.specs.Days.{IsDateOf, written, day_of_date, date_text, date_of_day}
+use Rattle.feed_dates.specs.Days.{IsDateOf, ymd_text, day_of_date, date_text, date_of_day}
 use Rattle.feed_dates.proofs.Dates.{civil, one_date, date_read}
 use Rattle.feed_dates.proofs.DateTexts.{date_is_text}
 
@@ -48,7 +48,7 @@ year_of_date n date text is h =
     rw same.0 (omega (arith, signed_arith, h.real.year_in))
 
 -- a date of the years 0001 to 9999 is written as its day's
-pub date_here : (n : ℤ) (date : Date) (text : List ℕ) → epoch_day date ≡ n → pos 1 ≤ℤ date.year → text ≡ written (unsigned_abs date.year) date.month date.day → IsDateOf n text
+pub date_here : (n : ℤ) (date : Date) (text : List ℕ) → epoch_day date ≡ n → pos 1 ≤ℤ date.year → text ≡ ymd_text (unsigned_abs date.year) date.month date.day → IsDateOf n text
 date_here n date text is year spelled =
     let same : pos (unsigned_abs date.year) ≡ date.year = omega (arith, signed_arith, one_part date.year) in
     record {

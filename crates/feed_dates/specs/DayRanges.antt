@@ -1,7 +1,7 @@
 -- The range of days that a date text covers: a year, a month or a day.
 use Rattle.std.specs.Prelude.{◌==◌, Option, Some, None, if◌then◌else◌, option_map, ◌≡◌, ℕ, ◌⊎◌, List, [], ◌∷◌, ◌++◌, length, ℤ, pos, ◌≤ℤ◌, MatchOption}
 use Rattle.jiff_core.specs.Calendar.{days_from_civil, days_in_month}
-use Rattle.feed_dates.specs.Days.{IsDay, day_number, day_of_date, four_digits, two_digits, written}
+use Rattle.feed_dates.specs.Days.{IsDay, day_number, day_of_date, four_digits, two_digits, ymd_text}
 use Rattle.feed_dates.specs.declared.day_range.DayRange.{DayRange}
 
 -- the range from one day to another, if both are real
@@ -23,25 +23,25 @@ days_of_month None month = None
 days_of_month (Some year) None = None
 
 -- a day alone
-abbrev pub alone : ℤ → DayRange
-alone day = record { first = day; last = day }
+abbrev pub single_day : ℤ → DayRange
+single_day day = record { first = day; last = day }
 
 -- the days of a date `YYYY`, `YYYY-MM` or `YYYY-MM-DD`; any other text has none
 abbrev pub days_of : List ℕ → Option DayRange
 days_of (a ∷ b ∷ c ∷ d ∷ []) = days_of_year (four_digits a b c d)
 days_of (a ∷ b ∷ c ∷ d ∷ h ∷ e ∷ f ∷ []) = if h == 45 then days_of_month (four_digits a b c d) (two_digits e f) else None
-days_of (a ∷ b ∷ c ∷ d ∷ h ∷ e ∷ f ∷ k ∷ i ∷ j ∷ []) = option_map alone (day_of_date (a ∷ b ∷ c ∷ d ∷ h ∷ e ∷ f ∷ k ∷ i ∷ j ∷ []))
+days_of (a ∷ b ∷ c ∷ d ∷ h ∷ e ∷ f ∷ k ∷ i ∷ j ∷ []) = option_map single_day (day_of_date (a ∷ b ∷ c ∷ d ∷ h ∷ e ∷ f ∷ k ∷ i ∷ j ∷ []))
 days_of _ = None
 
 -- a date of a query, in the form of a coverage date: `YYYYMM` and `YYYYMMDD` get their hyphens
-abbrev pub hyphened : List ℕ → List ℕ
-hyphened (a ∷ b ∷ c ∷ d ∷ e ∷ f ∷ []) = a ∷ b ∷ c ∷ d ∷ 45 ∷ e ∷ f ∷ []
-hyphened (a ∷ b ∷ c ∷ d ∷ e ∷ f ∷ g ∷ h ∷ []) = a ∷ b ∷ c ∷ d ∷ 45 ∷ e ∷ f ∷ 45 ∷ g ∷ h ∷ []
-hyphened text = text
+abbrev pub with_hyphens : List ℕ → List ℕ
+with_hyphens (a ∷ b ∷ c ∷ d ∷ e ∷ f ∷ []) = a ∷ b ∷ c ∷ d ∷ 45 ∷ e ∷ f ∷ []
+with_hyphens (a ∷ b ∷ c ∷ d ∷ e ∷ f ∷ g ∷ h ∷ []) = a ∷ b ∷ c ∷ d ∷ 45 ∷ e ∷ f ∷ 45 ∷ g ∷ h ∷ []
+with_hyphens text = text
 
 -- the days of a date of a query
 abbrev pub query_days_of : List ℕ → Option DayRange
-query_days_of text = days_of (hyphened text)
+query_days_of text = days_of (with_hyphens text)
 
 -- the number of a day whose written date begins with the text
 pub record IsDayOf (text : List ℕ) (n : ℤ) : Type 0 where
@@ -50,7 +50,7 @@ pub record IsDayOf (text : List ℕ) (n : ℤ) : Type 0 where
   pub day : ℕ
   pub real : IsDay year month day
   pub rest : List ℕ
-  pub begins : written year month day ≡ text ++ rest
+  pub begins : ymd_text year month day ≡ text ++ rest
   pub number : n ≡ days_from_civil (pos year) month day
 
 -- the text is as long as `YYYY`, `YYYY-MM` or `YYYY-MM-DD`

@@ -19,8 +19,8 @@ abbrev pub two : ℕ → List ℕ
 two n = (48 + n / 10 % 10) ∷ (48 + n % 10) ∷ []
 
 -- `YYYY-MM-DD`
-abbrev pub written : ℕ → ℕ → ℕ → List ℕ
-written year month day = two (year / 100) ++ two year ++ (45 ∷ two month) ++ (45 ∷ two day)
+abbrev pub ymd_text : ℕ → ℕ → ℕ → List ℕ
+ymd_text year month day = two (year / 100) ++ two year ++ (45 ∷ two month) ++ (45 ∷ two day)
 
 -- the text is the date of the day with this number, counted from 1970-01-01
 pub record IsDateOf (number : ℤ) (text : List ℕ) : Type 0 where
@@ -28,7 +28,7 @@ pub record IsDateOf (number : ℤ) (text : List ℕ) : Type 0 where
   pub month : ℕ
   pub day : ℕ
   pub real : IsDay year month day
-  pub spelled : text ≡ written year month day
+  pub spelled : text ≡ ymd_text year month day
   pub numbered : number ≡ days_from_civil (pos year) month day
 
 -- the same relation as a function that parses the text
@@ -84,7 +84,7 @@ month_of day = last_begun (λ m. days_from_civil (pos (year_of day)) m 1) 12 day
 -- the date of the day with this number
 abbrev pub date_text : ℤ → List ℕ
 date_text day =
-    written (year_of day) (month_of day)
+    ymd_text (year_of day) (month_of day)
     (unsigned_abs (day -ℤ days_from_civil (pos (year_of day)) (month_of day) 1) + 1)
 
 -- the date of a day, if it has one: the text parses as that day

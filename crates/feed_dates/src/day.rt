@@ -2,7 +2,7 @@
 ghost use Rattle.std.specs.Prelude.{◌≡◌, ◌<◌, ℤ, pos, IfSome, MatchOption, option_map};
 ghost use Rattle.jiff.specs.Words.{IsYmd, epoch_day};
 ghost use Rattle.feed_dates.specs.Days.{IsDateOf, date_of_day, day_number, day_of_date, four_digits, two, two_digits};
-ghost use Rattle.feed_dates.specs.Days.{written};
+ghost use Rattle.feed_dates.specs.Days.{ymd_text};
 
 use jiff::civil::Date;
 use jiff_core::civil::Date as PlainDate;
@@ -26,11 +26,11 @@ pub fn write_date(day: i32) -> Option<[u8; 10]>
     if date.year < 1 {
         return None;
     }
-    Some(written(date.year as u16, date.month, date.day))
+    Some(ymd_text(date.year as u16, date.month, date.day))
 }
 
-fn written(year: u16, month: u8, day: u8) -> [u8; 10]
-    ensures { result ≡ written year month day }
+fn ymd_text(year: u16, month: u8, day: u8) -> [u8; 10]
+    ensures { result ≡ ymd_text year month day }
 {
     let [a, b] = two(year / 100);
     let [c, d] = two(year);

@@ -2,7 +2,7 @@
 ghost use Rattle.std.specs.Prelude.{◌≡◌, ◌<◌, Some, option_map};
 ghost use Rattle.jiff.specs.Words.{epoch_day};
 ghost use Rattle.feed_dates.specs.Days.{day_number};
-ghost use Rattle.feed_dates.specs.DayRanges.{alone, days_of_month, days_of_year};
+ghost use Rattle.feed_dates.specs.DayRanges.{single_day, days_of_month, days_of_year};
 
 use crate::day::{date_of, day_number_of, number_of, read_four, read_two};
 use jiff::civil::Date;
@@ -46,7 +46,7 @@ fn one_day(year: u16, month: u8, day: u8) -> Option<DayRange>
     requires year { year < 10000 }
     requires month { month < 100 }
     requires day { day < 100 }
-    ensures { result ≡ option_map alone (day_number year month day) }
+    ensures { result ≡ option_map single_day (day_number year month day) }
 {
     let number = number_of(year, month, day)?;
     Some(DayRange {

@@ -15,7 +15,7 @@ use Rattle.std.proofs.lemmas.Str.Ascii.{IsAscii-from_all}
 use Rattle.httparse.specs.Grammar.{AllPass, RequestHead, IsRequestHead, print_request, Field, IsField, crlf, print_field, is_value_byte, is_token_byte, is_uri_byte, trim_ows}
 use Rattle.httparse.proofs.OnLiterals.{httparse_on_literals}
 use Rattle.httparse.proofs.GrammarLemmas.{cons-append}
-use Rattle.feed_names.specs.Day.{two, written}
+use Rattle.feed_names.specs.Day.{two, ymd_text}
 use Rattle.feed_names.specs.ReleaseName.{Name, IsName, is_stem_byte, text_of}
 use Rattle.feed_range.specs.Ask.{ask_text, ask_of}
 use Rattle.feed_http.specs.Shelves.{Files}
@@ -59,7 +59,7 @@ two_pass : (n : ℕ) → All Passes (two n)
 two_pass n = All-cons Passes (48 + n / 10 % 10) ((48 + n % 10) ∷ []) (digit_is_stem (n / 10 % 10) (omega arith)) (All-cons Passes (48 + n % 10) [] (digit_is_stem (n % 10) (omega arith))
     (All-nil Passes))
 
-date_passes : (year month day : ℕ) → All Passes (written year month day)
+date_passes : (year month day : ℕ) → All Passes (ymd_text year month day)
 date_passes year month day =
     let hyphen : (ds : List ℕ) → All Passes ds → All Passes (45 ∷ ds) = λ ds all. All-cons Passes 45 ds refl all in
     All-append Passes (two (year / 100) ++ two year ++ (45 ∷ two month)) (45 ∷ two day)

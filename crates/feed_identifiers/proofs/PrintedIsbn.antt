@@ -6,7 +6,7 @@ use Rattle.std.specs.Char.{is_ascii_digit}
 use Rattle.std.proofs.lemmas.Bool.Decides.{nat_tests}
 use Rattle.feed_identifiers.proofs.Digits.{IsDigit, digit_is, eqb_same, first_true, same_digit, second_true, split, test_true, value_is, worth}
 use Rattle.feed_identifiers.specs.Check.{is_check}
-use Rattle.feed_identifiers.specs.Isbn.{IsIsbn, are_nine_digits, check_digit, isbn_of, number_of, of_ten, of_thirteen, sum_of_twelve, thirteen, unhyphened}
+use Rattle.feed_identifiers.specs.Isbn.{IsIsbn, are_nine_digits, check_digit, isbn_of, number_of, of_ten, of_thirteen, sum_of_twelve, thirteen, isbn_of_characters}
 
 -- nine characters are digits
 pub record AreDigits (a b c d e f g h i : ℕ) : Type 0 where
@@ -124,7 +124,7 @@ thirteen_again first second last a b c d e f g h i check printed made =
     rw t (ap Some (sym (value_is _ _ printed made)))
 
 -- what ten or thirteen characters are is a printed ISBN
-pub made_by : (characters : List ℕ) (printed : List ℕ) → unhyphened characters ≡ Some printed → IsIsbn printed
+pub made_by : (characters : List ℕ) (printed : List ℕ) → isbn_of_characters characters ≡ Some printed → IsIsbn printed
 made_by (a ∷ b ∷ c ∷ d ∷ e ∷ f ∷ g ∷ h ∷ i ∷ check ∷ []) printed made = record {
   last = 56;
   a = a;

@@ -6,7 +6,7 @@ use Rattle.std.specs.Char.{is_ascii_digit}
 use Rattle.std.proofs.lemmas.Bool.Decides.{nat_tests}
 use Rattle.feed_identifiers.proofs.Digits.{IsDigit, digit_is, eqb_same, first_true, same_digit, second_true, split, test_true, value_is, worth}
 use Rattle.feed_identifiers.specs.Check.{capital, check_value, is_check, is_x}
-use Rattle.feed_identifiers.specs.Issn.{IsIssn, checked, issn_of, number_of, unhyphened, weighted}
+use Rattle.feed_identifiers.specs.Issn.{IsIssn, issn_of_digits, issn_of, number_of, issn_of_characters, weighted}
 
 -- what the characters of a printed ISSN are
 record Spelled (text : List ℕ) (a b c d e f g check : ℕ) : Type 0 where
@@ -21,7 +21,7 @@ record Spelled (text : List ℕ) (a b c d e f g check : ℕ) : Type 0 where
   checks : is_check check ≡ true
   sum : weighted a b c d e f g check % 11 ≡ 0
 
-spelled_by : (text : List ℕ) (a b c d e f g check : ℕ) → checked a b c d e f g check ≡ Some text → Spelled text a b c d e f g check
+spelled_by : (text : List ℕ) (a b c d e f g check : ℕ) → issn_of_digits a b c d e f g check ≡ Some text → Spelled text a b c d e f g check
 spelled_by text a b c d e f g check made =
     let t9 = test_true _ _ text made in
     let t8 = first_true _ _ t9 in
@@ -136,10 +136,10 @@ taken : (b : Bool) (x : Option (List ℕ)) (s : List ℕ) → (if b then x else 
 taken true x s e = e
 taken false x s e = absurd (cc)
 
-pub issn_made : (characters printed : List ℕ) → unhyphened characters ≡ Some printed → IsIssn printed
+pub issn_made : (characters printed : List ℕ) → issn_of_characters characters ≡ Some printed → IsIssn printed
 issn_made (a ∷ b ∷ c ∷ d ∷ e ∷ f ∷ g ∷ check ∷ []) printed made = record { a = a; b = b; c = c; d = d; e = e; f = f; g = g; check = check; made = made }
 issn_made (a ∷ b ∷ c ∷ d ∷ hyphen ∷ e ∷ f ∷ g ∷ check ∷ []) printed made =
-    record { a = a; b = b; c = c; d = d; e = e; f = f; g = g; check = check; made = taken (hyphen == 45) (checked a b c d e f g check) printed made }
+    record { a = a; b = b; c = c; d = d; e = e; f = f; g = g; check = check; made = taken (hyphen == 45) (issn_of_digits a b c d e f g check) printed made }
 issn_made _ printed made = absurd (cc)
 
 digit_is_no_space : (n : ℕ) → IsDigit n → eqb n 32 ≡ false

@@ -46,10 +46,10 @@ of_ten a b c d e f g h i check =
     then Some (thirteen 56 a b c d e f g h i (check_digit (sum_of_twelve 56 a b c d e f g h i))) else None
 
 -- thirteen or ten characters, without hyphens
-abbrev pub unhyphened : List ℕ → Option (List ℕ)
-unhyphened (a ∷ b ∷ c ∷ d ∷ e ∷ f ∷ g ∷ h ∷ i ∷ check ∷ []) = of_ten a b c d e f g h i check
-unhyphened (first ∷ second ∷ last ∷ a ∷ b ∷ c ∷ d ∷ e ∷ f ∷ g ∷ h ∷ i ∷ check ∷ []) = of_thirteen first second last a b c d e f g h i check
-unhyphened _ = None
+abbrev pub isbn_of_characters : List ℕ → Option (List ℕ)
+isbn_of_characters (a ∷ b ∷ c ∷ d ∷ e ∷ f ∷ g ∷ h ∷ i ∷ check ∷ []) = of_ten a b c d e f g h i check
+isbn_of_characters (first ∷ second ∷ last ∷ a ∷ b ∷ c ∷ d ∷ e ∷ f ∷ g ∷ h ∷ i ∷ check ∷ []) = of_thirteen first second last a b c d e f g h i check
+isbn_of_characters _ = None
 
 -- whether a character is something other than a hyphen
 abbrev pub is_no_hyphen : ℕ → Bool
@@ -57,7 +57,7 @@ is_no_hyphen b = not (b == 45)
 
 -- parses an ISBN into its thirteen digits: spaces at both ends and all hyphens are dropped
 abbrev pub isbn_of : List ℕ → Option (List ℕ)
-isbn_of text = unhyphened (filter is_no_hyphen (trimmed text))
+isbn_of text = isbn_of_characters (filter is_no_hyphen (trimmed text))
 
 -- a text is the printed form of an ISBN: its thirteen digits
 pub record IsIsbn (text : List ℕ) : Type 0 where

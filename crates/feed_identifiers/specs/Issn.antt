@@ -10,8 +10,8 @@ weighted a b c d e f g check =
     8 * (a - 48) + 7 * (b - 48) + 6 * (c - 48) + 5 * (d - 48) + 4 * (e - 48) + 3 * (f - 48) + 2 * (g - 48) + check_value check
 
 -- the printed form of seven digits and a check character, if their weighted sum is divisible by 11
-abbrev pub checked : ℕ → ℕ → ℕ → ℕ → ℕ → ℕ → ℕ → ℕ → Option (List ℕ)
-checked a b c d e f g check =
+abbrev pub issn_of_digits : ℕ → ℕ → ℕ → ℕ → ℕ → ℕ → ℕ → ℕ → Option (List ℕ)
+issn_of_digits a b c d e f g check =
     if is_ascii_digit a && is_ascii_digit b && is_ascii_digit c && is_ascii_digit d
     && is_ascii_digit e && is_ascii_digit f && is_ascii_digit g && is_check check
     && (weighted a b c d e f g check % 11 == 0)
@@ -27,17 +27,17 @@ pub record IsIssn (text : List ℕ) : Type 0 where
   pub f : ℕ
   pub g : ℕ
   pub check : ℕ
-  pub made : checked a b c d e f g check ≡ Some text
+  pub made : issn_of_digits a b c d e f g check ≡ Some text
 
 -- the eight characters, with or without a hyphen after the fourth
-abbrev pub unhyphened : List ℕ → Option (List ℕ)
-unhyphened (a ∷ b ∷ c ∷ d ∷ e ∷ f ∷ g ∷ check ∷ []) = checked a b c d e f g check
-unhyphened (a ∷ b ∷ c ∷ d ∷ hyphen ∷ e ∷ f ∷ g ∷ check ∷ []) = if hyphen == 45 then checked a b c d e f g check else None
-unhyphened _ = None
+abbrev pub issn_of_characters : List ℕ → Option (List ℕ)
+issn_of_characters (a ∷ b ∷ c ∷ d ∷ e ∷ f ∷ g ∷ check ∷ []) = issn_of_digits a b c d e f g check
+issn_of_characters (a ∷ b ∷ c ∷ d ∷ hyphen ∷ e ∷ f ∷ g ∷ check ∷ []) = if hyphen == 45 then issn_of_digits a b c d e f g check else None
+issn_of_characters _ = None
 
 -- parses an ISSN into its nine printed bytes
 abbrev pub issn_of : List ℕ → Option (List ℕ)
-issn_of text = unhyphened (trimmed text)
+issn_of text = issn_of_characters (trimmed text)
 
 -- the value of the digit at a place of a text
 abbrev pub digit_at : List ℕ → ℕ → ℕ

@@ -4,8 +4,8 @@ use Rattle.feed_identifiers.specs.Issn as issn
 use Rattle.feed_identifiers.specs.Isbn as isbn
 
 -- the printed form of whatever parses parses as itself
-abbrev pub ReadsBack : (List ℕ → Option (List ℕ)) → Type 0
-ReadsBack read = (text printed : List ℕ) → read text ≡ Some printed → read printed ≡ Some printed
+abbrev pub PrintedFormParses : (List ℕ → Option (List ℕ)) → Type 0
+PrintedFormParses read = (text printed : List ℕ) → read text ≡ Some printed → read printed ≡ Some printed
 
 -- two ISSNs with one number are the same
 abbrev pub OneIssnForNumber : Type 0

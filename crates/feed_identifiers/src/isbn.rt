@@ -1,7 +1,7 @@
 //! International Standard Book Numbers (ISO 2108): parsing, validation and the conversion of the ten-character form.
 ghost use Rattle.std.specs.Prelude.{◌≡◌, ◌≤◌, ◌<◌, IfNone, IfSome, length, slice_index, take};
 ghost use Rattle.std.specs.List.{filter};
-ghost use Rattle.feed_identifiers.specs.Isbn.{are_nine_digits, is_no_hyphen, of_ten, of_thirteen, unhyphened};
+ghost use Rattle.feed_identifiers.specs.Isbn.{are_nine_digits, is_no_hyphen, of_ten, of_thirteen, isbn_of_characters};
 ghost use Rattle.feed_identifiers.specs.Isbn.{check_digit, isbn_of, sum_of_nine, sum_of_twelve, thirteen};
 
 use crate::check::{check_value, is_check};
@@ -37,7 +37,7 @@ impl Isbn {
     pub fn parse(text: &[u8]) -> Option<Isbn>
         ensures { result ≡ isbn_of text.now }
     {
-        let printed = printed_of(text)?;
+        let printed = isbn_digits(text)?;
         Some(Isbn { printed })
     }
 
@@ -92,7 +92,7 @@ fn without_hyphens(text: &[u8]) -> Option<([u8; 13], usize)>
 }
 
 // Parses a text into the thirteen digits of an ISBN.
-fn printed_of(text: &[u8]) -> Option<[u8; 13]>
+fn isbn_digits(text: &[u8]) -> Option<[u8; 13]>
     ensures { result ≡ isbn_of text.now }
 {
     let (kept, count) = without_hyphens(trim_spaces(text))?;
@@ -101,7 +101,7 @@ fn printed_of(text: &[u8]) -> Option<[u8; 13]>
 
 // Parses characters without hyphens into the thirteen digits of an ISBN.
 fn digits_of(characters: &[u8]) -> Option<[u8; 13]>
-    ensures { result ≡ unhyphened characters.now }
+    ensures { result ≡ isbn_of_characters characters.now }
 {
     match characters {
         [a, b, c, d, e, f, g, h, i, check] => of_ten([*a, *b, *c, *d, *e, *f, *g, *h, *i], *check),

@@ -25,7 +25,7 @@ impl Model for Issn {
 }
 
 impl Issn {
-    ghost use Rattle.feed_identifiers.specs.Issn.{IsIssn, checked, issn_of, number_of};
+    ghost use Rattle.feed_identifiers.specs.Issn.{IsIssn, issn_of_digits, issn_of, number_of};
 
     /// Parses seven digits and a check character, with or without a hyphen after the fourth digit (ISO 3297).
     /// Trims spaces at both ends, and accepts a check character `x` as `X`. Returns `None` for anything else, such as a
@@ -39,8 +39,8 @@ impl Issn {
             return None;
         }
         match text {
-            [a, b, c, d, e, f, g, check] => Issn::checked([*a, *b, *c, *d, *e, *f, *g], *check),
-            [a, b, c, d, b'-', e, f, g, check] => Issn::checked(
+            [a, b, c, d, e, f, g, check] => Issn::of_digits([*a, *b, *c, *d, *e, *f, *g], *check),
+            [a, b, c, d, b'-', e, f, g, check] => Issn::of_digits(
                 [*a, *b, *c, *d, *e, *f, *g],
                 *check,
             ),
@@ -74,18 +74,18 @@ impl Issn {
     }
 
     // The ISSN of seven digits and a check character, if the check character is right.
-    fn checked(digits: [u8; 7], check: u8) -> Option<Issn>
-        ensures { result ≡ checked (slice_index digits 0) (slice_index digits 1)
+    fn of_digits(digits: [u8; 7], check: u8) -> Option<Issn>
+        ensures { result ≡ issn_of_digits (slice_index digits 0) (slice_index digits 1)
             (slice_index digits 2) (slice_index digits 3) (slice_index digits 4)
             (slice_index digits 5) (slice_index digits 6) check }
     {
-        let printed = Issn::printed_of(digits, check)?;
+        let printed = Issn::printed_bytes(digits, check)?;
         Some(Issn { printed })
     }
 
     // The printed bytes of that ISSN.
-    fn printed_of(digits: [u8; 7], check: u8) -> Option<[u8; 9]>
-        ensures { result ≡ checked (slice_index digits 0) (slice_index digits 1)
+    fn printed_bytes(digits: [u8; 7], check: u8) -> Option<[u8; 9]>
+        ensures { result ≡ issn_of_digits (slice_index digits 0) (slice_index digits 1)
             (slice_index digits 2) (slice_index digits 3) (slice_index digits 4)
             (slice_index digits 5) (slice_index digits 6) check }
     {

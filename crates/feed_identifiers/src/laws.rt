@@ -2,16 +2,16 @@
 ghost use Rattle.feed_identifiers.specs.Isbn.{isbn_of};
 ghost use Rattle.feed_identifiers.specs.Issn.{issn_of};
 ghost use Rattle.feed_identifiers.specs.Laws.{IssnNumbersAreSmall, OneIsbnForNumber, OneIssnForNumber};
-ghost use Rattle.feed_identifiers.specs.Laws.{ReadsBack, TenAreThirteen};
+ghost use Rattle.feed_identifiers.specs.Laws.{PrintedFormParses, TenAreThirteen};
 
 /// The printed form of an ISSN parses as itself.
-pub fn issn_reads_back()
-    ensures { ReadsBack issn_of }
+pub fn printed_issn_parses()
+    ensures { PrintedFormParses issn_of }
 {}
 
 /// The thirteen digits of an ISBN parse as themselves, also if the ISBN was written in ten characters.
-pub fn isbn_reads_back()
-    ensures { ReadsBack isbn_of }
+pub fn printed_isbn_parses()
+    ensures { PrintedFormParses isbn_of }
 {}
 
 /// An ISBN of ten characters equals the one of thirteen digits that begins with 978, has the same nine digits and the

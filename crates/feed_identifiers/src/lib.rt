@@ -11,7 +11,7 @@ mod text;
 pub use crate::isbn::Isbn;
 pub use crate::issn::Issn;
 pub use crate::laws::{
-    an_isbn_10_is_its_isbn_13, isbn_reads_back, issn_numbers_are_small, issn_reads_back,
-    one_isbn_for_number, one_issn_for_number,
+    an_isbn_10_is_its_isbn_13, issn_numbers_are_small, one_isbn_for_number, one_issn_for_number,
+    printed_isbn_parses, printed_issn_parses,
 };
 pub use crate::text::trim_spaces;

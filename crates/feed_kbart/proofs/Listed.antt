@@ -16,7 +16,7 @@ use Rattle.feed_identifiers.specs.Isbn as isbn
 use Rattle.feed_identifiers.specs.Isbn.{IsIsbn}
 use Rattle.feed_identifiers.specs.Laws.{IssnNumbersAreSmall, OneIsbnForNumber, OneIssnForNumber}
 use Rattle.feed_kbart.specs.Identifiers.{AreIdentifiers, isbn_number, numbers, online_isbn, online_issn, print_isbn, print_issn}
-use Rattle.feed_kbart.specs.Places.{has_isbn, has_issn, is_own, place_by, places_by}
+use Rattle.feed_kbart.specs.Places.{has_isbn, has_issn, is_same_identifier, place_by, places_by}
 use Rattle.feed_kbart.specs.declared.identifiers.Identifiers.{Identifiers}
 use Rattle.feed_kbart.specs.declared.identifiers.Identifiers.TheVariants.{Serial, Book}
 use Rattle.feed_kbart.specs.RowValue.{RowValue}
@@ -85,7 +85,7 @@ own_placed : (number : List ℕ → ℕ) (Is : List ℕ → Type 0) (identifier 
     → ((own : List ℕ) → Is own → bytes_eq identifier own ≡ eqb (number own) (number identifier))
     → (place : ℕ) (print online : Option (List ℕ)) (xs : List ℕ) → IfSome print Is → IfSome online Is
     → placed (number identifier) (numbered place (each_once (option_map number print) (option_map number online))) ++ xs
-    ≡ cons_option (if is_own identifier print || is_own identifier online then Some place else None) xs
+    ≡ cons_option (if is_same_identifier identifier print || is_same_identifier identifier online then Some place else None) xs
 own_placed number Is identifier tests place None None xs p o = refl
 own_placed number Is identifier tests place None (Some online) xs p o = rw (tests online o) (one (number identifier) place (number online) xs)
 own_placed number Is identifier tests place (Some print) None xs p o =
@@ -124,7 +124,7 @@ one_more tell s t i j e = tell.isbns s t i j (omega arith)
 
 issn_placed : NumbersTell → (issn : List ℕ) → IsIssn issn → (place : ℕ) (own : Identifiers) (xs : List ℕ) → AreIdentifiers own
     → placed (number_of issn) (numbered place (each_once (numbers own).0 (numbers own).1)) ++ xs
-    ≡ cons_option (if is_own issn (print_issn own) || is_own issn (online_issn own) then Some place else None) xs
+    ≡ cons_option (if is_same_identifier issn (print_issn own) || is_same_identifier issn (online_issn own) then Some place else None) xs
 issn_placed tell issn i place (Serial print online) xs are =
     own_placed number_of IsIssn issn (λ own o. same_test number_of IsIssn tell.issns issn own i o) place print online xs are.0 are.1
 issn_placed tell issn i place (Book print online) xs are =
@@ -132,7 +132,7 @@ issn_placed tell issn i place (Book print online) xs are =
 
 isbn_placed : NumbersTell → (isbn : List ℕ) → IsIsbn isbn → (place : ℕ) (own : Identifiers) (xs : List ℕ) → AreIdentifiers own
     → placed (isbn_number isbn) (numbered place (each_once (numbers own).0 (numbers own).1)) ++ xs
-    ≡ cons_option (if is_own isbn (print_isbn own) || is_own isbn (online_isbn own) then Some place else None) xs
+    ≡ cons_option (if is_same_identifier isbn (print_isbn own) || is_same_identifier isbn (online_isbn own) then Some place else None) xs
 isbn_placed tell digits i place (Book print online) xs are =
     own_placed isbn_number IsIsbn digits (λ own o. same_test isbn_number IsIsbn (one_more tell) digits own i o) place print online xs are.0 are.1
 isbn_placed tell digits i place (Serial print online) xs are =

@@ -2,7 +2,7 @@
 use Rattle.std.specs.Prelude.{◌||◌, ◌&&◌, not, nat_lt, ℕ, Bool, true, false, List, [], ◌∷◌, Option, Some, None, if◌then◌else◌, is_none, is_some, option_map, codes, int_lt}
 use Rattle.std.specs.Str.{str_eq_ignore_ascii_case}
 use Rattle.feed_identifiers.specs.Text.{trimmed}
-use Rattle.feed_kbart.specs.Text.{volume_of}
+use Rattle.feed_kbart.specs.Volumes.{volume_of}
 use Rattle.feed_identifiers.specs.Issn.{issn_of}
 use Rattle.feed_identifiers.specs.Isbn.{isbn_of}
 use Rattle.feed_dates.specs.DayRanges.{days_of}

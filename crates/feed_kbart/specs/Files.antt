@@ -1,9 +1,9 @@
 -- Whether a file is good, and its holdings.
 use Rattle.std.specs.Prelude.{◌≡◌, ◌≤◌, ◌<◌, not, ℕ, List, [], ◌∷◌, length, Option, Some, None, Result, Ok, Err, if◌then◌else◌}
 use Rattle.std.specs.Str.{is_utf8}
-use Rattle.feed_kbart.specs.Records.{has_two_marks, records_of}
+use Rattle.feed_text.specs.Records.{has_two_marks, records_of}
 use Rattle.feed_kbart.specs.Columns.{bad_header, columns_of}
-use Rattle.feed_kbart.specs.Holdings.{holdings_from, nothing}
+use Rattle.feed_kbart.specs.Holdings.{holdings_from, no_holdings}
 use Rattle.feed_kbart.specs.CountValue.{CountValue}
 use Rattle.feed_kbart.specs.HoldingsValue.{HoldingsValue}
 use Rattle.feed_limits.specs.Limits.{file_limit}
@@ -26,7 +26,7 @@ bad_of text =
 
 -- the records after the header are numbered from 2
 abbrev pub holdings_in : List (List (List ℕ)) → HoldingsValue
-holdings_in [] = nothing
+holdings_in [] = no_holdings
 holdings_in (header ∷ records) = holdings_from (columns_of header) 2 records
 
 -- the holdings of a text

@@ -26,9 +26,9 @@ holdings_from columns number records = record {
 }
 
 -- no holdings
-abbrev pub nothing : HoldingsValue
-nothing = record { rows = []; aside = [] }
+abbrev pub no_holdings : HoldingsValue
+no_holdings = record { rows = []; aside = [] }
 
 -- the concatenation of two holdings
-abbrev pub joined : HoldingsValue → HoldingsValue → HoldingsValue
-joined front back = record { rows = front.rows ++ back.rows; aside = front.aside ++ back.aside }
+abbrev pub join_holdings : HoldingsValue → HoldingsValue → HoldingsValue
+join_holdings front back = record { rows = front.rows ++ back.rows; aside = front.aside ++ back.aside }

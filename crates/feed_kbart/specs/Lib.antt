@@ -1,12 +1,5 @@
-pub use Rattle.feed_limits.specs.Limits
-pub mod Text
-pub use Rattle.feed_identifiers.specs.Issn
-pub use Rattle.feed_identifiers.specs.Isbn
-pub use Rattle.feed_dates.specs.Days
-pub use Rattle.feed_dates.specs.DayRanges
+pub mod Volumes
 pub mod Labels
-pub mod Records
-pub mod Reader
 pub mod Columns
 pub mod Coverage
 pub mod Reasons
@@ -20,6 +13,5 @@ pub mod HoldingsValue
 pub mod Holdings
 pub mod CountValue
 pub mod Files
-pub mod Utf8
-pub mod Bytes
+pub mod Faults
 pub mod Kept

@@ -6,17 +6,17 @@ use Rattle.feed_kbart.specs.Identifiers.{online_isbn, online_issn, print_isbn, p
 use Rattle.feed_kbart.specs.RowValue.{RowValue}
 
 -- whether a column's identifier is this one
-abbrev pub is_own : List ℕ → Option (List ℕ) → Bool
-is_own identifier None = false
-is_own identifier (Some own) = bytes_eq identifier own
+abbrev pub is_same_identifier : List ℕ → Option (List ℕ) → Bool
+is_same_identifier identifier None = false
+is_same_identifier identifier (Some own) = bytes_eq identifier own
 
 -- whether a row has this ISSN, in print or online
 abbrev pub has_issn : List ℕ → RowValue → Bool
-has_issn issn row = is_own issn (print_issn row.identifiers) || is_own issn (online_issn row.identifiers)
+has_issn issn row = is_same_identifier issn (print_issn row.identifiers) || is_same_identifier issn (online_issn row.identifiers)
 
 -- whether a row has this ISBN, in print or online
 abbrev pub has_isbn : List ℕ → RowValue → Bool
-has_isbn isbn row = is_own isbn (print_isbn row.identifiers) || is_own isbn (online_isbn row.identifiers)
+has_isbn isbn row = is_same_identifier isbn (print_isbn row.identifiers) || is_same_identifier isbn (online_isbn row.identifiers)
 
 -- the place of a row that passes a test
 abbrev pub place_by : (RowValue → Bool) → ℕ × RowValue → Option ℕ

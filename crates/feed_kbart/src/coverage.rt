@@ -9,7 +9,7 @@ ghost use Rattle.feed_kbart.specs.declared.fault.Reason.TheVariants as reason;
 use crate::fault::Reason;
 use crate::header::{Columns, cell_of};
 use crate::identifiers::{Identifiers, Kind};
-use crate::text::read_volume;
+use crate::volume::read_volume;
 use csv::ByteRecord;
 use feed_dates::DayRange;
 use feed_identifiers::{Isbn, Issn, trim_spaces};

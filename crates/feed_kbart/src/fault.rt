@@ -3,6 +3,7 @@ ghost use Rattle.std.specs.Prelude.{◌≡◌};
 ghost use Rattle.feed_kbart.specs.declared.fault.KbartFault.TheVariants as fault;
 
 use crate::label::Label;
+use feed_text::TextFault;
 use std::alloc::{AllocError, AllocFailed};
 use std::fmt;
 use thiserror::Error;
@@ -79,6 +80,22 @@ impl From<BadFile> for KbartFault {
 
     fn from(why: BadFile) -> KbartFault {
         KbartFault::Bad(why)
+    }
+}
+
+impl From<TextFault> for KbartFault {
+    ghost use Rattle.feed_kbart.specs.Faults.{file_fault};
+
+    ghost from_gives = { λ why e. e ≡ file_fault why };
+
+    fn from(why: TextFault) -> KbartFault {
+        match why {
+            TextFault::NotUtf8 => KbartFault::Bad(BadFile::NotUtf8),
+            TextFault::TwoMarks => KbartFault::Bad(BadFile::TwoMarks),
+            TextFault::Memory => KbartFault::Memory,
+            TextFault::Read => KbartFault::Read,
+            TextFault::TooLong => KbartFault::TooLong,
+        }
     }
 }
 

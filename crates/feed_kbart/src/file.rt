@@ -6,10 +6,9 @@ ghost use Rattle.feed_kbart.specs.Kept.{HasFewRows, IsKeptOf};
 use crate::count::{FileCount, RowCount};
 use crate::fault::KbartFault;
 use crate::holdings::{Holdings, HoldingsBuilder, KeepRows};
-use crate::judge::TextJudge;
-use crate::records::{read_records, record_reader};
+use crate::records::read_records;
 use crate::row::Row;
-use crate::text_reader::{Given, TextReader, judge_rest};
+use feed_text::{Given, TextReader, check_text, record_reader};
 use std::alloc::Global;
 use std::io::Read;
 use std::marker::Brand;
@@ -65,7 +64,7 @@ pub fn read_parts<R: Read + Drop>(alloc: Global, check: R, read: R) -> Result<Ho
     requires same { R.remaining check ≡ R.remaining read }
     ensures { IfSome (R.remaining check) (λ text. IsReadOf text result) }
 {
-    judge_rest(alloc, check, TextJudge::new())?;
+    check_text(alloc, check)?;
     let mut records = record_reader(alloc, read)?;
     let kept = read_records(alloc, &mut records, Vec::new(alloc))?;
     Ok(Holdings::of(alloc, kept)?)

@@ -85,12 +85,12 @@ pub(crate) struct HoldingsBuilder<K> {
 }
 
 impl<K: KeepRows> HoldingsBuilder<K> {
-    ghost use Rattle.feed_kbart.specs.Holdings.{holdings_from, joined, nothing};
+    ghost use Rattle.feed_kbart.specs.Holdings.{holdings_from, join_holdings, no_holdings};
     ghost use Rattle.feed_kbart.specs.HoldingsValue.{HoldingsValue};
 
     pub(crate) fn new(alloc: Global, rows: K) -> HoldingsBuilder<K>
         requires { K.keeps [] rows }
-        ensures { IsKept K.keeps nothing result }
+        ensures { IsKept K.keeps no_holdings result }
     {
         HoldingsBuilder {
             rows,
@@ -107,7 +107,8 @@ impl<K: KeepRows> HoldingsBuilder<K> {
         fields: &ByteRecord,
     ) -> Result<(), AllocError>
         ensures { OnOk result ((held : HoldingsValue) → length held.rows < file_limit → IsKept K.keeps held self.old
-            → IsKept K.keeps (joined held (holdings_from columns.now number (fields_of fields.now ∷ []))) self.new) }
+            → IsKept K.keeps
+                (join_holdings held (holdings_from columns.now number (fields_of fields.now ∷ []))) self.new) }
     {
         match Coverage::of(columns, fields) {
             Ok(coverage) => self.rows.add(alloc, number, coverage, columns, fields)?,

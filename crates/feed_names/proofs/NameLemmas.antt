@@ -5,24 +5,24 @@ use Rattle.std.proofs.lemmas.List.{append_cancel_right, length-append, take-appe
 use Rattle.std.proofs.Math.Seq.{take-append_seam, drop-append_seam}
 use Rattle.feed_dates.specs.Days.{IsDateOf, OneDayForDate, OneDateForDay}
 use Rattle.feed_dates.proofs.Dates.{one_day}
-use Rattle.feed_names.specs.ReleaseName.{Name, IsStem, IsDated, IsName, EndsInTxt, text_of}
+use Rattle.feed_names.specs.ReleaseName.{Name, IsStem, EndsInDate, IsName, EndsInTxt, text_of}
 
 -- a date has ten bytes
 length-date : (n : ℤ) (text : List ℕ) → IsDateOf n text → length text ≡ 10
 length-date n text h = ap length h.spelled
 
 -- how long the text before `.txt` is
-pub length-dated : (front stem : List ℕ) (n : ℤ) → IsDated front stem n → length front ≡ length stem + 11
+pub length-dated : (front stem : List ℕ) (n : ℤ) → EndsInDate front stem n → length front ≡ length stem + 11
 length-dated front stem n h = omega (arith, ap length h.spelled, length-append stem (95 ∷ h.date), length-date n h.date h.is_date)
 
 -- the stem is all but the last eleven bytes of it
-pub stem-take : (front stem : List ℕ) (n : ℤ) → IsDated front stem n → take (length front - 11) front ≡ stem
+pub stem-take : (front stem : List ℕ) (n : ℤ) → EndsInDate front stem n → take (length front - 11) front ≡ stem
 stem-take front stem n h =
     let long : length front - 11 ≡ length stem = omega (arith, length-dated front stem n h) in
     rw long (rw h.spelled (take-append_seam stem (95 ∷ h.date)))
 
 -- and the date those after the underscore
-pub date-drop : (front stem : List ℕ) (n : ℤ) (h : IsDated front stem n) → drop (length front - 11) front ≡ 95 ∷ h.date
+pub date-drop : (front stem : List ℕ) (n : ℤ) (h : EndsInDate front stem n) → drop (length front - 11) front ≡ 95 ∷ h.date
 date-drop front stem n h =
     let long : length front - 11 ≡ length stem = omega (arith, length-dated front stem n h) in
     rw long (rw h.spelled (drop-append_seam stem (95 ∷ h.date)))
@@ -32,14 +32,14 @@ same_name : (m n : Name) → m.stem ≡ n.stem → m.day ≡ n.day → m ≡ n
 same_name m n stem day = ap (λ (s : List ℕ). let name : Name = record { stem = s; day = m.day } in name) stem ∙ ap (λ (d : ℤ). let name : Name = record { stem = n.stem; day = d } in name) day
 
 -- a text before `.txt` is the stem and the date of one release, since a date is that of one day
-pub one_name : OneDayForDate → (front : List ℕ) (m n : Name) → IsDated front m.stem m.day → IsDated front n.stem n.day → m ≡ n
+pub one_name : OneDayForDate → (front : List ℕ) (m n : Name) → EndsInDate front m.stem m.day → EndsInDate front n.stem n.day → m ≡ n
 one_name law front m n g h =
     let stems : m.stem ≡ n.stem = sym (stem-take front m.stem m.day g) ∙ stem-take front n.stem n.day h in
     let dated = sym (date-drop front m.stem m.day g) ∙ date-drop front n.stem n.day h in
     let dates : g.date ≡ h.date = cc in
     same_name m n stems (law g.date m.day n.day g.is_date (rw dates h.is_date))
 
-pub one_split : (front : List ℕ) (m n : Name) → IsDated front m.stem m.day → IsDated front n.stem n.day → m ≡ n
+pub one_split : (front : List ℕ) (m n : Name) → EndsInDate front m.stem m.day → EndsInDate front n.stem n.day → m ≡ n
 one_split front m n g h = one_name one_day front m n g h
 
 pub one_front : (text front rest : List ℕ) → EndsInTxt text front → EndsInTxt text rest → front ≡ rest
@@ -47,7 +47,7 @@ one_front text front rest g h = append_cancel_right front rest (codes ".txt") (s
 
 -- the bytes at a place are an underscore and a date that reads
 pub split_found : (front date : List ℕ) (at : ℕ) (n : ℤ) → 11 ≤ length front → at ≡ length front - 11
-    → take 1 (drop at front) ≡ 95 ∷ [] → date ≡ drop 1 (drop at front) → IsDateOf n date → IsDated front (take at front) n
+    → take 1 (drop at front) ≡ 95 ∷ [] → date ≡ drop 1 (drop at front) → IsDateOf n date → EndsInDate front (take at front) n
 split_found front date at n long here mark rest reads =
     let parts : drop at front ≡ 95 ∷ date = sym (take-append-drop 1 (drop at front)) ∙ (rw (mark, sym rest) refl) in
     record { date = date; is_date = reads; spelled = sym (take-append-drop at front) ∙ ap (λ back. take at front ++ back) parts }
@@ -58,7 +58,7 @@ ending_cut text front last cut =
     sym (take-append-drop (length text - 4) text) ∙ ap (λ back. take (length text - 4) text ++ back) (same_text _ _ (sym last)) ∙ ap (λ s. s ++ codes ".txt") (sym cut)
 
 -- the stem of a name is all but its last fifteen bytes
-pub name_cut : (text front stem : List ℕ) (n : ℤ) → EndsInTxt text front → IsDated front stem n → IsStem stem → IsName text (record { stem = take (length text - 15) text; day = n })
+pub name_cut : (text front stem : List ℕ) (n : ℤ) → EndsInTxt text front → EndsInDate front stem n → IsStem stem → IsName text (record { stem = take (length text - 15) text; day = n })
 name_cut text front stem n ends dated is_stem =
     let long : length text - 15 ≡ length front - 11 = omega (arith, ap length ends, length-append front (codes ".txt"), length-dated front stem n dated) in
     let within : length front - 11 ≤ length front = omega arith in

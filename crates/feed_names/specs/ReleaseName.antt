@@ -29,7 +29,7 @@ pub record IsStem (stem : List ℕ) : Type 0 where
   pub front : ¬ (BeginsWithDot stem)
 
 -- the front of a text is this stem, `_`, and the date of the day
-pub record IsDated (front stem : List ℕ) (day : ℤ) : Type 0 where
+pub record EndsInDate (front stem : List ℕ) (day : ℤ) : Type 0 where
   pub date : List ℕ
   pub is_date : IsDateOf day date
   pub spelled : front ≡ stem ++ (95 ∷ date)
@@ -42,16 +42,16 @@ EndsInTxt text front = text ≡ front ++ codes ".txt"
 pub record IsName (text : List ℕ) (name : Name) : Type 0 where
   pub front : List ℕ
   pub ends : EndsInTxt text front
-  pub is_dated : IsDated front name.stem name.day
+  pub is_dated : EndsInDate front name.stem name.day
   pub is_stem : IsStem name.stem
 
 -- why a text is not a name: the ending is checked first, then the date, then the stem; `Memory` is an allocation
 -- failure
-abbrev pub IsRefused : List ℕ → NameFault → Type 0
-IsRefused text BadEnding = (front : List ℕ) → ¬ (EndsInTxt text front)
-IsRefused text BadDate = (front : List ℕ) × EndsInTxt text front × ((stem : List ℕ) (day : ℤ) → ¬ (IsDated front stem day))
-IsRefused text BadStem = (front stem : List ℕ) × (day : ℤ) × EndsInTxt text front × IsDated front stem day × ¬ (IsStem stem)
-IsRefused text Memory = (name : Name) × IsName text name
+abbrev pub IsNameFault : List ℕ → NameFault → Type 0
+IsNameFault text BadEnding = (front : List ℕ) → ¬ (EndsInTxt text front)
+IsNameFault text BadDate = (front : List ℕ) × EndsInTxt text front × ((stem : List ℕ) (day : ℤ) → ¬ (EndsInDate front stem day))
+IsNameFault text BadStem = (front stem : List ℕ) × (day : ℤ) × EndsInTxt text front × EndsInDate front stem day × ¬ (IsStem stem)
+IsNameFault text Memory = (name : Name) × IsName text name
 
 -- the text of a name
 abbrev pub text_of : Name → List ℕ

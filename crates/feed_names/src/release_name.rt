@@ -1,6 +1,7 @@
 //! `ReleaseName`, a validated file name of the form `PACKAGE_YYYY-MM-DD.txt`.
 ghost use Rattle.std.specs.Prelude.{◌≡◌, ◌↔◌, ℕ, ℤ, List, MatchOption, IsTrue, IfOk, IfErr};
-ghost use Rattle.feed_names.specs.ReleaseName.{IsStem, IsDated, IsName, IsRefused, IsEarlier, is_stem_byte, text_of};
+ghost use Rattle.feed_names.specs.ReleaseName.{EndsInDate, IsEarlier, IsName, IsNameFault, IsStem};
+ghost use Rattle.feed_names.specs.ReleaseName.{is_stem_byte, text_of};
 
 use crate::name_fault::NameFault;
 use feed_dates::{day_numbers_fit, one_date_for_day, read_date};
@@ -39,7 +40,7 @@ impl ReleaseName {
     /// Parses a name. Allocates memory for the text only, and only once the text is known to be a name.
     pub fn parse(alloc: Global, text: &[u8]) -> Result<ReleaseName, NameFault>
         ensures named { IfOk result (IsName text.now) }
-        ensures refused { IfErr result (IsRefused text.now) }
+        ensures refused { IfErr result (IsNameFault text.now) }
     {
         let Some(front) = text.strip_suffix(b".txt".as_slice()) else {
             return Err(NameFault::BadEnding);
@@ -102,8 +103,8 @@ impl ReleaseName {
 // Splits off `_` and a date at the end of a text: what precedes them, and the day of the date.
 fn split_date(front: &[u8]) -> Option<(&[u8], i32)>
     ensures { MatchOption result
-        ((stem : List ℕ) (day : ℤ) → ¬ (IsDated front.now stem day))
-        (λ split. IsDated front.now split.0.now split.1) }
+        ((stem : List ℕ) (day : ℤ) → ¬ (EndsInDate front.now stem day))
+        (λ split. EndsInDate front.now split.0.now split.1) }
 {
     let at = front.len().checked_sub(DATE_LENGTH)?;
     let (stem, dated) = front.split_at(at);

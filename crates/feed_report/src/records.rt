@@ -1,7 +1,10 @@
 //! The records of a list, by their numbers: their lines in the file, and their fields.
 use crate::json::write_text;
 use csv::{ByteRecord, Reader};
-use feed_kbart::{DayRange, Label, REQUIRED_LABELS, Reason, record_reader, trim_spaces};
+use feed_dates::DayRange;
+use feed_identifiers::trim_spaces;
+use feed_kbart::{Label, REQUIRED_LABELS, Reason};
+use feed_text::record_reader;
 use std::alloc::{AllocError, Global};
 use std::io;
 use std::io::Write;

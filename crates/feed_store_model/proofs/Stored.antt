@@ -3,7 +3,7 @@ use Rattle.std.proofs.Common.{◌≡◌, ◌≢◌, ℕ, zero, suc, List, [], �
 use Rattle.std.proofs.lemmas.Bool.Decides.{nat_tests}
 use Rattle.std.specs.List.{AllByRecursion, Contains}
 use Rattle.feed_kbart.specs.Labels.{label_at, required_labels}
-use Rattle.feed_kbart.specs.Records.{has_two_marks, records_of}
+use Rattle.feed_text.specs.Records.{has_two_marks, records_of}
 use Rattle.feed_kbart.specs.Columns.{column, bad_labels, first_missing, first_twice}
 use Rattle.feed_kbart.specs.Files.{bad_of, bad_records}
 use Rattle.feed_kbart.specs.declared.label.Label.{Label}

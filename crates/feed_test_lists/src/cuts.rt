@@ -1,6 +1,6 @@
 //! Checks whether a text that arrives in pieces is UTF-8, for each way to cut it.
 use crate::fault::Fault;
-use feed_kbart::Utf8Check;
+use feed_text::Utf8Check;
 use std::fs;
 
 // How many cuts there are, and how many of them are accepted.

@@ -1,6 +1,6 @@
 //! Prints identifiers, days and texts, and `none` for a value that is absent.
+use feed_dates::DayRange;
 use feed_identifiers::{Isbn, Issn};
-use feed_kbart::DayRange;
 use std::fmt;
 
 /// A value, or `none`.

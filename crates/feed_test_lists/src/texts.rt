@@ -3,9 +3,9 @@ use crate::fault::Fault;
 use crate::shown::{Days, Maybe, ShownIsbn, ShownIssn, Text};
 use crate::words::Words;
 use feed_answer::Query;
-use feed_dates::read_date;
+use feed_dates::{DayRange, read_date};
 use feed_identifiers::{Isbn, Issn, trim_spaces};
-use feed_kbart::{DayRange, read_volume};
+use feed_kbart::read_volume;
 use feed_names::ReleaseName;
 
 pub fn issn(rt: &HostRuntime, text: &str) -> Result<(), Fault> {

@@ -1,6 +1,6 @@
 use Rattle.std.proofs.Common.{◌≡◌, ℤ, unsigned_abs, true≢false, sym, ap, ◌∙◌, arith, rules, of_z, to_z, w16}
 use Rattle.jiff_core.proofs.SignedLemmas.{signed_arith}
-use Rattle.feed_dates.specs.Days.{written}
+use Rattle.feed_dates.specs.Days.{ymd_text}
 use Rattle.feed_dates.proofs.DatesWritten.{dated, undated, epoch_day_of, year_of_date, date_here}
 use Rattle.feed_dates.proofs.day.write_date.Goals as goal
 
@@ -18,7 +18,7 @@ pub returns : goal.returns
 returns c =
     let date = c.in-Ok.date in
     let cast : to_z w16 (of_z w16 date.year) ≡ date.year = search (rules, arith, signed_arith) in
-    let text : c.written.result ≡ written (unsigned_abs date.year) date.month date.day =
-    c.written.ensures ∙ ap (λ (y : ℤ). written (unsigned_abs y) date.month date.day) cast in
-    dated c.args.day c.written.result
-    (date_here c.args.day date c.written.result (search (rules, arith, signed_arith)) (search (rules, arith, signed_arith)) text)
+    let text : c.ymd_text.result ≡ ymd_text (unsigned_abs date.year) date.month date.day =
+    c.ymd_text.ensures ∙ ap (λ (y : ℤ). ymd_text (unsigned_abs y) date.month date.day) cast in
+    dated c.args.day c.ymd_text.result
+    (date_here c.args.day date c.ymd_text.result (search (rules, arith, signed_arith)) (search (rules, arith, signed_arith)) text)

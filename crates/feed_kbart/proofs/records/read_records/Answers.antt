@@ -1,105 +1,73 @@
 use Rattle.std.proofs.Common.{◌<◌, ◌∙◌, [], ◌∷◌, refl, inl, inr, arith, length}
 use Rattle.std.proofs.lemmas.Result.{err_from_is_err_and}
-use Rattle.csv.specs.Reading.{source_of}
 use Rattle.csv.specs.Records.{fields_of}
-use Rattle.feed_kbart.specs.Holdings.{holdings_from, joined, nothing}
 use Rattle.feed_limits.specs.Limits.{file_limit}
-use Rattle.feed_kbart.proofs.Steps.{no_header, first_record, stands_first, stands_next, stands_end, stands_full, if_some, joined_one}
+use Rattle.feed_kbart.specs.Holdings.{holdings_from, join_holdings, no_holdings}
+use Rattle.feed_kbart.proofs.Steps.{no_header, first_record, so_far_first, so_far_next, so_far_end, so_far_full, joined_one}
 use Rattle.feed_kbart.proofs.records.read_records.Goals as goal
-use Rattle.feed_kbart.proofs.records.read_records.Goals.{else-loop-number-test, then-loop-number-test+in-Ok-false-read_byte_record}
+use Rattle.feed_kbart.proofs.records.read_records.Goals.{else-loop-number-test, then-loop-number-test+in_ok-read_record-2+then-not-branch-2}
 
-pub returns-in-Ok-false-clause-kept : goal.returns-in-Ok-false-clause-kept
-returns-in-Ok-false-clause-kept g c =
-    let fresh = c.requires.ready in
-    let reads = rw (c.in-Ok-false.is, c.in-Ok-false.field-0-test) at c.read_byte_record.ensures.reads in
-    if_some (source_of g.R.Read.remaining c.args.reader.now) _ (λ text is small.
-    no_header g.R.Read.remaining c.args.reader.now c.read_byte_record.new.self text (fields_of c.read_byte_record.new.row) (inl fresh.front)
-    is fresh.config (reads fresh.trims fresh.ready))
+pub returns-then-not-branch-clause-kept : goal.returns-then-not-branch-clause-kept
+returns-then-not-branch-clause-kept g c text has small =
+    let read = rw c.if-not-branch.true at c.in_ok-read_record.ensures.record in
+    no_header g.R.Read.remaining c.read_record.new.reader text (fields_of c.read_record.new.fields) (read text has)
 
 pub loop-number-init : goal.loop-number-init
 loop-number-init g c =
-    let fresh = c.requires.ready in
-    let reads = rw (c.in-Ok-true.is, c.in-Ok-true.field-0-test) at c.read_byte_record.ensures.reads in
-    let on = rw (c.in-Ok-true.is, c.in-Ok-true.field-0-test) at c.read_byte_record.ensures.reads_on in
-    let goes = on refl in
+    let read = rw c.if-not-branch.false at c.in_ok-read_record.ensures.record in
     let header = rw c.in_ok-columns.was at c.read_header.ensures in
     record {
-      trims = goes.1 ∙ fresh.trims;
-      ready = (goes.4 fresh.ready).0;
-      config = goes.0 ∙ fresh.config;
-      builds = record {
-        held = nothing;
+      ready = c.in_ok-read_record.ensures.next c.if-not-branch.false;
+      kept = record {
+        held = no_holdings;
         is = c.new-holdings.ensures;
         few = omega arith;
-        stands = λ text is.
-            stands_first g.R.Read.remaining c.args.reader.now c.read_byte_record.new.self c.in_ok-columns.columns text (fields_of c.read_byte_record.new.row) (inl fresh.front)
-            is fresh.config (reads fresh.trims fresh.ready) header.0 header.1;
+        so_far = λ text has. so_far_first g.R.Read.remaining c.read_record.new.reader c.in_ok-columns.columns text (fields_of c.read_record.new.fields)
+            (read text has) header.0 header.1;
       };
     }
 
 pub loop-number-preserved : goal.loop-number-preserved
 loop-number-preserved g c =
-    let inv = c.loop-number.invariant in
-    let was = inv.builds in
-    let fields = fields_of c.read_byte_record-in-loop-number.new.row in
+    let was = c.loop-number.invariant.kept in
+    let fields = fields_of c.read_record-in-loop-number.new.fields in
     let columns = c.in_ok-columns.columns in
     let number = c.loop-number.number in
-    let reads = rw (c.in-Ok-true-read_byte_record.is, c.in-Ok-true-read_byte_record.field-0-test) at c.read_byte_record-in-loop-number.ensures.reads in
-    let on = rw (c.in-Ok-true-read_byte_record.is, c.in-Ok-true-read_byte_record.field-0-test) at c.read_byte_record-in-loop-number.ensures.reads_on in
-    let goes = on refl in
-    let taken = rw c.in_ok-add.was at c.add.ensures in
+    let read = rw c.if-not-branch-2.false at c.in_ok-read_record-2.ensures.record in
+    let added = rw c.in_ok-add.was at c.add.ensures in
     let small : length was.held.rows < file_limit = omega (arith, was.few, c.loop-number-test.true) in
     record {
-      trims = goes.1 ∙ inv.trims;
-      ready = (goes.4 inv.ready).0;
-      config = goes.0 ∙ inv.config;
-      builds = record {
-        held = joined was.held (holdings_from columns number (fields ∷ []));
-        is = taken was.held small was.is;
+      ready = c.in_ok-read_record-2.ensures.next c.if-not-branch-2.false;
+      kept = record {
+        held = join_holdings was.held (holdings_from columns number (fields ∷ []));
+        is = added was.held small was.is;
         few = let one = joined_one was.held columns number fields in omega (arith, one, was.few);
-        stands = λ text is. stands_next g.R.Read.remaining c.loop-number.reader c.read_byte_record-in-loop-number.new.self columns number was.held text fields
-            (was.stands text is) inv.config (reads inv.trims inv.ready);
+        so_far = λ text has. so_far_next g.R.Read.remaining c.loop-number.reader c.read_record-in-loop-number.new.reader columns number was.held text fields
+            read (was.so_far text has);
       };
     }
 
 pub returns-clause-kept : goal.returns-clause-kept
-returns-clause-kept g c =
-    let inv = c.loop-number.invariant in
-    let was = inv.builds in
+returns-clause-kept g c text has small =
+    let was = c.loop-number.invariant.kept in
+    let so_far = was.so_far text has in
     elim c.loop-number-test.branch [
       | else-loop-number-test w ↦
-          if_some (source_of g.R.Read.remaining c.args.reader.now) _ (λ text is small.
-          let stands = was.stands text is in
-          let all = stands_full g.R.Read.remaining c.loop-number.reader c.in_ok-columns.columns c.loop-number.number was.held text stands (omega (arith, w.loop-number-test.false)) in
-          (stands.good, rw all at was.is))
-      | then-loop-number-test+in-Ok-false-read_byte_record w ↦
-          let reads = rw (w.in-Ok-false-read_byte_record.is, w.in-Ok-false-read_byte_record.field-0-test) at w.read_byte_record-in-loop-number.ensures.reads in
-          if_some (source_of g.R.Read.remaining c.args.reader.now) _ (λ text is small.
-          let stands = was.stands text is in
-          let all = stands_end g.R.Read.remaining c.loop-number.reader w.read_byte_record-in-loop-number.new.self c.in_ok-columns.columns c.loop-number.number was.held text
-          (fields_of w.read_byte_record-in-loop-number.new.row) stands inv.config (reads inv.trims inv.ready) in
-          (stands.good, rw all at was.is))
+          let all = so_far_full g.R.Read.remaining c.loop-number.reader c.in_ok-columns.columns c.loop-number.number was.held text so_far (omega (arith, w.loop-number-test.false)) in
+          (so_far.good, rw all at was.is)
+      | then-loop-number-test+in_ok-read_record-2+then-not-branch-2 w ↦
+          let read = rw w.if-not-branch-2.true at w.in_ok-read_record-2.ensures.record in
+          let all = so_far_end g.R.Read.remaining c.loop-number.reader w.read_record-in-loop-number.new.reader c.in_ok-columns.columns c.loop-number.number was.held text
+          (fields_of w.read_record-in-loop-number.new.fields) read so_far in
+          (so_far.good, rw all at was.is)
     ]
 
 pub returns-clause-few : goal.returns-clause-few
-returns-clause-few g c = let was = c.loop-number.invariant.builds in (was.held, was.is, omega (arith, was.few))
+returns-clause-few g c = let was = c.loop-number.invariant.kept in (was.held, was.is, omega (arith, was.few))
 
 pub returns-in_err-columns-clause-kept : goal.returns-in_err-columns-clause-kept
-returns-in_err-columns-clause-kept g c =
-    let fresh = c.requires.ready in
-    let reads = rw (c.in-Ok-true.is, c.in-Ok-true.field-0-test) at c.read_byte_record.ensures.reads in
+returns-in_err-columns-clause-kept g c text has small =
+    let read = rw c.if-not-branch.false at c.in_ok-read_record.ensures.record in
     let header = rw c.in_err-columns.was at c.read_header.ensures in
-    let p = err_from_is_err_and c.from_residual.result c.from_residual.ensures.1 in
-    if_some (source_of g.R.Read.remaining c.args.reader.now) _ (λ text is small. rw (p.1, p.2)
-    (first_record g.R.Read.remaining c.args.reader.now c.read_byte_record.new.self text (fields_of c.read_byte_record.new.row) (inl fresh.front)
-    is fresh.config (reads fresh.trims fresh.ready) ∙ header))
-
-pub returns-in_err-add-clause-kept : goal.returns-in_err-add-clause-kept
-returns-in_err-add-clause-kept g c =
-    let p = err_from_is_err_and c.from_residual-in_err-add.result c.from_residual-in_err-add.ensures.1 in
-    if_some (source_of g.R.Read.remaining c.args.reader.now) _ (λ text is small. rw (p.1, p.2) tt)
-
-pub returns-in-Err-read_byte_record-clause-kept : goal.returns-in-Err-read_byte_record-clause-kept
-returns-in-Err-read_byte_record-clause-kept g c =
-    if_some (source_of g.R.Read.remaining c.args.reader.now) _ (λ text is small.
-    elim c.fault_of-in-Err-read_byte_record.ensures [ inl e ↦ rw e tt | inr e ↦ rw e tt ])
+    let p = err_from_is_err_and c.from_residual-in_err-columns.result c.from_residual-in_err-columns.ensures.1 in
+    rw (p.1, p.2) (first_record g.R.Read.remaining c.read_record.new.reader text (fields_of c.read_record.new.fields) (read text has) ∙ header)

@@ -1,5 +1,0 @@
-use Rattle.feed_answer.proofs.Covered.{graded_by_days}
-use Rattle.feed_answer.proofs.laws.grades_speak_of_days.Goals as goal
-
-pub returns : goal.returns
-returns c = graded_by_days

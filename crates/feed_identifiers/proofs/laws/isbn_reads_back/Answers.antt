@@ -1,8 +1,0 @@
-use Rattle.std.specs.List.{filter}
-use Rattle.feed_identifiers.specs.Text.{trimmed}
-use Rattle.feed_identifiers.specs.Isbn.{is_no_hyphen}
-use Rattle.feed_identifiers.proofs.PrintedIsbn.{isbn_again, made_by}
-use Rattle.feed_identifiers.proofs.laws.isbn_reads_back.Goals as goal
-
-pub returns : goal.returns
-returns c text printed read = isbn_again printed (made_by (filter is_no_hyphen (trimmed text)) printed read)

@@ -1,0 +1,4 @@
+pub mod Records
+pub mod Utf8
+pub mod Checks
+pub mod Reader

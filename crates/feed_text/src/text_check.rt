@@ -1,0 +1,67 @@
+//! Checks the bytes of a text as they are read: UTF-8, and at most one byte-order mark.
+ghost use Rattle.std.specs.Prelude.{◌≡◌, ◌≤◌, ◌+◌, ◌-◌, ◌++◌, ℕ, List, [], length, min, take};
+ghost use Rattle.feed_text.specs.Checks.{IsCheckResult, IsTextCheckOf};
+ghost use Rattle.feed_limits.specs.Limits.{file_limit};
+
+use crate::fault::TextFault;
+use crate::utf8::Utf8Check;
+
+// Two byte-order marks of UTF-8.
+const TWO_MARKS: [u8; 6] = [0xEF, 0xBB, 0xBF, 0xEF, 0xBB, 0xBF];
+
+/// Checks the bytes of a text that is read in pieces.
+#[derive(Drop)]
+pub(crate) struct TextCheck {
+    utf8: Utf8Check,
+    front: [u8; 6],
+    pub(crate) total: usize,
+}
+
+// Appends the next bytes to the first `known` bytes of a text, up to six in all.
+fn with_next(front: [u8; 6], known: usize, bytes: &[u8]) -> [u8; 6]
+    requires { known ≤ 6 }
+    ensures { take (min (known + length bytes.now) 6) result ≡ take known front ++ take (6 - known) bytes.now }
+{
+    let mut front = front;
+    let count = bytes.len().min(front.len() - known);
+    front[known..known + count].copy_from_slice(&bytes[..count]);
+    front
+}
+
+impl TextCheck {
+    /// Returns a check that has seen no bytes.
+    pub(crate) fn new() -> TextCheck
+        ensures { IsTextCheckOf [] result }
+    {
+        TextCheck {
+            utf8: Utf8Check::new(),
+            front: [0; 6],
+            total: 0,
+        }
+    }
+
+    /// Checks the next bytes.
+    pub(crate) fn feed(&mut self, bytes: &[u8])
+        requires { self.old.total ≤ file_limit }
+        ensures checked { (text : List ℕ) → IsTextCheckOf text self.old → IsTextCheckOf (text ++ bytes.now) self.new }
+        ensures total { self.new.total ≡ self.old.total + length bytes.now }
+    {
+        self.utf8.feed(bytes);
+        self.front = with_next(self.front, self.total.min(6), bytes);
+        self.total += bytes.len();
+    }
+
+    /// Returns why the bytes of a whole text are bad, if they are.
+    pub(crate) fn finish(self) -> Result<(), TextFault>
+        requires { self.total ≤ file_limit }
+        ensures { (text : List ℕ) → IsTextCheckOf text self → IsCheckResult text result }
+    {
+        if !self.utf8.finish() {
+            return Err(TextFault::NotUtf8);
+        }
+        if self.front[..self.total.min(6)].starts_with(&TWO_MARKS) {
+            return Err(TextFault::TwoMarks);
+        }
+        Ok(())
+    }
+}
