@@ -1,4 +1,4 @@
-//! The names and queries that arguments give, or the fault that is reported.
+//! Parses the names and queries of arguments, and reports invalid ones.
 use crate::faults::{FAILED, Faults, REFUSED};
 use feed_answer::{Query, QueryFault};
 use feed_names::{NameFault, ReleaseName};

@@ -1,16 +1,16 @@
-//! Exit statuses, and how a fault is reported.
+//! Exit statuses, and a writer that reports faults.
 ghost use Rattle.std.specs.Prelude.{◌≡◌, ◌⊎◌, IfErr, IfOk};
 
 use std::io::{ErrorKind, Write};
 use std::{fmt, io};
 
-/// Done.
+/// Success.
 pub const DONE: u8 = 0;
 
-/// Refused because of the content: of a script, a file, a query or a database.
+/// Refused because of the content, of a script, a file, a query or a database.
 pub const REFUSED: u8 = 1;
 
-/// A wrong command line.
+/// Invalid arguments.
 pub const MISUSED: u8 = 2;
 
 /// A failing device, or running out of memory.

@@ -1,5 +1,5 @@
-//! What the commands of kbfeed share: exit statuses, how a fault is reported, names and queries, the bytes of an input,
-//! and the stack.
+//! Code that the commands of kbfeed share: exit statuses, the report of a fault, names and queries from arguments, the
+//! bytes of an input, and the stack.
 #![tactic(auto)]
 
 mod arguments;

@@ -1,6 +1,6 @@
 //! The stack that the program works on.
 
-// What the deepest work needs, as measured, and a third of it more.
+// The stack of the deepest call chain as measured, and a third more.
 const NEEDED: usize = 262_144;
 
 /// Takes all the stack that the program needs, so that the system provides it now or ends the program before it prints

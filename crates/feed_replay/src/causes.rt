@@ -1,4 +1,4 @@
-//! Why a script is wrong, for readers who ask for more than the name of the fault.
+//! Explains the errors of a script in sentences, for `--verbose`.
 use feed_script::LineFault;
 
 /// The limits of a script.

@@ -1,9 +1,8 @@
-//! `kbfeed replay`: a script is read whole, replayed over keepers in memory, and its transcript printed.
+//! The command `kbfeed replay`, which replays a script over keepers in memory and prints the transcript.
 #![tactic(auto)]
 
 mod causes;
 mod disk;
 mod replay;
 
-pub use disk::Disk;
-pub use replay::{replay_input, replay_script};
+pub use replay::replay_input;

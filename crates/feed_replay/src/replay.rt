@@ -5,54 +5,49 @@ use feed_command::{DONE, FAILED, Faults, REFUSED, read_up_to};
 use feed_core::{ReplayFault, Transcript, replay};
 use feed_keep::ListKeep;
 use feed_model::{KeepFault, Refusal};
-use feed_script::{Files, LineFault, SCRIPT_LIMIT, Script, ScriptFault, line_excerpt, read_script};
+use feed_script::{LineFault, SCRIPT_LIMIT, Script, ScriptFault, line_excerpt, read_script};
 use feed_world::{Line, Why};
 use std::alloc::{AllocError, Global};
-use std::io::{Read, Write};
+use std::io::Write;
 
 // Where a script comes from.
 const INPUT: &str = "standard input";
 
-/// Replays the script on standard input, over the files of this machine, and returns the exit status, as
-/// `replay_script` does.
+/// Replays the script on standard input over nodes with keepers in memory, and prints the transcript to `out`. The
+/// script may publish files of this machine by their paths. A fault prints a line to `faults` and nothing to `out`.
+/// Returns the exit status: 0 whatever the lines of the transcript are, 1 for an invalid script, 3 for a failing read or
+/// print and for running out of memory.
 pub fn replay_input<O: Write, F: Write + Drop>(
     rt: &HostRuntime,
     out: &mut O,
     faults: &mut Faults<F>,
 ) -> u8 {
-    let mut files = Disk::new(rt);
-    let mut input = rt.reader();
-    replay_script(rt.alloc(), &mut input, &mut files, out, faults)
-}
-
-/// Replays the script of `input`, over the files that it publishes by their paths, and prints the transcript to `out`.
-/// A fault prints a line to `faults` and nothing to `out`. Returns the exit status: 0 whatever the lines of the
-/// transcript are, 1 for an invalid script, 3 for a failing read or print and for running out of memory.
-pub fn replay_script<R: Read, P: Files, O: Write, F: Write + Drop>(
-    alloc: Global,
-    input: &mut R,
-    files: &mut P,
-    out: &mut O,
-    faults: &mut Faults<F>,
-) -> u8 {
-    let bytes = match read_up_to(alloc, input, SCRIPT_LIMIT) {
-        Ok(bytes) => bytes,
-        Err(error) => return faults.report_read(INPUT, error),
-    };
-    let Script { nodes, events } = match read_script(alloc, &bytes, files) {
+    let Script { nodes, events } = match read_input(rt, faults) {
         Ok(script) => script,
-        Err(ScriptFault::Memory) => return faults.report("Memory", FAILED),
-        Err(fault) => return report_script(faults, fault, &bytes, files),
+        Err(status) => return status,
     };
-    drop(bytes);
-    let Ok(keepers) = keepers_for(alloc, nodes) else {
+    let Ok(keepers) = keepers_for(rt.alloc(), nodes) else {
         return faults.report("Memory", FAILED);
     };
-    match replay(alloc, keepers, &events) {
+    match replay(rt.alloc(), keepers, &events) {
         Ok(transcript) => print_transcript(&transcript, out, faults),
         Err(ReplayFault::Memory) => faults.report("Memory", FAILED),
         Err(ReplayFault::Nodes) => faults.report("Nodes", FAILED),
         Err(ReplayFault::Start { node: _, keeper: _ }) => faults.report("Start", FAILED),
+    }
+}
+
+// Reads and parses the script. Otherwise it reports the fault and returns the exit status.
+fn read_input<F: Write + Drop>(rt: &HostRuntime, faults: &mut Faults<F>) -> Result<Script, u8> {
+    let bytes = match read_up_to(rt.alloc(), &mut rt.reader(), SCRIPT_LIMIT) {
+        Ok(bytes) => bytes,
+        Err(error) => return Err(faults.report_read(INPUT, error)),
+    };
+    let mut files = Disk::new(rt);
+    match read_script(rt.alloc(), &bytes, &mut files) {
+        Ok(script) => Ok(script),
+        Err(ScriptFault::Memory) => Err(faults.report("Memory", FAILED)),
+        Err(fault) => Err(report_script(faults, fault, &bytes, &files)),
     }
 }
 
@@ -85,11 +80,11 @@ fn lacks_memory(line: &Line) -> bool {
 }
 
 // Reports why a script is invalid, and shows the beginning of the line.
-fn report_script<P: Files, F: Write + Drop>(
+fn report_script<F: Write + Drop>(
     faults: &mut Faults<F>,
     fault: ScriptFault,
     script: &[u8],
-    files: &P,
+    files: &Disk<'_>,
 ) -> u8 {
     match fault {
         ScriptFault::Line { line, fault: why } => {

@@ -9,5 +9,5 @@ mod script;
 mod words;
 
 pub use faults::{LineFault, ScriptFault};
-pub use files::{FileCause, Files};
+pub use files::Files;
 pub use script::{SCRIPT_LIMIT, Script, line_excerpt, read_script};

@@ -7,8 +7,8 @@ use std::alloc::Global;
 use std::slice;
 use std::test::Fail;
 
-/// Returns the keepers of `failing`.
-pub fn failing_keepers(alloc: Global, words: &[String]) -> Result<Vec<Failing>, Fail> {
+/// Returns the keepers of the arguments.
+pub fn keepers_of(alloc: Global, words: &[String]) -> Result<Vec<Failing>, Fail> {
     let mut keepers = Vec::new(alloc);
     let mut left = words.iter();
     for _ in 0..words.len() {
@@ -16,27 +16,11 @@ pub fn failing_keepers(alloc: Global, words: &[String]) -> Result<Vec<Failing>, 
             break;
         };
         keepers.push(match word.as_str() {
-            "sound" => Failing::over(ListKeep::new(alloc)),
+            "sound" | "empty" => Failing::over(ListKeep::new(alloc)),
             "load" => failing_load(alloc, next_number(&mut left)?),
             "commits" => failing_commits(alloc, next_number(&mut left)?),
-            _ => return Err(unknown(word)),
-        })?;
-    }
-    Ok(keepers)
-}
-
-/// Returns the keepers of `holding`.
-pub fn holding_keepers(alloc: Global, words: &[String]) -> Result<Vec<ListKeep>, Fail> {
-    let mut keepers = Vec::new(alloc);
-    let mut left = words.iter();
-    for _ in 0..words.len() {
-        let Some(word) = left.next() else {
-            break;
-        };
-        keepers.push(match word.as_str() {
-            "empty" => ListKeep::new(alloc),
-            "record" => keeper_of_record(alloc, &mut left)?,
-            _ => return Err(unknown(word)),
+            "record" => Failing::over(keeper_of_record(alloc, &mut left)?),
+            _ => return Err(Fail::new(format_args!("{word}: unknown keeper"))),
         })?;
     }
     Ok(keepers)
@@ -63,7 +47,7 @@ fn keeper_of_record(alloc: Global, left: &mut slice::Iter<'_, String>) -> Result
     let state = match next_word(left)? {
         "Staged" => State::Staged,
         "Active" => State::Active,
-        word => return Err(unknown(word)),
+        word => return Err(Fail::new(format_args!("{word}: Staged or Active expected"))),
     };
     let first = next_number(left)?;
     let bytes = next_word(left)?.as_bytes();
@@ -97,8 +81,4 @@ fn next_number(left: &mut slice::Iter<'_, String>) -> Result<u64, Fail> {
         Ok(number) => Ok(number),
         Err(_) => Err(Fail::new(format_args!("{word}: a number expected"))),
     }
-}
-
-fn unknown(word: &str) -> Fail {
-    Fail::new(format_args!("{word}: unknown keeper"))
 }

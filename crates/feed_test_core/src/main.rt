@@ -5,30 +5,25 @@
 //!     feed_test_core full KEEPER.. < SCRIPT
 //!
 //! The script is one of `kbfeed replay`. There is a node for each KEEPER, whatever number the script names, and a
-//! script publishes no files by their paths. A KEEPER of `failing` and `full` holds nothing at first, and is one of
+//! script publishes no files by their paths. A KEEPER is one of
 //!
-//!     sound                                 a keeper that does not fail
-//!     load N                                the load after N others fails
-//!     commits N                             every commit after N fails
+//!     sound, empty                          a keeper without records, which does not fail
+//!     load N                                one without records, which fails at the load after N others
+//!     commits N                             one without records, which fails at every commit after the first N
+//!     record NAME SIZE STATE FIRST TEXT     one with a record, which does not fail. The record is Staged or Active,
+//!                                           with these bytes, or none, at its place FIRST
 //!
-//! One of `holding` does not fail, and is one of
-//!
-//!     empty                                 a keeper that holds nothing
-//!     record NAME SIZE STATE FIRST TEXT     a keeper that holds one record: Staged or Active, with these bytes, or
-//!                                           none, at its place FIRST
-//!
-//! `failing` and `holding` print the transcript, or why there is none, and then each keeper that the replay returns: its
-//! number, how often it failed, and its records. `full` writes the transcript into each buffer that is shorter than it,
-//! and prints how many refuse it. If an argument or the script is wrong, the last line says so, and the status
-//! is 2.
+//! `failing` and `holding` print the transcript, or why there is none, and then each keeper that the replay returns:
+//! its number, how often it failed, and its records. `full` writes the transcript into each buffer that is shorter than
+//! it, and prints how many refuse it. If an argument or the script is wrong, the last line says so, and the status is 2.
 #![tactic(auto)]
 
 mod keepers;
 mod shown;
 
-use feed_script::{FileCause, Files, LineFault, Script, read_script};
+use feed_script::{Files, LineFault, Script, read_script};
 use feed_world::WorldEvent;
-use keepers::{failing_keepers, holding_keepers};
+use keepers::keepers_of;
 use shown::{show, show_full};
 use std::alloc::Global;
 use std::env;
@@ -53,9 +48,8 @@ fn run(rt: &HostRuntime) -> Result<(), Fail> {
         return Err(Fail::new("no command: failing, holding or full expected"));
     };
     match command.as_str() {
-        "failing" => show(rt, failing_keepers(rt.alloc(), keepers)?, &events),
-        "holding" => show(rt, holding_keepers(rt.alloc(), keepers)?, &events),
-        "full" => show_full(rt, failing_keepers(rt.alloc(), keepers)?, &events),
+        "failing" | "holding" => show(rt, keepers_of(rt.alloc(), keepers)?, &events),
+        "full" => show_full(rt, keepers_of(rt.alloc(), keepers)?, &events),
         _ => Err(Fail::new(format_args!("{command}: failing, holding or full expected"))),
     }
 }
@@ -67,10 +61,6 @@ struct NoFiles;
 impl Files for NoFiles {
     fn bytes_of(&mut self, _alloc: Global, _path: &[u8]) -> Result<Vec<u8>, LineFault> {
         Err(LineFault::BadFile)
-    }
-
-    fn cause(&self) -> Option<&FileCause> {
-        None
     }
 }
 

@@ -2,17 +2,14 @@
 use feed_answer::WriteFault;
 use feed_core::{ReplayFault, Transcript, replay};
 use feed_keep::Keep;
-use feed_test_support::content_text;
+use feed_test_support::{Failing, content_text};
 use feed_world::WorldEvent;
+use std::alloc::Global;
 use std::test::Fail;
 
 /// Replays events over nodes on these keepers, and prints the transcript and the keepers that the replay returns.
-pub fn show<K: Keep + Drop>(
-    rt: &HostRuntime,
-    keepers: Vec<K>,
-    events: &[WorldEvent],
-) -> Result<(), Fail> {
-    match replay(rt.alloc(), keepers, events) {
+pub fn show(rt: &HostRuntime, keepers: Vec<Failing>, events: &[WorldEvent]) -> Result<(), Fail> {
+    match run_replay(rt.alloc(), keepers, events) {
         Ok(transcript) => show_transcript(rt, transcript),
         Err(ReplayFault::Start { node, keeper }) => {
             println!(rt; "refused Start")?;
@@ -23,10 +20,16 @@ pub fn show<K: Keep + Drop>(
     }
 }
 
-fn show_transcript<K: Keep + Drop>(
-    rt: &HostRuntime,
-    transcript: Transcript<K>,
-) -> Result<(), Fail> {
+// Replays events. The generic function is instantiated here once, because each instance is dear to prove.
+fn run_replay(
+    alloc: Global,
+    keepers: Vec<Failing>,
+    events: &[WorldEvent],
+) -> Result<Transcript<Failing>, ReplayFault<Failing>> {
+    replay(alloc, keepers, events)
+}
+
+fn show_transcript(rt: &HostRuntime, transcript: Transcript<Failing>) -> Result<(), Fail> {
     let mut text = Vec::new(rt.alloc());
     transcript.write(&mut text)?;
     print!(rt; "{}", str::from_utf8(&text)?)?;
@@ -38,7 +41,7 @@ fn show_transcript<K: Keep + Drop>(
     Ok(())
 }
 
-fn show_keeper<K: Keep + Drop>(rt: &HostRuntime, node: usize, keeper: K) -> Result<(), Fail> {
+fn show_keeper(rt: &HostRuntime, node: usize, keeper: Failing) -> Result<(), Fail> {
     let mut keeper = keeper;
     println!(rt; "keeper {node}, failures {}", keeper.failures())?;
     let records = content_text(rt.alloc(), &mut keeper)?;
@@ -47,12 +50,12 @@ fn show_keeper<K: Keep + Drop>(rt: &HostRuntime, node: usize, keeper: K) -> Resu
 }
 
 /// Writes the transcript into each buffer that is shorter than it, and prints how many refuse it.
-pub fn show_full<K: Keep + Drop>(
+pub fn show_full(
     rt: &HostRuntime,
-    keepers: Vec<K>,
+    keepers: Vec<Failing>,
     events: &[WorldEvent],
 ) -> Result<(), Fail> {
-    let Ok(transcript) = replay(rt.alloc(), keepers, events) else {
+    let Ok(transcript) = run_replay(rt.alloc(), keepers, events) else {
         return Err(Fail::new("the replay does not begin"));
     };
     let mut text = Vec::new(rt.alloc());
@@ -68,9 +71,9 @@ pub fn show_full<K: Keep + Drop>(
 }
 
 // Returns whether the transcript is too long for this many bytes.
-fn is_too_long<K: Keep + Drop>(
+fn is_too_long(
     rt: &HostRuntime,
-    transcript: &Transcript<K>,
+    transcript: &Transcript<Failing>,
     room: usize,
 ) -> Result<bool, Fail> {
     let mut bytes = vec![in rt.alloc(); 0_u8; room]?;
