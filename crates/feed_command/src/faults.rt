@@ -7,7 +7,7 @@ use std::{fmt, io};
 /// Success.
 pub const DONE: u8 = 0;
 
-/// Refused because of the content, of a script, a file, a query or a database.
+/// Refused because of the content of a script, a file, a query or a database.
 pub const REFUSED: u8 = 1;
 
 /// Invalid arguments.

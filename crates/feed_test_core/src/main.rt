@@ -15,7 +15,8 @@
 //!
 //! `failing` and `holding` print the transcript, or why there is none, and then each keeper that the replay returns:
 //! its number, how often it failed, and its records. `full` writes the transcript into each buffer that is shorter than
-//! it, and prints how many refuse it. If an argument or the script is wrong, the last line says so, and the status is 2.
+//! it, and prints how many refuse it. If an argument or the script is wrong, the last line says so, and the status is
+//! 2.
 #![tactic(auto)]
 
 mod keepers;
