@@ -1,4 +1,7 @@
 //! TCP streams with a deadline for each exchange, so that a slow peer cannot keep one open.
+ghost use Rattle.std.specs.Prelude.{◌≤◌, length, IfOk};
+ghost use Rattle.std.specs.Counts.{IsPrefixLen};
+
 use std::cell::RefCell;
 use std::io;
 use std::io::{ErrorKind, Read, Write};
@@ -65,7 +68,9 @@ impl Deadline {
         rt: &HostRuntime,
         mut stream: &TcpStream,
         buf: &mut [u8],
-    ) -> io::Result<usize> {
+    ) -> io::Result<usize>
+        ensures { IfOk result (λ count. IsPrefixLen count buf.new) }
+    {
         if let Some(timeout) = self.next_timeout(rt)? {
             stream.set_read_timeout(Some(timeout))?;
         }

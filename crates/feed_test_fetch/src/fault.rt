@@ -1,8 +1,8 @@
-//! Why a command is not run.
+//! The error of a command that cannot run.
 use std::alloc::{AllocError, AllocFailed};
 use std::io;
 
-/// What is wrong.
+/// The error that ends the program.
 #[derive(Clone, Copy, Debug)]
 pub struct Fault(pub &'static str);
 

@@ -1,6 +1,5 @@
-//! Commands on fetches and their feed.
+//! Runs the commands of the input on fetches and their feed.
 use crate::fault::Fault;
-use crate::keeper::Keeper;
 use crate::server::{Server, Turn};
 use crate::sink::Sink;
 use feed_answer::Query;
@@ -13,6 +12,7 @@ use feed_model::State;
 use feed_names::ReleaseName;
 use feed_parts::Part;
 use feed_releases::Feed;
+use feed_test_support::Failing;
 use std::alloc::Global;
 use std::cell::{Cell, RefCell};
 use std::io::Write;
@@ -30,10 +30,10 @@ const UNKNOWN: Fault = Fault("no such command");
 
 const WORDS: Fault = Fault("the command takes other words");
 
-/// The feed, how the server treats its next connections, and what is known of the last fetch.
+/// The feed, the turns of the server for its next connections, and the calls and requests of the last fetch.
 #[derive(Drop)]
 pub struct Fetches {
-    feed: Feed<Keeper>,
+    feed: Feed<Failing>,
     turns: Vec<Turn>,
     fails_at: usize,
     calls: usize,
@@ -41,10 +41,10 @@ pub struct Fetches {
 }
 
 impl Fetches {
-    /// A feed over a keeper without records, and no connections.
+    /// Returns a feed over a keeper without records, and no connections.
     pub fn new(alloc: Global) -> Result<Fetches, Fault> {
         Ok(Fetches {
-            feed: open(alloc, Keeper::new(ListKeep::new(alloc), None))?,
+            feed: open(alloc, Failing::over(ListKeep::new(alloc)))?,
             turns: Vec::new(alloc),
             fails_at: 0,
             calls: 0,
@@ -64,7 +64,7 @@ impl Fetches {
     // Runs a command of one word.
     fn run_word(&mut self, rt: &HostRuntime, command: &str) -> Result<(), Fault> {
         match command {
-            "new" => self.replace(rt.alloc(), ListKeep::new(rt.alloc()), None),
+            "new" => self.replace(rt.alloc(), ListKeep::new(rt.alloc())),
             "restart" => self.restart(rt.alloc()),
             "mend" => self.mend(rt.alloc()),
             "serve" => self.add_turn(Turn::Serve(Vec::new(rt.alloc()))),
@@ -79,14 +79,11 @@ impl Fetches {
         }
     }
 
-    // Runs a command of several words, of which `rest` lacks the first.
+    // Runs a command of several words: the first, and the rest.
     fn run_words(&mut self, rt: &HostRuntime, command: &str, rest: &[&str]) -> Result<(), Fault> {
         match command {
-            "active" => self.replace(rt.alloc(), active_list(rt, rest)?, None),
-            "fail-commits" => {
-                let count = number_in(rest)?;
-                self.replace(rt.alloc(), ListKeep::new(rt.alloc()), Some(count))
-            }
+            "active" => self.replace(rt.alloc(), active_list(rt, rest)?),
+            "fail-commits" => self.fail_commits(rt.alloc(), number_in(rest)?),
             "fetch" => self.fetch(rt, number_in(rest)?),
             "fetch-by-law" => self.fetch_by_law(rt, rest),
             "fail-print" => {
@@ -108,19 +105,22 @@ impl Fetches {
         Ok(())
     }
 
-    fn replace(
-        &mut self,
-        alloc: Global,
-        list: ListKeep,
-        commits_before: Option<u64>,
-    ) -> Result<(), Fault> {
-        self.feed = open(alloc, Keeper::new(list, commits_before))?;
+    fn replace(&mut self, alloc: Global, list: ListKeep) -> Result<(), Fault> {
+        self.feed = open(alloc, Failing::over(list))?;
         Ok(())
     }
 
-    // Stops the feed: its keeper. An empty feed takes its place.
-    fn stop(&mut self, alloc: Global) -> Result<Keeper, Fault> {
-        let empty = open(alloc, Keeper::new(ListKeep::new(alloc), None))?;
+    // Makes all commits of a new feed fail, after this many.
+    fn fail_commits(&mut self, alloc: Global, commits_before: u64) -> Result<(), Fault> {
+        let mut keeper = Failing::over(ListKeep::new(alloc));
+        keeper.fail_commits(commits_before, u64::MAX);
+        self.feed = open(alloc, keeper)?;
+        Ok(())
+    }
+
+    // Stops the feed and returns its keeper. An empty feed takes its place.
+    fn stop(&mut self, alloc: Global) -> Result<Failing, Fault> {
+        let empty = open(alloc, Failing::over(ListKeep::new(alloc)))?;
         Ok(mem::replace(&mut self.feed, empty).restart())
     }
 
@@ -129,7 +129,7 @@ impl Fetches {
         let Ok(records) = keeper.load(alloc) else {
             return Err(Fault("the keeper does not load"));
         };
-        self.replace(alloc, ListKeep::of(alloc, records), None)
+        self.replace(alloc, ListKeep::of(alloc, records))
     }
 
     fn fetch(&mut self, rt: &HostRuntime, piece: u64) -> Result<(), Fault> {
@@ -158,7 +158,7 @@ impl Fetches {
     }
 }
 
-// What comes of a fetch.
+// The result of a fetch: its output, its exit status, and its requests.
 #[derive(Drop)]
 struct Outcome {
     printed: Vec<u8>,
@@ -171,7 +171,7 @@ struct Outcome {
 fn fetch_outcome(
     alloc: Global,
     turns: &[Turn],
-    feed: &mut Feed<Keeper>,
+    feed: &mut Feed<Failing>,
     piece: u64,
     fails_at: usize,
 ) -> Result<Outcome, Fault> {
@@ -207,15 +207,16 @@ fn fetch_outcome(
 fn law_outcome(
     alloc: Global,
     files: &[NamedFile],
-    feed: &mut Feed<Keeper>,
+    feed: &mut Feed<Failing>,
     piece: u64,
 ) -> Result<Outcome, Fault> {
     let name = name_of(alloc, JANUARY)?;
     if !is_host(HOST) || piece < 1 || piece > PIECE_LIMIT as u64 {
         return Err(Fault("a piece has 1 to 1048576 bytes"));
     }
-    let mut printed = Vec::new(alloc);
-    let mut faults = Vec::new(alloc);
+    let calls = Cell::new(0);
+    let mut out = Sink::new(alloc, &calls, 0);
+    let mut faults = Sink::new(alloc, &calls, 0);
     let status = fetch_from_memory(
         alloc,
         files,
@@ -223,14 +224,14 @@ fn law_outcome(
         HOST,
         &name,
         piece,
-        &mut printed,
+        &mut out,
         &mut faults,
     );
     Ok(Outcome {
-        printed,
-        faults,
+        printed: out.text,
+        faults: faults.text,
         status,
-        calls: 0,
+        calls: calls.get(),
         requests: Vec::new(alloc),
     })
 }
@@ -244,7 +245,7 @@ fn print_outcome(rt: &HostRuntime, outcome: &Outcome) -> Result<(), Fault> {
     Ok(println!(rt; "status {}", outcome.status)?)
 }
 
-// Prints lines. One that is cut off ends in `...`.
+// Prints lines. An incomplete line ends in `...`.
 fn print_lines(rt: &HostRuntime, lines: &[u8]) -> Result<(), Fault> {
     let mut out = io::writer(rt);
     out.write_all(lines)?;
@@ -254,7 +255,7 @@ fn print_lines(rt: &HostRuntime, lines: &[u8]) -> Result<(), Fault> {
     }
 }
 
-fn print_rows(rt: &HostRuntime, feed: &Feed<Keeper>) -> Result<(), Fault> {
+fn print_rows(rt: &HostRuntime, feed: &Feed<Failing>) -> Result<(), Fault> {
     let Ok(query) = Query::read(rt.alloc(), b"rft.issn=2434561x") else {
         return Err(Fault("no memory"));
     };
@@ -270,14 +271,14 @@ fn print_rows(rt: &HostRuntime, feed: &Feed<Keeper>) -> Result<(), Fault> {
     }
 }
 
-fn open(alloc: Global, keeper: Keeper) -> Result<Feed<Keeper>, Fault> {
+fn open(alloc: Global, keeper: Failing) -> Result<Feed<Failing>, Fault> {
     match Feed::open(alloc, keeper) {
         Ok(feed) => Ok(feed),
         Err(_) => Err(Fault("the feed does not open")),
     }
 }
 
-// A keeper of one record: the active release of February with this file.
+// Returns a keeper of one record: the active release of February with this file.
 fn active_list(rt: &HostRuntime, words: &[&str]) -> Result<ListKeep, Fault> {
     let bytes = file_in(rt, words)?;
     let size = bytes.len() as u64;
@@ -295,18 +296,18 @@ fn active_list(rt: &HostRuntime, words: &[&str]) -> Result<ListKeep, Fault> {
     Ok(ListKeep::of(rt.alloc(), records))
 }
 
-// How the server treats a connection.
+// Returns how the server treats a connection.
 fn turn_of(rt: &HostRuntime, command: &str, words: &[&str]) -> Result<Turn, Fault> {
     match command {
         "serve" => Ok(Turn::Serve(files_of(rt, words)?)),
-        "serve-as" => served_as(rt, words),
+        "serve-as" => serve_as_turn(rt, words),
         "cut" => {
-            let (files, count) = counted_files(rt, words)?;
+            let (files, count) = files_and_number(rt, words)?;
             Ok(Turn::Cut(files, count))
         }
         "say" => Ok(Turn::Say(file_in(rt, words)?)),
         "fail-read" => {
-            let (files, number) = counted_files(rt, words)?;
+            let (files, number) = files_and_number(rt, words)?;
             Ok(Turn::FailRead(files, number))
         }
         "fail-write" => Ok(Turn::FailWrite(number_in(words)? as usize)),
@@ -315,8 +316,8 @@ fn turn_of(rt: &HostRuntime, command: &str, words: &[&str]) -> Result<Turn, Faul
     }
 }
 
-// `FILE` or `FILE RANGE`
-fn served_as(rt: &HostRuntime, words: &[&str]) -> Result<Turn, Fault> {
+// Parses `FILE` or `FILE RANGE`.
+fn serve_as_turn(rt: &HostRuntime, words: &[&str]) -> Result<Turn, Fault> {
     let [file, range @ ..] = words else {
         return Err(WORDS);
     };
@@ -324,8 +325,8 @@ fn served_as(rt: &HostRuntime, words: &[&str]) -> Result<Turn, Fault> {
     Ok(Turn::ServeAs(files_of(rt, &[*file])?, line))
 }
 
-// `FILE N`
-fn counted_files(rt: &HostRuntime, words: &[&str]) -> Result<(Vec<NamedFile>, usize), Fault> {
+// Parses `FILE N`.
+fn files_and_number(rt: &HostRuntime, words: &[&str]) -> Result<(Vec<NamedFile>, usize), Fault> {
     let [file, number] = words else {
         return Err(WORDS);
     };
@@ -341,7 +342,7 @@ fn refusal_in(words: &[&str]) -> Result<DialFault, Fault> {
     }
 }
 
-// The field of a range, or nothing.
+// Returns the line of a Range field, or nothing.
 fn range_line(alloc: Global, words: &[&str]) -> Result<Vec<u8>, Fault> {
     let mut line = Vec::new(alloc);
     match words {
@@ -352,7 +353,7 @@ fn range_line(alloc: Global, words: &[&str]) -> Result<Vec<u8>, Fault> {
     Ok(line)
 }
 
-// The release of January with the file that the words name, if they name one.
+// Returns the release of January with the file that the words name, if they name one.
 fn files_of(rt: &HostRuntime, words: &[&str]) -> Result<Vec<NamedFile>, Fault> {
     let mut files = Vec::new(rt.alloc());
     match words {
@@ -374,7 +375,7 @@ fn file_of(rt: &HostRuntime, path: &str) -> Result<Vec<u8>, Fault> {
     }
 }
 
-// The file that the one word names.
+// Reads the file that the one word names.
 fn file_in(rt: &HostRuntime, words: &[&str]) -> Result<Vec<u8>, Fault> {
     match words {
         [path] => file_of(rt, path),
@@ -382,7 +383,7 @@ fn file_in(rt: &HostRuntime, words: &[&str]) -> Result<Vec<u8>, Fault> {
     }
 }
 
-// The number that the one word is.
+// Parses the one word as a number.
 fn number_in(words: &[&str]) -> Result<u64, Fault> {
     match words {
         [word] => number_of(word),

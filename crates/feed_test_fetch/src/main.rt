@@ -1,8 +1,8 @@
 //! A program that runs commands from its standard input on fetches from a server in memory, for the session of tests/.
 //!
-//! A line has one command, its words separated by spaces; an empty line has none. A line that is no command ends the
-//! program with status 2, after the number of the line and what is wrong on standard error. Each fetch is of the
-//! release Acme_Global_All_2024-01-01.txt, from the host `h`. FILE names a file of the folder.
+//! A line has one command, its words separated by spaces; an empty line has none. An invalid line ends the program with
+//! status 2, and prints its number and the error on standard error. Each fetch is of the release
+//! Acme_Global_All_2024-01-01.txt, from the host `h`. FILE names a file of the folder.
 //!
 //! Commands that make a feed; at the beginning there is one that `new` makes:
 //!
@@ -37,7 +37,6 @@
 
 mod fault;
 mod fetches;
-mod keeper;
 mod server;
 mod sink;
 
@@ -76,7 +75,7 @@ fn words_of(alloc: Global, line: &str) -> Result<Vec<&str>, AllocError> {
     Ok(words)
 }
 
-// Names the line of a fault.
+// Prints the number and the line of a fault.
 fn end_at(rt: &HostRuntime, at: usize, line: &str, done: Result<(), Fault>) -> Result<(), Fault> {
     if done.is_err() {
         let number = at.saturating_add(1);

@@ -9,25 +9,25 @@ use std::cell::RefCell;
 use std::io;
 use std::io::{Cursor, ErrorKind, Read, Write};
 
-// A read or a write moves at most so many bytes.
+// The most bytes that a read or a write moves.
 const STEP: usize = 64;
 
 /// How the server treats one connection.
 #[derive(Drop)]
 pub enum Turn {
-    /// It serves these files.
+    /// Serves these files.
     Serve(Vec<NamedFile>),
-    /// It serves them as if a request's line `Range: ..` were this text.
+    /// Serves them as if the `Range: ..` line of a request were this text.
     ServeAs(Vec<NamedFile>, Vec<u8>),
-    /// Its reply lacks the last so many bytes.
+    /// Serves them, and drops this many bytes at the end of the reply.
     Cut(Vec<NamedFile>, usize),
-    /// It replies with `HTTP/1.1 ` and these bytes.
+    /// Replies with `HTTP/1.1 ` and these bytes.
     Say(Vec<u8>),
-    /// The read of that number fails, counted from 1.
+    /// Serves them, and fails at the read of this number, counted from 1.
     FailRead(Vec<NamedFile>, usize),
-    /// The write of that number fails, counted from 1.
+    /// Fails at the write of this number, counted from 1.
     FailWrite(usize),
-    /// There is no connection.
+    /// Refuses the connection.
     Refuse(DialFault),
 }
 
@@ -39,7 +39,12 @@ impl Turn {
                 serve(alloc, files, request, &mut reply)?;
             }
             Turn::ServeAs(files, range) => {
-                serve(alloc, files, &reranged(alloc, request, range)?, &mut reply)?;
+                serve(
+                    alloc,
+                    files,
+                    &with_range(alloc, request, range)?,
+                    &mut reply,
+                )?;
             }
             Turn::Cut(files, count) => {
                 serve(alloc, files, request, &mut reply)?;
@@ -67,8 +72,8 @@ fn serve(
     }
 }
 
-// The request with another line in the place of its `Range: ..`.
-fn reranged(alloc: Global, request: &[u8], range: &[u8]) -> io::Result<Vec<u8>> {
+// Returns the request with another line in place of its `Range: ..`.
+fn with_range(alloc: Global, request: &[u8], range: &[u8]) -> io::Result<Vec<u8>> {
     let mut text = Vec::new(alloc);
     for line in request.split_inclusive(|byte| *byte == b'\n') {
         let is_range = line.starts_with(b"Range:");
@@ -77,7 +82,7 @@ fn reranged(alloc: Global, request: &[u8], range: &[u8]) -> io::Result<Vec<u8>> 
     Ok(text)
 }
 
-/// A connection to the server, which notes the request and replies at the first read.
+/// A connection to the server, which records the request and replies at the first read.
 #[derive(Drop)]
 pub struct Conn<'a> {
     alloc: Global,
@@ -90,7 +95,7 @@ pub struct Conn<'a> {
 }
 
 impl Conn<'_> {
-    fn note_request(&self) -> io::Result<()> {
+    fn record_request(&self) -> io::Result<()> {
         let Ok(mut requests) = self.requests.try_borrow_mut() else {
             return Err(io::Error::from(ErrorKind::Other));
         };
@@ -110,7 +115,7 @@ impl Read for Conn<'_> {
             return Err(io::Error::from(ErrorKind::ConnectionReset));
         }
         if self.reads == 1 {
-            self.note_request()?;
+            self.record_request()?;
             self.reply = Cursor::new(self.turn.reply(self.alloc, &self.request)?);
         }
         let count = STEP.min(buf.len());
@@ -136,8 +141,8 @@ impl Write for Conn<'_> {
     }
 }
 
-/// A server that treats each connection by the turn of its number, and those after them by the last turn. It notes the
-/// requests to which it replies, each after the line `connection`.
+/// A server with a turn for each connection; the last turn counts for all further ones. It records the requests to which
+/// it replies, each after the line `connection`.
 #[derive(Drop)]
 pub struct Server<'a> {
     alloc: Global,

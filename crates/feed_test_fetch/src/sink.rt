@@ -4,7 +4,8 @@ use std::cell::Cell;
 use std::io;
 use std::io::{ErrorKind, Write};
 
-/// Keeps what is written, and fails at the write or flush of that number, counted from 1 over all that share the count.
+/// Stores the bytes written. Fails at the write or flush of this number, counted from 1 over all sinks that share the
+/// count.
 #[derive(Drop)]
 pub struct Sink<'a> {
     pub text: Vec<u8>,
