@@ -43,7 +43,7 @@ impl Response {
 
     /// Returns the bytes of the reply, and forgets the rest.
     pub fn into_bytes(self) -> Vec<u8>
-        ensures { result.items ≡ self.entry.bytes }
+        ensures { result.items ≡ self.bytes }
     {
         self.bytes
     }
