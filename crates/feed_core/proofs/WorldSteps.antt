@@ -1,25 +1,25 @@
 -- A step of one node as a step of the world, and lists that advance together.
 use Rattle.std.proofs.Common.{◌≡◌, ◌+◌, ◌++◌, ℕ, suc, Bool, List, [], ◌∷◌, length, slice_get, Some, refl, sym, ◌∙◌, ap, subst, arith}
-use Rattle.std.specs.Borrow.{Bor}
 use Rattle.std.proofs.lemmas.List.{append-nil, length-append}
 use Rattle.std.proofs.Math.Seq.{append_snoc}
 use Rattle.feed_model.specs.History.{History}
 use Rattle.feed_model.specs.Content.{Content, IsContent}
 use Rattle.feed_world.specs.World.{World, Node, WorldEvent, Line, Shelf, Happens}
-use Rattle.feed_core.specs.Step.{AllClean, AreNodes, AreKept, IsNodeStep, IsWorldStep, IsShelf}
+use Rattle.feed_core.specs.Step.{AllClean, AreNodes, AreKept, Files, IsNodeStep, IsWorldStep, IsShelf}
 
 -- a node advances, and the published files stay the same
 pub step_to : {M : Type 0} (clean : M → Type 0) (has_state : M → Bool → History → Type 0) (fits : Shelf
-    → Type 0) (files : List (Bor (List ℕ) × Bor (List ℕ))) (old new : List M) (event : WorldEvent) (line : Line) → ((shelf : Shelf) → IsShelf files shelf → fits shelf)
-    → IsNodeStep clean has_state fits old new event line → IsWorldStep clean has_state files files old new event line
-step_to clean has_state fits files old new event line fit goes all =
-    let r = goes all in
+    → Type 0) (files : Files) (old new : List M) (event : WorldEvent) (line : Line) → ((shelf : Shelf) → IsShelf files shelf → fits shelf)
+    → IsNodeStep clean has_state fits old new event line → IsWorldStep clean has_state (record { files = files; nodes = old }) (record { files = files; nodes = new }) event line
+step_to clean has_state fits files old new event line fit step all =
+    let r = step all in
     (r.0, λ w is n. (let t = r.1 w (fit w.shelf is) n in (t.0, t.1, subst (IsShelf files) (sym t.2) is, t.3)))
 
 -- a file is published, and the nodes stay
-pub publishes : {M : Type 0} (clean : M → Type 0) (has_state : M → Bool → History → Type 0) (before files : List (Bor (List ℕ) × Bor (List ℕ))) (nodes : List M) (event : WorldEvent)
+pub publishes : {M : Type 0} (clean : M → Type 0) (has_state : M → Bool → History → Type 0) (before files : Files) (nodes : List M) (event : WorldEvent)
     (line : Line)
-    → ((w : World) → IsShelf before w.shelf → (v : World) × Happens w event line v × IsShelf files v.shelf × (v.nodes ≡ w.nodes)) → IsWorldStep clean has_state before files nodes nodes event line
+    → ((w : World) → IsShelf before w.shelf → (v : World) × Happens w event line v × IsShelf files v.shelf × (v.nodes ≡ w.nodes))
+    → IsWorldStep clean has_state (record { files = before; nodes = nodes }) (record { files = files; nodes = nodes }) event line
 publishes clean has_state before files nodes event line publish all =
     (all, λ w is n. (let t = publish w is in (t.0, t.1, t.2, subst (AreNodes has_state nodes) (sym t.3) n)))
 

@@ -86,26 +86,36 @@ abbrev pub stop_event : Point → ℕ → Sent → WorldEvent
 stop_event Before node sent = StopBefore node sent
 stop_event After node sent = StopAfter node sent
 
+-- the published files of the code, by the texts of their names
+abbrev pub Files : Type 0
+Files = List (Bor (List ℕ) × Bor (List ℕ))
+
 -- the file found by the text of a name
-abbrev pub file_at : List (Bor (List ℕ) × Bor (List ℕ)) → Bor (List ℕ) → Option (List ℕ)
+abbrev pub file_at : Files → Bor (List ℕ) → Option (List ℕ)
 file_at files key = option_map (λ f. f.now) (lookup (is_at (λ k. slice_cmp nat_cmp key.now k.now)) files)
 
 -- the files of the code are those of the shelf, found by the texts of their names
-abbrev pub IsShelf : List (Bor (List ℕ) × Bor (List ℕ)) → Shelf → Type 0
+abbrev pub IsShelf : Files → Shelf → Type 0
 IsShelf files shelf = (n : Name) (key : Bor (List ℕ)) → IsName key.now n → file_on shelf n ≡ file_at files key
 
--- the same, with a shelf on which more may be published
-abbrev pub IsWorldStep : {M : Type 0} → (M → Type 0) → (M → Bool → History → Type 0) → List (Bor (List ℕ) × Bor (List ℕ)) → List (Bor (List ℕ) × Bor (List ℕ)) → List M
-    → List M → WorldEvent → Line → Type 0
-IsWorldStep clean has_state before files old new event line =
-    AllClean clean new → AllClean clean old × ((w : World) → IsShelf before w.shelf → AreNodes has_state old w.nodes → (v : World) × Happens w event line v × IsShelf files v.shelf
-    × AreNodes has_state new v.nodes)
+-- the published files and the nodes of the code, between two events
+pub record Moment (M : Type 0) : Type 0 where
+  pub files : Files
+  pub nodes : List M
 
--- If all nodes are clean, the lines so far show the events so far, and the nodes represent the world that they lead to.
-abbrev pub HasShown : {M : Type 0} → (M → Type 0) → (M → Bool → History → Type 0) → ℕ → List WorldEvent → List Line → List (Bor (List ℕ) × Bor (List ℕ)) → List M
-    → Type 0
-HasShown clean has_state count events lines files nodes =
-    AllClean clean nodes → (w : World) × Shows (start count) events lines w × IsShelf files w.shelf × AreNodes has_state nodes w.nodes
+-- If all nodes are clean now, they were clean before; and from each world that the files and the nodes represent, the
+-- event may be shown by this line and lead to a world that they represent.
+abbrev pub IsWorldStep : {M : Type 0} → (M → Type 0) → (M → Bool → History → Type 0) → Moment M → Moment M → WorldEvent → Line → Type 0
+IsWorldStep clean has_state old new event line =
+    AllClean clean new.nodes
+    → AllClean clean old.nodes × ((w : World) → IsShelf old.files w.shelf → AreNodes has_state old.nodes w.nodes
+    → (v : World) × Happens w event line v × IsShelf new.files v.shelf × AreNodes has_state new.nodes v.nodes)
+
+-- If all nodes are clean, the lines so far show the events so far, and the files and the nodes represent the world that
+-- they lead to.
+abbrev pub HasShown : {M : Type 0} → (M → Type 0) → (M → Bool → History → Type 0) → ℕ → List WorldEvent → List Line → Moment M → Type 0
+HasShown clean has_state count events lines now =
+    AllClean clean now.nodes → (w : World) × Shows (start count) events lines w × IsShelf now.files w.shelf × AreNodes has_state now.nodes w.nodes
 
 -- each keeper has a content of the history of the world's node
 abbrev pub AreKept : {K : Type 0} → (K → Content) → List K → List Node → Type 0

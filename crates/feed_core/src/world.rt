@@ -158,7 +158,8 @@ fn show<'a, N: Node + Drop>(
     event: &'a WorldEvent,
 ) -> Result<Line, AllocError>
     ensures step { IfOk result (λ line. IsWorldStep N.clean N.has_state
-        shelf.old.files.entries shelf.new.files.entries nodes.old.items nodes.new.items
+        (record { files = shelf.old.files.entries; nodes = nodes.old.items })
+        (record { files = shelf.new.files.entries; nodes = nodes.new.items })
         (shown_event event.now) (shown_line line)) }
     ensures device { IfOk result (λ line. AreCounted (λ i. (node_of (shown_event event.now) ≡ Some i)
         × IsDeviceFailure (shown_line line)) N.failed N.failed 1 nodes.old.items nodes.new.items) }

@@ -3,8 +3,8 @@ use Rattle.std.proofs.Common.{◌≤◌, ℕ, inl, inr, arith}
 use Rattle.feed_keep.specs.Cause.{HasFailed, HasFailedSince, IsCounted}
 
 -- the same count for an equivalent condition
-pub told_as : {P Q : Type 0} {a b : ℕ} → IsCounted P a b → (Q → P) → (P → Q) → IsCounted Q a b
-told_as so less more = record { rises = so.rises; failed = λ q. so.failed (less q); stays = λ not. so.stays (λ p. not (more p)) }
+pub reported_as : {P Q : Type 0} {a b : ℕ} → IsCounted P a b → (Q → P) → (P → Q) → IsCounted Q a b
+reported_as so less more = record { rises = so.rises; failed = λ q. so.failed (less q); stays = λ not. so.stays (λ p. not (more p)) }
 
 pub failed_since : (a b : ℕ) → HasFailed a b → HasFailedSince a b
 failed_since a b (inl rose) = inl rose

@@ -17,7 +17,7 @@ use Rattle.feed_model.specs.declared.state.State.{State}
 use Rattle.feed_model.specs.declared.state.State.TheVariants.{Staged, Broken, Active}
 use Rattle.feed_model.specs.History.{History, Reports}
 use Rattle.feed_model.specs.Content.{Part, Record, names, IsContent}
-use Rattle.feed_model.proofs.HasActive.{name_self}
+use Rattle.feed_model.proofs.Names.{name_self}
 use Rattle.feed_model.proofs.Lookups.{name-record_of}
 use Rattle.feed_model.proofs.Tests.{record_good, not_passed_active}
 use Rattle.feed_model.proofs.Reports.{active_one}

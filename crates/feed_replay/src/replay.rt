@@ -15,8 +15,8 @@ const INPUT: &str = "standard input";
 
 /// Replays the script on standard input over nodes with keepers in memory, and prints the transcript to `out`. The
 /// script may publish files of this machine by their paths. A fault prints a line to `faults` and nothing to `out`.
-/// Returns the exit status: 0 whatever the lines of the transcript are, 1 for an invalid script, 3 for a failing read or
-/// print and for running out of memory.
+/// Returns the exit status: 0 whatever the lines of the transcript are, 1 for an invalid script, 3 for a failing read
+/// or print and for running out of memory.
 pub fn replay_input<O: Write, F: Write + Drop>(
     rt: &HostRuntime,
     out: &mut O,

@@ -9,7 +9,8 @@ use Rattle.feed_core.proofs.world.show_all.Given as goal
 -- reported
 abbrev pub invariant-loop-event : goal.invariant-loop-event
 invariant-loop-event g l = record {
-  shown : HasShown g.N.Node.clean g.N.Node.has_state (vec_len l.initial.nodes) (map shown_event (take l.event-index l.events)) (map shown_line l.lines.items) l.shelf.files.entries l.nodes.items;
+  shown : HasShown g.N.Node.clean g.N.Node.has_state (vec_len l.initial.nodes) (map shown_event (take l.event-index l.events)) (map shown_line l.lines.items)
+      (record { files = l.shelf.files.entries; nodes = l.nodes.items });
   counted : AreCounted (HasDeviceFailure (map shown_event (take l.event-index l.events)) (map shown_line l.lines.items)) g.N.Node.failed g.N.Node.failed 1 l.initial.nodes.items l.nodes.items;
   lines : length l.lines.items ≡ l.event-index;
   count : length l.nodes.items ≡ vec_len l.initial.nodes;

@@ -2,7 +2,7 @@ use Rattle.std.proofs.Common.{inl, refl, sym, ◌∙◌, ap, arith}
 use Rattle.std.proofs.lemmas.Result.{err_from_is_err_and}
 use Rattle.feed_model.specs.Change.{after, without_earlier}
 use Rattle.feed_model.proofs.Pieces.{piece_refused}
-use Rattle.feed_keep.proofs.Failed.{told_as}
+use Rattle.feed_keep.proofs.Failed.{reported_as}
 use Rattle.feed_releases.specs.ReleaseValue.{ReleaseValue, content_of}
 use Rattle.feed_releases.specs.Growth.{change_of, parts_of}
 use Rattle.feed_releases.proofs.Answering.{idle, grown_commits, memory_not, memory_not_full, only_memory, refused, refused_with, taken_in}
@@ -56,7 +56,7 @@ returns-in_err-reply g c =
     let back = set_back rs c.args.at r c.grow.new.self c.index_mut.ensures.value c.in_err-reply.ensures.same in
     let p = err_from_is_err_and c.from_residual-in_err-reply.result c.from_residual-in_err-reply.ensures.1 in
     rw (p.1, p.2) (refused_with c.args.self.now _ _ c.in_err-reply.field-0.0 back c.in_err-reply.ensures.committed.was
-    (told_as c.in_err-reply.ensures.committed.counted (λ e. cc) (λ e. cc)) c.in_err-reply.ensures.committed.fault
+    (reported_as c.in_err-reply.ensures.committed.counted (λ e. cc) (λ e. cc)) c.in_err-reply.ensures.committed.fault
     (piece_refused (content_of rs) n c.args.first c.args.total c.args.bytes.now r.kept _ reach lies.0 lies.1 (refused c.in_err-reply.field-0.0 c.in_err-reply.ensures.committed.fault)))
 
 pub invariant_of-self-in-Activated-clause-mirrors : goal.invariant_of-self-in-Activated-clause-mirrors
@@ -103,7 +103,7 @@ returns-in-Activated g c =
     (ap (λ (y : ReleaseValue). y.kept) c.in_ok-reply.ensures.taken) in
     let content = c.drop_earlier.ensures.dropped ∙ ap (without_earlier n) grown
     ∙ sym (after_activated n r.kept growth (content_of rs) name (sym c.in_ok-reply.ensures.reply ∙ c.in-Activated.is)) in
-    rw c.in_ok-reply.ensures.reply (taken_in c.args.self.now _ _ _ c.in_ok-reply.ensures.committed.was (told_as c.in_ok-reply.ensures.committed.counted (λ e. cc) (λ e. cc))
+    rw c.in_ok-reply.ensures.reply (taken_in c.args.self.now _ _ _ c.in_ok-reply.ensures.committed.was (reported_as c.in_ok-reply.ensures.committed.counted (λ e. cc) (λ e. cc))
     (grown_commits growth.missing growth.standing)
     (rw content (growth_right (content_of rs) n c.args.first c.args.total c.args.bytes.now r.kept growth name (c.requires.reaches r.kept found) (c.requires.new r.kept found)
     (rw same at c.in_ok-growth.ensures.growth))))
@@ -120,7 +120,7 @@ returns-in_default g c =
     let grown = record_after_at rs n c.args.at r c.grow.new.self (parts_of growth) growth.standing c.requires.place c.index_mut.ensures.value
     (ap (λ (y : ReleaseValue). y.kept) c.in_ok-reply.ensures.taken) in
     let content = grown ∙ sym (after_kept n r.kept growth (content_of rs) name (λ e. c.in_default.not-Activated (c.in_ok-reply.ensures.reply ∙ e))) in
-    rw c.in_ok-reply.ensures.reply (taken_in c.args.self.now _ _ _ c.in_ok-reply.ensures.committed.was (told_as c.in_ok-reply.ensures.committed.counted (λ e. cc) (λ e. cc))
+    rw c.in_ok-reply.ensures.reply (taken_in c.args.self.now _ _ _ c.in_ok-reply.ensures.committed.was (reported_as c.in_ok-reply.ensures.committed.counted (λ e. cc) (λ e. cc))
     (grown_commits growth.missing growth.standing)
     (rw content (growth_right (content_of rs) n c.args.first c.args.total c.args.bytes.now r.kept growth name (c.requires.reaches r.kept found) (c.requires.new r.kept found)
     (rw same at c.in_ok-growth.ensures.growth))))
