@@ -1,6 +1,6 @@
-# kbfeed: the targets that a reader needs. To build and to test, the toolchain's command `rt` has to be on the path.
+# Builds, tests and installs kbfeed. Building and testing need the toolchain's command `rt` on the path.
 BUILT = crates/kbfeed/out/kbfeed
-# What is installed. A program that is given here is taken as it is.
+# The program to install. `make install PROGRAM=FILE` installs FILE as it is, and builds nothing.
 PROGRAM = $(BUILT)
 PREFIX = /usr/local
 DESTDIR =
@@ -12,7 +12,7 @@ SOURCES = crates.txt $(shell find crates -name out -prune -o \( -name '*.rt' -o 
 DOC = share/doc/kbfeed
 PAGES = README.md CHANGELOG.md LICENSE SECURITY.md $(wildcard docs/*.md docs/*.svg docs/*.png samples/*.script samples/*.transcript \
 	samples/lists/* samples/fleet/*)
-# What is installed beside the program: each file, and its place below PREFIX.
+# The other files to install, each with its place below PREFIX.
 DATA = man/kbfeed.1:share/man/man1/kbfeed.1 \
 	completions/kbfeed.bash:share/bash-completion/completions/kbfeed \
 	completions/_kbfeed:$(ZSH_FUNCTIONS)/_kbfeed \
@@ -24,8 +24,8 @@ INTO = $(DESTDIR)$(PREFIX)
 
 help:
 	@echo "make build      proves the crates side by side, builds the program, and leaves it at $(BUILT)"
-	@echo "make replay     replays the scripts of samples/ by the proved program, or, while there is none that is newer"
-	@echo "                than the sources, by a small program without proof; it compares the transcripts"
+	@echo "make replay     replays the scripts of samples/ and compares the transcripts, with the proved program, or with a"
+	@echo "                small one without proof if the proved one is missing or older than a source"
 	@echo "make test       what CI runs: the pages, every proof, the mutants that must be rejected, and the sessions"
 	@echo "make install    installs the program, its page, its completions and its docs below DESTDIR and PREFIX"
 	@echo "                ($(PREFIX)); it builds a program that is missing or older than a source, and PROGRAM=FILE"
@@ -35,16 +35,16 @@ help:
 	@echo "                name its maintainer"
 	@echo
 	@echo "For daily work:"
-	@echo "make check CRATE=x       proves one crate over the work that earlier checks kept"
+	@echo "make check CRATE=x       proves one crate, and only what changed since the last check"
 	@echo "make sessions [ONLY=x]   runs the sessions of tests/, or some by name, with the program that is built"
 	@echo "make pages               compares the pages with the sources and the sessions"
-	@echo "make fmt                 lays out every crate's sources, as the proofs require"
-	@echo "make lint                widths and module docs, and shellcheck and a Python linter if they are installed"
+	@echo "make fmt                 formats the sources of every crate, as the proofs require"
+	@echo "make lint                checks widths and module docs, and runs shellcheck and a Python linter if installed"
 
 build:
 	@tools/build
 
-# The toolchain leaves a program that it need not build again as it is, older than a source that was only touched.
+# If a source was only touched, the toolchain leaves the program as it is, with its old time.
 $(BUILT): $(SOURCES)
 	@tools/build && touch $@
 
@@ -78,7 +78,7 @@ install: $(PROGRAM)
 	put 755 "$(PROGRAM)" "$(INTO)/bin/kbfeed" || exit; \
 	for file in $(DATA); do put 644 "$${file%%:*}" "$(INTO)/$${file##*:}" || exit; done
 
-# Of the folders only those that are the program's own are removed, where nothing else is in them.
+# Removes the files, and then the program's own folders if nothing else is in them.
 uninstall:
 	@for place in bin/kbfeed $(foreach file,$(DATA),$(lastword $(subst :, ,$(file)))); do \
 		rm -f "$(INTO)/$$place" || exit; \

@@ -1,4 +1,4 @@
-//! The parts of JSON that `write!` does not know: quoted texts, and the commas between the items of a list or an object.
+//! The parts of JSON that `write!` does not know: quoted texts, and the commas in a list or an object.
 use std::alloc::Global;
 use std::io::{ErrorKind, Write};
 use std::{io, str};
