@@ -13,7 +13,7 @@ use Rattle.feed_http_heads.specs.declared.http_fault.HttpFault.{HttpFault}
 use Rattle.feed_http.specs.declared.fetching.got.Method.{Method}
 use Rattle.feed_http.specs.declared.fetching.got.Got.{Got}
 use Rattle.feed_http.specs.declared.fetching.validation.Announcement.{Announcement}
-use Rattle.feed_http.specs.Limits.{head_limit, field_limit}
+use Rattle.feed_http_heads.specs.Limits.{head_limit, field_limit}
 use Rattle.feed_http_heads.specs.ReplyHeads.{BeginsWithHeads, print_heads}
 use Rattle.feed_http_heads.specs.ReplyReads.{IsReplyIn}
 use Rattle.feed_http.specs.Announcements.{announcement_of}

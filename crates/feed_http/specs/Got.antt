@@ -10,7 +10,7 @@ use Rattle.feed_http.specs.declared.fetching.validation.Framing.{Framing}
 use Rattle.feed_http.specs.declared.fetching.validation.Framing.TheVariants.{Chunked, Sized, ToEnd}
 use Rattle.feed_http.specs.declared.fetching.validation.Announcement.{Announcement}
 use Rattle.feed_http.specs.declared.fetching.validation.Announcement.TheVariants.{Missing, Unsatisfied, Size, Part, Whole}
-use Rattle.feed_http.specs.Limits.{head_limit, field_limit}
+use Rattle.feed_http_heads.specs.Limits.{head_limit, field_limit}
 use Rattle.feed_limits.specs.Limits.{file_limit}
 use Rattle.feed_http_heads.specs.ReplyHeads.{BeginsWithHeads, IsNoReply}
 use Rattle.feed_http.specs.Announcements.{announcement_of}

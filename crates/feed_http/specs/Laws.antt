@@ -2,7 +2,7 @@
 use Rattle.std.specs.Prelude.{◌≡◌, ◌≤◌, ◌<◌, ◌+◌, ◌-◌, ◌^◌, ℕ, List, length, min, slice_range, IsTrue, Some, Result, Ok, Err, ⊤}
 use Rattle.httparse.specs.Grammar.{RequestHead}
 use Rattle.feed_names.specs.ReleaseName.{Name, IsName, text_of}
-use Rattle.feed_http.specs.Limits.{head_limit, field_limit}
+use Rattle.feed_http_heads.specs.Limits.{head_limit, field_limit}
 use Rattle.feed_limits.specs.Limits.{piece_limit}
 use Rattle.feed_http.specs.RequestTexts.{is_host, get_text, head_request_text}
 use Rattle.feed_http_heads.specs.RequestHeads.{BeginsWithHead}

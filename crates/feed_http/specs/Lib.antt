@@ -1,7 +1,3 @@
-pub use Rattle.feed_http_heads.specs.RequestHeads
-pub use Rattle.feed_http_heads.specs.Fields
-pub use Rattle.feed_http_heads.specs.ReplyHeads
-pub use Rattle.feed_http_heads.specs.ReplyReads
 pub mod Limits
 pub mod Shelves
 pub mod MemoryShelves

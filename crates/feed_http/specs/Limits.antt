@@ -1,7 +1,6 @@
--- The limits of messages. No standard sets them: RFC 9110 (section 5.4) and RFC 9112 (section 7.1) leave them to each
+-- The limits of chunks and hosts. No standard sets them: RFC 9112 (section 7.1) leaves that of a chunk's line to each
 -- end.
 use Rattle.std.specs.Prelude.{ℕ}
-pub use Rattle.feed_http_heads.specs.Limits.{head_limit, field_limit}
 
 -- the most bytes of the line of a chunk, with its CR LF
 abbrev pub chunk_line_limit : ℕ

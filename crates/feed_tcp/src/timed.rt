@@ -78,7 +78,9 @@ impl Deadline {
     }
 
     // Writes before the deadline, and extends it by the bytes written.
-    fn write(&mut self, rt: &HostRuntime, mut stream: &TcpStream, buf: &[u8]) -> io::Result<usize> {
+    fn write(&mut self, rt: &HostRuntime, mut stream: &TcpStream, buf: &[u8]) -> io::Result<usize>
+        ensures { IfOk result (λ count. count ≤ length buf.now) }
+    {
         if let Some(timeout) = self.next_timeout(rt)? {
             stream.set_write_timeout(Some(timeout))?;
         }

@@ -4,7 +4,8 @@ ghost use Rattle.std.specs.Prelude.{length, Some, OnOk, IfOk, IfErr, IfSome, Mat
 ghost use Rattle.std.specs.Io.KnownBytes.{Consumes};
 ghost use Rattle.httparse.specs.Ascii.{crlf_bytes};
 ghost use Rattle.httparse.specs.Grammar.{HasNoChunkLine, HasNoSection};
-ghost use Rattle.feed_http.specs.Limits.{chunk_line_limit, head_limit};
+ghost use Rattle.feed_http_heads.specs.Limits.{head_limit};
+ghost use Rattle.feed_http.specs.Limits.{chunk_line_limit};
 ghost use Rattle.feed_http.specs.Got.{IsReadingFault};
 ghost use Rattle.feed_http.specs.Chunks.{IsLineTaken, IsLineFault, AreTrailersTaken, IsTrailersFault, IsEndFault};
 ghost use Rattle.feed_http.specs.Chunks.{IsChunkTaken, IsChunkFault, IsBodyChunked, IsChunkedFault};

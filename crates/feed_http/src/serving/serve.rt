@@ -5,7 +5,7 @@ ghost use Rattle.std.specs.Io.KnownBytes.{Keeps};
 ghost use Rattle.httparse.specs.Grammar.{RequestHead};
 ghost use Rattle.feed_range.specs.Ask.{IsInside};
 ghost use Rattle.feed_names.specs.ReleaseName.{Name};
-ghost use Rattle.feed_http.specs.Limits.{head_limit, field_limit};
+ghost use Rattle.feed_http_heads.specs.Limits.{head_limit, field_limit};
 ghost use Rattle.feed_http_heads.specs.RequestHeads.{BeginsWithHead};
 ghost use Rattle.feed_http_heads.specs.Requests.{IsInBuffer, HasHead};
 ghost use Rattle.feed_http.specs.Requests.{IsNamedBy};
