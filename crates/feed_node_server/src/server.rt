@@ -54,7 +54,7 @@ pub struct Server {
     listener: TcpListener,
     peers: Slab<Peer>,
     outgoing: Option<OutgoingRequest>,
-    streams: Slab<StreamedReply>,
+    streams: Vec<StreamedReply>,
     buffer: Vec<u8>,
     settings: Settings,
     last_tick: Instant,
@@ -82,7 +82,7 @@ impl Server {
             listener,
             peers,
             outgoing: None,
-            streams: Slab::new(alloc),
+            streams: Vec::new(alloc),
             buffer,
             settings,
             last_tick,
@@ -129,25 +129,23 @@ impl Server {
 
     /// Appends a text to the bodies of the streamed replies.
     pub fn send_to_streams(&mut self, text: &[u8]) {
-        self.streams.retain(|_, stream| {
+        for stream in self.streams.iter_mut() {
             stream.append(text);
-            true
-        });
+        }
         self.advance_streams();
     }
 
     /// Completes the streamed replies.
     pub fn finish_streams(&mut self) {
-        self.streams.retain(|_, stream| {
+        for stream in self.streams.iter_mut() {
             stream.finish();
-            true
-        });
+        }
         self.advance_streams();
     }
 
     fn advance_streams(&mut self) {
         let buffer = &mut self.buffer;
-        self.streams.retain(|_, stream| {
+        self.streams.retain_mut(|stream| {
             stream.advance(buffer);
             !stream.is_over()
         });
@@ -222,7 +220,7 @@ impl Server {
             return;
         }
         let stream = StreamedReply::new(self.alloc, stream, self.settings.limit);
-        let _ = self.streams.insert(stream);
+        let _ = self.streams.push(stream);
     }
 
     fn close<L: Log>(&mut self, key: usize, log: &mut L) {
@@ -309,10 +307,10 @@ impl Server {
         if let Some(outgoing) = &mut self.outgoing {
             outgoing.advance_clock(millis);
         }
-        self.streams.retain(|_, stream| {
+        for stream in self.streams.iter_mut() {
             stream.advance_clock(millis);
-            !stream.is_over()
-        });
+        }
+        self.advance_streams();
         self.peers.retain(|_, peer| {
             let is_over = peer.advance_clock(millis);
             if is_over {
