@@ -19,7 +19,7 @@ const BYTES_PER_SECOND: usize = 65_536;
 #[derive(Clone, Copy)]
 pub struct Destination {
     pub addr: SocketAddr,
-    /// The milliseconds that the request and its reply may take, beside a second for each 65,536 bytes sent or received.
+    /// The milliseconds that the request and its reply may take, and a second more for each 65,536 bytes that move.
     pub limit: u64,
     /// The bytes of the reply after which no more are read.
     pub reply_limit: usize,
