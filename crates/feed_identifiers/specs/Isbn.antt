@@ -5,6 +5,16 @@ use Rattle.std.specs.Char.{is_ascii_digit}
 use Rattle.feed_identifiers.specs.Check.{check_value, is_check}
 use Rattle.feed_identifiers.specs.Text.{trimmed}
 
+-- a function of three characters, applied to those of an array
+abbrev pub at_three : {A : Type 0} → (ℕ → ℕ → ℕ → A) → List ℕ → A
+at_three f characters = f (slice_index characters 0) (slice_index characters 1) (slice_index characters 2)
+
+-- a function of nine characters, applied to those of an array
+abbrev pub at_nine : {A : Type 0} → (ℕ → ℕ → ℕ → ℕ → ℕ → ℕ → ℕ → ℕ → ℕ → A) → List ℕ → A
+at_nine f characters =
+    f (slice_index characters 0) (slice_index characters 1) (slice_index characters 2) (slice_index characters 3) (slice_index characters 4)
+    (slice_index characters 5) (slice_index characters 6) (slice_index characters 7) (slice_index characters 8)
+
 -- whether all nine are digits
 abbrev pub are_nine_digits : ℕ → ℕ → ℕ → ℕ → ℕ → ℕ → ℕ → ℕ → ℕ → Bool
 are_nine_digits a b c d e f g h i =

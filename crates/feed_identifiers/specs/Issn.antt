@@ -4,6 +4,12 @@ use Rattle.std.specs.Char.{is_ascii_digit}
 use Rattle.feed_identifiers.specs.Check.{capital, check_value, is_check}
 use Rattle.feed_identifiers.specs.Text.{trimmed}
 
+-- a function of seven characters, applied to those of an array
+abbrev pub at_seven : {A : Type 0} → (ℕ → ℕ → ℕ → ℕ → ℕ → ℕ → ℕ → A) → List ℕ → A
+at_seven f characters =
+    f (slice_index characters 0) (slice_index characters 1) (slice_index characters 2) (slice_index characters 3) (slice_index characters 4)
+    (slice_index characters 5) (slice_index characters 6)
+
 -- the sum of the characters with the weights 8 to 1
 abbrev pub weighted : ℕ → ℕ → ℕ → ℕ → ℕ → ℕ → ℕ → ℕ → ℕ
 weighted a b c d e f g check =

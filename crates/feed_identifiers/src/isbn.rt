@@ -1,8 +1,9 @@
 //! International Standard Book Numbers (ISO 2108): parsing, validation and the conversion of the ten-character form.
-ghost use Rattle.std.specs.Prelude.{◌≡◌, ◌≤◌, ◌<◌, IfNone, IfSome, length, slice_index, take};
+ghost use Rattle.std.specs.Prelude.{◌≡◌, ◌≤◌, ◌<◌, IfNone, IfSome, length, take};
 ghost use Rattle.std.specs.List.{filter};
-ghost use Rattle.feed_identifiers.specs.Isbn.{are_nine_digits, is_no_hyphen, of_ten, of_thirteen, isbn_of_characters};
-ghost use Rattle.feed_identifiers.specs.Isbn.{check_digit, isbn_of, sum_of_nine, sum_of_twelve, thirteen};
+ghost use Rattle.feed_identifiers.specs.Isbn.{are_nine_digits, at_nine, at_three, check_digit, is_no_hyphen};
+ghost use Rattle.feed_identifiers.specs.Isbn.{isbn_of, isbn_of_characters, of_ten, of_thirteen};
+ghost use Rattle.feed_identifiers.specs.Isbn.{sum_of_nine, sum_of_twelve, thirteen};
 
 use crate::check::{check_value, is_check};
 use crate::text::trim_spaces;
@@ -116,9 +117,7 @@ fn digits_of(characters: &[u8]) -> Option<[u8; 13]>
 
 // Returns whether all nine are digits.
 fn are_digits(digits: [u8; 9]) -> bool
-    ensures { result ≡ are_nine_digits (slice_index digits 0) (slice_index digits 1) (slice_index digits 2)
-        (slice_index digits 3) (slice_index digits 4) (slice_index digits 5)
-        (slice_index digits 6) (slice_index digits 7) (slice_index digits 8) }
+    ensures { result ≡ at_nine are_nine_digits digits }
 {
     let [a, b, c, d, e, f, g, h, i] = digits;
     a.is_ascii_digit()
@@ -134,9 +133,7 @@ fn are_digits(digits: [u8; 9]) -> bool
 
 // The sum of 978 or 979 (`last` is its last digit) and nine digits, with the weights 1, 3, 1, 3 and so on.
 fn sum_of_twelve(last: u8, digits: [u8; 9]) -> u32
-    ensures { result ≡ sum_of_twelve last (slice_index digits 0) (slice_index digits 1) (slice_index digits 2)
-        (slice_index digits 3) (slice_index digits 4) (slice_index digits 5)
-        (slice_index digits 6) (slice_index digits 7) (slice_index digits 8) }
+    ensures { result ≡ at_nine (sum_of_twelve last) digits }
 {
     let [a, b, c, d, e, f, g, h, i] = digits;
     let value = |digit: u8| -> u32 { digit.saturating_sub(b'0') as u32 };
@@ -155,9 +152,7 @@ fn sum_of_twelve(last: u8, digits: [u8; 9]) -> u32
 
 // The sum of the nine digits of the older form, with the weights 10 to 2.
 fn sum_of_nine(digits: [u8; 9]) -> u32
-    ensures { result ≡ sum_of_nine (slice_index digits 0) (slice_index digits 1) (slice_index digits 2)
-        (slice_index digits 3) (slice_index digits 4) (slice_index digits 5)
-        (slice_index digits 6) (slice_index digits 7) (slice_index digits 8) }
+    ensures { result ≡ at_nine sum_of_nine digits }
 {
     let [a, b, c, d, e, f, g, h, i] = digits;
     let value = |digit: u8| -> u32 { digit.saturating_sub(b'0') as u32 };
@@ -181,10 +176,7 @@ fn check_digit(sum: u32) -> u8
 
 // The thirteen digits, if they begin with 978 or 979 and the check digit is right.
 fn of_thirteen(front: [u8; 3], digits: [u8; 9], check: u8) -> Option<[u8; 13]>
-    ensures { result ≡ of_thirteen (slice_index front 0) (slice_index front 1) (slice_index front 2)
-        (slice_index digits 0) (slice_index digits 1) (slice_index digits 2)
-        (slice_index digits 3) (slice_index digits 4) (slice_index digits 5)
-        (slice_index digits 6) (slice_index digits 7) (slice_index digits 8) check }
+    ensures { result ≡ at_nine (at_three of_thirteen front) digits check }
 {
     let [first, second, last] = front;
     if first != b'9' || second != b'7' || !(last == b'8' || last == b'9') {
@@ -201,9 +193,7 @@ fn of_thirteen(front: [u8; 3], digits: [u8; 9], check: u8) -> Option<[u8; 13]>
 
 // Nine digits and a check character, converted to thirteen digits, if the check character is right.
 fn of_ten(digits: [u8; 9], check: u8) -> Option<[u8; 13]>
-    ensures { result ≡ of_ten (slice_index digits 0) (slice_index digits 1) (slice_index digits 2)
-        (slice_index digits 3) (slice_index digits 4) (slice_index digits 5)
-        (slice_index digits 6) (slice_index digits 7) (slice_index digits 8) check }
+    ensures { result ≡ at_nine of_ten digits check }
 {
     if !are_digits(digits) || !is_check(check) {
         return None;
@@ -216,9 +206,7 @@ fn of_ten(digits: [u8; 9], check: u8) -> Option<[u8; 13]>
 
 // The thirteen digits: 978 or 979 (`last` is its last digit), nine digits and a check digit.
 fn thirteen(last: u8, digits: [u8; 9], check: u8) -> [u8; 13]
-    ensures { result ≡ thirteen last (slice_index digits 0) (slice_index digits 1) (slice_index digits 2)
-        (slice_index digits 3) (slice_index digits 4) (slice_index digits 5)
-        (slice_index digits 6) (slice_index digits 7) (slice_index digits 8) check }
+    ensures { result ≡ at_nine (thirteen last) digits check }
 {
     let [a, b, c, d, e, f, g, h, i] = digits;
     [b'9', b'7', last, a, b, c, d, e, f, g, h, i, check]

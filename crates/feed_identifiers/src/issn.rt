@@ -1,5 +1,5 @@
 //! International Standard Serial Numbers (ISO 3297): parsing and validation.
-ghost use Rattle.std.specs.Prelude.{◌≡◌, ◌<◌, slice_index};
+ghost use Rattle.std.specs.Prelude.{◌≡◌, ◌<◌};
 
 use crate::check::{capital, check_value, is_check};
 use crate::text::trim_spaces;
@@ -25,7 +25,7 @@ impl Model for Issn {
 }
 
 impl Issn {
-    ghost use Rattle.feed_identifiers.specs.Issn.{IsIssn, issn_of_digits, issn_of, number_of};
+    ghost use Rattle.feed_identifiers.specs.Issn.{IsIssn, at_seven, issn_of, issn_of_digits, number_of};
 
     /// Parses seven digits and a check character, with or without a hyphen after the fourth digit (ISO 3297).
     /// Trims spaces at both ends, and accepts a check character `x` as `X`. Returns `None` for anything else, such as a
@@ -75,9 +75,7 @@ impl Issn {
 
     // The ISSN of seven digits and a check character, if the check character is right.
     fn of_digits(digits: [u8; 7], check: u8) -> Option<Issn>
-        ensures { result ≡ issn_of_digits (slice_index digits 0) (slice_index digits 1)
-            (slice_index digits 2) (slice_index digits 3) (slice_index digits 4)
-            (slice_index digits 5) (slice_index digits 6) check }
+        ensures { result ≡ at_seven issn_of_digits digits check }
     {
         let printed = Issn::printed_bytes(digits, check)?;
         Some(Issn { printed })
@@ -85,9 +83,7 @@ impl Issn {
 
     // The printed bytes of that ISSN.
     fn printed_bytes(digits: [u8; 7], check: u8) -> Option<[u8; 9]>
-        ensures { result ≡ issn_of_digits (slice_index digits 0) (slice_index digits 1)
-            (slice_index digits 2) (slice_index digits 3) (slice_index digits 4)
-            (slice_index digits 5) (slice_index digits 6) check }
+        ensures { result ≡ at_seven issn_of_digits digits check }
     {
         let [a, b, c, d, e, f, g] = digits;
         let are_digits = a.is_ascii_digit()

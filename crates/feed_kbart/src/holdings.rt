@@ -108,7 +108,7 @@ impl<K: KeepRows> HoldingsBuilder<K> {
     ) -> Result<(), AllocError>
         ensures { OnOk result ((held : HoldingsValue) → length held.rows < file_limit → IsKept K.keeps held self.old
             → IsKept K.keeps
-                (join_holdings held (holdings_from columns.now number (fields_of fields.now ∷ []))) self.new) }
+            (join_holdings held (holdings_from columns.now number (fields_of fields.now ∷ []))) self.new) }
     {
         match Coverage::of(columns, fields) {
             Ok(coverage) => self.rows.add(alloc, number, coverage, columns, fields)?,
