@@ -169,12 +169,12 @@ pub fn write(rt: &HostRuntime, mut words: Words<'_>) -> Result<(), Fault> {
     let path = words.word()?;
     let name = name_of(rt, path)?;
     let holdings = holdings_of(rt, path)?;
-    let ending = written(rt, &holdings, &name, words.rest, room)?;
+    let ending = write_answer(rt, &holdings, &name, words.rest, room)?;
     print_ending(rt, ending)
 }
 
-// How it ends to write the answer.
-fn written(
+// Writes the answer to a query to a writer with this much room.
+fn write_answer(
     rt: &HostRuntime,
     holdings: &Holdings,
     name: &ReleaseName,
