@@ -19,8 +19,8 @@ pub enum Command<'a> {
     Database(DatabaseCommand<'a>),
 }
 
-/// The server that a node fetches releases from, the file with the token that a client needs to request a fetch, and how
-/// many bytes the node asks for at a time.
+/// The server that a node fetches releases from, the file with the token that a client needs to request a fetch, and
+/// how many bytes the node asks for at a time.
 #[derive(Clone, Copy)]
 pub struct Upstream<'a> {
     pub addr: &'a str,
