@@ -86,29 +86,23 @@ fn put_exchange<O: Write>(out: &mut O, request: &[u8], summary: ReplySummary) ->
     write!(out, "\" {} {}\n", summary.status, summary.body_len)
 }
 
+// The names of the months, three letters each.
+const MONTHS: &[u8] = b"JanFebMarAprMayJunJulAugSepOctNovDec";
+
 // Returns the name of a month, by the digits of its number.
-fn month_of(tens: u8, ones: u8) -> &'static [u8] {
-    match (tens, ones) {
-        (b'0', b'1') => b"Jan",
-        (b'0', b'2') => b"Feb",
-        (b'0', b'3') => b"Mar",
-        (b'0', b'4') => b"Apr",
-        (b'0', b'5') => b"May",
-        (b'0', b'6') => b"Jun",
-        (b'0', b'7') => b"Jul",
-        (b'0', b'8') => b"Aug",
-        (b'0', b'9') => b"Sep",
-        (b'1', b'0') => b"Oct",
-        (b'1', b'1') => b"Nov",
-        _ => b"Dec",
-    }
+fn month_name(tens: u8, ones: u8) -> &'static [u8] {
+    let tens = usize::from(tens.saturating_sub(b'0'));
+    let ones = usize::from(ones.saturating_sub(b'0'));
+    let months = tens.saturating_mul(10).saturating_add(ones);
+    let place = months.saturating_sub(1).saturating_mul(3);
+    MONTHS.get(place..place.saturating_add(3)).unwrap_or(b"")
 }
 
 // Prints a day as 25/Nov/2026.
 fn put_day<O: Write>(out: &mut O, date: [u8; 10]) -> io::Result<()> {
     let [a, b, c, d, _, e, f, _, g, h] = date;
     out.write_all(&[g, h, b'/'])?;
-    out.write_all(month_of(e, f))?;
+    out.write_all(month_name(e, f))?;
     out.write_all(&[b'/', a, b, c, d])
 }
 

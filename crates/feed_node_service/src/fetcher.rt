@@ -201,7 +201,10 @@ impl<'a> Fetcher<'a> {
             let piece = source.piece.max(1).min(PIECE_LIMIT as u64);
             fetch_next(alloc, &mut dial, feed, host, &fetch.name, piece, lines)
         } else {
-            begin(alloc, &mut dial, feed, host, &fetch.name, lines).map(|()| true)
+            match begin(alloc, &mut dial, feed, host, &fetch.name, lines) {
+                Ok(()) => Ok(true),
+                Err(stop) => Err(stop),
+            }
         };
         match outcome {
             Ok(continues) => continues,
