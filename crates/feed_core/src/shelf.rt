@@ -118,8 +118,8 @@ impl<'a> Shelf<'a> {
         }
     }
 
-    /// Returns the event during which a node stops.
-    pub(crate) fn sent(&self, what: &'a Sent) -> Result<Event<'a>, Why>
+    /// Returns what is sent to a node that stops during it, as it arrives.
+    pub(crate) fn send(&self, what: &'a Sent) -> Result<Event<'a>, Why>
         ensures arrives { (shelf : files) → IsShelf self.now.files.entries shelf
             → arriving shelf (shown_sent what.now) ≡ shown_arrived result }
         ensures unsent { result ≢ Err (Why.Feed Refusal.Device) }

@@ -177,10 +177,10 @@ fn show<'a, N: Node + Drop>(
         WorldEvent::Lose { node, name } => Ok(tell_at(nodes, *node, shelf.lose(name))),
         WorldEvent::Restart { node } => Ok(restart_at(alloc, nodes, *node)),
         WorldEvent::StopBefore { node, what } => {
-            Ok(stop_at(alloc, nodes, *node, shelf.sent(what), Point::Before))
+            Ok(stop_at(alloc, nodes, *node, shelf.send(what), Point::Before))
         }
         WorldEvent::StopAfter { node, what } => {
-            Ok(stop_at(alloc, nodes, *node, shelf.sent(what), Point::After))
+            Ok(stop_at(alloc, nodes, *node, shelf.send(what), Point::After))
         }
         WorldEvent::Report { node, package } => Ok(report_at(nodes, *node, package)?),
         WorldEvent::Ask {

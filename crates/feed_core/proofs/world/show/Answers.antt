@@ -39,15 +39,15 @@ returns-in-Restart-clause-step g c =
 pub returns-in-StopBefore-clause-step : goal.returns-in-StopBefore-clause-step
 returns-in-StopBefore-clause-step g c =
     rw c.in-StopBefore.is (step_to g.N.Node.clean g.N.Node.has_state
-    (λ (z : Shelf). arriving z (shown_sent c.in-StopBefore.what) ≡ shown_arrived c.sent.result) c.args.shelf.now.files.entries c.args.nodes.now.items c.stop_at.new.nodes.items
-    (StopBefore c.in-StopBefore.node (shown_sent c.in-StopBefore.what)) (shown_line c.stop_at.result) (λ shelf is. c.sent.ensures.arrives shelf is)
+    (λ (z : Shelf). arriving z (shown_sent c.in-StopBefore.what) ≡ shown_arrived c.send.result) c.args.shelf.now.files.entries c.args.nodes.now.items c.stop_at.new.nodes.items
+    (StopBefore c.in-StopBefore.node (shown_sent c.in-StopBefore.what)) (shown_line c.stop_at.result) (λ shelf is. c.send.ensures.arrives shelf is)
     (c.stop_at.ensures.step (shown_sent c.in-StopBefore.what)))
 
 pub returns-in-StopAfter-clause-step : goal.returns-in-StopAfter-clause-step
 returns-in-StopAfter-clause-step g c =
     rw c.in-StopAfter.is (step_to g.N.Node.clean g.N.Node.has_state (λ (z : Shelf). arriving z
-    (shown_sent c.in-StopAfter.what) ≡ shown_arrived c.sent-in-StopAfter.result) c.args.shelf.now.files.entries c.args.nodes.now.items c.stop_at-in-StopAfter.new.nodes.items
-    (StopAfter c.in-StopAfter.node (shown_sent c.in-StopAfter.what)) (shown_line c.stop_at-in-StopAfter.result) (λ shelf is. c.sent-in-StopAfter.ensures.arrives shelf is)
+    (shown_sent c.in-StopAfter.what) ≡ shown_arrived c.send-in-StopAfter.result) c.args.shelf.now.files.entries c.args.nodes.now.items c.stop_at-in-StopAfter.new.nodes.items
+    (StopAfter c.in-StopAfter.node (shown_sent c.in-StopAfter.what)) (shown_line c.stop_at-in-StopAfter.result) (λ shelf is. c.send-in-StopAfter.ensures.arrives shelf is)
     (c.stop_at-in-StopAfter.ensures.step (shown_sent c.in-StopAfter.what)))
 
 pub returns-in_ok-report_at-in-Report-clause-step : goal.returns-in_ok-report_at-in-Report-clause-step
@@ -88,12 +88,12 @@ returns-in-Restart-clause-device g c =
 pub returns-in-StopBefore-clause-device : goal.returns-in-StopBefore-clause-device
 returns-in-StopBefore-clause-device g c =
     rw c.in-StopBefore.is (counted_at g.N.Node.failed c.args.nodes.now.items c.stop_at.new.nodes.items c.in-StopBefore.node (shown_line c.stop_at.result)
-    (c.stop_at.ensures.device c.sent.ensures.unsent))
+    (c.stop_at.ensures.device c.send.ensures.unsent))
 
 pub returns-in-StopAfter-clause-device : goal.returns-in-StopAfter-clause-device
 returns-in-StopAfter-clause-device g c =
     rw c.in-StopAfter.is (counted_at g.N.Node.failed c.args.nodes.now.items c.stop_at-in-StopAfter.new.nodes.items c.in-StopAfter.node (shown_line c.stop_at-in-StopAfter.result)
-    (c.stop_at-in-StopAfter.ensures.device c.sent-in-StopAfter.ensures.unsent))
+    (c.stop_at-in-StopAfter.ensures.device c.send-in-StopAfter.ensures.unsent))
 
 pub returns-in_ok-report_at-in-Report-clause-device : goal.returns-in_ok-report_at-in-Report-clause-device
 returns-in_ok-report_at-in-Report-clause-device g c =
