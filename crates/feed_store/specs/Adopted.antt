@@ -49,7 +49,11 @@ AreNamesTaken taken schema = AllByRecursion (λ name. is_taken schema name ≡ t
 abbrev pub HasAllNamesOrNone : Schema → Type 0
 HasAllNamesOrNone schema = AreNamesTaken true schema ⊎ (AreNamesTaken false schema × (is_taken schema (codes "feed_reason") ≡ false))
 
+-- a connection to a file has adopted its database
+abbrev pub IsAdoptedFile : {D : Type 0} {g : Ghosts D} → Held (FileStore D g) → Held (FileStore D g) → Bool → Type 0
+IsAdoptedFile old new alone = IsAdopted (file_state old) (file_state new) alone
+
 -- the connection has adopted the database that an open found in the files
 abbrev pub IsOpenedAs : {D : Type 0} {g : Ghosts D} → Image → Held (FileStore D g) → Bool → Type 0
 IsOpenedAs {D} {g} image new alone =
-    (found : Held (FileStore D g)) × (HasCleanDisk (file_state found) → FindsIn image (file_state found)) × IsAdopted (file_state found) (file_state new) alone
+    (found : Held (FileStore D g)) × (HasCleanDisk (file_state found) → FindsIn image (file_state found)) × IsAdoptedFile found new alone

@@ -1,7 +1,7 @@
 //! Opens and closes the store over a file.
-ghost use Rattle.std.specs.Prelude.{◌≡◌, ◌≢◌, IfErr, IfOk};
+ghost use Rattle.std.specs.Prelude.{◌≡◌, ◌≢◌, false, IfErr, IfOk};
 ghost use Rattle.sqlite_wal.specs.Files.{image_at};
-ghost use Rattle.feed_store.specs.Adopted.{IsOpenedAs};
+ghost use Rattle.feed_store.specs.Adopted.{IsAdoptedFile, IsOpenedAs};
 
 use crate::fault::{StoreFault, fault_of, open_fault_of};
 use crate::sql_keep::SqlKeep;
@@ -9,6 +9,7 @@ use sqlite::Connection;
 use sqlite_disk::{Disk, Start, Unknown};
 use sqlite_std_file::{File, FileFrom};
 use sqlite_store::FileStore;
+use std::alloc::Global;
 
 impl SqlKeep<FileStore<File>> {
     /// Opens the keeper of a database file, or creates the file if it does not exist. The log is beside it, at the same
@@ -35,16 +36,29 @@ impl<S: Start> SqlKeep<FileStore<FileFrom<S>>> {
         ensures fresh { IfOk result (λ keep. keep.1.0 ≡ 0) }
     {
         match Connection::open_from(rt, path, false, start) {
-            Ok(conn) => match SqlKeep::adopt(rt.alloc(), conn) {
-                Ok(keep) => Ok(keep),
-                Err(fault) => Err(fault.cause),
-            },
+            Ok(conn) => SqlKeep::adopt_file(rt.alloc(), conn),
             Err((error, _)) => Err(open_fault_of(error)),
         }
     }
 }
 
 impl<D: Disk + Drop> SqlKeep<FileStore<D>> {
+    // Adopts the connection to a file on any disk. It makes `open_from` cheap to prove: `adopt` is used at an abstract
+    // disk here, and not at the files of a process.
+    fn adopt_file(
+        alloc: Global,
+        conn: Connection<FileStore<D>>,
+    ) -> Result<SqlKeep<FileStore<D>>, StoreFault>
+        requires { conn.in_transaction ≡ false }
+        ensures adopted { IfOk result (λ keep. IsAdoptedFile conn keep.0 keep.1.1) }
+        ensures fresh { IfOk result (λ keep. keep.1.0 ≡ 0) }
+    {
+        match SqlKeep::adopt(alloc, conn) {
+            Ok(keep) => Ok(keep),
+            Err(fault) => Err(fault.cause),
+        }
+    }
+
     /// Copies the log into the database file, and closes both. After an error they are closed too, and the next open
     /// finds every commit in the two files.
     pub fn close(self) -> Result<(), StoreFault>
