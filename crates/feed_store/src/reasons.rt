@@ -10,14 +10,14 @@ use std::alloc::{AllocError, Global};
 
 /// Returns the same records, each broken one with the reason of its file, and each other one with none.
 pub(crate) fn with_reasons(alloc: Global, records: Vec<Record>) -> Result<Vec<Record>, AllocError>
-    ensures { IfOk result (λ told. AddReasons (shown records.items) (shown told.items)) }
+    ensures { IfOk result (λ explained. AddReasons (shown records.items) (shown explained.items)) }
 {
-    let mut told = Vec::new(alloc);
+    let mut explained = Vec::new(alloc);
     for record in records {
         let reason = reason_of(alloc, &record)?;
-        told.push(with_reason(record, reason))?;
+        explained.push(with_reason(record, reason))?;
     }
-    Ok(told)
+    Ok(explained)
 }
 
 fn with_reason(kept: Record, reason: Option<BadFile>) -> Record

@@ -102,10 +102,10 @@ fn read_reasons<S: Alter>(
     ensures same { IsLive (state S.Store conn.new) → (state S.Store conn.new).now ≡ (state S.Store conn.old).now }
     ensures limit { conn.new.step_limit ≡ conn.old.step_limit }
     ensures names { IfOk result (λ found. IfSome found
-        (λ told. names (shown told.items) ≡ names (shown records.items))) }
+        (λ explained. names (shown explained.items) ≡ names (shown records.items))) }
     ensures parts { IfOk result (λ found. IfSome found
-        (λ told. map (λ r. r.parts) (shown told.items) ≡ map (λ r. r.parts) (shown records.items))) }
-    ensures told { IsLive (state S.Store conn.new) → IsLayout2 (state S.Store conn.old).now
+        (λ explained. map (λ r. r.parts) (shown explained.items) ≡ map (λ r. r.parts) (shown records.items))) }
+    ensures explained { IsLive (state S.Store conn.new) → IsLayout2 (state S.Store conn.old).now
         → HoldsReleases (state S.Store conn.old).now
         → shown records.items ≡ content_without_reasons (state S.Store conn.old).now
         → IfOk result (λ found. MatchOption found (¬ (HoldsRecords (state S.Store conn.old).now))

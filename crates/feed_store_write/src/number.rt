@@ -18,7 +18,7 @@ pub fn has_layout_number<S: Alter>(conn: &mut Connection<S>, number: u32) -> Res
     ensures live { IsLive (state S.Store conn.new) → IsLive (state S.Store conn.old) }
     ensures same { IsLive (state S.Store conn.new) → (state S.Store conn.new).now ≡ (state S.Store conn.old).now }
     ensures limit { conn.new.step_limit ≡ conn.old.step_limit }
-    ensures told { HasCleanDisk (state S.Store conn.new) → IfOk result (λ is.
+    ensures reported { HasCleanDisk (state S.Store conn.new) → IfOk result (λ is.
         ReportsNumber number (state S.Store conn.old) (state S.Store conn.new) is) }
 {
     if !conn.is_autocommit() {

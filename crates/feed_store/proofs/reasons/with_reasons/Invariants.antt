@@ -5,6 +5,6 @@ use Rattle.feed_store.proofs.reasons.with_reasons.Given as goal
 
 abbrev pub invariant-loop-record : goal.invariant-loop-record
 invariant-loop-record l = record {
-  told : AddReasons (shown l.yielded) (shown l.told.items);
+  explained : AddReasons (shown l.yielded) (shown l.explained.items);
   left : l.yielded ++ l.record-iterator.rest.items ≡ l.fn.records.items;
 }

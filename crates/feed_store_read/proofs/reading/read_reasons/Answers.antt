@@ -9,8 +9,8 @@ use Rattle.feed_store_read.specs.Reasons.{AreReasonsOf}
 use Rattle.feed_store_read.proofs.Explaining.{all_explained, are_proper, reason_ids_apart}
 use Rattle.feed_store_read.proofs.reading.read_reasons.Goals as goal
 
-pub returns-then-sort_distinct-clause-told : goal.returns-then-sort_distinct-clause-told
-returns-then-sort_distinct-clause-told g c live ours rows content =
+pub returns-then-sort_distinct-clause-explained : goal.returns-then-sort_distinct-clause-explained
+returns-then-sort_distinct-clause-explained g c live ours rows content =
     let db = (state g.S.Store c.args.conn.now).now in
     let ids = c.in-Some.ids.items in
     let new = shown c.select_reasons.new.records.items in
@@ -19,8 +19,8 @@ returns-then-sort_distinct-clause-told g c live ours rows content =
     let listed : HoldsRecords db = record { rows = rows; reasons = are_proper db ids _ new read.1 apart } in
     record { listed = listed; content = all_explained db ids new ours listed (subst (λ (c : Content). AreReasonsOf db ids c new) content read.1) }
 
-pub returns-else-sort_distinct-clause-told : goal.returns-else-sort_distinct-clause-told
-returns-else-sort_distinct-clause-told g c live ours rows content are =
+pub returns-else-sort_distinct-clause-explained : goal.returns-else-sort_distinct-clause-explained
+returns-else-sort_distinct-clause-explained g c live ours rows content are =
     let db = (state g.S.Store c.args.conn.now).now in
     let ids = c.in-Some.ids.items in
     let read = rw c.in-Some.is at (c.in_ok-ids.ensures.read live ours) in

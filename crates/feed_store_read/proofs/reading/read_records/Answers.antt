@@ -24,7 +24,7 @@ returns-in-Some-clause-records g c live ours =
     let first = c.read_without_reasons.ensures.same early in
     let rows : HoldsReleases db = rw c.in-Some.is at (c.in_ok-records.ensures.listed early has) in
     let content : shown c.in-Some.records.items ≡ content_without_reasons db = rw c.in-Some.is at (c.in_ok-records.ensures.records early has) in
-    let told = c.read_reasons.ensures.told live (subst IsLayout2 (sym first) ours) (subst HoldsReleases (sym first) rows) (content ∙ ap content_without_reasons (sym first)) in
+    let told = c.read_reasons.ensures.explained live (subst IsLayout2 (sym first) ours) (subst HoldsReleases (sym first) rows) (content ∙ ap content_without_reasons (sym first)) in
     told_records db c.read_reasons.result (subst (λ (d : Database). IfOk c.read_reasons.result (λ found. MatchOption found (¬ (HoldsRecords d)) (AreRecordsOf d))) first told)
 
 pub returns-in-Some-clause-listed : goal.returns-in-Some-clause-listed
@@ -35,5 +35,5 @@ returns-in-Some-clause-listed g c live ours =
     let first = c.read_without_reasons.ensures.same early in
     let rows : HoldsReleases db = rw c.in-Some.is at (c.in_ok-records.ensures.listed early has) in
     let content : shown c.in-Some.records.items ≡ content_without_reasons db = rw c.in-Some.is at (c.in_ok-records.ensures.records early has) in
-    let told = c.read_reasons.ensures.told live (subst IsLayout2 (sym first) ours) (subst HoldsReleases (sym first) rows) (content ∙ ap content_without_reasons (sym first)) in
+    let told = c.read_reasons.ensures.explained live (subst IsLayout2 (sym first) ours) (subst HoldsReleases (sym first) rows) (content ∙ ap content_without_reasons (sym first)) in
     told_listed db c.read_reasons.result (subst (λ (d : Database). IfOk c.read_reasons.result (λ found. MatchOption found (¬ (HoldsRecords d)) (AreRecordsOf d))) first told)

@@ -4,8 +4,8 @@ use Rattle.feed_store_write.proofs.LayoutNumber.{number_told}
 use Rattle.feed_store_write.proofs.Selects.{Stays, failed_stays, number_stays}
 use Rattle.feed_store_write.proofs.number.has_layout_number.Goals as goal
 
-pub returns-clause-told : goal.returns-clause-told
-returns-clause-told g c clean more keys has =
+pub returns-clause-reported : goal.returns-clause-reported
+returns-clause-reported g c clean more keys has =
     let old = state g.S.Store c.args.conn.now in
     let new = state g.S.Store c.query_all.new.self in
     let told = number_told c.args.number more keys old new c.in_ok-rows.rows.items (c.in_ok-rows.ensures.ok clean) has in
