@@ -1,5 +1,5 @@
 //! Reads all records of a database, with or without the reasons of the broken releases.
-ghost use Rattle.std.specs.Prelude.{◌≡◌, false, IfOk, IfSome, List, MatchOption, map, ℤ};
+ghost use Rattle.std.specs.Prelude.{◌≡◌, false, IfOk, IfSome, MatchOption, map};
 ghost use Rattle.std.specs.List.{IsDistinct};
 ghost use Rattle.sqlite.specs.Effect.{Database};
 ghost use Rattle.sqlite.specs.Held.{state};

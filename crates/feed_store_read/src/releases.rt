@@ -1,5 +1,5 @@
 //! Reads the releases of a database in the order of their names.
-ghost use Rattle.std.specs.Prelude.{◌≡◌, ◌++◌, ◌∷◌, [], false, IfOk, List, MatchBool, MatchOption};
+ghost use Rattle.std.specs.Prelude.{◌++◌, ◌∷◌, [], false, IfOk, List, MatchBool, MatchOption};
 ghost use Rattle.sqlite.specs.Held.{state};
 ghost use Rattle.sqlite.specs.State.{IsUnchanged};
 ghost use Rattle.sqlite_value.specs.Order.{Row as Values};

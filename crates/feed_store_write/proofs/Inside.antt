@@ -1,11 +1,11 @@
 -- A statement inside a transaction.
-use Rattle.std.proofs.Common.{arith, ◌≡◌, ℕ, List, Bool, true, false, Ok, Err, Result, IsErr, OnOk, refl, ◌⊎◌, inl}
+use Rattle.std.proofs.Common.{arith, ◌≡◌, ℕ, List, Bool, true, false, Ok, Err, Result, IsErr, OnOk, refl, inl}
 use Rattle.std.proofs.lemmas.Result.{on_ok_weaker}
 use Rattle.sqlite_value.specs.Order.{Row}
 use Rattle.sqlite.specs.declared.error.Error.{Error}
 use Rattle.sqlite.specs.Effect.{Database}
 use Rattle.sqlite.specs.Held.{Held, state}
-use Rattle.sqlite.specs.State.{State, Executes, ExecutesInside, HasCleanDisk, KeepsCommit, Survives}
+use Rattle.sqlite.specs.State.{State, Executes, ExecutesInside, HasCleanDisk, KeepsCommit}
 use Rattle.sqlite.proofs.InsideLemmas.{inside_keeps, keeps_then}
 use Rattle.sqlite.proofs.StateLemmas.{survives_then}
 use Rattle.sqlite_trees.specs.declared.store.Store.{Ghosts}

@@ -1,6 +1,6 @@
 //! Commits each change of the records as one transaction.
 ghost use Rattle.std.specs.Prelude.{◌≡◌, false, OnOk, OnErr};
-ghost use Rattle.feed_model.specs.Change.{Add, Break, after, changed, grown, without_earlier, IsAllowed};
+ghost use Rattle.feed_model.specs.Change.{Add, Break, changed, grown, without_earlier};
 ghost use Rattle.feed_parts.specs.Shown.{shown_parts};
 ghost use Rattle.feed_keep.specs.Shown.{shown_change};
 ghost use Rattle.feed_store_write.specs.Effects.{CommitsNothing, IsAllowedChange, IsContentChange, IsLive, IsMadeOnOk};

@@ -1,5 +1,5 @@
 //! Runs one statement inside a transaction.
-ghost use Rattle.std.specs.Prelude.{◌≡◌, OnOk};
+ghost use Rattle.std.specs.Prelude.{◌≡◌};
 ghost use Rattle.sqlite_value.specs.declared.value.Value.TheVariants.{Text};
 ghost use Rattle.sqlite_value.specs.Value.{owned};
 ghost use Rattle.feed_store_write.specs.Effects.{CommitsNothing, IsRunOnOk};

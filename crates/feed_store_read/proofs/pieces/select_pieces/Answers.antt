@@ -1,7 +1,6 @@
-use Rattle.std.proofs.Common.{◌≢◌, ◌∙◌, ap, sym, subst, refl, Ok, All, List}
+use Rattle.std.proofs.Common.{◌≢◌, ◌∙◌, ap, refl, Ok, All, List}
 use Rattle.sqlite_value.specs.Order.{Row}
 use Rattle.sqlite.specs.Held.{state}
-use Rattle.sqlite.specs.State.{HasCleanDisk, IsUnchanged}
 use Rattle.sqlite_rules.proofs.ListLemmas.{all_has}
 use Rattle.feed_names.specs.ReleaseName.{text_of}
 use Rattle.feed_keep.specs.Shown.{shown}
@@ -10,7 +9,7 @@ use Rattle.feed_store_model.specs.Tables.{IsPieceRow, HoldsReleases, text_in}
 use Rattle.feed_store_model.proofs.Ours.{tables_in}
 use Rattle.feed_store_read.specs.Texts.{pieces_text}
 use Rattle.feed_store_read.specs.Pieces.{ShowPieces}
-use Rattle.feed_store_read.specs.Releases.{AreReleases, WritesNothing}
+use Rattle.feed_store_read.specs.Releases.{AreReleases}
 use Rattle.feed_store_read.proofs.Answers.{pieces_read}
 use Rattle.feed_store_read.proofs.GivenRows.{pieces_none}
 use Rattle.feed_store_read.proofs.Parents.{no_orphan}

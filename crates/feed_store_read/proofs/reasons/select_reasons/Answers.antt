@@ -1,7 +1,6 @@
-use Rattle.std.proofs.Common.{◌≡◌, ◌≢◌, ◌∙◌, ap, sym, subst, refl, Ok, All, List}
+use Rattle.std.proofs.Common.{◌≡◌, ◌≢◌, ◌∙◌, ap, refl, Ok, All, List}
 use Rattle.sqlite_value.specs.Order.{Row}
 use Rattle.sqlite.specs.Held.{state}
-use Rattle.sqlite.specs.State.{HasCleanDisk, IsUnchanged}
 use Rattle.sqlite_rules.proofs.ListLemmas.{all_has}
 use Rattle.feed_names.specs.ReleaseName.{text_of}
 use Rattle.feed_model.specs.Content.{names}
@@ -10,7 +9,6 @@ use Rattle.feed_keep.specs.declared.record.Record.{Record}
 use Rattle.feed_store_model.specs.Tables.{IsReasonRow, HoldsRecords, content_without_reasons, text_in}
 use Rattle.feed_store_read.specs.Texts.{reasons_text}
 use Rattle.feed_store_read.specs.Reasons.{ShowReasons}
-use Rattle.feed_store_read.specs.Releases.{WritesNothing}
 use Rattle.feed_store_read.proofs.ReasonAnswers.{are_reasons, given_reason, no_lone_reason, reasons_read}
 use Rattle.feed_store_read.proofs.GivenReasons.{reasons_none}
 use Rattle.feed_store_read.proofs.Streams.{begun_way, ended_all, ended_leaves, ended_row, lent_back, next_way, refused_leaves, way_leaves}

@@ -1,11 +1,10 @@
-use Rattle.std.proofs.Common.{◌∙◌, ap, sym, subst, refl, Ok}
+use Rattle.std.proofs.Common.{◌∙◌, ap, refl, Ok}
 use Rattle.sqlite.specs.Held.{state}
-use Rattle.sqlite.specs.State.{HasCleanDisk, IsUnchanged}
 use Rattle.feed_store_model.specs.Tables.{HoldsReleases, IsReleaseRow}
 use Rattle.feed_store_model.proofs.Ours.{tables_in}
 use Rattle.feed_store_read.specs.Texts.{releases_text}
 use Rattle.feed_store_read.specs.declared.releases.Releases.{Releases}
-use Rattle.feed_store_read.specs.Releases.{WritesNothing, ShowReleases}
+use Rattle.feed_store_read.specs.Releases.{ShowReleases}
 use Rattle.feed_store_read.proofs.Answers.{releases_read}
 use Rattle.feed_store_read.proofs.More.{show_none}
 use Rattle.feed_store_read.proofs.Streams.{begun_way, ended_all, ended_leaves, ended_row, lent_back, next_way, refused_leaves, way_leaves}
