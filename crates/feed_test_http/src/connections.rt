@@ -1,5 +1,5 @@
 //! A connection of a node, over streams that make it wait.
-use crate::ends::{Cuts, Sip};
+use crate::ends::{ShortReader, ShortWriter};
 use crate::escapes::Escaped;
 use crate::fault::Fault;
 use crate::line::Line;
@@ -77,14 +77,14 @@ impl Node<'_> {
         let is_short = line.flag("short", "serves")?;
         let request = line.text(self.rt.alloc())?;
         let mut connection = Connection::new(self.rt.alloc(), 10);
-        let mut reader = Cuts {
+        let mut reader = ShortReader {
             bytes: &request,
             step: self.step,
             fails_at: usize::MAX,
             waits: !ends,
             calls: 0,
         };
-        let mut writer = Sip::new(self.rt.alloc());
+        let mut writer = ShortWriter::new(self.rt.alloc());
         let mut buffer = [0u8; 64];
         for _ in 0..200 {
             advance(

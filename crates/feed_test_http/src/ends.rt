@@ -1,12 +1,12 @@
-//! Readers and writers in memory, which fail at a call.
+//! Readers and writers in memory that move few bytes in a call, or fail at one.
 use std::alloc::Global;
 use std::io;
 use std::io::{ErrorKind, Read, Write};
 
-/// Gives at most `step` bytes at a call, and fails at the call of that number, counted from 1. At its end it ends, or
-/// would wait.
+/// A reader that returns at most `step` bytes in a call. It fails at the call of number `fails_at`, counted from 1.
+/// After the last byte it would block if `waits` is set, and otherwise ends.
 #[derive(Clone, Copy)]
-pub struct Cuts<'a> {
+pub struct ShortReader<'a> {
     pub bytes: &'a [u8],
     pub step: usize,
     pub fails_at: usize,
@@ -14,7 +14,20 @@ pub struct Cuts<'a> {
     pub calls: usize,
 }
 
-impl Read for Cuts<'_> {
+impl<'a> ShortReader<'a> {
+    /// Returns a reader that ends after these bytes.
+    pub fn new(bytes: &'a [u8], step: usize, fails_at: usize) -> ShortReader<'a> {
+        ShortReader {
+            bytes,
+            step,
+            fails_at,
+            waits: false,
+            calls: 0,
+        }
+    }
+}
+
+impl Read for ShortReader<'_> {
     fn read(&mut self, buf: &mut [u8]) -> io::Result<usize> {
         self.calls = self.calls.saturating_add(1);
         if self.calls == self.fails_at {
@@ -31,7 +44,7 @@ impl Read for Cuts<'_> {
     }
 }
 
-/// Keeps what is written, and fails at the call of that number, counted from 1.
+/// A writer that stores the bytes. It fails at the call of number `fails_at`, counted from 1.
 #[derive(Drop)]
 pub struct Sink {
     pub bytes: Vec<u8>,
@@ -64,23 +77,23 @@ impl Write for Sink {
     }
 }
 
-/// Takes at most 3 bytes at a call, and would wait at each second one.
+/// A writer that accepts at most 3 bytes in a call, and would block at every other call.
 #[derive(Drop)]
-pub struct Sip {
+pub struct ShortWriter {
     pub bytes: Vec<u8>,
     waits: bool,
 }
 
-impl Sip {
-    pub fn new(alloc: Global) -> Sip {
-        Sip {
+impl ShortWriter {
+    pub fn new(alloc: Global) -> ShortWriter {
+        ShortWriter {
             bytes: Vec::new(alloc),
             waits: false,
         }
     }
 }
 
-impl Write for Sip {
+impl Write for ShortWriter {
     fn write(&mut self, buf: &[u8]) -> io::Result<usize> {
         self.waits = !self.waits;
         if self.waits {

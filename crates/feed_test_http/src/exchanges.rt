@@ -1,10 +1,10 @@
-//! Both ends of an exchange.
+//! Runs the commands on both ends of an exchange: requests that a node writes, replies that it reads, and the server.
 use crate::driver::{Counts, Driver, Plan};
-use crate::ends::{Cuts, Sink};
+use crate::ends::{ShortReader, Sink};
 use crate::escapes::Escaped;
 use crate::fault::Fault;
 use crate::line::Line;
-use crate::shelf::Watched;
+use crate::shelf::CountingShelf;
 use feed_http::{
     Bytes, Got, HttpFault, MemoryShelf, Method, Shelf, is_host, read_reply, serve_one,
     write_head_request, write_request,
@@ -56,13 +56,8 @@ impl Driver<'_> {
             _ => return Err(Fault::NoMethod),
         };
         let text = line.text(self.rt.alloc())?;
-        let mut reader = Cuts {
-            bytes: self.plan.front_of(&text),
-            step: self.step,
-            fails_at: self.plan.fails_read,
-            waits: false,
-            calls: 0,
-        };
+        let bytes = self.plan.front_of(&text);
+        let mut reader = ShortReader::new(bytes, self.step, self.plan.fails_read);
         let got = read_reply(self.rt.alloc(), &mut reader, method);
         self.plan = Plan::new();
         self.counts.reads = reader.calls;
@@ -92,16 +87,11 @@ impl Driver<'_> {
 
     pub fn request(&mut self, line: Line<'_>) -> Result<(), Fault> {
         let text = line.text(self.rt.alloc())?;
-        let mut reader = Cuts {
-            bytes: self.plan.front_of(&text),
-            step: self.step,
-            fails_at: self.plan.fails_read,
-            waits: false,
-            calls: 0,
-        };
+        let bytes = self.plan.front_of(&text);
+        let mut reader = ShortReader::new(bytes, self.step, self.plan.fails_read);
         let mut sink = Sink::failing(self.rt.alloc(), self.plan.fails_write);
-        let mut shelf = Watched::new(&self.files, self.plan.fails_shelf);
-        let served = serve_one(self.rt.alloc(), &mut reader, &mut sink, &mut shelf);
+        let mut shelf = CountingShelf::new(&self.files, self.plan.fails_shelf);
+        let outcome = serve_one(self.rt.alloc(), &mut reader, &mut sink, &mut shelf);
         self.counts = Counts {
             reads: reader.calls,
             writes: sink.calls,
@@ -109,26 +99,20 @@ impl Driver<'_> {
             failures: shelf.failures(),
         };
         self.plan = Plan::new();
-        self.print_served(served, &sink)
+        self.print_outcome(outcome, &sink)
     }
 
     pub fn serve(&self, line: Line<'_>) -> Result<(), Fault> {
         let text = line.text(self.rt.alloc())?;
-        let mut reader = Cuts {
-            bytes: &text,
-            step: self.step,
-            fails_at: usize::MAX,
-            waits: false,
-            calls: 0,
-        };
+        let mut reader = ShortReader::new(&text, self.step, usize::MAX);
         let mut sink = Sink::failing(self.rt.alloc(), usize::MAX);
         let mut shelf = MemoryShelf { files: &self.files };
-        let served = serve_one(self.rt.alloc(), &mut reader, &mut sink, &mut shelf);
-        self.print_served(served, &sink)
+        let outcome = serve_one(self.rt.alloc(), &mut reader, &mut sink, &mut shelf);
+        self.print_outcome(outcome, &sink)
     }
 
-    fn print_served(&self, served: Result<u16, HttpFault>, sink: &Sink) -> Result<(), Fault> {
-        match served {
+    fn print_outcome(&self, outcome: Result<u16, HttpFault>, sink: &Sink) -> Result<(), Fault> {
+        match outcome {
             Ok(status) => println!(self.rt; "{status} {}", Escaped(&sink.bytes))?,
             Err(fault) => println!(self.rt; "{fault} {}", Escaped(&sink.bytes))?,
         }

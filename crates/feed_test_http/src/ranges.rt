@@ -1,4 +1,4 @@
-//! Values of Range and Content-Range.
+//! Runs the commands on values of Range and Content-Range.
 use crate::driver::Driver;
 use crate::escapes::Escaped;
 use crate::fault::Fault;

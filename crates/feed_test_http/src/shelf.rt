@@ -1,4 +1,4 @@
-//! A shelf over files in memory, which is watched.
+//! A shelf over files in memory, with a device that fails at a call.
 ghost use Rattle.std.specs.Prelude.{◌≤◌, IsTrue};
 ghost use Rattle.feed_http.specs.Shelves.{CountsFailure};
 
@@ -6,9 +6,9 @@ use feed_http::{MemoryShelf, NamedFile, Shelf, ShelfFault};
 use feed_names::ReleaseName;
 use std::alloc::Global;
 
-/// Counts the calls, and the failures of a device that fails at the call of that number, counted from 1.
+/// A shelf that counts its calls. Its device fails at the call of number `fails_at`, counted from 1.
 #[derive(Drop)]
-pub struct Watched<'a> {
+pub struct CountingShelf<'a> {
     files: MemoryShelf<'a>,
     fails_at: usize,
     calls: usize,
@@ -16,10 +16,10 @@ pub struct Watched<'a> {
     longest: usize,
 }
 
-impl<'a> Watched<'a> {
-    pub fn new(files: &'a [NamedFile], fails_at: usize) -> Watched<'a> {
+impl<'a> CountingShelf<'a> {
+    pub fn new(files: &'a [NamedFile], fails_at: usize) -> CountingShelf<'a> {
         let files = MemoryShelf { files };
-        Watched {
+        CountingShelf {
             files,
             fails_at,
             calls: 0,
@@ -28,7 +28,7 @@ impl<'a> Watched<'a> {
         }
     }
 
-    /// The length of the longest block that was asked for.
+    /// Returns the length of the longest block that was read.
     pub fn longest(&self) -> usize {
         self.longest
     }
@@ -38,8 +38,8 @@ impl<'a> Watched<'a> {
         Some(&file.bytes)
     }
 
-    // Whether this call fails, which is counted.
-    fn fails(&mut self) -> bool
+    // Counts a call, and returns whether it fails.
+    fn count_call(&mut self) -> bool
         ensures rises { self.old.failures ≤ self.new.failures }
         ensures counted { IsTrue result → CountsFailure self.old.failures self.new.failures }
     {
@@ -52,7 +52,7 @@ impl<'a> Watched<'a> {
     }
 }
 
-impl Shelf for Watched<'_> {
+impl Shelf for CountingShelf<'_> {
     ghost failed = { λ shelf. shelf.failures };
 
     fn failures(&self) -> u64 {
@@ -60,7 +60,7 @@ impl Shelf for Watched<'_> {
     }
 
     fn size(&mut self, name: &ReleaseName) -> Result<Option<u64>, ShelfFault> {
-        if self.fails() {
+        if self.count_call() {
             return Err(ShelfFault::Device);
         }
         match self.files.size(name) {
@@ -77,7 +77,7 @@ impl Shelf for Watched<'_> {
         len: usize,
     ) -> Result<Vec<u8>, ShelfFault> {
         self.longest = self.longest.max(len);
-        if self.fails() {
+        if self.count_call() {
             return Err(ShelfFault::Device);
         }
         let Ok(mut bytes) = vec![in alloc; 0u8; len] else {
