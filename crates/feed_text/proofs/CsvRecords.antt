@@ -4,7 +4,7 @@ use Rattle.std.proofs.Common.{false, refl, sym, ap, arith, eq-eqb, inl, inr, ◌
 use Rattle.std.specs.Prelude.{◌==◌, ◌&&◌, if◌then◌else◌, ◌⊎◌, option_map}
 use Rattle.std.specs.List.{slice_split, onto_first, filter}
 use Rattle.std.proofs.lemmas.Bool.{cases_Bool, eqb-true, true≢false}
-use Rattle.std.proofs.lemmas.List.{append-nil, length-drop}
+use Rattle.std.proofs.lemmas.List.{append-nil}
 use Rattle.csv.specs.Machine.{Read, next_record, step, in_field, after_end, ends_at_end}
 use Rattle.csv.specs.Reading.{strip_bom, source_of, pending_of, NextIs, ReadRecord, ReadsNext}
 use Rattle.csv.specs.declared.reader.Reader.{Reader}
@@ -13,7 +13,7 @@ use Rattle.csv.specs.declared.parser.State.TheVariants as st
 use Rattle.csv.specs.declared.parser.Action.TheVariants as act
 use Rattle.csv.specs.declared.parser.Terminator.TheVariants as term
 use Rattle.feed_text.specs.Reader.{HasLeft, IsNextRecord, IsStart, tabs}
-use Rattle.feed_text.specs.Records.{has_mark, drop_mark, ends_line, is_tab, is_nonempty, lines_of, records_in}
+use Rattle.feed_text.specs.Records.{drop_mark, ends_line, is_tab, is_nonempty, lines_of, records_in}
 
 -- a test of equality reads in both directions
 eqb-comm : (a b : ℕ) → (a == b) ≡ (b == a)

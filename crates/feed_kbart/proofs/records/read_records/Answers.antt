@@ -1,4 +1,4 @@
-use Rattle.std.proofs.Common.{◌<◌, ◌∙◌, [], ◌∷◌, refl, inl, inr, arith, length}
+use Rattle.std.proofs.Common.{◌<◌, ◌∙◌, [], ◌∷◌, arith, length}
 use Rattle.std.proofs.lemmas.Result.{err_from_is_err_and}
 use Rattle.csv.specs.Records.{fields_of}
 use Rattle.feed_limits.specs.Limits.{file_limit}
