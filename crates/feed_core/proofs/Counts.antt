@@ -99,9 +99,9 @@ down_not t = let e = tells_refused Down t in absurd (cc)
 -- the reason why nothing happens at a node is not a device failure, unless that is what arrived
 pub away_not : {M T : Type 0} (has_state : M → Bool → History → Type 0) (xs : List M) (node : ℕ) (arrived : Result T Why) (reason : Why) → (arrived ≡ Err (Feed refusals.Device) → ⊥)
     → IsAway has_state xs node arrived reason → ¬ (IsDeviceFailure (Refused reason))
-away_not has_state xs node arrived reason sent (inl none) to_event = no_node_not (subst (λ (r : Why). IsDeviceFailure (Refused r)) none.0 to_event)
-away_not has_state xs node arrived reason sent (inr (inl away)) to_event = sent (away.to_event ∙ ap Err (tells_refused reason to_event))
-away_not has_state xs node arrived reason sent (inr (inr down)) to_event = down_not (subst (λ (r : Why). IsDeviceFailure (Refused r)) down.0 to_event)
+away_not has_state xs node arrived reason sent (inl none) failure = no_node_not (subst (λ (r : Why). IsDeviceFailure (Refused r)) none.0 failure)
+away_not has_state xs node arrived reason sent (inr (inl away)) failure = sent (away.refused ∙ ap Err (tells_refused reason failure))
+away_not has_state xs node arrived reason sent (inr (inr down)) failure = down_not (subst (λ (r : Why). IsDeviceFailure (Refused r)) down.0 failure)
 
 -- nothing changes
 pub counted_stay : {M : Type 0} (failed : M → ℕ) (xs : List M) (node : ℕ) (line : Line) → ¬ (IsDeviceFailure line) → AreCounted (λ i. (i ≡ node) × IsDeviceFailure line) failed failed 1 xs xs
