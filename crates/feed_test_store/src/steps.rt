@@ -30,7 +30,10 @@ impl Database for DatabaseFile<'_> {
     type Keeper = SqlKeep<FileStore<File>>;
 
     fn open(&self) -> Result<SqlKeep<FileStore<File>>, Fail> {
-        SqlKeep::open_file(self.rt, self.path).map_err(|fault| Fail::new(fault))
+        match SqlKeep::open_file(self.rt, self.path) {
+            Ok(keeper) => Ok(keeper),
+            Err(fault) => Err(Fail::new(fault)),
+        }
     }
 
     fn close(&self, keeper: SqlKeep<FileStore<File>>) -> Result<(), Fail> {
@@ -77,7 +80,10 @@ pub fn take_steps<D: Database>(
 }
 
 fn open_feed<K: Keep + Drop>(rt: &HostRuntime, keeper: K) -> Result<Feed<K>, Fail> {
-    Feed::open(rt.alloc(), keeper).map_err(|fault| Fail::new(fault.cause))
+    match Feed::open(rt.alloc(), keeper) {
+        Ok(feed) => Ok(feed),
+        Err(fault) => Err(Fail::new(fault.cause)),
+    }
 }
 
 fn take_step<D: Database>(
