@@ -38,7 +38,8 @@ fn node_reply_with(
     policy: &FetchPolicy<'_>,
     actives: &[ActiveRelease<'_>],
 ) -> Result<Response, AllocError>
-    ensures { IfOk result (λ response. IsNodeReply policy.now bytes.now actives.now response) }
+    ensures value { IfOk result (λ response. IsNodeReply policy.now bytes.now actives.now response) }
+    ensures text { IfOk result (λ response. IsNodeReplyText policy.now bytes.now actives.now response.bytes) }
 {
     let mut headers = [EMPTY_HEADER_SPAN; FIELD_LIMIT];
     match find_head(bytes, &mut headers) {
