@@ -141,8 +141,8 @@ impl Write for Conn<'_> {
     }
 }
 
-/// A server with a turn for each connection; the last turn counts for all further ones. It records the requests to which
-/// it replies, each after the line `connection`.
+/// A server with a turn for each connection. The last turn counts for all further ones. It records the requests to
+/// which it replies, each after the line `connection`.
 #[derive(Drop)]
 pub struct Server<'a> {
     alloc: Global,
