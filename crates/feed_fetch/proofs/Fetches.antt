@@ -30,7 +30,8 @@ use Rattle.feed_fetch.specs.declared.stop.Stop.TheVariants as stops
 use Rattle.feed_dial.specs.Replies.{Replies, Unknown, Known, IfKnown}
 use Rattle.feed_fetch.specs.Servers.{IsReplied, IsReadOf}
 use Rattle.feed_fetch.specs.Answers.{HasRightAnswer, reply_or_stop, offer_result, piece_result, round_result, IsExcused}
-use Rattle.feed_fetch.specs.Effects.{IsExtension, IsTransition, IsFetchEvent, IsTakenFrom, ServesFile, IsFetchable, IsOpenTo, IsFilling, IsAskedNext, OrExcused, IsOpened, IsFilled, IsFilledAfter, IsFetched, missing_of}
+use Rattle.feed_fetch.specs.Effects.{IsExtension, IsTransition, IsFetchEvent, IsTakenFrom, ServesFile, IsFetchable, IsOpenTo, IsFilling, IsAskedNext, OrExcused, IsOpened, IsFilled, IsFilledAfter}
+use Rattle.feed_fetch.specs.Effects.{IsFetched, missing_of}
 use Rattle.feed_fetch.proofs.Filling.{offer_fills, piece_fills, asked_next, nothing_next, whole_by_count, missing_most_of, IsFilledWith, IsRefusedFor}
 
 given_fault : (wanted : Got) (fault : HttpFault) → IsGiven wanted (Err fault) → IsExcused (stops.Request (Http fault))

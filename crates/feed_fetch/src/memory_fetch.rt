@@ -34,8 +34,8 @@ fn fetch_from<A: Archive, K: Keep + Drop, O: Write, F: Write>(
     requires host { IsTrue (is_host host.now) }
     requires least { 1 ≤ piece }
     requires most { piece ≤ piece_limit }
-    ensures extends { IsExtension (IsFetchEvent (Known (IsServed A.files)) host.now name.now) (EndsWithStatus name.now result)
-        (recorded feed.old) (recorded feed.new) }
+    ensures extends { IsExtension (IsFetchEvent (Known (IsServed A.files)) host.now name.now)
+        (EndsWithStatus name.now result) (recorded feed.old) (recorded feed.new) }
     ensures gets { (file : List ℕ) → A.files name.now ≡ Some file → IsFetchable file → (h : History)
         → IsContent (recorded feed.old) h → IsOpenTo name.now file h → (result ≡ 0) ⊎ (result ≡ 3) }
 {

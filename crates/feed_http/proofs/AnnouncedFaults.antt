@@ -13,8 +13,10 @@ use Rattle.feed_http.specs.declared.fetching.validation.Framing.TheVariants.{Chu
 use Rattle.feed_http.specs.declared.fetching.validation.Announcement.{Announcement}
 use Rattle.feed_http.specs.declared.fetching.validation.Announcement.TheVariants.{Missing, Unsatisfied, Part, Whole}
 use Rattle.feed_limits.specs.Limits.{piece_limit, file_limit}
-use Rattle.feed_http.specs.Announcements.{is_get, values, has_file_status, is_transfer_coded, is_coded_otherwise, stated_of, common_length, stated_length, content_length, framing_by_length, framing_of, range_of}
-use Rattle.feed_http.specs.Announcements.{part_with_framing, part_announcement, whole_announcement, size_announcement, unsatisfied_announcement, unsatisfied_by_head, file_announcement, announcement_of}
+use Rattle.feed_http.specs.Announcements.{is_get, values, has_file_status, is_transfer_coded, is_coded_otherwise, stated_of, common_length, stated_length, content_length, framing_by_length}
+use Rattle.feed_http.specs.Announcements.{framing_of, range_of}
+use Rattle.feed_http.specs.Announcements.{part_with_framing, part_announcement, whole_announcement, size_announcement, unsatisfied_announcement, unsatisfied_by_head, file_announcement}
+use Rattle.feed_http.specs.Announcements.{announcement_of}
 use Rattle.feed_http_heads.specs.Fields.{has_any}
 use Rattle.feed_http.specs.Got.{IsReadingFault}
 use Rattle.std.specs.Prelude.{codes}

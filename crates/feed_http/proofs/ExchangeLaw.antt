@@ -184,7 +184,8 @@ head_valid places count p c = record {
 }
 
 -- what the head says
-part_announcement_of : (places count : List ℕ) → announcement_of Get (part_head places count) ≡ part_announcement (result_ok (content_range (trim_ows (32 ∷ places)))) (framing_by_length (stated_of (trim_ows
+part_announcement_of : (places count : List ℕ) → announcement_of Get (part_head places count) ≡ part_announcement (result_ok (content_range (trim_ows (32 ∷ places))))
+    (framing_by_length (stated_of (trim_ows
     (32 ∷ count) ∷ [])))
 unfolding part_head part_fields field
 part_announcement_of places count = refl

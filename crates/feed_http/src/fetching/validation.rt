@@ -4,8 +4,10 @@ ghost use Rattle.feed_range.specs.Content.{IsInOrder};
 ghost use Rattle.httparse.specs.Grammar.{ResponseHead};
 ghost use Rattle.feed_http_heads.specs.Fields.{AreWithin, AreFieldsOf};
 ghost use Rattle.feed_http.specs.Announcements.{is_identity, is_chunked, is_transfer_coded, is_coded_otherwise};
-ghost use Rattle.feed_http.specs.Announcements.{stated_length, framing_of, framing_by_length, range_of, part_announcement};
-ghost use Rattle.feed_http.specs.Announcements.{part_with_framing, whole_announcement, size_announcement, unsatisfied_by_head, file_announcement};
+ghost use Rattle.feed_http.specs.Announcements.{stated_length, framing_of, framing_by_length, range_of};
+ghost use Rattle.feed_http.specs.Announcements.{part_announcement};
+ghost use Rattle.feed_http.specs.Announcements.{part_with_framing, whole_announcement, size_announcement};
+ghost use Rattle.feed_http.specs.Announcements.{unsatisfied_by_head, file_announcement};
 ghost use Rattle.feed_http.specs.Announcements.{announcement_of, has_file_status, IsInBuffer, HasHead};
 
 use crate::fetching::got::Method;

@@ -11,7 +11,8 @@ ghost use Rattle.feed_http_heads.specs.Requests.{IsInBuffer, HasHead};
 ghost use Rattle.feed_http.specs.Requests.{IsNamedBy};
 ghost use Rattle.feed_http.specs.Replies.{IsPartInside};
 ghost use Rattle.feed_http.specs.Shelves.{CountsFailure, IsShelfKept};
-ghost use Rattle.feed_http.specs.ServerReplies.{server_reply, reply_without_file, part_reply, file_reply, IsOutcomeOf, IsRefusalOf};
+ghost use Rattle.feed_http.specs.ServerReplies.{server_reply, reply_without_file, part_reply, file_reply, IsOutcomeOf};
+ghost use Rattle.feed_http.specs.ServerReplies.{IsRefusalOf};
 ghost use Rattle.feed_http.specs.ServerReplies.{IsReplyFault, IsServingFault, reply_of};
 
 use crate::serving::reply_head::ReplyHead;

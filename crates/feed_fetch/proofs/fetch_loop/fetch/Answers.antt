@@ -8,7 +8,8 @@ use Rattle.feed_fetch.proofs.fetch_loop.fetch.Goals as goal
 
 pub rounds-init : goal.rounds-init
 rounds-init g c = record {
-  extends = extends_any (IsFetchEvent g.D.Dial.replies c.args.host.now c.args.name.now) (λ k. IfErr c.begin.result (λ stop. IsStoppedAt c.args.name.now stop k)) (content_of c.args.feed.now.releases.items)
+  extends = extends_any (IsFetchEvent g.D.Dial.replies c.args.host.now c.args.name.now) (λ k. IfErr c.begin.result (λ stop. IsStoppedAt c.args.name.now stop k))
+      (content_of c.args.feed.now.releases.items)
       (content_of c.begin.new.feed.releases.items) c.begin.ensures.extends;
   fills = λ file serves fit. fill_start (content_of c.args.feed.now.releases.items) (content_of c.begin.new.feed.releases.items) c.args.name.now file (c.in_default.ensures.opens file serves fit);
 }
@@ -27,7 +28,8 @@ returns-in-Err-fetch_range-clause-extends g c =
 
 pub rounds-preserved : goal.rounds-preserved
 rounds-preserved g c = record {
-  extends = extends_any (IsFetchEvent g.D.Dial.replies c.args.host.now c.args.name.now) (λ k. IfErr c.fetch_range.result (λ stop. IsStoppedAt c.args.name.now stop k)) (content_of c.args.feed.now.releases.items)
+  extends = extends_any (IsFetchEvent g.D.Dial.replies c.args.host.now c.args.name.now) (λ k. IfErr c.fetch_range.result (λ stop. IsStoppedAt c.args.name.now stop k))
+      (content_of c.args.feed.now.releases.items)
       (content_of c.fetch_range.new.feed.releases.items)
       (extends_more (IsFetchEvent g.D.Dial.replies c.args.host.now c.args.name.now) (λ k. Unit {0}) (λ k. IfErr c.fetch_range.result (λ stop. IsStoppedAt c.args.name.now stop k))
       (content_of c.args.feed.now.releases.items) (content_of c.rounds.feed.releases.items) (content_of c.fetch_range.new.feed.releases.items)

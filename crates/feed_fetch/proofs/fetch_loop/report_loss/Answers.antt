@@ -11,5 +11,6 @@ returns-in-Ok-clause-lost g c =
 
 pub returns-in-Err-clause-lost : goal.returns-in-Err-clause-lost
 returns-in-Err-clause-lost g c =
-    lost_stops (content_of c.args.feed.now.releases.items) (content_of c.handle_event.new.feed.releases.items) c.args.name.now c.args.why c.in-Http.field-0 (Err c.in-Err.stop) c.in-Err.stop c.in-Http.is refl
+    lost_stops (content_of c.args.feed.now.releases.items) (content_of c.handle_event.new.feed.releases.items) c.args.name.now c.args.why c.in-Http.field-0 (Err c.in-Err.stop) c.in-Err.stop
+    c.in-Http.is refl
     c.in-Err.ensures

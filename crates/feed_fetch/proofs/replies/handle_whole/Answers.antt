@@ -7,14 +7,16 @@ pub returns-then-is_new : goal.returns-then-is_new
 returns-then-is_new g c =
     let within : c.pieces.first + c.min.result ≤ length c.args.bytes.now = omega (arith, c.min.ensures, c.pieces.invariant.within) in
     whole_any _ _ c.args.name.now c.args.bytes.now c.handle_event.result
-    (whole_more (content_of c.args.feed.now.releases.items) (content_of c.pieces.feed.releases.items) (content_of c.handle_event.new.feed.releases.items) c.args.name.now c.args.bytes.now c.pieces.first
+    (whole_more (content_of c.args.feed.now.releases.items) (content_of c.pieces.feed.releases.items) (content_of c.handle_event.new.feed.releases.items) c.args.name.now c.args.bytes.now
+    c.pieces.first
     c.min.result c.handle_event.result within c.pieces.invariant.extends c.handle_event.ensures)
 
 pub returns-else-is_new : goal.returns-else-is_new
 returns-else-is_new g c =
     let within : c.pieces.first + c.min.result ≤ length c.args.bytes.now = omega (arith, c.min.ensures, c.pieces.invariant.within) in
     whole_any _ _ c.args.name.now c.args.bytes.now c.handle_event.result
-    (whole_more (content_of c.args.feed.now.releases.items) (content_of c.pieces.feed.releases.items) (content_of c.handle_event.new.feed.releases.items) c.args.name.now c.args.bytes.now c.pieces.first
+    (whole_more (content_of c.args.feed.now.releases.items) (content_of c.pieces.feed.releases.items) (content_of c.handle_event.new.feed.releases.items) c.args.name.now c.args.bytes.now
+    c.pieces.first
     c.min.result c.handle_event.result within c.pieces.invariant.extends c.handle_event.ensures)
 
 pub returns-in-Err : goal.returns-in-Err
@@ -29,7 +31,8 @@ pieces-preserved-in-Ok-Stored g c =
     record {
       within = within;
       extends = whole_any _ _ c.args.name.now c.args.bytes.now c.handle_event.result
-          (whole_more (content_of c.args.feed.now.releases.items) (content_of c.pieces.feed.releases.items) (content_of c.handle_event.new.feed.releases.items) c.args.name.now c.args.bytes.now c.pieces.first
+          (whole_more (content_of c.args.feed.now.releases.items) (content_of c.pieces.feed.releases.items) (content_of c.handle_event.new.feed.releases.items) c.args.name.now c.args.bytes.now
+          c.pieces.first
           c.min.result c.handle_event.result within c.pieces.invariant.extends c.handle_event.ensures);
     }
 
@@ -39,6 +42,7 @@ pieces-preserved g c =
     record {
       within = within;
       extends = whole_any _ _ c.args.name.now c.args.bytes.now c.handle_event.result
-          (whole_more (content_of c.args.feed.now.releases.items) (content_of c.pieces.feed.releases.items) (content_of c.handle_event.new.feed.releases.items) c.args.name.now c.args.bytes.now c.pieces.first
+          (whole_more (content_of c.args.feed.now.releases.items) (content_of c.pieces.feed.releases.items) (content_of c.handle_event.new.feed.releases.items) c.args.name.now c.args.bytes.now
+          c.pieces.first
           c.min.result c.handle_event.result within c.pieces.invariant.extends c.handle_event.ensures);
     }

@@ -14,5 +14,6 @@ returns-then-not-has_other_name_or_length c = all_values (is_length_value c.args
 
 pub returns : goal.returns
 returns c = all_values (is_length_value c.args.size) c.args.found.now.buffer.now content_length c.args.found.now.headers.now true
-    (sym (ap (list_all (has_other_name_or (is_length_value c.args.size) c.args.found.now.buffer.now content_length)) (sym (take_all c.loop-header.header-index c.args.found.now.headers.now c.loop-header-test.false))
+    (sym (ap (list_all (has_other_name_or (is_length_value c.args.size) c.args.found.now.buffer.now content_length))
+    (sym (take_all c.loop-header.header-index c.args.found.now.headers.now c.loop-header-test.false))
     ∙ c.loop-header.invariant))
