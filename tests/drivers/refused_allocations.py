@@ -2,21 +2,44 @@
 """Runs a command again and again, and refuses one of its requests for memory: the first, the second, and so on, until
 a run meets no refusal. Prints how the runs ended, and with --count how many requests were refused.
 
-refused_allocations.py [--count] [--every N] [--fresh FILE] [--then LINE] [--or FILE] [--server ADDR] INPUT COMMAND ..
+refused_allocations.py [--count] [--every N] [--copy FILE] [--then LINE] [--or FILE] [--steps] [--server ADDR]
+                       INPUT COMMAND ..
 
-Standard input is the file INPUT. Each run has to end in a way that rising_limits.py names, except `not begun`, and its
-output before a fault has to be the beginning of the output of the run without a refusal. A run that ends otherwise is
-printed. The C compiler cc compiles refusing.c, which refuses the requests.
+Standard input is the file INPUT. In COMMAND and LINE, `{}` is a folder that is empty before each run. The C compiler cc
+compiles refusing.c, which refuses the requests. A run ends as
+
+  right      its output and its status are those of the run without a refusal
+  fault      it ends with a fault that says that memory ran out. Its output is the first lines of the output of a run
+             that ends otherwise
+  refused    a fetch ends with status 3, and its last line is `refused Memory`
+  counted    its output is compared line by line, and some lines are about memory
+
+The lines of an answer (`release NAME hits N`) count as one. In a run that is `counted`, each line is the same as in the
+run without a refusal, or one of these:
+
+  refused Memory          in place of any line. The event has no effect: each later line is what the program prints,
+                          with all memory, for INPUT without that event
+  Memory, Write           from a driver, in place of any line. A text after it is the beginning of that line's text
+  down Memory             in place of `restarted` or `stopped`, by a node that is not opened again. The event has its
+                          effect. Up to the node's next restart, `refused Down` is the line of each of its events, and
+                          these have no effect
+
+A run that ends otherwise is printed with the number of the request.
 
 --every N      refuses only every N-th request
---fresh FILE   removes FILE and its write-ahead log before each run
+--copy FILE    copies FILE, a database, into the folder before each run, with its write-ahead log if there is one
 --then LINE    runs LINE in the shell, with all memory, after each run; it has to print the same as after the run
                without a refusal
 --or FILE      a run may also do what it does with the input FILE, which is reported as `other`
+--steps        each line of INPUT is a step, whose words are the last arguments of COMMAND
 --server ADDR  the command serves one connection at ADDR: INPUT is sent there, and the reply is checked as output"""
 import argparse
+import concurrent.futures
+import functools
 import os
 import pathlib
+import re
+import shutil
 import socket
 import subprocess
 import sys
@@ -33,6 +56,44 @@ ENDS = [*KNOWN[1:], "other"]
 UNSERVED = b"listening\nfault Memory\n"
 # A fetch prints this before a fault of its reply, which is a loss to the feed.
 LOST = b"nothing\n"
+# The first words of input lines that print nothing. The line of `queue EVENT` is printed by `run`.
+SILENT = [b"", b"nodes", b"file", b"close", b"run"]
+# Further ones among the steps.
+SILENT_STEPS = [b"restart"]
+# The messages of a driver that ran out of memory for its input, for a name, or for the feed that it was to open.
+DRIVERS = re.compile(rb"[Mm]emory|AllocFailed|cannot read or write|a read or a print failed|input or output failed"
+                     rb"|a name is wrong|not the name of a release|no feed is open")
+ABOUT_MEMORY = re.compile(rb"refused Memory\n|down Memory\n|(?:Memory|Write)(?: (.*))?\n")
+
+
+class Run:
+    """A run of the command: how it ended, its reply, what LINE printed after it, and how many requests there were."""
+
+    def __init__(self, given, path, library, refused):
+        place = "/dev/shm" if os.access("/dev/shm", os.W_OK) else None
+        with tempfile.TemporaryDirectory(prefix="kbfeed-refused-", dir=place) as folder:
+            for name in [given.copy, f"{given.copy}-wal"]:
+                if given.copy and os.path.exists(name):
+                    shutil.copy(name, folder)
+            self.run(given, path, {"LD_PRELOAD": str(library), "REFUSED": str(refused)}, folder)
+            line = given.then.replace("{}", folder)
+            then = subprocess.run(["sh", "-c", line], capture_output=True, timeout=SECONDS, check=False)
+            self.then = (then.returncode, then.stdout, then.stderr)
+
+    def run(self, given, path, words, folder):
+        reader, writer = os.pipe()
+        words = {**os.environ, **words, "REFUSED_COUNT": str(writer)}
+        steps = pathlib.Path(path).read_text(encoding="utf-8").split() if given.steps else []
+        command = [it.replace("{}", folder) for it in given.command + steps]
+        with open(os.devnull if given.steps else path, "rb") as text:
+            process = subprocess.Popen(command, stdin=text, stdout=subprocess.PIPE, stderr=subprocess.PIPE, env=words,
+                                       pass_fds=[writer])
+        self.reply = replied(process, given.server, pathlib.Path(path).read_bytes()) if given.server else b""
+        out, err = process.communicate(timeout=SECONDS)
+        os.close(writer)
+        with os.fdopen(reader) as counted:
+            self.requests = int(counted.read() or 0)
+        self.done = subprocess.CompletedProcess(command, process.returncode, out, err)
 
 
 def replied(process, address, request):
@@ -48,35 +109,102 @@ def replied(process, address, request):
     return b""
 
 
-def ran(given, path, library, refused):
-    """A run whose request `refused` is refused: how it ended, its reply, what LINE prints after it, and how many
-    requests there were."""
-    for end in ["", "-wal"] if given.fresh else []:
-        pathlib.Path(given.fresh + end).unlink(missing_ok=True)
-    reader, writer = os.pipe()
-    words = {**os.environ, "LD_PRELOAD": str(library), "REFUSED": str(refused), "REFUSED_COUNT": str(writer)}
-    with open(path, "rb") as text:
-        process = subprocess.Popen(given.command, stdin=text, stdout=subprocess.PIPE, stderr=subprocess.PIPE, env=words,
-                                   pass_fds=[writer])
-    reply = replied(process, given.server, pathlib.Path(path).read_bytes()) if given.server else b""
-    out, err = process.communicate(timeout=SECONDS)
-    os.close(writer)
-    with os.fdopen(reader) as counted:
-        requests = int(counted.read() or 0)
-    then = subprocess.run(["sh", "-c", given.then], capture_output=True, timeout=SECONDS, check=False)
-    done = subprocess.CompletedProcess(given.command, process.returncode, out, err)
-    return done, reply, (then.returncode, then.stdout, then.stderr), requests
+def blocks_of(text):
+    """The lines of an output. Those of an answer are one."""
+    lines, blocks = text.splitlines(keepends=True), []
+    while lines:
+        answer = re.fullmatch(rb"release \S+ hits (\d+)\n", lines[0])
+        count = 1 + int(answer[1]) if answer else 1
+        blocks.append(b"".join(lines[:count]))
+        del lines[:count]
+    return blocks
 
 
-def end_of(done, reply, whole, whole_reply):
+def printing(lines, silent):
+    """The places of the input lines that print something."""
+    return [at for at, line in enumerate(lines) if line.split(b" ")[0] not in silent]
+
+
+def node_of(line):
+    """The number of the node in a line of a script."""
+    return line.split(b" ")[1:2]
+
+
+class Oracle:
+    """Says of an output with lines about memory what the other lines have to be."""
+
+    def __init__(self, given, library, whole):
+        self.given, self.library, self.whole = given, library, whole
+        self.lines = pathlib.Path(given.input).read_bytes().removesuffix(b"\n").split(b"\n")
+
+    @functools.lru_cache(maxsize=None)
+    def without(self, dropped):
+        """What the program prints, with all memory, for the input without these lines."""
+        with tempfile.NamedTemporaryFile(prefix="kbfeed-refused-") as file:
+            kept = [line for at, line in enumerate(self.lines) if at not in dropped]
+            file.write(b"".join(line + b"\n" for line in kept))
+            file.flush()
+            return blocks_of(Run(self.given, file.name, self.library, 0).done.stdout)
+
+    def wrong(self, text):
+        """What is wrong in an output, None if nothing is."""
+        silent = SILENT + SILENT_STEPS if self.given.steps else SILENT
+        places, blocks = printing(self.lines, silent), blocks_of(text)
+        right = blocks_of(self.whole.done.stdout)
+        if not len(places) == len(right) == len(blocks):
+            return f"{len(blocks)} lines for {len(places)} events"
+        dropped, down = set(), set()
+        for place, block, usual in zip(places, blocks, right):
+            line = self.lines[place]
+            word, node = line.split(b" ")[0], tuple(node_of(line))
+            about = ABOUT_MEMORY.fullmatch(block)
+            if node in down and word != b"restart" and word != b"publish":
+                if block != b"refused Down\n":
+                    return f"{block!r} by a node that is down"
+                dropped.add(place)
+            elif block == b"down Memory\n":
+                if usual not in (b"restarted\n", b"stopped\n"):
+                    return f"{block!r} in place of {usual!r}"
+                down.add(node)
+            elif about:
+                if about[1] is not None and not usual.split(b" ", 1)[-1].startswith(about[1]):
+                    return f"{block!r} in place of {usual!r}"
+                dropped.add(place)
+            elif word == b"restart":
+                down.discard(node)
+        if not dropped and b"down Memory\n" not in blocks:
+            return f"another output: {text!r}"
+        wanted = iter(self.without(frozenset(dropped)))
+        for place, block in zip(places, blocks):
+            right = block if place in dropped else next(wanted, None)
+            if block != right and block != b"down Memory\n":
+                return f"{block!r} in place of {right!r}"
+        return None
+
+
+def before_fault(done):
+    """The output before a fault and the line that belongs to it."""
+    unopened = done.stderr.endswith(b"no feed is open\n")
+    return done.stdout.removesuffix(b"refused Memory\n" if unopened else LOST)
+
+
+def end_of(run, whole, oracle):
     """How a run ended, compared with the run without a refusal."""
-    came_to = outcome(done, whole)
+    done, first = run.done, whole.done.stdout
+    came_to = outcome(done, whole.done)
     if (done.returncode, done.stdout, done.stderr) == (0, UNSERVED, b""):
         came_to = "fault"
-    elif came_to == "fault" and not whole.stdout.startswith(done.stdout.removesuffix(LOST)):
+    elif came_to not in KNOWN and done.returncode == whole.done.returncode and done.stderr == whole.done.stderr:
+        came_to = "counted"
+    elif came_to not in KNOWN and done.returncode in (1, 2) and DRIVERS.search(done.stderr):
+        came_to = "fault"
+    if came_to == "counted":
+        wrong = oracle.wrong(done.stdout)
+        came_to = f"counted, but {wrong}" if wrong else came_to
+    elif came_to == "fault" and done.stdout != UNSERVED and not first.startswith(before_fault(done)):
         return f"another answer before a fault: {done.stdout!r}"
-    if reply != whole_reply and not (came_to == "fault" and whole_reply.startswith(reply)):
-        return f"{came_to}, and another reply: {reply!r}"
+    if run.reply != whole.reply and not (came_to == "fault" and whole.reply.startswith(run.reply)):
+        return f"{came_to}, and another reply: {run.reply!r}"
     return came_to
 
 
@@ -85,29 +213,39 @@ def main():
     asked.add_argument("--count", action="store_true")
     asked.add_argument("--or", dest="other")
     asked.add_argument("--every", type=int, default=1)
-    asked.add_argument("--fresh")
+    asked.add_argument("--copy")
     asked.add_argument("--then", default="true")
+    asked.add_argument("--steps", action="store_true")
     asked.add_argument("--server")
     asked.add_argument("input")
     asked.add_argument("command", nargs=argparse.REMAINDER)
     given = asked.parse_args()
-    with tempfile.TemporaryDirectory(prefix="kbfeed-refused-") as folder:
+    jobs = 1 if given.server else os.cpu_count() or 1
+    pool = concurrent.futures.ThreadPoolExecutor(jobs)
+    with tempfile.TemporaryDirectory(prefix="kbfeed-refused-") as folder, pool:
         library = pathlib.Path(folder, "refusing.so")
         subprocess.run(["cc", "-shared", "-fPIC", "-O2", "-o", library, SOURCE], check=True)
-        whole, whole_reply, behind, requests = ran(given, given.input, library, 0)
-        other = ran(given, given.other, library, 0)[0] if given.other else None
-        met, refused = [], 1 - given.every
-        while requests >= refused:
-            refused += given.every
-            done, reply, then, requests = ran(given, given.input, library, refused)
-            came_to = end_of(done, reply, whole, whole_reply)
-            if other and outcome(done, other) == "right" != came_to:
-                came_to = "other"
-            if then != behind:
-                came_to = f"{came_to}, and then {then}"
-            if came_to not in ENDS:
-                print(refused, came_to)
-            met.append(came_to)
+        whole = Run(given, given.input, library, 0)
+        other = Run(given, given.other, library, 0).done if given.other else None
+        oracle = Oracle(given, library, whole)
+        met, first, is_last = [], 1, False
+        while not is_last:
+            numbers = [first + given.every * step for step in range(4 * jobs)]
+            numbers = [number for number in numbers if number <= whole.requests] or [first]
+            first = numbers[-1] + given.every
+            runs = pool.map(lambda number: Run(given, given.input, library, number), numbers)
+            for number, run in zip(numbers, runs):
+                came_to = end_of(run, whole, oracle)
+                if other and outcome(run.done, other) == "right" != came_to:
+                    came_to = "other"
+                if run.then != whole.then:
+                    came_to = f"{came_to}, and then {run.then}"
+                if came_to not in ENDS:
+                    print(number, came_to)
+                met.append(came_to)
+                is_last = run.requests < number
+                if is_last:
+                    break
     print(", ".join(name for name in ENDS if name in met) + (f"; refused {len(met) - 1}" if given.count else ""))
 
 
