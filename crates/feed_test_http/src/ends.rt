@@ -44,18 +44,21 @@ impl Read for ShortReader<'_> {
     }
 }
 
-/// A writer that stores the bytes. It fails at the call of number `fails_at`, counted from 1.
+/// A writer that stores the bytes, at most `step` of them in a call. It fails at the call of number `fails_at`, counted
+/// from 1.
 #[derive(Drop)]
 pub struct Sink {
     pub bytes: Vec<u8>,
+    step: usize,
     fails_at: usize,
     pub calls: usize,
 }
 
 impl Sink {
-    pub fn failing(alloc: Global, fails_at: usize) -> Sink {
+    pub fn new(alloc: Global, step: usize, fails_at: usize) -> Sink {
         Sink {
             bytes: Vec::new(alloc),
+            step,
             fails_at,
             calls: 0,
         }
@@ -68,8 +71,9 @@ impl Write for Sink {
         if self.calls == self.fails_at {
             return Err(io::Error::from(ErrorKind::BrokenPipe));
         }
-        self.bytes.extend_from_slice(buf)?;
-        Ok(buf.len())
+        let count = self.step.min(buf.len());
+        self.bytes.extend_from_slice(&buf[..count])?;
+        Ok(count)
     }
 
     fn flush(&mut self) -> io::Result<()> {

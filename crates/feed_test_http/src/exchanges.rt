@@ -24,7 +24,7 @@ impl Driver<'_> {
         if !is_host(host) {
             return Err(Fault::NoHost);
         }
-        let mut sink = Sink::failing(self.rt.alloc(), self.plan.fails_write);
+        let mut sink = Sink::new(self.rt.alloc(), self.step, self.plan.fails_write);
         let written = write_request(&mut sink, host, &name, first, last);
         self.print_written(written, &sink)
     }
@@ -35,16 +35,17 @@ impl Driver<'_> {
         if !is_host(host) {
             return Err(Fault::NoHost);
         }
-        let mut sink = Sink::failing(self.rt.alloc(), self.plan.fails_write);
+        let mut sink = Sink::new(self.rt.alloc(), self.step, self.plan.fails_write);
         let written = write_head_request(&mut sink, host, &name);
         self.print_written(written, &sink)
     }
 
     fn print_written(&mut self, written: Result<(), HttpFault>, sink: &Sink) -> Result<(), Fault> {
         self.plan = Plan::new();
+        self.counts.writes = sink.calls;
         match written {
             Ok(()) => println!(self.rt; "{}", Escaped(&sink.bytes))?,
-            Err(fault) => println!(self.rt; "{fault}")?,
+            Err(fault) => println!(self.rt; "{fault} {}", Escaped(&sink.bytes))?,
         }
         Ok(())
     }
@@ -89,7 +90,7 @@ impl Driver<'_> {
         let text = line.text(self.rt.alloc())?;
         let bytes = self.plan.front_of(&text);
         let mut reader = ShortReader::new(bytes, self.step, self.plan.fails_read);
-        let mut sink = Sink::failing(self.rt.alloc(), self.plan.fails_write);
+        let mut sink = Sink::new(self.rt.alloc(), self.step, self.plan.fails_write);
         let mut shelf = CountingShelf::new(&self.files, self.plan.fails_shelf);
         let outcome = serve_one(self.rt.alloc(), &mut reader, &mut sink, &mut shelf);
         self.counts = Counts {
@@ -105,7 +106,7 @@ impl Driver<'_> {
     pub fn serve(&self, line: Line<'_>) -> Result<(), Fault> {
         let text = line.text(self.rt.alloc())?;
         let mut reader = ShortReader::new(&text, self.step, usize::MAX);
-        let mut sink = Sink::failing(self.rt.alloc(), usize::MAX);
+        let mut sink = Sink::new(self.rt.alloc(), self.step, usize::MAX);
         let mut shelf = MemoryShelf { files: &self.files };
         let outcome = serve_one(self.rt.alloc(), &mut reader, &mut sink, &mut shelf);
         self.print_outcome(outcome, &sink)

@@ -3,7 +3,8 @@
 //!     feed_test_http STEP < LINES
 //!
 //! A line is a command and its words, separated by one space; the last word is the rest of the line. In a TEXT `\r`,
-//! `\n`, `\t` and `\xHH` are bytes, as they are in what is printed. Each reader gives at most STEP bytes at a call.
+//! `\n`, `\t` and `\xHH` are bytes, as they are in what is printed. Each reader gives at most STEP bytes at a call,
+//! and each writer accepts at most STEP.
 //!
 //! Values of Range and Content-Range:
 //!
@@ -17,8 +18,8 @@
 //! Exchanges:
 //!
 //!     host TEXT                       whether a node takes the text as a host
-//!     get HOST NAME FIRST LAST        the GET that a node writes
-//!     head HOST NAME                  the HEAD that it writes
+//!     get HOST NAME FIRST LAST        the GET that a node writes; after a fault, the bytes that it wrote before
+//!     head HOST NAME                  the HEAD, in the same way
 //!     reply get|head TEXT             what a node reads from a reply
 //!     file NAME TEXT                  puts a file on the server's shelf; prints nothing
 //!     request TEXT                    the status of the server's reply to a request, or its fault, and the reply
