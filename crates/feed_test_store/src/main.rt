@@ -2,6 +2,9 @@
 //! over SQL.
 //!
 //!     feed_test_store DATABASE STEP..
+//!     feed_test_store load DATABASE
+//!     feed_test_store replay DATABASE.. < SCRIPT
+//!     feed_test_store replay-in-memory WORD.. < SCRIPT
 //!
 //! The steps:
 //!
@@ -12,25 +15,60 @@
 //!     restart                  opens the feed again over its keeper
 //!     close                    closes the keeper, and opens the file again
 //!     records                  prints the records of the keeper
+//!
+//! `load` prints how many records the keeper loads, and whether a feed opens over it, or why not. `replay` replays a
+//! script of `kbfeed replay` with a node over each database, and `replay-in-memory` with one over a new database in
+//! memory for each word. They print the transcript, and then each keeper: its number, how often it failed, and its
+//! records.
 #![tactic(auto)]
 
+mod database;
 mod steps;
+mod worlds;
 
+use database::{DatabaseFile, NewDatabase};
 use std::env;
 use std::test::Fail;
-use steps::{DatabaseFile, take_steps};
+use steps::take_steps;
+use worlds::{load, replay_over};
 
 fn main(rt: HostRuntime) -> Result<(), Fail> {
     let mut arguments = Vec::new(rt.alloc());
     for argument in env::args(&rt)? {
         arguments.push(argument)?;
     }
-    let [_, path, steps @ ..] = arguments.as_slice() else {
+    let [_, first, others @ ..] = arguments.as_slice() else {
         return Err(Fail::new("feed_test_store DATABASE STEP.."));
     };
-    let database = DatabaseFile {
-        rt: &rt,
-        path: path.as_str(),
-    };
-    take_steps(&rt, &database, steps)
+    match first.as_str() {
+        "load" => load_each(&rt, others),
+        "replay" => replay_in_files(&rt, others),
+        "replay-in-memory" => replay_in_memory(&rt, others),
+        path => take_steps(&rt, &DatabaseFile { rt: &rt, path }, others),
+    }
+}
+
+fn load_each(rt: &HostRuntime, paths: &[String]) -> Result<(), Fail> {
+    for path in paths {
+        let path = path.as_str();
+        load(rt, &DatabaseFile { rt, path })?;
+    }
+    Ok(())
+}
+
+fn replay_in_files(rt: &HostRuntime, paths: &[String]) -> Result<(), Fail> {
+    let mut databases = Vec::new(rt.alloc());
+    for path in paths {
+        let path = path.as_str();
+        databases.push(DatabaseFile { rt, path })?;
+    }
+    replay_over(rt, &databases)
+}
+
+fn replay_in_memory(rt: &HostRuntime, words: &[String]) -> Result<(), Fail> {
+    let mut databases = Vec::new(rt.alloc());
+    for _ in words {
+        databases.push(NewDatabase { rt })?;
+    }
+    replay_over(rt, &databases)
 }

@@ -1,45 +1,12 @@
-//! The steps of a feed over a database file.
+//! The steps of a feed over a database.
+use crate::database::Database;
 use feed_keep::Keep;
 use feed_model::{Refusal, Reply};
 use feed_names::ReleaseName;
 use feed_releases::{Event, Feed};
-use feed_store::SqlKeep;
 use feed_test_support::{content_text, name_of};
-use sqlite_std_file::File;
-use sqlite_store::FileStore;
 use std::test::Fail;
 use std::{fs, slice};
-
-/// A database that can be opened as a keeper.
-pub trait Database {
-    type Keeper: Keep + Drop;
-
-    fn open(&self) -> Result<Self::Keeper, Fail>;
-
-    fn close(&self, keeper: Self::Keeper) -> Result<(), Fail>;
-}
-
-/// The database in a file.
-#[derive(Drop)]
-pub struct DatabaseFile<'a> {
-    pub rt: &'a HostRuntime,
-    pub path: &'a str,
-}
-
-impl Database for DatabaseFile<'_> {
-    type Keeper = SqlKeep<FileStore<File>>;
-
-    fn open(&self) -> Result<SqlKeep<FileStore<File>>, Fail> {
-        match SqlKeep::open_file(self.rt, self.path) {
-            Ok(keeper) => Ok(keeper),
-            Err(fault) => Err(Fail::new(fault)),
-        }
-    }
-
-    fn close(&self, keeper: SqlKeep<FileStore<File>>) -> Result<(), Fail> {
-        Ok(keeper.close()?)
-    }
-}
 
 // The arguments that were not read yet.
 #[derive(Drop)]
@@ -76,7 +43,7 @@ pub fn take_steps<D: Database>(
         };
         feed = take_step(rt, database, feed, step.as_str(), &mut arguments)?;
     }
-    database.close(feed.restart())
+    D::close(feed.restart())
 }
 
 fn open_feed<K: Keep + Drop>(rt: &HostRuntime, keeper: K) -> Result<Feed<K>, Fail> {
@@ -96,7 +63,7 @@ fn take_step<D: Database>(
     match step {
         "restart" => open_feed(rt, feed.restart()),
         "close" => {
-            database.close(feed.restart())?;
+            D::close(feed.restart())?;
             open_feed(rt, database.open()?)
         }
         "records" => print_records(rt, feed),

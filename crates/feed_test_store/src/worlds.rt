@@ -1,0 +1,92 @@
+//! Worlds of nodes over databases, and what a keeper and a feed each say of a database.
+use crate::database::Database;
+use feed_core::{ReplayFault, Transcript, replay};
+use feed_keep::Keep;
+use feed_releases::Feed;
+use feed_script::{Files, LineFault, Script, read_script};
+use feed_test_support::content_text;
+use feed_world::WorldEvent;
+use std::alloc::Global;
+use std::io::Read;
+use std::test::Fail;
+
+/// Replays the script on standard input, with a node over each of these databases. Prints the transcript, and then the
+/// records of each keeper.
+pub fn replay_over<D: Database>(rt: &HostRuntime, databases: &[D]) -> Result<(), Fail> {
+    let events = events_of(rt)?;
+    let mut keepers = Vec::new(rt.alloc());
+    for database in databases {
+        keepers.push(database.open()?)?;
+    }
+    match replay(rt.alloc(), keepers, &events) {
+        Ok(transcript) => show_transcript::<D>(rt, transcript),
+        Err(ReplayFault::Start { node, keeper }) => {
+            println!(rt; "refused Start")?;
+            show_keeper::<D>(rt, node, keeper)
+        }
+        Err(ReplayFault::Nodes) => Ok(println!(rt; "refused Nodes")?),
+        Err(ReplayFault::Memory) => Ok(println!(rt; "refused Memory")?),
+    }
+}
+
+fn show_transcript<D: Database>(
+    rt: &HostRuntime,
+    transcript: Transcript<D::Keeper>,
+) -> Result<(), Fail> {
+    let mut text = Vec::new(rt.alloc());
+    transcript.write(&mut text)?;
+    print!(rt; "{}", str::from_utf8(&text)?)?;
+    let mut node = 0_usize;
+    for keeper in transcript.into_keepers() {
+        node = node.saturating_add(1);
+        show_keeper::<D>(rt, node, keeper)?;
+    }
+    Ok(())
+}
+
+fn show_keeper<D: Database>(rt: &HostRuntime, node: usize, keeper: D::Keeper) -> Result<(), Fail> {
+    let mut keeper = keeper;
+    println!(rt; "keeper {node}, failures {}", keeper.failures())?;
+    let records = content_text(rt.alloc(), &mut keeper)?;
+    print!(rt; "{}", str::from_utf8(&records)?)?;
+    D::close(keeper)
+}
+
+/// Prints how many records the keeper of a database loads, or why it loads none, and then whether a feed opens over it.
+pub fn load<D: Database>(rt: &HostRuntime, database: &D) -> Result<(), Fail> {
+    let mut keeper = database.open()?;
+    match keeper.load(rt.alloc()) {
+        Ok(records) => println!(rt; "loaded {}", records.len())?,
+        Err(fault) => println!(rt; "not loaded: {fault}")?,
+    }
+    match Feed::open(rt.alloc(), keeper) {
+        Ok(feed) => {
+            println!(rt; "opened")?;
+            D::close(feed.restart())
+        }
+        Err(fault) => {
+            println!(rt; "not opened: {}", fault.cause)?;
+            D::close(fault.keeper)
+        }
+    }
+}
+
+// The files that a script may publish by their paths: none.
+#[derive(Drop)]
+struct NoFiles;
+
+impl Files for NoFiles {
+    fn bytes_of(&mut self, _alloc: Global, _path: &[u8]) -> Result<Vec<u8>, LineFault> {
+        Err(LineFault::BadFile)
+    }
+}
+
+// Reads the events of the script on standard input.
+fn events_of(rt: &HostRuntime) -> Result<Vec<WorldEvent>, Fail> {
+    let mut text = Vec::new(rt.alloc());
+    rt.reader().read_to_end(&mut text)?;
+    match read_script(rt.alloc(), &text, &mut NoFiles) {
+        Ok(Script { nodes: _, events }) => Ok(events),
+        Err(fault) => Err(Fail::new(fault)),
+    }
+}
