@@ -7,8 +7,9 @@ use clap::builder::ValueParser;
 use clap::{Arg, ArgAction, Command};
 use std::alloc::{AllocError, Global};
 
-// The version of the program, and that of the toolchain, as `rt version` prints it: it builds only what it has proved.
-const VERSION: &str = "0.1.0\nrattle-kit-13f logic dac8208d650f15bf\nproved";
+// The version of the program, and the logic in which it is proved, as the end of `rt version` names it. Kits of the
+// toolchain that have the same logic accept the same proofs.
+const VERSION: &str = "0.1.0\nlogic dac8208d650f15bf\nproved";
 
 /// A command of the program.
 #[derive(Clone, Copy)]

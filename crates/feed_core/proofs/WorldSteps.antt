@@ -1,27 +1,33 @@
 -- A step of one node as a step of the world, and lists that advance together.
-use Rattle.std.proofs.Common.{◌≡◌, ◌+◌, ◌++◌, ℕ, suc, Bool, List, [], ◌∷◌, length, slice_get, Some, refl, sym, ◌∙◌, ap, subst, arith}
+use Rattle.std.proofs.Common.{◌≡◌, ◌+◌, ◌++◌, ℕ, suc, Bool, true, None, List, [], ◌∷◌, length, slice_get, Some, refl, sym, ◌∙◌, ap, subst, arith}
+use Rattle.std.specs.Prelude.{MatchBool}
+use Rattle.std.specs.Option.{option_map_or}
 use Rattle.std.proofs.lemmas.List.{append-nil, length-append}
 use Rattle.std.proofs.Math.Seq.{append_snoc}
 use Rattle.feed_model.specs.History.{History}
 use Rattle.feed_model.specs.Content.{Content, IsContent}
 use Rattle.feed_world.specs.World.{World, Node, WorldEvent, Line, Shelf, Happens}
-use Rattle.feed_core.specs.Step.{AllClean, AreNodes, AreKept, Files, IsNodeStep, IsWorldStep, IsShelf}
+use Rattle.feed_core.specs.Chosen.{node_of}
+use Rattle.feed_core.specs.Step.{AllClean, AreNodes, AreKept, Files, IsNodeStep, IsWorldStep, IsShelf, rest_of}
 
 -- a node advances, and the published files stay the same
-pub step_to : {M : Type 0} (clean : M → Type 0) (has_state : M → Bool → History → Type 0) (fits : Shelf
+pub step_to : {M : Type 0} (chosen : ℕ → Bool) (clean : M → Type 0) (has_state : M → Bool → History → Type 0) (fits : Shelf
     → Type 0) (files : Files) (old new : List M) (event : WorldEvent) (line : Line) → ((shelf : Shelf) → IsShelf files shelf → fits shelf)
-    → IsNodeStep clean has_state fits old new event line → IsWorldStep clean has_state (record { files = files; nodes = old }) (record { files = files; nodes = new }) event line
-step_to clean has_state fits files old new event line fit step all =
+    → IsNodeStep chosen clean has_state fits old new event line → IsWorldStep chosen clean has_state (record { files = files; nodes = old }) (record { files = files; nodes = new }) event line
+step_to chosen clean has_state fits files old new event line fit step all =
     let r = step all in
     (r.0, λ w is n. (let t = r.1 w (fit w.shelf is) n in (t.0, t.1, subst (IsShelf files) (sym t.2) is, t.3)))
 
 -- a file is published, and the nodes stay
-pub publishes : {M : Type 0} (clean : M → Type 0) (has_state : M → Bool → History → Type 0) (before files : Files) (nodes : List M) (event : WorldEvent)
-    (line : Line)
+pub publishes : {M : Type 0} (chosen : ℕ → Bool) (clean : M → Type 0) (has_state : M → Bool → History → Type 0) (before files : Files) (nodes : List M) (event : WorldEvent)
+    (line : Line) → node_of event ≡ None
     → ((w : World) → IsShelf before w.shelf → (v : World) × Happens w event line v × IsShelf files v.shelf × (v.nodes ≡ w.nodes))
-    → IsWorldStep clean has_state (record { files = before; nodes = nodes }) (record { files = files; nodes = nodes }) event line
-publishes clean has_state before files nodes event line publish all =
-    (all, λ w is n. (let t = publish w is in (t.0, t.1, t.2, subst (AreNodes has_state nodes) (sym t.3) n)))
+    → IsWorldStep chosen clean has_state (record { files = before; nodes = nodes }) (record { files = files; nodes = nodes }) event line
+publishes chosen clean has_state before files nodes event line none publish all = (
+  all,
+  λ w is n. (let t = publish w is in let seen = ap (λ o. option_map_or chosen o true) none in
+      (t.0, subst (λ (b : Bool). MatchBool b (Happens w event line t.0) (t.0 ≡ w)) (sym seen) t.1, t.2, subst (AreNodes chosen has_state nodes) (sym t.3) n)),
+)
 
 -- two lists whose elements at each place are related
 abbrev pub AreOf : {S K : Type 0} → (S → K → Type 0) → List S → List K → Type 0
@@ -71,22 +77,25 @@ done_at {S} law all rest more made s so is =
     ap (slice_get all) (sym (of-length law so.done made so.each)) ∙ ap (λ (xs : List S). slice_get xs (length so.done)) (sym so.order ∙ ap (λ (xs : List S). so.done ++ xs) is)
     ∙ get-middle so.done s more
 
--- a keeper was clean in its node if it is, and holds a content of the node's history
-abbrev pub IsKeptOf : {M K : Type 0} → (M → Type 0) → (M → Bool → History → Type 0) → (K → Type 0) → (K → Content) → M → K → Type 0
-IsKeptOf node_clean has_state clean content s k = (clean k → node_clean s) × (clean k → (up : Bool) (h : History) → has_state s up h → IsContent (content k) h)
+-- a keeper was clean in its node if it is, and holds a list of records, which is a content of the node's history
+abbrev pub IsKeptOf : {M K : Type 0} → (M → Type 0) → (M → Bool → History → Type 0) → (K → Type 0) → (K → Content) → (K → Type 0) → M → K → Type 0
+IsKeptOf node_clean has_state clean content listed s k = (clean k → node_clean s) × (clean k → (up : Bool) (h : History) → has_state s up h → IsContent (content k) h × ∥ listed k ∥₁)
 
-pub kept_clean : {M K : Type 0} (node_clean : M → Type 0) (has_state : M → Bool → History → Type 0) (clean : K → Type 0) (content : K → Content) (ss : List M) (ks : List K)
-    → AreOf (IsKeptOf node_clean has_state clean content) ss ks → AllClean clean ks → AllClean node_clean ss
-kept_clean node_clean has_state clean content [] [] so all = tt
-kept_clean node_clean has_state clean content [] (k ∷ ks) so all = absurd so
-kept_clean node_clean has_state clean content (s ∷ ss) [] so all = absurd so
-kept_clean node_clean has_state clean content (s ∷ ss) (k ∷ ks) so all = (so.0.0 all.0, kept_clean node_clean has_state clean content ss ks so.1 all.1)
+pub kept_clean : {M K : Type 0} (chosen : ℕ → Bool) (node_clean : M → Type 0) (has_state : M → Bool → History → Type 0) (clean : K → Type 0) (content : K → Content) (listed : K → Type 0)
+    (ss : List M) (ks : List K) → AreOf (IsKeptOf node_clean has_state clean content listed) ss ks → AllClean chosen clean ks → AllClean chosen node_clean ss
+kept_clean chosen node_clean has_state clean content listed [] [] so all = tt
+kept_clean chosen node_clean has_state clean content listed [] (k ∷ ks) so all = absurd so
+kept_clean chosen node_clean has_state clean content listed (s ∷ ss) [] so all = absurd so
+kept_clean chosen node_clean has_state clean content listed (s ∷ ss) (k ∷ ks) so all =
+    ((λ c. so.0.0 (all.0 c)), kept_clean (rest_of chosen) node_clean has_state clean content listed ss ks so.1 all.1)
 
-pub kept_all : {M K : Type 0} (node_clean : M → Type 0) (has_state : M → Bool → History → Type 0) (clean : K → Type 0) (content : K → Content) (ss : List M) (ks : List K) (ys : List Node)
-    → AreOf (IsKeptOf node_clean has_state clean content) ss ks → AllClean clean ks → AreNodes has_state ss ys → AreKept content ks ys
-kept_all node_clean has_state clean content [] [] [] so all n = tt
-kept_all node_clean has_state clean content [] [] (y ∷ ys) so all n = absurd n
-kept_all node_clean has_state clean content [] (k ∷ ks) ys so all n = absurd so
-kept_all node_clean has_state clean content (s ∷ ss) [] ys so all n = absurd so
-kept_all node_clean has_state clean content (s ∷ ss) (k ∷ ks) [] so all n = absurd n
-kept_all node_clean has_state clean content (s ∷ ss) (k ∷ ks) (y ∷ ys) so all n = (so.0.1 all.0 y.up y.history n.0, kept_all node_clean has_state clean content ss ks ys so.1 all.1 n.1)
+pub kept_all : {M K : Type 0} (chosen : ℕ → Bool) (node_clean : M → Type 0) (has_state : M → Bool → History → Type 0) (clean : K → Type 0) (content : K → Content) (listed : K → Type 0)
+    (ss : List M) (ks : List K) (ys : List Node) → AreOf (IsKeptOf node_clean has_state clean content listed) ss ks → AllClean chosen clean ks → AreNodes chosen has_state ss ys
+    → AreKept chosen content listed ks ys
+kept_all chosen node_clean has_state clean content listed [] [] [] so all n = tt
+kept_all chosen node_clean has_state clean content listed [] [] (y ∷ ys) so all n = absurd n
+kept_all chosen node_clean has_state clean content listed [] (k ∷ ks) ys so all n = absurd so
+kept_all chosen node_clean has_state clean content listed (s ∷ ss) [] ys so all n = absurd so
+kept_all chosen node_clean has_state clean content listed (s ∷ ss) (k ∷ ks) [] so all n = absurd n
+kept_all chosen node_clean has_state clean content listed (s ∷ ss) (k ∷ ks) (y ∷ ys) so all n =
+    ((λ c. so.0.1 (all.0 c) y.up y.history (n.0 c)), kept_all (rest_of chosen) node_clean has_state clean content listed ss ks ys so.1 all.1 n.1)

@@ -13,6 +13,7 @@ pub use Rattle.feed_releases.specs.Feeds
 pub use Rattle.feed_world.specs.World
 pub use Rattle.feed_world.specs.Headline
 pub mod Nodes
+pub mod Chosen
 pub mod Step
 pub mod Slots
 pub mod Transcripts

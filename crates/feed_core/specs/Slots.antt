@@ -18,7 +18,7 @@ abbrev pub HasSlotState : {K : Type 0} {k : Ghosts K} → (K → Content) → (K
 HasSlotState content listed (Up feed) up h = (up ≡ true) × IsContent (recorded feed) h
 HasSlotState content listed (Down keeper) up h = (up ≡ false) × IsContent (content keeper) h × ∥ listed keeper ∥₁
 
--- the number of failures of its keeper's device
-abbrev pub slot_failed : {K : Type 0} {k : Ghosts K} → (K → ℕ) → Slot K k → ℕ
-slot_failed failed (Up feed) = failed (keeper_of feed)
-slot_failed failed (Down keeper) = failed keeper
+-- a count of its keeper
+abbrev pub slot_count : {K : Type 0} {k : Ghosts K} → (K → ℕ) → Slot K k → ℕ
+slot_count count (Up feed) = count (keeper_of feed)
+slot_count count (Down keeper) = count keeper

@@ -1,6 +1,6 @@
 -- The effect of an event on the nodes of the code, compared with the nodes of a world.
 use Rattle.std.specs.Prelude.{◌≡◌, ◌<◌, ◌≤◌, ◌⊎◌, ℕ, Bool, true, false, length, Result, Ok, Err, List}
-use Rattle.std.specs.Prelude.{[], ◌∷◌, option_map, slice_get, suc, slice_set, slice_index_or, Option, Some}
+use Rattle.std.specs.Prelude.{[], ◌∷◌, option_map, slice_get, suc, slice_set, slice_index_or, Option, Some, IsTrue, MatchBool}
 use Rattle.std.specs.Borrow.{Bor}
 use Rattle.std.specs.Map.{lookup}
 use Rattle.std.specs.BTreeMap.{is_at}
@@ -11,6 +11,7 @@ use Rattle.feed_model.specs.History.{History}
 use Rattle.feed_model.specs.Content.{Content, IsContent}
 use Rattle.feed_keep.specs.Cause.{HasFailed}
 use Rattle.feed_core.specs.Nodes.{IsStartRefused, shown_arrived}
+use Rattle.feed_core.specs.Chosen.{events_on, is_on, lines_on}
 use Rattle.feed_releases.specs.declared.event.Event as code_event
 use Rattle.feed_releases.specs.declared.feed.Point.{Point}
 use Rattle.feed_releases.specs.declared.feed.Point.TheVariants.{Before, After}
@@ -20,17 +21,21 @@ use Rattle.feed_world.specs.declared.line.Why as why
 use Rattle.feed_world.specs.declared.line.Why.TheVariants as whys
 use Rattle.feed_world.specs.World.{World, Node, WorldEvent, StopBefore, StopAfter, Sent, Line, Shelf, Happens, Shows, arriving, start, file_on}
 
--- the content of each keeper is as promised
-abbrev pub AllClean : {M : Type 0} → (M → Type 0) → List M → Type 0
-AllClean clean [] = Unit {0}
-AllClean clean (x ∷ xs) = clean x × AllClean clean xs
+-- the same choice for the nodes after the first, numbered from 1 again
+abbrev pub rest_of : (ℕ → Bool) → ℕ → Bool
+rest_of chosen node = chosen (suc node)
 
--- each node has the history of the world's node
-abbrev pub AreNodes : {M : Type 0} → (M → Bool → History → Type 0) → List M → List Node → Type 0
-AreNodes has_state [] [] = Unit {0}
-AreNodes has_state (x ∷ xs) (y ∷ ys) = has_state x y.up y.history × AreNodes has_state xs ys
-AreNodes has_state [] (y ∷ ys) = ⊥
-AreNodes has_state (x ∷ xs) [] = ⊥
+-- the content of each chosen keeper is as promised
+abbrev pub AllClean : {M : Type 0} → (ℕ → Bool) → (M → Type 0) → List M → Type 0
+AllClean chosen clean [] = Unit {0}
+AllClean chosen clean (x ∷ xs) = (IsTrue (chosen 1) → clean x) × AllClean (rest_of chosen) clean xs
+
+-- each chosen node has the history of the world's node
+abbrev pub AreNodes : {M : Type 0} → (ℕ → Bool) → (M → Bool → History → Type 0) → List M → List Node → Type 0
+AreNodes chosen has_state [] [] = Unit {0}
+AreNodes chosen has_state (x ∷ xs) (y ∷ ys) = (IsTrue (chosen 1) → has_state x y.up y.history) × AreNodes (rest_of chosen) has_state xs ys
+AreNodes chosen has_state [] (y ∷ ys) = ⊥
+AreNodes chosen has_state (x ∷ xs) [] = ⊥
 
 -- exactly one node is replaced, the law holds for it, and it was clean before if it is now
 pub record IsReplaced {M : Type 0} (clean : M → Type 0) (law : M → M → Type 0) (old new : List M) (at : ℕ) : Type 0 where
@@ -69,17 +74,21 @@ IsAway has_state nodes node arrived reason =
     ((reason ≡ whys.NoNode) × ((node ≡ 0) ⊎ (length nodes < node)))
     ⊎ (IsTurnedAway nodes node arrived reason ⊎ ((reason ≡ whys.Down) × IsNotUp has_state nodes node arrived))
 
--- If all nodes are clean now, they were clean before; and from each world that they represent, whose published files
--- fit, the event may be shown by this line and lead to a world that they represent.
-abbrev pub IsNodeStep : {M : Type 0} → (M → Type 0) → (M → Bool → History → Type 0) → (Shelf → Type 0) → List M → List M → WorldEvent → Line → Type 0
-IsNodeStep clean has_state fits old new event line =
-    AllClean clean new → AllClean clean old × ((w : World) → fits w.shelf → AreNodes has_state old w.nodes → (v : World) × Happens w event line v × (v.shelf ≡ w.shelf)
-    × AreNodes has_state new v.nodes)
+-- the event may be shown by this line; the world stays as it is if the node of the event is not chosen
+abbrev pub HappensOn : (ℕ → Bool) → World → WorldEvent → Line → World → Type 0
+HappensOn chosen w event line v = MatchBool (is_on chosen event) (Happens w event line v) (v ≡ w)
+
+-- If the chosen nodes are clean now, they were clean before; and from each world that they represent, whose published
+-- files fit, the event may be shown by this line and lead to a world that they represent.
+abbrev pub IsNodeStep : {M : Type 0} → (ℕ → Bool) → (M → Type 0) → (M → Bool → History → Type 0) → (Shelf → Type 0) → List M → List M → WorldEvent → Line → Type 0
+IsNodeStep chosen clean has_state fits old new event line =
+    AllClean chosen clean new → AllClean chosen clean old
+    × ((w : World) → fits w.shelf → AreNodes chosen has_state old w.nodes → (v : World) × HappensOn chosen w event line v × (v.shelf ≡ w.shelf) × AreNodes chosen has_state new v.nodes)
 
 -- the same for a message to a node, given what arrives of it
-abbrev pub IsMessageStep : {M : Type 0} → (M → Type 0) → (M → Bool → History → Type 0) → Result code_event.Event why.Why → List M → List M → (Sent → WorldEvent) → Line → Type 0
-IsMessageStep clean has_state arrived old new telling line =
-    (sent : Sent) → IsNodeStep clean has_state (λ shelf. arriving shelf sent ≡ shown_arrived arrived) old new (telling sent) line
+abbrev pub IsMessageStep : {M : Type 0} → (ℕ → Bool) → (M → Type 0) → (M → Bool → History → Type 0) → Result code_event.Event why.Why → List M → List M → (Sent → WorldEvent) → Line → Type 0
+IsMessageStep chosen clean has_state arrived old new telling line =
+    (sent : Sent) → IsNodeStep chosen clean has_state (λ shelf. arriving shelf sent ≡ shown_arrived arrived) old new (telling sent) line
 
 -- the event of a world at which a node stops, at this point of what is sent to it
 abbrev pub stop_event : Point → ℕ → Sent → WorldEvent
@@ -103,26 +112,27 @@ pub record Moment (M : Type 0) : Type 0 where
   pub files : Files
   pub nodes : List M
 
--- If all nodes are clean now, they were clean before; and from each world that the files and the nodes represent, the
--- event may be shown by this line and lead to a world that they represent.
-abbrev pub IsWorldStep : {M : Type 0} → (M → Type 0) → (M → Bool → History → Type 0) → Moment M → Moment M → WorldEvent → Line → Type 0
-IsWorldStep clean has_state old new event line =
-    AllClean clean new.nodes
-    → AllClean clean old.nodes × ((w : World) → IsShelf old.files w.shelf → AreNodes has_state old.nodes w.nodes
-    → (v : World) × Happens w event line v × IsShelf new.files v.shelf × AreNodes has_state new.nodes v.nodes)
+-- If the chosen nodes are clean now, they were clean before; and from each world that the files and the nodes represent,
+-- the event may be shown by this line and lead to a world that they represent.
+abbrev pub IsWorldStep : {M : Type 0} → (ℕ → Bool) → (M → Type 0) → (M → Bool → History → Type 0) → Moment M → Moment M → WorldEvent → Line → Type 0
+IsWorldStep chosen clean has_state old new event line =
+    AllClean chosen clean new.nodes
+    → AllClean chosen clean old.nodes × ((w : World) → IsShelf old.files w.shelf → AreNodes chosen has_state old.nodes w.nodes
+    → (v : World) × HappensOn chosen w event line v × IsShelf new.files v.shelf × AreNodes chosen has_state new.nodes v.nodes)
 
--- If all nodes are clean, the lines so far show the events so far, and the files and the nodes represent the world that
--- they lead to.
-abbrev pub HasShown : {M : Type 0} → (M → Type 0) → (M → Bool → History → Type 0) → ℕ → List WorldEvent → List Line → Moment M → Type 0
-HasShown clean has_state count events lines now =
-    AllClean clean now.nodes → (w : World) × Shows (start count) events lines w × IsShelf now.files w.shelf × AreNodes has_state now.nodes w.nodes
+-- If the chosen nodes are clean, the lines so far show the events so far, without those of the other nodes, and the files
+-- and the nodes represent the world that they lead to.
+abbrev pub HasShown : {M : Type 0} → (ℕ → Bool) → (M → Type 0) → (M → Bool → History → Type 0) → ℕ → List WorldEvent → List Line → Moment M → Type 0
+HasShown chosen clean has_state count events lines now =
+    AllClean chosen clean now.nodes
+    → (w : World) × Shows (start count) (events_on chosen events) (lines_on chosen events lines) w × IsShelf now.files w.shelf × AreNodes chosen has_state now.nodes w.nodes
 
--- each keeper has a content of the history of the world's node
-abbrev pub AreKept : {K : Type 0} → (K → Content) → List K → List Node → Type 0
-AreKept content [] [] = Unit {0}
-AreKept content (k ∷ ks) (y ∷ ys) = IsContent (content k) y.history × AreKept content ks ys
-AreKept content [] (y ∷ ys) = ⊥
-AreKept content (k ∷ ks) [] = ⊥
+-- each chosen keeper holds a list of records, which is a content of the history of the world's node
+abbrev pub AreKept : {K : Type 0} → (ℕ → Bool) → (K → Content) → (K → Type 0) → List K → List Node → Type 0
+AreKept chosen content listed [] [] = Unit {0}
+AreKept chosen content listed (k ∷ ks) (y ∷ ys) = (IsTrue (chosen 1) → IsContent (content k) y.history × ∥ listed k ∥₁) × AreKept (rest_of chosen) content listed ks ys
+AreKept chosen content listed [] (y ∷ ys) = ⊥
+AreKept chosen content listed (k ∷ ks) [] = ⊥
 
 -- the node that did not start, counted from 1: its device failed, or its keeper did not hold a list of records, or it
 -- held a nonempty one; the keeper is returned with its content, was clean if it is now, and its count of failures did

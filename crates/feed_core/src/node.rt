@@ -3,6 +3,7 @@ ghost use Rattle.std.specs.Prelude.{◌≡◌, ◌≢◌, ◌∷◌, ℕ, Bool, 
 ghost use Rattle.feed_model.specs.History.{History, Answer, Reports};
 ghost use Rattle.feed_model.specs.Reply.{IsRight};
 ghost use Rattle.feed_keep.specs.Cause.{HasCounted, IsCounted};
+ghost use Rattle.feed_keep.specs.Loads.{one_more};
 ghost use Rattle.feed_releases.specs.Events.{event_of};
 ghost use Rattle.feed_world.specs.World.{IsAsked};
 ghost use Rattle.feed_core.specs.Nodes.{IsReopened, shown_outcome};
@@ -24,6 +25,9 @@ pub trait Node {
     /// The number of failures of its keeper's device.
     ghost failed: { Self → ℕ };
 
+    /// The number of loads of its keeper.
+    ghost loads: { Self → ℕ };
+
     fn is_up(&self) -> bool
         ensures { (up : Bool) (h : History) → has_state self.now up h → result ≡ up };
 
@@ -43,14 +47,16 @@ pub trait Node {
         ensures clean { clean self.new → clean self.old }
         ensures right { (h : History) → has_state self.old true h → IsRight h (event_of event.now) result
             × has_state self.new true ((event_of event.now, result) ∷ h) }
-        ensures device { IsCounted (result ≡ Err Refusal.Device) (failed self.old) (failed self.new) };
+        ensures device { IsCounted (result ≡ Err Refusal.Device) (failed self.old) (failed self.new) }
+        ensures unloaded { loads self.new ≡ loads self.old };
 
     /// Opens the node again, as after a stop between two events or before the commit of one.
     fn restart(self, alloc: Global) -> (Self, Result<(), KeepFault>)
         ensures clean { clean result.0 → clean self }
         ensures same { (up : Bool) (h : History) → clean result.0 → has_state self up h
             → IsReopened (has_state result.0) h result.1 }
-        ensures device { IsCounted (result.1 ≡ Err KeepFault.Device) (failed self) (failed result.0) };
+        ensures device { IsCounted (result.1 ≡ Err KeepFault.Device) (failed self) (failed result.0) }
+        ensures loaded { loads result.0 ≡ one_more (loads self) };
 
     /// Stops the node after the commit of an event and before its answer, and opens it again.
     fn stop_after(self, alloc: Global, event: &Event<'_>) -> (Self, Result<(), KeepFault>)
@@ -58,5 +64,6 @@ pub trait Node {
         ensures right { (h : History) → clean result.0 → has_state self true h → (answer : Answer)
             × IsRight h (event_of event.now) answer
             × IsReopened (has_state result.0) ((event_of event.now, answer) ∷ h) result.1 }
-        ensures device { HasCounted (result.1 ≡ Err KeepFault.Device) (failed self) (failed result.0) };
+        ensures device { HasCounted (result.1 ≡ Err KeepFault.Device) (failed self) (failed result.0) }
+        ensures loaded { loads result.0 ≡ one_more (loads self) };
 }

@@ -3,8 +3,9 @@ ghost use Rattle.std.specs.Prelude.{◌≡◌, ◌≢◌, ◌≤◌, Bool, true,
 ghost use Rattle.feed_model.specs.History.{History};
 ghost use Rattle.feed_model.specs.Content.{IsContent};
 ghost use Rattle.feed_keep.specs.Cause.{HasFailed, IsCounted};
+ghost use Rattle.feed_keep.specs.Loads.{one_more};
 ghost use Rattle.feed_releases.specs.Feeds.{recorded};
-ghost use Rattle.feed_core.specs.Slots.{IsSlotClean, HasSlotState, slot_failed};
+ghost use Rattle.feed_core.specs.Slots.{IsSlotClean, HasSlotState, slot_count};
 ghost use Rattle.feed_world.specs.World.{IsAsked};
 ghost use Rattle.feed_core.specs.Nodes.{IsReopened, IsStartRefused, shown_outcome};
 
@@ -34,13 +35,16 @@ impl<K: Keep + Drop> Slot<K> {
     /// Starts a node on an empty keeper. The error returns a keeper that is not empty.
     pub fn start(alloc: Global, keeper: K) -> Result<Slot<K>, OpenFault<K>>
         ensures ok { IfOk result (λ s. HasSlotState K.content K.listed s true []) }
-        ensures counted { IfOk result (λ s. K.failed keeper ≤ slot_failed K.failed s) }
+        ensures counted { IfOk result (λ s. slot_count K.failed s ≡ K.failed keeper) }
+        ensures loaded { IfOk result (λ s. slot_count K.loads s ≡ one_more (K.loads keeper)) }
         ensures err { IfErr result (λ fault. fault.cause ≢ KeepFault.Memory
             → IsStartRefused (HasFailed (K.failed keeper) (K.failed fault.keeper)) (K.clean fault.keeper)
             ∥ K.listed keeper ∥₁ (K.content keeper)) }
         ensures kept { IfErr result (λ fault. K.clean fault.keeper → K.content fault.keeper ≡ K.content keeper) }
         ensures kept_clean { IfErr result (λ fault. K.clean fault.keeper → K.clean keeper) }
-        ensures rises { IfErr result (λ fault. K.failed keeper ≤ K.failed fault.keeper) }
+        ensures device { IfErr result (λ fault. IsCounted (fault.cause ≡ KeepFault.Device) (K.failed keeper)
+            (K.failed fault.keeper)) }
+        ensures kept_loaded { IfErr result (λ fault. K.loads fault.keeper ≡ one_more (K.loads keeper)) }
     {
         match Feed::open(alloc, keeper) {
             Ok(feed) => {
@@ -62,7 +66,8 @@ impl<K: Keep + Drop> Slot<K> {
         ensures clean { K.clean result → IsSlotClean K.clean self }
         ensures content { K.clean result → (up : Bool) (h : History) → HasSlotState K.content K.listed self up h
             → IsContent (K.content result) h × ∥ K.listed result ∥₁ }
-        ensures failed { K.failed result ≡ slot_failed K.failed self }
+        ensures failed { K.failed result ≡ slot_count K.failed self }
+        ensures unloaded { K.loads result ≡ slot_count K.loads self }
     {
         match self {
             Slot::Up(feed) => feed.restart(),
@@ -76,7 +81,8 @@ fn open_slot<K: Keep + Drop>(alloc: Global, keeper: K) -> (Slot<K>, Result<(), K
     ensures clean { IsSlotClean K.clean result.0 → K.clean keeper }
     ensures same { (h : History) → IsSlotClean K.clean result.0 → IsContent (K.content keeper) h
         → ∥ K.listed keeper ∥₁ → IsReopened (HasSlotState K.content K.listed result.0) h result.1 }
-    ensures device { IsCounted (result.1 ≡ Err KeepFault.Device) (K.failed keeper) (slot_failed K.failed result.0) }
+    ensures device { IsCounted (result.1 ≡ Err KeepFault.Device) (K.failed keeper) (slot_count K.failed result.0) }
+    ensures loaded { slot_count K.loads result.0 ≡ one_more (K.loads keeper) }
 {
     match Feed::open(alloc, keeper) {
         Ok(feed) => (Slot::Up(feed), Ok(())),
@@ -89,7 +95,9 @@ impl<K: Keep + Drop> Node for Slot<K> {
 
     ghost has_state = { HasSlotState K.content K.listed };
 
-    ghost failed = { slot_failed K.failed };
+    ghost failed = { slot_count K.failed };
+
+    ghost loads = { slot_count K.loads };
 
     fn is_up(&self) -> bool {
         match self {

@@ -1,13 +1,13 @@
 //! The effect of one event at one node of a world.
 ghost use Rattle.std.specs.Prelude.{◌≡◌, ◌≢◌, ◌+◌, ◌<◌, ◌≤◌, ◌⊎◌, ◌∷◌};
-ghost use Rattle.std.specs.Prelude.{Bool, true, Ok, Err, IfOk, IfErr, IfSome};
+ghost use Rattle.std.specs.Prelude.{ℕ, Bool, true, Ok, Err, IfOk, IfErr, IfSome};
 ghost use Rattle.std.specs.Prelude.{IfNone, insert, length, vec_len, vec_capacity};
 ghost use Rattle.feed_model.specs.History.{History, Answer};
 ghost use Rattle.feed_model.specs.Reply.{IsRight};
-ghost use Rattle.feed_world.specs.World.{Tell, Restart, Report, Ask};
+ghost use Rattle.feed_world.specs.World.{Sent, Tell, Restart, Report, Ask};
 ghost use Rattle.feed_world.specs.Shown.{shown_line};
-ghost use Rattle.feed_keep.specs.Cause.{HasCounted};
-ghost use Rattle.feed_core.specs.Counts.{IsCountedAt, IsDeviceFailure};
+ghost use Rattle.feed_keep.specs.Loads.{one_more};
+ghost use Rattle.feed_core.specs.Counts.{IsAccountOf, IsDeviceFailure, IsReported, loads_in};
 ghost use Rattle.feed_releases.specs.Events.{event_of};
 ghost use Rattle.feed_core.specs.Nodes.{HasStopped, IsReopened};
 ghost use Rattle.feed_core.specs.Step.{IsAway, IsMessageStep, IsNodeStep, IsReady, IsReplaced, stop_event};
@@ -70,8 +70,8 @@ fn restart_node<N: Node + Drop>(
     at: usize,
 ) -> Result<(), KeepFault>
     requires within { at < vec_len nodes.old }
-    ensures { IsReplaced N.clean (λ x z. HasCounted (result ≡ Err KeepFault.Device) (N.failed x) (N.failed z)
-        × ((up : Bool) (h : History) → N.clean z → N.has_state x up h
+    ensures { IsReplaced N.clean (λ x z. IsReported (result ≡ Err KeepFault.Device) ⊥ (N.failed x) (N.failed z)
+        × (N.loads z ≡ one_more (N.loads x)) × ((up : Bool) (h : History) → N.clean z → N.has_state x up h
         → IsReopened (N.has_state z) h result)) nodes.old.items nodes.new.items at }
 {
     let (node, outcome) = nodes.remove(at).restart(alloc);
@@ -87,8 +87,9 @@ fn stop_node_after<N: Node + Drop>(
     event: &Event<'_>,
 ) -> Result<(), KeepFault>
     requires within { at < vec_len nodes.old }
-    ensures { IsReplaced N.clean (λ x z. HasCounted (result ≡ Err KeepFault.Device) (N.failed x) (N.failed z)
-        × ((h : History) → N.clean z → N.has_state x true h → (answer : Answer) × IsRight h (event_of event.now) answer
+    ensures { IsReplaced N.clean (λ x z. IsReported (result ≡ Err KeepFault.Device) (Unit {0}) (N.failed x) (N.failed z)
+        × (N.loads z ≡ one_more (N.loads x)) × ((h : History) → N.clean z → N.has_state x true h
+        → (answer : Answer) × IsRight h (event_of event.now) answer
         × IsReopened (N.has_state z) ((event_of event.now, answer) ∷ h) result)) nodes.old.items nodes.new.items at }
 {
     let (node, outcome) = nodes.remove(at).stop_after(alloc, event);
@@ -105,8 +106,8 @@ fn stop_node<N: Node + Drop>(
     point: Point,
 ) -> Result<(), KeepFault>
     requires within { at < vec_len nodes.old }
-    ensures { IsReplaced N.clean (λ x z. HasCounted (result ≡ Err KeepFault.Device) (N.failed x) (N.failed z)
-        × ((h : History) → N.clean z → N.has_state x true h
+    ensures { IsReplaced N.clean (λ x z. IsReported (result ≡ Err KeepFault.Device) (point ≡ Point.After) (N.failed x)
+        (N.failed z) × (N.loads z ≡ one_more (N.loads x)) × ((h : History) → N.clean z → N.has_state x true h
         → HasStopped (N.has_state z) point (event_of event.now) h result)) nodes.old.items nodes.new.items at }
 {
     match point {
@@ -117,10 +118,10 @@ fn stop_node<N: Node + Drop>(
 
 /// Opens a node again.
 pub(crate) fn restart_at<N: Node + Drop>(alloc: Global, nodes: &mut Vec<N>, node: u64) -> Line
-    ensures step { IsNodeStep N.clean N.has_state (λ _. Unit {0}) nodes.old.items nodes.new.items (Restart node)
-        (shown_line result) }
+    ensures step { (chosen : ℕ → Bool) → IsNodeStep chosen N.clean N.has_state (λ _. Unit {0}) nodes.old.items
+        nodes.new.items (Restart node) (shown_line result) }
     ensures count { length nodes.new.items ≡ length nodes.old.items }
-    ensures device { IsCountedAt N.failed node (shown_line result) nodes.old.items nodes.new.items }
+    ensures account { IsAccountOf N.failed N.loads (Restart node) (shown_line result) nodes.old.items nodes.new.items }
 {
     let Some(at) = place(nodes.len(), node) else {
         return Line::Refused(Why::NoNode);
@@ -137,11 +138,11 @@ pub(crate) fn tell_at<N: Node>(
     node: u64,
     arrived: Result<Event<'_>, Why>,
 ) -> Line
-    ensures step { IsMessageStep N.clean N.has_state arrived.entry nodes.old.items nodes.new.items (Tell node)
-        (shown_line result) }
+    ensures step { (chosen : ℕ → Bool) → IsMessageStep chosen N.clean N.has_state arrived.entry nodes.old.items
+        nodes.new.items (Tell node) (shown_line result) }
     ensures count { length nodes.new.items ≡ length nodes.old.items }
-    ensures device { arrived.entry ≢ Err (Why.Feed Refusal.Device)
-        → IsCountedAt N.failed node (shown_line result) nodes.old.items nodes.new.items }
+    ensures account { arrived.entry ≢ Err (Why.Feed Refusal.Device) → (sent : Sent)
+        → IsAccountOf N.failed N.loads (Tell node sent) (shown_line result) nodes.old.items nodes.new.items }
 {
     let (at, event) = match ready_at(nodes, node, arrived) {
         Ok(ready) => ready,
@@ -161,11 +162,12 @@ pub(crate) fn stop_at<N: Node + Drop>(
     arrived: Result<Event<'_>, Why>,
     point: Point,
 ) -> Line
-    ensures step { IsMessageStep N.clean N.has_state arrived.entry nodes.old.items nodes.new.items
-        (stop_event point node) (shown_line result) }
+    ensures step { (chosen : ℕ → Bool) → IsMessageStep chosen N.clean N.has_state arrived.entry nodes.old.items
+        nodes.new.items (stop_event point node) (shown_line result) }
     ensures count { length nodes.new.items ≡ length nodes.old.items }
-    ensures device { arrived.entry ≢ Err (Why.Feed Refusal.Device)
-        → IsCountedAt N.failed node (shown_line result) nodes.old.items nodes.new.items }
+    ensures account { arrived.entry ≢ Err (Why.Feed Refusal.Device) → (sent : Sent)
+        → IsAccountOf N.failed N.loads (stop_event point node sent) (shown_line result) nodes.old.items
+        nodes.new.items }
 {
     let (at, event) = match ready_at(nodes, node, arrived) {
         Ok(ready) => ready,
@@ -179,9 +181,10 @@ pub(crate) fn stop_at<N: Node + Drop>(
 
 /// Reports the active release of a package at a node.
 pub(crate) fn report_at<N: Node>(nodes: &[N], node: u64, package: &[u8]) -> Result<Line, AllocError>
-    ensures step { IfOk result (λ line. IsNodeStep N.clean N.has_state (λ _. Unit {0})
+    ensures step { IfOk result (λ line. (chosen : ℕ → Bool) → IsNodeStep chosen N.clean N.has_state (λ _. Unit {0})
         nodes.now nodes.now (Report node «package».now) (shown_line line)) }
     ensures device { IfOk result (λ line. ¬ (IsDeviceFailure (shown_line line))) }
+    ensures unloaded { IfOk result (λ line. loads_in (shown_line line) ≡ 0) }
 {
     let (at, ()) = match ready_at(nodes, node, Ok(())) {
         Ok(ready) => ready,
@@ -201,9 +204,10 @@ pub(crate) fn ask_at<N: Node>(
     package: &[u8],
     query: &[u8],
 ) -> Line
-    ensures step { IsNodeStep N.clean N.has_state (λ _. Unit {0})
+    ensures step { (chosen : ℕ → Bool) → IsNodeStep chosen N.clean N.has_state (λ _. Unit {0})
         nodes.now nodes.now (Ask node «package».now query.now) (shown_line result) }
     ensures device { ¬ (IsDeviceFailure (shown_line result)) }
+    ensures unloaded { loads_in (shown_line result) ≡ 0 }
 {
     let (at, ()) = match ready_at(nodes, node, Ok(())) {
         Ok(ready) => ready,

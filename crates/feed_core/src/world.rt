@@ -1,6 +1,6 @@
 //! `replay`: runs a list of events over nodes, and shows each event by a line.
 ghost use Rattle.std.specs.Prelude.{◌≡◌, ◌≢◌, ◌<◌, ◌≤◌, ◌+◌, ◌⊎◌, ◌↔◌, []};
-ghost use Rattle.std.specs.Prelude.{List, Bool, length, map, IfOk, IfErr};
+ghost use Rattle.std.specs.Prelude.{ℕ, List, Bool, suc, length, map, IfOk, IfErr};
 ghost use Rattle.std.specs.Prelude.{IsErrOf, vec_len, vec_capacity, slice_get, Some};
 ghost use Rattle.feed_model.specs.History.{History};
 ghost use Rattle.feed_model.specs.Content.{Content};
@@ -8,9 +8,12 @@ ghost use Rattle.feed_world.specs.World.{World, start, Shows};
 ghost use Rattle.feed_world.specs.Shown.{shown_event, shown_line};
 ghost use Rattle.feed_world.specs.Headline.{IsHeadline};
 ghost use Rattle.feed_keep.specs.Cause.{HasFailed};
-ghost use Rattle.feed_core.specs.Counts.{AreCounted, HasDeviceFailure, IsDeviceFailure, node_of};
-ghost use Rattle.feed_core.specs.Slots.{IsSlotClean, HasSlotState, slot_failed};
+ghost use Rattle.feed_keep.specs.Loads.{one_more};
+ghost use Rattle.feed_core.specs.Counts.{AreLoaded, AreReported, EachNode, HasConcealed, HasDeviceFailure};
+ghost use Rattle.feed_core.specs.Counts.{IsAccountOf, loads_shown};
+ghost use Rattle.feed_core.specs.Slots.{IsSlotClean, HasSlotState, slot_count};
 ghost use Rattle.feed_core.specs.Transcripts.{keepers_of, lines_of};
+ghost use Rattle.feed_core.specs.Chosen.{events_on, lines_on};
 ghost use Rattle.feed_core.specs.Step.{AllClean, AreNodes, AreKept, IsWorldStep, IsStart};
 
 use crate::node::Node;
@@ -42,14 +45,19 @@ pub fn replay<K: Keep + Drop>(
     keepers: Vec<K>,
     events: &[WorldEvent],
 ) -> Result<Transcript<K>, ReplayFault<K>>
-    ensures shown { IfOk result (λ t. AllClean K.clean (keepers_of t) → (w : World)
-        × Shows (start (vec_len keepers)) (map shown_event events.now) (map shown_line (lines_of t)) w
-        × AreKept K.content (keepers_of t) w.nodes) }
-    ensures headline { IfOk result (λ t. AllClean K.clean (keepers_of t)
-        → IsHeadline (map shown_event events.now) (map shown_line (lines_of t))) }
+    ensures shown { IfOk result (λ t. let shown = map shown_event events.now in let lines = map shown_line (lines_of t)
+        in (chosen : ℕ → Bool) → AllClean chosen K.clean (keepers_of t) → (w : World)
+        × Shows (start (vec_len keepers)) (events_on chosen shown) (lines_on chosen shown lines) w
+        × AreKept chosen K.content K.listed (keepers_of t) w.nodes) }
+    ensures headline { IfOk result (λ t. let shown = map shown_event events.now in
+        let lines = map shown_line (lines_of t) in (chosen : ℕ → Bool) → AllClean chosen K.clean (keepers_of t)
+        → IsHeadline (events_on chosen shown) (lines_on chosen shown lines)) }
     ensures count { IfOk result (λ t. length (lines_of t) ≡ length events.now) }
-    ensures device { IfOk result (λ t. AreCounted (HasDeviceFailure (map shown_event events.now)
-        (map shown_line (lines_of t))) K.failed K.failed 1 keepers.items (keepers_of t)) }
+    ensures device { IfOk result (λ t. let shown = map shown_event events.now in let lines = map shown_line (lines_of t)
+        in AreReported (HasDeviceFailure shown lines) (HasConcealed shown lines) K.failed K.failed keepers.items
+        (keepers_of t)) }
+    ensures loaded { IfOk result (λ t. AreLoaded (λ node. suc (loads_shown (map shown_event events.now)
+        (map shown_line (lines_of t)) node)) K.loads K.loads keepers.items (keepers_of t)) }
     ensures nodes { ((vec_len keepers ≡ 0) ⊎ (16 < vec_len keepers)) ↔ IsErrOf result ReplayFault.Nodes }
     ensures start { IfErr result (λ fault. IsStart K.clean K.content K.listed K.failed keepers.items fault) }
 {
@@ -69,10 +77,10 @@ pub fn replay<K: Keep + Drop>(
 // Starts nodes on empty keepers.
 fn start_all<K: Keep + Drop>(alloc: Global, keepers: Vec<K>) -> Result<Vec<Slot<K>>, ReplayFault<K>>
     ensures count { IfOk result (λ nodes. length nodes.items ≡ vec_len keepers) }
-    ensures started { IfOk result (λ nodes. AreNodes (HasSlotState K.content K.listed) nodes.items
-        (start (length nodes.items)).nodes) }
-    ensures counted { IfOk result (λ nodes. AreCounted (λ _. ⊥) K.failed
-        (slot_failed K.failed) 1 keepers.items nodes.items) }
+    ensures started { IfOk result (λ nodes. (chosen : ℕ → Bool) → AreNodes chosen (HasSlotState K.content K.listed)
+        nodes.items (start (length nodes.items)).nodes) }
+    ensures loaded { IfOk result (λ nodes. EachNode (λ _ k s. (slot_count K.failed s ≡ K.failed k)
+        × (slot_count K.loads s ≡ one_more (K.loads k))) 1 keepers.items nodes.items) }
     ensures nodes { ¬ (IsErrOf result ReplayFault.Nodes) }
     ensures start { IfErr result (λ fault. IsStart K.clean K.content K.listed K.failed keepers.items fault) }
 {
@@ -110,10 +118,13 @@ fn start_fault<K: Keep + Drop>(fault: OpenFault<K>, node: usize) -> ReplayFault<
 fn collect_keepers<K: Keep + Drop>(room: Vec<K>, nodes: Vec<Slot<K>>) -> Vec<K>
     requires empty { room.items ≡ [] }
     requires room { vec_len nodes ≤ vec_capacity room }
-    ensures clean { AllClean K.clean result.items → AllClean (IsSlotClean K.clean) nodes.items }
-    ensures kept { AllClean K.clean result.items → (w : World)
-        → AreNodes (HasSlotState K.content K.listed) nodes.items w.nodes → AreKept K.content result.items w.nodes }
-    ensures counted { AreCounted (λ _. ⊥) (slot_failed K.failed) K.failed 1 nodes.items result.items }
+    ensures clean { (chosen : ℕ → Bool) → AllClean chosen K.clean result.items
+        → AllClean chosen (IsSlotClean K.clean) nodes.items }
+    ensures kept { (chosen : ℕ → Bool) → AllClean chosen K.clean result.items → (w : World)
+        → AreNodes chosen (HasSlotState K.content K.listed) nodes.items w.nodes
+        → AreKept chosen K.content K.listed result.items w.nodes }
+    ensures unloaded { EachNode (λ _ s k. (K.failed k ≡ slot_count K.failed s)
+        × (K.loads k ≡ slot_count K.loads s)) 1 nodes.items result.items }
 {
     let mut keepers = room;
     for node in nodes {
@@ -128,14 +139,19 @@ fn show_all<N: Node + Drop>(
     nodes: Vec<N>,
     events: &[WorldEvent],
 ) -> Result<(Vec<Line>, Vec<N>), AllocError>
-    requires { AreNodes N.has_state nodes.items (start (vec_len nodes)).nodes }
-    ensures shown { IfOk result (λ t. AllClean N.clean t.1.items → (w : World)
-        × Shows (start (vec_len nodes)) (map shown_event events.now) (map shown_line t.0.items) w
-        × AreNodes N.has_state t.1.items w.nodes) }
-    ensures headline { IfOk result (λ t. AllClean N.clean t.1.items
-        → IsHeadline (map shown_event events.now) (map shown_line t.0.items)) }
-    ensures device { IfOk result (λ t. AreCounted (HasDeviceFailure (map shown_event events.now)
-        (map shown_line t.0.items)) N.failed N.failed 1 nodes.items t.1.items) }
+    requires { (chosen : ℕ → Bool) → AreNodes chosen N.has_state nodes.items (start (vec_len nodes)).nodes }
+    ensures shown { IfOk result (λ t. let shown = map shown_event events.now in let lines = map shown_line t.0.items
+        in (chosen : ℕ → Bool) → AllClean chosen N.clean t.1.items → (w : World)
+        × Shows (start (vec_len nodes)) (events_on chosen shown) (lines_on chosen shown lines) w
+        × AreNodes chosen N.has_state t.1.items w.nodes) }
+    ensures headline { IfOk result (λ t. let shown = map shown_event events.now in let lines = map shown_line t.0.items
+        in (chosen : ℕ → Bool) → AllClean chosen N.clean t.1.items
+        → IsHeadline (events_on chosen shown) (lines_on chosen shown lines)) }
+    ensures device { IfOk result (λ t. let shown = map shown_event events.now in let lines = map shown_line t.0.items
+        in AreReported (HasDeviceFailure shown lines) (HasConcealed shown lines) N.failed N.failed nodes.items
+        t.1.items) }
+    ensures loaded { IfOk result (λ t. AreLoaded (loads_shown (map shown_event events.now) (map shown_line t.0.items))
+        N.loads N.loads nodes.items t.1.items) }
     ensures lines { IfOk result (λ t. vec_len t.0 ≡ length events.now) }
     ensures count { IfOk result (λ t. length t.1.items ≡ vec_len nodes) }
 {
@@ -157,12 +173,12 @@ fn show<'a, N: Node + Drop>(
     nodes: &mut Vec<N>,
     event: &'a WorldEvent,
 ) -> Result<Line, AllocError>
-    ensures step { IfOk result (λ line. IsWorldStep N.clean N.has_state
+    ensures step { IfOk result (λ line. (chosen : ℕ → Bool) → IsWorldStep chosen N.clean N.has_state
         (record { files = shelf.old.files.entries; nodes = nodes.old.items })
         (record { files = shelf.new.files.entries; nodes = nodes.new.items })
         (shown_event event.now) (shown_line line)) }
-    ensures device { IfOk result (λ line. AreCounted (λ i. (node_of (shown_event event.now) ≡ Some i)
-        × IsDeviceFailure (shown_line line)) N.failed N.failed 1 nodes.old.items nodes.new.items) }
+    ensures account { IfOk result (λ line. IsAccountOf N.failed N.loads (shown_event event.now) (shown_line line)
+        nodes.old.items nodes.new.items) }
     ensures count { IfOk result (λ _. length nodes.new.items ≡ length nodes.old.items) }
 {
     match event {

@@ -2,7 +2,7 @@
 use crate::database::{Database, close_keeper, open_feed};
 use crate::progress::Progress;
 use feed_command::{FAILED, Faults, MISUSED, parse_name};
-use feed_fetch::fetch_with;
+use feed_fetch::{Printer, fetch_with};
 use feed_http::is_host;
 use feed_limits::PIECE_LIMIT;
 use feed_tcp::{Cause, TcpDial};
@@ -45,7 +45,7 @@ pub fn fetch_release<D: Database, O: Write, F: Write + Drop>(
     } else {
         None
     };
-    let mut out = Progress::new(rt, out, screen);
+    let mut out = Printer::new(Progress::new(rt, out, screen));
     let mut status = fetch_with(
         rt.alloc(),
         &mut dial,
@@ -54,9 +54,9 @@ pub fn fetch_release<D: Database, O: Write, F: Write + Drop>(
         &name,
         piece.max(1).min(PIECE_LIMIT as u64),
         &mut out,
-        faults.out(),
+        &mut Printer::new(faults.out()),
     );
-    match (out.into_fault(), cause.into_inner()) {
+    match (out.into_writer().into_fault(), cause.into_inner()) {
         (Some(fault), _) => status = faults.check_print(Err(fault), FAILED),
         (None, Some(cause)) if status == FAILED => faults.note(addr, cause),
         _ => {}

@@ -1,6 +1,6 @@
 -- The history of a feed that receives the events of a fetch.
 use Rattle.std.proofs.Common.{◌≡◌, ◌≤◌, ◌+◌, ◌⊎◌, ℕ, Bool, true, false, List, [], ◌∷◌, ◌++◌, length, Option, Some, None, Result, Ok, Err, inl, inr, refl, sym}
-use Rattle.std.proofs.Common.{◌∙◌, ap, subst, append_assoc, get_or, arith}
+use Rattle.std.proofs.Common.{◌∙◌, ◌-◌, ◌||◌, min, IsTrue, ap, subst, append_assoc, get_or, arith}
 use Rattle.std.specs.Prelude.{slice_range, IfErr, MatchResult}
 use Rattle.std.proofs.lemmas.List.Elements.{All-append, All-cons, All-nil}
 use Rattle.httparse.proofs.RunLemmas.{length-slice_range}
@@ -9,19 +9,22 @@ use Rattle.feed_http.specs.declared.fetching.got.Got.{Got}
 use Rattle.feed_http.specs.declared.fetching.got.Got.TheVariants.{Whole}
 use Rattle.feed_http.specs.declared.fetching.got.Got.TheVariants as got
 use Rattle.feed_model.specs.declared.reply.Reply.TheVariants as replies
+use Rattle.feed_model.specs.declared.reply.Refusal.TheVariants as refusals
 use Rattle.feed_kbart.specs.declared.fault.BadFile.{BadFile}
 use Rattle.feed_model.specs.declared.reply.Reply.{Reply}
 use Rattle.feed_model.specs.History.{Event, Offered, Piece, Lost, History, Answer, is_noted, is_taken, IsPassed}
 use Rattle.feed_model.specs.Reply.{IsRight, verdict}
 use Rattle.feed_model.specs.Content.{Content, IsContent}
 use Rattle.feed_model.proofs.Goods.{IsStill, goods_still, passed_same}
+use Rattle.feed_dial.specs.declared.DialFault.{DialFault}
 use Rattle.feed_http_heads.specs.declared.http_fault.HttpFault.{HttpFault}
+use Rattle.feed_http_heads.specs.declared.http_fault.HttpFault.TheVariants as http
 use Rattle.feed_fetch.specs.declared.stop.RequestFault.{RequestFault}
-use Rattle.feed_fetch.specs.declared.stop.RequestFault.TheVariants.{Http}
+use Rattle.feed_fetch.specs.declared.stop.RequestFault.TheVariants.{Dial, Http}
 use Rattle.feed_fetch.specs.declared.stop.Stop.{Stop}
 use Rattle.feed_fetch.specs.declared.stop.Stop.TheVariants as stops
-use Rattle.feed_fetch.specs.Answers.{reply_or_stop, piece_result, offer_result, round_result, HasRightAnswer, IsStoppedAt, IsStatusOf}
-use Rattle.feed_fetch.specs.Effects.{IsExtension, IsCurrent, EndsWithStatus, IsPieceOf, IsTakenFrom}
+use Rattle.feed_fetch.specs.Answers.{status_of, IsExcused, reply_or_stop, piece_result, offer_result, round_result, HasRightAnswer, HasCause, IsStoppedAt}
+use Rattle.feed_fetch.specs.Effects.{IsExtension, IsCurrent, IsReported, IsStatusAfter, EndsWithStatus, IsPieceOf, IsTakenFrom}
 
 still_idle : (h : History) (e : Event) (a : Answer) → is_noted a ≡ false → is_taken a ≡ false → IsStill h ((e, a) ∷ h)
 still_idle h (Offered m s) a noted taken = record { size = λ n. rw noted refl; bytes = λ n place. refl }
@@ -185,6 +188,9 @@ extends_none A P c all h is = ([], All-nil (λ event. A event.0), all h, is)
 pub extends_so : (A B : Event → Type 0) (P Q : History → Type 0) (c d : Content) → ((e : Event) → A e → B e) → ((k : History) → P k → Q k) → IsExtension A P c d → IsExtension B Q c d
 extends_so A B P Q c d more so extends h is = let x = extends h is in (x.0, λ i d lt. more (get_or x.0 i d).0 (x.1 i d lt), so (x.0 ++ h) x.2, x.3)
 
+pub extends_any : (A : Event → Type 0) (P : History → Type 0) (c d : Content) → IsExtension A P c d → IsExtension A (λ k. Unit {0}) c d
+extends_any A P c d extends h is = let x = extends h is in (x.0, x.1, tt, x.3)
+
 -- the next piece of a whole file
 pub whole_more : (b c d : Content) (n : Name) (all : List ℕ) (first count : ℕ) (result : Result Reply Stop) → first + count ≤ length all
     → IsExtension (IsTakenFrom n (Whole all)) (λ k. Unit {0}) b c
@@ -197,9 +203,16 @@ whole_more b c d n all first count result within before answered =
     (refl, omega (arith, len), ap (λ (m : ℕ). slice_range all first (first + m)) (sym len)) answered)
 
 -- the same, without a statement about the feed's history
-pub whole_any : (b d : Content) (n : Name) (all : List ℕ) (result : Result Reply Stop)
-    → IsExtension (IsTakenFrom n (Whole all)) (λ k. IfErr result (λ stop. IsStoppedAt n stop k)) b d → IsExtension (IsTakenFrom n (Whole all)) (λ k. Unit {0}) b d
-whole_any b d n all result extends h is = let x = extends h is in (x.0, x.1, tt, x.3)
+pub whole_step : (b c d : Content) (n : Name) (all : List ℕ) (first count : ℕ) (result : Result Reply Stop) → first + count ≤ length all
+    → IsExtension (IsTakenFrom n (Whole all)) (λ k. Unit {0}) b c
+    → HasRightAnswer (λ answer. (result ≡ reply_or_stop answer) ⊎ (result ≡ Err stops.Print)) c (Piece n first (Some (length all)) (slice_range all first (first + count))) d
+    → IsExtension (IsTakenFrom n (Whole all)) (λ k. Unit {0}) b d
+whole_step b c d n all first count result within before answered =
+    extends_any (IsTakenFrom n (Whole all)) (λ k. IfErr result (λ stop. IsStoppedAt n stop k)) b d (whole_more b c d n all first count result within before answered)
+
+-- a part of at most what is left is within the file
+pub part_within : (first total count most : ℕ) → first ≤ total → count ≡ min (total - first) most → first + count ≤ total
+part_within first total count most le is = omega (arith, is, le)
 
 -- the result of a reply that the feed accepted was passed to it
 pub taken_extends : (A : Event → Type 0) (n : Name) (given : Got) (c d : Content) (taken : Result Bool Stop)
@@ -230,19 +243,147 @@ piece_as_given c d n f g t u bytes read slice r same is answered =
     let event : Piece n f t slice ≡ Piece n g u read = cc in
     subst (λ (e : Event). HasRightAnswer (λ answer. (r ≡ piece_result (reply_or_stop answer)) ⊎ (r ≡ Err stops.Print)) c e d) event answered
 
-pub extends_any : (A : Event → Type 0) (P : History → Type 0) (c d : Content) → IsExtension A P c d → IsExtension A (λ k. Unit {0}) c d
-extends_any A P c d extends h is = let x = extends h is in (x.0, x.1, tt, x.3)
+-- the status of a fetch that found nothing missing
+pub ends_done : (A : Event → Type 0) (n : Name) (c d : Content) (status : ℕ) (unprinted : Bool) (refused : Option DialFault)
+    → ((k : History) → IsContent d k → IsStatusAfter n (Ok tt) status k)
+    → IsExtension A (λ k. Unit {0}) c d → IsExtension A (EndsWithStatus n status unprinted refused) c d
+ends_done A n c d status unprinted refused is extends h at = let x = extends h at in (x.0, x.1, (current (x.0 ++ h) (is (x.0 ++ h) x.3).1, (Ok tt, tt, is (x.0 ++ h) x.3)), x.3)
+  where
+    current : (k : History) → ((status ≡ 0) × IsReported n k) ⊎ ((status ≡ 1) × ¬ (IsReported n k)) → status ≡ 0 → IsCurrent n k
+    current k (inl reported) zero = inl reported.1
+    current k (inr not) zero = absurd (let one = not.0 in omega (arith, one, zero))
 
--- the status of a fetch
-pub ends : (A : Event → Type 0) (n : Name) (c d : Content) (outcome : Result (Unit {0}) Stop) (status : ℕ)
-    → IsStatusOf outcome status
-    → ((k : History) → IsContent d k → IfErr outcome (λ stop. IsStoppedAt n stop k) → status ≡ 0 → IsCurrent n k)
-    → IsExtension A (λ k. IfErr outcome (λ stop. IsStoppedAt n stop k)) c d → IsExtension A (EndsWithStatus n status) c d
-ends A n c d outcome status is current extends h at = let x = extends h at in (x.0, x.1, ((λ zero. current (x.0 ++ h) x.3 x.2 zero), (outcome, x.2, is)), x.3)
+-- a stop with status 0 is that of a later release
+older_status : (stop : Stop) → status_of stop ≡ 0 → stop ≡ stops.Older
+older_status stops.Older zero = refl
+older_status stops.Broken zero = absurd (omega (arith, zero))
+older_status stops.Missing zero = absurd (omega (arith, zero))
+older_status stops.Unsatisfied zero = absurd (omega (arith, zero))
+older_status stops.NoProgress zero = absurd (omega (arith, zero))
+older_status stops.Print zero = absurd (omega (arith, zero))
+older_status (stops.Refused refusals.TooLarge) zero = absurd (omega (arith, zero))
+older_status (stops.Refused refusals.WrongSize) zero = absurd (omega (arith, zero))
+older_status (stops.Refused refusals.Full) zero = absurd (omega (arith, zero))
+older_status (stops.Refused refusals.BadPiece) zero = absurd (omega (arith, zero))
+older_status (stops.Refused refusals.Unknown) zero = absurd (omega (arith, zero))
+older_status (stops.Refused refusals.Outside) zero = absurd (omega (arith, zero))
+older_status (stops.Refused refusals.Conflict) zero = absurd (omega (arith, zero))
+older_status (stops.Refused refusals.Memory) zero = absurd (omega (arith, zero))
+older_status (stops.Refused refusals.Device) zero = absurd (omega (arith, zero))
+older_status (stops.Request (Dial f)) zero = absurd (omega (arith, zero))
+older_status (stops.Request (Http http.HeadTooLong)) zero = absurd (omega (arith, zero))
+older_status (stops.Request (Http http.BadHead)) zero = absurd (omega (arith, zero))
+older_status (stops.Request (Http (http.Status n))) zero = absurd (omega (arith, zero))
+older_status (stops.Request (Http http.Coding)) zero = absurd (omega (arith, zero))
+older_status (stops.Request (Http http.Length)) zero = absurd (omega (arith, zero))
+older_status (stops.Request (Http http.Range)) zero = absurd (omega (arith, zero))
+older_status (stops.Request (Http http.BodyTooLong)) zero = absurd (omega (arith, zero))
+older_status (stops.Request (Http http.Shelf)) zero = absurd (omega (arith, zero))
+older_status (stops.Request (Http http.Read)) zero = absurd (omega (arith, zero))
+older_status (stops.Request (Http http.Write)) zero = absurd (omega (arith, zero))
+older_status (stops.Request (Http http.Short)) zero = absurd (omega (arith, zero))
+older_status (stops.Request (Http http.Memory)) zero = absurd (omega (arith, zero))
 
-pub unprinted_status : (outcome : Result (Unit {0}) Stop) → IsStatusOf outcome 3
-unprinted_status (Ok done) = inr (inr refl)
-unprinted_status (Err stop) = inr refl
+-- an excused stop has status 3
+pub excused_status : (stop : Stop) → IsExcused stop → status_of stop ≡ 3
+excused_status (stops.Refused refusals.Memory) is = refl
+excused_status (stops.Refused refusals.Device) is = refl
+excused_status (stops.Request (Dial f)) is = refl
+excused_status (stops.Request (Http http.Read)) is = refl
+excused_status (stops.Request (Http http.Write)) is = refl
+excused_status (stops.Request (Http http.Memory)) is = refl
+excused_status stops.Print is = refl
+excused_status stops.Older is = absurd is
+excused_status stops.Broken is = absurd is
+excused_status stops.Missing is = absurd is
+excused_status stops.Unsatisfied is = absurd is
+excused_status stops.NoProgress is = absurd is
+excused_status (stops.Refused refusals.TooLarge) is = absurd is
+excused_status (stops.Refused refusals.WrongSize) is = absurd is
+excused_status (stops.Refused refusals.Full) is = absurd is
+excused_status (stops.Refused refusals.BadPiece) is = absurd is
+excused_status (stops.Refused refusals.Unknown) is = absurd is
+excused_status (stops.Refused refusals.Outside) is = absurd is
+excused_status (stops.Refused refusals.Conflict) is = absurd is
+excused_status (stops.Request (Http http.HeadTooLong)) is = absurd is
+excused_status (stops.Request (Http http.BadHead)) is = absurd is
+excused_status (stops.Request (Http (http.Status n))) is = absurd is
+excused_status (stops.Request (Http http.Coding)) is = absurd is
+excused_status (stops.Request (Http http.Length)) is = absurd is
+excused_status (stops.Request (Http http.Range)) is = absurd is
+excused_status (stops.Request (Http http.BodyTooLong)) is = absurd is
+excused_status (stops.Request (Http http.Shelf)) is = absurd is
+excused_status (stops.Request (Http http.Short)) is = absurd is
 
-pub older_stop : (n : Name) (k : History) (stop : Stop) → stop ≡ stops.Older → IsStoppedAt n stop k → IsPassed k n
-older_stop n k stop is at = subst (λ (s : Stop). IsStoppedAt n s k) is at
+-- the status of a stop
+pub ends_stopped : (A : Event → Type 0) (n : Name) (c d : Content) (stop : Stop) (status : ℕ) (unprinted : Bool) (refused : Option DialFault)
+    → HasCause unprinted refused stop → status ≡ status_of stop
+    → IsExtension A (IsStoppedAt n stop) c d → IsExtension A (EndsWithStatus n status unprinted refused) c d
+ends_stopped A n c d stop status unprinted refused caused is extends h at = let x = extends h at in (x.0, x.1, (current (x.0 ++ h) x.2, (Err stop, (x.2, caused), is)), x.3)
+  where
+    current : (k : History) → IsStoppedAt n stop k → status ≡ 0 → IsCurrent n k
+    current k at zero = inr (subst (λ (s : Stop). IsStoppedAt n s k) (older_status stop (sym is ∙ zero)) at)
+
+-- a print that failed ends a fetch with its own status
+pub ends_unprinted : (A : Event → Type 0) (n : Name) (c d : Content) (P : History → Type 0) (status : ℕ) (unprinted : Bool) (refused : Option DialFault)
+    → IsTrue unprinted → status ≡ 3
+    → IsExtension A P c d → IsExtension A (EndsWithStatus n status unprinted refused) c d
+ends_unprinted A n c d P status unprinted refused failed is extends =
+    ends_stopped A n c d stops.Print status unprinted refused failed is (extends_so A A P (IsStoppedAt n stops.Print) c d (λ e one. one) (λ k p. tt) extends)
+
+-- a print that failed is remembered
+failed_first : (a b : Bool) → IsTrue a → IsTrue (a || b)
+failed_first true b is = is
+failed_first false b is = absurd (cc)
+
+failed_second : (a b : Bool) → IsTrue b → IsTrue (a || b)
+failed_second true b is = refl
+failed_second false b is = is
+
+caused_more : (u v : Bool) (refused : Option DialFault) (stop : Stop) → (IsTrue u → IsTrue v) → HasCause u refused stop → HasCause v refused stop
+caused_more u v refused stops.Print more is = more is
+caused_more u v refused (stops.Request (Dial f)) more is = is
+caused_more u v refused (stops.Request (Http f)) more is = tt
+caused_more u v refused (stops.Refused r) more is = tt
+caused_more u v refused stops.Older more is = tt
+caused_more u v refused stops.Broken more is = tt
+caused_more u v refused stops.Missing more is = tt
+caused_more u v refused stops.Unsatisfied more is = tt
+caused_more u v refused stops.NoProgress more is = tt
+
+-- output that was not flushed ends a fetch
+pub ends_unflushed : (A : Event → Type 0) (n : Name) (c d : Content) (P : History → Type 0) (out faults : Bool) (refused : Option DialFault)
+    → IsTrue out → IsExtension A P c d → IsExtension A (EndsWithStatus n 3 (out || faults) refused) c d
+ends_unflushed A n c d P out faults refused failed extends = ends_unprinted A n c d P 3 (out || faults) refused (failed_first out faults failed) refl extends
+
+-- a stop whose fault is printed, or not
+pub ends_told : (A : Event → Type 0) (n : Name) (c d : Content) (stop : Stop) (status : ℕ) (out flushed faults : Bool) (refused : Option DialFault)
+    → HasCause out refused stop → flushed ≡ out → (status ≡ status_of stop) ⊎ ((status ≡ 3) × IsTrue faults)
+    → IsExtension A (IsStoppedAt n stop) c d → IsExtension A (EndsWithStatus n status (flushed || faults) refused) c d
+ends_told A n c d stop status out flushed faults refused caused same (inl is) extends =
+    ends_stopped A n c d stop status (flushed || faults) refused
+    (caused_more out (flushed || faults) refused stop (λ u. failed_first flushed faults (subst IsTrue (sym same) u)) caused) is extends
+ends_told A n c d stop status out flushed faults refused caused same (inr (is, failed)) extends =
+    ends_unprinted A n c d (IsStoppedAt n stop) status (flushed || faults) refused (failed_second flushed faults failed) is extends
+
+-- a stop without a connection has its cause, whatever the connections are
+pub has_cause : (unprinted : Bool) (refused : Option DialFault) (stop : Stop) → HasCause unprinted None stop → HasCause unprinted refused stop
+has_cause unprinted refused stops.Print is = is
+has_cause unprinted refused (stops.Request (Dial f)) is = absurd (cc)
+has_cause unprinted refused (stops.Request (Http f)) is = tt
+has_cause unprinted refused (stops.Refused r) is = tt
+has_cause unprinted refused stops.Older is = tt
+has_cause unprinted refused stops.Broken is = tt
+has_cause unprinted refused stops.Missing is = tt
+has_cause unprinted refused stops.Unsatisfied is = tt
+has_cause unprinted refused stops.NoProgress is = tt
+
+pub any_cause : {T : Type 0} (unprinted : Bool) (refused : Option DialFault) (r : Result T Stop) → IfErr r (λ stop. HasCause unprinted None stop) → IfErr r (λ stop. HasCause unprinted refused stop)
+any_cause unprinted refused (Ok x) is = tt
+any_cause unprinted refused (Err stop) is = has_cause unprinted refused stop is
+
+pub round_cause : (unprinted : Bool) (refused : Option DialFault) (taken : Result Bool Stop) → IfErr taken (λ stop. HasCause unprinted None stop)
+    → IfErr (round_result taken) (λ stop. HasCause unprinted refused stop)
+round_cause unprinted refused (Ok true) is = tt
+round_cause unprinted refused (Ok false) is = tt
+round_cause unprinted refused (Err stop) is = has_cause unprinted refused stop is

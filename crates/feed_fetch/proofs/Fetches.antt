@@ -1,5 +1,5 @@
 -- The result of one request to a server.
-use Rattle.std.proofs.Common.{◌≡◌, ◌<◌, ◌≤◌, ◌+◌, ◌-◌, ◌^◌, ◌⊎◌, ◌≤ℤ◌, ◌<ℤ◌, ℕ, Bool, true, List, ◌∷◌, ◌++◌, length, min, Option, Some}
+use Rattle.std.proofs.Common.{◌≡◌, ◌<◌, ◌≤◌, ◌+◌, ◌-◌, ◌^◌, ◌⊎◌, ◌≤ℤ◌, ◌<ℤ◌, ℕ, Bool, true, false, List, ◌∷◌, ◌++◌, length, min, Option, Some}
 use Rattle.std.proofs.Common.{None, Result, Ok, Err, inl, inr, refl, sym, ◌∙◌, ap, subst, arith, lit<}
 use Rattle.std.specs.Prelude.{slice_range, nat_eq, IsTrue, MatchResult}
 use Rattle.std.proofs.lemmas.Bool.Decides.{nat_tests}
@@ -16,7 +16,7 @@ use Rattle.feed_http.specs.Laws.{IsGiven}
 use Rattle.feed_http.proofs.RequestLaw.{fetch_gives_slice, head_gives_size}
 use Rattle.feed_model.specs.declared.reply.Reply.TheVariants as replies
 use Rattle.feed_model.specs.declared.reply.Refusal.TheVariants as refusals
-use Rattle.feed_model.specs.History.{Event, Offered, Piece, Lost, History, Answer, IsGood, IsPassed, Reports}
+use Rattle.feed_model.specs.History.{Event, Offered, Piece, Lost, History, Answer, kept, IsGood, IsPassed, Reports}
 use Rattle.feed_model.proofs.Names.{day_cases}
 use Rattle.std.proofs.lemmas.Int.{ints}
 use Rattle.feed_model.specs.Reply.{max_piece}
@@ -31,8 +31,8 @@ use Rattle.feed_dial.specs.Replies.{Replies, Unknown, Known, IfKnown}
 use Rattle.feed_fetch.specs.Servers.{IsReplied, IsReadOf}
 use Rattle.feed_fetch.specs.Answers.{HasRightAnswer, reply_or_stop, offer_result, piece_result, round_result, IsExcused}
 use Rattle.feed_fetch.specs.Effects.{IsExtension, IsTransition, IsFetchEvent, IsTakenFrom, ServesFile, IsFetchable, IsOpenTo, IsFilling, IsAskedNext, OrExcused, IsOpened, IsFilled, IsFilledAfter}
-use Rattle.feed_fetch.specs.Effects.{IsFetched, missing_of}
-use Rattle.feed_fetch.proofs.Filling.{offer_fills, piece_fills, asked_next, nothing_next, whole_by_count, missing_most_of, IsFilledWith, IsRefusedFor}
+use Rattle.feed_fetch.specs.Effects.{IsFetched, IsReported, IsAllFetched, IsContinued, missing_of}
+use Rattle.feed_fetch.proofs.Filling.{offer_fills, piece_fills, asked_next, nothing_next, missing_most_of, some_not_none, IsFilledWith, IsRefusedFor}
 
 given_fault : (wanted : Got) (fault : HttpFault) → IsGiven wanted (Err fault) → IsExcused (stops.Request (Http fault))
 given_fault wanted http.Read g = tt
@@ -206,33 +206,58 @@ unoffered known host n file given c r stop serves hosted fit read printed is h a
 pub fill_start : (c d : Content) (n : Name) (file : List ℕ) → IsOpened n file (Ok tt) c d → IsFilledAfter n file 0 c d
 fill_start c d n file opened h at ready = let x = opened h at ready in (x.0, (x.1, (let m = missing_most_of n file x.0 in omega (arith, m))), x.2)
 
-pub fill_more : (b c d : Content) (n : Name) (file : List ℕ) (rounds max first last : ℕ) (range : Option (ℕ × ℕ)) → range ≡ Some (first, last) → max ≤ max_piece
-    → IsFilledAfter n file rounds b c → ((h : History) → IsContent c h → IsNextRange h n max range) → IsFilled n file first last (Ok tt) c d → IsFilledAfter n file (rounds + 1) b d
-fill_more b c d n file rounds max first last range is few filled next fills h at ready =
+-- the result of the next request, for a range that is missing or none
+pub next_filled : (c d : Content) (n : Name) (file : List ℕ) (max first last : ℕ) (range : Option (ℕ × ℕ)) → range ≡ Some (first, last) → max ≤ max_piece
+    → ((h : History) → IsContent c h → IsNextRange h n max range) → IsFilled n file first last (Ok tt) c d → IsContinued n file (Ok true) c d
+next_filled c d n file max first last range is few next fills h at fill = fills h at (asked_next h n file max first last range is few fill (next h at))
+
+pub next_stops : (c d : Content) (n : Name) (file : List ℕ) (max first last : ℕ) (range : Option (ℕ × ℕ)) (stop : Stop) → range ≡ Some (first, last) → max ≤ max_piece
+    → ((h : History) → IsContent c h → IsNextRange h n max range) → IsFilled n file first last (Err stop) c d → IsContinued n file (Err stop) c d
+next_stops c d n file max first last range stop is few next fills h at fill = fills h at (asked_next h n file max first last range is few fill (next h at))
+
+pub next_none : (c : Content) (n : Name) (file : List ℕ) (max : ℕ) (range : Option (ℕ × ℕ)) → range ≡ None → 1 ≤ max
+    → ((h : History) → IsContent c h → IsNextRange h n max range) → IsContinued n file (Ok false) c c
+next_none c n file max range is least next h at fill = (h, (fill, nothing_next h n file max range is least fill (next h at)), at)
+
+-- a missing range is not none
+pub range_not_none : (h : History) (n : Name) (max first last : ℕ) (range : Option (ℕ × ℕ)) → range ≡ Some (first, last) → 1 ≤ max → IsNextRange h n max range → IsNextRange h n max None → ⊥
+range_not_none h n max first last range is least next none = by (subst (IsNextRange h n max) is next) none
+  where
+    by : IsNextRange h n max (Some (first, last)) → IsNextRange h n max None → ⊥
+    by (inl (out, e)) other = cc
+    by (inr (held, size, of, at)) (inl (out, e)) = out held
+    by (inr (held, size, of, at)) (inr (held', size', of', inl zero)) = absurd (omega (arith, zero, least))
+    by (inr (held, size, of, at)) (inr (held', size', of', inr all)) =
+        let e : Some size ≡ Some size' = sym of ∙ of' in
+        let count : size ≡ size' = cc in
+        let order = at.order in let within = at.within in
+        some_not_none (kept h n first) (all first (omega (arith, order, within, count))) (at.missing first (omega arith) order)
+
+-- what is complete by requests of some length is complete by those of any length
+pub all_fetched : (h : History) (n : Name) (max : ℕ) → 1 ≤ max → IsNextRange h n max None → IsAllFetched n h
+all_fetched h n max least (inl x) = inl x
+all_fetched h n max least (inr (held, size, of, inl zero)) = absurd (omega (arith, zero, least))
+all_fetched h n max least (inr (held, size, of, inr all)) = inr (held, size, of, inr all)
+
+pub fill_more : (b c d : Content) (n : Name) (file : List ℕ) (rounds : ℕ) → IsFilledAfter n file rounds b c → IsContinued n file (Ok true) c d → IsFilledAfter n file (rounds + 1) b d
+fill_more b c d n file rounds filled continues h at ready =
     let x = filled h at ready in
-    let y = fills x.0 x.2 (asked_next x.0 n file max first last range is few x.1.0 (next x.0 x.2)) in
+    let y = continues x.0 x.2 x.1.0 in
     let less = y.1.1 in
     (y.0, (y.1.0, omega (arith, less, x.1.1)), y.2)
 
-pub fill_stops : (b c d : Content) (n : Name) (file : List ℕ) (rounds max first last : ℕ) (range : Option (ℕ × ℕ)) (stop : Stop) → range ≡ Some (first, last) → max ≤ max_piece
-    → IsFilledAfter n file rounds b c → ((h : History) → IsContent c h → IsNextRange h n max range) → IsFilled n file first last (Err stop) c d → IsFetched n file (Err stop) b d
-fill_stops b c d n file rounds max first last range stop is few filled next fills h at ready =
+pub fill_stops : (b c d : Content) (n : Name) (file : List ℕ) (rounds : ℕ) (stop : Stop) → IsFilledAfter n file rounds b c → IsContinued n file (Err stop) c d → IsFetched n file (Err stop) b d
+fill_stops b c d n file rounds stop filled continues h at ready = let x = filled h at ready in continues x.0 x.2 x.1.0
+
+pub fill_ends : (b c d : Content) (n : Name) (file : List ℕ) (rounds : ℕ) → IsFilledAfter n file rounds b c → IsContinued n file (Ok false) c d → IsFetched n file (Ok tt) b d
+fill_ends b c d n file rounds filled continues h at ready = let x = filled h at ready in continues x.0 x.2 x.1.0
+
+-- there are at most as many rounds as places
+pub fill_counts : (b c : Content) (n : Name) (file : List ℕ) (rounds : ℕ) (result : Result (Unit {0}) Stop) → IsFetchable file → file_limit < rounds
+    → IsFilledAfter n file rounds b c → IsFetched n file result b c
+fill_counts b c n file rounds result fit most filled h at ready =
     let x = filled h at ready in
-    let y = fills x.0 x.2 (asked_next x.0 n file max first last range is few x.1.0 (next x.0 x.2)) in
-    (y.0, y.1, y.2)
-
-pub fill_ends : (b c : Content) (n : Name) (file : List ℕ) (rounds max : ℕ) (range : Option (ℕ × ℕ)) → range ≡ None → 1 ≤ max
-    → IsFilledAfter n file rounds b c → ((h : History) → IsContent c h → IsNextRange h n max range) → IsFetched n file (Ok tt) b c
-fill_ends b c n file rounds max range is least filled next h at ready =
-    let x = filled h at ready in (x.0, (x.1.0, nothing_next x.0 n file max range is least x.1.0 (next x.0 x.2)), x.2)
-
-pub fill_counts : (b c : Content) (n : Name) (file : List ℕ) (rounds : ℕ) → IsFetchable file → file_limit ≤ rounds
-    → IsFilledAfter n file rounds b c → IsFetched n file (Ok tt) b c
-fill_counts b c n file rounds fit most filled h at ready =
-    let x = filled h at ready in (x.0, (x.1.0, whole_by_count x.0 n file rounds fit x.1.0 x.1.1 most), x.2)
-
-pub start_stops : (c d : Content) (n : Name) (file : List ℕ) (stop : Stop) → IsOpened n file (Err stop) c d → IsFetched n file (Err stop) c d
-start_stops c d n file stop opened = opened
+    absurd (let small = fit.small in let count = x.1.1 in omega (arith, small, count, most))
 
 -- a good release that is not passed is the one that is reported
 pub reported_none : (h : History) (n : Name) → IsGood h n → Reports h n.stem None → ⊥
@@ -244,6 +269,13 @@ reported_day h n a ahead good is = by (day_cases a.day n.day)
     by : (a.day ≤ℤ n.day) ⊎ (n.day <ℤ a.day) → a.day ≡ n.day
     by (inl le) = let least = is.1.1 n (sym is.0) good in omega (arith, ints)
     by (inr lt) = absurd (ahead (a, is.1, (sym is.0, lt)))
+
+-- a release that is reported is good, and not passed
+pub reported_good : (h : History) (n : Name) → IsReported n h → IsGood h n
+reported_good h n is = is.1.0
+
+pub reported_current : (h : History) (n : Name) → IsReported n h → ¬ (IsPassed h n)
+reported_current h n is p = let latest = p.1.0 in let lt : n.day <ℤ p.0.day = p.2.1 in let le : p.0.day ≤ℤ n.day = is.1.1 p.0 (sym p.2.0) latest in absurd (omega (arith, ints))
 
 -- the file of a feed that got it is good
 pub got_good : (c d : Content) (n : Name) (file : List ℕ) → IsFetchable file → IsFetched n file (Ok tt) c d → (h : History) → IsContent c h → IsOpenTo n file h

@@ -12,7 +12,6 @@ use Rattle.feed_model.specs.File.{fault_of}
 use Rattle.feed_model.specs.History.{Offered, Piece, History, Answer, is_noted, is_taken, or_else, byte_at, size_of, kept, IsFile, IsGood, IsPassed, IsHeld}
 use Rattle.feed_model.specs.Reply.{IsRight, HoldsNumber, kept_with, missing_below, max_piece, max_held}
 use Rattle.feed_releases.specs.NextRange.{IsNextRange}
-use Rattle.feed_model.proofs.Keeps.{none_missing}
 use Rattle.feed_model.proofs.Names.{name_self, name_cases}
 use Rattle.feed_model.proofs.Faults.{empty_bad}
 use Rattle.feed_model.proofs.Tests.{same_at}
@@ -20,7 +19,6 @@ use Rattle.feed_model.proofs.Moves.{added_size}
 use Rattle.feed_model.proofs.Bytes.{some_none, byte_at-some, slice_some}
 use Rattle.feed_model.proofs.Growth.{kept_here, keeps_but}
 use Rattle.feed_model.proofs.Others.{SameBut, good_other, good_back}
-use Rattle.feed_limits.specs.Limits.{file_limit}
 use Rattle.feed_fetch.specs.Effects.{IsFetchable, IsOpenTo, IsFilling, IsAskedNext, missing_of}
 
 -- a step that touches the release alone makes it no passed one
@@ -173,6 +171,9 @@ filled_with h n file first last b a is len asked taken = record {
     here : (place : ℕ) → kept k n place ≡ kept_with h n first b place
     here place = kept_here h n first (Some (length file)) b a taken place
 
+pub some_not_none : (o : Option ℕ) → IsSome o → o ≡ None → ⊥
+some_not_none o some none = some_none o some none
+
 same_some : (a b : Option ℕ) (x y : ℕ) → a ≡ Some x → a ≡ Some y → x ≡ y
 same_some a b x y e d = cc
 
@@ -194,12 +195,6 @@ missing_most_of n file h = missing_all (kept h n) (length file)
 -- the file is whole where each place has a byte
 pub whole_file : (h : History) (n : Name) (file : List ℕ) → IsFilling n file h → ((place : ℕ) → place < length file → IsSome (kept h n place)) → IsFile h n file
 whole_file h n file fill all = (fill.size, λ place lt. (let y = some_of (kept h n place) (all place lt) in y.1 ∙ sym (fill.bytes place y.0 y.1)))
-
-pub whole_by_count : (h : History) (n : Name) (file : List ℕ) (rounds : ℕ) → IsFetchable file → IsFilling n file h → missing_of n file h + rounds ≤ length file → file_limit ≤ rounds
-    → IsFile h n file
-whole_by_count h n file rounds fit fill count most =
-    let none : missing_of n file h ≡ 0 = (let small = fit.small in omega (arith, small, count, most)) in
-    whole_file h n file fill ((none_missing (kept h n) (length file)).0 none)
 
 -- what is asked for next
 pub asked_next : (h : History) (n : Name) (file : List ℕ) (max first last : ℕ) (range : Option (ℕ × ℕ)) → range ≡ Some (first, last) → max ≤ max_piece → IsFilling n file h

@@ -1,7 +1,8 @@
 -- How a fetch reacts to a feed's answers.
 use Rattle.feed_kbart.specs.declared.fault.BadFile.{BadFile}
 use Rattle.feed_names.specs.ReleaseName.{Name}
-use Rattle.std.specs.Prelude.{Bool, true, false, ◌∷◌, Result, Ok, Err, ⊤, ◌≡◌, ◌⊎◌, ℕ}
+use Rattle.std.specs.Prelude.{Bool, true, false, IsTrue, ◌∷◌, Option, Some, Result, Ok, Err, ⊤, ◌≡◌, ℕ}
+use Rattle.feed_dial.specs.declared.DialFault.{DialFault}
 use Rattle.feed_http_heads.specs.declared.http_fault.HttpFault.TheVariants as http
 use Rattle.feed_model.specs.declared.reply.Reply.{Reply}
 use Rattle.feed_model.specs.declared.reply.Reply.TheVariants as replies
@@ -75,10 +76,11 @@ status_of (stops.Request (Http http.Memory)) = 3
 status_of stops.Print = 3
 status_of _ = 1
 
--- the status of a stop, or 3 if a print failed; if nothing is missing, it depends on whether the release is reported
-abbrev pub IsStatusOf : Result (Unit {0}) Stop → ℕ → Type 0
-IsStatusOf (Ok done) status = (status ≡ 0) ⊎ ((status ≡ 1) ⊎ (status ≡ 3))
-IsStatusOf (Err stop) status = (status ≡ status_of stop) ⊎ (status ≡ 3)
+-- a stop for a failed print or connection has its cause: a print did fail, or the last connection was refused so
+abbrev pub HasCause : Bool → Option DialFault → Stop → Type 0
+HasCause unprinted refused stops.Print = IsTrue unprinted
+HasCause unprinted refused (stops.Request (Dial fault)) = refused ≡ Some fault
+HasCause unprinted refused _ = ⊤
 
 -- memory ran out, or a device, connection, reader or writer failed
 abbrev pub IsExcused : Stop → Type 0

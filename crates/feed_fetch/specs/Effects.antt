@@ -1,5 +1,5 @@
 -- The effect of a fetch on a feed.
-use Rattle.std.specs.Prelude.{◌≡◌, ◌<◌, ◌≤◌, ◌+◌, ◌⊎◌, ◌++◌, ℕ, List, length, slice_range, slice_get, All, Option, None, Some, Result, Ok, IfSome, IfErr, MatchResult}
+use Rattle.std.specs.Prelude.{Bool, MatchBool, ◌≡◌, ◌<◌, ◌≤◌, ◌+◌, ◌⊎◌, ◌++◌, ℕ, List, length, slice_range, slice_get, All, Option, None, Some, Result, Ok, Err, IfSome, IfErr, MatchResult}
 use Rattle.feed_names.specs.ReleaseName.{Name, IsName}
 use Rattle.feed_http.specs.RequestTexts.{get_text, head_request_text}
 use Rattle.feed_names.specs.ReleaseName.{text_of}
@@ -7,14 +7,16 @@ use Rattle.feed_http.specs.declared.fetching.got.Method.TheVariants.{Get, Head}
 use Rattle.feed_http.specs.declared.fetching.got.Got.{Got}
 use Rattle.feed_http.specs.declared.fetching.got.Got.TheVariants as got
 use Rattle.feed_http.specs.Shelves.{Files}
+use Rattle.feed_dial.specs.declared.DialFault.{DialFault}
 use Rattle.feed_dial.specs.Replies.{Replies, Unknown, Known, IfKnown}
 use Rattle.feed_fetch.specs.Servers.{IsServer, IsReplied}
 use Rattle.feed_fetch.specs.declared.stop.Stop.{Stop}
-use Rattle.feed_fetch.specs.Answers.{IsExcused, IsStoppedAt, IsStatusOf}
+use Rattle.feed_fetch.specs.Answers.{HasCause, IsExcused, IsStoppedAt, status_of}
 use Rattle.feed_model.specs.File.{fault_of}
 use Rattle.feed_model.specs.History.{Event, Offered, Piece, Lost, History, size_of, kept, IsFile, IsPassed, IsHeld, Reports}
 use Rattle.feed_model.specs.Reply.{HoldsNumber, missing_below, max_file, max_piece, max_held}
 use Rattle.feed_model.specs.Content.{Content, IsContent}
+use Rattle.feed_releases.specs.NextRange.{IsNextRange}
 
 -- exactly the piece that the reply gave, or some range of the complete file that it gave, with its length
 abbrev pub IsPieceOf : Got → ℕ → Option ℕ → List ℕ → Type 0
@@ -44,14 +46,29 @@ IsExtension IsOne Stands c c' =
 abbrev pub IsTransition : (History → Type 0) → (History → History → Type 0) → Content → Content → Type 0
 IsTransition Before After c c' = (h : History) → IsContent c h → Before h → (k : History) × After h k × IsContent c' k
 
+-- the release is reported
+abbrev pub IsReported : Name → History → Type 0
+IsReported n h = Reports h n.stem (Some n)
+
 -- the release is reported, or a later one is
 abbrev pub IsCurrent : Name → History → Type 0
-IsCurrent n h = Reports h n.stem (Some n) ⊎ IsPassed h n
+IsCurrent n h = IsReported n h ⊎ IsPassed h n
 
--- a fetch ends with this status: 0 only if the release is reported, or a later one; and if a stop ended it, the feed
--- agrees with the stop, which has this status
-abbrev pub EndsWithStatus : Name → ℕ → History → Type 0
-EndsWithStatus n status k = (status ≡ 0 → IsCurrent n k) × ((outcome : Result (Unit {0}) Stop) × IfErr outcome (λ stop. IsStoppedAt n stop k) × IsStatusOf outcome status)
+-- no range of the release is to be requested
+abbrev pub IsAllFetched : Name → History → Type 0
+IsAllFetched n h = IsNextRange h n 1 None
+
+-- the status after a stop is that of the stop; without one nothing is left to request, and it is 0 if the release is
+-- reported, otherwise 1
+abbrev pub IsStatusAfter : Name → Result (Unit {0}) Stop → ℕ → History → Type 0
+IsStatusAfter n (Ok done) status k = IsAllFetched n k × (((status ≡ 0) × IsReported n k) ⊎ ((status ≡ 1) × ¬ (IsReported n k)))
+IsStatusAfter n (Err stop) status k = status ≡ status_of stop
+
+-- a fetch ends with this status: 0 only if the release is reported, or a later one; and it is that of the fetch's stop,
+-- if there is one, with which the feed, the prints and the connections agree
+abbrev pub EndsWithStatus : Name → ℕ → Bool → Option DialFault → History → Type 0
+EndsWithStatus n status unprinted refused k =
+    (status ≡ 0 → IsCurrent n k) × ((outcome : Result (Unit {0}) Stop) × IfErr outcome (λ stop. IsStoppedAt n stop k × HasCause unprinted refused stop) × IsStatusAfter n outcome status k)
 
 -- the replies of a peer are known, and it serves this file of the release
 abbrev pub ServesFile : Replies → Name → List ℕ → Type 0
@@ -102,6 +119,11 @@ IsOpened n file result = IsTransition (IsOpenTo n file) (λ h k. OrExcused resul
 
 abbrev pub IsFilled : Name → List ℕ → ℕ → ℕ → Result (Unit {0}) Stop → Content → Content → Type 0
 IsFilled n file first last result = IsTransition (IsAskedNext n file first last) (λ h k. OrExcused result (IsFilling n file k × (missing_of n file k < missing_of n file h)))
+
+-- either one more place is filled, or all are
+abbrev pub IsContinued : Name → List ℕ → Result Bool Stop → Content → Content → Type 0
+IsContinued n file result =
+    IsTransition (IsFilling n file) (λ h k. MatchResult result (λ more. IsFilling n file k × MatchBool more (missing_of n file k < missing_of n file h) (IsFile k n file)) IsExcused)
 
 abbrev pub IsFetched : Name → List ℕ → Result (Unit {0}) Stop → Content → Content → Type 0
 IsFetched n file result = IsTransition (IsOpenTo n file) (λ h k. OrExcused result (IsFilling n file k × IsFile k n file))

@@ -89,6 +89,7 @@ impl<A: Archive> Write for MemoryConn<'_, A> {
 }
 
 impl<'a, A: Archive> Dial for MemoryDial<'a, A> {
+    ghost use Rattle.std.specs.Prelude.{None};
     ghost use Rattle.feed_dial.specs.Replies.{Known};
     ghost use Rattle.feed_fetch.specs.Servers.{IsServed};
     ghost use Rattle.feed_fetch.specs.MemoryConns.{IsSomeAnd-unless_read};
@@ -96,6 +97,8 @@ impl<'a, A: Archive> Dial for MemoryDial<'a, A> {
     type Conn = MemoryConn<'a, A>;
 
     ghost replies = { Known (IsServed A.files) };
+
+    ghost last_fault = { λ _. None };
 
     fn dial(&mut self) -> Result<MemoryConn<'a, A>, DialFault> {
         Ok(MemoryConn {

@@ -1,5 +1,5 @@
 //! A fetch from a server over files in memory.
-ghost use Rattle.std.specs.Prelude.{ℕ, List, [], ◌≡◌, ◌≤◌, ◌⊎◌, IsTrue, Some};
+ghost use Rattle.std.specs.Prelude.{ℕ, List, [], ◌≡◌, ◌≤◌, ◌⊎◌, ◌||◌, IsTrue, Some, None};
 ghost use Rattle.feed_http.specs.MemoryShelves.{file_named};
 ghost use Rattle.feed_http.specs.RequestTexts.{is_host};
 ghost use Rattle.feed_limits.specs.Limits.{piece_limit};
@@ -7,11 +7,13 @@ ghost use Rattle.feed_model.specs.Content.{IsContent};
 ghost use Rattle.feed_model.specs.History.{History};
 ghost use Rattle.feed_releases.specs.Feeds.{recorded};
 ghost use Rattle.feed_dial.specs.Replies.{Known};
+ghost use Rattle.feed_fetch.specs.Printing.{has_failed};
 ghost use Rattle.feed_fetch.specs.Servers.{IsServed};
 ghost use Rattle.feed_fetch.specs.Effects.{IsExtension, IsFetchEvent, EndsWithStatus, IsFetchable, IsOpenTo};
 
 use crate::fetch_loop::fetch_with;
 use crate::memory_dial::{Archive, MemoryDial};
+use crate::printer::Printer;
 use feed_http::NamedFile;
 use feed_keep::Keep;
 use feed_names::ReleaseName;
@@ -27,15 +29,16 @@ fn fetch_from<A: Archive, K: Keep + Drop, O: Write, F: Write>(
     host: &[u8],
     name: &ReleaseName,
     piece: u64,
-    out: &mut O,
-    faults: &mut F,
+    out: &mut Printer<O>,
+    faults: &mut Printer<F>,
 ) -> u8
     requires archive { file_named files.now ≡ A.files }
     requires host { IsTrue (is_host host.now) }
     requires least { 1 ≤ piece }
     requires most { piece ≤ piece_limit }
     ensures extends { IsExtension (IsFetchEvent (Known (IsServed A.files)) host.now name.now)
-        (EndsWithStatus name.now result) (recorded feed.old) (recorded feed.new) }
+        (EndsWithStatus name.now result (has_failed out.new || has_failed faults.new) None)
+        (recorded feed.old) (recorded feed.new) }
     ensures gets { (file : List ℕ) → A.files name.now ≡ Some file → IsFetchable file → (h : History)
         → IsContent (recorded feed.old) h → IsOpenTo name.now file h → (result ≡ 0) ⊎ (result ≡ 3) }
 {
@@ -54,14 +57,15 @@ pub fn fetch_from_memory<K: Keep + Drop, O: Write, F: Write>(
     host: &[u8],
     name: &ReleaseName,
     piece: u64,
-    out: &mut O,
-    faults: &mut F,
+    out: &mut Printer<O>,
+    faults: &mut Printer<F>,
 ) -> u8
     requires host { IsTrue (is_host host.now) }
     requires least { 1 ≤ piece }
     requires most { piece ≤ piece_limit }
     ensures extends { IsExtension (IsFetchEvent (Known (IsServed (file_named files.now))) host.now name.now)
-        (EndsWithStatus name.now result) (recorded feed.old) (recorded feed.new) }
+        (EndsWithStatus name.now result (has_failed out.new || has_failed faults.new) None)
+        (recorded feed.old) (recorded feed.new) }
 
     // If the file is there and good and the feed is open to it, the fetch ends with 0, or with 3 for a failure.
     ensures gets { (file : List ℕ) → file_named files.now name.now ≡ Some file → IsFetchable file → (h : History)

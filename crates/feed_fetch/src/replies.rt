@@ -1,12 +1,27 @@
 //! Passes replies to the feed as events, and prints its answers.
-ghost use Rattle.std.specs.Prelude.{ℕ, List, Option, ◌≡◌, ◌⊎◌, Err, IfErr};
-ghost use Rattle.feed_model.specs.History.{Piece};
+ghost use Rattle.std.specs.Prelude.{ℕ, List, Option, Some, None, ◌≡◌, ◌⊎◌, Ok, Err, IfOk, IfErr};
+ghost use Rattle.feed_model.specs.History.{Lost, Offered, Piece};
 ghost use Rattle.feed_releases.specs.Feeds.{recorded};
 ghost use Rattle.feed_releases.specs.Events.{event_of};
-ghost use Rattle.feed_fetch.specs.Answers.{HasRightAnswer, has_new_bytes, reply_or_stop, piece_result, IsStoppedAt};
-ghost use Rattle.feed_fetch.specs.Effects.{IsExtension, IsTakenFrom};
+ghost use Rattle.feed_fetch.specs.Answers.{
+  HasRightAnswer,
+  has_new_bytes,
+  reply_or_stop,
+  piece_result,
+  offer_result,
+  round_result,
+  HasCause,
+  IsStoppedAt,
+};
+ghost use Rattle.feed_fetch.specs.Steps.{IsReplyEvent, HasLength, HasRange};
+ghost use Rattle.feed_fetch.specs.Printing.{has_failed};
+ghost use Rattle.feed_fetch.specs.Effects.{IsExtension, IsTakenFrom, IsFetchable, IsOpened, IsFilled};
 
-use crate::stop::Stop;
+use crate::events::FetchEvent;
+use crate::machine::Phase;
+use crate::printer::{Printer, Unprinted};
+use crate::stop::{RequestFault, Stop};
+use feed_dial::DialFault;
 use feed_http::Got;
 use feed_keep::Keep;
 use feed_limits::PIECE_LIMIT;
@@ -19,14 +34,15 @@ use std::io::Write;
 pub fn handle_event<K: Keep + Drop, O: Write>(
     feed: &mut Feed<K>,
     event: &Event<'_>,
-    out: &mut O,
+    out: &mut Printer<O>,
 ) -> Result<Reply, Stop>
-    ensures { HasRightAnswer (λ answer. (result ≡ reply_or_stop answer) ⊎ (result ≡ Err Stop.Print))
+    ensures right { HasRightAnswer (λ answer. (result ≡ reply_or_stop answer) ⊎ (result ≡ Err Stop.Print))
         (recorded feed.old) (event_of event.now) (recorded feed.new) }
+    ensures caused { IfErr result (λ stop. HasCause (has_failed out.new) None stop) }
 {
     match feed.handle(event) {
         Ok(reply) => {
-            let Ok(()) = writeln!(out, "{reply}") else {
+            let Ok(()) = out.print(FetchEvent::Accepted(reply)) else {
                 return Err(Stop::Print);
             };
             match reply {
@@ -36,7 +52,7 @@ pub fn handle_event<K: Keep + Drop, O: Write>(
             }
         }
         Err(refusal) => {
-            let Ok(()) = writeln!(out, "refused {refusal}") else {
+            let Ok(()) = out.print(FetchEvent::Refused(refusal)) else {
                 return Err(Stop::Print);
             };
             Err(Stop::Refused(refusal))
@@ -61,10 +77,12 @@ fn handle_piece<K: Keep + Drop, O: Write>(
     first: u64,
     total: Option<u64>,
     bytes: &[u8],
-    out: &mut O,
+    out: &mut Printer<O>,
 ) -> Result<bool, Stop>
-    ensures { HasRightAnswer (λ answer. (result ≡ piece_result (reply_or_stop answer)) ⊎ (result ≡ Err Stop.Print))
+    ensures right { HasRightAnswer
+        (λ answer. (result ≡ piece_result (reply_or_stop answer)) ⊎ (result ≡ Err Stop.Print))
         (recorded feed.old) (Piece name.now first total bytes.now) (recorded feed.new) }
+    ensures caused { IfErr result (λ stop. HasCause (has_failed out.new) None stop) }
 {
     let event = Event::Piece {
         name,
@@ -82,10 +100,11 @@ fn handle_whole<K: Keep + Drop, O: Write>(
     feed: &mut Feed<K>,
     name: &ReleaseName,
     bytes: &[u8],
-    out: &mut O,
+    out: &mut Printer<O>,
 ) -> Result<bool, Stop>
-    ensures { IsExtension (IsTakenFrom name.now (Got.Whole bytes.now))
+    ensures extends { IsExtension (IsTakenFrom name.now (Got.Whole bytes.now))
         (λ k. IfErr result (λ stop. IsStoppedAt name.now stop k)) (recorded feed.old) (recorded feed.new) }
+    ensures caused { IfErr result (λ stop. HasCause (has_failed out.new) None stop) }
 {
     let total = bytes.len();
     let mut first = 0;
@@ -114,13 +133,14 @@ pub fn handle_reply<K: Keep + Drop, O: Write>(
     feed: &mut Feed<K>,
     name: &ReleaseName,
     got: &Got,
-    out: &mut O,
+    out: &mut Printer<O>,
 ) -> Result<bool, Stop>
     ensures extends { IsExtension (IsTakenFrom name.now got.now)
         (λ k. IfErr result (λ stop. IsStoppedAt name.now stop k)) (recorded feed.old) (recorded feed.new) }
     ensures piece { (first : ℕ) (total : Option ℕ) (bytes : List ℕ) → got.now ≡ Got.Piece first total bytes
         → HasRightAnswer (λ answer. (result ≡ piece_result (reply_or_stop answer)) ⊎ (result ≡ Err Stop.Print))
         (recorded feed.old) (Piece name.now first total bytes) (recorded feed.new) }
+    ensures caused { IfErr result (λ stop. HasCause (has_failed out.new) None stop) }
 {
     match got {
         Got::Piece {
@@ -129,14 +149,132 @@ pub fn handle_reply<K: Keep + Drop, O: Write>(
             bytes,
         } => handle_piece(feed, name, *first, *total, bytes.as_slice(), out),
         Got::Whole { bytes } => handle_whole(feed, name, bytes.as_slice(), out),
-        Got::Missing => match out.write_all(b"missing\n") {
+        Got::Missing => match out.print(FetchEvent::Missing) {
             Ok(()) => Err(Stop::Missing),
-            Err(_) => Err(Stop::Print),
+            Err(Unprinted) => Err(Stop::Print),
         },
-        Got::Unsatisfied { total: _ } => match out.write_all(b"unsatisfied\n") {
+        Got::Unsatisfied { total: _ } => match out.print(FetchEvent::Unsatisfied) {
             Ok(()) => Err(Stop::Unsatisfied),
-            Err(_) => Err(Stop::Print),
+            Err(Unprinted) => Err(Stop::Print),
         },
         Got::Size(_) => Ok(false),
+    }
+}
+
+// Reports a failed request to the feed, unless there was no connection.
+fn report_loss<K: Keep + Drop, O: Write>(
+    feed: &mut Feed<K>,
+    name: &ReleaseName,
+    why: RequestFault,
+    out: &mut Printer<O>,
+) -> Stop
+    ensures lost { IsExtension (λ e. e ≡ Lost name.now)
+        (λ k. ((result ≡ Stop.Request why) ⊎ (result ≡ Stop.Print)) × IsStoppedAt name.now result k)
+        (recorded feed.old) (recorded feed.new) }
+    ensures kept { (fault : DialFault) → why ≡ RequestFault.Dial fault → recorded feed.new ≡ recorded feed.old }
+    ensures caused { (refused : Option DialFault)
+        → ((fault : DialFault) → why ≡ RequestFault.Dial fault → refused ≡ Some fault)
+        → HasCause (has_failed out.new) refused result }
+{
+    match why {
+        RequestFault::Dial(_) => Stop::Request(why),
+        RequestFault::Http(_) => match handle_event(feed, &Event::Lost { name }, out) {
+            Ok(_) => Stop::Request(why),
+            Err(stop) => stop,
+        },
+    }
+}
+
+// Offers the release to the feed.
+fn offer_size<K: Keep + Drop, O: Write>(
+    feed: &mut Feed<K>,
+    name: &ReleaseName,
+    size: u64,
+    out: &mut Printer<O>,
+) -> Result<(), Stop>
+    ensures right { HasRightAnswer
+        (λ answer. (result ≡ offer_result (reply_or_stop answer)) ⊎ (result ≡ Err Stop.Print))
+        (recorded feed.old) (Offered name.now size) (recorded feed.new) }
+    ensures caused { IfErr result (λ stop. HasCause (has_failed out.new) None stop) }
+{
+    let _reply = handle_event(feed, &Event::Offered { name, size }, out)?;
+    Ok(())
+}
+
+// A round without new bytes stops the fetch.
+fn require_progress(taken: Result<bool, Stop>) -> Result<(), Stop>
+    ensures { result ≡ round_result taken }
+{
+    match taken {
+        Ok(true) => Ok(()),
+        Ok(false) => Err(Stop::NoProgress),
+        Err(stop) => Err(stop),
+    }
+}
+
+// Prints the length that the reply to a HEAD stated.
+fn print_size<O: Write>(got: &Got, out: &mut Printer<O>) -> Result<u64, Stop>
+    ensures printed { (size : ℕ) → got.now ≡ Got.Size size
+        → (result ≡ Ok size) ⊎ (result ≡ Err Stop.Print) }
+    ensures given { IfOk result (λ size. got.now ≡ Got.Size size) }
+    ensures stops { IfErr result (λ stop.
+        (stop ≡ Stop.Missing) ⊎ ((stop ≡ Stop.NoProgress) ⊎ (stop ≡ Stop.Print))) }
+    ensures caused { IfErr result (λ stop. HasCause (has_failed out.new) None stop) }
+{
+    match got {
+        Got::Size(size) => match out.print(FetchEvent::Size(*size)) {
+            Ok(()) => Ok(*size),
+            Err(Unprinted) => Err(Stop::Print),
+        },
+        Got::Missing => match out.print(FetchEvent::Missing) {
+            Ok(()) => Err(Stop::Missing),
+            Err(Unprinted) => Err(Stop::Print),
+        },
+        _ => Err(Stop::NoProgress),
+    }
+}
+
+/// Takes the reply to a HEAD: prints the length that it states, and offers the release to the feed.
+pub fn take_length<K: Keep + Drop, O: Write>(
+    feed: &mut Feed<K>,
+    name: &ReleaseName,
+    reply: &Result<Got, RequestFault>,
+    out: &mut Printer<O>,
+) -> Result<(), Stop>
+    ensures extends { IsExtension (IsReplyEvent name.now Phase.New reply.now)
+        (λ k. IfErr result (λ stop. IsStoppedAt name.now stop k)) (recorded feed.old) (recorded feed.new) }
+    ensures opens { (file : List ℕ) → HasLength file reply.now → IsFetchable file
+        → IsOpened name.now file result (recorded feed.old) (recorded feed.new) }
+    ensures caused { (refused : Option DialFault)
+        → ((fault : DialFault) → reply.now ≡ Err (RequestFault.Dial fault) → refused ≡ Some fault)
+        → IfErr result (λ stop. HasCause (has_failed out.new) refused stop) }
+{
+    match reply {
+        Ok(got) => match print_size(got, out) {
+            Ok(size) => offer_size(feed, name, size, out),
+            Err(stop) => Err(stop),
+        },
+        Err(why) => Err(report_loss(feed, name, *why, out)),
+    }
+}
+
+/// Takes the reply to a GET: passes the bytes received to the feed.
+pub fn take_range<K: Keep + Drop, O: Write>(
+    feed: &mut Feed<K>,
+    name: &ReleaseName,
+    reply: &Result<Got, RequestFault>,
+    out: &mut Printer<O>,
+) -> Result<(), Stop>
+    ensures extends { IsExtension (IsReplyEvent name.now Phase.Offered reply.now)
+        (λ k. IfErr result (λ stop. IsStoppedAt name.now stop k)) (recorded feed.old) (recorded feed.new) }
+    ensures fills { (file : List ℕ) (first last : ℕ) → HasRange file first last reply.now → IsFetchable file
+        → IsFilled name.now file first last result (recorded feed.old) (recorded feed.new) }
+    ensures caused { (refused : Option DialFault)
+        → ((fault : DialFault) → reply.now ≡ Err (RequestFault.Dial fault) → refused ≡ Some fault)
+        → IfErr result (λ stop. HasCause (has_failed out.new) refused stop) }
+{
+    match reply {
+        Ok(got) => require_progress(handle_reply(feed, name, got, out)),
+        Err(why) => Err(report_loss(feed, name, *why, out)),
     }
 }

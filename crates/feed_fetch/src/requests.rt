@@ -1,12 +1,12 @@
 //! Sends one request on a connection of its own, and reads the reply.
-ghost use Rattle.std.specs.Prelude.{IsTrue};
+ghost use Rattle.std.specs.Prelude.{◌≡◌, Some, Err, IsTrue};
 ghost use Rattle.feed_names.specs.ReleaseName.{text_of};
 ghost use Rattle.feed_http.specs.RequestTexts.{is_host, get_text, head_request_text};
 ghost use Rattle.feed_dial.specs.Replies.{IfKnown};
 ghost use Rattle.feed_fetch.specs.Servers.{IsReadOf};
 
 use crate::stop::RequestFault;
-use feed_dial::Dial;
+use feed_dial::{Dial, DialFault};
 use feed_http::{Got, Method, read_reply, write_head_request, write_request};
 use feed_http_heads::HttpFault;
 use feed_names::ReleaseName;
@@ -20,8 +20,10 @@ pub fn request_size<D: Dial>(
     name: &ReleaseName,
 ) -> Result<Got, RequestFault>
     requires { IsTrue (is_host host.now) }
-    ensures { IfKnown D.replies (λ IsReplyTo.
+    ensures reply { IfKnown D.replies (λ IsReplyTo.
         IsReadOf IsReplyTo Method.Head (head_request_text host.now (text_of name.now)) result) }
+    ensures refused { (fault : DialFault) → result ≡ Err (RequestFault.Dial fault)
+        → D.last_fault dial.new ≡ Some fault }
 {
     let mut conn = match dial.dial() {
         Ok(conn) => conn,
@@ -46,8 +48,10 @@ pub fn request_range<D: Dial>(
     last: u64,
 ) -> Result<Got, RequestFault>
     requires { IsTrue (is_host host.now) }
-    ensures { IfKnown D.replies (λ IsReplyTo.
+    ensures reply { IfKnown D.replies (λ IsReplyTo.
         IsReadOf IsReplyTo Method.Get (get_text host.now (text_of name.now) first last) result) }
+    ensures refused { (fault : DialFault) → result ≡ Err (RequestFault.Dial fault)
+        → D.last_fault dial.new ≡ Some fault }
 {
     let mut conn = match dial.dial() {
         Ok(conn) => conn,

@@ -1,6 +1,6 @@
 //! The releases of a folder, as a shelf that the HTTP server reads from.
-ghost use Rattle.std.specs.Prelude.{◌≡◌, ◌≤◌, IfOk, length};
-ghost use Rattle.feed_http.specs.Shelves.{CountsFailure};
+ghost use Rattle.std.specs.Prelude.{◌≡◌, IfOk, length};
+ghost use Rattle.feed_http.specs.Shelves.{IsCounted};
 
 use feed_http::{Shelf, ShelfFault};
 use feed_names::ReleaseName;
@@ -99,8 +99,7 @@ impl<'a> Folder<'a> {
 
     // Returns the fault of an error of the system, and counts it if it is one of the device.
     fn fault_of(&mut self, error: &io::Error) -> ShelfFault
-        ensures rises { self.old.failures ≤ self.new.failures }
-        ensures device { result ≡ ShelfFault.Device → CountsFailure self.old.failures self.new.failures }
+        ensures { IsCounted (result ≡ ShelfFault.Device) self.old.failures self.new.failures }
     {
         if error.kind() == ErrorKind::OutOfMemory {
             return ShelfFault::Memory;

@@ -9,13 +9,14 @@ use Rattle.feed_names.specs.ReleaseName.{Name}
 use Rattle.feed_http_heads.specs.declared.http_fault.HttpFault.{HttpFault}
 use Rattle.feed_http_heads.specs.declared.http_fault.HttpFault.TheVariants.{Write}
 use Rattle.feed_http.specs.declared.serving.reply_head.ReplyHead.{ReplyHead}
-use Rattle.feed_http.specs.declared.serving.reply_head.ReplyHead.TheVariants.{Whole, NotFound}
+use Rattle.feed_http.specs.declared.serving.reply_head.ReplyHead.TheVariants.{Whole, NotFound, BadRequest}
 use Rattle.feed_http_heads.specs.declared.request.Request.{Request}
 use Rattle.feed_http.specs.Shelves.{Files}
+use Rattle.feed_http_heads.specs.RequestHeads.{BeginsWithHead, NeverBeginsWithHead}
 use Rattle.feed_http_heads.specs.Requests.{lacks_host, is_head, HasHead}
 use Rattle.feed_http.specs.Requests.{is_unsupported, IsNamedBy}
 use Rattle.feed_http.specs.Replies.{status_of, head_text}
-use Rattle.feed_http.specs.ServerReplies.{Reply, server_reply, reply_without_file, file_reply, head_alone, IsOutcomeOf}
+use Rattle.feed_http.specs.ServerReplies.{Reply, server_reply, reply_without_file, file_reply, head_alone, IsOutcomeOf, IsRefusalOf}
 use Rattle.feed_http.proofs.Targets.{named_is}
 
 -- a head that was written alone
@@ -23,6 +24,15 @@ pub written_alone : (head : ReplyHead) (result : Result ℕ HttpFault) (old new 
     → OnOk result (Appends old new (head_text head)) → IsOkUnless result Write → IsOutcomeOf (head_alone head) result old new
 written_alone head (Ok status) old new is written other = (is, subst (Appends old new) (sym (append-nil (head_text head))) written)
 written_alone head (Err fault) old new is written other = rw other tt
+
+-- so is the one that a text gets which never begins with a head
+pub rejected : (bytes fields : ℕ) (told : Option (List ℕ)) (result : Result ℕ HttpFault) (old new : Option (List ℕ)) → IfSome told (NeverBeginsWithHead bytes fields)
+    → IfOk result (λ status. status ≡ status_of BadRequest) → OnOk result (Appends old new (head_text BadRequest)) → IsOkUnless result Write
+    → IfSome told (λ text. ((head : RequestHead) → ¬ (BeginsWithHead bytes fields text head)) → IsRefusalOf bytes fields text result old new)
+rejected bytes fields None result old new never is written other = tt
+rejected bytes fields (Some text) (Ok status) old new never is written other = λ none.
+    let outcome = written_alone BadRequest (Ok status) old new is written other in (never, outcome.0, outcome.1)
+rejected bytes fields (Some text) (Err fault) old new never is written other = λ none. rw other tt
 
 -- a HEAD is answered with the length of the file
 pub answered_head : (told : Option Files) (request : Request) (name : Name) (size : ℕ) (result : Result ℕ HttpFault) (old new : Option (List ℕ))

@@ -30,6 +30,12 @@ pub record IsHeadRead (buffer : List ℕ) (headers : List HeaderSpan) (start fil
   pub within : IsResponseWithin (drop start (take filled buffer)) headers spans
   pub reply : IsReplyIn field_limit (take filled buffer) headers start spans
 
+pub head_read : (buffer : List ℕ) (headers : List HeaderSpan) (start filled : ℕ) (spans : ResponseSpans) → (start ≤ filled) × (filled ≤ length buffer)
+    → length buffer ≤ head_limit → length headers ≤ field_limit → IsResponseWithin (drop start (take filled buffer)) headers spans
+    → IsReplyIn field_limit (take filled buffer) headers start spans → IsHeadRead buffer headers start filled spans
+head_read buffer headers start filled spans places short few within reply =
+    record { ordered = places.0; fits = places.1; short = short; few = few; within = within; reply = reply }
+
 -- what came with the head
 abbrev pub ahead_of : List ℕ → ℕ → ℕ → ResponseSpans → List ℕ
 ahead_of buffer start filled spans = take (filled - (start + spans.len)) (drop (start + spans.len) buffer)

@@ -14,13 +14,17 @@ Files = Name → Option (List ℕ)
 abbrev pub CountsFailure : ℕ → ℕ → Type 0
 CountsFailure old new = (old < new) ⊎ (new ≡ 2 ^ 64 - 1)
 
+-- the count never falls; it rises (or has its greatest value) if a failure is reported, and otherwise stays the same
+pub record IsCounted (reported : Type 0) (before now : ℕ) : Type 0 where
+  pub rises : before ≤ now
+  pub failed : reported → CountsFailure before now
+  pub stays : ¬ reported → now ≡ before
+
 -- the fault of an exchange whose shelf failed
 abbrev pub http_fault_of : ShelfFault → HttpFault
 http_fault_of Device = http.Shelf
 http_fault_of Memory = http.Memory
 
--- a reply leaves the files of the shelf as they were, and its count of failures does not fall; the count includes the
--- failure of the shelf that ended the reply
+-- a reply leaves the files of the shelf as they were, and reports each failure that the shelf counts
 abbrev pub IsShelfKept : Option Files → Option Files → ℕ → ℕ → Result ℕ HttpFault → Type 0
-IsShelfKept old new before after result =
-    (new ≡ old) × (before ≤ after) × (IsErrOf result http.Shelf → CountsFailure before after)
+IsShelfKept old new before after result = (new ≡ old) × IsCounted (IsErrOf result http.Shelf) before after

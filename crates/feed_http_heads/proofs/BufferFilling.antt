@@ -1,5 +1,5 @@
 -- A buffer that is filled from the front by reads.
-use Rattle.std.proofs.Common.{◌≡◌, ◌≤◌, ◌+◌, ℕ, zero, suc, List, [], ◌∷◌, ◌++◌, length, take, drop, Option, refl, ap}
+use Rattle.std.proofs.Common.{◌≡◌, ◌≤◌, ◌+◌, ◌-◌, ℕ, zero, suc, List, [], ◌∷◌, ◌++◌, length, take, drop, Option, refl, sym, ap}
 use Rattle.std.proofs.Common.{arith, ◌∙◌, zero-add, suc-add}
 use Rattle.std.specs.Io.KnownBytes.{Consumes}
 use Rattle.std.proofs.Math.Seq.{take-append-add}
@@ -40,3 +40,9 @@ pub read_more : (old mid new : Option (List ℕ)) (a k n : ℕ) (xs ys : List �
     → Consumes old mid (take a xs) → Consumes mid new (take n ys) → Consumes old new (take (a + n) (put_mid a k xs ys))
 read_more old mid new a k n xs ys within fits first more =
     rw (take-put_mid a k n xs ys within fits) (Consumes-trans old mid new (take a xs) (take n ys) first more)
+
+-- the bytes that were read are the front of all that may be
+pub front_of : (bytes : ℕ) (part rest : List ℕ) → length part ≤ bytes → take bytes (part ++ rest) ≡ part ++ take (bytes - length part) rest
+front_of bytes part rest fits =
+    let whole : length part + (bytes - length part) ≡ bytes = omega arith in
+    ap (λ n. take n (part ++ rest)) (sym whole) ∙ take-behind part rest (length part) (bytes - length part) refl

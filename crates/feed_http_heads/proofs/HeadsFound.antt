@@ -1,5 +1,5 @@
 -- From the head that was read in a buffer to all bytes, whose front the buffer is.
-use Rattle.std.proofs.Common.{◌≡◌, ◌≤◌, ℕ, List, ◌++◌, length, take, drop, map, Some, ap, sym, arith, subst}
+use Rattle.std.proofs.Common.{◌≡◌, ◌≤◌, ℕ, List, ◌++◌, length, take, drop, map, Option, None, Some, IfSome, ap, sym, arith, subst, append_assoc, ◌∙◌}
 use Rattle.std.specs.Prelude.{min}
 use Rattle.std.proofs.lemmas.List.{length-take, length-take-le, length-map, take-append-drop, take_min}
 use Rattle.httparse.specs.Grammar.{RequestHead, ReadsRequest, HasNoRequest, print_request}
@@ -7,7 +7,7 @@ use Rattle.httparse.specs.Spans.{IsRequestAt, IsRequestOf, IsRequestWithin, Requ
 use Rattle.httparse.specs.declared.spans.RequestSpans.{RequestSpans}
 use Rattle.httparse.specs.declared.spans.HeaderSpan.{HeaderSpan}
 use Rattle.httparse.proofs.GrammarLemmas.{request_unique, ReadsRequest-append}
-use Rattle.feed_http_heads.specs.RequestHeads.{BeginsWithHead, NeverBeginsWithHead}
+use Rattle.feed_http_heads.specs.RequestHeads.{BeginsWithHead, NeverBeginsWithHead, NeverBeginsWithRequest, IsTooLong}
 use Rattle.feed_http_heads.specs.HeadEnds.{IsHeadInFront}
 use Rattle.feed_http_heads.proofs.RequestReading.{overflowing, full}
 
@@ -72,3 +72,15 @@ full_in_front bytes fields text none long =
 -- the front, counted by the least of two numbers
 pub front_is : (bytes n : ℕ) (text : List ℕ) → n ≡ min bytes (length text) → take n text ≡ take bytes text
 front_is bytes n text is = rw is (take_min bytes text)
+
+-- a text that is too long for a head never begins with one within the limits
+pub too_long_never : (bytes fields : ℕ) (old : Option (List ℕ)) → IfSome old (IsTooLong bytes) → IfSome old (NeverBeginsWithHead bytes fields)
+too_long_never bytes fields None why = tt
+too_long_never bytes fields (Some text) why = full_in_front bytes fields text why.not_whole why.long
+
+-- nor does a text whose front is invalid
+pub invalid_never : (bytes fields : ℕ) (old : Option (List ℕ)) → IfSome old (λ text. NeverBeginsWithRequest fields (take bytes text)) → IfSome old (NeverBeginsWithHead bytes fields)
+invalid_never bytes fields None why = tt
+invalid_never bytes fields (Some text) why = λ more head begins.
+    why (drop bytes text ++ more) head begins.rest
+    (begins.reads.0, sym (append_assoc (take bytes text) (drop bytes text) more) ∙ ap (λ t. t ++ more) (take-append-drop bytes text) ∙ begins.reads.1) begins.few

@@ -15,9 +15,10 @@ use Rattle.httparse.specs.declared.spans.HeaderSpan.{HeaderSpan}
 use Rattle.feed_http_heads.specs.declared.http_fault.HttpFault.{HttpFault}
 use Rattle.feed_http_heads.specs.declared.http_fault.HttpFault.TheVariants.{Read, Short, HeadTooLong, BadHead}
 use Rattle.feed_http_heads.specs.ReplyHeads.{print_heads, is_interim, is_interim_status, IsInterimHead, IsNoReply, NeverBeginsWithReply, IsUnfinishedReply}
-use Rattle.feed_http_heads.specs.ReplyReads.{AreInterimTo, IsReplyIn, IsEndFault}
+use Rattle.feed_http_heads.specs.ReplyReads.{AreInterimTo, IsReplyIn}
+use Rattle.feed_http_heads.specs.Reads.{IsEndFault}
 use Rattle.std.proofs.lemmas.List.Elements.{All-push}
-use Rattle.feed_http_heads.proofs.BufferFilling.{take-put_mid, take-behind, take_both}
+use Rattle.feed_http_heads.proofs.BufferFilling.{take-put_mid, take_both, front_of}
 
 -- each head has bytes
 pub some_bytes : (h : ResponseHead) → 0 < length (print_response h)
@@ -69,12 +70,7 @@ left fields bytes start interim within are =
     let front : length (print_heads interim) ≡ start = ap length are.front ∙ length-take-le start bytes within in
     omega (arith, front, length-drop start bytes)
 
--- the bytes that were read are the front of all that may be
-front_of : (bytes : ℕ) (part rest : List ℕ) → length part ≤ bytes → take bytes (part ++ rest) ≡ part ++ take (bytes - length part) rest
-front_of bytes part rest fits =
-    let whole : length part + (bytes - length part) ≡ bytes = omega arith in
-    ap (λ n. take n (part ++ rest)) (sym whole) ∙ take-behind part rest (length part) (bytes - length part) refl
-
+-- a front that is refused, and all that may be read behind it
 refused : (bytes room : ℕ) (part rest : List ℕ) → length part ≤ bytes → ResponseOverflows room part → NeverBeginsWithReply room (take bytes (part ++ rest))
 refused bytes room part rest fits over = rw (front_of bytes part rest fits) (λ more head tail reads few.
     let many : room < length head.fields = over (take (bytes - length part) rest ++ more) head tail (reads.0, sym (append_assoc part (take (bytes - length part) rest) more) ∙ reads.1) in

@@ -1,4 +1,5 @@
 pub mod Limits
+pub mod Reads
 pub mod RequestHeads
 pub mod HeadEnds
 pub mod Fields

@@ -1,11 +1,9 @@
 -- The head of a reply in a buffer.
-use Rattle.std.specs.Prelude.{◌≡◌, ℕ, List, take, drop, All, false, Option, IfSome, [], ⊤}
+use Rattle.std.specs.Prelude.{◌≡◌, ℕ, List, take, drop, All, false}
 use Rattle.httparse.specs.Grammar.{ResponseHead}
 use Rattle.httparse.specs.Spans.{IsResponseAt}
 use Rattle.httparse.specs.declared.spans.ResponseSpans.{ResponseSpans}
 use Rattle.httparse.specs.declared.spans.HeaderSpan.{HeaderSpan}
-use Rattle.feed_http_heads.specs.declared.http_fault.HttpFault.{HttpFault}
-use Rattle.feed_http_heads.specs.declared.http_fault.HttpFault.TheVariants.{Read, Short}
 use Rattle.feed_http_heads.specs.ReplyHeads.{print_heads, is_interim, IsInterimHead}
 
 -- the buffer begins with interim heads up to the start, each with at most this many fields
@@ -20,9 +18,3 @@ pub record IsReplyIn (fields : ℕ) (buffer : List ℕ) (headers : List HeaderSp
   pub head : ResponseHead
   pub at : IsResponseAt (drop start buffer) headers spans head
   pub last : is_interim head ≡ false
-
--- the reader failed or ended
-abbrev pub IsEndFault : Option (List ℕ) → HttpFault → Type 0
-IsEndFault remaining Read = ⊤
-IsEndFault remaining Short = IfSome remaining (λ text. text ≡ [])
-IsEndFault remaining _ = ⊥

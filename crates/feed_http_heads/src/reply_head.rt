@@ -1,12 +1,13 @@
 //! Reading the head of a reply (RFC 9112, section 4).
-ghost use Rattle.std.specs.Prelude.{◌≡◌, ◌≤◌, ◌<◌, length, take, drop, IfOk, IfErr, IfSome, IsErrOf};
-ghost use Rattle.std.specs.Io.KnownBytes.{Consumes, IsAtEnd};
+ghost use Rattle.std.specs.Prelude.{◌≡◌, ◌≤◌, length, take, drop, IfOk, IfErr, IfSome};
+ghost use Rattle.std.specs.Io.KnownBytes.{Consumes};
 ghost use Rattle.httparse.specs.Spans.{IsResponseWithin};
 ghost use Rattle.feed_http_heads.specs.RequestHeads.{IsHeadFault};
 ghost use Rattle.feed_http_heads.specs.ReplyHeads.{is_interim_status, IsNoReply};
-ghost use Rattle.feed_http_heads.specs.ReplyReads.{IsReplyIn, IsEndFault};
+ghost use Rattle.feed_http_heads.specs.ReplyReads.{IsReplyIn};
 
 use crate::http_fault::HttpFault;
+use crate::reads::read_some;
 use httparse::Status;
 use httparse::spans::{HeaderSpan, ResponseSpans, parse_response};
 use std::io::Read;
@@ -25,20 +26,6 @@ fn is_interim(status: u16) -> bool
     ensures { result ≡ is_interim_status status }
 {
     (100..200).contains(&status)
-}
-
-fn read_some<R: Read>(reader: &mut R, space: &mut [u8]) -> Result<usize, HttpFault>
-    requires { 0 < length space.old }
-    ensures some { IfOk result (λ count. (0 < count) × (count ≤ length space.new)) }
-    ensures taken { IfOk result (λ count.
-        Consumes (R.remaining reader.old) (R.remaining reader.new) (take count space.new)) }
-    ensures faults { IfErr result (IsEndFault (R.remaining reader.old)) }
-{
-    match reader.read(space) {
-        Ok(0) => Err(HttpFault::Short),
-        Ok(count) => Ok(count),
-        Err(_) => Err(HttpFault::Read),
-    }
 }
 
 /// Reads into the buffer until a head that is not interim is complete, however the reader splits its bytes.

@@ -5,6 +5,7 @@ ghost use Rattle.httparse.specs.Spans.{IsRequestWithin, IsRequestOf};
 ghost use Rattle.feed_http_heads.specs.RequestHeads.{IsHeadFault, IsWhyNoRequest};
 
 use crate::http_fault::HttpFault;
+use crate::reads::read_some;
 use httparse::Status;
 use httparse::spans::{HeaderSpan, RequestSpans, parse_request};
 use std::io::Read;
@@ -36,13 +37,7 @@ pub fn read_request<R: Read>(
 {
     let mut filled = 0usize;
     while filled < buffer.len() {
-        let Ok(count) = reader.read(&mut buffer[filled..]) else {
-            return Err(HttpFault::Read);
-        };
-        if count == 0 {
-            return Err(HttpFault::Short);
-        }
-        filled += count;
+        filled += read_some(reader, &mut buffer[filled..])?;
         match parse_request(&buffer[..filled], headers) {
             Ok(Status::Complete(spans)) => return Ok(RequestRead { spans, filled }),
             Ok(Status::Partial) => {}

@@ -4,41 +4,24 @@ use Rattle.std.proofs.Common.{Some, refl, sym, ap, ◌∙◌, arith}
 use Rattle.std.specs.Prelude.{◌%◌, ◌==◌}
 use Rattle.std.specs.Char.{is_ascii_digit}
 use Rattle.std.proofs.lemmas.Bool.Decides.{nat_tests}
-use Rattle.feed_identifiers.proofs.Digits.{IsDigit, digit_is, eqb_same, first_true, same_digit, second_true, split, test_true, value_is, worth}
+use Rattle.feed_identifiers.proofs.Digits.{AreSevenDigits, IsDigit, digit_is, digit_is_no_space, eqb_same, first_true, same_digit, second_true, seven_digits_are, split, test_true, value_is, worth}
 use Rattle.feed_identifiers.specs.Check.{is_check}
 use Rattle.feed_identifiers.specs.Isbn.{IsIsbn, are_nine_digits, check_digit, isbn_of, number_of, of_ten, of_thirteen, sum_of_twelve, thirteen, isbn_of_characters}
 
 -- nine characters are digits
 pub record AreDigits (a b c d e f g h i : ℕ) : Type 0 where
-  pub first : IsDigit a
-  pub second : IsDigit b
-  pub third : IsDigit c
-  pub fourth : IsDigit d
-  pub fifth : IsDigit e
-  pub sixth : IsDigit f
-  pub seventh : IsDigit g
+  pub front : AreSevenDigits a b c d e f g
+  pub open front use *
   pub eighth : IsDigit h
   pub ninth : IsDigit i
 
 pub digits_are : (a b c d e f g h i : ℕ) → are_nine_digits a b c d e f g h i ≡ true → AreDigits a b c d e f g h i
-digits_are a b c d e f g h i t9 =
-    let t8 = first_true _ _ t9 in
-    let t7 = first_true _ _ t8 in
-    let t6 = first_true _ _ t7 in
-    let t5 = first_true _ _ t6 in
-    let t4 = first_true _ _ t5 in
-    let t3 = first_true _ _ t4 in
-    let t2 = first_true _ _ t3 in
+digits_are a b c d e f g h i all =
+    let eight = first_true _ _ all in
     record {
-      first = digit_is a (first_true (is_ascii_digit a) (is_ascii_digit b) t2);
-      second = digit_is b (second_true (is_ascii_digit a) (is_ascii_digit b) t2);
-      third = digit_is c (second_true _ (is_ascii_digit c) t3);
-      fourth = digit_is d (second_true _ (is_ascii_digit d) t4);
-      fifth = digit_is e (second_true _ (is_ascii_digit e) t5);
-      sixth = digit_is f (second_true _ (is_ascii_digit f) t6);
-      seventh = digit_is g (second_true _ (is_ascii_digit g) t7);
-      eighth = digit_is h (second_true _ (is_ascii_digit h) t8);
-      ninth = digit_is i (second_true _ (is_ascii_digit i) t9);
+      front = seven_digits_are a b c d e f g (first_true _ _ eight);
+      eighth = digit_is h (second_true _ (is_ascii_digit h) eight);
+      ninth = digit_is i (second_true _ (is_ascii_digit i) all);
     }
 
 -- the third digit is 8 or 9
@@ -123,36 +106,16 @@ thirteen_again first second last a b c d e f g h i check printed made =
     ((sum_of_twelve last a b c d e f g h i + (check - 48)) % 10 == 0) (test_true _ _ printed made) in
     rw t (ap Some (sym (value_is _ _ printed made)))
 
+isbn_with : (last a b c d e f g h i check : ℕ) (printed : List ℕ) → of_thirteen 57 55 last a b c d e f g h i check ≡ Some printed → IsIsbn printed
+isbn_with last a b c d e f g h i check printed made =
+    record { last = last; seven = record { a = a; b = b; c = c; d = d; e = e; f = f; g = g }; h = h; i = i; check = check; made = made }
+
 -- what ten or thirteen characters are is a printed ISBN
 pub made_by : (characters : List ℕ) (printed : List ℕ) → isbn_of_characters characters ≡ Some printed → IsIsbn printed
-made_by (a ∷ b ∷ c ∷ d ∷ e ∷ f ∷ g ∷ h ∷ i ∷ check ∷ []) printed made = record {
-  last = 56;
-  a = a;
-  b = b;
-  c = c;
-  d = d;
-  e = e;
-  f = f;
-  g = g;
-  h = h;
-  i = i;
-  check = check_digit (sum_of_twelve 56 a b c d e f g h i);
-  made = ten_are_thirteen a b c d e f g h i check printed made;
-}
-made_by (first ∷ second ∷ last ∷ a ∷ b ∷ c ∷ d ∷ e ∷ f ∷ g ∷ h ∷ i ∷ check ∷ []) printed made = record {
-  last = last;
-  a = a;
-  b = b;
-  c = c;
-  d = d;
-  e = e;
-  f = f;
-  g = g;
-  h = h;
-  i = i;
-  check = check;
-  made = thirteen_again first second last a b c d e f g h i check printed made;
-}
+made_by (a ∷ b ∷ c ∷ d ∷ e ∷ f ∷ g ∷ h ∷ i ∷ check ∷ []) printed made =
+    isbn_with 56 a b c d e f g h i (check_digit (sum_of_twelve 56 a b c d e f g h i)) printed (ten_are_thirteen a b c d e f g h i check printed made)
+made_by (first ∷ second ∷ last ∷ a ∷ b ∷ c ∷ d ∷ e ∷ f ∷ g ∷ h ∷ i ∷ check ∷ []) printed made =
+    isbn_with last a b c d e f g h i check printed (thirteen_again first second last a b c d e f g h i check printed made)
 made_by _ printed made = absurd (cc)
 
 number_in_steps : (last a b c d e f g h i : ℕ)
@@ -201,9 +164,6 @@ same_isbn s t j k same =
 
 digit_is_no_hyphen : (n : ℕ) → IsDigit n → eqb n 45 ≡ false
 digit_is_no_hyphen n d = grind (arith, nat_tests)
-
-digit_is_no_space : (n : ℕ) → IsDigit n → eqb n 32 ≡ false
-digit_is_no_space n d = grind (arith, nat_tests)
 
 last_is_digit : (n : ℕ) → IsLast n → IsDigit n
 last_is_digit n l = record { low = omega arith; high = omega arith }

@@ -1,48 +1,35 @@
 -- The number of a printed ISSN determines the ISSN.
 use Rattle.std.proofs.Common.{◌≡◌, ◌≤◌, ◌<◌, ◌+◌, ◌-◌, ◌*◌, ℕ, Bool, true, false, ◌&&◌, ◌||◌, eqb, List, [], ◌∷◌}
 use Rattle.std.proofs.Common.{Option, Some, None, if◌then◌else◌, refl, sym, ◌∙◌, arith}
-use Rattle.std.specs.Prelude.{◌%◌, ◌==◌}
+use Rattle.std.specs.Prelude.{◌%◌, ◌==◌, slice_index}
 use Rattle.std.specs.Char.{is_ascii_digit}
 use Rattle.std.proofs.lemmas.Bool.Decides.{nat_tests}
-use Rattle.feed_identifiers.proofs.Digits.{IsDigit, digit_is, eqb_same, first_true, same_digit, second_true, split, test_true, value_is, worth}
+use Rattle.feed_identifiers.proofs.Digits.{AreSevenDigits, digit_is, digit_is_no_space, eqb_same, first_true, same_digit, second_true, seven_digits_are, split, test_true, value_is, worth}
 use Rattle.feed_identifiers.specs.Check.{capital, check_value, is_check, is_x}
-use Rattle.feed_identifiers.specs.Issn.{IsIssn, issn_of_digits, issn_of, number_of, issn_of_characters, weighted}
+use Rattle.feed_identifiers.specs.Issn.{IsIssn, at_seven, issn_of_digits, issn_of, number_of, issn_of_characters, weighted}
 
 -- what the characters of a printed ISSN are
 record Spelled (text : List ℕ) (a b c d e f g check : ℕ) : Type 0 where
   is : text ≡ a ∷ b ∷ c ∷ d ∷ 45 ∷ e ∷ f ∷ g ∷ capital check ∷ []
-  first : IsDigit a
-  second : IsDigit b
-  third : IsDigit c
-  fourth : IsDigit d
-  fifth : IsDigit e
-  sixth : IsDigit f
-  seventh : IsDigit g
+  digits : AreSevenDigits a b c d e f g
+  open digits use *
   checks : is_check check ≡ true
   sum : weighted a b c d e f g check % 11 ≡ 0
 
 spelled_by : (text : List ℕ) (a b c d e f g check : ℕ) → issn_of_digits a b c d e f g check ≡ Some text → Spelled text a b c d e f g check
 spelled_by text a b c d e f g check made =
-    let t9 = test_true _ _ text made in
-    let t8 = first_true _ _ t9 in
-    let t7 = first_true _ _ t8 in
-    let t6 = first_true _ _ t7 in
-    let t5 = first_true _ _ t6 in
-    let t4 = first_true _ _ t5 in
-    let t3 = first_true _ _ t4 in
-    let t2 = first_true _ _ t3 in
+    let all = test_true _ _ text made in
+    let checked = first_true _ _ all in
     record {
       is = value_is _ _ text made;
-      first = digit_is a (first_true (is_ascii_digit a) (is_ascii_digit b) t2);
-      second = digit_is b (second_true (is_ascii_digit a) (is_ascii_digit b) t2);
-      third = digit_is c (second_true _ (is_ascii_digit c) t3);
-      fourth = digit_is d (second_true _ (is_ascii_digit d) t4);
-      fifth = digit_is e (second_true _ (is_ascii_digit e) t5);
-      sixth = digit_is f (second_true _ (is_ascii_digit f) t6);
-      seventh = digit_is g (second_true _ (is_ascii_digit g) t7);
-      checks = second_true _ (is_check check) t8;
-      sum = eqb_same _ 0 (second_true _ (weighted a b c d e f g check % 11 == 0) t9);
+      digits = seven_digits_are a b c d e f g (first_true _ _ checked);
+      checks = second_true _ (is_check check) checked;
+      sum = eqb_same _ 0 (second_true _ (weighted a b c d e f g check % 11 == 0) all);
     }
+
+or_false : (a : Bool) → (a || false) ≡ true → a ≡ true
+or_false true h = refl
+or_false false h = h
 
 -- characters that check with one sum are worth the same
 same_worth : (w v u : ℕ) → v ≤ 10 → u ≤ 10 → (w + v) % 11 ≡ 0 → (w + u) % 11 ≡ 0 → v ≡ u
@@ -53,18 +40,10 @@ check_worth k e = elim (is_x k) as (λ b. (is_ascii_digit k || b) ≡ true → (
   | true ↦ λ h. omega arith
   | false ↦ λ h. (let w = worth k (digit_is k (or_false _ h)) in omega arith)
 ] e
-  where
-    or_false : (a : Bool) → (a || false) ≡ true → a ≡ true
-    or_false true h = refl
-    or_false false h = h
 
 same_check : (k l : ℕ) → is_check k ≡ true → is_check l ≡ true → check_value k ≡ check_value l → capital k ≡ capital l
 same_check k l h g e = go (is_x k) (is_x l) h g e
   where
-    or_false : (a : Bool) → (a || false) ≡ true → a ≡ true
-    or_false true h = refl
-    or_false false h = h
-
     go : (x y : Bool) → (is_ascii_digit k || x) ≡ true → (is_ascii_digit l || y) ≡ true → (if x then 10 else k - 48) ≡ (if y then 10 else l - 48)
         → (if x then 88 else k) ≡ (if y then 88 else l)
     go true true h g e = refl
@@ -122,10 +101,6 @@ capital_again k h = elim (is_x k) as (λ b. is_x k ≡ b → (is_ascii_digit k |
       | true ↦ λ e g. (refl, refl, refl, refl)
       | false ↦ λ e g. (rw e g, rw e refl, rw e refl, (let d = digit_is k (or_false _ g) in grind (arith, nat_tests)))
     ] refl h
-  where
-    or_false : (a : Bool) → (a || false) ≡ true → a ≡ true
-    or_false true h = refl
-    or_false false h = h
 
 checked_again : (digits check others : Bool) (worth its w : ℕ) (text its_text s : List ℕ) → check ≡ true → others ≡ true → its ≡ worth → its_text ≡ text
     → (if digits && check && ((w + worth) % 11 == 0) then Some text else None) ≡ Some s
@@ -136,14 +111,20 @@ taken : (b : Bool) (x : Option (List ℕ)) (s : List ℕ) → (if b then x else 
 taken true x s e = e
 taken false x s e = absurd (cc)
 
-pub issn_made : (characters printed : List ℕ) → issn_of_characters characters ≡ Some printed → IsIssn printed
-issn_made (a ∷ b ∷ c ∷ d ∷ e ∷ f ∷ g ∷ check ∷ []) printed made = record { a = a; b = b; c = c; d = d; e = e; f = f; g = g; check = check; made = made }
-issn_made (a ∷ b ∷ c ∷ d ∷ hyphen ∷ e ∷ f ∷ g ∷ check ∷ []) printed made =
-    record { a = a; b = b; c = c; d = d; e = e; f = f; g = g; check = check; made = taken (hyphen == 45) (issn_of_digits a b c d e f g check) printed made }
-issn_made _ printed made = absurd (cc)
+issn_with : (a b c d e f g check : ℕ) (printed : List ℕ) → issn_of_digits a b c d e f g check ≡ Some printed → IsIssn printed
+issn_with a b c d e f g check printed made =
+    record { digits = record { a = a; b = b; c = c; d = d; e = e; f = f; g = g }; check = check; made = made }
 
-digit_is_no_space : (n : ℕ) → IsDigit n → eqb n 32 ≡ false
-digit_is_no_space n d = grind (arith, nat_tests)
+pub issn_of_array : (digits : List ℕ) (check : ℕ) (printed : List ℕ) → at_seven issn_of_digits digits check ≡ Some printed → IsIssn printed
+issn_of_array digits check printed made =
+    issn_with (slice_index digits 0) (slice_index digits 1) (slice_index digits 2) (slice_index digits 3) (slice_index digits 4) (slice_index digits 5)
+    (slice_index digits 6) check printed made
+
+pub issn_made : (characters printed : List ℕ) → issn_of_characters characters ≡ Some printed → IsIssn printed
+issn_made (a ∷ b ∷ c ∷ d ∷ e ∷ f ∷ g ∷ check ∷ []) printed made = issn_with a b c d e f g check printed made
+issn_made (a ∷ b ∷ c ∷ d ∷ hyphen ∷ e ∷ f ∷ g ∷ check ∷ []) printed made =
+    issn_with a b c d e f g check printed (taken (hyphen == 45) (issn_of_digits a b c d e f g check) printed made)
+issn_made _ printed made = absurd (cc)
 
 pub issn_again : (printed : List ℕ) → IsIssn printed → issn_of printed ≡ Some printed
 issn_again printed j =

@@ -1,5 +1,5 @@
--- Check characters, which ISSNs and ten-character ISBNs have in common.
-use Rattle.std.specs.Prelude.{ℕ, ◌-◌, ◌==◌, ◌||◌, Bool, if◌then◌else◌}
+-- Digits and check characters, which ISSNs and ISBNs have in common.
+use Rattle.std.specs.Prelude.{ℕ, ◌-◌, ◌==◌, ◌&&◌, ◌||◌, Bool, if◌then◌else◌}
 use Rattle.std.specs.Char.{is_ascii_digit}
 
 -- whether a character is an x of either case
@@ -17,3 +17,19 @@ check_value b = if is_x b then 10 else b - 48
 -- a check character as it is printed
 abbrev pub capital : ℕ → ℕ
 capital b = if is_x b then 88 else b
+
+-- seven characters
+pub record Seven : Type 0 where
+  pub a : ℕ
+  pub b : ℕ
+  pub c : ℕ
+  pub d : ℕ
+  pub e : ℕ
+  pub f : ℕ
+  pub g : ℕ
+
+-- whether seven characters are digits
+abbrev pub are_seven_digits : ℕ → ℕ → ℕ → ℕ → ℕ → ℕ → ℕ → Bool
+are_seven_digits a b c d e f g =
+    is_ascii_digit a && is_ascii_digit b && is_ascii_digit c && is_ascii_digit d
+    && is_ascii_digit e && is_ascii_digit f && is_ascii_digit g

@@ -2,7 +2,7 @@
 use Rattle.std.specs.Prelude.{◌≡◌, ℕ, ◌+◌, ◌-◌, ◌*◌, ◌%◌, ◌==◌, ◌&&◌, ◌||◌, not, Bool, List, [], ◌∷◌, Option, Some, None, if◌then◌else◌, slice_index}
 use Rattle.std.specs.List.{filter}
 use Rattle.std.specs.Char.{is_ascii_digit}
-use Rattle.feed_identifiers.specs.Check.{check_value, is_check}
+use Rattle.feed_identifiers.specs.Check.{Seven, are_seven_digits, check_value, is_check}
 use Rattle.feed_identifiers.specs.Text.{trimmed}
 
 -- a function of three characters, applied to those of an array
@@ -17,9 +17,7 @@ at_nine f characters =
 
 -- whether all nine are digits
 abbrev pub are_nine_digits : ℕ → ℕ → ℕ → ℕ → ℕ → ℕ → ℕ → ℕ → ℕ → Bool
-are_nine_digits a b c d e f g h i =
-    is_ascii_digit a && is_ascii_digit b && is_ascii_digit c && is_ascii_digit d && is_ascii_digit e
-    && is_ascii_digit f && is_ascii_digit g && is_ascii_digit h && is_ascii_digit i
+are_nine_digits a b c d e f g h i = are_seven_digits a b c d e f g && is_ascii_digit h && is_ascii_digit i
 
 -- the sum of 978 or 979 (`last` is its last digit) and nine digits, with the weights 1, 3, 1, 3 and so on
 abbrev pub sum_of_twelve : ℕ → ℕ → ℕ → ℕ → ℕ → ℕ → ℕ → ℕ → ℕ → ℕ → ℕ
@@ -72,13 +70,8 @@ isbn_of text = isbn_of_characters (filter is_no_hyphen (trimmed text))
 -- a text is the printed form of an ISBN: its thirteen digits
 pub record IsIsbn (text : List ℕ) : Type 0 where
   pub last : ℕ
-  pub a : ℕ
-  pub b : ℕ
-  pub c : ℕ
-  pub d : ℕ
-  pub e : ℕ
-  pub f : ℕ
-  pub g : ℕ
+  pub seven : Seven
+  pub open seven use *
   pub h : ℕ
   pub i : ℕ
   pub check : ℕ

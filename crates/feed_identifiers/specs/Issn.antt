@@ -1,7 +1,6 @@
 -- ISSNs (ISO 3297).
 use Rattle.std.specs.Prelude.{◌≡◌, ℕ, ◌+◌, ◌-◌, ◌*◌, ◌%◌, ◌==◌, ◌&&◌, List, [], ◌∷◌, Option, Some, None, if◌then◌else◌, slice_index}
-use Rattle.std.specs.Char.{is_ascii_digit}
-use Rattle.feed_identifiers.specs.Check.{capital, check_value, is_check}
+use Rattle.feed_identifiers.specs.Check.{Seven, are_seven_digits, capital, check_value, is_check}
 use Rattle.feed_identifiers.specs.Text.{trimmed}
 
 -- a function of seven characters, applied to those of an array
@@ -18,20 +17,13 @@ weighted a b c d e f g check =
 -- the printed form of seven digits and a check character, if their weighted sum is divisible by 11
 abbrev pub issn_of_digits : ℕ → ℕ → ℕ → ℕ → ℕ → ℕ → ℕ → ℕ → Option (List ℕ)
 issn_of_digits a b c d e f g check =
-    if is_ascii_digit a && is_ascii_digit b && is_ascii_digit c && is_ascii_digit d
-    && is_ascii_digit e && is_ascii_digit f && is_ascii_digit g && is_check check
-    && (weighted a b c d e f g check % 11 == 0)
+    if are_seven_digits a b c d e f g && is_check check && (weighted a b c d e f g check % 11 == 0)
     then Some (a ∷ b ∷ c ∷ d ∷ 45 ∷ e ∷ f ∷ g ∷ capital check ∷ []) else None
 
 -- a text is the printed form of an ISSN: seven digits and the right check character
 pub record IsIssn (text : List ℕ) : Type 0 where
-  pub a : ℕ
-  pub b : ℕ
-  pub c : ℕ
-  pub d : ℕ
-  pub e : ℕ
-  pub f : ℕ
-  pub g : ℕ
+  pub digits : Seven
+  pub open digits use *
   pub check : ℕ
   pub made : issn_of_digits a b c d e f g check ≡ Some text
 

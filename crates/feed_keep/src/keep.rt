@@ -7,6 +7,7 @@ ghost use Rattle.feed_model.specs.Change.{after, IsAllowed};
 ghost use Rattle.feed_keep.specs.Shown.{shown, shown_change};
 ghost use Rattle.feed_keep.specs.Order.{IsInOrder};
 ghost use Rattle.feed_keep.specs.Cause.{IsCounted};
+ghost use Rattle.feed_keep.specs.Loads.{one_more};
 
 use crate::record::Record;
 use feed_kbart::BadFile;
@@ -60,6 +61,9 @@ pub trait Keep {
     /// The number of device failures so far.
     ghost failed: { Self → ℕ };
 
+    /// The number of calls of `load` so far. It saturates at its greatest value.
+    ghost loads: { Self → ℕ };
+
     /// Returns the number of device failures so far. It saturates at its greatest value.
     fn failures(&self) -> u64
         ensures { result ≡ failed self.now };
@@ -75,6 +79,7 @@ pub trait Keep {
         ensures same { clean self.new → content self.new ≡ content self.old }
         ensures stays { clean self.new → ∥ listed self.old ∥₁ → ∥ listed self.new ∥₁ }
         ensures clean { clean self.new → clean self.old }
+        ensures loaded { loads self.new ≡ one_more (loads self.old) }
         ensures device { IsCounted (result ≡ Err KeepFault.Device) (failed self.old) (failed self.new) };
 
     /// Makes the whole change, or returns an error and changes nothing. The store must hold a list of records. It still
@@ -88,5 +93,6 @@ pub trait Keep {
         ensures listed { clean self.new → ∥ listed self.new ∥₁ }
         ensures clean { clean self.new → clean self.old }
         ensures undamaged { ¬ (IsErrOf result KeepFault.Damaged) }
+        ensures unloaded { loads self.new ≡ loads self.old }
         ensures device { IsCounted (result ≡ Err KeepFault.Device) (failed self.old) (failed self.new) };
 }

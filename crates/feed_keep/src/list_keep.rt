@@ -30,6 +30,7 @@ use std::cmp::Ordering;
 pub struct ListKeep {
     alloc: Global,
     records: Vec<Record>,
+    loads: u64,
     ghost order: { AreNamesInOrder (names (shown records.items)) },
 }
 
@@ -44,6 +45,7 @@ impl ListKeep {
         ListKeep {
             alloc,
             records: Vec::new(alloc),
+            loads: 0,
         }
     }
 
@@ -54,7 +56,11 @@ impl ListKeep {
     {
         let mut records = records;
         sort_by_name(&mut records);
-        ListKeep { alloc, records }
+        ListKeep {
+            alloc,
+            records,
+            loads: 0,
+        }
     }
 }
 
@@ -69,11 +75,14 @@ impl Keep for ListKeep {
 
     ghost failed = { λ _. 0 };
 
+    ghost loads = { λ keeper. keeper.loads };
+
     fn failures(&self) -> u64 {
         0
     }
 
     fn load(&mut self, alloc: Global) -> Result<Vec<Record>, KeepFault> {
+        self.loads = self.loads.saturating_add(1);
         if has_twice(&self.records) {
             return Err(KeepFault::Damaged);
         }

@@ -1,8 +1,8 @@
 //! Fetches releases for a node, one request at a time, between the turns of its loop.
-use crate::recorded_dial::RecordedDial;
+use crate::recorded_reply::RecordedReply;
 use feed_dial::DialFault;
-use feed_fetch::{begin, fetch_next, print_stop};
-use feed_http::{is_host, write_head_request, write_request};
+use feed_fetch::{Fetch, Next, Phase, Printer, Request, RequestFault, print_stop};
+use feed_http::{Got, Method, is_host, read_reply, write_head_request, write_request};
 use feed_keep::Keep;
 use feed_limits::{FILE_LIMIT, PIECE_LIMIT};
 use feed_names::{NameFault, ReleaseName};
@@ -33,15 +33,14 @@ const REPLY_LIMIT: usize = FILE_LIMIT + 16_777_216;
 pub struct Fetcher<'a> {
     rt: &'a HostRuntime,
     source: Option<Source<'a>>,
-    fetch: Option<Fetch>,
+    fetch: Option<RunningFetch>,
 }
 
 // A fetch that is under way.
 #[derive(Drop)]
-struct Fetch {
+struct RunningFetch {
     name: ReleaseName,
-    /// Whether the length of the file is known.
-    is_begun: bool,
+    fetch: Fetch,
     addrs: Vec<SocketAddr>,
     /// The address in use.
     at: usize,
@@ -84,9 +83,13 @@ impl<'a> Fetcher<'a> {
             Ok(addrs) => addrs,
             Err(_) => Vec::new(self.rt.alloc()),
         };
-        let fetch = Fetch {
+        let piece = match self.source {
+            Some(source) => source.piece.max(1).min(PIECE_LIMIT as u64),
+            None => 1,
+        };
+        let fetch = RunningFetch {
             name,
-            is_begun: false,
+            fetch: Fetch::new(piece),
             addrs,
             at: 0,
         };
@@ -105,7 +108,12 @@ impl<'a> Fetcher<'a> {
     }
 
     // Sends the next request of a fetch. If there is none, the fetch is over.
-    fn send_next<K: Keep + Drop>(&mut self, server: &mut Server, feed: &Feed<K>, fetch: Fetch) {
+    fn send_next<K: Keep + Drop>(
+        &mut self,
+        server: &mut Server,
+        feed: &Feed<K>,
+        fetch: RunningFetch,
+    ) {
         match self.try_send_next(server, feed, &fetch) {
             Ok(true) => self.fetch = Some(fetch),
             Ok(false) => server.finish_streams(),
@@ -120,7 +128,7 @@ impl<'a> Fetcher<'a> {
         &self,
         server: &mut Server,
         feed: &Feed<K>,
-        fetch: &Fetch,
+        fetch: &RunningFetch,
     ) -> io::Result<bool> {
         let Some(source) = self.source else {
             return Ok(false);
@@ -166,14 +174,13 @@ impl<'a> Fetcher<'a> {
         &mut self,
         server: &mut Server,
         feed: &mut Feed<K>,
-        mut fetch: Fetch,
+        mut fetch: RunningFetch,
         outgoing: &OutgoingRequest,
     ) {
-        let mut lines = Vec::new(self.rt.alloc());
-        let continues = self.apply_reply(feed, &fetch, outgoing, &mut lines);
-        server.send_to_streams(&lines);
+        let mut lines = Printer::new(Vec::new(self.rt.alloc()));
+        let continues = self.apply_reply(feed, &mut fetch, outgoing, &mut lines);
+        server.send_to_streams(&lines.into_writer());
         if continues {
-            fetch.is_begun = true;
             self.send_next(server, feed, fetch);
         } else {
             server.finish_streams();
@@ -184,34 +191,29 @@ impl<'a> Fetcher<'a> {
     fn apply_reply<K: Keep + Drop>(
         &self,
         feed: &mut Feed<K>,
-        fetch: &Fetch,
+        fetch: &mut RunningFetch,
         outgoing: &OutgoingRequest,
-        lines: &mut Vec<u8>,
+        lines: &mut Printer<Vec<u8>>,
     ) -> bool {
-        let Some(source) = self.source else {
-            return false;
-        };
-        let host = source.addr.as_bytes();
-        if !is_host(host) {
-            return false;
-        }
-        let alloc = self.rt.alloc();
-        let mut dial = RecordedDial::new(outgoing);
-        let outcome = if fetch.is_begun {
-            let piece = source.piece.max(1).min(PIECE_LIMIT as u64);
-            fetch_next(alloc, &mut dial, feed, host, &fetch.name, piece, lines)
-        } else {
-            match begin(alloc, &mut dial, feed, host, &fetch.name, lines) {
-                Ok(()) => Ok(true),
-                Err(stop) => Err(stop),
-            }
-        };
-        match outcome {
-            Ok(continues) => continues,
+        let reply = self.parse_reply(fetch.fetch.phase, outgoing);
+        match fetch.fetch.take(feed, &fetch.name, &reply, lines) {
+            Ok(()) => true,
             Err(stop) => {
                 let _ = print_stop(stop, lines);
                 false
             }
+        }
+    }
+
+    // Parses the reply to the last request.
+    fn parse_reply(&self, phase: Phase, outgoing: &OutgoingRequest) -> Result<Got, RequestFault> {
+        let method = match phase {
+            Phase::New => Method::Head,
+            Phase::Offered | Phase::Stopped => Method::Get,
+        };
+        match read_reply(self.rt.alloc(), &mut RecordedReply::new(outgoing), method) {
+            Ok(got) => Ok(got),
+            Err(fault) => Err(RequestFault::Http(fault)),
         }
     }
 }
@@ -220,7 +222,7 @@ impl<'a> Fetcher<'a> {
 fn next_request<K: Keep + Drop>(
     rt: &HostRuntime,
     feed: &Feed<K>,
-    fetch: &Fetch,
+    running: &RunningFetch,
     source: Source<'_>,
 ) -> Result<Option<Vec<u8>>, AllocError> {
     let host = source.addr.as_bytes();
@@ -228,14 +230,12 @@ fn next_request<K: Keep + Drop>(
         return Ok(None);
     }
     let mut text = Vec::new(rt.alloc());
-    let written = if fetch.is_begun {
-        let piece = source.piece.max(1).min(PIECE_LIMIT as u64);
-        match feed.next_range(&fetch.name, piece) {
-            Some((first, last)) => write_request(&mut text, host, &fetch.name, first, last),
-            None => return Ok(None),
+    let written = match running.fetch.next(feed, &running.name) {
+        Next::Ask(Request::Length) => write_head_request(&mut text, host, &running.name),
+        Next::Ask(Request::Range { first, last }) => {
+            write_request(&mut text, host, &running.name, first, last)
         }
-    } else {
-        write_head_request(&mut text, host, &fetch.name)
+        Next::Done => return Ok(None),
     };
     match written {
         Ok(()) => Ok(Some(text)),

@@ -1,16 +1,18 @@
 //! The replies of a node to its requests.
+ghost use Rattle.std.specs.Prelude.{IfOk};
+ghost use Rattle.feed_releases.specs.Actives.{actives_of};
+ghost use Rattle.feed_releases.specs.Feeds.{releases_of};
+ghost use Rattle.feed_resolver_request.specs.FetchRequests.{IsWhetherToBegin};
+ghost use Rattle.feed_resolver.specs.NodeReplies.{IsNodeReply, IsNodeReplyText};
+ghost use Rattle.feed_node_service.specs.Responders.{policy_of, response_in};
+
 use crate::node_state::NodeState;
 use feed_keep::Keep;
 use feed_node_connection::{Reply, ReplySummary, Respond, RespondFault};
 use feed_releases::Feed;
 use feed_resolver::respond_as_node;
-use feed_resolver_request::{FetchPolicy, fetch_request};
+use feed_resolver_request::{FetchPolicy, fetch_to_begin};
 use std::alloc::Global;
-
-// Returns whether bytes look like the head of a POST.
-fn is_post(bytes: &[u8]) -> bool {
-    bytes.trim_ascii_start().starts_with(b"POST ")
-}
 
 /// A responder that replies from a feed.
 #[derive(Drop)]
@@ -22,33 +24,27 @@ pub struct FeedResponder<'a, K: Keep + Drop> {
     pub state: &'a NodeState,
 }
 
-impl<'a, K: Keep + Drop> Respond for FeedResponder<'a, K> {
-    ghost use Rattle.std.specs.Prelude.{option_copied};
-    ghost use Rattle.feed_releases.specs.Actives.{actives_of};
-    ghost use Rattle.feed_releases.specs.Feeds.{releases_of};
-    ghost use Rattle.feed_resolver_request.specs.FetchRequests.{FetchPolicyValue};
-    ghost use Rattle.feed_resolver.specs.NodeReplies.{IsNodeReplyText};
-
-    ghost replies = { λ responder bytes reply. IsNodeReplyText
-        (record { token = option_copied responder.token; is_busy = responder.is_busy }) bytes
-        (actives_of (releases_of responder.feed.now)) reply };
-
-    fn respond(&self, alloc: Global, bytes: &[u8]) -> Result<Reply, RespondFault> {
+impl<'a, K: Keep + Drop> FeedResponder<'a, K> {
+    // Returns the reply. A reply is streamed exactly if the request makes the node begin to fetch.
+    fn reply(&self, alloc: Global, bytes: &[u8]) -> Result<Reply, RespondFault>
+        ensures text { IfOk result (λ reply. IsNodeReplyText (policy_of self.now) bytes.now
+            (actives_of (releases_of self.now.feed.now)) reply.bytes.items) }
+        ensures value { IfOk result (λ reply. IsNodeReply (policy_of self.now) bytes.now
+            (actives_of (releases_of self.now.feed.now)) (response_in reply)) }
+        ensures streamed { IfOk result (λ reply. IsWhetherToBegin (policy_of self.now) bytes.now
+            reply.summary.is_streamed) }
+    {
         let policy = FetchPolicy {
             token: self.token,
             is_busy: self.is_busy,
         };
-        let mut is_streamed = false;
-        if !self.is_busy
-            && let Some(token) = self.token
-            && is_post(bytes)
-            && let Some(name) = fetch_request(alloc, bytes, token)
-        {
+        let asked = fetch_to_begin(alloc, bytes, &policy);
+        let is_streamed = asked.is_some();
+        if let Some(name) = asked {
             // The client of the second of two fetch requests in the same poll has to try again.
             if !self.state.request_fetch(name) {
                 return Err(RespondFault::Busy);
             }
-            is_streamed = true;
         }
         let response = respond_as_node(alloc, bytes, &policy, self.feed)?;
         if !self.state.reserve_bytes(response.bytes().len()) {
@@ -64,5 +60,19 @@ impl<'a, K: Keep + Drop> Respond for FeedResponder<'a, K> {
             bytes: response.into_bytes(),
             summary,
         })
+    }
+}
+
+impl<'a, K: Keep + Drop> Respond for FeedResponder<'a, K> {
+    ghost use Rattle.feed_releases.specs.Actives.{actives_of};
+    ghost use Rattle.feed_releases.specs.Feeds.{releases_of};
+    ghost use Rattle.feed_resolver.specs.NodeReplies.{IsNodeReplyText};
+    ghost use Rattle.feed_node_service.specs.Responders.{policy_of};
+
+    ghost replies = { λ responder bytes reply. IsNodeReplyText (policy_of responder) bytes
+        (actives_of (releases_of responder.feed.now)) reply };
+
+    fn respond(&self, alloc: Global, bytes: &[u8]) -> Result<Reply, RespondFault> {
+        self.reply(alloc, bytes)
     }
 }

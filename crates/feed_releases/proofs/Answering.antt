@@ -1,5 +1,6 @@
 -- Answers of a feed that change nothing, and the facts about a piece with new bytes.
-use Rattle.std.proofs.Common.{◌≡◌, ◌≢◌, ◌==◌, ◌⊎◌, ◌≤◌, ℕ, Some, Result, Ok, Err}
+use Rattle.std.proofs.Common.{◌≡◌, ◌≢◌, ◌==◌, ◌⊎◌, ◌≤◌, ◌<◌, ◌+◌, ℕ, get_or, Some, Result, Ok, Err}
+use Rattle.feed_names.specs.ReleaseName.{Name}
 use Rattle.std.proofs.Common.{OnErr, IfSome, IsSomeAnd, inl, inr, refl, sym, ap, subst, arith, false, unwrap_or, List, Option, None, length}
 use Rattle.std.proofs.lemmas.Bool.{eqb-false}
 use Rattle.feed_model.specs.declared.reply.Refusal.{Refusal}
@@ -8,7 +9,7 @@ use Rattle.feed_model.specs.declared.reply.Reply.{Reply}
 use Rattle.feed_model.specs.Reply.{max_held, max_piece}
 use Rattle.feed_model.specs.History.{Event, Answer}
 use Rattle.feed_model.specs.Content.{Record}
-use Rattle.feed_model.specs.Parts.{IsSmall}
+use Rattle.feed_model.specs.Parts.{IsSmall, Reaches}
 use Rattle.feed_model.specs.Handles.{Handles}
 use Rattle.feed_keep.specs.Cause.{IsCounted}
 use Rattle.feed_keep.specs.declared.keep.Keep.{Ghosts}
@@ -16,6 +17,9 @@ use Rattle.feed_releases.specs.declared.feed.Feed.{Feed}
 use Rattle.feed_releases.specs.declared.standing.Standing.{Standing}
 use Rattle.feed_releases.specs.declared.standing.Standing.TheVariants.{Partial, Bad, Good}
 use Rattle.feed_releases.specs.Standing.{reply_of}
+use Rattle.feed_releases.specs.ReleaseValue.{ReleaseValue, IsActiveAfter, IsPlaceOf, content_of}
+use Rattle.feed_releases.proofs.Finding.{none_later}
+use Rattle.feed_releases.proofs.Growth.{found_here}
 use Rattle.feed_releases.specs.Feeds.{CommitsNothing, IsAnsweredBy, keeper_of, releases_of, recorded}
 
 -- what holds anyway holds after an error
@@ -33,6 +37,7 @@ idle {K} {k} old new event answer keeper same other full right = record {
   full = full;
   clean = λ clean. subst k.clean keeper clean;
   device = record { rises = subst (λ (x : K). k.failed (keeper_of old) ≤ k.failed x) (sym keeper) (omega arith); failed = λ e. absurd (other e); stays = λ _. ap k.failed keeper };
+  unloaded = ap k.loads keeper;
 }
 
 -- running out of memory and a device failure are not `Full`
@@ -43,17 +48,18 @@ not_full r (inr is) e = cc
 -- a refused commit, because memory ran out or the device failed
 pub refused_with : {K : Type 0} {k : Ghosts K} (old new : Feed K k) (event : Event) (refusal : Refusal) → releases_of new ≡ releases_of old
     → (k.clean (keeper_of new) → k.clean (keeper_of old))
-    → IsCounted (let a : Answer = Err refusal in a ≡ Err Device) (k.failed (keeper_of old)) (k.failed (keeper_of new)) → (refusal ≡ Memory) ⊎ (refusal ≡ Device)
+    → IsCounted (let a : Answer = Err refusal in a ≡ Err Device) (k.failed (keeper_of old)) (k.failed (keeper_of new)) → k.loads (keeper_of new) ≡ k.loads (keeper_of old)
+    → (refusal ≡ Memory) ⊎ (refusal ≡ Device)
     → Handles (recorded old) event (Err refusal) (recorded old) → IsAnsweredBy old new event (Err refusal)
-refused_with old new event refusal same clean counted fault right =
-    record { right = rw same right; refused = same; idle = λ _. same; full = λ e. absurd (not_full refusal fault e); clean = clean; device = counted }
+refused_with old new event refusal same clean counted unloaded fault right =
+    record { right = rw same right; refused = same; idle = λ _. same; full = λ e. absurd (not_full refusal fault e); clean = clean; device = counted; unloaded = unloaded }
 
 -- an answer that commits
 pub taken_in : {K : Type 0} {k : Ghosts K} (old new : Feed K k) (event : Event) (reply : Reply) → (k.clean (keeper_of new) → k.clean (keeper_of old))
-    → IsCounted (let a : Answer = Ok reply in a ≡ Err Device) (k.failed (keeper_of old)) (k.failed (keeper_of new)) → ¬ (CommitsNothing (Ok reply))
+    → IsCounted (let a : Answer = Ok reply in a ≡ Err Device) (k.failed (keeper_of old)) (k.failed (keeper_of new)) → k.loads (keeper_of new) ≡ k.loads (keeper_of old) → ¬ (CommitsNothing (Ok reply))
     → Handles (recorded old) event (Ok reply) (recorded new) → IsAnsweredBy old new event (Ok reply)
-taken_in old new event reply clean counted commits right =
-    record { right = right; refused = tt; idle = λ nothing. absurd (commits nothing); full = λ e. absurd (let e = e in cc); clean = clean; device = counted }
+taken_in old new event reply clean counted unloaded commits right =
+    record { right = right; refused = tt; idle = λ nothing. absurd (commits nothing); full = λ e. absurd (let e = e in cc); clean = clean; device = counted; unloaded = unloaded }
 
 -- the answer to new bytes is not one that commits nothing
 pub grown_commits : (missing : ℕ) (standing : Standing) → ¬ (CommitsNothing (Ok (reply_of missing standing)))
@@ -93,3 +99,15 @@ other_size (Some t) size other = other
 -- a record that is found is the one that was found before
 pub one_record : (o : Option Record) (r x : Record) (P : Record → Type 0) → o ≡ Some r → o ≡ Some x → P r → P x
 one_record o r x P first second p = let same : r ≡ x = cc in subst P same p
+
+-- the piece reaches the release at this place
+pub reaches : (rs : List ReleaseValue) (n : Name) (at : ℕ) (r : ReleaseValue) (first : ℕ) (total : Option ℕ) (bytes : List ℕ) (size : ℕ)
+    → ((k : ℕ) (d : ReleaseValue) → k < length rs → IsActiveAfter n (get_or rs k d) → ⊥) → IsPlaceOf rs n at → r ≡ get_or rs at r → IsSmall bytes → unwrap_or total size ≡ size
+    → size ≡ r.kept.size → first + length bytes ≤ size → Reaches (content_of rs) n first total bytes r.kept
+reaches rs n at r first total bytes size free place here few given same inside = record {
+  small = few;
+  free = none_later rs n free;
+  found = found_here rs n at r place here;
+  sized = subst (λ (s : ℕ). IfSome total (λ t. t ≡ s)) same (sized total size given);
+  within = omega (arith, inside, same);
+}

@@ -1,10 +1,11 @@
 -- Adding a piece to a release: the commit is allowed, and the answer is right.
-use Rattle.std.proofs.Common.{◌≡◌, ◌≢◌, ℕ, List, Option, Ok, refl, sym, ◌∙◌}
+use Rattle.std.proofs.Common.{◌≡◌, ◌≢◌, ℕ, List, Option, Ok, Some, get_or, set, refl, sym, ◌∙◌, ap, subst}
 use Rattle.feed_names.specs.ReleaseName.{Name}
+use Rattle.feed_model.specs.declared.reply.Reply.{Reply}
 use Rattle.feed_model.specs.declared.reply.Reply.TheVariants.{Activated}
 use Rattle.feed_model.specs.History.{Piece}
 use Rattle.feed_model.specs.Reply.{missing_below}
-use Rattle.feed_model.specs.Content.{Part, Record, Content, byte_in}
+use Rattle.feed_model.specs.Content.{Part, Record, Content, byte_in, record_of}
 use Rattle.feed_model.specs.Change.{after, changed, merged, without_earlier, IsAllowed, NoneIsLater, TakesParts}
 use Rattle.feed_model.specs.Parts.{Adds, Reaches}
 use Rattle.feed_model.specs.Handles.{Handles}
@@ -14,9 +15,10 @@ use Rattle.feed_releases.specs.declared.overlap.Overlap.TheVariants.{New}
 use Rattle.feed_releases.specs.declared.release.growth.Growth.{Growth}
 use Rattle.feed_releases.specs.declared.standing.Standing.{Standing}
 use Rattle.feed_releases.specs.declared.standing.Standing.TheVariants.{Partial, Bad, Good}
-use Rattle.feed_releases.specs.ReleaseValue.{IsOverlapOf}
+use Rattle.feed_releases.specs.ReleaseValue.{ReleaseValue, IsOverlapOf, IsPlaceOf, content_of}
 use Rattle.feed_releases.specs.Standing.{IsStandingOf, change_to, reply_of, record_after}
 use Rattle.feed_releases.specs.Growth.{IsGrowth, change_of, parts_of}
+use Rattle.feed_releases.proofs.Growth.{found_here, name_at, one_at, record_after_at}
 
 right_so : (c : Content) (n : Name) (first : ℕ) (total : Option ℕ) (bytes : List ℕ) (r : Record) (ps : List Part) (missing : ℕ) (s : Standing) → Reaches c n first total bytes r
     → IsOverlapOf r first bytes New
@@ -73,3 +75,29 @@ after_kept n r growth c name not = rw name (by growth.standing not)
     by Partial not = refl
     by (Bad why) not = refl
     by (Good holdings) not = absurd (not refl)
+
+-- the releases in memory after the change, with an activated release and without one
+pub taken_activated : (rs now : List ReleaseValue) (n : Name) (at : ℕ) (r x : ReleaseValue) (growth : Growth) (reply : Reply) → IsPlaceOf rs n at → r ≡ get_or rs at r
+    → x.kept ≡ record_after (parts_of growth) growth.standing r.kept → reply ≡ reply_of growth.missing growth.standing → reply ≡ Activated
+    → content_of now ≡ without_earlier n (content_of (set rs at x)) → content_of now ≡ after (change_of r.kept growth) (content_of rs)
+taken_activated rs now n at r x growth reply place here taken is activated dropped =
+    dropped ∙ ap (without_earlier n) (record_after_at rs n at r x (parts_of growth) growth.standing place here taken)
+    ∙ sym (after_activated n r.kept growth (content_of rs) (name_at rs n at r place here) (sym is ∙ activated))
+
+pub taken_kept : (rs : List ReleaseValue) (n : Name) (at : ℕ) (r x : ReleaseValue) (growth : Growth) (reply : Reply) → IsPlaceOf rs n at → r ≡ get_or rs at r
+    → x.kept ≡ record_after (parts_of growth) growth.standing r.kept → reply ≡ reply_of growth.missing growth.standing → reply ≢ Activated
+    → content_of (set rs at x) ≡ after (change_of r.kept growth) (content_of rs)
+taken_kept rs n at r x growth reply place here taken is other =
+    record_after_at rs n at r x (parts_of growth) growth.standing place here taken
+    ∙ sym (after_kept n r.kept growth (content_of rs) (name_at rs n at r place here) (λ e. other (is ∙ e)))
+
+-- the answer to a piece whose new bytes are stored: they were prepared for the release that is read again here
+pub grown_right : (rs : List ReleaseValue) (now : Content) (n : Name) (at : ℕ) (first : ℕ) (total : Option ℕ) (bytes : List ℕ) (x r : ReleaseValue) (growth : Growth) → IsPlaceOf rs n at
+    → x ≡ get_or rs at x → r ≡ get_or rs at r → ((k : Record) → record_of (content_of rs) n ≡ Some k → Reaches (content_of rs) n first total bytes k)
+    → ((k : Record) → record_of (content_of rs) n ≡ Some k → IsOverlapOf k first bytes New) → IsGrowth x.kept first bytes growth
+    → now ≡ after (change_of r.kept growth) (content_of rs) → Handles (content_of rs) (Piece n first total bytes) (Ok (reply_of growth.missing growth.standing)) now
+grown_right rs now n at first total bytes x r growth place there here reaches new is content =
+    let found = found_here rs n at r place here in
+    let same = one_at rs at x r place.within there here in
+    rw content (growth_right (content_of rs) n first total bytes r.kept growth (name_at rs n at r place here) (reaches r.kept found) (new r.kept found)
+    (subst (λ (y : ReleaseValue). IsGrowth y.kept first bytes growth) same is))

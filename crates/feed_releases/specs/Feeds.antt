@@ -34,7 +34,8 @@ CommitsNothing (Ok reply) = ⊥
 
 -- the answer is right after every history that the feed may have, and the feed then has that history with the event and
 -- the answer added; after an answer that commits nothing its releases are as before; it is full only with the most
--- releases; if its keeper is clean, it was clean before; and it reports a device failure exactly if the device failed
+-- releases; if its keeper is clean, it was clean before; it reports a device failure exactly if the device failed; and
+-- the keeper is not loaded
 pub record IsAnsweredBy {K : Type 0} {k : Ghosts K} (old new : Feed K k) (event : Event) (answer : Answer) : Type 0 where
   pub right : Handles (recorded old) event answer (recorded new)
   pub refused : OnErr answer (releases_of new ≡ releases_of old)
@@ -42,3 +43,4 @@ pub record IsAnsweredBy {K : Type 0} {k : Ghosts K} (old new : Feed K k) (event 
   pub full : answer ≡ Err Full → length (releases_of old) ≡ max_held
   pub clean : k.clean (keeper_of new) → k.clean (keeper_of old)
   pub device : IsCounted (answer ≡ Err Device) (k.failed (keeper_of old)) (k.failed (keeper_of new))
+  pub unloaded : k.loads (keeper_of new) ≡ k.loads (keeper_of old)

@@ -73,6 +73,7 @@ impl<K: Keep + Drop> Feed<K> {
     ghost use Rattle.feed_releases.specs.Reason.{HasReason};
     ghost use Rattle.feed_releases.specs.Events.{event_of};
     ghost use Rattle.feed_keep.specs.Cause.{HasFailedSince, IsCounted};
+    ghost use Rattle.feed_keep.specs.Loads.{one_more};
     ghost use Rattle.feed_releases.specs.Feeds.{CommitsNothing, keeper_of, recorded, releases_of};
 
     /// Opens a feed on the records of a keeper. Validates and reads the file of each complete release.
@@ -87,6 +88,7 @@ impl<K: Keep + Drop> Feed<K> {
         ensures sound { IfOk result (λ feed. IsSound (recorded feed)) }
         ensures clean { IfOk result (λ feed. K.clean (keeper_of feed) → K.clean keeper) }
         ensures counted { IfOk result (λ feed. K.failed (keeper_of feed) ≡ K.failed keeper) }
+        ensures loaded { IfOk result (λ feed. K.loads (keeper_of feed) ≡ one_more (K.loads keeper)) }
         ensures damaged { IfErr result (λ fault. fault.cause ≡ KeepFault.Damaged → K.clean fault.keeper
             → ∥ K.listed keeper ∥₁ → ¬ (IsSound (K.content keeper))) }
         ensures legal { IfErr result (λ fault. K.clean fault.keeper → ∥ K.listed keeper ∥₁ → (h : History)
@@ -97,6 +99,7 @@ impl<K: Keep + Drop> Feed<K> {
         ensures kept_clean { IfErr result (λ fault. K.clean fault.keeper → K.clean keeper) }
         ensures device { IfErr result (λ fault. IsCounted (fault.cause ≡ KeepFault.Device) (K.failed keeper)
             (K.failed fault.keeper)) }
+        ensures kept_loaded { IfErr result (λ fault. K.loads fault.keeper ≡ one_more (K.loads keeper)) }
     {
         let records = match keeper.load(alloc) {
             Ok(records) => records,
@@ -123,6 +126,7 @@ impl<K: Keep + Drop> Feed<K> {
         ensures clean { K.clean (keeper_of self.new) → K.clean (keeper_of self.old) }
         ensures device { IsCounted (result ≡ Err Refusal.Device) (K.failed (keeper_of self.old))
             (K.failed (keeper_of self.new)) }
+        ensures unloaded { K.loads (keeper_of self.new) ≡ K.loads (keeper_of self.old) }
     {
         match event {
             Event::Offered { name, size } => self.offer(name, *size),
@@ -146,6 +150,7 @@ impl<K: Keep + Drop> Feed<K> {
         ensures counted { K.failed (keeper_of self.old) ≤ K.failed (keeper_of self.new) }
         ensures device { IfOk result (λ answers. Contains answers.items (Err Refusal.Device)
             → HasFailedSince (K.failed (keeper_of self.old)) (K.failed (keeper_of self.new))) }
+        ensures unloaded { K.loads (keeper_of self.new) ≡ K.loads (keeper_of self.old) }
         ensures err { OnErr result (self.new ≡ self.old) }
     {
         let mut answers = Vec::with_capacity(self.alloc, events.len())?;
@@ -248,6 +253,7 @@ impl<K: Keep + Drop> Feed<K> {
         ensures listed { K.clean result → ∥ K.listed result ∥₁ }
         ensures clean { K.clean result → K.clean (keeper_of self) }
         ensures counted { K.failed (keeper_of self) ≤ K.failed result }
+        ensures unloaded { K.loads result ≡ K.loads (keeper_of self) }
     {
         match point {
             Point::Before => self.restart(),

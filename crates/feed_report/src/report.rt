@@ -1,6 +1,7 @@
 //! The report on a checked list in each of its forms.
 use crate::json::Commas;
 use crate::records::Records;
+use feed_counts::{Counts, count_of};
 use feed_kbart::{Aside, BadFile, FileCount, Label, Reason};
 use feed_names::ReleaseName;
 use std::alloc::{AllocError, Global};
@@ -108,7 +109,7 @@ impl Report<'_> {
 
     fn print_json<O: Write>(&self, out: &mut O, count: &FileCount) -> io::Result<()> {
         self.print_json_name(out)?;
-        let rows = count.rows();
+        let rows = Counts::of(count).rows;
         write!(out, "\"rows\":{rows},\"aside\":[")?;
         self.print_skipped(out, count.aside())?;
         out.write_all(b"]}\n")
@@ -250,9 +251,8 @@ fn print_lines<O: Write>(out: &mut O, count: &FileCount) -> io::Result<()> {
 }
 
 fn print_rows<O: Write>(out: &mut O, count: &FileCount) -> io::Result<()> {
-    let rows = count.rows();
-    let aside = count.aside().len();
-    write!(out, "rows {rows} aside {aside}")
+    let counts = Counts::of(count);
+    write!(out, "{counts}")
 }
 
 // Prints the number of records that are skipped for each reason that any is skipped for.
@@ -264,13 +264,6 @@ fn print_reasons<O: Write>(out: &mut O, skipped: &[Aside]) -> io::Result<()> {
         }
     }
     Ok(())
-}
-
-fn count_of(skipped: &[Aside], reason: Reason) -> usize {
-    skipped
-        .iter()
-        .filter(|record| record.reason == reason)
-        .count()
 }
 
 fn print_labels<O: Write>(out: &mut O, labels: &[Label]) -> io::Result<()> {

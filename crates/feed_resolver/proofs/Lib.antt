@@ -1,4 +1,6 @@
-pub mod SameBytes
-pub mod Written
+pub mod Locations
+pub mod Requests
 pub mod Resources
-pub mod NoHead
+pub mod SameBytes
+pub mod StatusTexts
+pub mod Written

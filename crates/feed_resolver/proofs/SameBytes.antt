@@ -16,7 +16,7 @@ use Rattle.feed_resolver.specs.Replies.{IsResponse, IsResponseAt, response_to}
 use Rattle.feed_resolver.specs.Laws.{KeepsPublished}
 
 -- two replies to the same bytes
-one_reply : (bytes : List ℕ) (actives : List ActiveValue) (response reply : ResponseValue) → IsResponse bytes actives response → IsResponse bytes actives reply → response ≡ reply
+pub one_reply : (bytes : List ℕ) (actives : List ActiveValue) (response reply : ResponseValue) → IsResponse bytes actives response → IsResponse bytes actives reply → response ≡ reply
 one_reply bytes actives response reply (inl (head, begins, is)) (inl (other, also, same)) =
     let heads : head ≡ other = (request_unique bytes head other begins.rest also.rest begins.reads also.reads).0 in
     is ∙ ap (λ (h : RequestHead). response_to h actives) heads ∙ sym same

@@ -1,10 +1,16 @@
--- The law of replies.
-use Rattle.std.specs.Prelude.{◌≡◌, ℕ, List}
+-- The laws of replies.
+use Rattle.std.specs.Prelude.{◌≡◌, ℕ, List, Some, map}
+use Rattle.json.specs.Json.{document, array}
+use Rattle.json.specs.Value.{items_of}
 use Rattle.feed_names.specs.ReleaseName.{Name}
 use Rattle.feed_model.specs.History.{History, IsFile}
-use Rattle.feed_releases.specs.Actives.{ReportAlike}
+use Rattle.feed_releases.specs.Actives.{ActiveValue, ReportAlike}
+use Rattle.feed_resolver_request.specs.declared.representation.Representation.TheVariants.{Json}
 use Rattle.feed_resolver_reply.specs.Replies.{ResponseValue}
+use Rattle.feed_resolver.specs.Status.{status_body, active_value}
 use Rattle.feed_resolver.specs.Replies.{IsResponseAt}
+use Rattle.feed_resolver.specs.NodeReplies.{IsNodeReplyAt, AsksForNoFetch}
+use Rattle.feed_resolver_request.specs.FetchRequests.{FetchPolicyValue}
 
 -- the complete files that a node has stored are the published ones
 abbrev pub KeepsPublished : (Name → List ℕ) → History → Type 0
@@ -16,3 +22,15 @@ SameReleasesSameBytes =
     (file : Name → List ℕ) (h k : History) (bytes : List ℕ) (response reply : ResponseValue)
     → KeepsPublished file h → KeepsPublished file k → ReportAlike h k
     → IsResponseAt h bytes response → IsResponseAt k bytes reply → response ≡ reply
+
+-- two nodes that report the same releases, and have stored the published files, reply with the same bytes to each
+-- request that does not ask them to fetch, whatever their tokens are and whether they are fetching
+abbrev pub SameReleasesSameNodeBytes : Type 0
+SameReleasesSameNodeBytes =
+    (file : Name → List ℕ) (h k : History) (policy other : FetchPolicyValue) (bytes : List ℕ) (response reply : ResponseValue)
+    → KeepsPublished file h → KeepsPublished file k → ReportAlike h k → AsksForNoFetch bytes
+    → IsNodeReplyAt policy h bytes response → IsNodeReplyAt other k bytes reply → response ≡ reply
+
+-- the active releases in JSON are, by its grammar (RFC 8259), an array with one object for each, in their order
+abbrev pub StatusIsJson : Type 0
+StatusIsJson = (actives : List ActiveValue) → document (status_body Json actives) ≡ Some (array (items_of (map active_value actives)))

@@ -1,5 +1,6 @@
 pub mod Answers
 pub mod Status
 pub mod Replies
-pub mod Laws
+pub mod Messages
 pub mod NodeReplies
+pub mod Laws

@@ -1,15 +1,17 @@
 -- The reply of a node to a request.
-use Rattle.std.specs.Prelude.{◌≡◌, ◌⊎◌, ℕ, if◌then◌else◌, List}
+use Rattle.std.specs.Prelude.{◌≡◌, ◌⊎◌, ℕ, true, if◌then◌else◌, List, None}
 use Rattle.std.specs.Option.{option_map_or}
 use Rattle.httparse.specs.Grammar.{RequestHead}
-use Rattle.feed_http_heads.specs.Limits.{head_limit, field_limit}
-use Rattle.feed_http_heads.specs.RequestHeads.{BeginsWithHead}
 use Rattle.feed_http_heads.specs.Requests.{lacks_host}
-use Rattle.feed_releases.specs.Actives.{ActiveValue}
+use Rattle.feed_model.specs.History.{History}
+use Rattle.feed_releases.specs.Actives.{ActiveValue, AreReported}
+use Rattle.feed_resolver_request.specs.FoundRequests.{BeginsWith}
 use Rattle.feed_resolver_request.specs.FetchRequests.{FetchPolicyValue, name_to_fetch}
 use Rattle.feed_resolver_reply.specs.Replies.{ResponseValue}
 use Rattle.feed_resolver_reply.specs.FetchReplies.{fetch_reply}
+use Rattle.feed_resolver_reply.specs.Messages.{BeginsStream}
 use Rattle.feed_resolver.specs.Replies.{response_to, IsReplyToNone}
+use Rattle.feed_resolver.specs.Messages.{IsMessageTo}
 
 -- the reply to a request with this head: that to a fetch request, or else that of the resolver
 abbrev pub node_reply : FetchPolicyValue → List ActiveValue → RequestHead → ResponseValue
@@ -20,10 +22,23 @@ node_reply policy actives head =
 -- the reply to the bytes of a request
 abbrev pub IsNodeReply : FetchPolicyValue → List ℕ → List ActiveValue → ResponseValue → Type 0
 IsNodeReply policy bytes actives response =
-    ((head : RequestHead) × BeginsWithHead head_limit field_limit bytes head × (response ≡ node_reply policy actives head))
+    ((head : RequestHead) × BeginsWith bytes head × (response ≡ node_reply policy actives head))
     ⊎ IsReplyToNone bytes response
 
 -- the reply has these bytes
 abbrev pub IsNodeReplyText : FetchPolicyValue → List ℕ → List ActiveValue → List ℕ → Type 0
 IsNodeReplyText policy bytes actives text =
     (response : ResponseValue) × IsNodeReply policy bytes actives response × (text ≡ response.bytes)
+
+-- the reply from exactly the releases that a feed with this history reports, with the holdings of their complete files
+abbrev pub IsNodeReplyAt : FetchPolicyValue → History → List ℕ → ResponseValue → Type 0
+IsNodeReplyAt policy h bytes response =
+    (actives : List ActiveValue) × AreReported h actives × IsNodeReply policy bytes actives response
+
+-- the bytes do not ask the node to fetch: they begin with no head, or the head lacks a host, or is not a POST of `/feed/`
+abbrev pub AsksForNoFetch : List ℕ → Type 0
+AsksForNoFetch bytes = (head : RequestHead) → BeginsWith bytes head → (lacks_host head ≡ true) ⊎ (name_to_fetch head ≡ None)
+
+-- a reply of a node as a client parses it: like that of a resolver, or the beginning of one that reports progress
+abbrev pub IsNodeMessage : List ℕ → ResponseValue → Type 0
+IsNodeMessage bytes response = IsMessageTo bytes response ⊎ BeginsStream response

@@ -2,9 +2,7 @@
 use Rattle.std.specs.Prelude.{◌≡◌, ◌⊎◌, ℕ, ◌||◌, not, Bool, if◌then◌else◌, List, codes, Result, Ok, Err, position, take, drop}
 use Rattle.std.specs.Option.{option_map_or}
 use Rattle.httparse.specs.Grammar.{RequestHead}
-use Rattle.feed_http_heads.specs.Limits.{head_limit, field_limit}
 use Rattle.feed_http_heads.specs.Fields.{values_named, has_any}
-use Rattle.feed_http_heads.specs.RequestHeads.{BeginsWithHead}
 use Rattle.feed_http_heads.specs.Targets.{origin_form}
 use Rattle.feed_http_heads.specs.Requests.{lacks_host, is_get, is_head}
 use Rattle.feed_answer.specs.QueryValue.{QueryValue}
@@ -12,6 +10,7 @@ use Rattle.feed_answer.specs.Queries.{query_of}
 use Rattle.feed_answer.specs.declared.fault.QueryFault.{QueryFault}
 use Rattle.feed_model.specs.History.{History}
 use Rattle.feed_releases.specs.Actives.{ActiveValue, AreReported}
+use Rattle.feed_resolver_request.specs.FoundRequests.{BeginsWith, HasNoHead}
 use Rattle.feed_resolver_request.specs.Representations.{accepted_representation, representation_of}
 use Rattle.feed_resolver_request.specs.Targets.{path_in, query_in, resource_of, package_in, is_unsupported_method}
 use Rattle.feed_resolver_request.specs.declared.representation.Representation.{Representation}
@@ -88,12 +87,11 @@ response_to head actives = response_of (is_head head) (reply_to head actives)
 -- the reply to the head at the front of the bytes, within the limits
 abbrev pub IsReplyToHead : List ℕ → List ActiveValue → ResponseValue → Type 0
 IsReplyToHead bytes actives response =
-    (head : RequestHead) × BeginsWithHead head_limit field_limit bytes head × (response ≡ response_to head actives)
+    (head : RequestHead) × BeginsWith bytes head × (response ≡ response_to head actives)
 
 -- the reply if the bytes have no such head
 abbrev pub IsReplyToNone : List ℕ → ResponseValue → Type 0
-IsReplyToNone bytes response =
-    ((head : RequestHead) → ¬ (BeginsWithHead head_limit field_limit bytes head)) × (response ≡ bad_head_response)
+IsReplyToNone bytes response = HasNoHead bytes × (response ≡ bad_head_response)
 
 -- the reply to the bytes of a request
 abbrev pub IsResponse : List ℕ → List ActiveValue → ResponseValue → Type 0

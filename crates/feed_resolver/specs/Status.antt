@@ -1,6 +1,8 @@
 -- The active releases as text, as JSON and as an HTML page, and the home page.
 use Rattle.std.specs.Prelude.{ℕ, List, [], ◌∷◌, ◌++◌, codes}
 use Rattle.std.specs.List.{flat_map}
+use Rattle.json.specs.Json as json
+use Rattle.json.specs.Json.{object, no_members}
 use Rattle.feed_releases.specs.Actives.{ActiveValue}
 use Rattle.feed_resolver_request.specs.declared.representation.Representation.{Representation}
 use Rattle.feed_resolver_request.specs.declared.representation.Representation.TheVariants.{Text, Json, Html}
@@ -9,7 +11,8 @@ use Rattle.feed_resolver_reply.specs.JsonLists.{json_list}
 use Rattle.feed_resolver_reply.specs.Pieces.{joined}
 use Rattle.feed_resolver_reply.specs.Pages.{page_start, page_end, form_text}
 use Rattle.feed_resolver_hits.specs.Hits.{name_text}
-use Rattle.feed_resolver_hits.specs.HitsJson.{release_members}
+use Rattle.feed_resolver.specs.declared.status.TheConstants.{HOME_END}
+use Rattle.feed_resolver_hits.specs.HitsJson.{release_members, text_member}
 
 -- a package and its release, as an item of a page's list
 unfoldable pub active_item : ActiveValue → List ℕ
@@ -37,4 +40,9 @@ status_body Html actives = page_start (codes "Active releases") ++ (active_items
 -- the page with the form and the packages
 unfoldable pub home_page : List ActiveValue → List ℕ
 home_page actives =
-    page_start (codes "Find holdings") ++ (form_text ++ (active_items actives ++ codes "</main>\n</body>\n</html>\n"))
+    page_start (codes "Find holdings") ++ (form_text ++ (active_items actives ++ HOME_END.now))
+
+-- the object that states an active release
+abbrev pub active_value : ActiveValue → json.Json
+active_value active =
+    object (text_member (codes "package") active.name.stem (text_member (codes "release") (name_text active.name) no_members))

@@ -1,7 +1,28 @@
-//! The law of all replies, stated as the contract of a function with an empty body.
-ghost use Rattle.feed_resolver.specs.Laws.{SameReleasesSameBytes};
+//! Laws of all replies, each stated as the contract of a function with an empty body.
+ghost use Rattle.feed_resolver.specs.Laws.{SameReleasesSameBytes, SameReleasesSameNodeBytes, StatusIsJson};
+ghost use Rattle.feed_resolver.specs.Messages.{GoesToBest, HeadIsHeadOfGet};
 
 /// Two nodes that report the same releases, and have stored their published files, give each request the same bytes.
 pub fn same_releases_same_bytes()
     ensures { SameReleasesSameBytes }
+{}
+
+/// The same of the replies of `respond_as_node`, to each request that does not ask a node to fetch.
+pub fn same_releases_same_node_bytes()
+    ensures { SameReleasesSameNodeBytes }
+{}
+
+/// The reply to a HEAD is the head of the reply to the same GET, and nothing after it.
+pub fn head_is_head_of_get()
+    ensures { HeadIsHeadOfGet }
+{}
+
+/// `/go` redirects to a hit above which no hit ranks that may be linked to.
+pub fn goes_to_best()
+    ensures { GoesToBest }
+{}
+
+/// The active releases in JSON are, by its grammar (RFC 8259), an array with one object for each, in their order.
+pub fn status_is_json()
+    ensures { StatusIsJson }
 {}

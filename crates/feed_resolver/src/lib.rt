@@ -8,6 +8,9 @@ mod node;
 mod responses;
 mod status;
 
-pub use laws::same_releases_same_bytes;
+pub use laws::{
+    goes_to_best, head_is_head_of_get, same_releases_same_bytes, same_releases_same_node_bytes,
+    status_is_json,
+};
 pub use node::respond_as_node;
 pub use responses::{respond, respond_with};

@@ -1,17 +1,21 @@
 //! Computes the reply of a node to a request: to a fetch request by its authorization, to any other as a resolver.
-ghost use Rattle.std.specs.Prelude.{◌≡◌, IfOk};
+ghost use Rattle.std.specs.Prelude.{◌≡◌, ◌⊎◌, IfOk};
 ghost use Rattle.httparse.specs.Grammar.{RequestHead};
-ghost use Rattle.feed_http_heads.specs.Requests.{IsInBuffer, HasHead};
+ghost use Rattle.feed_http_heads.specs.Requests.{IsInBuffer, HasHead, is_head};
+ghost use Rattle.feed_model.specs.History.{History};
+ghost use Rattle.feed_model.specs.Content.{IsContent};
 ghost use Rattle.feed_releases.specs.Actives.{actives_of};
-ghost use Rattle.feed_releases.specs.Feeds.{releases_of};
+ghost use Rattle.feed_releases.specs.Feeds.{recorded, releases_of};
+ghost use Rattle.feed_resolver_reply.specs.Messages.{IsMessageFor, BeginsStream};
 ghost use Rattle.feed_resolver.specs.NodeReplies.{node_reply, IsNodeReply, IsNodeReplyText};
+ghost use Rattle.feed_resolver.specs.NodeReplies.{IsNodeReplyAt, IsNodeMessage};
 
 use crate::responses::response_to;
-use feed_http_heads::{FIELD_LIMIT, HeadFound, Request, find_head};
+use feed_http_heads::{FIELD_LIMIT, Request};
 use feed_keep::Keep;
 use feed_releases::{ActiveRelease, Feed};
 use feed_resolver_reply::{Response, bad_head_response, fetch_reply};
-use feed_resolver_request::{FetchPolicy, name_to_fetch};
+use feed_resolver_request::{FetchPolicy, find_request, name_to_fetch};
 use httparse::spans::EMPTY_HEADER_SPAN;
 use std::alloc::{AllocError, Global};
 
@@ -22,13 +26,17 @@ fn node_reply(
     actives: &[ActiveRelease<'_>],
 ) -> Result<Response, AllocError>
     requires { IsInBuffer request.now }
-    ensures { IfOk result (λ response. (head : RequestHead) → HasHead request.now head
+    ensures value { IfOk result (λ response. (head : RequestHead) → HasHead request.now head
         → response ≡ node_reply policy.now actives.now head) }
+    ensures message { IfOk result (λ response. (head : RequestHead) → HasHead request.now head
+        → IsMessageFor (is_head head) response ⊎ BeginsStream response) }
 {
-    if !request.lacks_host() && name_to_fetch(request).is_some() {
-        fetch_reply(alloc, policy, request)
-    } else {
-        response_to(alloc, request, actives)
+    if request.lacks_host() {
+        return response_to(alloc, request, actives);
+    }
+    match name_to_fetch(request) {
+        Some(_) => fetch_reply(alloc, policy, request),
+        None => response_to(alloc, request, actives),
     }
 }
 
@@ -40,15 +48,12 @@ fn node_reply_with(
 ) -> Result<Response, AllocError>
     ensures value { IfOk result (λ response. IsNodeReply policy.now bytes.now actives.now response) }
     ensures text { IfOk result (λ response. IsNodeReplyText policy.now bytes.now actives.now response.bytes) }
+    ensures message { IfOk result (λ response. IsNodeMessage bytes.now response) }
 {
     let mut headers = [EMPTY_HEADER_SPAN; FIELD_LIMIT];
-    match find_head(bytes, &mut headers) {
-        HeadFound::Whole(spans) => {
-            let request = Request::new(bytes, &headers, spans);
-            node_reply(alloc, policy, &request, actives)
-        }
-        HeadFound::Unfinished => bad_head_response(alloc),
-        HeadFound::Never => bad_head_response(alloc),
+    match find_request(bytes, &mut headers) {
+        Some(request) => node_reply(alloc, policy, &request, actives),
+        None => bad_head_response(alloc),
     }
 }
 
@@ -67,6 +72,12 @@ pub fn respond_as_node<K: Keep + Drop>(
         IsNodeReply policy.now bytes.now (actives_of (releases_of feed.now)) response) }
     ensures text { IfOk result (λ response.
         IsNodeReplyText policy.now bytes.now (actives_of (releases_of feed.now)) response.bytes) }
+
+    // For every history that the feed may have: from the releases that it reports, with the holdings of their complete
+    // files.
+    ensures reported { IfOk result (λ response. (h : History) → IsContent (recorded feed.now) h
+        → IsNodeReplyAt policy.now h bytes.now response) }
+    ensures message { IfOk result (λ response. IsNodeMessage bytes.now response) }
 {
     let actives = feed.actives()?;
     node_reply_with(alloc, bytes, policy, &actives)

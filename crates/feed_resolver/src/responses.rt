@@ -1,7 +1,7 @@
 //! Computes the reply to the head of a request.
 ghost use Rattle.std.specs.Prelude.{◌≡◌, IfOk, position};
 ghost use Rattle.httparse.specs.Grammar.{RequestHead};
-ghost use Rattle.feed_http_heads.specs.Requests.{IsInBuffer, HasHead};
+ghost use Rattle.feed_http_heads.specs.Requests.{IsInBuffer, HasHead, is_head};
 ghost use Rattle.feed_releases.specs.Actives.{actives_of};
 ghost use Rattle.feed_model.specs.History.{History};
 ghost use Rattle.feed_model.specs.Content.{IsContent};
@@ -9,24 +9,26 @@ ghost use Rattle.feed_releases.specs.Feeds.{recorded, releases_of};
 ghost use Rattle.feed_answer.specs.Queries.{query_of};
 ghost use Rattle.feed_resolver_request.specs.Targets.{resource_of, path_in};
 ghost use Rattle.feed_resolver_reply.specs.Replies.{reply_with};
+ghost use Rattle.feed_resolver_reply.specs.Messages.{IsMessageFor};
 ghost use Rattle.feed_resolver_reply.specs.declared.status.Status.TheVariants as status;
 ghost use Rattle.feed_resolver.specs.Answers.{is_of};
 ghost use Rattle.feed_resolver.specs.Replies.{IsResponse, IsResponseAt, hits_reply, query_reply, resolve_reply};
 ghost use Rattle.feed_resolver.specs.Replies.{package_reply, redirect_reply, resource_reply, target_reply};
 ghost use Rattle.feed_resolver.specs.Replies.{reply_to, response_to};
+ghost use Rattle.feed_resolver.specs.Messages.{IsMessageTo};
 ghost use Rattle.feed_resolver.specs.Status.{home_page, status_body};
 
 use crate::answers::{hits_among, put_answer};
 use crate::status::{put_home_page, put_status};
 use feed_answer::{Query, QueryFault};
-use feed_http_heads::{FIELD_LIMIT, HeadFound, Request, find_head, origin_form};
+use feed_http_heads::{FIELD_LIMIT, Request, origin_form};
 use feed_keep::Keep;
 use feed_releases::{ActiveRelease, Feed};
 use feed_resolver_hits::{best_link, query_refusal};
 use feed_resolver_reply::{Reply, Response, Status, bad_head_response, refusal};
 use feed_resolver_request::{
-    Representation, Resource, accepted_representation, is_unsupported_method, package_in, path_in,
-    query_in, representation_of, resource_of,
+    Representation, Resource, accepted_representation, find_request, is_unsupported_method,
+    package_in, path_in, query_in, representation_of, resource_of,
 };
 use httparse::spans::EMPTY_HEADER_SPAN;
 use std::alloc::{AllocError, Global};
@@ -205,8 +207,10 @@ pub(crate) fn response_to(
     actives: &[ActiveRelease<'_>],
 ) -> Result<Response, AllocError>
     requires { IsInBuffer request.now }
-    ensures { IfOk result (λ response. (head : RequestHead) → HasHead request.now head
+    ensures value { IfOk result (λ response. (head : RequestHead) → HasHead request.now head
         → response ≡ response_to head actives.now) }
+    ensures message { IfOk result (λ response. (head : RequestHead) → HasHead request.now head
+        → IsMessageFor (is_head head) response) }
 {
     let reply = reply_to(alloc, request, actives)?;
     reply.response(alloc, request.is_head())
@@ -218,16 +222,13 @@ pub fn respond_with(
     bytes: &[u8],
     actives: &[ActiveRelease<'_>],
 ) -> Result<Response, AllocError>
-    ensures { IfOk result (λ response. IsResponse bytes.now actives.now response) }
+    ensures value { IfOk result (λ response. IsResponse bytes.now actives.now response) }
+    ensures message { IfOk result (λ response. IsMessageTo bytes.now response) }
 {
     let mut headers = [EMPTY_HEADER_SPAN; FIELD_LIMIT];
-    match find_head(bytes, &mut headers) {
-        HeadFound::Whole(spans) => {
-            let request = Request::new(bytes, &headers, spans);
-            response_to(alloc, &request, actives)
-        }
-        HeadFound::Unfinished => bad_head_response(alloc),
-        HeadFound::Never => bad_head_response(alloc),
+    match find_request(bytes, &mut headers) {
+        Some(request) => response_to(alloc, &request, actives),
+        None => bad_head_response(alloc),
     }
 }
 
@@ -248,6 +249,9 @@ pub fn respond<K: Keep + Drop>(
     // files.
     ensures reported { IfOk result (λ response. (h : History) → IsContent (recorded feed.now) h
         → IsResponseAt h bytes.now response) }
+
+    // A client parses it as one head, and the body of the length that this states; the reply to a HEAD has no body.
+    ensures message { IfOk result (λ response. IsMessageTo bytes.now response) }
 {
     let actives = feed.actives()?;
     respond_with(alloc, bytes, &actives)

@@ -15,6 +15,9 @@ use feed_resolver_reply::{
 use feed_resolver_request::Representation;
 use std::alloc::AllocError;
 
+// The end of the home page.
+const HOME_END: &[u8] = b"</main>\n</body>\n</html>\n";
+
 #[tactic(auto, unfolding(crate::specs::Status::active_item))]
 fn put_item(out: &mut Vec<u8>, active: &ActiveRelease<'_>) -> Result<(), AllocError>
     ensures { OnOk result (out.new.items ≡ out.old.items ++ active_item active.now) }
@@ -128,5 +131,5 @@ pub(crate) fn put_home_page(
     put_page_start(out, b"Find holdings")?;
     put_form(out)?;
     put_items(out, actives)?;
-    put(out, b"</main>\n</body>\n</html>\n")
+    put(out, HOME_END)
 }

@@ -1,2 +1,4 @@
+pub mod HitTexts
+pub mod BestLinks
 pub mod Redirects
 pub mod Written

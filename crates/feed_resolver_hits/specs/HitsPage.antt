@@ -11,6 +11,7 @@ use Rattle.feed_answer.specs.declared.grade.Grade.TheVariants.{Inside, Overlap, 
 use Rattle.feed_resolver_reply.specs.Escapes.{escaped}
 use Rattle.feed_resolver_reply.specs.Pieces.{joined}
 use Rattle.feed_resolver_reply.specs.Pages.{page_start, page_end}
+use Rattle.feed_resolver_hits.specs.declared.hits_page.TheConstants.{TABLE_HEAD, TABLE_END}
 use Rattle.feed_resolver_hits.specs.Links.{is_link}
 use Rattle.feed_resolver_hits.specs.Hits.{ReleaseHitValue}
 
@@ -67,14 +68,11 @@ hit_row found =
 
 -- the head of the table of hits
 unfoldable pub table_head : List ℕ
-table_head = joined (
-    codes "<div class=\"wide\">\n<table>\n<thead>\n<tr><th scope=\"col\">Title</th>" ∷ codes "<th scope=\"col\">How well it fits</th>"
-    ∷ codes "<th scope=\"col\">Dates</th><th scope=\"col\">Volumes</th><th scope=\"col\">Depth</th>"
-    ∷ codes "<th scope=\"col\">Embargo</th><th scope=\"col\">Access</th><th scope=\"col\">Package</th></tr>\n</thead>\n<tbody>\n" ∷ [])
+table_head = TABLE_HEAD.now
 
 -- the end of a table
 abbrev pub table_end : List ℕ
-table_end = codes "</tbody>\n</table>\n</div>\n"
+table_end = TABLE_END.now
 
 -- the hits as a table
 unfoldable pub hits_table : List ReleaseHitValue → List ℕ

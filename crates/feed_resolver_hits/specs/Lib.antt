@@ -1,5 +1,6 @@
 pub mod Links
 pub mod Hits
+pub mod Ranks
 pub mod HitsJson
 pub mod HitsPage
 pub mod QueryRefusals

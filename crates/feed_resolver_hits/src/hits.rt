@@ -2,6 +2,7 @@
 ghost use Rattle.std.specs.Prelude.{◌≡◌, ◌++◌, OnOk, map, option_copied};
 ghost use Rattle.feed_answer.specs.HitValue.{hit_of};
 ghost use Rattle.feed_resolver_hits.specs.Hits.{name_text, release_hit, rank_of, is_linked, first_link, best_link};
+ghost use Rattle.feed_resolver_hits.specs.Ranks.{IsBestLink};
 
 use crate::link::is_link;
 use feed_answer::{Grade, Hit};
@@ -108,8 +109,7 @@ fn first_link<'a>(hits: &[ReleaseHit<'a>], rank: u8) -> Option<&'a [u8]>
     None
 }
 
-/// Returns the URL of the best hit that has a link: inside before overlap before untested; of equals the first.
-pub fn best_link<'a>(hits: &[ReleaseHit<'a>]) -> Option<&'a [u8]>
+fn chosen_link<'a>(hits: &[ReleaseHit<'a>]) -> Option<&'a [u8]>
     ensures { option_copied result ≡ best_link hits.now }
 {
     if let Some(url) = first_link(hits, 2) {
@@ -119,4 +119,12 @@ pub fn best_link<'a>(hits: &[ReleaseHit<'a>]) -> Option<&'a [u8]>
         return Some(url);
     }
     first_link(hits, 0)
+}
+
+/// Returns the URL of the best hit that has a link: inside before overlap before untested; of equals the first.
+pub fn best_link<'a>(hits: &[ReleaseHit<'a>]) -> Option<&'a [u8]>
+    ensures value { option_copied result ≡ best_link hits.now }
+    ensures best { IsBestLink hits.now (option_copied result) }
+{
+    chosen_link(hits)
 }

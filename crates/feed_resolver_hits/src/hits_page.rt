@@ -17,6 +17,14 @@ use feed_kbart::Row;
 use feed_resolver_reply::{Piece, put, put_all, put_page_end, put_page_start};
 use std::alloc::AllocError;
 
+const TABLE_HEAD: &[u8] =
+    b"<div class=\"wide\">\n<table>\n<thead>\n<tr><th scope=\"col\">Title</th>\
+    <th scope=\"col\">How well it fits</th><th scope=\"col\">Dates</th><th scope=\"col\">Volumes</th>\
+    <th scope=\"col\">Depth</th><th scope=\"col\">Embargo</th><th scope=\"col\">Access</th>\
+    <th scope=\"col\">Package</th></tr>\n</thead>\n<tbody>\n";
+
+const TABLE_END: &[u8] = b"</tbody>\n</table>\n</div>\n";
+
 fn grade_words(grade: Grade) -> &'static [u8]
     ensures { result.now ≡ grade_words grade }
 {
@@ -163,22 +171,7 @@ fn put_rows(out: &mut Vec<u8>, hits: &[ReleaseHit<'_>]) -> Result<(), AllocError
 fn put_table_head(out: &mut Vec<u8>) -> Result<(), AllocError>
     ensures { OnOk result (out.new.items ≡ out.old.items ++ table_head) }
 {
-    put_all(
-        out,
-        &[
-            Piece::Plain(
-                b"<div class=\"wide\">\n<table>\n<thead>\n<tr><th scope=\"col\">Title</th>\
-                  <th scope=\"col\">How well it fits</th>",
-            ),
-            Piece::Plain(
-                b"<th scope=\"col\">Dates</th><th scope=\"col\">Volumes</th><th scope=\"col\">Depth</th>",
-            ),
-            Piece::Plain(
-                b"<th scope=\"col\">Embargo</th><th scope=\"col\">Access</th><th scope=\"col\">Package</th></tr>\n\
-                  </thead>\n<tbody>\n",
-            ),
-        ],
-    )
+    put(out, TABLE_HEAD)
 }
 
 #[tactic(auto, unfolding(crate::specs::HitsPage::hits_table))]
@@ -187,7 +180,7 @@ fn put_table(out: &mut Vec<u8>, hits: &[ReleaseHit<'_>]) -> Result<(), AllocErro
 {
     put_table_head(out)?;
     put_rows(out, hits)?;
-    put(out, b"</tbody>\n</table>\n</div>\n")
+    put(out, TABLE_END)
 }
 
 fn put_hits(out: &mut Vec<u8>, hits: &[ReleaseHit<'_>]) -> Result<(), AllocError>

@@ -12,5 +12,5 @@ mod refusals;
 pub use hits::{ReleaseHit, add_hits, best_link, name_text};
 pub use hits_json::{put_hits_json, put_release_members};
 pub use hits_page::put_hits_page;
-pub use laws::redirects_to_link;
+pub use laws::{hits_are_json, redirects_to_link};
 pub use refusals::query_refusal;

@@ -1,3 +1,4 @@
+pub mod HeadsRead
 pub mod EscapedTexts
 pub mod JsonTexts
 pub mod Written

@@ -4,6 +4,7 @@ use Rattle.std.specs.Fmt.{decimal}
 use Rattle.feed_resolver_request.specs.declared.representation.Representation.{Representation}
 use Rattle.feed_resolver_reply.specs.Pieces.{joined}
 use Rattle.feed_resolver_reply.specs.Replies.{status_line, status_field, type_text, reply_head}
+use Rattle.feed_resolver_reply.specs.declared.reply.TheConstants.{LAST_FIELDS}
 use Rattle.feed_resolver_reply.specs.declared.status.Status.{Status}
 
 -- in three steps
@@ -23,12 +24,12 @@ pub head_written : (old one two new media body location : List ℕ) (code : Stat
     → one ≡ old ++ status_line code
     → two ≡ one ++ status_field code location
     → new ≡ two ++ joined (codes "\r\nContent-Type: " ∷ media ∷ codes "\r\nContent-Length: " ∷ decimal n
-    ∷ codes "\r\nVary: Accept\r\nX-Content-Type-Options: nosniff\r\nConnection: close\r\n\r\n" ∷ [])
+    ∷ LAST_FIELDS.now ∷ [])
     → new ≡ old ++ reply_head (record { status = code; location = location; representation = representation; body = body })
 unfolding reply_head
 head_written old one two new media body location code representation n kind count first second third =
     in_three old one two new
     (status_line code) (status_field code location)
     (joined (codes "\r\nContent-Type: " ∷ type_text representation ∷ codes "\r\nContent-Length: " ∷ decimal (length body)
-    ∷ codes "\r\nVary: Accept\r\nX-Content-Type-Options: nosniff\r\nConnection: close\r\n\r\n" ∷ []))
+    ∷ LAST_FIELDS.now ∷ []))
     first second (rw (← kind, ← count) third)

@@ -1,15 +1,17 @@
 -- The reply to a request that a node fetch a release.
-use Rattle.std.specs.Prelude.{ℕ, Bool, false, if◌then◌else◌, List, codes}
+use Rattle.std.specs.Prelude.{◌⊎◌, ℕ, Bool, false, if◌then◌else◌, List, codes}
 use Rattle.std.specs.Option.{option_map_or}
 use Rattle.httparse.specs.Grammar.{RequestHead}
 use Rattle.feed_resolver_request.specs.FetchRequests.{FetchPolicyValue, is_authorized}
 use Rattle.feed_resolver_request.specs.declared.representation.Representation.TheVariants.{Text}
 use Rattle.feed_resolver_reply.specs.Replies.{ResponseValue, refusal, response_of}
+use Rattle.feed_resolver_reply.specs.declared.fetch_replies.TheConstants.{PROGRESS_HEAD}
+use Rattle.feed_resolver_reply.specs.Messages.{IsMessageFor, BeginsStream}
 use Rattle.feed_resolver_reply.specs.declared.status.Status.TheVariants as status
 
 -- the head of the reply that reports the progress of the fetch
 unfoldable pub progress_head : List ℕ
-progress_head = codes "HTTP/1.1 200 OK\r\nContent-Type: text/plain; charset=utf-8\r\nX-Content-Type-Options: nosniff\r\nConnection: close\r\n\r\n"
+progress_head = PROGRESS_HEAD.now
 
 -- the same, before any of its body
 abbrev pub progress_response : ResponseValue
@@ -24,3 +26,7 @@ abbrev pub fetch_reply : FetchPolicyValue → RequestHead → ResponseValue
 fetch_reply policy head = option_map_or
     (λ token. if is_authorized token head then authorized_reply policy.is_busy else response_of false (refusal status.Unauthorized Text (codes "Unauthorized")))
     policy.token (response_of false (refusal status.NotFound Text (codes "NoTarget")))
+
+-- a response to such a client: an error reply, or the beginning of the one that reports progress
+abbrev pub IsFetchMessage : ResponseValue → Type 0
+IsFetchMessage response = IsMessageFor false response ⊎ BeginsStream response

@@ -1,7 +1,13 @@
--- Laws of escaped texts.
-use Rattle.std.specs.Prelude.{◌≡◌, ℕ, List, Some, false, All}
+-- Laws of replies and of escaped texts.
+use Rattle.std.specs.Prelude.{◌≡◌, ℕ, List, Some, false, All, codes}
 use Rattle.feed_resolver_reply.specs.Escapes.{escaped, is_markup, unescaped}
-use Rattle.feed_resolver_reply.specs.JsonStrings.{json_string, read_string}
+use Rattle.json.specs.Json.{document, string, object, member, no_members}
+use Rattle.feed_resolver_request.specs.declared.representation.Representation.TheVariants.{Json}
+use Rattle.feed_resolver_reply.specs.JsonStrings.{json_string}
+use Rattle.feed_resolver_reply.specs.Pages.{fault_body}
+use Rattle.httparse.specs.Grammar.{ResponseHead}
+use Rattle.feed_resolver_reply.specs.Replies.{ReplyValue}
+use Rattle.feed_resolver_reply.specs.Messages.{IsSentAs, IsSendable}
 
 -- an escaped text has no `<`, `>`, `"` and `'`
 abbrev pub EscapedHasNoMarkup : Type 0
@@ -11,6 +17,15 @@ EscapedHasNoMarkup = (text : List ℕ) → All (λ b. is_markup b ≡ false) (es
 abbrev pub EscapedReadsBack : Type 0
 EscapedReadsBack = (text : List ℕ) → unescaped (escaped text) ≡ Some text
 
--- a JSON string reads as the text from which it was written
+-- a JSON string is, by the grammar of JSON, the text from which it was written
 abbrev pub JsonReadsBack : Type 0
-JsonReadsBack = (text : List ℕ) → read_string (json_string text) ≡ Some text
+JsonReadsBack = (text : List ℕ) → document (json_string text) ≡ Some (string text)
+
+-- the body of an error reply in JSON is an object whose only member is the name of the error
+abbrev pub FaultIsJson : Type 0
+FaultIsJson = (name : List ℕ) → document (fault_body Json name) ≡ Some (object (member (codes "fault") (string name) no_members))
+
+-- a reply is sent as one head that states its status and the length of its body, and then the body; the reply to a HEAD
+-- is the same head alone
+abbrev pub ReplyReadsBack : Type 0
+ReplyReadsBack = (reply : ReplyValue) → IsSendable reply → (head : ResponseHead) × IsSentAs reply head

@@ -4,5 +4,6 @@ pub mod JsonLists
 pub mod Pieces
 pub mod Pages
 pub mod Replies
+pub mod Messages
 pub mod FetchReplies
 pub mod Laws

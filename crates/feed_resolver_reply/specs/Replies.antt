@@ -5,6 +5,7 @@ use Rattle.feed_resolver_request.specs.declared.representation.Representation.{R
 use Rattle.feed_resolver_request.specs.declared.representation.Representation.TheVariants.{Text, Json, Html}
 use Rattle.feed_resolver_reply.specs.Pieces.{joined}
 use Rattle.feed_resolver_reply.specs.Pages.{fault_body}
+use Rattle.feed_resolver_reply.specs.declared.reply.TheConstants.{LAST_FIELDS}
 use Rattle.feed_resolver_reply.specs.declared.status.Status.{Status}
 use Rattle.feed_resolver_reply.specs.declared.status.Status.TheVariants as status
 
@@ -82,7 +83,7 @@ reply_head reply =
     ++ joined (
     codes "\r\nContent-Type: " ∷ type_text reply.representation
     ∷ codes "\r\nContent-Length: " ∷ decimal (length reply.body)
-    ∷ codes "\r\nVary: Accept\r\nX-Content-Type-Options: nosniff\r\nConnection: close\r\n\r\n" ∷ []))
+    ∷ LAST_FIELDS.now ∷ []))
 
 -- the body that is sent; the reply to a HEAD has none
 abbrev pub reply_body : Bool → ReplyValue → List ℕ

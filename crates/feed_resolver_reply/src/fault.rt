@@ -1,7 +1,8 @@
 //! Error replies, whose bodies are the name of the error.
-ghost use Rattle.std.specs.Prelude.{◌≡◌, ◌++◌, IfOk, OnOk};
+ghost use Rattle.std.specs.Prelude.{◌≡◌, ◌++◌, IfOk, OnOk, false};
 ghost use Rattle.feed_resolver_reply.specs.Pages.{fault_part, fault_body};
-ghost use Rattle.feed_resolver_reply.specs.Replies.{refusal, bad_head_response};
+ghost use Rattle.feed_resolver_reply.specs.Replies.{refusal, response_of, bad_head_response};
+ghost use Rattle.feed_resolver_reply.specs.Messages.{IsMessageFor};
 ghost use Rattle.feed_resolver_request.specs.declared.representation.Representation.TheVariants as representation;
 
 use crate::page::{put_page_end, put_page_start};
@@ -71,9 +72,23 @@ pub fn refusal(
     Ok(Reply::new(status, representation, body))
 }
 
+/// Returns the response with an error reply.
+pub(crate) fn refusal_response(
+    alloc: Global,
+    status: Status,
+    representation: Representation,
+    name: &[u8],
+) -> Result<Response, AllocError>
+    ensures value { IfOk result (λ response. response ≡ response_of false (refusal status representation name.now)) }
+    ensures message { IfOk result (IsMessageFor false) }
+{
+    refusal(alloc, status, representation, name)?.response(alloc, false)
+}
+
 /// Returns the reply to bytes that do not begin with a valid head.
 pub fn bad_head_response(alloc: Global) -> Result<Response, AllocError>
-    ensures { IfOk result (λ response. response ≡ bad_head_response) }
+    ensures value { IfOk result (λ response. response ≡ bad_head_response) }
+    ensures message { IfOk result (IsMessageFor false) }
 {
-    refusal(alloc, Status::BadRequest, Representation::Text, b"BadHead")?.response(alloc, false)
+    refusal_response(alloc, Status::BadRequest, Representation::Text, b"BadHead")
 }

@@ -3,28 +3,30 @@ ghost use Rattle.std.specs.Prelude.{◌≡◌, IfOk};
 ghost use Rattle.httparse.specs.Grammar.{RequestHead};
 ghost use Rattle.feed_http_heads.specs.Requests.{IsInBuffer, HasHead};
 ghost use Rattle.feed_resolver_reply.specs.FetchReplies.{progress_head, progress_response, authorized_reply};
-ghost use Rattle.feed_resolver_reply.specs.FetchReplies.{fetch_reply};
+ghost use Rattle.feed_resolver_reply.specs.FetchReplies.{fetch_reply, IsFetchMessage};
+ghost use Rattle.feed_resolver_reply.specs.Messages.{BeginsStream};
 
-use crate::fault::refusal;
+use crate::fault::refusal_response;
 use crate::response::Response;
 use crate::status::Status;
 use feed_http_heads::Request;
 use feed_resolver_request::{FetchPolicy, Representation, is_authorized};
 use std::alloc::{AllocError, Global};
 
+const PROGRESS_HEAD: &[u8] =
+    b"HTTP/1.1 200 OK\r\nContent-Type: text/plain; charset=utf-8\r\nX-Content-Type-Options: nosniff\r\n\
+    Connection: close\r\n\r\n";
+
 #[tactic(auto, unfolding(crate::specs::FetchReplies::progress_head))]
 fn progress_head(alloc: Global) -> Result<Vec<u8>, AllocError>
     ensures { IfOk result (λ text. text.items ≡ progress_head) }
 {
-    Vec::from_slice(
-        alloc,
-        b"HTTP/1.1 200 OK\r\nContent-Type: text/plain; charset=utf-8\r\nX-Content-Type-Options: nosniff\r\n\
-          Connection: close\r\n\r\n",
-    )
+    Vec::from_slice(alloc, PROGRESS_HEAD)
 }
 
 fn progress_response(alloc: Global) -> Result<Response, AllocError>
-    ensures { IfOk result (λ response. response ≡ progress_response) }
+    ensures value { IfOk result (λ response. response ≡ progress_response) }
+    ensures message { IfOk result BeginsStream }
 {
     Ok(Response {
         bytes: progress_head(alloc)?,
@@ -34,10 +36,11 @@ fn progress_response(alloc: Global) -> Result<Response, AllocError>
 }
 
 fn authorized_reply(alloc: Global, is_busy: bool) -> Result<Response, AllocError>
-    ensures { IfOk result (λ response. response ≡ authorized_reply is_busy) }
+    ensures value { IfOk result (λ response. response ≡ authorized_reply is_busy) }
+    ensures message { IfOk result IsFetchMessage }
 {
     if is_busy {
-        refusal(alloc, Status::Conflict, Representation::Text, b"Busy")?.response(alloc, false)
+        refusal_response(alloc, Status::Conflict, Representation::Text, b"Busy")
     } else {
         progress_response(alloc)
     }
@@ -50,23 +53,21 @@ pub fn fetch_reply(
     request: &Request<'_>,
 ) -> Result<Response, AllocError>
     requires { IsInBuffer request.now }
-    ensures { IfOk result (λ response. (head : RequestHead) → HasHead request.now head
+    ensures value { IfOk result (λ response. (head : RequestHead) → HasHead request.now head
         → response ≡ fetch_reply policy.now head) }
+    ensures message { IfOk result IsFetchMessage }
 {
     let Some(token) = policy.token else {
-        return refusal(alloc, Status::NotFound, Representation::Text, b"NoTarget")?.response(
-            alloc, false,
-        );
+        return refusal_response(alloc, Status::NotFound, Representation::Text, b"NoTarget");
     };
     if is_authorized(token, request) {
         authorized_reply(alloc, policy.is_busy)
     } else {
-        refusal(
+        refusal_response(
             alloc,
             Status::Unauthorized,
             Representation::Text,
             b"Unauthorized",
-        )?
-        .response(alloc, false)
+        )
     }
 }

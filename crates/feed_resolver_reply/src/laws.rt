@@ -1,5 +1,6 @@
-//! Laws of escaped texts, each stated as the contract of a function with an empty body.
+//! Laws of replies and of escaped texts, each stated as the contract of a function with an empty body.
 ghost use Rattle.feed_resolver_reply.specs.Laws.{EscapedHasNoMarkup, EscapedReadsBack, JsonReadsBack};
+ghost use Rattle.feed_resolver_reply.specs.Laws.{FaultIsJson, ReplyReadsBack};
 
 /// A text escaped for a page has no `<`, `>`, `"` and `'`.
 pub fn escaped_has_no_markup()
@@ -11,7 +12,17 @@ pub fn escaped_reads_back()
     ensures { EscapedReadsBack }
 {}
 
-/// A JSON string reads as the text from which it was written (RFC 8259, section 7).
+/// A JSON string is, by the grammar of JSON (RFC 8259, section 7), the text from which it was written.
 pub fn json_reads_back()
     ensures { JsonReadsBack }
+{}
+
+/// The body of an error reply in JSON is an object whose only member is the name of the error.
+pub fn fault_is_json()
+    ensures { FaultIsJson }
+{}
+
+/// A reply reads as one head and its body by the grammar of HTTP, and the reply to a HEAD as that head alone.
+pub fn reply_reads_back()
+    ensures { ReplyReadsBack }
 {}

@@ -6,7 +6,7 @@ mod escape;
 mod fault;
 mod fetch_replies;
 mod form;
-mod json;
+mod json_text;
 mod laws;
 mod page;
 mod piece;
@@ -18,8 +18,10 @@ pub use escape::put;
 pub use fault::{bad_head_response, refusal};
 pub use fetch_replies::fetch_reply;
 pub use form::put_form;
-pub use json::{put_comma, put_list_end, put_list_start};
-pub use laws::{escaped_has_no_markup, escaped_reads_back, json_reads_back};
+pub use json_text::{put_comma, put_list_end, put_list_start};
+pub use laws::{
+    escaped_has_no_markup, escaped_reads_back, fault_is_json, json_reads_back, reply_reads_back,
+};
 pub use page::{put_page_end, put_page_start};
 pub use piece::{Piece, put_all};
 pub use reply::Reply;

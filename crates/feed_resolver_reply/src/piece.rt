@@ -3,7 +3,7 @@ ghost use Rattle.std.specs.Prelude.{◌≡◌, ◌++◌, OnOk};
 ghost use Rattle.feed_resolver_reply.specs.Pieces.{piece_text, pieces_text};
 
 use crate::escape::{put, put_escaped};
-use crate::json::put_json_string;
+use crate::json_text::put_json_string;
 use std::alloc::AllocError;
 use std::io::Write;
 

@@ -1,7 +1,8 @@
 //! Replies, and their bytes.
-ghost use Rattle.std.specs.Prelude.{◌≡◌, ◌++◌, IfOk, OnOk, length};
+ghost use Rattle.std.specs.Prelude.{◌≡◌, ◌<◌, ◌^◌, ◌++◌, IfOk, OnOk, length};
 ghost use Rattle.feed_resolver_reply.specs.Replies.{reply_head, reply_body, reply_with, redirect_to, response_of};
 ghost use Rattle.feed_resolver_reply.specs.Replies.{status_code, status_line, status_field, type_text};
+ghost use Rattle.feed_resolver_reply.specs.Messages.{IsLocation, IsMessageFor};
 
 use crate::escape::put;
 use crate::piece::{Piece, put_all};
@@ -10,6 +11,10 @@ use crate::status::{Status, reason_text, status_code};
 use feed_resolver_request::Representation;
 use std::alloc::{AllocError, Global};
 use std::marker::Model;
+
+// The fields that end each head, and the empty line behind them.
+const LAST_FIELDS: &[u8] =
+    b"\r\nVary: Accept\r\nX-Content-Type-Options: nosniff\r\nConnection: close\r\n\r\n";
 
 /// A reply. Its location is empty unless its status is `Found`.
 #[derive(Drop)]
@@ -104,7 +109,8 @@ impl<'a> Reply<'a> {
 
     #[tactic(auto, unfolding(crate::specs::Replies::reply_head))]
     fn put_head(&self, out: &mut Vec<u8>) -> Result<(), AllocError>
-        ensures { OnOk result (out.new.items ≡ out.old.items ++ reply_head self.now) }
+        ensures text { OnOk result (out.new.items ≡ out.old.items ++ reply_head self.now) }
+        ensures size { OnOk result (length self.now.body < 2 ^ 64) }
     {
         put_status_line(out, self.status)?;
         put_status_field(out, self.status, self.location)?;
@@ -115,9 +121,7 @@ impl<'a> Reply<'a> {
                 Piece::Plain(type_text(self.representation)),
                 Piece::Plain(b"\r\nContent-Length: "),
                 Piece::Number(length_of(&self.body)),
-                Piece::Plain(
-                    b"\r\nVary: Accept\r\nX-Content-Type-Options: nosniff\r\nConnection: close\r\n\r\n",
-                ),
+                Piece::Plain(LAST_FIELDS),
             ],
         )
     }
@@ -131,7 +135,9 @@ impl<'a> Reply<'a> {
 
     /// Returns the bytes of the reply, without its body if only the head was requested.
     pub fn response(&self, alloc: Global, head_alone: bool) -> Result<Response, AllocError>
-        ensures { IfOk result (λ response. response ≡ response_of head_alone self.now) }
+        ensures value { IfOk result (λ response. response ≡ response_of head_alone self.now) }
+        ensures message { IfOk result (λ response. IsLocation self.now.location
+            → IsMessageFor head_alone response) }
     {
         let body = self.body(head_alone);
         let mut bytes = Vec::new(alloc);

@@ -1,17 +1,17 @@
 -- Fetch requests to a node over HTTP: a POST of `/feed/` and the name of a release, with a bearer token.
-use Rattle.std.specs.Prelude.{◌≡◌, ℕ, Bool, false, if◌then◌else◌, List, codes, take, drop, Option, Some, None}
+use Rattle.std.specs.Prelude.{◌≡◌, ◌⊎◌, ℕ, Bool, true, false, if◌then◌else◌, List, codes, take, drop, Option, Some, None, is_some, Result, Ok, Err}
 use Rattle.std.specs.Option.{option_map_or}
 use Rattle.std.specs.Str.{bytes_eq}
 use Rattle.feed_range.specs.Text.{strip_prefix}
 use Rattle.httparse.specs.Grammar.{RequestHead}
-use Rattle.feed_http_heads.specs.Limits.{head_limit, field_limit}
 use Rattle.feed_http_heads.specs.Fields.{values_named, only}
-use Rattle.feed_http_heads.specs.RequestHeads.{BeginsWithHead}
 use Rattle.feed_http_heads.specs.Requests.{lacks_host}
 use Rattle.feed_http_heads.specs.Targets.{origin_form}
 use Rattle.feed_identifiers.specs.Text.{trimmed}
-use Rattle.feed_names.specs.ReleaseName.{Name, IsName}
+use Rattle.feed_names.specs.ReleaseName.{Name, IsName, IsNameFault}
+use Rattle.feed_names.specs.declared.name_fault.NameFault.{NameFault}
 use Rattle.feed_resolver_request.specs.Targets.{path_in}
+use Rattle.feed_resolver_request.specs.FoundRequests.{BeginsWith, HasNoHead}
 
 -- who may make a node fetch: the token that authorizes a client, if one is configured, and whether a fetch is under way
 pub record FetchPolicyValue : Type 0 where
@@ -38,10 +38,32 @@ is_authorized token head = option_map_or (has_token token) (only (values_named (
 abbrev pub authorized_name : List ℕ → RequestHead → Option (List ℕ)
 authorized_name token head = if lacks_host head then None else (if is_authorized token head then name_to_fetch head else None)
 
--- the bytes begin with such a request for this release
-pub record IsFetchRequest (token bytes : List ℕ) (name : Name) : Type 0 where
-  pub head : RequestHead
-  pub begins : BeginsWithHead head_limit field_limit bytes head
-  pub text : List ℕ
-  pub asks : authorized_name token head ≡ Some text
-  pub is_name : IsName text name
+-- the release that a text names, or why it is not a name
+abbrev pub IsNamedBy : List ℕ → Result Name NameFault → Type 0
+IsNamedBy text (Ok name) = IsName text name
+IsNamedBy text (Err fault) = IsNameFault text fault
+
+-- the release that a request with this head asks to fetch: none, unless it has the token and names one
+abbrev pub IsAskedRelease : List ℕ → RequestHead → Option (Result Name NameFault) → Type 0
+IsAskedRelease token head None = authorized_name token head ≡ None
+IsAskedRelease token head (Some named) = (text : List ℕ) × (authorized_name token head ≡ Some text) × IsNamedBy text named
+
+-- the same for the bytes of a request; without a head they ask for none
+abbrev pub IsFetchRequest : List ℕ → List ℕ → Option (Result Name NameFault) → Type 0
+IsFetchRequest token bytes asked =
+    ((head : RequestHead) × BeginsWith bytes head × IsAskedRelease token head asked) ⊎ (HasNoHead bytes × (asked ≡ None))
+
+-- the release that a node begins to fetch: none while it is fetching, and none without a token
+abbrev pub IsFetchBy : Bool → Option (List ℕ) → List ℕ → Option (Result Name NameFault) → Type 0
+IsFetchBy true token bytes asked = asked ≡ None
+IsFetchBy false None bytes asked = asked ≡ None
+IsFetchBy false (Some token) bytes asked = IsFetchRequest token bytes asked
+
+-- the same by a policy
+abbrev pub IsFetchToBegin : FetchPolicyValue → List ℕ → Option (Result Name NameFault) → Type 0
+IsFetchToBegin policy bytes asked = IsFetchBy policy.is_busy policy.token bytes asked
+
+-- whether a node begins to fetch
+abbrev pub IsWhetherToBegin : FetchPolicyValue → List ℕ → Bool → Type 0
+IsWhetherToBegin policy bytes begins =
+    (asked : Option (Result Name NameFault)) × IsFetchToBegin policy bytes asked × (begins ≡ is_some asked)

@@ -1,3 +1,4 @@
 pub mod Representations
 pub mod Targets
+pub mod FoundRequests
 pub mod FetchRequests

@@ -4,12 +4,14 @@
 
 mod authorization;
 mod fetch_target;
+mod found_request;
 mod method;
 mod representation;
 mod target;
 
 pub use authorization::{FetchPolicy, is_authorized};
-pub use fetch_target::{fetch_request, name_to_fetch};
+pub use fetch_target::{fetch_request, fetch_to_begin, name_to_fetch};
+pub use found_request::find_request;
 pub use method::is_unsupported_method;
 pub use representation::{Representation, accepted_representation, representation_of};
 pub use target::{Resource, package_in, path_in, query_in, resource_of};

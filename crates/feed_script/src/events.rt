@@ -1,13 +1,9 @@
 //! The parsers of a script's lines, a function for each kind of event.
-use crate::escapes::unescape;
-use crate::faults::LineFault;
 use crate::files::Files;
-use crate::words::{Words, split_word};
 use feed_names::{NameFault, ReleaseName};
+use feed_script_text::{LineFault, Words, read_number, split_word, unescape};
 use feed_world::{NODE_LIMIT, Sent, WorldEvent};
 use std::alloc::Global;
-
-const LONGEST_NUMBER: usize = 20;
 
 /// Parses the first line, `nodes N`.
 pub fn read_nodes(line: &[u8]) -> Result<usize, LineFault> {
@@ -200,25 +196,4 @@ fn read_name(alloc: Global, word: &[u8]) -> Result<ReleaseName, LineFault> {
         Err(NameFault::Memory) => Err(LineFault::Memory),
         Err(_) => Err(LineFault::BadName),
     }
-}
-
-fn read_number(word: &[u8]) -> Result<u64, LineFault> {
-    if word.is_empty() || word.len() > LONGEST_NUMBER {
-        return Err(LineFault::BadNumber);
-    }
-    let mut number = 0u64;
-    for byte in word {
-        if !byte.is_ascii_digit() {
-            return Err(LineFault::BadNumber);
-        }
-        let digit = u64::from(byte.saturating_sub(b'0'));
-        let Some(longer) = number
-            .checked_mul(10)
-            .and_then(|tens| tens.checked_add(digit))
-        else {
-            return Err(LineFault::BadNumber);
-        };
-        number = longer;
-    }
-    Ok(number)
 }

@@ -1,5 +1,5 @@
 //! The files that a script publishes by their paths, as a trait.
-use crate::faults::LineFault;
+use feed_script_text::LineFault;
 use std::alloc::Global;
 
 /// The files that a script names by their paths.

@@ -1,8 +1,8 @@
 //! The parser of a whole script, within its limits of bytes and lines.
 use crate::events::{read_event, read_nodes};
-use crate::faults::{LineFault, ScriptFault};
+use crate::faults::ScriptFault;
 use crate::files::Files;
-use crate::words::split_at;
+use feed_script_text::{LineFault, split_at};
 use feed_world::WorldEvent;
 use memchr::memchr_iter;
 use std::alloc::Global;
@@ -12,6 +12,9 @@ use std::str;
 pub const SCRIPT_LIMIT: usize = 16_777_216;
 
 const LINE_LIMIT: usize = 100_000;
+
+// The most bytes of a line that are shown with its fault.
+const EXCERPT_LENGTH: usize = 80;
 
 /// A parsed script: how many nodes there are, and the events in order.
 #[derive(Drop)]
@@ -110,8 +113,8 @@ fn read_line<P: Files>(
     Ok(())
 }
 
-/// Returns the first 80 bytes of a line, or the empty text if there is no such line
-/// or they are not UTF-8.
+/// Returns the first 80 bytes of a line, without an incomplete character at their end. Returns the empty text if there
+/// is no such line, or they are not UTF-8.
 pub fn line_excerpt(script: &[u8], line: usize) -> &str {
     let mut rest = script;
     for _ in 1..line {
@@ -121,11 +124,19 @@ pub fn line_excerpt(script: &[u8], line: usize) -> &str {
         }
     }
     let (text, _) = split_at(rest, b'\n');
-    let shown = match text.get(..80) {
-        Some(shown) => shown,
-        None => text,
-    };
-    str::from_utf8(shown).unwrap_or("")
+    whole_characters(text.get(..EXCERPT_LENGTH).unwrap_or(text))
+}
+
+// Returns a text without an incomplete character at its end, or the empty text if it is not UTF-8.
+fn whole_characters(text: &[u8]) -> &str {
+    match str::from_utf8(text) {
+        Ok(text) => text,
+        Err(error) if error.error_len().is_none() => {
+            let front = text.get(..error.valid_up_to()).unwrap_or(&[]);
+            str::from_utf8(front).unwrap_or("")
+        }
+        Err(_) => "",
+    }
 }
 
 // Counts the lines. Bytes after the last LF are a line too.

@@ -1,13 +1,17 @@
 -- An adoption of a database that has either layout.
-use Rattle.std.proofs.Common.{◌≡◌, ◌≢◌, [], ◌∷◌, IsTrue, true, length, refl, sym, ap, subst, ◌∙◌, arith}
-use Rattle.sqlite.specs.Effect.{IsDatabase}
+use Rattle.std.proofs.Common.{◌≡◌, ◌≢◌, [], ◌∷◌, Bool, IsTrue, true, false, length, map, pos, refl, sym, ap, subst, ◌∙◌, arith}
+use Rattle.sqlite_trees.specs.Tree.{rowid}
+use Rattle.sqlite_value.specs.declared.value.Value.TheVariants.{Int}
+use Rattle.sqlite.specs.Effect.{Database, IsDatabase}
 use Rattle.sqlite.specs.Change.{automatics}
 use Rattle.sqlite.specs.State.{State, HasCleanDisk}
 use Rattle.feed_store_model.specs.Layout.{layout_1_schema, layout_2_schema, no_schema, reason}
 use Rattle.feed_store_model.specs.Tables.{IsLayout1, IsLayout2}
 use Rattle.feed_store_write.specs.Effects.{IsLive, ReportsNumber}
-use Rattle.feed_store.specs.Adopted.{IsAdopted}
+use Rattle.feed_store_write.specs.Number.{HasOtherNumber}
+use Rattle.feed_store.specs.Adopted.{IsAdopted, IsForeign, IsRefused}
 use Rattle.feed_store.specs.Upgraded.{IsUpgradedWithReasons, HasLayoutNumber1}
+use Rattle.feed_store.proofs.Placed.{foreign_1, foreign_2}
 
 layout_2_is_some : layout_2_schema ≢ no_schema
 layout_2_is_some e = omega (arith, ap (λ s. length s.tables) e)
@@ -43,3 +47,33 @@ module _ (old new : State) (sound : IsTrue old.is_open → IsDatabase old.now) (
         blank = λ is none. absurd (layout_1_is_some (sym schema ∙ none.schema_is));
         earlier = λ is early. (refl, moved is early);
       }
+
+-- a database that is refused
+module _ (db : Database) where
+  pub refused_2 : db.schema ≡ layout_2_schema → HasOtherNumber 2 db → ¬ (map rowid (db.trees 0) ≡ Int (pos 2) ∷ []) → IsRefused db
+  refused_2 schema other unnumbered = record {
+    foreign = foreign_2 db schema other;
+    blank = λ none. layout_2_is_some (sym schema ∙ none.schema_is);
+    earlier = λ early. layouts_differ (sym schema ∙ early.schema);
+    current = λ ours. unnumbered ours.version;
+  }
+
+  pub refused_1 : db.schema ≡ layout_1_schema → HasOtherNumber 1 db → ¬ (HasLayoutNumber1 db) → IsRefused db
+  refused_1 schema other unnumbered = record {
+    foreign = foreign_1 db schema other;
+    blank = λ none. layout_1_is_some (sym schema ∙ none.schema_is);
+    earlier = λ early. unnumbered early.version;
+    current = λ ours. layouts_differ (sym ours.schema ∙ schema);
+  }
+
+  -- of none of the schemas
+  pub refused_beside : IsForeign db → ¬ (db.schema ≡ no_schema) → ¬ (db.schema ≡ layout_1_schema) → ¬ (db.schema ≡ layout_2_schema) → IsRefused db
+  refused_beside foreign none first second = record {
+    foreign = foreign;
+    blank = λ it. none it.schema_is;
+    earlier = λ it. first it.schema;
+    current = λ it. second it.schema;
+  }
+
+pub not_by : {P : Type 0} (b : Bool) → b ≡ false → (P → IsTrue b) → ¬ P
+not_by b off test p = let e = sym off ∙ test p in cc

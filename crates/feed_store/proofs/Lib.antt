@@ -1,4 +1,4 @@
-mod Taken
+mod Placed
 mod Reasoned
 mod Found
 mod Histories

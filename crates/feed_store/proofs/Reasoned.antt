@@ -9,11 +9,11 @@ use Rattle.feed_model.specs.declared.state.State.{State}
 use Rattle.feed_model.specs.declared.state.State.TheVariants.{Staged, Broken, Active}
 use Rattle.feed_model.specs.Content.{Content, Record, names}
 use Rattle.feed_model.proofs.Names.{name_self}
-use Rattle.feed_store_model.specs.Tables.{IsLayout1, HoldsReleases, IsTabled, content_without_reasons}
+use Rattle.feed_store_model.specs.Tables.{IsLayout1, HoldsRecords, HoldsReleases, IsTabled, content_without_reasons}
 use Rattle.feed_store_model.proofs.Explained.{all_records}
 use Rattle.feed_store_model.proofs.Ours.{tabled_earlier}
 use Rattle.feed_store_model.proofs.Stored.{stored}
-use Rattle.feed_store_write.specs.Effects.{IsUpgraded, IsUpgradeIf}
+use Rattle.feed_store_write.specs.Effects.{IsUpgraded, IsUpgradeIf, KeepsReleases}
 use Rattle.feed_store_write.specs.Upgrading.{AreStored, IsStoredIf, explain, explain_by, explained_with}
 use Rattle.feed_store.specs.Upgraded.{AddReasons, GetsReasons, IsUpgradedWithReasons, IsReasonOf, AddsReason}
 
@@ -75,6 +75,10 @@ with_all (r ∷ rs) (s ∷ ss) all apart bare =
 all_explained : (db : Database) (d : Content) → GetsReasons (content_without_reasons db) d → explained_with d (content_without_reasons db) ≡ d
 all_explained db d it = with_all (content_without_reasons db) d it.reasoned it.distinct (all_records (λ r. r.reason ≡ None) (db.trees 3) (db.trees 1) (λ r h. refl))
 
+-- rows that stay hold a list of records only if they held one
+listed_before : (old new : Database) → KeepsReleases old new → HoldsRecords new → HoldsReleases old
+listed_before old new kept has = rw (kept.0, kept.1) at has.rows
+
 -- an upgrade adds the reasons that the records get
 pub moved : (a b c new : Database) (d : Content) → b ≡ a → c ≡ b → IsLayout1 a → AreStored d → (IsTabled b → HoldsReleases b → GetsReasons (content_without_reasons b) d)
     → IsUpgradeIf (AreStored d) (explained_with d) c new → IsUpgradedWithReasons a new
@@ -83,7 +87,9 @@ moved a b c new d same still earlier can gets upgrades =
     let it : IsUpgraded (explained_with d) b new = subst (λ (x : Database). IsUpgraded (explained_with d) x new) still (upgrades can (subst IsLayout1 (sym still) mine)) in
     let up : IsUpgradedWithReasons b new = record {
       ours = it.ours;
+      rows = it.rows;
       listed = it.listed;
+      damaged = λ none has. none (listed_before b new it.rows has);
       content = λ are. let reasons = gets (tabled_earlier b mine) are in subst (AddReasons (content_without_reasons b)) (sym (it.content are ∙ all_explained b d reasons)) reasons.reasoned;
     } in
     subst (λ (x : Database). IsUpgradedWithReasons x new) same up

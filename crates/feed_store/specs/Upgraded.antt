@@ -11,6 +11,7 @@ use Rattle.feed_model.specs.declared.state.State.TheVariants.{Staged, Broken, Ac
 use Rattle.feed_model.specs.Content.{Content, Record, names}
 use Rattle.feed_keep.specs.BadFile.{IsBadOf}
 use Rattle.feed_store_model.specs.Tables.{HoldsReleases, HoldsRecords, IsLayout2, content_without_reasons, stored_content}
+use Rattle.feed_store_write.specs.Effects.{KeepsReleases}
 
 -- the layout's number is 1
 abbrev pub HasLayoutNumber1 : Database → Type 0
@@ -38,8 +39,10 @@ pub record GetsReasons (old new : Content) : Type 0 where
   pub distinct : IsDistinct name_eq (names old)
   pub reasoned : AddReasons old new
 
--- a database of layout 1 is one of layout 2 now, with the same records and their reasons
+-- a database of layout 1 is one of layout 2 now, with the same rows of releases and parts; it holds a list of records exactly if it held one: the same, with their reasons
 pub record IsUpgradedWithReasons (old new : Database) : Type 0 where
   pub ours : IsLayout2 new
+  pub rows : KeepsReleases old new
   pub listed : HoldsReleases old → HoldsRecords new
+  pub damaged : ¬ (HoldsReleases old) → ¬ (HoldsRecords new)
   pub content : HoldsReleases old → AddReasons (content_without_reasons old) (stored_content new)

@@ -3,7 +3,7 @@ ghost use Rattle.std.specs.Prelude.{◌≡◌, ◌≢◌, false, IfErr, IfOk};
 ghost use Rattle.sqlite_wal.specs.Files.{image_at};
 ghost use Rattle.feed_store.specs.Adopted.{IsAdoptedFile, IsOpenedAs};
 
-use crate::fault::{StoreFault, fault_of, open_fault_of};
+use crate::fault::{StoreFault, open_fault_of};
 use crate::sql_keep::SqlKeep;
 use sqlite::Connection;
 use sqlite_disk::{Disk, Start, Unknown};
@@ -64,9 +64,6 @@ impl<D: Disk + Drop> SqlKeep<FileStore<D>> {
     pub fn close(self) -> Result<(), StoreFault>
         ensures cause { IfErr result (λ fault. fault ≢ StoreFault.NotOurs) }
     {
-        match self.into_connection().close() {
-            Ok(()) => Ok(()),
-            Err(error) => Err(fault_of(error)),
-        }
+        Ok(self.into_connection().close()?)
     }
 }

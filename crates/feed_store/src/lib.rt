@@ -9,5 +9,5 @@ mod reasons;
 mod sql_keep;
 
 pub use fault::{AdoptFault, StoreFault};
-pub use laws::histories_stay;
+pub use laws::{histories_stay, memory_stays_clean};
 pub use sql_keep::SqlKeep;

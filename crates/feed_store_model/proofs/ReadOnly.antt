@@ -1,5 +1,5 @@
--- Texts that show no rows of changes, whatever the schema is.
-use Rattle.std.proofs.Common.{◌≡◌, ℕ, List, Bool, true, false, None, Ok, Err, IfOk, if◌then◌else◌, refl}
+-- Texts that show no rows of changes and do not read the time, whatever the schema is.
+use Rattle.std.proofs.Common.{◌≡◌, ℕ, List, [], Bool, true, false, None, Ok, Err, IfOk, if◌then◌else◌, refl}
 use Rattle.sqlite_schema.specs.declared.command.Command.{Command}
 use Rattle.sqlite_schema.specs.declared.schema.Schema.{Schema}
 use Rattle.sqlite_syntax.specs.declared.statement.Parsed.{Parsed}
@@ -7,25 +7,25 @@ use Rattle.sqlite_resolve.specs.declared.compiled.Compiled.{Compiled}
 use Rattle.sqlite_resolve.specs.Lowering.{Checked, and_then}
 use Rattle.sqlite_resolve.specs.declared.error.CompileError.TheVariants.{NoSuchTable}
 use Rattle.sqlite_resolve.specs.Scope.{Name}
-use Rattle.sqlite_resolve.specs.Compile.{compiled, first, meaning, planned, returning, with_command}
+use Rattle.sqlite_resolve.specs.Compile.{compiled, first, meaning, planned, returning, timed, with_command}
 use Rattle.sqlite.specs.Listing.{understood, reads_listing, if_select, is_select, listing_schema}
 
--- a text that changes no row has no rows of changes to show
+-- a text that changes no row has no rows of changes to show; this one does not read the time
 abbrev pub ShowsNone : Compiled → Type 0
-ShowsNone c = c.returning ≡ None
+ShowsNone c = (c.returning ≡ None) × (c.formats ≡ [])
 
 -- as it is written, whatever the schema is
 abbrev pub IsRead : Parsed → Type 0
-IsRead p = (schema : Schema) (base : ℕ) → returning schema base p.statement ≡ Ok None
+IsRead p = (schema : Schema) → (timed schema p.formats p.statement ≡ []) × ((base : ℕ) → returning schema base p.statement ≡ Ok None)
 
-with_any_command : (p : Parsed) (formats : List Name) (r : Checked Command)
+with_any_command : (p : Parsed) (formats : List Name) → formats ≡ [] → (r : Checked Command)
     → IfOk (and_then (and_then (and_then r (λ c. Ok (c, None))) (λ found. Ok (formats, found))) (λ plan. Ok (with_command p plan))) ShowsNone
-with_any_command p formats (Ok c) = refl
-with_any_command p formats (Err e) = tt
+with_any_command p formats none (Ok c) = (refl, none)
+with_any_command p formats none (Err e) = tt
 
 planned_shows_none : (schema : Schema) (p : Parsed) → IsRead p → IfOk (and_then (planned schema p) (λ plan. Ok (with_command p plan))) ShowsNone
 unfolding planned meaning
-planned_shows_none schema p read = rw (read schema _) (with_any_command p _ _)
+planned_shows_none schema p read = rw ((read schema).1 _) (with_any_command p _ (read schema).0 _)
 
 first_shows_none : (schema : Schema) (f : Checked Parsed) → IfOk f IsRead → IfOk (and_then f (λ p. and_then (planned schema p) (λ plan. Ok (with_command p plan)))) ShowsNone
 first_shows_none schema (Ok p) read = planned_shows_none schema p read

@@ -1,4 +1,5 @@
 pub mod Layout
+pub mod Others
 pub mod Tables
 pub mod Records
 pub mod Live

@@ -36,11 +36,11 @@ pieces_plain more keys = (refl, refl)
 -- no selection changes a row, whatever tables there are
 pub releases_read : IfOk (first releases_text) IsRead
 unfolding everything
-releases_read = λ schema base. refl
+releases_read = λ schema. (refl, λ base. refl)
 
 pub pieces_read : IfOk (first pieces_text) IsRead
 unfolding everything
-pieces_read = λ schema base. refl
+pieces_read = λ schema. (refl, λ base. refl)
 
 abbrev pub release_terms : List Term
 release_terms = col 1 0 ∷ col 1 1 ∷ col 1 2 ∷ col 1 3 ∷ col 1 4 ∷ col 1 5 ∷ []

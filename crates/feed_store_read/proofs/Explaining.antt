@@ -18,7 +18,7 @@ use Rattle.feed_keep.specs.declared.record.Record as code
 use Rattle.feed_keep.specs.Shown.{shown}
 use Rattle.feed_keep.specs.Order.{AreNamesInOrder, ArePartsInOrder, IsInOrder}
 use Rattle.feed_store_read.specs.Selected.{AreRecordsOf}
-use Rattle.feed_store_model.specs.Tables.{AreReasons, HoldsRecords, IsLayout2, IsReasonRow, stored_content, content_without_reasons, explained, reason_in}
+use Rattle.feed_store_model.specs.Tables.{AreReasons, HoldsRecords, HoldsReleases, IsLayout2, IsReasonRow, stored_content, content_without_reasons, explained, reason_in}
 use Rattle.feed_store_model.proofs.Contents.{texted_reasons}
 use Rattle.feed_store_model.proofs.Explained.{all_records, explained_same, reason_moved}
 use Rattle.feed_store_model.proofs.Unique.{distinct_reasons}
@@ -63,6 +63,12 @@ pub told_listed : (db : Database) (r : Result (Option (Vec code.Record Global)) 
 told_listed db (Ok (Some records)) told = told.listed
 told_listed db (Ok None) told = told
 told_listed db (Err e) told = tt
+
+-- the database is as it was, so what is read of it now is read of it as it was
+pub told_before : (db now : Database) (c : Content) (r : Result (Option (Vec code.Record Global)) Error) → now ≡ db → IsLayout2 db → HoldsReleases db → c ≡ content_without_reasons db
+    → (IsLayout2 now → HoldsReleases now → c ≡ content_without_reasons now → Told now r) → Told db r
+told_before db now c r same ours rows content told =
+    subst (λ (d : Database). Told d r) same (told (subst IsLayout2 (sym same) ours) (subst HoldsReleases (sym same) rows) (content ∙ ap content_without_reasons (sym same)))
 
 abbrev parts_of : Content → List (List Part)
 parts_of c = map (λ r. r.parts) c

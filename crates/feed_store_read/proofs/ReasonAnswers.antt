@@ -45,7 +45,7 @@ use Rattle.feed_store_read.proofs.Widths.{reason_widths}
 -- the selection changes no row, whatever tables there are
 pub reasons_read : IfOk (first reasons_text) IsRead
 unfolding everything
-reasons_read = λ schema base. refl
+reasons_read = λ schema. (refl, λ base. refl)
 
 reasons_plain : IsPlain (understood layout_2_schema reasons_text)
 unfolding understood everything

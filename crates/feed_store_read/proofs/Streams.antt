@@ -100,7 +100,7 @@ begun_same g sql old new read (inl h) = h
 begun_same g sql old new read (inr h) = absurd (never_both (understood old.schema sql) (read_shows_none sql read old.schema) h.0)
   where
     never_both : (r : Result Compiled CompileError) → IfOk r ShowsNone → Returns r → ⊥
-    never_both (Ok c) none some = absurd (let e : IsSome {T = Returning} None = subst IsSome none some in cc)
+    never_both (Ok c) none some = absurd (let e : IsSome {T = Returning} None = subst IsSome none.0 some in cc)
     never_both (Err e) none some = some
 
 -- the effect so far of a query that returns its rows one by one

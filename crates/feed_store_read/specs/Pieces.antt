@@ -1,5 +1,5 @@
 -- The parts as they are read.
-use Rattle.std.specs.Prelude.{◌≡◌, ◌==◌, ◌++◌, ℕ, ℤ, List, [], ◌∷◌, map, filter, if◌then◌else◌, IsPermutation}
+use Rattle.std.specs.Prelude.{◌≡◌, ◌≢◌, ◌==◌, ◌++◌, ℕ, ℤ, All, Bool, List, [], ◌∷◌, map, filter, if◌then◌else◌, IsPermutation, MatchBool}
 use Rattle.std.specs.List.{AllByRecursion}
 use Rattle.std.specs.List.Sorted.{IsSorted}
 use Rattle.std.specs.Ordering.{nat_cmp, on, then_cmp}
@@ -10,11 +10,19 @@ use Rattle.sqlite_trees.specs.Tree.{rowid}
 use Rattle.sqlite.specs.Effect.{Database}
 use Rattle.feed_names.specs.ReleaseName.{text_of}
 use Rattle.feed_model.specs.Content.{Content, Part, Record}
+use Rattle.feed_keep.specs.declared.record.Record as code
+use Rattle.feed_keep.specs.Shown.{shown}
 use Rattle.feed_store_model.specs.Tables.{IsPieceRow, is_of, part_in, text_in}
 
 -- the record changed so, if it has this name
 abbrev pub if_named : List ℕ → (Record → Record) → Record → Record
 if_named text f r = if pointwise ◌==◌ text (text_of r.name) then f r else r
+
+-- a row is taken with those before it, or it is improper, or no record has its name
+abbrev pub Takes : (List Row → List ℤ → Content → Content → Type 0) → (Row → Type 0) → Row → List ℤ → List ℤ → List code.Record → List code.Record → Bool → Type 0
+Takes Show IsProper row ids more old new taken =
+    MatchBool taken ((rows : List Row) (start : Content) → Show rows ids start (shown old) → Show (rows ++ row ∷ []) more start (shown new))
+    (IsProper row → All (λ r. text_of r.name ≢ text_in row) old)
 
 -- the record with this part behind its own, if it has this name
 abbrev pub given_to : List ℕ → Part → Record → Record

@@ -1,16 +1,13 @@
 //! Reads the stored parts, and adds each to its release.
-ghost use Rattle.std.specs.Prelude.{◌≡◌, ◌≢◌, ◌++◌, ◌∷◌, [], false, All, IfOk, List, MatchBool};
-ghost use Rattle.std.specs.Prelude.{MatchOption};
+ghost use Rattle.std.specs.Prelude.{◌≡◌, IfOk, MatchOption};
 ghost use Rattle.sqlite.specs.Held.{state};
 ghost use Rattle.sqlite.specs.State.{IsUnchanged};
-ghost use Rattle.sqlite_value.specs.Order.{Row as Values};
-ghost use Rattle.feed_names.specs.ReleaseName.{text_of};
-ghost use Rattle.feed_model.specs.Content.{Content, names};
+ghost use Rattle.feed_model.specs.Content.{names};
 ghost use Rattle.feed_keep.specs.Shown.{shown};
 ghost use Rattle.feed_store_model.specs.Live.{IsLive};
-ghost use Rattle.feed_store_model.specs.Tables.{HoldsReleases, IsTabled, IsPieceRow, text_in};
+ghost use Rattle.feed_store_model.specs.Tables.{HoldsReleases, IsTabled, IsPieceRow};
 ghost use Rattle.feed_store_read.specs.Order.{AreNamesAscending};
-ghost use Rattle.feed_store_read.specs.Pieces.{ArePieces, ShowPieces};
+ghost use Rattle.feed_store_read.specs.Pieces.{ArePieces, ShowPieces, Takes};
 ghost use Rattle.feed_store_read.specs.Releases.{AreReleases, WritesNothing};
 
 use crate::piece_row::piece_in_row;
@@ -63,10 +60,8 @@ fn take_piece(
 ) -> Result<bool, Error>
     requires up { AreNamesAscending (names (shown records.old.items)) }
     ensures names { names (shown records.new.items) ≡ names (shown records.old.items) }
-    ensures taken { IfOk result (λ taken. MatchBool taken ((rows : List Values) (start : Content)
-        → ShowPieces rows ids.old.items start (shown records.old.items)
-        → ShowPieces (rows ++ row.now ∷ []) ids.new.items start (shown records.new.items))
-        (IsPieceRow row.now → All (λ r. text_of r.name ≢ text_in row.now) records.old.items)) }
+    ensures taken { IfOk result (Takes ShowPieces IsPieceRow row.now ids.old.items ids.new.items
+        records.old.items records.new.items) }
 {
     let Some(piece) = piece_in_row(row) else {
         return Ok(false);

@@ -1,14 +1,14 @@
 //! Reads the reasons of the broken releases, and sets the reason of each.
-ghost use Rattle.std.specs.Prelude.{◌≡◌, ◌≢◌, ◌++◌, ◌∷◌, [], false, All, IfOk, List, MatchBool, MatchOption, map};
+ghost use Rattle.std.specs.Prelude.{◌≡◌, ◌≢◌, All, IfOk, MatchBool, MatchOption, map};
 ghost use Rattle.sqlite.specs.Held.{state};
 ghost use Rattle.sqlite.specs.State.{IsUnchanged};
-ghost use Rattle.sqlite_value.specs.Order.{Row as Values};
 ghost use Rattle.feed_names.specs.ReleaseName.{text_of};
-ghost use Rattle.feed_model.specs.Content.{Content, names};
+ghost use Rattle.feed_model.specs.Content.{names};
 ghost use Rattle.feed_keep.specs.Shown.{shown};
 ghost use Rattle.feed_store_model.specs.Live.{IsLive};
-ghost use Rattle.feed_store_model.specs.Tables.{HoldsRecords, IsLayout2, IsReasonRow, content_without_reasons, text_in};
+ghost use Rattle.feed_store_model.specs.Tables.{HoldsRecords, IsLayout2, IsReasonRow, content_without_reasons};
 ghost use Rattle.feed_store_read.specs.Order.{AreNamesAscending};
+ghost use Rattle.feed_store_read.specs.Pieces.{Takes};
 ghost use Rattle.feed_store_read.specs.Reasons.{AreReasonsOf, ShowReasons, with_first_reason};
 ghost use Rattle.feed_store_read.specs.Releases.{WritesNothing};
 
@@ -58,10 +58,8 @@ fn take_reason(ids: &mut Vec<i64>, records: &mut Vec<Record>, row: &Row) -> Resu
     requires up { AreNamesAscending (names (shown records.old.items)) }
     ensures names { names (shown records.new.items) ≡ names (shown records.old.items) }
     ensures parts { map (λ r. r.parts) (shown records.new.items) ≡ map (λ r. r.parts) (shown records.old.items) }
-    ensures taken { IfOk result (λ taken. MatchBool taken ((rows : List Values) (start : Content)
-        → ShowReasons rows ids.old.items start (shown records.old.items)
-        → ShowReasons (rows ++ row.now ∷ []) ids.new.items start (shown records.new.items))
-        (IsReasonRow row.now → All (λ r. text_of r.name ≢ text_in row.now) records.old.items)) }
+    ensures taken { IfOk result (Takes ShowReasons IsReasonRow row.now ids.old.items ids.new.items
+        records.old.items records.new.items) }
 {
     let Some(reason) = reason_in_row(row) else {
         return Ok(false);

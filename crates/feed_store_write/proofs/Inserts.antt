@@ -1,7 +1,7 @@
 -- The effects of the statements that insert a row.
 use Rattle.std.proofs.Common.{◌≡◌, Bool, MatchBool, Option, Result, ℕ, pos, List, [], ◌∷◌, true, false, None, Some, Ok, slice_get}
 use Rattle.std.proofs.Common.{length, ◌/◌, if◌then◌else◌, refl, sym, ap, subst, ◌∙◌}
-use Rattle.sqlite_value.specs.declared.value.Value.TheVariants.{Null, Int, Text, Blob}
+use Rattle.sqlite_value.specs.declared.value.Value.TheVariants.{Null, Int}
 use Rattle.sqlite_value.specs.Order.{Row}
 use Rattle.sqlite_schema.specs.declared.schema.Keys.TheVariants.{Enforced}
 use Rattle.sqlite_rules.specs.Edit.{are_fresh, taken_by, put_all}
@@ -31,6 +31,7 @@ use Rattle.feed_store_model.proofs.AddedPart.{part_row}
 use Rattle.feed_store_model.proofs.AddedReason.{said_row}
 use Rattle.feed_store_model.proofs.AddedRelease.{new_row}
 use Rattle.feed_store_model.proofs.Inserted.{Puts, cast_null, cast_int, free_from}
+use Rattle.feed_store_write.specs.Statements.{part_params, reason_params, release_params}
 use Rattle.feed_store_write.specs.Texts.{insert_release_text, insert_piece_text, insert_reason_text, insert_version_text}
 use Rattle.feed_store_write.proofs.Runs.{went, same_value}
 
@@ -129,14 +130,6 @@ version_plain : IsPlain (understood layout_2_schema insert_version_text)
 unfolding understood everything
 version_plain = (refl, refl)
 
--- the values of the statement that inserts a release
-abbrev pub release_params : Name → ℕ → model.State → Row
-release_params n size s = Text (text_of n) ∷ Text n.stem ∷ Int n.day ∷ Int (pos size) ∷ Int (pos (number_of s)) ∷ []
-
--- the values of the statement that inserts a part
-abbrev pub part_params : Name → Part → Row
-part_params n p = Text (text_of n) ∷ Int (pos p.first) ∷ Blob p.bytes ∷ []
-
 pub puts_release : (n : Name) (size : ℕ) (s : model.State) (old new : State) (count : ℕ) → old.now.schema ≡ layout_2_schema
     → Executes insert_release_text (release_params n size s) old new (Ok count) → Puts release (new_row n size s old.now) old.now new.now
 puts_release n size s old new count has h =
@@ -154,12 +147,8 @@ pub puts_version : (old new : State) (count : ℕ) → old.now.schema ≡ layout
 puts_version old new count has h =
     puts insert_version_text [] old new count 0 layout (lit (Int (pos 2)) ∷ lit Null ∷ []) 2 (version_row 2) refl refl version_is version_plain has h (rw (cast_int (pos 2), cast_null)) refl
 
--- the values of the statement that inserts a reason
-abbrev pub said_params : Name → ℕ → ℕ → Row
-said_params n number place = Text (text_of n) ∷ Int (pos number) ∷ Int (pos place) ∷ []
-
 pub puts_reason : (n : Name) (number place : ℕ) (old new : State) (count : ℕ) → old.now.schema ≡ layout_2_schema
-    → Executes insert_reason_text (said_params n number place) old new (Ok count) → Puts reason (said_row n number place old.now) old.now new.now
+    → Executes insert_reason_text (reason_params n number place) old new (Ok count) → Puts reason (said_row n number place old.now) old.now new.now
 puts_reason n number place old new count has h =
-    puts insert_reason_text (said_params n number place) old new count 3 reason reason_terms 4 (said_row n number place old.now) refl refl reason_is reason_plain has h
+    puts insert_reason_text (reason_params n number place) old new count 3 reason reason_terms 4 (said_row n number place old.now) refl refl reason_is reason_plain has h
     (rw (cast_null, cast_int (pos number), cast_int (pos place))) refl

@@ -11,3 +11,5 @@ mod LayoutNumber
 mod Selects
 mod Renumbering
 mod Steps
+mod Found
+mod Ran

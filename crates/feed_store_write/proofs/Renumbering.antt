@@ -6,7 +6,7 @@ use Rattle.sqlite_schema.specs.declared.schema.Keys.TheVariants.{Enforced}
 use Rattle.sqlite_trees.specs.Tree.{Trees, rowid, put_row}
 use Rattle.sqlite_rules.specs.declared.error.Rowids.TheVariants.{Given}
 use Rattle.sqlite_rules.specs.Cast.{cast_row}
-use Rattle.sqlite_rules.specs.Edit.{edit_of, edited, id_in, taken_by, without_all}
+use Rattle.sqlite_rules.specs.Edit.{Edit, edit_of, edited, id_in, taken_by, without_all}
 use Rattle.sqlite_rules.specs.Action.{works}
 use Rattle.sqlite_rules.specs.Calls.{ids_of}
 use Rattle.sqlite_sql.specs.Term.{eval_all}
@@ -16,14 +16,13 @@ use Rattle.sqlite.specs.Listing.{understood}
 use Rattle.sqlite.specs.Query.{Query, IsAnswer}
 use Rattle.sqlite.specs.Program.{overlay}
 use Rattle.sqlite.specs.Term.{col, lit}
-use Rattle.sqlite.specs.Does.{Tally, Does}
-use Rattle.sqlite.specs.Rows.{Written}
+use Rattle.sqlite.specs.Does.{Does}
 use Rattle.sqlite.specs.Effect.{Database, IsDatabase}
 use Rattle.sqlite.specs.State.{State, mode_of, Executes}
 use Rattle.sqlite.proofs.Callers.{IsPlain, command_of, statement_of, runs_as, one_step, one_permutation}
 use Rattle.feed_store_write.specs.Texts.{set_version_text}
 use Rattle.feed_store_write.specs.Effects.{IsRenumbering}
-use Rattle.feed_store_write.proofs.Runs.{went, same_value}
+use Rattle.feed_store_write.proofs.Runs.{edited_rows, picked, task_of}
 use Rattle.feed_store_model.specs.Layout.{layout_2_schema, layout}
 use Rattle.feed_store_model.specs.Tables.{AreReasons, version_row}
 use Rattle.feed_store_model.proofs.Basics.{one_zero, three_zero, five_zero}
@@ -69,23 +68,20 @@ numbers old new count has h =
     let command = command.Update 0 (record { lets = []; body = with_number_2 }) in
     let w = runs_as set_version_text [] old new layout_2_schema has command upgrade_is upgrade_plain count h in
     let text = statement_of set_version_text (understood layout_2_schema set_version_text) in
-    let done = went (subst (λ s. Does old.step_limit (mode_of old) [] (record old.now { schema = s }) text None command (Ok (w.tally, new.now))) has w.changed) in
-    let now = ap (λ (p : Tally × Database). p.1) (same_value (went (went done.2).2).2) in
-    let given = went done.1 in
-    let written = went given.2 in
-    let trees : done.0.trees ≡ written.0 = ap (λ (it : Written). it.trees) (same_value written.2) in
-    let all : new.now.trees ≡ written.0 = ap (λ (d : Database). d.trees) now ∙ trees in
-    let edit = edit_of old.now.trees layout (ids_of given.0) Given 1 given.0 in
-    let step = one_step layout_2_schema _ old.now.trees written.0 edit (no_work (taken_by old.now.trees edit) edit.news) written.1 in
+    let done = subst (λ s. Does old.step_limit (mode_of old) [] (record old.now { schema = s }) text None command (Ok (w.tally, new.now))) has w.changed in
+    let edit : List Row → Edit = λ rows. edit_of old.now.trees layout (ids_of rows) Given 1 rows in
+    let picks = picked old (record { lets = []; body = with_number_2 }) [] in
+    let it = edited_rows (task_of old layout []) (mode_of old) picks edit (λ rows. (edit rows).news) old.now.trees w.tally new.now done in
+    let step = one_step layout_2_schema _ old.now.trees new.now.trees (edit it.1) (no_work (taken_by old.now.trees (edit it.1)) (edit it.1).news) it.3 in
     record {
-      schema = ap (λ (d : Database). d.schema) now;
+      schema = it.0;
       sound = w.sound;
-      rows = given.0;
-      picked = given.1.answer Null;
-      layout = ap (λ (t : Trees). t 0) all ∙ step.rows;
-      releases = ap (λ (t : Trees). t 1) all ∙ step.tables.1.0 one_zero;
-      pieces = ap (λ (t : Trees). t 3) all ∙ step.tables.1.1.0 three_zero;
-      reasons = ap (λ (t : Trees). t 5) all ∙ step.tables.1.1.1.0 five_zero;
+      rows = it.1;
+      picked = it.2.answer Null;
+      layout = step.rows;
+      releases = step.tables.1.0 one_zero;
+      pieces = step.tables.1.1.0 three_zero;
+      reasons = step.tables.1.1.1.0 five_zero;
     }
 
 -- a layout of one row of the number 1 gets one of the number 2
@@ -128,6 +124,7 @@ renumbers old new count h first earlier extended =
         obeyed = it.sound;
         version = renumbered old.now new.now it (ap (map rowid) extended.layout ∙ earlier.version);
       };
+      rows = (one, three);
       listed = λ are. record { rows = rw (one, three) are; reasons = subst AreReasons (sym five) no_reasons };
       content = λ are. rw (one, three, five) (unexplained (first.trees 3) (first.trees 1));
     }

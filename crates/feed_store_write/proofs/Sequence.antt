@@ -15,7 +15,7 @@ use Rattle.feed_model.proofs.Names.{name_self}
 use Rattle.feed_store_model.specs.Records.{bare, with_part, with_parts, with_reason, with_state}
 use Rattle.feed_store_model.specs.Tables.{IsStored, stored_content}
 use Rattle.feed_store_model.proofs.Stored.{stored}
-use Rattle.feed_store_write.specs.Effects.{IsAllowedChange, IsContentChange, IsContentChangeIf, IsMade, IsTransition}
+use Rattle.feed_store_write.specs.Effects.{IsAllowedChange, IsContentChange, IsContentChangeIf, IsMade, IsReasonChangeIf, IsTransition}
 
 -- one change of a record after another
 changed_twice : (n : Name) (f g h : Record → Record) → ((r : Record) → (f r).name ≡ r.name) → ((r : Record) → g (f r) ≡ h r) → (c : Content)
@@ -143,11 +143,11 @@ changed_inserted f r same (x ∷ xs) free = by (name_eq x.name r.name) (comes_be
 
 -- an empty file is broken as it is offered
 pub empty_made : (n : Name) (a b c : State) → IsMade (IsContentChangeIf (0 ≤ max_file) (insert_record (bare n 0 states.Broken))) a b
-    → IsMade (IsContentChangeIf (IsStored NoHeader) (changed n (with_reason NoHeader))) b c → IsMade (IsAllowedChange (Add n 0)) a c
+    → IsMade (IsReasonChangeIf (IsStored NoHeader) (changed n (with_reason NoHeader))) b c → IsMade (IsAllowedChange (Add n 0)) a c
 empty_made n a b c one two = record {
   change = λ allowed ours.
       let first = one.change (omega arith) ours in
-      let second = two.change tt first.ours in record {
+      let second = (two.change tt first.ours).0 in record {
         ours = second.ours;
         listed = λ are. second.listed (first.listed are);
         content = λ are. second.content (first.listed are) ∙ ap (changed n (with_reason NoHeader)) (first.content are)
@@ -173,12 +173,12 @@ staged_made n size a b some = made_as (IsContentChangeIf (size ≤ max_file) (in
 
 -- parts, the state and a reason are what the change of a record is
 pub break_made : (n : Name) (ps : List Part) (why : BadFile) (a b c : State) → IsMade (IsContentChange (changed n (grown ps states.Broken))) a b
-    → IsMade (IsContentChangeIf (IsStored why) (changed n (with_reason why))) b c → IsMade (IsAllowedChange (Break n ps why)) a c
+    → IsMade (IsReasonChangeIf (IsStored why) (changed n (with_reason why))) b c → IsMade (IsAllowedChange (Break n ps why)) a c
 break_made n ps why a b c one two = record {
   change = λ allowed ours.
       let bad = allowed.3 in
       let first = one.change ours in
-      let second = two.change (stored bad.0 why bad.2) first.ours in record {
+      let second = (two.change (stored bad.0 why bad.2) first.ours).0 in record {
         ours = second.ours;
         listed = λ are. second.listed (first.listed are);
         content = λ are. second.content (first.listed are) ∙ ap (changed n (with_reason why)) (first.content are)

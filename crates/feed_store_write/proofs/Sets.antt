@@ -1,25 +1,23 @@
 -- The effect of the statement that sets a state.
 use Rattle.std.proofs.Common.{◌≡◌, ℕ, ℤ, List, [], ◌∷◌, Bool, true, false, None}
-use Rattle.std.proofs.Common.{Ok, refl, ◌==◌, length, suc, ap, subst, ◌∙◌}
+use Rattle.std.proofs.Common.{Ok, refl, ◌==◌, length, suc, subst}
 use Rattle.sqlite_value.specs.declared.value.Value.TheVariants.{Null, Int, Text}
 use Rattle.sqlite_value.specs.Order.{Row}
 use Rattle.sqlite_schema.specs.declared.schema.Keys.TheVariants.{Enforced}
 use Rattle.sqlite_rules.specs.declared.error.Rowids.TheVariants.{Given}
-use Rattle.sqlite_rules.specs.Edit.{edit_of, taken_by}
+use Rattle.sqlite_rules.specs.Edit.{Edit, edit_of, taken_by}
 use Rattle.sqlite_rules.specs.Action.{works}
 use Rattle.sqlite_rules.specs.Calls.{ids_of}
 use Rattle.sqlite.specs.Command.TheVariants as command
 use Rattle.sqlite.specs.Tree.{Trees}
-use Rattle.sqlite.specs.Does.{Tally, Does}
-use Rattle.sqlite.specs.Rows.{Written}
-use Rattle.sqlite.specs.Effect.{Database}
+use Rattle.sqlite.specs.Does.{Does}
 use Rattle.sqlite_tied.specs.Compute.{everything}
 use Rattle.sqlite.specs.Listing.{understood}
 use Rattle.sqlite.specs.State.{State, mode_of, Executes}
 use Rattle.sqlite.proofs.Callers.{IsPlain, command_of, statement_of, runs_as, one_step}
 use Rattle.feed_store_write.specs.Texts.{set_state_text}
 use Rattle.feed_store_model.specs.Layout.{layout_2_schema, release}
-use Rattle.feed_store_write.proofs.Runs.{went, same_value}
+use Rattle.feed_store_write.proofs.Runs.{edited_rows, picked, task_of}
 use Rattle.std.proofs.Math.Dec.{eqb-suc-zero}
 use Rattle.feed_store_model.proofs.Basics.{zero_one, three_one, five_one}
 use Rattle.feed_store_model.proofs.Cascade.{key_is}
@@ -53,23 +51,17 @@ sets old new name status count has h =
     let command = command.Update 1 (record { lets = []; body = with_new_state }) in
     let w = runs_as set_state_text params old new layout_2_schema has command set_is set_plain count h in
     let text = statement_of set_state_text (understood layout_2_schema set_state_text) in
-    let done = went (subst (λ s. Does old.step_limit (mode_of old) params (record old.now { schema = s }) text None command (Ok (w.tally, new.now))) has w.changed) in
-    let now = ap (λ (p : Tally × Database). p.1) (same_value (went (went done.2).2).2) in
-    let given = went done.1 in
-    let written = went given.2 in
-    let trees : done.0.trees ≡ written.0 = ap (λ (it : Written). it.trees) (same_value written.2) in
-    let all : new.now.trees ≡ written.0 = ap (λ (d : Database). d.trees) now ∙ trees in
-    let step = one_step layout_2_schema _ old.now.trees written.0 (edit_of old.now.trees release (ids_of given.0) Given 1 given.0) (no_work old.now.trees given.0) written.1 in
+    let done = subst (λ s. Does old.step_limit (mode_of old) params (record old.now { schema = s }) text None command (Ok (w.tally, new.now))) has w.changed in
+    let edit : List Row → Edit = λ rows. edit_of old.now.trees release (ids_of rows) Given 1 rows in
+    let picks = picked old (record { lets = []; body = with_new_state }) params in
+    let it = edited_rows (task_of old release params) (mode_of old) picks edit (λ rows. (edit rows).news) old.now.trees w.tally new.now done in
+    let step = one_step layout_2_schema _ old.now.trees new.now.trees (edit it.1) (no_work old.now.trees it.1) it.3 in
     record {
-      keeps = record {
-        schema = ap (λ (d : Database). d.schema) now;
-        sound = w.sound;
-        layout = ap (λ (t : Trees). t 0) all ∙ step.tables.0 zero_one;
-      };
+      keeps = record { schema = it.0; sound = w.sound; layout = step.tables.0 zero_one };
       fresh = step.fresh;
-      rows = given.0;
-      picked = given.1.answer Null;
-      releases = ap (λ (t : Trees). t 1) all ∙ step.rows;
-      pieces = ap (λ (t : Trees). t 3) all ∙ step.tables.1.1.0 three_one;
-      reasons = ap (λ (t : Trees). t 5) all ∙ step.tables.1.1.1.0 five_one;
+      rows = it.1;
+      picked = it.2.answer Null;
+      releases = step.rows;
+      pieces = step.tables.1.1.0 three_one;
+      reasons = step.tables.1.1.1.0 five_one;
     }

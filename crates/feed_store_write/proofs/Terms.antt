@@ -60,7 +60,7 @@ all_three false b c h = absurd (true≢false (sym h))
 pub of_three : (a b c : Bool) → IsTrue a → IsTrue b → IsTrue c → IsTrue ((a && b) && c)
 of_three a b c x y z = rw (x, y, z) refl
 
-both : (a b : Bool) → IsTrue (a && b) → IsTrue a × IsTrue b
+pub both : (a b : Bool) → IsTrue (a && b) → IsTrue a × IsTrue b
 both true true h = (refl, refl)
 both true false h = absurd (true≢false (sym h))
 both false b h = absurd (true≢false (sym h))

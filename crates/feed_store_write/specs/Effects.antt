@@ -51,6 +51,14 @@ IsContentChange f old new = IsLayout2 old → IsChanged f old new
 abbrev pub IsContentChangeIf : Type 0 → (Content → Content) → Database → Database → Type 0
 IsContentChangeIf Condition f old new = Condition → IsContentChange f old new
 
+-- the rows of releases and of parts are as they were
+abbrev pub KeepsReleases : Database → Database → Type 0
+KeepsReleases old new = (new.trees 1 ≡ old.trees 1) × (new.trees 3 ≡ old.trees 3)
+
+-- under a condition, a database of layout 2 has its content changed so, by its reasons alone
+abbrev pub IsReasonChangeIf : Type 0 → (Content → Content) → Database → Database → Type 0
+IsReasonChangeIf Condition f old new = Condition → IsLayout2 old → IsChanged f old new × KeepsReleases old new
+
 -- if the change of the records is allowed, a database of layout 2 has its content changed so
 abbrev pub IsAllowedChange : Change → Database → Database → Type 0
 IsAllowedChange change old new = IsAllowed change (stored_content old) → IsContentChange (after change) old new
@@ -84,9 +92,10 @@ pub record IsExtended (old new : Database) : Type 0 where
 abbrev pub IsExtension : Database → Database → Type 0
 IsExtension old new = old.schema ≡ layout_1_schema → IsExtended old new
 
--- a database of layout 1 becomes one of layout 2, whose content is this of the one before
+-- a database of layout 1 becomes one of layout 2, whose content is this of the one before; its rows stay
 pub record IsUpgraded (f : Content → Content) (old new : Database) : Type 0 where
   pub ours : IsLayout2 new
+  pub rows : KeepsReleases old new
   pub listed : HoldsReleases old → HoldsRecords new
   pub content : HoldsReleases old → stored_content new ≡ f (content_without_reasons old)
 

@@ -1,10 +1,12 @@
 //! Commits each change of the records as one transaction.
-ghost use Rattle.std.specs.Prelude.{◌≡◌, false, OnOk, OnErr};
-ghost use Rattle.feed_model.specs.Change.{Add, Break, changed, grown, without_earlier};
+ghost use Rattle.std.specs.Prelude.{◌≡◌, ◌++◌, ◌∷◌, [], false, map, OnOk, OnErr};
+ghost use Rattle.feed_model.specs.Change.{Activate, Add, Break, changed, grown, without_earlier};
 ghost use Rattle.feed_parts.specs.Shown.{shown_parts};
 ghost use Rattle.feed_keep.specs.Shown.{shown_change};
 ghost use Rattle.feed_store_write.specs.Effects.{CommitsNothing, IsAllowedChange, IsContentChange, IsLive, IsMadeOnOk};
+ghost use Rattle.feed_store_write.specs.Statements.{AddPart, HaveRunOnOk, IsCommitted, SetState, statements_of};
 ghost use Rattle.sqlite.specs.Held.{state};
+ghost use Rattle.sqlite.specs.State.{HasCleanDisk};
 
 use crate::statements::{delete_earlier, insert_parts, insert_reason, insert_release, set_state};
 use feed_kbart::BadFile;
@@ -26,6 +28,8 @@ pub fn commit_change<S: Alter>(conn: &mut Connection<S>, change: &Change<'_>) ->
     ensures live { IsLive (state S.Store conn.new) → IsLive (state S.Store conn.old) }
     ensures whole { IsLive (state S.Store conn.new) → OnOk result (IsAllowedChange (shown_change change.now)
         (state S.Store conn.old).now (state S.Store conn.new).now) }
+    ensures ran { HasCleanDisk (state S.Store conn.new) → OnOk result (IsCommitted S.Store
+        (statements_of (shown_change change.now)) conn.old conn.new) }
     ensures neither { IsLive (state S.Store conn.new)
         → OnErr result ((state S.Store conn.new).now ≡ (state S.Store conn.old).now) }
 {
@@ -42,6 +46,7 @@ fn apply_change<S: Alter>(tx: &mut Transaction<'_, S>, change: &Change<'_>) -> R
     ensures same_reference { tx.new.conn.ghost_name ≡ tx.old.conn.ghost_name }
     ensures made { IsMadeOnOk S.Store (IsAllowedChange (shown_change change.now))
         tx.old.conn.now tx.new.conn.now result }
+    ensures ran { HaveRunOnOk S.Store (statements_of (shown_change change.now)) tx.old.conn.now tx.new.conn.now result }
     ensures inside { CommitsNothing S.Store tx.old.conn.now tx.new.conn.now }
 {
     match change {
@@ -64,6 +69,7 @@ fn add_release<S: Alter>(
 ) -> Result<(), Error>
     ensures same_reference { tx.new.conn.ghost_name ≡ tx.old.conn.ghost_name }
     ensures made { IsMadeOnOk S.Store (IsAllowedChange (Add name.now size)) tx.old.conn.now tx.new.conn.now result }
+    ensures ran { HaveRunOnOk S.Store (statements_of (Add name.now size)) tx.old.conn.now tx.new.conn.now result }
     ensures inside { CommitsNothing S.Store tx.old.conn.now tx.new.conn.now }
 {
     let Ok(short) = u32::try_from(size) else {
@@ -79,6 +85,7 @@ fn add_release<S: Alter>(
 fn add_empty_release<S: Alter>(tx: &mut Transaction<'_, S>, name: &ReleaseName) -> Result<(), Error>
     ensures same_reference { tx.new.conn.ghost_name ≡ tx.old.conn.ghost_name }
     ensures made { IsMadeOnOk S.Store (IsAllowedChange (Add name.now 0)) tx.old.conn.now tx.new.conn.now result }
+    ensures ran { HaveRunOnOk S.Store (statements_of (Add name.now 0)) tx.old.conn.now tx.new.conn.now result }
     ensures inside { CommitsNothing S.Store tx.old.conn.now tx.new.conn.now }
 {
     insert_release(tx, name, 0, State::Broken)?;
@@ -94,6 +101,8 @@ fn break_release<S: Alter>(
 ) -> Result<(), Error>
     ensures same_reference { tx.new.conn.ghost_name ≡ tx.old.conn.ghost_name }
     ensures made { IsMadeOnOk S.Store (IsAllowedChange (Break name.now (shown_parts parts.now) why))
+        tx.old.conn.now tx.new.conn.now result }
+    ensures ran { HaveRunOnOk S.Store (statements_of (Break name.now (shown_parts parts.now) why))
         tx.old.conn.now tx.new.conn.now result }
     ensures inside { CommitsNothing S.Store tx.old.conn.now tx.new.conn.now }
 {
@@ -111,6 +120,8 @@ fn finish<S: Alter>(
     ensures same_reference { tx.new.conn.ghost_name ≡ tx.old.conn.ghost_name }
     ensures made { IsMadeOnOk S.Store (IsContentChange (changed name.now (grown (shown_parts parts.now) value)))
         tx.old.conn.now tx.new.conn.now result }
+    ensures ran { HaveRunOnOk S.Store (map (AddPart name.now) (shown_parts parts.now) ++ SetState name.now value ∷ [])
+        tx.old.conn.now tx.new.conn.now result }
     ensures inside { CommitsNothing S.Store tx.old.conn.now tx.new.conn.now }
 {
     insert_parts(tx, name, parts)?;
@@ -126,6 +137,8 @@ fn activate<S: Alter>(
     ensures same_reference { tx.new.conn.ghost_name ≡ tx.old.conn.ghost_name }
     ensures made { IsMadeOnOk S.Store (IsContentChange
         (λ c. without_earlier name.now (changed name.now (grown (shown_parts parts.now) State.Active) c)))
+        tx.old.conn.now tx.new.conn.now result }
+    ensures ran { HaveRunOnOk S.Store (statements_of (Activate name.now (shown_parts parts.now)))
         tx.old.conn.now tx.new.conn.now result }
     ensures inside { CommitsNothing S.Store tx.old.conn.now tx.new.conn.now }
 {

@@ -1,9 +1,11 @@
 //! Creates the tables of an empty database.
-ghost use Rattle.std.specs.Prelude.{◌≡◌, false, IsTrue, OnErr, OnOk};
+ghost use Rattle.std.specs.Prelude.{◌≡◌, ◌∷◌, [], false, IsTrue, OnErr, OnOk};
 ghost use Rattle.feed_store_write.specs.Effects.{CommitsNothing, IsBlank, IsExtension, IsLive, IsMadeOnOk};
 ghost use Rattle.feed_store_write.specs.Effects.{IsTransition};
 ghost use Rattle.feed_store_write.specs.Schemas.{HasAllTables, HasLayoutTable, HasNoTable, HasPieceTable};
 ghost use Rattle.feed_store_write.specs.Schemas.{HasReleaseTable};
+ghost use Rattle.feed_store_write.specs.Statements.{HaveRunOnOk, IsCommitted, Plain, creation};
+ghost use Rattle.feed_store_write.specs.Texts.{insert_version_text, layout_text, piece_text, reason_text, release_text};
 ghost use Rattle.sqlite.specs.Held.{state};
 ghost use Rattle.sqlite.specs.State.{HasCleanDisk};
 
@@ -23,6 +25,8 @@ pub fn create_tables<S: Alter>(conn: &mut Connection<S>) -> Result<(), Error>
     ensures live { IsLive (state S.Store conn.new) → IsLive (state S.Store conn.old) }
     ensures whole { IsLive (state S.Store conn.new) → OnOk result (IsTransition HasNoTable IsBlank
         (state S.Store conn.old).now (state S.Store conn.new).now) }
+    ensures ran { HasCleanDisk (state S.Store conn.new)
+        → OnOk result (IsCommitted S.Store creation conn.old conn.new) }
     ensures neither { IsLive (state S.Store conn.new)
         → OnErr result ((state S.Store conn.new).now ≡ (state S.Store conn.old).now) }
 {
@@ -38,6 +42,7 @@ pub fn create_tables<S: Alter>(conn: &mut Connection<S>) -> Result<(), Error>
 fn create_all<S: Alter>(tx: &mut Transaction<'_, S>) -> Result<(), Error>
     ensures same_reference { tx.new.conn.ghost_name ≡ tx.old.conn.ghost_name }
     ensures made { IsMadeOnOk S.Store (IsTransition HasNoTable IsBlank) tx.old.conn.now tx.new.conn.now result }
+    ensures ran { HaveRunOnOk S.Store creation tx.old.conn.now tx.new.conn.now result }
     ensures inside { CommitsNothing S.Store tx.old.conn.now tx.new.conn.now }
 {
     create_layout(tx)?;
@@ -51,6 +56,7 @@ fn create_layout<S: Alter>(tx: &mut Transaction<'_, S>) -> Result<(), Error>
     ensures same_reference { tx.new.conn.ghost_name ≡ tx.old.conn.ghost_name }
     ensures made { IsMadeOnOk S.Store (IsTransition HasNoTable HasLayoutTable)
         tx.old.conn.now tx.new.conn.now result }
+    ensures ran { HaveRunOnOk S.Store (Plain layout_text ∷ []) tx.old.conn.now tx.new.conn.now result }
     ensures inside { CommitsNothing S.Store tx.old.conn.now tx.new.conn.now }
 {
     run(
@@ -64,6 +70,7 @@ fn create_release<S: Alter>(tx: &mut Transaction<'_, S>) -> Result<(), Error>
     ensures same_reference { tx.new.conn.ghost_name ≡ tx.old.conn.ghost_name }
     ensures made { IsMadeOnOk S.Store (IsTransition HasLayoutTable HasReleaseTable)
         tx.old.conn.now tx.new.conn.now result }
+    ensures ran { HaveRunOnOk S.Store (Plain release_text ∷ []) tx.old.conn.now tx.new.conn.now result }
     ensures inside { CommitsNothing S.Store tx.old.conn.now tx.new.conn.now }
 {
     run(
@@ -85,6 +92,7 @@ fn create_piece<S: Alter>(tx: &mut Transaction<'_, S>) -> Result<(), Error>
     ensures same_reference { tx.new.conn.ghost_name ≡ tx.old.conn.ghost_name }
     ensures made { IsMadeOnOk S.Store (IsTransition HasReleaseTable HasPieceTable)
         tx.old.conn.now tx.new.conn.now result }
+    ensures ran { HaveRunOnOk S.Store (Plain piece_text ∷ []) tx.old.conn.now tx.new.conn.now result }
     ensures inside { CommitsNothing S.Store tx.old.conn.now tx.new.conn.now }
 {
     run(
@@ -106,6 +114,7 @@ pub(crate) fn create_reason<S: Alter>(tx: &mut Transaction<'_, S>) -> Result<(),
     ensures made { IsMadeOnOk S.Store IsExtension tx.old.conn.now tx.new.conn.now result }
     ensures blank { IsMadeOnOk S.Store (IsTransition HasPieceTable HasAllTables)
         tx.old.conn.now tx.new.conn.now result }
+    ensures ran { HaveRunOnOk S.Store (Plain reason_text ∷ []) tx.old.conn.now tx.new.conn.now result }
     ensures inside { CommitsNothing S.Store tx.old.conn.now tx.new.conn.now }
 {
     run(
@@ -125,6 +134,7 @@ fn insert_version<S: Alter>(tx: &mut Transaction<'_, S>) -> Result<(), Error>
     ensures same_reference { tx.new.conn.ghost_name ≡ tx.old.conn.ghost_name }
     ensures made { IsMadeOnOk S.Store (IsTransition HasAllTables IsBlank)
         tx.old.conn.now tx.new.conn.now result }
+    ensures ran { HaveRunOnOk S.Store (Plain insert_version_text ∷ []) tx.old.conn.now tx.new.conn.now result }
     ensures inside { CommitsNothing S.Store tx.old.conn.now tx.new.conn.now }
 {
     run(tx, "INSERT INTO feed_layout (version) VALUES (2)", &[])

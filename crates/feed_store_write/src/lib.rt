@@ -2,6 +2,7 @@
 //! records as one transaction.
 #![tactic(auto)]
 
+mod beside;
 mod changes;
 mod layout;
 mod number;
@@ -10,6 +11,7 @@ mod schema;
 mod statements;
 mod upgrading;
 
+pub use beside::{has_layout_1_tables, has_layout_2_tables, is_free};
 pub use changes::commit_change;
 pub use layout::create_tables;
 pub use number::has_layout_number;

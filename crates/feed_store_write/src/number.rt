@@ -1,6 +1,7 @@
 //! Reads the number of a database's layout.
-ghost use Rattle.std.specs.Prelude.{◌≡◌, ◌∷◌, ◌↔◌, [], false, pos, IfOk, IsTrue};
+ghost use Rattle.std.specs.Prelude.{◌≡◌, ◌∷◌, ◌↔◌, [], false, pos, IfOk, IsTrue, MatchBool};
 ghost use Rattle.feed_store_write.specs.Effects.{IsLive, ReportsNumber};
+ghost use Rattle.feed_store_write.specs.Number.{HasNumber, HasOtherNumber};
 ghost use Rattle.sqlite.specs.Held.{state};
 ghost use Rattle.sqlite.specs.State.{HasCleanDisk};
 ghost use Rattle.sqlite_value.specs.declared.value.Value.TheVariants.{Int};
@@ -20,6 +21,9 @@ pub fn has_layout_number<S: Alter>(conn: &mut Connection<S>, number: u32) -> Res
     ensures limit { conn.new.step_limit ≡ conn.old.step_limit }
     ensures reported { HasCleanDisk (state S.Store conn.new) → IfOk result (λ is.
         ReportsNumber number (state S.Store conn.old) (state S.Store conn.new) is) }
+    ensures shown { HasCleanDisk (state S.Store conn.new) → IfOk result (λ is.
+        MatchBool is (HasNumber number (state S.Store conn.old).now)
+        (HasOtherNumber number (state S.Store conn.old).now)) }
 {
     if !conn.is_autocommit() {
         return Err(Error::SqliteFailure(ErrorCode::TransactionState));

@@ -4,6 +4,7 @@ ghost use Rattle.std.specs.Prelude.{false, length, pos, suc};
 ghost use Rattle.sqlite_schema.specs.declared.schema.Kind.TheVariants.{Integer};
 ghost use Rattle.feed_store_model.specs.Layout.{between, bound_by, column_of, layout_1_schema, layout_2_schema, layout};
 ghost use Rattle.feed_store_model.specs.Layout.{no_schema, owner, piece, reason, release};
+ghost use Rattle.feed_store_model.specs.Others.{in_tree};
 ghost use Rattle.feed_store_write.specs.Schemas.{IsPlain, automatic, piece_index, reason_index, release_index};
 ghost use Rattle.sqlite_schema.specs.Code.{term_in, term_to};
 ghost use Rattle.sqlite_sql.specs.Term.{col, lit, op2};
@@ -221,14 +222,15 @@ fn is_plain(table: &Table) -> bool
         && !table.is_counted
 }
 
-fn is_layout(table: &Table) -> bool
-    ensures { IsTrue result ↔ (table.now ≡ layout) }
+/// Returns whether a table is that of the layout's number, with its rows in a tree.
+pub(crate) fn is_layout(table: &Table, tree: u32) -> bool
+    ensures { IsTrue result ↔ (table.now ≡ in_tree layout tree) }
 {
     let [column] = table.columns.as_slice() else {
         return false;
     };
     is_word(&table.name, b"feed_layout")
-        && table.tree == LAYOUT_TREE
+        && table.tree == tree
         && is_version(column)
         && table.key == Some(0)
         && are_places(&table.primary, &[0])
@@ -251,11 +253,12 @@ fn is_version(column: &Column) -> bool
         && column.collation == Collation::Binary
 }
 
-fn is_release(table: &Table) -> bool
-    ensures { IsTrue result ↔ (table.now ≡ release) }
+/// Returns whether a table is that of the releases, with its rows in a tree.
+pub(crate) fn is_release(table: &Table, tree: u32) -> bool
+    ensures { IsTrue result ↔ (table.now ≡ in_tree release tree) }
 {
     is_word(&table.name, b"feed_release")
-        && table.tree == RELEASE_TREE
+        && table.tree == tree
         && are_release_columns(&table.columns)
         && table.key.is_none()
         && are_places(&table.primary, &[1])
@@ -298,14 +301,15 @@ fn is_plain_order(orders: &Items<Order>) -> bool
     }
 }
 
-fn is_piece(table: &Table) -> bool
-    ensures { IsTrue result ↔ (table.now ≡ piece) }
+/// Returns whether a table is that of the parts, with its rows in a tree.
+pub(crate) fn is_piece(table: &Table, tree: u32) -> bool
+    ensures { IsTrue result ↔ (table.now ≡ in_tree piece tree) }
 {
     let [reference] = table.references.as_slice() else {
         return false;
     };
     is_word(&table.name, b"feed_piece")
-        && table.tree == PIECE_TREE
+        && table.tree == tree
         && are_piece_columns(&table.columns)
         && table.key.is_none()
         && are_places(&table.primary, &[1, 2])
@@ -327,14 +331,15 @@ fn are_piece_columns(columns: &Items<Column>) -> bool
         && is_column(bytes, Kind::Blob, b"bytes")
 }
 
-fn is_reason(table: &Table) -> bool
-    ensures { IsTrue result ↔ (table.now ≡ reason) }
+/// Returns whether a table is that of the reasons, with its rows in a tree.
+pub(crate) fn is_reason(table: &Table, tree: u32) -> bool
+    ensures { IsTrue result ↔ (table.now ≡ in_tree reason tree) }
 {
     let [reference] = table.references.as_slice() else {
         return false;
     };
     is_word(&table.name, b"feed_reason")
-        && table.tree == REASON_TREE
+        && table.tree == tree
         && are_reason_columns(&table.columns)
         && table.key.is_none()
         && are_places(&table.primary, &[1])
@@ -372,7 +377,11 @@ fn are_layout_1_tables(tables: &Items<Table>) -> bool
     ensures { IsTrue result ↔ (tables.now ≡ layout_1_schema.tables) }
 {
     match tables.as_slice() {
-        [first, second, third] => is_layout(first) && is_release(second) && is_piece(third),
+        [first, second, third] => {
+            is_layout(first, LAYOUT_TREE)
+                && is_release(second, RELEASE_TREE)
+                && is_piece(third, PIECE_TREE)
+        }
         _ => false,
     }
 }
@@ -382,7 +391,10 @@ fn are_layout_2_tables(tables: &Items<Table>) -> bool
 {
     match tables.as_slice() {
         [first, second, third, fourth] => {
-            is_layout(first) && is_release(second) && is_piece(third) && is_reason(fourth)
+            is_layout(first, LAYOUT_TREE)
+                && is_release(second, RELEASE_TREE)
+                && is_piece(third, PIECE_TREE)
+                && is_reason(fourth, REASON_TREE)
         }
         _ => false,
     }

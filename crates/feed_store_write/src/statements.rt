@@ -1,11 +1,14 @@
 //! The SQL statements that change records, each with its effect on the tables.
-ghost use Rattle.std.specs.Prelude.{◌≡◌, ◌≤◌, Some};
+ghost use Rattle.std.specs.Prelude.{◌≡◌, ◌≤◌, ◌∷◌, [], Some, map};
 ghost use Rattle.feed_model.specs.Change.{changed, insert_record, without_earlier};
 ghost use Rattle.feed_model.specs.Reply.{max_file};
 ghost use Rattle.feed_parts.specs.Shown.{shown_part, shown_parts};
 ghost use Rattle.feed_store_model.specs.Records.{bare, with_part, with_parts, with_reason, with_state};
 ghost use Rattle.feed_store_model.specs.Tables.{IsStored, number_of, reason_at};
-ghost use Rattle.feed_store_write.specs.Effects.{IsContentChange, IsContentChangeIf, CommitsNothing, IsMadeOnOk};
+ghost use Rattle.feed_store_write.specs.Effects.{IsContentChange, IsContentChangeIf, IsReasonChangeIf};
+ghost use Rattle.feed_store_write.specs.Effects.{CommitsNothing, IsMadeOnOk};
+ghost use Rattle.feed_store_write.specs.Statements.{AddPart, AddReason, AddRelease, DeleteEarlier, HaveRunOnOk};
+ghost use Rattle.feed_store_write.specs.Statements.{SetState};
 
 use crate::running::{as_text, run};
 use feed_kbart::BadFile;
@@ -25,6 +28,7 @@ pub fn insert_release<S: Alter>(
     ensures same_reference { tx.new.conn.ghost_name ≡ tx.old.conn.ghost_name }
     ensures made { IsMadeOnOk S.Store (IsContentChangeIf (size ≤ max_file) (insert_record (bare name.now size value)))
         tx.old.conn.now tx.new.conn.now result }
+    ensures ran { HaveRunOnOk S.Store (AddRelease name.now size value ∷ []) tx.old.conn.now tx.new.conn.now result }
     ensures inside { CommitsNothing S.Store tx.old.conn.now tx.new.conn.now }
 {
     run(
@@ -49,6 +53,8 @@ pub fn insert_part<S: Alter>(
     ensures same_reference { tx.new.conn.ghost_name ≡ tx.old.conn.ghost_name }
     ensures made { IsMadeOnOk S.Store (IsContentChange (changed name.now (with_part (shown_part part.now))))
         tx.old.conn.now tx.new.conn.now result }
+    ensures ran { HaveRunOnOk S.Store (AddPart name.now (shown_part part.now) ∷ [])
+        tx.old.conn.now tx.new.conn.now result }
     ensures inside { CommitsNothing S.Store tx.old.conn.now tx.new.conn.now }
 {
     let Ok(place) = u32::try_from(part.first) else {
@@ -70,6 +76,7 @@ pub fn set_state<S: Alter>(
     ensures same_reference { tx.new.conn.ghost_name ≡ tx.old.conn.ghost_name }
     ensures made { IsMadeOnOk S.Store (IsContentChange (changed name.now (with_state value)))
         tx.old.conn.now tx.new.conn.now result }
+    ensures ran { HaveRunOnOk S.Store (SetState name.now value ∷ []) tx.old.conn.now tx.new.conn.now result }
     ensures inside { CommitsNothing S.Store tx.old.conn.now tx.new.conn.now }
 {
     run(
@@ -86,8 +93,9 @@ pub fn insert_reason<S: Alter>(
     why: BadFile,
 ) -> Result<(), Error>
     ensures same_reference { tx.new.conn.ghost_name ≡ tx.old.conn.ghost_name }
-    ensures made { IsMadeOnOk S.Store (IsContentChangeIf (IsStored why) (changed name.now (with_reason why)))
+    ensures made { IsMadeOnOk S.Store (IsReasonChangeIf (IsStored why) (changed name.now (with_reason why)))
         tx.old.conn.now tx.new.conn.now result }
+    ensures ran { HaveRunOnOk S.Store (AddReason name.now why ∷ []) tx.old.conn.now tx.new.conn.now result }
     ensures inside { CommitsNothing S.Store tx.old.conn.now tx.new.conn.now }
 {
     let (number, place) = numbers_of(why);
@@ -106,6 +114,7 @@ pub fn delete_earlier<S: Alter>(
     ensures same_reference { tx.new.conn.ghost_name ≡ tx.old.conn.ghost_name }
     ensures made { IsMadeOnOk S.Store (IsContentChange (without_earlier name.now))
         tx.old.conn.now tx.new.conn.now result }
+    ensures ran { HaveRunOnOk S.Store (DeleteEarlier name.now ∷ []) tx.old.conn.now tx.new.conn.now result }
     ensures inside { CommitsNothing S.Store tx.old.conn.now tx.new.conn.now }
 {
     run(
@@ -123,6 +132,8 @@ pub fn insert_parts<S: Alter>(
 ) -> Result<(), Error>
     ensures same_reference { tx.new.conn.ghost_name ≡ tx.old.conn.ghost_name }
     ensures made { IsMadeOnOk S.Store (IsContentChange (changed name.now (with_parts (shown_parts parts.now))))
+        tx.old.conn.now tx.new.conn.now result }
+    ensures ran { HaveRunOnOk S.Store (map (AddPart name.now) (shown_parts parts.now))
         tx.old.conn.now tx.new.conn.now result }
     ensures inside { CommitsNothing S.Store tx.old.conn.now tx.new.conn.now }
 {

@@ -1,10 +1,14 @@
 //! Upgrades a database of layout 1 to layout 2.
-ghost use Rattle.std.specs.Prelude.{◌≡◌, false, OnErr, OnOk};
+ghost use Rattle.std.specs.Prelude.{◌≡◌, ◌∷◌, [], false, OnErr, OnOk};
 ghost use Rattle.feed_keep.specs.Shown.{shown, shown_record};
-ghost use Rattle.feed_store_write.specs.Effects.{CommitsNothing, IsContentChangeIf, IsLive, IsMadeOnOk, IsRenumbering};
+ghost use Rattle.feed_store_write.specs.Effects.{CommitsNothing, IsReasonChangeIf, IsLive, IsMadeOnOk, IsRenumbering};
 ghost use Rattle.feed_store_write.specs.Effects.{IsUpgradeIf};
+ghost use Rattle.feed_store_write.specs.Statements.{HaveRunOnOk, IsCommitted, Plain, reason_of, reasons_of};
+ghost use Rattle.feed_store_write.specs.Statements.{upgrading};
+ghost use Rattle.feed_store_write.specs.Texts.{set_version_text};
 ghost use Rattle.feed_store_write.specs.Upgrading.{AreStored, IsStoredIn, explain, explained_with};
 ghost use Rattle.sqlite.specs.Held.{state};
+ghost use Rattle.sqlite.specs.State.{HasCleanDisk};
 
 use crate::layout::create_reason;
 use crate::running::run;
@@ -24,6 +28,8 @@ pub fn upgrade<S: Alter>(conn: &mut Connection<S>, records: &[Record]) -> Result
     ensures live { IsLive (state S.Store conn.new) → IsLive (state S.Store conn.old) }
     ensures whole { IsLive (state S.Store conn.new) → OnOk result (IsUpgradeIf (AreStored (shown records.now))
         (explained_with (shown records.now)) (state S.Store conn.old).now (state S.Store conn.new).now) }
+    ensures ran { HasCleanDisk (state S.Store conn.new)
+        → OnOk result (IsCommitted S.Store (upgrading (shown records.now)) conn.old conn.new) }
     ensures neither { IsLive (state S.Store conn.new)
         → OnErr result ((state S.Store conn.new).now ≡ (state S.Store conn.old).now) }
 {
@@ -40,6 +46,7 @@ fn upgrade_tables<S: Alter>(tx: &mut Transaction<'_, S>, records: &[Record]) -> 
     ensures same_reference { tx.new.conn.ghost_name ≡ tx.old.conn.ghost_name }
     ensures made { IsMadeOnOk S.Store (IsUpgradeIf (AreStored (shown records.now)) (explained_with (shown records.now)))
         tx.old.conn.now tx.new.conn.now result }
+    ensures ran { HaveRunOnOk S.Store (upgrading (shown records.now)) tx.old.conn.now tx.new.conn.now result }
     ensures inside { CommitsNothing S.Store tx.old.conn.now tx.new.conn.now }
 {
     create_reason(tx)?;
@@ -51,6 +58,7 @@ fn upgrade_tables<S: Alter>(tx: &mut Transaction<'_, S>, records: &[Record]) -> 
 fn set_layout_number<S: Alter>(tx: &mut Transaction<'_, S>) -> Result<(), Error>
     ensures same_reference { tx.new.conn.ghost_name ≡ tx.old.conn.ghost_name }
     ensures made { IsMadeOnOk S.Store IsRenumbering tx.old.conn.now tx.new.conn.now result }
+    ensures ran { HaveRunOnOk S.Store (Plain set_version_text ∷ []) tx.old.conn.now tx.new.conn.now result }
     ensures inside { CommitsNothing S.Store tx.old.conn.now tx.new.conn.now }
 {
     run(tx, "UPDATE feed_layout SET version = 2", &[])
@@ -59,9 +67,10 @@ fn set_layout_number<S: Alter>(tx: &mut Transaction<'_, S>) -> Result<(), Error>
 // Inserts the reasons of the records that have one.
 fn insert_reasons<S: Alter>(tx: &mut Transaction<'_, S>, records: &[Record]) -> Result<(), Error>
     ensures same_reference { tx.new.conn.ghost_name ≡ tx.old.conn.ghost_name }
-    ensures made { IsMadeOnOk S.Store (IsContentChangeIf (AreStored (shown records.now))
+    ensures made { IsMadeOnOk S.Store (IsReasonChangeIf (AreStored (shown records.now))
         (explained_with (shown records.now)))
         tx.old.conn.now tx.new.conn.now result }
+    ensures ran { HaveRunOnOk S.Store (reasons_of (shown records.now)) tx.old.conn.now tx.new.conn.now result }
     ensures inside { CommitsNothing S.Store tx.old.conn.now tx.new.conn.now }
 {
     for record in records {
@@ -73,8 +82,10 @@ fn insert_reasons<S: Alter>(tx: &mut Transaction<'_, S>, records: &[Record]) -> 
 // Inserts the reason of a record, if it has one.
 fn insert_reason_of<S: Alter>(tx: &mut Transaction<'_, S>, kept: &Record) -> Result<(), Error>
     ensures same_reference { tx.new.conn.ghost_name ≡ tx.old.conn.ghost_name }
-    ensures made { IsMadeOnOk S.Store (IsContentChangeIf (IsStoredIn (shown_record kept.now))
+    ensures made { IsMadeOnOk S.Store (IsReasonChangeIf (IsStoredIn (shown_record kept.now))
         (explain (shown_record kept.now)))
+        tx.old.conn.now tx.new.conn.now result }
+    ensures ran { HaveRunOnOk S.Store (reason_of (shown_record kept.now).name (shown_record kept.now).reason)
         tx.old.conn.now tx.new.conn.now result }
     ensures inside { CommitsNothing S.Store tx.old.conn.now tx.new.conn.now }
 {

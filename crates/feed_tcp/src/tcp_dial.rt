@@ -14,6 +14,7 @@ pub struct TcpDial<'a> {
     addr: &'a str,
     time: Duration,
     cause: &'a Cause,
+    last_fault: Option<DialFault>,
 }
 
 impl<'a> TcpDial<'a> {
@@ -28,7 +29,17 @@ impl<'a> TcpDial<'a> {
             addr,
             time,
             cause,
+            last_fault: None,
         }
+    }
+
+    // Returns why a connection was not made, and keeps the system's error.
+    fn fault_of(&self, error: io::Error) -> DialFault {
+        if error.kind() == ErrorKind::OutOfMemory {
+            return DialFault::Memory;
+        }
+        let _ = self.cause.keep(error);
+        DialFault::Connect
     }
 
     // Returns a connection to the first address that accepts.
@@ -51,15 +62,15 @@ impl<'a> Dial for TcpDial<'a> {
 
     ghost replies = { Unknown };
 
+    ghost last_fault = { λ dial. dial.last_fault };
+
     fn dial(&mut self) -> Result<TimedStream<'a>, DialFault> {
-        match self.connect() {
+        let outcome = match self.connect() {
             Ok(stream) => Ok(stream),
-            Err(fault) if fault.kind() == ErrorKind::OutOfMemory => Err(DialFault::Memory),
-            Err(fault) => {
-                let _ = self.cause.keep(fault);
-                Err(DialFault::Connect)
-            }
-        }
+            Err(error) => Err(self.fault_of(error)),
+        };
+        self.last_fault = outcome.as_ref().err().copied();
+        outcome
     }
 
     ghost answers = { λ _ _. tt };

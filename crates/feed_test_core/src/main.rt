@@ -2,7 +2,9 @@
 //!
 //!     feed_test_core failing KEEPER.. < SCRIPT
 //!     feed_test_core holding KEEPER.. < SCRIPT
+//!     feed_test_core again KEEPER.. < SCRIPT
 //!     feed_test_core full KEEPER.. < SCRIPT
+//!     feed_test_core names
 //!
 //! The script is one of `kbfeed replay`. There is a node for each KEEPER, whatever number the script names, and a
 //! script publishes no files by their paths. A KEEPER is one of
@@ -14,21 +16,22 @@
 //!                                           with these bytes, or none, at its place FIRST
 //!
 //! `failing` and `holding` print the transcript, or why there is none, and then each keeper that the replay returns:
-//! its number, how often it failed, and its records. `full` writes the transcript into each buffer that is shorter than
-//! it, and prints how many refuse it. If an argument or the script is wrong, the last line says so, and the status is
-//! 2.
+//! its number, how often it failed, and its records. `again` does this twice, each time over new keepers, and prints
+//! `again` between. `full` writes the transcript into each buffer that is shorter than it, and prints how many refuse
+//! it. `names` reads no script: it prints each fault, refusal, reply and line of a transcript with its text. If an
+//! argument or the script is wrong, the last line says so, and the status is 2.
 #![tactic(auto)]
 
 mod keepers;
+mod names;
 mod shown;
 
-use feed_script::{Files, LineFault, Script, read_script};
+use feed_test_support::read_events;
 use feed_world::WorldEvent;
 use keepers::keepers_of;
+use names::show_names;
 use shown::{show, show_full};
-use std::alloc::Global;
 use std::env;
-use std::io::Read;
 use std::process::{ExitCode, Termination};
 use std::test::Fail;
 
@@ -44,33 +47,21 @@ fn run(rt: &HostRuntime) -> Result<(), Fail> {
     for word in env::args(rt)? {
         words.push(word)?;
     }
-    let events = events_of(rt)?;
     let [_, command, keepers @ ..] = words.as_slice() else {
-        return Err(Fail::new("no command: failing, holding or full expected"));
+        return Err(Fail::new("no command"));
     };
     match command.as_str() {
-        "failing" | "holding" => show(rt, keepers_of(rt.alloc(), keepers)?, &events),
-        "full" => show_full(rt, keepers_of(rt.alloc(), keepers)?, &events),
-        _ => Err(Fail::new(format_args!("{command}: failing, holding or full expected"))),
+        "failing" | "holding" => show(rt, keepers_of(rt.alloc(), keepers)?, &read_events(rt)?),
+        "again" => show_again(rt, keepers, &read_events(rt)?),
+        "full" => show_full(rt, keepers_of(rt.alloc(), keepers)?, &read_events(rt)?),
+        "names" => show_names(rt),
+        _ => Err(Fail::new(format_args!("{command}: unknown command"))),
     }
 }
 
-// The files that a script may publish by their paths: none.
-#[derive(Drop)]
-struct NoFiles;
-
-impl Files for NoFiles {
-    fn bytes_of(&mut self, _alloc: Global, _path: &[u8]) -> Result<Vec<u8>, LineFault> {
-        Err(LineFault::BadFile)
-    }
-}
-
-// Reads the events of the script on standard input.
-fn events_of(rt: &HostRuntime) -> Result<Vec<WorldEvent>, Fail> {
-    let mut text = Vec::new(rt.alloc());
-    rt.reader().read_to_end(&mut text)?;
-    match read_script(rt.alloc(), &text, &mut NoFiles) {
-        Ok(Script { nodes: _, events }) => Ok(events),
-        Err(fault) => Err(Fail::new(fault)),
-    }
+// Replays the events twice, over new keepers each time.
+fn show_again(rt: &HostRuntime, keepers: &[String], events: &[WorldEvent]) -> Result<(), Fail> {
+    show(rt, keepers_of(rt.alloc(), keepers)?, events)?;
+    println!(rt; "again")?;
+    show(rt, keepers_of(rt.alloc(), keepers)?, events)
 }

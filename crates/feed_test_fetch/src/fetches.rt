@@ -1,10 +1,9 @@
 //! Runs the commands of the input on fetches and their feed.
-use crate::fault::Fault;
 use crate::server::{Server, Turn};
 use crate::sink::Sink;
 use feed_answer::Query;
 use feed_dial::DialFault;
-use feed_fetch::{fetch_from_memory, fetch_with, header_is_fetchable};
+use feed_fetch::{Printer, fetch_from_memory, fetch_with, header_is_fetchable};
 use feed_http::{NamedFile, is_host};
 use feed_keep::{Keep, ListKeep, Record};
 use feed_limits::PIECE_LIMIT;
@@ -12,7 +11,7 @@ use feed_model::State;
 use feed_names::ReleaseName;
 use feed_parts::Part;
 use feed_releases::Feed;
-use feed_test_support::Failing;
+use feed_test_support::{Failing, Fault};
 use std::alloc::Global;
 use std::cell::{Cell, RefCell};
 use std::io::Write;
@@ -181,8 +180,8 @@ fn fetch_outcome(
     }
     let requests = RefCell::new(Vec::new(alloc));
     let calls = Cell::new(0);
-    let mut out = Sink::new(alloc, &calls, fails_at);
-    let mut faults = Sink::new(alloc, &calls, fails_at);
+    let mut out = Printer::new(Sink::new(alloc, &calls, fails_at));
+    let mut faults = Printer::new(Sink::new(alloc, &calls, fails_at));
     let mut server = Server::new(alloc, turns, &requests);
     let status = fetch_with(
         alloc,
@@ -196,8 +195,8 @@ fn fetch_outcome(
     );
     drop(server);
     Ok(Outcome {
-        printed: out.text,
-        faults: faults.text,
+        printed: out.into_writer().text,
+        faults: faults.into_writer().text,
         status,
         calls: calls.get(),
         requests: requests.into_inner(),
@@ -215,8 +214,8 @@ fn law_outcome(
         return Err(Fault("a piece has 1 to 1048576 bytes"));
     }
     let calls = Cell::new(0);
-    let mut out = Sink::new(alloc, &calls, 0);
-    let mut faults = Sink::new(alloc, &calls, 0);
+    let mut out = Printer::new(Sink::new(alloc, &calls, 0));
+    let mut faults = Printer::new(Sink::new(alloc, &calls, 0));
     let status = fetch_from_memory(
         alloc,
         files,
@@ -228,8 +227,8 @@ fn law_outcome(
         &mut faults,
     );
     Ok(Outcome {
-        printed: out.text,
-        faults: faults.text,
+        printed: out.into_writer().text,
+        faults: faults.into_writer().text,
         status,
         calls: calls.get(),
         requests: Vec::new(alloc),

@@ -35,12 +35,11 @@
 //!     rows               prints the rows of the package that have the ISSN 2434-561X
 #![tactic(auto)]
 
-mod fault;
 mod fetches;
 mod server;
 mod sink;
 
-use fault::Fault;
+use feed_test_support::Fault;
 use fetches::Fetches;
 use std::alloc::{AllocError, Global};
 use std::io;

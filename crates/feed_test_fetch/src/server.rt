@@ -149,6 +149,7 @@ pub struct Server<'a> {
     turns: &'a [Turn],
     requests: &'a RefCell<Vec<u8>>,
     before: usize,
+    last_fault: Option<DialFault>,
 }
 
 impl<'a> Server<'a> {
@@ -158,6 +159,20 @@ impl<'a> Server<'a> {
             turns,
             requests,
             before: 0,
+            last_fault: None,
+        }
+    }
+
+    // Returns how the next connection is treated, unless it is refused.
+    fn next_turn(&mut self) -> Result<&'a Turn, DialFault> {
+        let last = self.turns.len().saturating_sub(1);
+        let Some(turn) = self.turns.get(self.before.min(last)) else {
+            return Err(DialFault::Connect);
+        };
+        self.before = self.before.saturating_add(1);
+        match turn {
+            Turn::Refuse(fault) => Err(*fault),
+            _ => Ok(turn),
         }
     }
 }
@@ -167,20 +182,16 @@ impl<'a> Dial for Server<'a> {
 
     ghost replies = { Unknown };
 
+    ghost last_fault = { λ server. server.last_fault };
+
     ghost answers = { λ _ _. tt };
 
     fn dial(&mut self) -> Result<Conn<'a>, DialFault> {
-        let last = self.turns.len().saturating_sub(1);
-        let Some(turn) = self.turns.get(self.before.min(last)) else {
-            return Err(DialFault::Connect);
-        };
-        self.before = self.before.saturating_add(1);
-        if let Turn::Refuse(fault) = turn {
-            return Err(*fault);
-        }
+        let turn = self.next_turn();
+        self.last_fault = turn.err();
         Ok(Conn {
             alloc: self.alloc,
-            turn,
+            turn: turn?,
             requests: self.requests,
             request: Vec::new(self.alloc),
             reply: Cursor::new(Vec::new(self.alloc)),

@@ -77,6 +77,7 @@ impl<'a> Driver<'a> {
             "fail-write" => self.plan.fails_write = line.count()?,
             "fail-shelf" => self.plan.fails_shelf = line.count()?,
             "counts" => self.print_counts()?,
+            "faults" => self.print_faults()?,
             "file" => self.put(line)?,
             "host" => self.host(line)?,
             "get" => self.get(line)?,

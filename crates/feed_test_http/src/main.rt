@@ -26,6 +26,7 @@
 //!     serve TEXT                      the same, from a shelf in memory whose calls are not counted
 //!     counts                          the calls of the last exchange's reader and writer, the longest block that was
 //!                                     asked of the shelf, and how often the shelf failed
+//!     faults                          every fault of the HTTP crates, with its text
 //!
 //! These hold for the next exchange, and print nothing:
 //!
@@ -46,9 +47,9 @@
 //! and how many bytes of the reply are left:
 //!
 //!     connection LIMIT                opens a new one, whose steps may take so many milliseconds
-//!     came TEXT                       bytes arrive
-//!     took N                          the peer takes so many bytes
-//!     passed N                        so many milliseconds pass
+//!     receive TEXT                    bytes arrive
+//!     mark-sent N                     the peer takes so many bytes
+//!     advance-clock N                 so many milliseconds pass
 //!     converse ends|waits short|serves TEXT    moves a new one on 200 times, over a reader that then ends or waits,
 //!                                     short of memory for the reply or not; prints what it waits for, whether it
 //!                                     lingers, and what was written
@@ -62,6 +63,7 @@ mod ends;
 mod escapes;
 mod exchanges;
 mod fault;
+mod faults;
 mod line;
 mod node;
 mod ranges;

@@ -1,6 +1,6 @@
 //! A shelf over files in memory, with a device that fails at a call.
-ghost use Rattle.std.specs.Prelude.{◌≤◌, IsTrue};
-ghost use Rattle.feed_http.specs.Shelves.{CountsFailure};
+ghost use Rattle.std.specs.Prelude.{IsTrue};
+ghost use Rattle.feed_http.specs.Shelves.{IsCounted};
 
 use feed_http::{MemoryShelf, NamedFile, Shelf, ShelfFault};
 use feed_names::ReleaseName;
@@ -40,8 +40,7 @@ impl<'a> CountingShelf<'a> {
 
     // Counts a call, and returns whether it fails.
     fn count_call(&mut self) -> bool
-        ensures rises { self.old.failures ≤ self.new.failures }
-        ensures counted { IsTrue result → CountsFailure self.old.failures self.new.failures }
+        ensures { IsCounted (IsTrue result) self.old.failures self.new.failures }
     {
         self.calls = self.calls.saturating_add(1);
         if self.calls != self.fails_at {

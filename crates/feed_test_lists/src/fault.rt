@@ -13,6 +13,8 @@ pub enum Fault {
     NotName,
     /// A word is not an ISSN or ISBN.
     NotIdentifier,
+    /// A word is not the name of an enum.
+    UnknownEnum,
     /// The file is not a holdings list.
     NotList,
     /// The text is not a query.
@@ -30,6 +32,7 @@ impl fmt::Display for Fault {
             Fault::NotNumber => "not a number",
             Fault::NotName => "not a release name",
             Fault::NotIdentifier => "not an identifier",
+            Fault::UnknownEnum => "not an enum",
             Fault::NotList => "not a holdings list",
             Fault::NotQuery => "not a query",
             Fault::Memory => "out of memory",

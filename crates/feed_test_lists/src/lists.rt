@@ -1,7 +1,7 @@
 //! The commands that read a holdings list from a file.
 use crate::fault::Fault;
 use crate::shown::{Maybe, ShownIsbn, ShownIssn, Text};
-use crate::slow::{Full, Slow};
+use crate::slow::{Calls, Full, Slow};
 use crate::texts::name_of;
 use crate::words::Words;
 use feed_answer::{Query, WriteFault, answer};
@@ -13,7 +13,7 @@ use feed_names::ReleaseName;
 use std::fs;
 
 pub fn read(rt: &HostRuntime, mut words: Words<'_>) -> Result<(), Fault> {
-    let (step, calls) = (words.number()?, words.number()?);
+    let (step, calls) = (words.number()?, words.calls()?);
     let bytes = fs::read(rt, words.word()?)?;
     let rest = bytes.as_slice();
     print_read(rt, list_of(rt, Slow { rest, step, calls }))
@@ -21,7 +21,7 @@ pub fn read(rt: &HostRuntime, mut words: Words<'_>) -> Result<(), Fault> {
 
 pub fn parts(rt: &HostRuntime, mut words: Words<'_>) -> Result<(), Fault> {
     let step = words.number()?;
-    let (first, second) = (words.number()?, words.number()?);
+    let (first, second) = (words.calls()?, words.calls()?);
     let bytes = fs::read(rt, words.word()?)?;
     let rest = bytes.as_slice();
     let check = Slow {
@@ -38,7 +38,7 @@ pub fn parts(rt: &HostRuntime, mut words: Words<'_>) -> Result<(), Fault> {
 }
 
 pub fn count(rt: &HostRuntime, mut words: Words<'_>) -> Result<(), Fault> {
-    let (step, calls) = (words.number()?, words.number()?);
+    let (step, calls) = (words.number()?, words.calls()?);
     let bytes = fs::read(rt, words.word()?)?;
     let rest = bytes.as_slice();
     print_count(rt, count_file(rt.alloc(), Slow { rest, step, calls }))
@@ -128,7 +128,10 @@ fn holdings_of(rt: &HostRuntime, path: &str) -> Result<Holdings, Fault> {
     let whole = Slow {
         rest: bytes.as_slice(),
         step: usize::MAX,
-        calls: usize::MAX,
+        calls: Calls {
+            count: usize::MAX,
+            fails_once: false,
+        },
     };
     match list_of(rt, whole) {
         Ok(holdings) => Ok(holdings),

@@ -23,6 +23,9 @@
 //!     rows FILE WORD          the places, from 0, of the rows that have an ISSN or an ISBN
 //!     write ROOM NAME TEXT    whether the answer to a query is written, from the list in the file NAME, to a writer
 //!                             that accepts ROOM bytes and then fails
+//!     values ENUM             each value of an enum, with its place, its name in the source and its printed text
+//!
+//! With a `+` at the end of CALLS, the reader fails once, at the call after the first CALLS, and then continues.
 //!
 //! At a line that it cannot run, the program prints the line's number and what is wrong, and exits with 2.
 #![tactic(auto)]
@@ -33,6 +36,7 @@ mod lists;
 mod shown;
 mod slow;
 mod texts;
+mod values;
 mod words;
 
 use fault::Fault;
@@ -68,6 +72,7 @@ fn run(rt: &HostRuntime, command: &str, rest: &str) -> Result<(), Fault> {
         "name" => texts::name(rt, rest),
         "query" => texts::query(rt, rest),
         "utf8" => cuts::utf8(rt, rest),
+        "values" => values::values(rt, rest),
         _ => run_words(rt, command, Words { rest }),
     }
 }

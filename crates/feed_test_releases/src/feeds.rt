@@ -1,5 +1,4 @@
 //! Commands on a feed and its keeper.
-use crate::fault::Fault;
 use crate::printing::{print_bytes, print_count, print_flag, print_reason, print_word};
 use crate::words::{Piece, name_of, number_of, parts_of, piece_of, state_of};
 use feed_answer::Query;
@@ -8,7 +7,7 @@ use feed_model::{KeepFault, Refusal, Reply};
 use feed_names::ReleaseName;
 use feed_parts::Part;
 use feed_releases::{Event, Feed, OpenFault, Point};
-use feed_test_support::{Failing, records_text};
+use feed_test_support::{Failing, Fault, records_text};
 use std::alloc::Global;
 use std::{io, mem};
 

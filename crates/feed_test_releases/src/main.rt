@@ -61,13 +61,12 @@
 //!     in-order PART..      prints a copy of the parts, in the order of their first places
 #![tactic(auto)]
 
-mod fault;
 mod feeds;
 mod printing;
 mod segments;
 mod words;
 
-use fault::Fault;
+use feed_test_support::Fault;
 use feeds::Feeds;
 use segments::Kept;
 use std::process::ExitCode;

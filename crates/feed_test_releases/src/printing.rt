@@ -1,8 +1,7 @@
 //! Prints the results of commands.
-use crate::fault::Fault;
 use feed_kbart::BadFile;
 use feed_parts::Part;
-use feed_test_support::write_parts;
+use feed_test_support::{Fault, write_parts};
 use std::io;
 use std::io::Write;
 

@@ -2,11 +2,11 @@
 ghost use Rattle.std.specs.Prelude.{◌≤◌, ◌<◌, ◌+◌, ◌^◌, vec_len, IfOk};
 ghost use Rattle.feed_model.specs.Reply.{max_piece};
 
-use crate::fault::Fault;
 use crate::printing::{print_bytes, print_count, print_flag, print_parts, print_word};
 use crate::words::{Piece, number_of, parts_of, piece_of};
 use feed_limits::PIECE_LIMIT;
 use feed_parts::{SegmentReader, Segments, copy_in_order, copy_parts};
+use feed_test_support::Fault;
 use std::alloc::Global;
 use std::io::Read;
 

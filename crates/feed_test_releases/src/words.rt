@@ -1,9 +1,9 @@
 //! Parses the words of a command.
-use crate::fault::Fault;
 use feed_kbart::{BadFile, Label};
 use feed_model::State;
 use feed_names::ReleaseName;
 use feed_parts::Part;
+use feed_test_support::Fault;
 use std::alloc::{AllocError, Global};
 use std::fs;
 

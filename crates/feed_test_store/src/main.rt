@@ -5,6 +5,7 @@
 //!     feed_test_store load DATABASE
 //!     feed_test_store replay DATABASE.. < SCRIPT
 //!     feed_test_store replay-in-memory WORD.. < SCRIPT
+//!     feed_test_store faults
 //!
 //! The steps:
 //!
@@ -19,7 +20,7 @@
 //! `load` prints how many records the keeper loads, and whether a feed opens over it, or why not. `replay` replays a
 //! script of `kbfeed replay` with a node over each database, and `replay-in-memory` with one over a new database in
 //! memory for each word. They print the transcript, and then each keeper: its number, how often it failed, and its
-//! records.
+//! records. `faults` prints the name of each fault of an open beside its text.
 #![tactic(auto)]
 
 mod database;
@@ -27,6 +28,7 @@ mod steps;
 mod worlds;
 
 use database::{DatabaseFile, NewDatabase};
+use feed_store::StoreFault;
 use std::env;
 use std::test::Fail;
 use steps::take_steps;
@@ -44,6 +46,7 @@ fn main(rt: HostRuntime) -> Result<(), Fail> {
         "load" => load_each(&rt, others),
         "replay" => replay_in_files(&rt, others),
         "replay-in-memory" => replay_in_memory(&rt, others),
+        "faults" => print_faults(&rt),
         path => take_steps(&rt, &DatabaseFile { rt: &rt, path }, others),
     }
 }
@@ -71,4 +74,11 @@ fn replay_in_memory(rt: &HostRuntime, words: &[String]) -> Result<(), Fail> {
         databases.push(NewDatabase { rt })?;
     }
     replay_over(rt, &databases)
+}
+
+fn print_faults(rt: &HostRuntime) -> Result<(), Fail> {
+    for fault in [StoreFault::Memory, StoreFault::Device, StoreFault::NotOurs] {
+        println!(rt; "{fault:?} {fault}")?;
+    }
+    Ok(())
 }

@@ -3,17 +3,13 @@ use crate::database::Database;
 use feed_core::{ReplayFault, Transcript, replay};
 use feed_keep::Keep;
 use feed_releases::Feed;
-use feed_script::{Files, LineFault, Script, read_script};
-use feed_test_support::content_text;
-use feed_world::WorldEvent;
-use std::alloc::Global;
-use std::io::Read;
+use feed_test_support::{content_text, read_events};
 use std::test::Fail;
 
 /// Replays the script on standard input, with a node over each of these databases. Prints the transcript, and then the
 /// records of each keeper.
 pub fn replay_over<D: Database>(rt: &HostRuntime, databases: &[D]) -> Result<(), Fail> {
-    let events = events_of(rt)?;
+    let events = read_events(rt)?;
     let mut keepers = Vec::new(rt.alloc());
     for database in databases {
         keepers.push(database.open()?)?;
@@ -68,25 +64,5 @@ pub fn load<D: Database>(rt: &HostRuntime, database: &D) -> Result<(), Fail> {
             println!(rt; "not opened: {}", fault.cause)?;
             D::close(fault.keeper)
         }
-    }
-}
-
-// The files that a script may publish by their paths: none.
-#[derive(Drop)]
-struct NoFiles;
-
-impl Files for NoFiles {
-    fn bytes_of(&mut self, _alloc: Global, _path: &[u8]) -> Result<Vec<u8>, LineFault> {
-        Err(LineFault::BadFile)
-    }
-}
-
-// Reads the events of the script on standard input.
-fn events_of(rt: &HostRuntime) -> Result<Vec<WorldEvent>, Fail> {
-    let mut text = Vec::new(rt.alloc());
-    rt.reader().read_to_end(&mut text)?;
-    match read_script(rt.alloc(), &text, &mut NoFiles) {
-        Ok(Script { nodes: _, events }) => Ok(events),
-        Err(fault) => Err(Fail::new(fault)),
     }
 }

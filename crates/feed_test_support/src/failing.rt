@@ -13,6 +13,7 @@ pub struct Failing {
     commits_before: u64,
     commits_failing: u64,
     failed: u64,
+    loads: u64,
 }
 
 impl Failing {
@@ -24,6 +25,7 @@ impl Failing {
             commits_before: u64::MAX,
             commits_failing: 0,
             failed: 0,
+            loads: 0,
         }
     }
 
@@ -48,11 +50,14 @@ impl Keep for Failing {
 
     ghost failed = { λ keeper. keeper.failed };
 
+    ghost loads = { λ keeper. keeper.loads };
+
     fn failures(&self) -> u64 {
         self.failed
     }
 
     fn load(&mut self, alloc: Global) -> Result<Vec<Record>, KeepFault> {
+        self.loads = self.loads.saturating_add(1);
         let fails = self.loads_before == 0;
         self.loads_before = self.loads_before.wrapping_sub(1);
         if fails {

@@ -1,8 +1,12 @@
-//! Shared fixtures for tests of feeds and worlds: names, records as text, and a keeper whose device fails.
+//! What the drivers of feeds and worlds share: names, records as text, a keeper whose device fails, scripts and errors.
 #![tactic(auto)]
 
+mod events;
 mod failing;
+mod fault;
 mod records;
 
+pub use events::read_events;
 pub use failing::Failing;
+pub use fault::Fault;
 pub use records::{content_text, name_of, records_text, write_parts};

@@ -1,6 +1,6 @@
 -- The facts about a text that is read and checked.
-use Rattle.std.proofs.Common.{◌≡◌, ◌<◌, ℕ, List, [], ◌++◌, Option, Some, None, IfSome, Result, length, refl, sym, ap, arith, ◌∙◌, subst}
-use Rattle.std.specs.Prelude.{Ok, Err}
+use Rattle.std.proofs.Common.{◌≡◌, ◌<◌, ℕ, List, [], ◌++◌, Option, Some, None, IfSome, Result, ◌⊎◌, inl, inr, length, refl, sym, ap, arith, ◌∙◌, subst}
+use Rattle.std.specs.Prelude.{Ok, Err, IfErr}
 use Rattle.std.specs.Io.KnownBytes.{Consumes, IsAtEnd, Keeps}
 use Rattle.std.proofs.Props.{props}
 use Rattle.std.proofs.KnownBytes.{Consumes-trans}
@@ -68,3 +68,8 @@ IsCheckResult-prop text (Err fault) = IsTextFaultOf-prop text fault
 pub known-prop : (given : Option (List ℕ)) (result : Result (Unit {0}) TextFault) → IsProp (IfSome given (λ text. IsCheckResult text result))
 known-prop None result = Prim.hlevel props
 known-prop (Some text) result = IsCheckResult-prop text result
+
+-- checking a whole text never returns `Read`
+pub never_read : (result : Result (Unit {0}) TextFault) → IfErr result (λ why. (why ≡ fault.NotUtf8) ⊎ (why ≡ fault.TwoMarks)) → result ≡ Err fault.Read → ⊥
+never_read (Ok done) is read = cc
+never_read (Err why) is read = elim is [ inl utf8 ↦ cc | inr marks ↦ cc ]

@@ -1,6 +1,6 @@
 -- A reader of records: its configuration, and what it has left.
 use Rattle.std.specs.Prelude.{◌≡◌, ◌<◌, ◌⊎◌, ◌∷◌, ℕ, Bool, List, [], Option, Some, None, length, true, false}
-use Rattle.csv.specs.Reading.{Ready, source_of}
+use Rattle.csv.specs.Reading.{Ready, has_failed, is_flexible, source_of}
 use Rattle.csv.specs.declared.reader.Reader.{Reader}
 use Rattle.csv.specs.declared.reader.Trim.TheVariants as trim
 use Rattle.csv.specs.declared.parser.Config.{Config}
@@ -13,11 +13,16 @@ use Rattle.feed_text.specs.Records.{records_in}
 abbrev pub tabs : Config
 tabs = record { delimiter = 9; quote = 34; escape = None; double_quote = true; quoting = false; comment = None; terminator = terminator.CRLF }
 
--- it treats the first record like the others
+-- it treats the first record like the others, and records may differ in length
 pub record IsRecordReader {R : Type 0} (reader : Reader R) : Type 0 where
   pub trims : reader.trim ≡ trim.None
   pub config : reader.config ≡ tabs
+  pub flexible : is_flexible reader ≡ true
   pub ready : Ready reader
+
+-- its source failed or memory ran out, so it gives no more records
+abbrev pub IsStopped : {R : Type 0} → Reader R → Type 0
+IsStopped reader = has_failed reader ≡ true
 
 -- a parser is between two records
 abbrev pub IsStart : State → Type 0

@@ -5,6 +5,7 @@
 #![tactic(auto)]
 
 mod fault;
+mod noted_reader;
 mod records;
 mod text_check;
 mod text_reader;

@@ -1,12 +1,14 @@
 //! The records of a text: its lines, and the fields between their tabs.
-ghost use Rattle.std.specs.Prelude.{IfOk, IfErr, Some, true, ◌≡◌, ◌⊎◌, ℕ, List};
+ghost use Rattle.std.specs.Prelude.{IfOk, IfErr, OnErr, Some, true, ◌≡◌, ◌⊎◌, ℕ, List};
+ghost use Rattle.csv.specs.Reading.{error_kind, stops_reader};
 ghost use Rattle.csv.specs.Records.{fields_of};
-ghost use Rattle.feed_text.specs.Reader.{HasLeft, IsNextRecord, IsRecordReader};
+ghost use Rattle.feed_text.specs.Failures.{IsFaultOf};
+ghost use Rattle.feed_text.specs.Reader.{HasLeft, IsNextRecord, IsRecordReader, IsStopped};
 ghost use Rattle.feed_text.specs.Records.{drop_mark};
 ghost use Rattle.feed_text.specs.declared.fault.TextFault.TheVariants as fault;
 
 use crate::fault::TextFault;
-use csv::{ByteRecord, Reader, ReaderBuilder};
+use csv::{ByteRecord, Error, Reader, ReaderBuilder};
 use std::alloc::{AllocError, Global};
 use std::io::Read;
 
@@ -29,6 +31,18 @@ pub fn record_reader<R: Read + Drop>(alloc: Global, source: R) -> Result<Reader<
     }
 }
 
+// Returns the fault of an error that stops a reader.
+fn fault_of(error: &Error) -> TextFault
+    requires { stops_reader (error_kind error.now) ≡ true }
+    ensures { IsFaultOf (error_kind error.now) result }
+{
+    if error.is_io_error() {
+        TextFault::Read
+    } else {
+        TextFault::Memory
+    }
+}
+
 /// Reads the next record into `fields`. Returns `false` if no record is left.
 ///
 /// # Errors
@@ -43,10 +57,10 @@ pub fn read_record<R: Read>(
         → IsNextRecord R.remaining reader.new found (fields_of fields.new) text) }
     ensures next { IfOk result (λ found. found ≡ true → IsRecordReader reader.new) }
     ensures fault { IfErr result (λ why. (why ≡ fault.Memory) ⊎ (why ≡ fault.Read)) }
+    ensures stopped { OnErr result (IsStopped reader.new) }
 {
     match reader.read_byte_record(fields) {
         Ok(found) => Ok(found),
-        Err(error) if error.is_io_error() => Err(TextFault::Read),
-        Err(_) => Err(TextFault::Memory),
+        Err(error) => Err(fault_of(&error)),
     }
 }

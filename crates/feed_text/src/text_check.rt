@@ -1,7 +1,8 @@
 //! Checks the bytes of a text as they are read: UTF-8, and at most one byte-order mark.
-ghost use Rattle.std.specs.Prelude.{◌≡◌, ◌≤◌, ◌+◌, ◌-◌, ◌++◌, ℕ, List, [], length, min, take};
+ghost use Rattle.std.specs.Prelude.{◌≡◌, ◌≤◌, ◌+◌, ◌-◌, ◌++◌, ◌⊎◌, ℕ, List, [], IfErr, length, min, take};
 ghost use Rattle.feed_text.specs.Checks.{IsCheckResult, IsTextCheckOf};
 ghost use Rattle.feed_limits.specs.Limits.{file_limit};
+ghost use Rattle.feed_text.specs.declared.fault.TextFault.TheVariants as fault;
 
 use crate::fault::TextFault;
 use crate::utf8::Utf8Check;
@@ -54,7 +55,8 @@ impl TextCheck {
     /// Returns why the bytes of a whole text are bad, if they are.
     pub(crate) fn finish(self) -> Result<(), TextFault>
         requires { self.total ≤ file_limit }
-        ensures { (text : List ℕ) → IsTextCheckOf text self → IsCheckResult text result }
+        ensures checked { (text : List ℕ) → IsTextCheckOf text self → IsCheckResult text result }
+        ensures fault { IfErr result (λ why. (why ≡ fault.NotUtf8) ⊎ (why ≡ fault.TwoMarks)) }
     {
         if !self.utf8.finish() {
             return Err(TextFault::NotUtf8);

@@ -1,8 +1,12 @@
 //! Readers that check a text while it is read: UTF-8, byte-order marks and size.
-ghost use Rattle.std.specs.Prelude.{◌≡◌, Option, List, ℕ, None, IfSome};
+ghost use Rattle.std.specs.Prelude.{◌≡◌, ◌<◌, ◌⊎◌, Option, List, ℕ, None, IfSome, OnErr, OnOk, true, false};
+ghost use Rattle.feed_limits.specs.Limits.{file_limit};
 ghost use Rattle.feed_text.specs.Checks.{IsCheckResult, IsReadTo};
+ghost use Rattle.feed_text.specs.Failures.{has_failed};
+ghost use Rattle.feed_text.specs.declared.fault.TextFault.TheVariants as fault;
 
 use crate::fault::TextFault;
+use crate::noted_reader::NotedReader;
 use crate::text_check::TextCheck;
 use feed_limits::FILE_LIMIT;
 use std::alloc::Global;
@@ -25,19 +29,27 @@ impl Given for Brand {
 /// A reader that passes on the bytes of another reader and checks them on the way.
 #[derive(Drop)]
 pub struct TextReader<R: Read, G: Given> {
-    reader: R,
+    reader: NotedReader<R>,
     check: TextCheck,
-    failed: bool,
     of: PhantomData<G>,
-    ghost read: { ∥ IsReadTo G.given (R.remaining reader) check ∥₁ },
+    ghost read: { ∥ IsReadTo G.given (R.remaining reader.reader) check ∥₁ },
 }
 
-// Reads the rest of a text and checks all of it.
-fn check_rest<R: Read + Drop>(alloc: Global, reader: R, check: TextCheck) -> Result<(), TextFault>
-    ensures { (given : Option (List ℕ)) → IsReadTo given (R.remaining reader) check
+// Reads the rest of a text and checks all of it, unless the reader has failed.
+fn check_rest<R: Read>(
+    alloc: Global,
+    reader: &mut NotedReader<R>,
+    check: TextCheck,
+) -> Result<(), TextFault>
+    ensures checked { (given : Option (List ℕ)) → IsReadTo given (R.remaining reader.old.reader) check
         → IfSome given (λ text. IsCheckResult text result) }
+    ensures failed { has_failed reader.new ≡ true → result ≡ Err fault.Read }
+    ensures cause { result ≡ Err fault.Read → has_failed reader.new ≡ true }
+    ensures stays { has_failed reader.old ≡ true → has_failed reader.new ≡ true }
 {
-    let mut reader = reader;
+    if reader.has_failed() {
+        return Err(TextFault::Read);
+    }
     let mut check = check;
     let mut block = vec![in alloc; 0u8; BLOCK]?;
     while check.total <= FILE_LIMIT {
@@ -59,44 +71,51 @@ fn check_rest<R: Read + Drop>(alloc: Global, reader: R, check: TextCheck) -> Res
 pub fn check_text<R: Read + Drop>(alloc: Global, reader: R) -> Result<(), TextFault>
     ensures { IfSome (R.remaining reader) (λ text. IsCheckResult text result) }
 {
-    check_rest(alloc, reader, TextCheck::new())
+    check_rest(alloc, &mut NotedReader::new(reader), TextCheck::new())
 }
 
 impl<R: Read + Drop, G: Given> TextReader<R, G> {
     /// Returns a reader that has read nothing.
     pub fn new(reader: R) -> TextReader<R, G>
         requires { G.given ≡ R.remaining reader }
-        ensures { R.remaining result.reader ≡ R.remaining reader }
+        ensures left { R.remaining result.reader.reader ≡ R.remaining reader }
+        ensures fresh { has_failed result.reader ≡ false }
     {
         TextReader {
-            reader,
+            reader: NotedReader::new(reader),
             check: TextCheck::new(),
-            failed: false,
             of: PhantomData,
         }
     }
 
     /// Reads the rest, and returns why the text is bad or could not be read, as `check_text` does.
     pub fn finish(self, alloc: Global) -> Result<(), TextFault>
-        ensures { IfSome G.given (λ text. IsCheckResult text result) }
+        ensures checked { IfSome G.given (λ text. IsCheckResult text result) }
+        ensures failed { has_failed self.reader ≡ true → result ≡ Err fault.Read }
     {
         let TextReader {
-            reader,
+            mut reader,
             check,
-            failed,
             ..
         } = self;
-        if failed {
-            return Err(TextFault::Read);
-        }
-        check_rest(alloc, reader, check)
+        check_rest(alloc, &mut reader, check)
     }
 }
 
 impl<R: Read, G: Given> Read for TextReader<R, G> {
-    ghost remaining = { λ t. R.remaining t.reader };
+    ghost use Rattle.std.specs.Io.{ReadsAtMost};
+    ghost use Rattle.std.specs.Io.KnownBytes.{ReadConsumes};
 
-    fn read(&mut self, buf: &mut [u8]) -> io::Result<usize> {
+    ghost remaining = { λ t. R.remaining t.reader.reader };
+
+    fn read(&mut self, buf: &mut [u8]) -> io::Result<usize>
+        ensures bound { ReadsAtMost result buf.new }
+        ensures bytes { ReadConsumes (R.remaining self.old.reader.reader) (R.remaining self.new.reader.reader)
+            result buf.new }
+        ensures noted { OnErr result ((has_failed self.new.reader ≡ true) ⊎ (file_limit < self.new.check.total)) }
+        ensures same { OnOk result (has_failed self.new.reader ≡ has_failed self.old.reader) }
+        ensures stays { has_failed self.old.reader ≡ true → has_failed self.new.reader ≡ true }
+    {
         if self.check.total > FILE_LIMIT {
             return Err(ErrorKind::FileTooLarge.into());
         }
@@ -105,10 +124,7 @@ impl<R: Read, G: Given> Read for TextReader<R, G> {
                 self.check.feed(&buf[..count]);
                 Ok(count)
             }
-            Err(error) => {
-                self.failed = true;
-                Err(error)
-            }
+            Err(error) => Err(error),
         }
     }
 }

@@ -3,11 +3,18 @@ ghost use Rattle.std.specs.Prelude.{◌≡◌, ◌≤◌, ◌<◌, length, OnOk,
 ghost use Rattle.std.specs.Io.KnownBytes.{Consumes, IsAtEnd};
 ghost use Rattle.feed_http.specs.Bodies.{IsFillFault, IsSizedFault, IsEndlessFault};
 
-use feed_http_heads::HttpFault;
+use feed_http_heads::{HttpFault, read_some};
 use std::alloc::Global;
 use std::io::Read;
 
 const BLOCK: usize = 8_192;
+
+/// How many bytes a body may have whose head does not state its length.
+#[derive(Clone, Copy)]
+pub(crate) struct Bounds {
+    pub least: usize,
+    pub most: usize,
+}
 
 /// Fills the buffer, however the reader splits its bytes.
 pub(crate) fn fill<R: Read>(reader: &mut R, buffer: &mut [u8]) -> Result<(), HttpFault>
@@ -17,13 +24,7 @@ pub(crate) fn fill<R: Read>(reader: &mut R, buffer: &mut [u8]) -> Result<(), Htt
 {
     let mut filled = 0usize;
     while filled < buffer.len() {
-        let Ok(count) = reader.read(&mut buffer[filled..]) else {
-            return Err(HttpFault::Read);
-        };
-        if count == 0 {
-            return Err(HttpFault::Short);
-        }
-        filled += count;
+        filled += read_some(reader, &mut buffer[filled..])?;
     }
     Ok(())
 }
@@ -46,18 +47,17 @@ pub(crate) fn read_sized<R: Read>(
     Ok(body)
 }
 
-/// Reads all bytes up to the end of the stream, which must be from `least` to `most`.
+/// Reads all bytes up to the end of the stream, which must be within the bounds.
 pub(crate) fn read_to_end<R: Read>(
     alloc: Global,
     reader: &mut R,
-    least: usize,
-    most: usize,
+    bounds: Bounds,
 ) -> Result<Vec<u8>, HttpFault>
-    ensures size { IfOk result (λ body. (least ≤ length body.items) × (length body.items ≤ most)) }
+    ensures size { IfOk result (λ body. (bounds.least ≤ length body.items) × (length body.items ≤ bounds.most)) }
     ensures taken { IfOk result (λ body.
         Consumes (R.remaining reader.old) (R.remaining reader.new) body.items) }
     ensures end { OnOk result (IsAtEnd (R.remaining reader.new)) }
-    ensures faults { IfErr result (IsEndlessFault least most (R.remaining reader.old)) }
+    ensures faults { IfErr result (IsEndlessFault bounds.least bounds.most (R.remaining reader.old)) }
 {
     let mut block = [0u8; BLOCK];
     let mut body = Vec::new(alloc);
@@ -66,12 +66,12 @@ pub(crate) fn read_to_end<R: Read>(
             return Err(HttpFault::Read);
         };
         if count == 0 {
-            if body.len() < least {
+            if body.len() < bounds.least {
                 return Err(HttpFault::Short);
             }
             return Ok(body);
         }
-        if count > most - body.len() {
+        if count > bounds.most - body.len() {
             return Err(HttpFault::BodyTooLong);
         }
         let Ok(()) = body.extend_from_slice(&block[..count]) else {

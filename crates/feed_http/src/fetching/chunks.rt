@@ -10,10 +10,10 @@ ghost use Rattle.feed_http.specs.Got.{IsReadingFault};
 ghost use Rattle.feed_http.specs.Chunks.{IsLineTaken, IsLineFault, AreTrailersTaken, IsTrailersFault, IsEndFault};
 ghost use Rattle.feed_http.specs.Chunks.{IsChunkTaken, IsChunkFault, IsBodyChunked, IsChunkedFault};
 
-use crate::fetching::body::read_sized;
+use crate::fetching::body::{Bounds, read_sized};
 use crate::limits::CHUNK_LINE_LIMIT;
 use arrayvec::ArrayVec;
-use feed_http_heads::{FIELD_LIMIT, HEAD_LIMIT, HttpFault};
+use feed_http_heads::{FIELD_LIMIT, HEAD_LIMIT, HttpFault, read_some};
 use httparse::spans::{EMPTY_HEADER_SPAN, parse_headers};
 use httparse::{Status, parse_chunk_size};
 use std::alloc::Global;
@@ -26,10 +26,10 @@ fn read_byte<R: Read>(reader: &mut R) -> Result<Option<u8>, HttpFault>
     ensures faults { IfErr result (λ fault. fault ≡ HttpFault.Read) }
 {
     let mut byte = [0u8; 1];
-    match reader.read(&mut byte) {
-        Ok(0) => Ok(None),
+    match read_some(reader, &mut byte) {
         Ok(_) => Ok(Some(byte[0])),
-        Err(_) => Err(HttpFault::Read),
+        Err(HttpFault::Short) => Ok(None),
+        Err(fault) => Err(fault),
     }
 }
 
@@ -140,31 +140,30 @@ fn read_chunk<R: Read>(
     Ok(())
 }
 
-/// Reads a chunked body and its trailer fields, which it drops. The body must have from `least` to `most` bytes. The
-/// limit is checked against the size in front of each chunk.
+/// Reads a chunked body and its trailer fields, which it drops. The body must be within the bounds, which are
+/// checked against the size in front of each chunk.
 pub(crate) fn read_chunked<R: Read>(
     alloc: Global,
     reader: &mut R,
-    least: usize,
-    most: usize,
+    bounds: Bounds,
 ) -> Result<Vec<u8>, HttpFault>
-    ensures size { IfOk result (λ body. (least ≤ length body.items) × (length body.items ≤ most)) }
+    ensures size { IfOk result (λ body. (bounds.least ≤ length body.items) × (length body.items ≤ bounds.most)) }
     ensures body { IfOk result (λ body.
         IfSome (R.remaining reader.old) (IsBodyChunked body.items)) }
-    ensures faults { IfErr result (IsChunkedFault least most (R.remaining reader.old)) }
+    ensures faults { IfErr result (IsChunkedFault bounds.least bounds.most (R.remaining reader.old)) }
     ensures reading { IfErr result IsReadingFault }
 {
     let mut body = Vec::new(alloc);
     loop {
         let size = read_line(reader)?;
         if size == 0 {
-            if body.len() < least {
+            if body.len() < bounds.least {
                 return Err(HttpFault::Length);
             }
             read_trailers(reader)?;
             return Ok(body);
         }
-        if size > (most - body.len()) as u64 {
+        if size > (bounds.most - body.len()) as u64 {
             return Err(HttpFault::BodyTooLong);
         }
         read_chunk(alloc, reader, &mut body, size as usize)?;

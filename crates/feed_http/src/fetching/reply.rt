@@ -2,7 +2,7 @@
 ghost use Rattle.std.specs.Prelude.{IfSome, IfErr};
 ghost use Rattle.feed_http.specs.Got.{IsBody, IsPartBody, IsGot, IsReply, IsReadingFault};
 
-use crate::fetching::body::{read_sized, read_to_end};
+use crate::fetching::body::{Bounds, read_sized, read_to_end};
 use crate::fetching::chunks::read_chunked;
 use crate::fetching::got::{Bytes, Got, Method};
 use crate::fetching::validation::{Announcement, Framing, Reply};
@@ -16,16 +16,15 @@ fn read_body<R: Read>(
     alloc: Global,
     reader: &mut R,
     framing: Framing,
-    least: u64,
-    most: u64,
+    bounds: Bounds,
 ) -> Result<Bytes, HttpFault>
-    ensures body { IfSome (R.remaining reader.old) (λ text. IsBody framing least most text result) }
+    ensures body { IfSome (R.remaining reader.old) (λ text. IsBody framing bounds.least bounds.most text result) }
     ensures faults { IfErr result IsReadingFault }
 {
     let body = match framing {
-        Framing::Chunked => read_chunked(alloc, reader, least as usize, most as usize)?,
+        Framing::Chunked => read_chunked(alloc, reader, bounds)?,
         Framing::Sized(size) => read_sized(alloc, reader, size as usize)?,
-        Framing::ToEnd => read_to_end(alloc, reader, least as usize, most as usize)?,
+        Framing::ToEnd => read_to_end(alloc, reader, bounds)?,
     };
     Ok(Bytes::new(body))
 }
@@ -39,7 +38,11 @@ fn read_part<R: Read>(
     ensures body { IfSome (R.remaining reader.old) (λ text. IsPartBody framing count text result) }
     ensures faults { IfErr result IsReadingFault }
 {
-    match read_body(alloc, reader, framing, count, count) {
+    let bounds = Bounds {
+        least: count as usize,
+        most: count as usize,
+    };
+    match read_body(alloc, reader, framing, bounds) {
         Err(HttpFault::BodyTooLong) => Err(HttpFault::Length),
         read => read,
     }
@@ -71,7 +74,11 @@ fn read_got<R: Read>(
             })
         }
         Announcement::Whole(framing) => {
-            let bytes = read_body(alloc, reader, framing, 0, FILE_LIMIT as u64)?;
+            let bounds = Bounds {
+                least: 0,
+                most: FILE_LIMIT,
+            };
+            let bytes = read_body(alloc, reader, framing, bounds)?;
             Ok(Got::Whole { bytes })
         }
     }

@@ -1,7 +1,7 @@
 //! Sends the bodies of replies.
 ghost use Rattle.std.specs.Prelude.{◌≡◌, ◌≤◌, ◌+◌};
 ghost use Rattle.std.specs.Prelude.{IfSome, IsSomeAnd, IfErr, IsErrOf, length, take, drop, slice_range};
-ghost use Rattle.feed_http.specs.Shelves.{CountsFailure};
+ghost use Rattle.feed_http.specs.Shelves.{IsCounted};
 ghost use Rattle.feed_http.specs.ServerReplies.{IsSending, IsReplyFault};
 
 use crate::serving::shelf::Shelf;
@@ -27,9 +27,7 @@ fn send_block<W: Write, S: Shelf>(
         IsSending (take len (drop first file)) result (W.contents writer.old) (W.contents writer.new))) }
     ensures faults { IfErr result IsReplyFault }
     ensures kept { S.files shelf.new ≡ S.files shelf.old }
-    ensures rises { S.failed shelf.old ≤ S.failed shelf.new }
-    ensures device { IsErrOf result HttpFault.Shelf
-        → CountsFailure (S.failed shelf.old) (S.failed shelf.new) }
+    ensures device { IsCounted (IsErrOf result HttpFault.Shelf) (S.failed shelf.old) (S.failed shelf.new) }
 {
     let bytes = shelf.read(alloc, name, first, len)?;
     let Ok(()) = writer.write_all(&bytes) else {
@@ -54,9 +52,7 @@ pub(crate) fn send<W: Write, S: Shelf>(
         IsSending (slice_range file first end) result (W.contents writer.old) (W.contents writer.new))) }
     ensures faults { IfErr result IsReplyFault }
     ensures kept { S.files shelf.new ≡ S.files shelf.old }
-    ensures rises { S.failed shelf.old ≤ S.failed shelf.new }
-    ensures device { IsErrOf result HttpFault.Shelf
-        → CountsFailure (S.failed shelf.old) (S.failed shelf.new) }
+    ensures device { IsCounted (IsErrOf result HttpFault.Shelf) (S.failed shelf.old) (S.failed shelf.new) }
 {
     let mut at = first;
     while at < end {

@@ -10,7 +10,7 @@ ghost use Rattle.feed_http_heads.specs.RequestHeads.{BeginsWithHead};
 ghost use Rattle.feed_http_heads.specs.Requests.{IsInBuffer, HasHead};
 ghost use Rattle.feed_http.specs.Requests.{IsNamedBy};
 ghost use Rattle.feed_http.specs.Replies.{IsPartInside};
-ghost use Rattle.feed_http.specs.Shelves.{CountsFailure, IsShelfKept};
+ghost use Rattle.feed_http.specs.Shelves.{IsCounted, IsShelfKept};
 ghost use Rattle.feed_http.specs.ServerReplies.{server_reply, reply_without_file, part_reply, file_reply, IsOutcomeOf};
 ghost use Rattle.feed_http.specs.ServerReplies.{IsRefusalOf};
 ghost use Rattle.feed_http.specs.ServerReplies.{IsReplyFault, IsServingFault, reply_of};
@@ -187,11 +187,9 @@ pub fn serve_one<R: Read, W: Write, S: Shelf>(
     ensures unread { IsErrOf result HttpFault.Read → Keeps (W.contents writer.old) (W.contents writer.new) }
     ensures short { IsErrOf result HttpFault.Short → Keeps (W.contents writer.old) (W.contents writer.new) }
 
-    // The shelf keeps its files, and the exchange reports `Shelf` only for faults of the shelf.
+    // The shelf keeps its files, and the exchange reports `Shelf` exactly if the shelf counted a failure.
     ensures kept { S.files shelf.new ≡ S.files shelf.old }
-    ensures rises { S.failed shelf.old ≤ S.failed shelf.new }
-    ensures device { IsErrOf result HttpFault.Shelf
-        → CountsFailure (S.failed shelf.old) (S.failed shelf.new) }
+    ensures device { IsCounted (IsErrOf result HttpFault.Shelf) (S.failed shelf.old) (S.failed shelf.new) }
 {
     let mut buffer = [0u8; HEAD_LIMIT];
     let mut headers = [EMPTY_HEADER_SPAN; FIELD_LIMIT];

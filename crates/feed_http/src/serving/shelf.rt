@@ -3,7 +3,7 @@ ghost use Rattle.std.specs.Prelude.{◌≡◌, ◌≤◌, ◌+◌, ℕ};
 ghost use Rattle.std.specs.Prelude.{Option, None, IfSome, IsSomeAnd, IfOk, IsErrOf, length, take};
 ghost use Rattle.std.specs.Prelude.{drop};
 ghost use Rattle.std.specs.Option.{option_map};
-ghost use Rattle.feed_http.specs.Shelves.{Files, CountsFailure};
+ghost use Rattle.feed_http.specs.Shelves.{Files, IsCounted};
 ghost use Rattle.feed_http.specs.declared.serving.shelf.ShelfFault.TheVariants.{Device};
 
 use feed_http_heads::HttpFault;
@@ -55,8 +55,7 @@ pub trait Shelf {
         ensures kept { files self.new ≡ files self.old }
         ensures size { IfSome (files self.old) (λ files.
             IfOk result (λ size. size ≡ option_map length (files name.now))) }
-        ensures rises { failed self.old ≤ failed self.new }
-        ensures device { IsErrOf result Device → CountsFailure (failed self.old) (failed self.new) };
+        ensures device { IsCounted (IsErrOf result Device) (failed self.old) (failed self.new) };
 
     /// Returns exactly `len` bytes of the file of this name, from the place `first`.
     fn read(
@@ -72,6 +71,5 @@ pub trait Shelf {
         ensures len { IfOk result (λ bytes. length bytes.items ≡ len) }
         ensures bytes { IfSome (files self.old) (λ files. IfSome (files name.now) (λ file.
             IfOk result (λ bytes. bytes.items ≡ take len (drop first file)))) }
-        ensures rises { failed self.old ≤ failed self.new }
-        ensures device { IsErrOf result Device → CountsFailure (failed self.old) (failed self.new) };
+        ensures device { IsCounted (IsErrOf result Device) (failed self.old) (failed self.new) };
 }

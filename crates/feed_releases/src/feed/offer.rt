@@ -60,6 +60,7 @@ impl<K: Keep + Drop> Feed<K> {
         ensures fault { IfErr result (λ fault. (fault ≡ Refusal.Memory) ⊎ (fault ≡ Refusal.Device)) }
         ensures counted { IsCounted (result ≡ Err Refusal.Device) (K.failed (keeper_of self.old))
             (K.failed (keeper_of self.new)) }
+        ensures unloaded { K.loads (keeper_of self.new) ≡ K.loads (keeper_of self.old) }
     {
         let Ok(()) = self.releases.reserve(1) else {
             return Err(Refusal::Memory);

@@ -1,4 +1,5 @@
-use Rattle.std.proofs.Common.{true}
+use Rattle.std.proofs.Common.{true, refl}
+use Rattle.feed_core.proofs.Counts.{reported_as}
 use Rattle.feed_core.proofs.step.stop_node.Goals as goal
 
 pub returns-in-Before : goal.returns-in-Before
@@ -10,7 +11,7 @@ returns-in-Before g c =
       was = r.was;
       now = r.now;
       was_clean = r.was_clean;
-      holds = (r.holds.0, λ h clean in_state. r.holds.1 true h clean in_state);
+      holds = (reported_as r.holds.0 (λ e. e) (λ e. e) (λ t. absurd t), r.holds.1, λ h clean in_state. r.holds.2 true h clean in_state);
     })
 
 pub returns-in-After : goal.returns-in-After
@@ -22,5 +23,5 @@ returns-in-After g c =
       was = r.was;
       now = r.now;
       was_clean = r.was_clean;
-      holds = (r.holds.0, λ h clean in_state. r.holds.1 h clean in_state);
+      holds = (reported_as r.holds.0 (λ e. e) (λ e. e) (λ _. refl), r.holds.1, λ h clean in_state. r.holds.2 h clean in_state);
     })

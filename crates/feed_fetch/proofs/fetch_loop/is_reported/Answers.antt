@@ -1,6 +1,6 @@
 use Rattle.std.proofs.Common.{◌≡◌, of_z, w32, List, ℕ, Some, None, sym, ◌∙◌, ap, subst}
 use Rattle.feed_model.specs.History.{Reports}
-use Rattle.feed_fetch.proofs.Fetches.{reported_none, reported_day, same_day}
+use Rattle.feed_fetch.proofs.Fetches.{reported_none, reported_day, reported_good, reported_current, same_day}
 use Rattle.feed_fetch.proofs.fetch_loop.is_reported.Goals as goal
 
 pub returns-in-Some-clause-good : goal.returns-in-Some-clause-good
@@ -13,3 +13,11 @@ pub returns-in-None-clause-good : goal.returns-in-None-clause-good
 returns-in-None-clause-good g c h is ahead good =
     let at : Reports h c.args.name.now.stem None = subst (λ (s : List ℕ). Reports h s None) c.package.ensures.value (c.in-None.ensures h is) in
     absurd (reported_none h c.args.name.now good at)
+
+pub returns-in-Some-clause-found : goal.returns-in-Some-clause-found
+returns-in-Some-clause-found g c h is reported =
+    returns-in-Some-clause-good g c h is (reported_current h c.args.name.now reported) (reported_good h c.args.name.now reported)
+
+pub returns-in-None-clause-found : goal.returns-in-None-clause-found
+returns-in-None-clause-found g c h is reported =
+    returns-in-None-clause-good g c h is (reported_current h c.args.name.now reported) (reported_good h c.args.name.now reported)

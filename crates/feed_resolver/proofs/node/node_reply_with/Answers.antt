@@ -1,39 +1,36 @@
-use Rattle.std.proofs.Common.{inl, inr, refl}
+use Rattle.std.proofs.Common.{◌⊎◌, inl, inr, refl}
 use Rattle.std.proofs.lemmas.Result.{IfOk-weaker}
-use Rattle.feed_resolver.specs.NodeReplies.{IsNodeReply, IsNodeReplyText}
-use Rattle.feed_resolver.proofs.NoHead.{none_ever, none_yet}
+use Rattle.httparse.specs.Grammar.{RequestHead}
+use Rattle.feed_http_heads.specs.Requests.{is_head}
+use Rattle.feed_resolver_request.specs.FoundRequests.{BeginsWith}
+use Rattle.feed_resolver_reply.specs.Replies.{ResponseValue}
+use Rattle.feed_resolver_reply.specs.Messages.{IsMessageFor, BeginsStream}
+use Rattle.feed_resolver.specs.NodeReplies.{IsNodeReply, IsNodeReplyText, IsNodeMessage}
 use Rattle.feed_resolver.proofs.node.node_reply_with.Goals as goal
 
-pub returns-in-Whole-clause-value : goal.returns-in-Whole-clause-value
-returns-in-Whole-clause-value c = IfOk-weaker c.node_reply.result _ (λ reply. IsNodeReply c.args.policy.now c.args.bytes.now c.args.actives.now reply)
-    (λ reply is. inl (
-      c.in-Whole.ensures.head,
-      c.in-Whole.ensures.begins,
-      is c.in-Whole.ensures.head (c.new-request.ensures.head c.in-Whole.ensures.head c.in-Whole.ensures.at),
-    ))
-    c.node_reply.ensures
+pub returns-in-Some-clause-value : goal.returns-in-Some-clause-value
+returns-in-Some-clause-value c = let found = c.in-Some.ensures.found in
+    IfOk-weaker c.node_reply.result _ (λ response. IsNodeReply c.args.policy.now c.args.bytes.now c.args.actives.now response)
+    (λ response is. inl (found.head, found.begins, is found.head found.has)) c.node_reply.ensures.value
 
-pub returns-in-Whole-clause-text : goal.returns-in-Whole-clause-text
-returns-in-Whole-clause-text c = IfOk-weaker c.node_reply.result _ (λ reply. IsNodeReplyText c.args.policy.now c.args.bytes.now c.args.actives.now reply.bytes)
-    (λ reply is. (
-      reply,
-      inl (
-        c.in-Whole.ensures.head,
-        c.in-Whole.ensures.begins,
-        is c.in-Whole.ensures.head (c.new-request.ensures.head c.in-Whole.ensures.head c.in-Whole.ensures.at),
-      ),
-      refl,
-    ))
-    c.node_reply.ensures
+pub returns-in-Some-clause-text : goal.returns-in-Some-clause-text
+returns-in-Some-clause-text c = let found = c.in-Some.ensures.found in
+    IfOk-weaker c.node_reply.result _ (λ response. IsNodeReplyText c.args.policy.now c.args.bytes.now c.args.actives.now response.bytes)
+    (λ response is. (response, inl (found.head, found.begins, is found.head found.has), refl)) c.node_reply.ensures.value
 
-pub returns-in-Unfinished-clause-text : goal.returns-in-Unfinished-clause-text
-returns-in-Unfinished-clause-text c = IfOk-weaker c.bad_head_response.result _ (λ reply. IsNodeReplyText c.args.policy.now c.args.bytes.now c.args.actives.now reply.bytes)
-    (λ reply is. (reply, inr (none_yet 8192 64 c.args.bytes.now c.in-Unfinished.ensures, is), refl)) c.bad_head_response.ensures
+pub returns-in-Some-clause-message : goal.returns-in-Some-clause-message
+returns-in-Some-clause-message c = let found = c.in-Some.ensures.found in
+    IfOk-weaker c.node_reply.result _ (λ response. IsNodeMessage c.args.bytes.now response)
+    (λ response is. elim (is found.head found.has) [ inl message ↦ inl (inl (found.head, found.begins, message)) | inr begins ↦ inr begins ]) c.node_reply.ensures.message
 
-pub returns-in-Never-clause-value : goal.returns-in-Never-clause-value
-returns-in-Never-clause-value c = IfOk-weaker c.bad_head_response-in-Never.result _ (λ reply. IsNodeReply c.args.policy.now c.args.bytes.now c.args.actives.now reply)
-    (λ reply is. inr (none_ever 8192 64 c.args.bytes.now c.in-Never.ensures, is)) c.bad_head_response-in-Never.ensures
+pub returns-in-None-clause-text : goal.returns-in-None-clause-text
+returns-in-None-clause-text c = IfOk-weaker c.bad_head_response.result _ (λ response. IsNodeReplyText c.args.policy.now c.args.bytes.now c.args.actives.now response.bytes)
+    (λ response is. (response, inr (c.in-None.ensures.found, is), refl)) c.bad_head_response.ensures.value
 
-pub returns-in-Never-clause-text : goal.returns-in-Never-clause-text
-returns-in-Never-clause-text c = IfOk-weaker c.bad_head_response-in-Never.result _ (λ reply. IsNodeReplyText c.args.policy.now c.args.bytes.now c.args.actives.now reply.bytes)
-    (λ reply is. (reply, inr (none_ever 8192 64 c.args.bytes.now c.in-Never.ensures, is), refl)) c.bad_head_response-in-Never.ensures
+pub returns-in-None-clause-value : goal.returns-in-None-clause-value
+returns-in-None-clause-value c = IfOk-weaker c.bad_head_response.result _ (λ response. IsNodeReply c.args.policy.now c.args.bytes.now c.args.actives.now response)
+    (λ response is. inr (c.in-None.ensures.found, is)) c.bad_head_response.ensures.value
+
+pub returns-in-None-clause-message : goal.returns-in-None-clause-message
+returns-in-None-clause-message c = IfOk-weaker c.bad_head_response.result _ (λ response. IsNodeMessage c.args.bytes.now response)
+    (λ response is. inl (inr (c.in-None.ensures.found, is))) c.bad_head_response.ensures.message

@@ -1,23 +1,23 @@
-use Rattle.std.proofs.Common.{◌≡◌, inl, inr}
+use Rattle.std.proofs.Common.{inl, inr}
 use Rattle.std.proofs.lemmas.Result.{IfOk-weaker}
-use Rattle.feed_resolver_reply.specs.Replies.{bad_head_response}
 use Rattle.feed_resolver.specs.Replies.{IsResponse}
-use Rattle.feed_resolver.proofs.NoHead.{none_ever, none_yet}
+use Rattle.feed_resolver.specs.Messages.{IsMessageTo}
 use Rattle.feed_resolver.proofs.responses.respond_with.Goals as goal
 
-pub returns-in-Whole : goal.returns-in-Whole
-returns-in-Whole c = IfOk-weaker c.response_to.result _ (λ response. IsResponse c.args.bytes.now c.args.actives.now response)
-    (λ response is. inl (
-      c.in-Whole.ensures.head,
-      c.in-Whole.ensures.begins,
-      is c.in-Whole.ensures.head (c.new-request.ensures.head c.in-Whole.ensures.head c.in-Whole.ensures.at),
-    ))
-    c.response_to.ensures
+pub returns-in-Some-clause-value : goal.returns-in-Some-clause-value
+returns-in-Some-clause-value c = let found = c.in-Some.ensures.found in
+    IfOk-weaker c.response_to.result _ (λ response. IsResponse c.args.bytes.now c.args.actives.now response)
+    (λ response is. inl (found.head, found.begins, is found.head found.has)) c.response_to.ensures.value
 
-pub returns-in-Unfinished : goal.returns-in-Unfinished
-returns-in-Unfinished c = IfOk-weaker c.bad_head_response.result (λ response. response ≡ bad_head_response) (λ response. IsResponse c.args.bytes.now c.args.actives.now response)
-    (λ response is. inr (none_yet 8192 64 c.args.bytes.now c.in-Unfinished.ensures, is)) c.bad_head_response.ensures
+pub returns-in-Some-clause-message : goal.returns-in-Some-clause-message
+returns-in-Some-clause-message c = let found = c.in-Some.ensures.found in
+    IfOk-weaker c.response_to.result _ (λ response. IsMessageTo c.args.bytes.now response)
+    (λ response is. inl (found.head, found.begins, is found.head found.has)) c.response_to.ensures.message
 
-pub returns-in-Never : goal.returns-in-Never
-returns-in-Never c = IfOk-weaker c.bad_head_response-in-Never.result (λ response. response ≡ bad_head_response) (λ response. IsResponse c.args.bytes.now c.args.actives.now response)
-    (λ response is. inr (none_ever 8192 64 c.args.bytes.now c.in-Never.ensures, is)) c.bad_head_response-in-Never.ensures
+pub returns-in-None-clause-value : goal.returns-in-None-clause-value
+returns-in-None-clause-value c = IfOk-weaker c.bad_head_response.result _ (λ response. IsResponse c.args.bytes.now c.args.actives.now response)
+    (λ response is. inr (c.in-None.ensures.found, is)) c.bad_head_response.ensures.value
+
+pub returns-in-None-clause-message : goal.returns-in-None-clause-message
+returns-in-None-clause-message c = IfOk-weaker c.bad_head_response.result _ (λ response. IsMessageTo c.args.bytes.now response)
+    (λ response is. inr (c.in-None.ensures.found, is)) c.bad_head_response.ensures.message

@@ -1,4 +1,9 @@
 use Rattle.feed_store.proofs.adopt.check_number.Goals as goal
 
-pub returns-in-Ok-true-clause-reported : goal.returns-in-Ok-true-clause-reported
-returns-in-Ok-true-clause-reported g c clean = rw c.in-Ok-true.field-0-test at (c.in-Ok-true.ensures.reported clean)
+pub returns-then-branch-clause-reported : goal.returns-then-branch-clause-reported
+returns-then-branch-clause-reported g c clean = rw c.if-branch.true at (c.in_ok-has_layout_number.ensures.reported clean)
+
+pub returns-else-branch-clause-other : goal.returns-else-branch-clause-other
+returns-else-branch-clause-other g c is clean =
+    let reported = c.in_ok-has_layout_number.ensures.reported clean in
+    let shown = c.in_ok-has_layout_number.ensures.shown clean in (rw c.if-branch.false at shown, rw c.if-branch.false at reported)

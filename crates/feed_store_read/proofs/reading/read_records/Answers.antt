@@ -1,11 +1,7 @@
-use Rattle.std.proofs.Common.{◌≡◌, IfOk, MatchOption, sym, subst, ap, ◌∙◌}
-use Rattle.sqlite.specs.Effect.{Database}
 use Rattle.sqlite.specs.Held.{state}
 use Rattle.feed_keep.specs.Shown.{shown}
-use Rattle.feed_store_model.specs.Tables.{HoldsReleases, HoldsRecords, IsLayout2, content_without_reasons}
 use Rattle.feed_store_model.proofs.Ours.{tabled_ours}
-use Rattle.feed_store_read.specs.Selected.{AreRecordsOf}
-use Rattle.feed_store_read.proofs.Explaining.{told_listed, told_order, told_records}
+use Rattle.feed_store_read.proofs.Explaining.{told_before, told_listed, told_order, told_records}
 use Rattle.feed_store_read.proofs.reading.read_records.Goals as goal
 use Rattle.feed_store_read.proofs.reading.read_records.Goals.{After-read_reasons}
 
@@ -21,19 +17,13 @@ returns-in-Some-clause-records g c live ours =
     let db = (state g.S.Store c.args.conn.now).now in
     let early = c.read_reasons.ensures.live live in
     let has = tabled_ours db ours in
-    let first = c.read_without_reasons.ensures.same early in
-    let rows : HoldsReleases db = rw c.in-Some.is at (c.in_ok-records.ensures.listed early has) in
-    let content : shown c.in-Some.records.items ≡ content_without_reasons db = rw c.in-Some.is at (c.in_ok-records.ensures.records early has) in
-    let told = c.read_reasons.ensures.explained live (subst IsLayout2 (sym first) ours) (subst HoldsReleases (sym first) rows) (content ∙ ap content_without_reasons (sym first)) in
-    told_records db c.read_reasons.result (subst (λ (d : Database). IfOk c.read_reasons.result (λ found. MatchOption found (¬ (HoldsRecords d)) (AreRecordsOf d))) first told)
+    told_records db c.read_reasons.result (told_before db _ (shown c.in-Some.records.items) c.read_reasons.result (c.read_without_reasons.ensures.same early) ours
+    (rw c.in-Some.is at (c.in_ok-records.ensures.listed early has)) (rw c.in-Some.is at (c.in_ok-records.ensures.records early has)) (c.read_reasons.ensures.explained live))
 
 pub returns-in-Some-clause-listed : goal.returns-in-Some-clause-listed
 returns-in-Some-clause-listed g c live ours =
     let db = (state g.S.Store c.args.conn.now).now in
     let early = c.read_reasons.ensures.live live in
     let has = tabled_ours db ours in
-    let first = c.read_without_reasons.ensures.same early in
-    let rows : HoldsReleases db = rw c.in-Some.is at (c.in_ok-records.ensures.listed early has) in
-    let content : shown c.in-Some.records.items ≡ content_without_reasons db = rw c.in-Some.is at (c.in_ok-records.ensures.records early has) in
-    let told = c.read_reasons.ensures.explained live (subst IsLayout2 (sym first) ours) (subst HoldsReleases (sym first) rows) (content ∙ ap content_without_reasons (sym first)) in
-    told_listed db c.read_reasons.result (subst (λ (d : Database). IfOk c.read_reasons.result (λ found. MatchOption found (¬ (HoldsRecords d)) (AreRecordsOf d))) first told)
+    told_listed db c.read_reasons.result (told_before db _ (shown c.in-Some.records.items) c.read_reasons.result (c.read_without_reasons.ensures.same early) ours
+    (rw c.in-Some.is at (c.in_ok-records.ensures.listed early has)) (rw c.in-Some.is at (c.in_ok-records.ensures.records early has)) (c.read_reasons.ensures.explained live))

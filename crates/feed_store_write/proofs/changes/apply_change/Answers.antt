@@ -14,3 +14,9 @@ returns-in-Pieces-clause-made g c clean =
     (pieces_made c.in-Pieces.name.now (shown_parts c.in-Pieces.parts.now) (state g.S.Store c.args.tx.now.conn.now)
     (state g.S.Store c.insert_parts.new.tx.conn.now))
     (c.insert_parts.ensures.made clean))
+
+pub returns-in-Add-clause-ran : goal.returns-in-Add-clause-ran
+returns-in-Add-clause-ran g c clean = rw c.in-Add.is (c.add_release.ensures.ran clean)
+
+pub returns-in-Pieces-clause-ran : goal.returns-in-Pieces-clause-ran
+returns-in-Pieces-clause-ran g c clean = rw c.in-Pieces.is (c.insert_parts.ensures.ran clean)

@@ -1,10 +1,12 @@
-use Rattle.std.proofs.Common.{[]}
+use Rattle.std.proofs.Common.{[], refl}
 use Rattle.sqlite.specs.Held.{state}
 use Rattle.feed_store_write.specs.Effects.{IsTransition}
 use Rattle.feed_store_write.specs.Schemas.{HasPieceTable, HasReleaseTable}
 use Rattle.feed_store_write.specs.Texts.{piece_text}
 use Rattle.feed_store_write.proofs.Inside.{made_by}
 use Rattle.feed_store_write.proofs.Tables.{creates_piece}
+use Rattle.feed_store_write.proofs.Ran.{one_run}
+use Rattle.feed_store_write.specs.Statements.{Plain}
 use Rattle.feed_store_write.proofs.layout.create_piece.Goals as goal
 
 pub returns-clause-made : goal.returns-clause-made
@@ -13,3 +15,6 @@ returns-clause-made g c clean =
     let new = state g.S.Store c.run.new.tx.conn.now in
     made_by piece_text [] old new (IsTransition HasReleaseTable HasPieceTable) c.run.result
     (λ count ran has. creates_piece old new count has ran) (c.run.ensures.ran clean)
+
+pub returns-clause-ran : goal.returns-clause-ran
+returns-clause-ran g c clean = one_run g.S.Store (Plain piece_text) piece_text [] c.args.tx.now.conn.now c.run.new.tx.conn.now c.run.result (refl, refl) (c.run.ensures.ran clean)

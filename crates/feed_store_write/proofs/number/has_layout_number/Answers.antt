@@ -1,7 +1,7 @@
 use Rattle.std.proofs.Common.{◌≡◌, IsTrue, sym, ◌∙◌, arith, rules}
 use Rattle.sqlite.specs.Held.{state}
 use Rattle.feed_store_write.proofs.LayoutNumber.{number_told}
-use Rattle.feed_store_write.proofs.Selects.{Stays, failed_stays, number_stays}
+use Rattle.feed_store_write.proofs.Selects.{Stays, failed_stays, number_found, number_selected, number_stays}
 use Rattle.feed_store_write.proofs.number.has_layout_number.Goals as goal
 
 pub returns-clause-reported : goal.returns-clause-reported
@@ -41,3 +41,12 @@ returns-in_err-rows-clause-same g c live =
     let settled : IsTrue old.is_open → old.now ≡ old.committed = c.is_autocommit.ensures.settled (search rules) in
     let it : Stays old new = failed_stays old new settled _ _ (c.in_err-rows.ensures.err live.0) in
     it.same live.1
+
+pub returns-clause-shown : goal.returns-clause-shown
+returns-clause-shown g c clean =
+    let old = state g.S.Store c.args.conn.now in
+    let new = state g.S.Store c.query_all.new.self in
+    let rows = c.in_ok-rows.rows.items in
+    let same = c.as_slice.ensures.value in
+    number_found c.args.number old.now rows c.is_only_number.result (number_selected old new rows (c.in_ok-rows.ensures.ok clean))
+    (λ h. sym same ∙ c.is_only_number.ensures.0 h) (λ e. c.is_only_number.ensures.1 (same ∙ e))

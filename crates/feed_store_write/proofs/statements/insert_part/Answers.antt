@@ -1,4 +1,4 @@
-use Rattle.std.proofs.Common.{◌≡◌, rules, subst, List, ℕ}
+use Rattle.std.proofs.Common.{refl, ◌≡◌, rules, subst, List, ℕ}
 use Rattle.sqlite.specs.Held.{state}
 use Rattle.feed_names.specs.ReleaseName.{IsName, text_of}
 use Rattle.feed_model.specs.Change.{changed}
@@ -7,8 +7,10 @@ use Rattle.feed_store_model.specs.Records.{with_part}
 use Rattle.feed_store_model.proofs.AddedPart.{adds_part}
 use Rattle.feed_store_write.specs.Effects.{IsContentChange}
 use Rattle.feed_store_write.specs.Texts.{insert_piece_text}
-use Rattle.feed_store_write.proofs.Inserts.{part_params, puts_piece}
+use Rattle.feed_store_write.proofs.Inserts.{puts_piece}
 use Rattle.feed_store_write.proofs.Inside.{made_by, nothing_done}
+use Rattle.feed_store_write.proofs.Ran.{one_run}
+use Rattle.feed_store_write.specs.Statements.{AddPart, part_params}
 use Rattle.feed_store_write.proofs.statements.insert_part.Goals as goal
 
 pub returns-clause-made : goal.returns-clause-made
@@ -25,3 +27,11 @@ returns-clause-made g c clean =
 
 pub returns-in_default-clause-inside : goal.returns-in_default-clause-inside
 returns-in_default-clause-inside g c = nothing_done
+
+pub returns-clause-ran : goal.returns-clause-ran
+returns-clause-ran g c clean =
+    let n = c.args.name.now in
+    let p = shown_part c.args.part.now in
+    let place : c.in-Ok.place ≡ c.args.part.now.first = search rules in
+    one_run g.S.Store (AddPart n p) insert_piece_text (part_params n p) c.args.tx.now.conn.now c.run.new.tx.conn.now c.run.result (refl, refl)
+    (rw (c.as_text.ensures, c.to_sql.ensures, c.to_sql-2.ensures, c.text.ensures.value, place) at (c.run.ensures.ran clean))

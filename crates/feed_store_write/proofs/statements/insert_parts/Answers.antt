@@ -1,4 +1,4 @@
-use Rattle.std.proofs.Common.{◌≡◌, ◌∷◌, ◌++◌, [], ◌+◌, take, List, refl, rules, subst, sym, ◌∙◌, ap}
+use Rattle.std.proofs.Common.{◌≡◌, ◌∷◌, ◌++◌, [], ◌+◌, map, take, List, refl, rules, subst, sym, ◌∙◌, ap}
 use Rattle.std.proofs.lemmas.List.{map-append, take_more, take_all}
 use Rattle.sqlite.specs.Held.{state}
 use Rattle.feed_model.specs.Content as model
@@ -9,12 +9,15 @@ use Rattle.feed_store_model.specs.Records.{with_parts}
 use Rattle.feed_store_write.specs.Effects.{IsContentChange, IsMade}
 use Rattle.feed_store_write.proofs.Inside.{both_inside, clean_before, nothing_done}
 use Rattle.feed_store_write.proofs.Sequence.{none_added, one_more}
+use Rattle.feed_store_write.proofs.Ran.{runs_then}
+use Rattle.feed_store_write.specs.Statements.{AddPart, HaveRun, Statement}
 use Rattle.feed_store_write.proofs.statements.insert_parts.Goals as goal
 
 pub loop-part-init : goal.loop-part-init
 loop-part-init g c = record {
   lent = refl;
   inside = nothing_done;
+  ran = λ clean. refl;
   made = λ clean. none_added c.args.name.now (state g.S.Store c.args.tx.now.conn.now);
 }
 
@@ -32,6 +35,10 @@ loop-part-preserved g c =
     ap shown_parts passed ∙ map-append shown_part (take at parts) (c.part-item.result ∷ []) in record {
       lent = search rules;
       inside = both_inside c.loop-part.invariant.inside c.insert_part.ensures.inside;
+      ran = λ clean. subst (λ (l : List Statement). HaveRun g.S.Store l c.args.tx.now.conn.now c.insert_part.new.tx.conn.now) (sym (ap (map (AddPart n)) more ∙ map-append (AddPart n) _ _))
+          (runs_then g.S.Store (map (AddPart n) (shown_parts (take at parts))) (AddPart n (shown_part c.part-item.result) ∷ []) c.args.tx.now.conn.now c.loop-part.tx.conn.now
+          c.insert_part.new.tx.conn.now (c.loop-part.invariant.ran (clean_before c.insert_part.ensures.inside clean))
+          (c.in_ok-insert_part.ensures.ran clean));
       made = λ clean. subst (λ (ps : List model.Part). IsMade (IsContentChange (changed n (with_parts ps))) old new) (sym more)
           (one_more n (shown_parts (take at parts)) (shown_part c.part-item.result) old mid new (c.loop-part.invariant.made (clean_before c.insert_part.ensures.inside clean))
           (c.in_ok-insert_part.ensures.made clean));
@@ -44,3 +51,8 @@ returns-clause-made g c clean =
 
 pub returns-in_err-insert_part-clause-inside : goal.returns-in_err-insert_part-clause-inside
 returns-in_err-insert_part-clause-inside g c = both_inside c.loop-part.invariant.inside c.insert_part.ensures.inside
+
+pub returns-clause-ran : goal.returns-clause-ran
+returns-clause-ran g c clean =
+    subst (λ (ps : List Part). HaveRun g.S.Store (map (AddPart c.args.name.now) (shown_parts ps)) c.args.tx.now.conn.now c.loop-part.tx.conn.now)
+    (take_all c.loop-part.part-index c.args.parts.now c.loop-part-test.false) (c.loop-part.invariant.ran clean)

@@ -2,8 +2,9 @@ use Rattle.std.proofs.Common.{◌≡◌, take}
 use Rattle.sqlite.specs.Held.{state}
 use Rattle.sqlite.specs.State.{HasCleanDisk}
 use Rattle.feed_keep.specs.Shown.{shown}
-use Rattle.feed_store_write.specs.Effects.{CommitsNothing, IsContentChangeIf, IsMade}
+use Rattle.feed_store_write.specs.Effects.{CommitsNothing, IsReasonChangeIf, IsMade}
 use Rattle.feed_store_write.specs.Upgrading.{AreStored, explained_with}
+use Rattle.feed_store_write.specs.Statements.{HaveRun, reasons_of}
 use Rattle.feed_store_write.proofs.upgrading.insert_reasons.Given as goal
 
 -- the reasons of the records that were passed are added, inside the transaction
@@ -14,5 +15,6 @@ invariant-loop-record g l =
     let passed = shown (take l.record-index l.records) in record {
       lent : l.tx.conn.ghost_name ≡ l.fn.tx.conn.ghost_name;
       inside : CommitsNothing g.S.Store l.fn.tx.conn.now l.tx.conn.now;
-      made : HasCleanDisk now → IsMade (IsContentChangeIf (AreStored passed) (explained_with passed)) old now;
+      ran : HasCleanDisk now → HaveRun g.S.Store (reasons_of passed) l.fn.tx.conn.now l.tx.conn.now;
+      made : HasCleanDisk now → IsMade (IsReasonChangeIf (AreStored passed) (explained_with passed)) old now;
     }

@@ -15,4 +15,4 @@ returns-in-Ok-clause-next g c found =
     let is = c.requires in
     let on = rw c.in-Ok.is at c.read_byte_record.ensures.reads_on in
     let goes = on found in
-    record { trims = goes.1 ∙ is.trims; config = goes.0 ∙ is.config; ready = (goes.4 is.ready).0 }
+    record { trims = goes.1 ∙ is.trims; config = goes.0 ∙ is.config; flexible = goes.2 ∙ is.flexible; ready = (goes.4 is.ready).0 }

@@ -12,6 +12,7 @@ returns-in-Ok-clause-ready g c =
     record {
       trims = ap (λ r. r.trim) same ∙ rw (c.flexible.ensures, c.quoting.ensures, c.delimiter.ensures) at fr.trim ∙ c.new.ensures.trim;
       config = ap (λ r. r.config) same ∙ rw (c.flexible.ensures, c.quoting.ensures, c.delimiter.ensures, c.new.ensures.config) at fr.config;
+      flexible = ap (λ r. r.flexible) same ∙ rw (c.flexible.ensures) at fr.flexible;
       ready = inr (inl (ap (λ r. r.has_headers) same ∙ rw (c.flexible.ensures, c.quoting.ensures, c.delimiter.ensures, c.new.ensures.has_headers) at fr.has_headers, set));
     }
 

@@ -1,15 +1,18 @@
 use Rattle.std.proofs.Common.{◌≡◌, ◌≤◌, ◌<◌, ◌+◌, ◌-◌, ◌∙◌, ap, arith, drop, length, length-take-le, refl, rules, subst, sym, take, take_at}
 use Rattle.std.specs.Io.KnownBytes.{Consumes}
 use Rattle.feed_limits.specs.Limits.{file_limit}
-use Rattle.feed_text.proofs.Readings.{at_end, read_more, read_over, read_whole}
+use Rattle.feed_text.proofs.Readings.{at_end, never_read, read_more, read_over, read_whole}
 use Rattle.feed_text.proofs.text_reader.check_rest.Goals as goal
 
-pub returns-in-Ok-eq0 : goal.returns-in-Ok-eq0
-returns-in-Ok-eq0 g c given was =
-    let some : 0 < length c.read.new.buf = omega (arith, c.loop-check.invariant.0) in
+pub returns-in-Ok-eq0-clause-checked : goal.returns-in-Ok-eq0-clause-checked
+returns-in-Ok-eq0-clause-checked g c given was =
+    let some : 0 < length c.read.new.buf = omega (arith, c.loop-check.invariant.some) in
     let last = rw c.in-Ok-eq0.field-0-test at c.in-Ok-eq0.ensures.bytes in
-    let none = at_end (g.R.Read.remaining c.loop-check.reader) (g.R.Read.remaining c.read.new.self) last.0 (last.1 refl some) in
-    read_whole given _ c.loop-check.check _ (c.loop-check.invariant.1 given was) none c.finish.ensures
+    let none = at_end (g.R.Read.remaining c.loop-check.reader.reader) (g.R.Read.remaining c.read.new.self.reader) last.0 (last.1 refl some) in
+    read_whole given _ c.loop-check.check _ (c.loop-check.invariant.read given was) none c.finish.ensures.checked
+
+pub returns-in-Ok-eq0-clause-cause : goal.returns-in-Ok-eq0-clause-cause
+returns-in-Ok-eq0-clause-cause g c read = absurd (never_read c.finish.result c.finish.ensures.fault read)
 
 pub loop-check-smaller : goal.loop-check-smaller
 loop-check-smaller g c =
@@ -23,16 +26,17 @@ loop-check-smaller g c =
     less
 
 pub loop-check-preserved : goal.loop-check-preserved
-loop-check-preserved g c = (
-  c.loop-check.invariant.0,
-  λ given was.
+loop-check-preserved g c = record {
+  some = c.loop-check.invariant.some;
+  read = λ given was.
       let block = c.loop-check.block in
       let filled : length c.read.new.buf ≡ block.len = search rules in
       let all = take_at c.read.new.buf (drop (length c.read.new.buf) block.items) block.len filled in
       let value : c.deref.result.now ≡ c.read.new.buf = c.deref.ensures.value ∙ all in
       let come = subst (Consumes _ _) (ap (take c.in-Ok.count) (sym value)) c.in-Ok.ensures.bytes.0 in
-      read_more given _ _ _ _ _ (c.loop-check.invariant.1 given was) come c.feed.ensures.checked,
-)
+      read_more given _ _ _ _ _ (c.loop-check.invariant.read given was) come c.feed.ensures.checked;
+  going = rw c.in-Ok.is at c.read.ensures.same ∙ c.loop-check.invariant.going;
+}
 
-pub returns : goal.returns
-returns g c given was = read_over given _ _ (c.loop-check.invariant.1 given was) (omega (arith, c.loop-check-test.false))
+pub returns-clause-checked : goal.returns-clause-checked
+returns-clause-checked g c given was = read_over given _ _ (c.loop-check.invariant.read given was) (omega (arith, c.loop-check-test.false))

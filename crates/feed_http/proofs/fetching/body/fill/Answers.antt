@@ -8,7 +8,7 @@ loop-filled-init g c = (omega arith, Consumes-nil (g.R.Read.remaining c.args.rea
 
 pub loop-filled-preserved : goal.loop-filled-preserved
 loop-filled-preserved g c = (
-  put_mid_fits c.loop-filled.filled _ c.in-Ok.count c.loop-filled.buffer c.read.new.buf c.loop-filled.invariant.0 c.in-Ok.ensures.bound.0,
-  read_more _ _ _ c.loop-filled.filled _ c.in-Ok.count c.loop-filled.buffer c.read.new.buf
-      c.loop-filled.invariant.0 c.in-Ok.ensures.bound.0 c.loop-filled.invariant.1 c.in-Ok.ensures.bytes.0,
+  put_mid_fits c.loop-filled.filled _ c.in_ok-filled.field-0 c.loop-filled.buffer c.read_some.new.space c.loop-filled.invariant.0 c.in_ok-filled.ensures.some.1,
+  read_more _ _ _ c.loop-filled.filled _ c.in_ok-filled.field-0 c.loop-filled.buffer c.read_some.new.space
+      c.loop-filled.invariant.0 c.in_ok-filled.ensures.some.1 c.loop-filled.invariant.1 c.in_ok-filled.ensures.taken,
 )

@@ -7,7 +7,7 @@ pub loop-body-preserved : goal.loop-body-preserved
 loop-body-preserved g c = let i = c.loop-body.invariant in
     let some : 0 < c.in_ok-size.size = let z = c.if-size-eq0.false in omega arith in
     let taken = c.in_ok-read_chunk.ensures.taken in (
-      let fits = c.if-size-most.false in let l = c.len-in-loop-body.ensures in let p : length c.read_chunk.new.body.items ≡ length c.loop-body.body.items + length taken.bytes =
+      let fits = c.if-size-bounds.false in let l = c.len-in-loop-body.ensures in let p : length c.read_chunk.new.body.items ≡ length c.loop-body.body.items + length taken.bytes =
           ap length taken.added ∙ length-append c.loop-body.body.items taken.bytes in
           omega (arith, p, taken.size_is, i.0),
       chunk_more (g.R.Read.remaining c.args.reader.now) (g.R.Read.remaining c.loop-body.reader) (g.R.Read.remaining c.read_line.new.reader) (g.R.Read.remaining c.read_chunk.new.reader)
@@ -17,9 +17,9 @@ loop-body-preserved g c = let i = c.loop-body.invariant in
 pub returns-in_err-read_chunk-clause-faults : goal.returns-in_err-read_chunk-clause-faults
 returns-in_err-read_chunk-clause-faults g c = let i = c.loop-body.invariant in
     let some : 0 < c.in_ok-size.size = let z = c.if-size-eq0.false in omega arith in
-    let fits = c.if-size-most.false in let l = c.len-in-loop-body.ensures in
-    no_body (g.R.Read.remaining c.args.reader.now) (g.R.Read.remaining c.loop-body.reader) c.args.least c.args.most c.loop-body.body.items
+    let fits = c.if-size-bounds.false in let l = c.len-in-loop-body.ensures in
+    no_body (g.R.Read.remaining c.args.reader.now) (g.R.Read.remaining c.loop-body.reader) c.args.bounds.least c.args.bounds.most c.loop-body.body.items
     c.from_residual-in_err-read_chunk.result c.in_err-read_chunk.field-0.0 c.from_residual-in_err-read_chunk.ensures.1 i.1 i.0
-    (stops_at_chunk (c.args.least - length c.loop-body.body.items) (c.args.most - length c.loop-body.body.items) c.in_ok-size.size (g.R.Read.remaining c.loop-body.reader)
+    (stops_at_chunk (c.args.bounds.least - length c.loop-body.body.items) (c.args.bounds.most - length c.loop-body.body.items) c.in_ok-size.size (g.R.Read.remaining c.loop-body.reader)
     (g.R.Read.remaining c.read_line.new.reader)
     c.in_err-read_chunk.field-0.0 some (omega arith) c.in_ok-size.ensures.line c.in_err-read_chunk.ensures.faults)

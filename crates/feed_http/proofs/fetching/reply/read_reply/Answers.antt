@@ -1,48 +1,24 @@
 use Rattle.std.proofs.Common.{arith}
-use Rattle.feed_http.proofs.ReplyValidation.{head_refused, head_faults, body_given}
+use Rattle.feed_http.proofs.ReplyValidation.{head_read, head_refused, head_faults, body_given}
 use Rattle.feed_http.proofs.fetching.reply.read_reply.Goals as goal
 
 pub returns-in_err-announcement-clause-reply : goal.returns-in_err-announcement-clause-reply
 returns-in_err-announcement-clause-reply g c = let h = c.in_ok-read.ensures in
     head_refused c.args.method (g.R.Read.remaining c.args.reader.now) (g.R.Read.remaining c.read_reply_head.new.reader) c.read_reply_head.new.buffer c.read_reply_head.new.headers
     c.in_ok-read.read.start c.in_ok-read.read.filled c.in_ok-read.read.spans c.from_residual-in_err-announcement.result c.in_err-announcement.field-0.0
-    (record {
-      ordered = h.filled.0;
-      fits = h.filled.1;
-      short = (let kept = c.read_reply_head.auto.buffer in omega (arith, kept));
-      few = (let kept = c.read_reply_head.auto.headers in
-          omega (arith, kept));
-      within = h.within;
-      reply = h.head;
-    })
+    (head_read _ _ _ _ _ h.filled (let kept = c.read_reply_head.auto.buffer in omega (arith, kept)) (let kept = c.read_reply_head.auto.headers in omega (arith, kept)) h.within h.head)
     h.taken c.in_err-announcement.ensures.value c.from_residual-in_err-announcement.ensures.1
 
 pub returns-clause-reply : goal.returns-clause-reply
 returns-clause-reply g c = let h = c.in_ok-read.ensures in
     body_given c.args.method (g.R.Read.remaining c.args.reader.now) (g.R.Read.remaining c.read_reply_head.new.reader) _ c.read_reply_head.new.buffer c.read_reply_head.new.headers
     c.in_ok-read.read.start c.in_ok-read.read.filled c.in_ok-read.read.spans c.in_ok-announcement.announcement c.read_got.result
-    (record {
-      ordered = h.filled.0;
-      fits = h.filled.1;
-      short = (let kept = c.read_reply_head.auto.buffer in omega (arith, kept));
-      few = (let kept = c.read_reply_head.auto.headers in
-          omega (arith, kept));
-      within = h.within;
-      reply = h.head;
-    })
+    (head_read _ _ _ _ _ h.filled (let kept = c.read_reply_head.auto.buffer in omega (arith, kept)) (let kept = c.read_reply_head.auto.headers in omega (arith, kept)) h.within h.head)
     h.taken c.in_ok-announcement.ensures.value c.chain-body.ensures.bytes c.read_got.ensures.got
 
 pub returns-in_err-announcement-clause-faults : goal.returns-in_err-announcement-clause-faults
 returns-in_err-announcement-clause-faults g c = let h = c.in_ok-read.ensures in
     head_faults c.args.method c.read_reply_head.new.buffer c.read_reply_head.new.headers
     c.in_ok-read.read.start c.in_ok-read.read.filled c.in_ok-read.read.spans c.from_residual-in_err-announcement.result c.in_err-announcement.field-0.0
-    (record {
-      ordered = h.filled.0;
-      fits = h.filled.1;
-      short = (let kept = c.read_reply_head.auto.buffer in omega (arith, kept));
-      few = (let kept = c.read_reply_head.auto.headers in
-          omega (arith, kept));
-      within = h.within;
-      reply = h.head;
-    })
+    (head_read _ _ _ _ _ h.filled (let kept = c.read_reply_head.auto.buffer in omega (arith, kept)) (let kept = c.read_reply_head.auto.headers in omega (arith, kept)) h.within h.head)
     c.in_err-announcement.ensures.value c.from_residual-in_err-announcement.ensures.1

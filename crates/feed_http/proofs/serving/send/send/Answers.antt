@@ -13,7 +13,7 @@ loop-at-preserved g c = let h = c.in_ok-send_block.ensures in let i = c.loop-at.
   omega arith,
   omega arith,
   h.kept ∙ i.2,
-  omega arith,
+  h.device.stays (λ e. cc) ∙ i.3,
   sent_more (g.S.Shelf.files c.args.shelf.now) c.args.name.now (g.W.Write.contents c.args.writer.now) (g.W.Write.contents c.loop-at.writer) (g.W.Write.contents c.send_block.new.writer)
       c.args.first c.loop-at.at c.min-len.result i.0 i.4 (rw i.2 at h.sent),
 )

@@ -3,7 +3,7 @@ use Rattle.std.proofs.lemmas.Result.{err_from_is_err_and}
 use Rattle.feed_model.proofs.Offers.{offer_older, offer_known, offer_wrong_size, offer_full, offer_refused, offer_noted, offer_noted_empty}
 use Rattle.feed_releases.specs.ReleaseValue.{ReleaseValue, content_of}
 use Rattle.feed_keep.proofs.Failed.{reported_as}
-use Rattle.feed_releases.proofs.Answering.{idle, refused, refused_with}
+use Rattle.feed_releases.proofs.Answering.{idle, refused, refused_with, taken_in}
 use Rattle.feed_releases.proofs.Finding.{length-content_of, found_at, later_at, none_later}
 use Rattle.feed_releases.proofs.feed.Feed.offer.Goals as goal
 
@@ -47,7 +47,7 @@ returns-in_err-add g c =
     let none = rw c.deref-2.ensures.value at c.in_default.ensures.none in
     let p = err_from_is_err_and c.from_residual.result c.from_residual.ensures.1 in
     rw (p.1, p.2) (refused_with c.args.self.now c.add.new.self _ c.in_err-add.field-0.0 c.in_err-add.ensures.same c.in_err-add.ensures.clean
-    (reported_as c.in_err-add.ensures.counted (λ e. cc) (λ e. cc)) c.in_err-add.ensures.fault
+    (reported_as c.in_err-add.ensures.counted (λ e. cc) (λ e. cc)) c.in_err-add.ensures.unloaded c.in_err-add.ensures.fault
     (offer_refused (content_of rs) c.args.name.now c.args.size _ c.if-size.false free none (omega (arith, length-content_of rs, c.len.ensures))
     (refused c.in_err-add.field-0.0 c.in_err-add.ensures.fault)))
 
@@ -55,27 +55,16 @@ pub returns-then-size-eq0 : goal.returns-then-size-eq0
 returns-then-size-eq0 g c =
     let rs = c.args.self.now.releases.items in
     let free = none_later rs c.args.name.now (rw c.deref.ensures.value at (c.if-is_passed.ensures.none refl)) in
-    let none = rw c.deref-2.ensures.value at c.in_default.ensures.none in
-    record {
-      right = rw c.in_ok-add.ensures.added (offer_noted_empty (content_of rs) c.args.name.now c.args.size c.if-size.false free none
-          (omega (arith, length-content_of rs, c.len.ensures)) c.if-size-eq0.true);
-      refused = tt;
-      idle = λ nothing. absurd nothing;
-      full = λ e. cc;
-      clean = c.in_ok-add.ensures.clean;
-      device = reported_as c.in_ok-add.ensures.counted (λ e. cc) (λ e. cc);
-    }
+    let right = offer_noted_empty (content_of rs) c.args.name.now c.args.size c.if-size.false free (rw c.deref-2.ensures.value at c.in_default.ensures.none)
+    (omega (arith, length-content_of rs, c.len.ensures)) c.if-size-eq0.true in
+    taken_in c.args.self.now _ _ _ c.in_ok-add.ensures.clean (reported_as c.in_ok-add.ensures.counted (λ e. cc) (λ e. cc)) c.in_ok-add.ensures.unloaded (λ nothing. nothing)
+    (rw c.in_ok-add.ensures.added right)
 
 pub returns-else-size-eq0 : goal.returns-else-size-eq0
 returns-else-size-eq0 g c =
     let rs = c.args.self.now.releases.items in
     let free = none_later rs c.args.name.now (rw c.deref.ensures.value at (c.if-is_passed.ensures.none refl)) in
-    let none = rw c.deref-2.ensures.value at c.in_default.ensures.none in
-    record {
-      right = rw c.in_ok-add.ensures.added (offer_noted (content_of rs) c.args.name.now c.args.size c.if-size.false free none (omega (arith, length-content_of rs, c.len.ensures)) c.if-size-eq0.false);
-      refused = tt;
-      idle = λ nothing. absurd nothing;
-      full = λ e. cc;
-      clean = c.in_ok-add.ensures.clean;
-      device = reported_as c.in_ok-add.ensures.counted (λ e. cc) (λ e. cc);
-    }
+    let right = offer_noted (content_of rs) c.args.name.now c.args.size c.if-size.false free (rw c.deref-2.ensures.value at c.in_default.ensures.none)
+    (omega (arith, length-content_of rs, c.len.ensures)) c.if-size-eq0.false in
+    taken_in c.args.self.now _ _ _ c.in_ok-add.ensures.clean (reported_as c.in_ok-add.ensures.counted (λ e. cc) (λ e. cc)) c.in_ok-add.ensures.unloaded (λ nothing. nothing)
+    (rw c.in_ok-add.ensures.added right)

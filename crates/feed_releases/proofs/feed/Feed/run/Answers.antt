@@ -1,4 +1,4 @@
-use Rattle.std.proofs.Common.{arith}
+use Rattle.std.proofs.Common.{◌∙◌, arith}
 use Rattle.feed_model.proofs.Runs.{run_more}
 use Rattle.feed_releases.specs.Events.{event_of}
 use Rattle.feed_releases.specs.ReleaseValue.{content_of}
@@ -14,6 +14,7 @@ loop-event-preserved g c = record {
   room = omega (arith, c.push_reserved.ensures.capacity, c.loop-event.invariant.room);
   clean = λ clean. c.loop-event.invariant.clean (c.handle.ensures.clean clean);
   counted = omega (arith, c.handle.ensures.device.rises, c.loop-event.invariant.counted);
+  unloaded = c.handle.ensures.unloaded ∙ c.loop-event.invariant.unloaded;
   device = answered_more c.loop-event.answers.items c.push_reserved.new.self.items c.handle.result _ (g.K.Keep.failed c.loop-event.self.keeper) (g.K.Keep.failed c.handle.new.self.keeper)
       c.push_reserved.ensures.items c.loop-event.invariant.counted c.handle.ensures.device.rises c.loop-event.invariant.device c.handle.ensures.device.failed;
 }

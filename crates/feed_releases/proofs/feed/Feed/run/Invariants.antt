@@ -15,5 +15,6 @@ invariant-loop-event g l = record {
   room : length l.events ≤ vec_capacity l.answers;
   clean : g.K.Keep.clean l.self.keeper → g.K.Keep.clean l.fn.self.keeper;
   counted : g.K.Keep.failed l.fn.self.keeper ≤ g.K.Keep.failed l.self.keeper;
+  unloaded : g.K.Keep.loads l.self.keeper ≡ g.K.Keep.loads l.fn.self.keeper;
   device : Contains l.answers.items (Err Device) → HasFailedSince (g.K.Keep.failed l.fn.self.keeper) (g.K.Keep.failed l.self.keeper);
 }

@@ -1,13 +1,13 @@
 use Rattle.std.proofs.Common.{inl, refl, sym, ◌∙◌, ap, arith}
 use Rattle.std.proofs.lemmas.Result.{err_from_is_err_and}
-use Rattle.feed_model.specs.Change.{after, without_earlier}
+use Rattle.feed_model.specs.Change.{after}
 use Rattle.feed_model.proofs.Pieces.{piece_refused}
 use Rattle.feed_keep.proofs.Failed.{reported_as}
 use Rattle.feed_releases.specs.ReleaseValue.{ReleaseValue, content_of}
-use Rattle.feed_releases.specs.Growth.{change_of, parts_of}
+use Rattle.feed_releases.specs.Growth.{change_of}
 use Rattle.feed_releases.proofs.Answering.{idle, grown_commits, memory_not, memory_not_full, only_memory, refused, refused_with, taken_in}
-use Rattle.feed_releases.proofs.Growth.{found_here, length-set, name_at, one_at, set_back, record_after_at}
-use Rattle.feed_releases.proofs.Growing.{growth_right, growth_allowed, after_activated, after_kept}
+use Rattle.feed_releases.proofs.Growth.{found_here, length-set, name_at, one_at, set_back}
+use Rattle.feed_releases.proofs.Growing.{grown_right, growth_allowed, taken_activated, taken_kept}
 use Rattle.feed_releases.proofs.feed.Feed.take_in.Goals as goal
 
 pub growth-requires-clause-inside : goal.growth-requires-clause-inside
@@ -56,20 +56,15 @@ returns-in_err-reply g c =
     let back = set_back rs c.args.at r c.grow.new.self c.index_mut.ensures.value c.in_err-reply.ensures.same in
     let p = err_from_is_err_and c.from_residual-in_err-reply.result c.from_residual-in_err-reply.ensures.1 in
     rw (p.1, p.2) (refused_with c.args.self.now _ _ c.in_err-reply.field-0.0 back c.in_err-reply.ensures.committed.was
-    (reported_as c.in_err-reply.ensures.committed.counted (λ e. cc) (λ e. cc)) c.in_err-reply.ensures.committed.fault
+    (reported_as c.in_err-reply.ensures.committed.counted (λ e. cc) (λ e. cc)) c.in_err-reply.ensures.committed.unloaded c.in_err-reply.ensures.committed.fault
     (piece_refused (content_of rs) n c.args.first c.args.total c.args.bytes.now r.kept _ reach lies.0 lies.1 (refused c.in_err-reply.field-0.0 c.in_err-reply.ensures.committed.fault)))
 
 pub invariant_of-self-in-Activated-clause-mirrors : goal.invariant_of-self-in-Activated-clause-mirrors
 invariant_of-self-in-Activated-clause-mirrors g c = λ clean.
-    let rs = c.args.self.now.releases.items in
-    let n = c.args.name.now in
-    let r = c.index_mut.result.now in
-    let growth = c.in_ok-growth.growth in
-    let grown = record_after_at rs n c.args.at r c.grow.new.self (parts_of growth) growth.standing c.requires.place c.index_mut.ensures.value
-    (ap (λ (y : ReleaseValue). y.kept) c.in_ok-reply.ensures.taken) in
-    c.in_ok-reply.ensures.committed.made clean ∙ ap (after (change_of r.kept growth)) (c.args.self.now.mirrors (c.in_ok-reply.ensures.committed.was clean))
-    ∙ after_activated n r.kept growth (content_of rs) (name_at rs n c.args.at r c.requires.place c.index_mut.ensures.value) (sym c.in_ok-reply.ensures.reply ∙ c.in-Activated.is)
-    ∙ sym (c.drop_earlier.ensures.dropped ∙ ap (without_earlier n) grown)
+    let committed = c.in_ok-reply.ensures.committed in
+    committed.made clean ∙ ap (after (change_of c.index_mut.result.now.kept c.in_ok-growth.growth)) (c.args.self.now.mirrors (committed.was clean))
+    ∙ sym (taken_activated c.args.self.now.releases.items c.drop_earlier.new.releases.items c.args.name.now c.args.at c.index_mut.result.now c.grow.new.self c.in_ok-growth.growth _
+    c.requires.place c.index_mut.ensures.value (ap (λ (y : ReleaseValue). y.kept) c.in_ok-reply.ensures.taken) c.in_ok-reply.ensures.reply c.in-Activated.is c.drop_earlier.ensures.dropped)
 
 pub invariant_of-self-in-Activated-clause-few : goal.invariant_of-self-in-Activated-clause-few
 invariant_of-self-in-Activated-clause-few g c =
@@ -77,50 +72,30 @@ invariant_of-self-in-Activated-clause-few g c =
 
 pub invariant_of-self-in_default-clause-mirrors : goal.invariant_of-self-in_default-clause-mirrors
 invariant_of-self-in_default-clause-mirrors g c = λ clean.
-    let rs = c.args.self.now.releases.items in
-    let n = c.args.name.now in
-    let r = c.index_mut.result.now in
-    let growth = c.in_ok-growth.growth in
-    let grown = record_after_at rs n c.args.at r c.grow.new.self (parts_of growth) growth.standing c.requires.place c.index_mut.ensures.value
-    (ap (λ (y : ReleaseValue). y.kept) c.in_ok-reply.ensures.taken) in
-    c.in_ok-reply.ensures.committed.made clean ∙ ap (after (change_of r.kept growth)) (c.args.self.now.mirrors (c.in_ok-reply.ensures.committed.was clean))
-    ∙ after_kept n r.kept growth (content_of rs) (name_at rs n c.args.at r c.requires.place c.index_mut.ensures.value) (λ e. c.in_default.not-Activated (c.in_ok-reply.ensures.reply ∙ e))
-    ∙ sym grown
+    let committed = c.in_ok-reply.ensures.committed in
+    committed.made clean ∙ ap (after (change_of c.index_mut.result.now.kept c.in_ok-growth.growth)) (c.args.self.now.mirrors (committed.was clean))
+    ∙ sym (taken_kept c.args.self.now.releases.items c.args.name.now c.args.at c.index_mut.result.now c.grow.new.self c.in_ok-growth.growth _
+    c.requires.place c.index_mut.ensures.value (ap (λ (y : ReleaseValue). y.kept) c.in_ok-reply.ensures.taken) c.in_ok-reply.ensures.reply c.in_default.not-Activated)
 
 pub invariant_of-self-in_default-clause-few : goal.invariant_of-self-in_default-clause-few
 invariant_of-self-in_default-clause-few g c = omega (arith, length-set c.args.self.now.releases.items c.args.at c.grow.new.self, c.args.self.now.few)
 
 pub returns-in-Activated : goal.returns-in-Activated
 returns-in-Activated g c =
-    let rs = c.args.self.now.releases.items in
-    let n = c.args.name.now in
-    let r = c.index_mut.result.now in
     let growth = c.in_ok-growth.growth in
-    let found = found_here rs n c.args.at r c.requires.place c.index_mut.ensures.value in
-    let name = name_at rs n c.args.at r c.requires.place c.index_mut.ensures.value in
-    let same = one_at rs c.args.at c.index.result.now r c.requires.place.within c.index.ensures c.index_mut.ensures.value in
-    let grown = record_after_at rs n c.args.at r c.grow.new.self (parts_of growth) growth.standing c.requires.place c.index_mut.ensures.value
-    (ap (λ (y : ReleaseValue). y.kept) c.in_ok-reply.ensures.taken) in
-    let content = c.drop_earlier.ensures.dropped ∙ ap (without_earlier n) grown
-    ∙ sym (after_activated n r.kept growth (content_of rs) name (sym c.in_ok-reply.ensures.reply ∙ c.in-Activated.is)) in
+    let content = taken_activated c.args.self.now.releases.items c.drop_earlier.new.releases.items c.args.name.now c.args.at c.index_mut.result.now c.grow.new.self growth _
+    c.requires.place c.index_mut.ensures.value (ap (λ (y : ReleaseValue). y.kept) c.in_ok-reply.ensures.taken) c.in_ok-reply.ensures.reply c.in-Activated.is c.drop_earlier.ensures.dropped in
     rw c.in_ok-reply.ensures.reply (taken_in c.args.self.now _ _ _ c.in_ok-reply.ensures.committed.was (reported_as c.in_ok-reply.ensures.committed.counted (λ e. cc) (λ e. cc))
-    (grown_commits growth.missing growth.standing)
-    (rw content (growth_right (content_of rs) n c.args.first c.args.total c.args.bytes.now r.kept growth name (c.requires.reaches r.kept found) (c.requires.new r.kept found)
-    (rw same at c.in_ok-growth.ensures.growth))))
+    c.in_ok-reply.ensures.committed.unloaded (grown_commits growth.missing growth.standing)
+    (grown_right c.args.self.now.releases.items _ c.args.name.now c.args.at c.args.first c.args.total c.args.bytes.now c.index.result.now c.index_mut.result.now growth c.requires.place c.index.ensures
+    c.index_mut.ensures.value c.requires.reaches c.requires.new c.in_ok-growth.ensures.growth content))
 
 pub returns-in_default : goal.returns-in_default
 returns-in_default g c =
-    let rs = c.args.self.now.releases.items in
-    let n = c.args.name.now in
-    let r = c.index_mut.result.now in
     let growth = c.in_ok-growth.growth in
-    let found = found_here rs n c.args.at r c.requires.place c.index_mut.ensures.value in
-    let name = name_at rs n c.args.at r c.requires.place c.index_mut.ensures.value in
-    let same = one_at rs c.args.at c.index.result.now r c.requires.place.within c.index.ensures c.index_mut.ensures.value in
-    let grown = record_after_at rs n c.args.at r c.grow.new.self (parts_of growth) growth.standing c.requires.place c.index_mut.ensures.value
-    (ap (λ (y : ReleaseValue). y.kept) c.in_ok-reply.ensures.taken) in
-    let content = grown ∙ sym (after_kept n r.kept growth (content_of rs) name (λ e. c.in_default.not-Activated (c.in_ok-reply.ensures.reply ∙ e))) in
+    let content = taken_kept c.args.self.now.releases.items c.args.name.now c.args.at c.index_mut.result.now c.grow.new.self growth _
+    c.requires.place c.index_mut.ensures.value (ap (λ (y : ReleaseValue). y.kept) c.in_ok-reply.ensures.taken) c.in_ok-reply.ensures.reply c.in_default.not-Activated in
     rw c.in_ok-reply.ensures.reply (taken_in c.args.self.now _ _ _ c.in_ok-reply.ensures.committed.was (reported_as c.in_ok-reply.ensures.committed.counted (λ e. cc) (λ e. cc))
-    (grown_commits growth.missing growth.standing)
-    (rw content (growth_right (content_of rs) n c.args.first c.args.total c.args.bytes.now r.kept growth name (c.requires.reaches r.kept found) (c.requires.new r.kept found)
-    (rw same at c.in_ok-growth.ensures.growth))))
+    c.in_ok-reply.ensures.committed.unloaded (grown_commits growth.missing growth.standing)
+    (grown_right c.args.self.now.releases.items _ c.args.name.now c.args.at c.args.first c.args.total c.args.bytes.now c.index.result.now c.index_mut.result.now growth c.requires.place c.index.ensures
+    c.index_mut.ensures.value c.requires.reaches c.requires.new c.in_ok-growth.ensures.growth content))

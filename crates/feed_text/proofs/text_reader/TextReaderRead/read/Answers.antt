@@ -7,7 +7,7 @@ invariant_of-self g c = record {
   read = ∥∥₁_map c.args.self.now.read (λ was. read_more g.G.Given.given _ _ _ _ _ was c.in-Ok.ensures.bytes.0 c.feed.ensures.checked);
 }
 
-pub invariant_of-self-in-Err : goal.invariant_of-self-in-Err
-invariant_of-self-in-Err g c = record {
+pub invariant_of-self-in-Err-1 : goal.invariant_of-self-in-Err-1
+invariant_of-self-in-Err-1 g c = record {
   read = ∥∥₁_map c.args.self.now.read (λ was. read_kept g.G.Given.given _ _ _ was c.in-Err.ensures.bytes);
 }

@@ -1,0 +1,15 @@
+use Rattle.std.proofs.Common.{List, ℕ, ◌≡◌}
+use Rattle.feed_releases.specs.ReleaseValue.{content_of}
+use Rattle.feed_fetch.specs.declared.machine.Phase.TheVariants.{Stopped}
+use Rattle.feed_fetch.specs.Effects.{IsExtension, IsFetchEvent, ServesFile, IsFetchable}
+use Rattle.feed_fetch.proofs.Runs.{IsRun}
+use Rattle.feed_fetch.proofs.fetch_loop.fetch_file.Given as goal
+
+-- all events of the feed concern the release, and each round but the first fills a place of the file
+abbrev pub invariant-rounds : goal.invariant-rounds
+invariant-rounds g l = record {
+  running : l.fetch.phase ≡ Stopped → ⊥;
+  extends : IsExtension (IsFetchEvent g.D.Dial.replies l.host l.name) (λ k. Unit {0}) (content_of l.fn.feed.releases.items) (content_of l.feed.releases.items);
+  fills : (file : List ℕ) → ServesFile g.D.Dial.replies l.name file → IsFetchable file
+      → IsRun l.name file l.fetch.phase l.counter (content_of l.fn.feed.releases.items) (content_of l.feed.releases.items);
+}

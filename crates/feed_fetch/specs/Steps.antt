@@ -1,0 +1,59 @@
+-- The steps of a fetch.
+use Rattle.std.specs.Prelude.{◌≡◌, ℕ, ◌+◌, List, length, Some, None, Result, Ok, Err, MatchResult}
+use Rattle.std.specs.Prelude.{slice_range}
+use Rattle.feed_names.specs.ReleaseName.{Name, text_of}
+use Rattle.feed_dial.specs.Replies.{Replies, IfKnown}
+use Rattle.feed_http.specs.RequestTexts.{get_text, head_request_text}
+use Rattle.feed_http.specs.declared.fetching.got.Method.TheVariants.{Get, Head}
+use Rattle.feed_http.specs.declared.fetching.got.Got.{Got}
+use Rattle.feed_http.specs.declared.fetching.got.Got.TheVariants as got
+use Rattle.feed_model.specs.History.{Event, Offered, Piece, Lost, History}
+use Rattle.feed_releases.specs.NextRange.{IsNextRange}
+use Rattle.feed_fetch.specs.declared.machine.Next.{Next}
+use Rattle.feed_fetch.specs.declared.machine.Next.TheVariants.{Ask, Done}
+use Rattle.feed_fetch.specs.declared.machine.Phase.{Phase}
+use Rattle.feed_fetch.specs.declared.machine.Phase.TheVariants as phases
+use Rattle.feed_fetch.specs.declared.machine.Request.TheVariants as requests
+use Rattle.feed_fetch.specs.declared.machine.Request.{Request}
+use Rattle.feed_fetch.specs.declared.stop.RequestFault.{RequestFault}
+use Rattle.feed_fetch.specs.Servers.{IsReadOf}
+use Rattle.feed_fetch.specs.declared.stop.Stop.{Stop}
+use Rattle.feed_fetch.specs.declared.stop.Stop.TheVariants as stops
+use Rattle.feed_fetch.specs.Answers.{IsExcused}
+use Rattle.feed_fetch.specs.Effects.{IsPieceOf}
+
+-- the phase after a reply
+abbrev pub phase_after : Result (Unit {0}) Stop → Phase
+phase_after (Ok done) = phases.Offered
+phase_after (Err stop) = phases.Stopped
+
+-- what a fetch needs next: the length; then a range exactly if it is the next missing one, and nothing exactly if none
+-- is missing; after a stop nothing
+abbrev pub IsNextStep : Name → ℕ → Phase → History → Next → Type 0
+IsNextStep n piece phases.New h next = next ≡ Ask requests.Length
+IsNextStep n piece phases.Offered h (Ask (requests.Range first last)) = IsNextRange h n piece (Some (first, last))
+IsNextStep n piece phases.Offered h (Ask requests.Length) = ⊥
+IsNextStep n piece phases.Offered h Done = IsNextRange h n piece None
+IsNextStep n piece phases.Stopped h next = next ≡ Done
+
+-- an event of the release that a reply gives: first the offer of the length that it states, then a piece as it gives it,
+-- and a loss if there is none
+abbrev pub IsReplyEvent : Name → Phase → Result Got RequestFault → Event → Type 0
+IsReplyEvent n phases.New (Ok given) (Offered m size) = (m ≡ n) × (given ≡ got.Size size)
+IsReplyEvent n phases.Offered (Ok given) (Piece m first total bytes) = (m ≡ n) × IsPieceOf given first total bytes
+IsReplyEvent n phase (Err why) (Lost m) = m ≡ n
+IsReplyEvent n phase reply event = ⊥
+
+-- the reply has the length of the file, or an excuse
+abbrev pub HasLength : List ℕ → Result Got RequestFault → Type 0
+HasLength file reply = MatchResult reply (λ given. given ≡ got.Size (length file)) (λ why. IsExcused (stops.Request why))
+
+-- the reply has this range of the file, or an excuse
+abbrev pub HasRange : List ℕ → ℕ → ℕ → Result Got RequestFault → Type 0
+HasRange file first last reply =
+    MatchResult reply (λ given. given ≡ got.Piece first (Some (length file)) (slice_range file first (last + 1))) (λ why. IsExcused (stops.Request why))
+
+-- what is known of the result of a request
+abbrev pub IsReplyOf : Replies → List ℕ → Name → Request → Result Got RequestFault → Type 0
+IsReplyOf replies host n requests.Length result = IfKnown replies (λ IsReplyTo. IsReadOf IsReplyTo Head (head_request_text host (text_of n)) result)
+IsReplyOf replies host n (requests.Range first last) result = IfKnown replies (λ IsReplyTo. IsReadOf IsReplyTo Get (get_text host (text_of n) first last) result)

@@ -1,0 +1,152 @@
+//! A fetch of one release, as a machine that does no I/O: it says what to request next, and takes the replies.
+ghost use Rattle.std.specs.Prelude.{ℕ, List, Option, ◌≡◌, ◌≤◌, Some, Err, IfErr};
+ghost use Rattle.feed_model.specs.Content.{IsContent};
+ghost use Rattle.feed_model.specs.History.{History};
+ghost use Rattle.feed_releases.specs.Feeds.{recorded};
+ghost use Rattle.feed_limits.specs.Limits.{piece_limit};
+ghost use Rattle.feed_fetch.specs.Answers.{HasCause, IsStoppedAt};
+ghost use Rattle.feed_fetch.specs.Effects.{IsExtension, IsFetchable, IsOpened, IsFilled};
+ghost use Rattle.feed_fetch.specs.Steps.{IsNextStep, IsReplyEvent, HasLength, HasRange, phase_after};
+ghost use Rattle.feed_fetch.specs.Printing.{has_failed};
+
+use crate::printer::Printer;
+use crate::replies::{take_length, take_range};
+use crate::stop::{RequestFault, Stop};
+use feed_dial::DialFault;
+use feed_http::Got;
+use feed_keep::Keep;
+use feed_names::ReleaseName;
+use feed_releases::Feed;
+use std::io::Write;
+
+/// A request of a fetch.
+#[derive(Clone, Copy, Debug, PartialEq, Eq)]
+pub enum Request {
+    /// For the length of the file.
+    Length,
+    /// For the range from the first to the last place of the file, both included.
+    Range { first: u64, last: u64 },
+}
+
+/// What a fetch needs next.
+#[derive(Clone, Copy, Debug, PartialEq, Eq)]
+pub enum Next {
+    /// The reply to this request.
+    Ask(Request),
+    /// Nothing: no range is missing, or the fetch stopped.
+    Done,
+}
+
+/// How far a fetch is.
+#[derive(Clone, Copy, Debug, PartialEq, Eq)]
+pub enum Phase {
+    /// The length of the file is not known.
+    New,
+    /// The release was offered to the feed.
+    Offered,
+    /// The fetch stopped.
+    Stopped,
+}
+
+/// A fetch of one release. It holds nothing of the feed.
+#[derive(Clone, Copy)]
+pub struct Fetch {
+    /// The most places of a request, 1 to 1,048,576.
+    pub piece: u64,
+    pub phase: Phase,
+    ghost least: { 1 ≤ piece },
+    ghost most: { piece ≤ piece_limit },
+}
+
+// Returns the phase after a reply.
+fn phase_after(outcome: Result<(), Stop>) -> Phase
+    ensures { result ≡ phase_after outcome }
+{
+    match outcome {
+        Ok(()) => Phase::Offered,
+        Err(_) => Phase::Stopped,
+    }
+}
+
+impl Fetch {
+    /// Begins a fetch, by requests for at most `piece` places.
+    pub fn new(piece: u64) -> Fetch
+        requires least { 1 ≤ piece }
+        requires most { piece ≤ piece_limit }
+        ensures piece { result.piece ≡ piece }
+        ensures phase { result.phase ≡ Phase.New }
+    {
+        Fetch {
+            piece,
+            phase: Phase::New,
+        }
+    }
+
+    /// Returns what the fetch of this release needs next.
+    pub fn next<K: Keep + Drop>(&self, feed: &Feed<K>, name: &ReleaseName) -> Next
+        ensures { (h : History) → IsContent (recorded feed.now) h
+            → IsNextStep name.now self.now.piece self.now.phase h result }
+    {
+        match self.phase {
+            Phase::New => Next::Ask(Request::Length),
+            Phase::Offered => match feed.next_range(name, self.piece) {
+                Some((first, last)) => Next::Ask(Request::Range { first, last }),
+                None => Next::Done,
+            },
+            Phase::Stopped => Next::Done,
+        }
+    }
+
+    // Submits the events of a reply to the feed.
+    fn submit<K: Keep + Drop, O: Write>(
+        self,
+        feed: &mut Feed<K>,
+        name: &ReleaseName,
+        reply: &Result<Got, RequestFault>,
+        out: &mut Printer<O>,
+    ) -> Result<(), Stop>
+        ensures extends { IsExtension (IsReplyEvent name.now self.phase reply.now)
+            (λ k. IfErr result (λ stop. IsStoppedAt name.now stop k)) (recorded feed.old) (recorded feed.new) }
+        ensures opens { (file : List ℕ) → self.phase ≡ Phase.New → HasLength file reply.now → IsFetchable file
+            → IsOpened name.now file result (recorded feed.old) (recorded feed.new) }
+        ensures fills { (file : List ℕ) (first last : ℕ) → self.phase ≡ Phase.Offered
+            → HasRange file first last reply.now → IsFetchable file
+            → IsFilled name.now file first last result (recorded feed.old) (recorded feed.new) }
+        ensures caused { (refused : Option DialFault)
+            → ((fault : DialFault) → reply.now ≡ Err (RequestFault.Dial fault) → refused ≡ Some fault)
+            → IfErr result (λ stop. HasCause (has_failed out.new) refused stop) }
+    {
+        match self.phase {
+            Phase::New => take_length(feed, name, reply, out),
+            Phase::Offered => take_range(feed, name, reply, out),
+            Phase::Stopped => Err(Stop::NoProgress),
+        }
+    }
+
+    /// Takes the reply to the last request, or why there is none: submits its events to the feed, and prints them and
+    /// the feed's answers. Returns why the fetch stops, if it does.
+    pub fn take<K: Keep + Drop, O: Write>(
+        &mut self,
+        feed: &mut Feed<K>,
+        name: &ReleaseName,
+        reply: &Result<Got, RequestFault>,
+        out: &mut Printer<O>,
+    ) -> Result<(), Stop>
+        ensures extends { IsExtension (IsReplyEvent name.now self.old.phase reply.now)
+            (λ k. IfErr result (λ stop. IsStoppedAt name.now stop k)) (recorded feed.old) (recorded feed.new) }
+        ensures opens { (file : List ℕ) → self.old.phase ≡ Phase.New → HasLength file reply.now → IsFetchable file
+            → IsOpened name.now file result (recorded feed.old) (recorded feed.new) }
+        ensures fills { (file : List ℕ) (first last : ℕ) → self.old.phase ≡ Phase.Offered
+            → HasRange file first last reply.now → IsFetchable file
+            → IsFilled name.now file first last result (recorded feed.old) (recorded feed.new) }
+        ensures caused { (refused : Option DialFault)
+            → ((fault : DialFault) → reply.now ≡ Err (RequestFault.Dial fault) → refused ≡ Some fault)
+            → IfErr result (λ stop. HasCause (has_failed out.new) refused stop) }
+        ensures phase { self.new.phase ≡ phase_after result }
+        ensures piece { self.new.piece ≡ self.old.piece }
+    {
+        let outcome = self.submit(feed, name, reply, out);
+        self.phase = phase_after(outcome);
+        outcome
+    }
+}

@@ -1,0 +1,94 @@
+-- The location of a reply can be stated in its head.
+use Rattle.std.proofs.Common.{◌≡◌, ℕ, List, [], Bool, true, false, Option, Some, None, Result, Ok, Err, All, refl, arith}
+use Rattle.std.specs.Prelude.{if◌then◌else◌, ◌&&◌, ◌||◌, not, position, codes}
+use Rattle.std.specs.List.{list_all}
+use Rattle.std.specs.Option.{option_map_or}
+use Rattle.std.proofs.lemmas.Bool.Decides.{nat_tests}
+use Rattle.std.proofs.lemmas.List.Elements.{All-nil, All-weaker}
+use Rattle.std.proofs.lemmas.List.Sums.{AllPass-from_list_all}
+use Rattle.httparse.specs.Grammar.{RequestHead, is_uri_byte}
+use Rattle.feed_http_heads.specs.Targets.{origin_form}
+use Rattle.feed_http_heads.specs.Requests.{lacks_host, is_get, is_head}
+use Rattle.feed_answer.specs.QueryValue.{QueryValue}
+use Rattle.feed_answer.specs.Queries.{query_of}
+use Rattle.feed_answer.specs.declared.fault.QueryFault.{QueryFault}
+use Rattle.feed_releases.specs.Actives.{ActiveValue}
+use Rattle.feed_resolver_request.specs.Representations.{accepted_representation, representation_of}
+use Rattle.feed_resolver_request.specs.Targets.{path_in, query_in, resource_of, package_in, is_unsupported_method}
+use Rattle.feed_resolver_request.specs.declared.representation.Representation.{Representation}
+use Rattle.feed_resolver_request.specs.declared.representation.Representation.TheVariants.{Text}
+use Rattle.feed_resolver_request.specs.declared.target.Resource.{Resource}
+use Rattle.feed_resolver_request.specs.declared.target.Resource.TheVariants as resource
+use Rattle.feed_resolver_reply.specs.Replies.{ReplyValue, refusal, redirect_to}
+use Rattle.feed_resolver_reply.specs.Messages.{IsLocation}
+use Rattle.feed_resolver_reply.specs.declared.status.Status.TheVariants as status
+use Rattle.feed_resolver_hits.specs.Links.{is_link, is_visible, begins_with}
+use Rattle.feed_resolver_hits.specs.Hits.{best_link}
+use Rattle.feed_resolver_hits.proofs.Redirects.{best_is}
+use Rattle.feed_resolver.specs.Answers.{is_of, hits_among}
+use Rattle.feed_resolver.specs.Replies.{query_reply, hits_reply, resolve_reply, resolve_reply_at, package_reply, redirect_reply, resource_reply, target_reply, has_coded_body, reply_to}
+
+pub nowhere : IsLocation []
+nowhere = All-nil (λ b. is_uri_byte b ≡ true)
+
+second : (a b : Bool) → (a && b) ≡ true → b ≡ true
+second true b e = e
+second false b e = absurd (cc)
+
+visible_byte : (b : ℕ) → is_visible b ≡ true → is_uri_byte b ≡ true
+visible_byte b visible = grind (arith, nat_tests)
+
+pub link_location : (url : List ℕ) → is_link url ≡ true → IsLocation url
+link_location url link = All-weaker (λ b. is_visible b ≡ true) (λ b. is_uri_byte b ≡ true) visible_byte url
+    (AllPass-from_list_all is_visible url (second (begins_with (codes "http://") url || begins_with (codes "https://") url) (list_all is_visible url) link))
+
+abbrev IsLocated : ReplyValue → Type 0
+IsLocated reply = IsLocation reply.location
+
+query_located : (representation : Representation) (reply : QueryValue → ReplyValue) (o : Result QueryValue QueryFault) → ((query : QueryValue) → IsLocated (reply query))
+    → IsLocated (query_reply representation reply o)
+query_located representation reply (Ok query) located = located query
+query_located representation reply (Err fault) located = nowhere
+
+resolve_located : (representation : Representation) (text : List ℕ) (actives : List ActiveValue) → IsLocated (resolve_reply representation text actives)
+resolve_located representation text actives = query_located representation (hits_reply status.Good representation actives) (query_of text) (λ query. nowhere)
+
+package_located : (representation : Representation) (text : List ℕ) (actives : List ActiveValue) (other : ReplyValue) (o : Option ℕ) → IsLocated other
+    → IsLocated (option_map_or (resolve_reply_at representation text actives) o other)
+package_located representation text actives other None located = located
+package_located representation text actives other (Some place) located = resolve_located representation text _
+
+redirect_located : (hits_link : Option (List ℕ)) (other : ReplyValue) → ((url : List ℕ) → hits_link ≡ Some url → is_link url ≡ true) → IsLocated other
+    → IsLocated (option_map_or redirect_to hits_link other)
+redirect_located None other links located = located
+redirect_located (Some url) other links located = link_location url (links url refl)
+
+go_located : (representation : Representation) (actives : List ActiveValue) (query : QueryValue) → IsLocated (redirect_reply representation actives query)
+go_located representation actives query =
+    redirect_located (best_link (hits_among query actives)) (hits_reply status.NotFound representation actives query) (best_is (hits_among query actives)) nowhere
+
+resource_located : (r : Resource) (head : RequestHead) (target : List ℕ) (actives : List ActiveValue) → IsLocated (resource_reply r head target actives)
+resource_located resource.Home head target actives = nowhere
+resource_located resource.Status head target actives = nowhere
+resource_located resource.Resolve head target actives = resolve_located (representation_of (query_in target) head) (query_in target) actives
+resource_located resource.Package head target actives =
+    package_located (representation_of (query_in target) head) (query_in target) actives (refusal status.NotFound (representation_of (query_in target) head) (codes "NoRelease"))
+    (position (is_of (package_in (path_in target))) actives) nowhere
+resource_located resource.Go head target actives =
+    query_located (accepted_representation head) (redirect_reply (accepted_representation head) actives) (query_of (query_in target)) (go_located (accepted_representation head) actives)
+resource_located resource.Unknown head target actives = nowhere
+
+either_located : (b : Bool) (one other : ReplyValue) → IsLocated one → IsLocated other → IsLocated (if b then one else other)
+either_located true one other first second = first
+either_located false one other first second = second
+
+pub reply_located : (head : RequestHead) (actives : List ActiveValue) → IsLocation (reply_to head actives).location
+reply_located head actives =
+    let coded : ReplyValue = if has_coded_body head then refusal status.NotImplemented Text (codes "Coding") else target_reply head actives in
+    let unknown : ReplyValue = if not (is_get head || is_head head) then refusal status.NotImplemented Text (codes "Method") else coded in
+    let unsupported : ReplyValue = if is_unsupported_method head.method then refusal status.MethodNotAllowed Text (codes "Method") else unknown in
+    either_located (lacks_host head) (refusal status.BadRequest Text (codes "NoHost")) unsupported nowhere
+    (either_located (is_unsupported_method head.method) (refusal status.MethodNotAllowed Text (codes "Method")) unknown nowhere
+    (either_located (not (is_get head || is_head head)) (refusal status.NotImplemented Text (codes "Method")) coded nowhere
+    (either_located (has_coded_body head) (refusal status.NotImplemented Text (codes "Coding")) (target_reply head actives) nowhere
+    (resource_located (resource_of (path_in (origin_form head.target))) head (origin_form head.target) actives))))

@@ -1,0 +1,174 @@
+-- The replies to requests of certain forms.
+use Rattle.std.proofs.Common.{◌≡◌, ◌<◌, ◌^◌, ◌⊎◌, ℕ, List, [], ◌∷◌, Bool, true, false, Option, Some, None, Ok}
+use Rattle.std.proofs.Common.{refl, sym, ap, ◌∙◌, inl, inr, subst, arith, length, codes, lit<}
+use Rattle.std.specs.Prelude.{if◌then◌else◌, ◌||◌, not}
+use Rattle.std.specs.Option.{option_map_or}
+use Rattle.std.specs.Str.{bytes_eq}
+use Rattle.std.specs.Cmp.Lexicographic.{bytes_decides}
+use Rattle.std.proofs.lemmas.Bool.{cases_Bool}
+use Rattle.httparse.specs.Grammar.{RequestHead, ResponseHead}
+use Rattle.feed_http_heads.specs.Fields.{values_named}
+use Rattle.feed_http_heads.specs.Requests.{lacks_host, is_get, is_head}
+use Rattle.feed_http_heads.specs.Targets.{origin_form}
+use Rattle.feed_answer.specs.QueryValue.{QueryValue}
+use Rattle.feed_releases.specs.Actives.{ActiveValue}
+use Rattle.feed_resolver_request.specs.FoundRequests.{BeginsWith}
+use Rattle.feed_resolver_request.specs.FetchRequests.{FetchPolicyValue, name_to_fetch, name_after_feed}
+use Rattle.feed_resolver_reply.specs.FetchReplies.{fetch_reply, IsFetchMessage}
+use Rattle.feed_resolver_request.specs.Representations.{accepted_representation}
+use Rattle.feed_resolver_request.specs.Targets.{path_in, resource_of, is_unsupported_method}
+use Rattle.feed_resolver_request.specs.declared.representation.Representation.TheVariants.{Text}
+use Rattle.feed_resolver_request.specs.declared.target.Resource.{Resource}
+use Rattle.feed_resolver_request.specs.declared.target.Resource.TheVariants as resource
+use Rattle.feed_resolver_reply.specs.Replies.{ReplyValue, ResponseValue, refusal, redirect_to, response_of, status_code}
+use Rattle.feed_resolver_reply.specs.Messages.{IsMessage, IsMessageFor, BeginsStream, IsSentAs, IsSendable}
+use Rattle.feed_resolver_reply.specs.declared.status.Status.TheVariants as status
+use Rattle.feed_resolver_reply.proofs.HeadsRead.{head_of, sent_as}
+use Rattle.feed_resolver_hits.specs.Hits.{ReleaseHitValue, best_link}
+use Rattle.feed_resolver_hits.specs.Ranks.{IsBestLink}
+use Rattle.feed_resolver_hits.specs.Links.{is_link}
+use Rattle.feed_resolver_hits.proofs.BestLinks as links
+use Rattle.feed_resolver.specs.Answers.{hits_among}
+use Rattle.feed_resolver.specs.Replies.{resource_reply, redirect_reply, hits_reply, query_reply, target_reply, has_coded_body, reply_to, response_to, IsResponse}
+use Rattle.feed_resolver.specs.NodeReplies.{node_reply, IsNodeReply, AsksForNoFetch}
+use Rattle.feed_resolver.specs.Messages.{as_get, IsHeadAlone, HeadIsHeadOfGet, AsksToGo, GoesTo, GoesToBest}
+use Rattle.feed_resolver.proofs.Locations.{reply_located, link_location}
+use Rattle.feed_resolver.proofs.SameBytes.{one_reply}
+
+-- the reply to a request with this head
+reply_at : (bytes : List ℕ) (actives : List ActiveValue) (head : RequestHead) (response : ResponseValue) → BeginsWith bytes head → IsResponse bytes actives response
+    → response ≡ response_to head actives
+reply_at bytes actives head response begins is = one_reply bytes actives response (response_to head actives) is (inl (head, begins, refl))
+
+-- ---- the first case that holds
+
+abbrev reply_by : Bool → Bool → Bool → Bool → ReplyValue → ReplyValue
+reply_by lacks unsupported unknown coded reply =
+    if lacks then refusal status.BadRequest Text (codes "NoHost")
+    else (if unsupported then refusal status.MethodNotAllowed Text (codes "Method")
+    else (if unknown then refusal status.NotImplemented Text (codes "Method")
+    else (if coded then refusal status.NotImplemented Text (codes "Coding")
+    else reply)))
+
+reply_cases : (head : RequestHead) (actives : List ActiveValue)
+    → reply_to head actives ≡ reply_by (lacks_host head) (is_unsupported_method head.method) (not (is_get head || is_head head)) (has_coded_body head) (target_reply head actives)
+reply_cases head actives = refl
+
+or_right : (a b : Bool) → a ≡ false → (a || b) ≡ true → b ≡ true
+or_right true b e either = absurd (cc)
+or_right false b e either = either
+
+-- GET and HEAD are supported
+supported : (head : RequestHead) → (is_get head || is_head head) ≡ true → is_unsupported_method head.method ≡ false
+supported head read = elim (cases_Bool (is_get head)) [
+  | inl e ↦ ap is_unsupported_method ((bytes_decides head.method (codes "GET")).0 e)
+  | inr e ↦ ap is_unsupported_method ((bytes_decides head.method (codes "HEAD")).0 (or_right (is_get head) (is_head head) e read))
+]
+
+or_true : (a b : Bool) → b ≡ true → (a || b) ≡ true
+or_true true b e = refl
+or_true false b e = e
+
+-- the reply to a GET or a HEAD without a body
+read_reply : (head : RequestHead) (actives : List ActiveValue) → (is_get head || is_head head) ≡ true
+    → reply_to head actives ≡ reply_by (lacks_host head) false false (has_coded_body head) (target_reply head actives)
+read_reply head actives read =
+    reply_cases head actives
+    ∙ ap (λ u. reply_by (lacks_host head) u (not (is_get head || is_head head)) (has_coded_body head) (target_reply head actives)) (supported head read)
+    ∙ ap (λ r. reply_by (lacks_host head) false (not r) (has_coded_body head) (target_reply head actives)) read
+
+-- ---- HEAD
+
+same_resource : (r : Resource) (head : RequestHead) (target : List ℕ) (actives : List ActiveValue) → resource_reply r (as_get head) target actives ≡ resource_reply r head target actives
+same_resource resource.Home head target actives = refl
+same_resource resource.Status head target actives = refl
+same_resource resource.Resolve head target actives = refl
+same_resource resource.Package head target actives = refl
+same_resource resource.Go head target actives = refl
+same_resource resource.Unknown head target actives = refl
+
+same_reply : (head : RequestHead) (actives : List ActiveValue) → is_head head ≡ true → reply_to (as_get head) actives ≡ reply_to head actives
+same_reply head actives is =
+    read_reply (as_get head) actives refl
+    ∙ ap (λ t. reply_by (lacks_host head) false false (has_coded_body head) t) (same_resource (resource_of (path_in (origin_form head.target))) head (origin_form head.target) actives)
+    ∙ sym (read_reply head actives (or_true (is_get head) (is_head head) is))
+
+pub head_alone : HeadIsHeadOfGet
+head_alone actives bytes asked head response reply is begins also one other small =
+    let r : ReplyValue = reply_to head actives in
+    let short : response ≡ response_of true r = reply_at bytes actives head response begins one ∙ ap (λ b. response_of b r) is in
+    let long : reply ≡ response_of false r = reply_at asked actives (as_get head) reply also other ∙ ap (response_of false) (same_reply head actives is) in
+    let sized : length r.body < 2 ^ 64 = subst (λ (v : ResponseValue). v.body_length < 2 ^ 64) long small in
+    let sent : IsSentAs r (head_of r) = sent_as r (record { location = reply_located head actives; size = sized }) in (
+      head_of r,
+      r.body,
+      subst (λ (v : ResponseValue). IsMessage v (head_of r) r.body) (sym long) sent.whole,
+      subst (λ (v : ResponseValue). IsMessage v (head_of r) []) (sym short) sent.alone,
+    )
+
+-- ---- /go
+
+go_reply : (head : RequestHead) (query : QueryValue) (actives : List ActiveValue) → AsksToGo head query → reply_to head actives ≡ redirect_reply (accepted_representation head) actives query
+go_reply head query actives asks =
+    read_reply head actives asks.method
+    ∙ ap (λ l. reply_by l false false (has_coded_body head) (target_reply head actives)) asks.host
+    ∙ ap (λ c. reply_by false false false c (target_reply head actives)) asks.body
+    ∙ ap (λ r. resource_reply r head (origin_form head.target) actives) asks.resource
+    ∙ ap (λ q. query_reply (accepted_representation head) (redirect_reply (accepted_representation head) actives) q) asks.asked
+
+redirect_sent : (url : List ℕ) → is_link url ≡ true → IsSentAs (redirect_to url) (head_of (redirect_to url))
+redirect_sent url link = sent_as (redirect_to url) (record { location = link_location url link; size = lit< tt })
+
+redirected : (alone : Bool) (url : List ℕ) → is_link url ≡ true
+    → (head : ResponseHead) × IsMessage (response_of alone (redirect_to url)) head [] × (values_named (codes "location") head.fields ≡ url ∷ [])
+redirected true url link = let sent = redirect_sent url link in (head_of (redirect_to url), sent.alone, sent.states.location)
+redirected false url link = let sent = redirect_sent url link in (head_of (redirect_to url), sent.whole, sent.states.location)
+
+goes : (alone : Bool) (hits : List ReleaseHitValue) (o : Option (List ℕ)) (other : ReplyValue) → IsBestLink hits o → other.status ≡ status.NotFound
+    → GoesTo o (response_of alone (option_map_or redirect_to o other))
+goes alone hits None other best is = ap status_code is
+goes alone hits (Some url) other best is = (refl, redirected alone url (ap is_link best.3 ∙ best.2.link))
+
+pub goes_to_best : GoesToBest
+goes_to_best actives bytes head query response begins asks is =
+    let hits = hits_among query actives in
+    let other : ReplyValue = hits_reply status.NotFound (accepted_representation head) actives query in
+    let best : IsBestLink hits (best_link hits) = links.best_is hits in
+    let same : response ≡ response_of (is_head head) (option_map_or redirect_to (best_link hits) other) =
+    reply_at bytes actives head response begins is ∙ ap (response_of (is_head head)) (go_reply head query actives asks) in
+    (best_link hits, best, subst (λ (v : ResponseValue). GoesTo (best_link hits) v) (sym same) (goes (is_head head) hits (best_link hits) other best refl))
+
+-- ---- nodes
+
+plain_chosen : (lacks : Bool) (named : Option (List ℕ)) (fetch plain : ResponseValue) → (lacks ≡ true) ⊎ (named ≡ None)
+    → (if lacks then plain else option_map_or (λ name. fetch) named plain) ≡ plain
+plain_chosen true named fetch plain other = refl
+plain_chosen false None fetch plain other = refl
+plain_chosen false (Some name) fetch plain (inl e) = absurd (cc)
+plain_chosen false (Some name) fetch plain (inr e) = absurd (cc)
+
+resolves : (policy : FetchPolicyValue) (actives : List ActiveValue) (head : RequestHead) → (lacks_host head ≡ true) ⊎ (name_to_fetch head ≡ None)
+    → node_reply policy actives head ≡ response_to head actives
+resolves policy actives head other = plain_chosen (lacks_host head) (name_to_fetch head) (fetch_reply policy head) (response_to head actives) other
+
+-- a node replies as a resolver to a request that does not ask it to fetch
+pub as_resolver : (policy : FetchPolicyValue) (bytes : List ℕ) (actives : List ActiveValue) (response : ResponseValue) → AsksForNoFetch bytes → IsNodeReply policy bytes actives response
+    → IsResponse bytes actives response
+as_resolver policy bytes actives response plain (inl (head, begins, is)) = inl (head, begins, is ∙ resolves policy actives head (plain head begins))
+as_resolver policy bytes actives response plain (inr none) = inr none
+
+only_then : (b : Bool) (o : Option (List ℕ)) (text : List ℕ) → (if b then o else None) ≡ Some text → b ≡ true
+only_then true o text e = refl
+only_then false o text e = absurd (cc)
+
+-- a POST is not a HEAD
+post_not_head : (head : RequestHead) (text : List ℕ) → name_to_fetch head ≡ Some text → is_head head ≡ false
+post_not_head head text named =
+    let post : bytes_eq head.method (codes "POST") ≡ true = only_then (bytes_eq head.method (codes "POST")) (name_after_feed (path_in (origin_form head.target))) text named in
+    ap (λ m. bytes_eq m (codes "HEAD")) ((bytes_decides head.method (codes "POST")).0 post)
+
+-- the reply to such a request
+pub fetch_message : (head : RequestHead) (text : List ℕ) (response : ResponseValue) → name_to_fetch head ≡ Some text → IsFetchMessage response
+    → IsMessageFor (is_head head) response ⊎ BeginsStream response
+fetch_message head text response named (inl message) = inl (subst (λ (b : Bool). IsMessageFor b response) (sym (post_not_head head text named)) message)
+fetch_message head text response named (inr begins) = inr begins

@@ -1,0 +1,68 @@
+-- The bytes of replies, as a client parses them.
+use Rattle.std.specs.Prelude.{◌≡◌, ◌<◌, ◌^◌, ◌⊎◌, ◌||◌, ℕ, Bool, true, false, List, [], ◌∷◌, codes, Option, Some, None, Ok}
+use Rattle.httparse.specs.Grammar.{RequestHead, ResponseHead}
+use Rattle.feed_http_heads.specs.Fields.{values_named}
+use Rattle.feed_http_heads.specs.Requests.{lacks_host, is_get, is_head}
+use Rattle.feed_http_heads.specs.Targets.{origin_form}
+use Rattle.feed_answer.specs.QueryValue.{QueryValue}
+use Rattle.feed_answer.specs.Queries.{query_of}
+use Rattle.feed_releases.specs.Actives.{ActiveValue}
+use Rattle.feed_resolver_request.specs.FoundRequests.{BeginsWith, HasNoHead}
+use Rattle.feed_resolver_request.specs.Targets.{resource_of, path_in, query_in}
+use Rattle.feed_resolver_request.specs.declared.target.Resource.TheVariants.{Go}
+use Rattle.feed_resolver_reply.specs.Replies.{ResponseValue}
+use Rattle.feed_resolver_reply.specs.Messages.{IsMessage, IsMessageFor, BeginsStream}
+use Rattle.feed_resolver_hits.specs.Ranks.{IsBestLink}
+use Rattle.feed_resolver.specs.Answers.{hits_among}
+use Rattle.feed_resolver.specs.Replies.{IsResponse, has_coded_body}
+
+-- the response to these bytes is one head, and then the body of which it states the length, or nothing if the bytes
+-- are a HEAD
+abbrev pub IsMessageTo : List ℕ → ResponseValue → Type 0
+IsMessageTo bytes response =
+    ((head : RequestHead) × BeginsWith bytes head × IsMessageFor (is_head head) response) ⊎ (HasNoHead bytes × IsMessageFor false response)
+
+-- the same head with the method GET
+abbrev pub as_get : RequestHead → RequestHead
+as_get head = record {
+  blank = head.blank;
+  method = codes "GET";
+  target = head.target;
+  minor = head.minor;
+  line_end = head.line_end;
+  fields = head.fields;
+  last = head.last;
+}
+
+-- the one response is the head of the other, and nothing after it
+abbrev pub IsHeadAlone : ResponseValue → ResponseValue → Type 0
+IsHeadAlone response other = (head : ResponseHead) × (body : List ℕ) × IsMessage other head body × IsMessage response head []
+
+-- the reply to a HEAD is the head of the reply to the same request with the method GET
+abbrev pub HeadIsHeadOfGet : Type 0
+HeadIsHeadOfGet =
+    (actives : List ActiveValue) (bytes asked : List ℕ) (head : RequestHead) (response reply : ResponseValue)
+    → is_head head ≡ true → BeginsWith bytes head → BeginsWith asked (as_get head)
+    → IsResponse bytes actives response → IsResponse asked actives reply → reply.body_length < 2 ^ 64
+    → IsHeadAlone response reply
+
+-- the request is one of `/go` with this query
+pub record AsksToGo (head : RequestHead) (query : QueryValue) : Type 0 where
+  pub host : lacks_host head ≡ false
+  pub method : (is_get head || is_head head) ≡ true
+  pub body : has_coded_body head ≡ false
+  pub resource : resource_of (path_in (origin_form head.target)) ≡ Go
+  pub asked : query_of (query_in (origin_form head.target)) ≡ Ok query
+
+-- the response is a redirect to this URL, or there is none to go to
+abbrev pub GoesTo : Option (List ℕ) → ResponseValue → Type 0
+GoesTo None response = response.status ≡ 404
+GoesTo (Some url) response =
+    (response.status ≡ 302) × ((head : ResponseHead) × IsMessage response head [] × (values_named (codes "location") head.fields ≡ url ∷ []))
+
+-- `/go` redirects to a hit above which no hit ranks that may be linked to
+abbrev pub GoesToBest : Type 0
+GoesToBest =
+    (actives : List ActiveValue) (bytes : List ℕ) (head : RequestHead) (query : QueryValue) (response : ResponseValue)
+    → BeginsWith bytes head → AsksToGo head query → IsResponse bytes actives response
+    → (best : Option (List ℕ)) × IsBestLink (hits_among query actives) best × GoesTo best response

@@ -1,0 +1,324 @@
+-- The head of a reply, as the grammar reads it.
+use Rattle.std.proofs.Common.{◌≡◌, ◌<◌, ◌^◌, ℕ, List, [], ◌∷◌, ◌++◌, length, codes, Some, Bool, true, false, refl, sym, ap, arith, ◌∙◌, append_assoc, reverse, All}
+use Rattle.std.specs.Prelude.{IsTrue, nat_lt, nat_le, ◌==◌, ◌&&◌, ◌||◌, not}
+use Rattle.std.specs.List.{list_all, flat_map, AllByRecursion}
+use Rattle.std.specs.Char.{is_ascii_digit}
+use Rattle.std.specs.Fmt.{decimal, digits}
+use Rattle.std.specs.Str.Parse.{digits_value, AllDigits}
+use Rattle.std.proofs.lemmas.Fmt.{decimal_is_IsNumeral}
+use Rattle.std.proofs.lemmas.List.{append-nil, length-append, reverse-append, length-reverse}
+use Rattle.std.proofs.lemmas.List.Elements.{All-append, All-weaker, All-from_recursion, recursion_from_All}
+use Rattle.std.proofs.lemmas.List.Sums.{AllPass-from_list_all}
+use Rattle.std.proofs.lemmas.Bool.Decides.{nat_tests}
+use Rattle.httparse.specs.Grammar.{AllPass, ResponseHead, IsResponseHead, print_response, Field, IsField, crlf, print_field, trim_ows, skip_ows, is_ows, is_value_byte, is_token_byte, is_uri_byte}
+use Rattle.httparse.specs.Grammar as grammar
+use Rattle.httparse.proofs.OnLiterals.{httparse_on_literals}
+use Rattle.httparse.proofs.TrimLemmas.{trim_ows_space, AllPass-reverse}
+use Rattle.feed_range.proofs.Digits.{numerals}
+use Rattle.feed_http_heads.specs.Fields.{values_named, only}
+use Rattle.feed_resolver_request.specs.declared.representation.Representation.{Representation}
+use Rattle.feed_resolver_request.specs.declared.representation.Representation.TheVariants.{Text, Json, Html}
+use Rattle.feed_resolver_reply.specs.Replies.{ReplyValue, status_code, reason_text, status_line, status_field, type_text, reply_head, reply_body, response_of}
+use Rattle.feed_resolver_reply.specs.Messages.{EndsInCrlf, IsSentHead, IsMessage, IsHeadOf, IsSentAs, IsSendable, StatesLength, IsMessageFor, BeginsStream, value_in, locations}
+use Rattle.feed_resolver_reply.specs.FetchReplies.{progress_head, progress_response}
+use Rattle.feed_resolver_reply.specs.declared.status.Status.{Status}
+use Rattle.feed_resolver_reply.specs.declared.status.Status.TheVariants as status
+
+-- names and values of fields
+abbrev Pairs : Type 0
+Pairs = List (List ℕ × List ℕ)
+
+abbrev field : List ℕ → List ℕ → Field
+field name value = record { name = name; raw = 32 ∷ value; end = crlf }
+
+abbrev fields_of : Pairs → List Field
+fields_of [] = []
+fields_of (p ∷ ps) = field p.0 p.1 ∷ fields_of ps
+
+fields_of-append : (ps qs : Pairs) → fields_of (ps ++ qs) ≡ fields_of ps ++ fields_of qs
+fields_of-append [] qs = refl
+fields_of-append (p ∷ ps) qs = ap (λ fs. field p.0 p.1 ∷ fs) (fields_of-append ps qs)
+
+-- fields as their lines, with the line end in front of each
+abbrev lines : Pairs → List ℕ → List ℕ
+lines [] rest = rest
+lines (p ∷ ps) rest = 13 ∷ 10 ∷ (p.0 ++ (58 ∷ 32 ∷ (p.1 ++ lines ps rest)))
+
+lines-append : (ps qs : Pairs) (rest : List ℕ) → lines (ps ++ qs) rest ≡ lines ps (lines qs rest)
+lines-append [] qs rest = refl
+lines-append (p ∷ ps) qs rest = ap (λ t. 13 ∷ 10 ∷ (p.0 ++ (58 ∷ 32 ∷ (p.1 ++ t)))) (lines-append ps qs rest)
+
+field_then : (name value rest : List ℕ) → print_field (field name value) ++ rest ≡ name ++ (58 ∷ 32 ∷ (value ++ (13 ∷ 10 ∷ rest)))
+field_then name value rest = simp append_assoc refl
+
+-- the line ends are those behind the status line and each field
+lines_printed : (ps : Pairs) (rest : List ℕ) → 13 ∷ 10 ∷ (flat_map print_field (fields_of ps) ++ rest) ≡ lines ps (13 ∷ 10 ∷ rest)
+lines_printed [] rest = refl
+lines_printed (p ∷ ps) rest =
+    ap (λ t. 13 ∷ 10 ∷ t) (append_assoc (print_field (field p.0 p.1)) (flat_map print_field (fields_of ps)) rest ∙ field_then p.0 p.1 (flat_map print_field (fields_of ps) ++ rest))
+    ∙ ap (λ t. 13 ∷ 10 ∷ (p.0 ++ (58 ∷ 32 ∷ (p.1 ++ t)))) (lines_printed ps rest)
+
+-- the field that a status asks for
+abbrev status_pairs : Status → List ℕ → Pairs
+status_pairs status.Found location = (codes "Location", location) ∷ []
+status_pairs status.MethodNotAllowed location = (codes "Allow", codes "GET, HEAD") ∷ []
+status_pairs status.Unauthorized location = (codes "WWW-Authenticate", codes "Bearer") ∷ []
+status_pairs code location = []
+
+abbrev common_pairs : List ℕ → List ℕ → Pairs
+common_pairs media count =
+    (codes "Content-Type", media) ∷ (codes "Content-Length", count) ∷ (codes "Vary", codes "Accept") ∷ (codes "X-Content-Type-Options", codes "nosniff") ∷
+    (codes "Connection", codes "close") ∷ []
+
+abbrev pairs_of : ReplyValue → Pairs
+pairs_of reply = status_pairs reply.status reply.location ++ common_pairs (type_text reply.representation) (decimal (length reply.body))
+
+abbrev pub head_of : ReplyValue → ResponseHead
+head_of reply = record {
+  blank = [];
+  minor = 1;
+  digits = decimal (status_code reply.status);
+  reason = Some (reason_text reply.status);
+  line_end = crlf;
+  fields = fields_of (pairs_of reply);
+  last = crlf;
+}
+
+status_written : (code : Status) (location rest : List ℕ) → status_field code location ++ rest ≡ lines (status_pairs code location) rest
+status_written status.Good location rest = refl
+status_written status.Found location rest = simp append-nil refl
+status_written status.BadRequest location rest = refl
+status_written status.Unauthorized location rest = refl
+status_written status.NotFound location rest = refl
+status_written status.MethodNotAllowed location rest = refl
+status_written status.Conflict location rest = refl
+status_written status.UriTooLong location rest = refl
+status_written status.NotImplemented location rest = refl
+
+-- the status line, and then lines
+start_printed : (reply : ReplyValue) → print_response (head_of reply) ≡ status_line reply.status ++ (13 ∷ 10 ∷ (flat_map print_field (fields_of (pairs_of reply)) ++ (13 ∷ 10 ∷ [])))
+unfolding print_response
+start_printed reply = simp (append_assoc, append-nil) refl
+
+pub head_printed : (reply : ReplyValue) → print_response (head_of reply) ≡ reply_head reply
+unfolding reply_head
+head_printed reply =
+    let common = common_pairs (type_text reply.representation) (decimal (length reply.body)) in
+    start_printed reply
+    ∙ ap (λ t. status_line reply.status ++ t) (lines_printed (pairs_of reply) (13 ∷ 10 ∷ []) ∙ lines-append (status_pairs reply.status reply.location) common (13 ∷ 10 ∷ 13 ∷ 10 ∷ [])
+    ∙ sym (status_written reply.status reply.location (lines common (13 ∷ 10 ∷ 13 ∷ 10 ∷ []))))
+
+-- ---- each part is of its class
+
+abbrev IsDigit : ℕ → Type 0
+IsDigit b = IsTrue (is_ascii_digit b)
+
+-- a byte that is visible, or past ASCII
+visible_passes : (b : ℕ) → is_uri_byte b ≡ true → is_value_byte b ≡ true
+visible_passes b visible = grind (arith, nat_tests)
+
+visible_stays : (b : ℕ) → is_uri_byte b ≡ true → is_ows b ≡ false
+visible_stays b visible = grind (arith, nat_tests)
+
+digit_visible : (b : ℕ) → is_ascii_digit b ≡ true → is_uri_byte b ≡ true
+digit_visible b digit = grind (arith, nat_tests)
+
+-- the three digits of a status
+status_digits : (code : Status) → (length (decimal (status_code code)) ≡ 3) × (list_all is_ascii_digit (decimal (status_code code)) ≡ true)
+    × (digits_value 10 (decimal (status_code code)) ≡ status_code code) × (list_all is_value_byte (reason_text code) ≡ true)
+unfolding digits httparse_on_literals
+status_digits status.Good = (refl, refl, refl, refl)
+status_digits status.Found = (refl, refl, refl, refl)
+status_digits status.BadRequest = (refl, refl, refl, refl)
+status_digits status.Unauthorized = (refl, refl, refl, refl)
+status_digits status.NotFound = (refl, refl, refl, refl)
+status_digits status.MethodNotAllowed = (refl, refl, refl, refl)
+status_digits status.Conflict = (refl, refl, refl, refl)
+status_digits status.UriTooLong = (refl, refl, refl, refl)
+status_digits status.NotImplemented = (refl, refl, refl, refl)
+
+literal_field : (name value : List ℕ) → 0 < length name → list_all is_token_byte name ≡ true → list_all is_value_byte (32 ∷ value) ≡ true → IsField (field name value)
+literal_field name value some token passes = record { name = (some, AllPass-from_list_all is_token_byte name token); raw = AllPass-from_list_all is_value_byte (32 ∷ value) passes }
+
+visible_field : (name value : List ℕ) → 0 < length name → list_all is_token_byte name ≡ true → AllPass is_uri_byte value → IsField (field name value)
+visible_field name value some token passes = record {
+  name = (some, AllPass-from_list_all is_token_byte name token);
+  raw = All-append (λ b. is_value_byte b ≡ true) (32 ∷ []) value (AllPass-from_list_all is_value_byte (32 ∷ []) refl)
+      (All-weaker (λ b. is_uri_byte b ≡ true) (λ b. is_value_byte b ≡ true) visible_passes value passes);
+}
+
+status_valid : (code : Status) (location : List ℕ) → AllPass is_uri_byte location → All IsField (fields_of (status_pairs code location))
+unfolding httparse_on_literals
+status_valid status.Good location passes = All-from_recursion IsField [] tt
+status_valid status.Found location passes = All-from_recursion IsField (field (codes "Location") location ∷ []) (visible_field (codes "Location") location (omega arith) refl passes, tt)
+status_valid status.BadRequest location passes = All-from_recursion IsField [] tt
+status_valid status.Unauthorized location passes =
+    All-from_recursion IsField (field (codes "WWW-Authenticate") (codes "Bearer") ∷ []) (literal_field (codes "WWW-Authenticate") (codes "Bearer") (omega arith) refl refl, tt)
+status_valid status.NotFound location passes = All-from_recursion IsField [] tt
+status_valid status.MethodNotAllowed location passes =
+    All-from_recursion IsField (field (codes "Allow") (codes "GET, HEAD") ∷ []) (literal_field (codes "Allow") (codes "GET, HEAD") (omega arith) refl refl, tt)
+status_valid status.Conflict location passes = All-from_recursion IsField [] tt
+status_valid status.UriTooLong location passes = All-from_recursion IsField [] tt
+status_valid status.NotImplemented location passes = All-from_recursion IsField [] tt
+
+media_passes : (representation : Representation) → list_all is_value_byte (32 ∷ type_text representation) ≡ true
+media_passes Text = refl
+media_passes Json = refl
+media_passes Html = refl
+
+common_valid : (representation : Representation) (count : List ℕ) → AllPass is_uri_byte count → All IsField (fields_of (common_pairs (type_text representation) count))
+unfolding httparse_on_literals
+common_valid representation count passes = All-from_recursion IsField (fields_of (common_pairs (type_text representation) count)) (
+  literal_field (codes "Content-Type") (type_text representation) (omega arith) refl (media_passes representation),
+  (
+    visible_field (codes "Content-Length") count (omega arith) refl passes,
+    (
+      literal_field (codes "Vary") (codes "Accept") (omega arith) refl refl,
+      (
+        literal_field (codes "X-Content-Type-Options") (codes "nosniff") (omega arith) refl refl,
+        (literal_field (codes "Connection") (codes "close") (omega arith) refl refl, tt),
+      ),
+    ),
+  ),
+)
+
+fields_valid : (reply : ReplyValue) → AllPass is_uri_byte reply.location → AllPass is_uri_byte (decimal (length reply.body)) → All IsField (fields_of (pairs_of reply))
+fields_valid reply location count =
+    let common = common_pairs (type_text reply.representation) (decimal (length reply.body)) in
+    rw (fields_of-append (status_pairs reply.status reply.location) common)
+    (All-append IsField (fields_of (status_pairs reply.status reply.location)) (fields_of common) (status_valid reply.status reply.location location) (common_valid reply.representation
+    (decimal (length reply.body)) count))
+
+-- the digits of a length
+digits_pass : (n : ℕ) → n < 2 ^ 64 → AllPass is_uri_byte (decimal n)
+digits_pass n small = All-weaker IsDigit (λ b. is_uri_byte b ≡ true) digit_visible (decimal n) (all_digits n small)
+  where
+    all_digits : (n : ℕ) → n < 2 ^ 64 → AllPass is_ascii_digit (decimal n)
+    all_digits n small = AllPass-from_list_all is_ascii_digit (decimal n) (numerals.from (decimal n) (decimal_is_IsNumeral n small).0.1)
+
+head_valid : (reply : ReplyValue) → IsSendable reply → IsResponseHead (head_of reply)
+head_valid reply sendable = let right = status_digits reply.status in
+    record {
+      minor = omega arith;
+      digits = (right.0, AllPass-from_list_all is_ascii_digit (decimal (status_code reply.status)) right.1);
+      reason = AllPass-from_list_all is_value_byte (reason_text reply.status) right.3;
+      fields = fields_valid reply sendable.location (digits_pass (length reply.body) sendable.size);
+    }
+
+in_crlf : (ps : Pairs) → All EndsInCrlf (fields_of ps)
+in_crlf ps = All-from_recursion EndsInCrlf (fields_of ps) (each ps)
+  where
+    each : (ps : Pairs) → AllByRecursion EndsInCrlf (fields_of ps)
+    each [] = tt
+    each (p ∷ ps) = (refl, each ps)
+
+head_sent : (reply : ReplyValue) → IsSentHead (head_of reply)
+head_sent reply = record { minor = refl; first = refl; line = refl; lines = in_crlf (pairs_of reply); last = refl }
+
+-- ---- the values of its fields
+
+visible_front : (text : List ℕ) → AllByRecursion (λ b. is_uri_byte b ≡ true) text → skip_ows text ≡ text
+visible_front [] all = refl
+visible_front (b ∷ text) all = let stays : is_ows b ≡ false = visible_stays b all.0 in rw stays refl
+
+-- only the space before it is trimmed
+trimmed : (value : List ℕ) → AllPass is_uri_byte value → trim_ows (32 ∷ value) ≡ value
+trimmed value passes = trim_ows_space value
+    (visible_front value (recursion_from_All (λ b. is_uri_byte b ≡ true) value passes))
+    (visible_front (reverse value) (recursion_from_All (λ b. is_uri_byte b ≡ true) (reverse value) (AllPass-reverse is_uri_byte value passes)))
+
+media_trimmed : (representation : Representation) → trim_ows (32 ∷ type_text representation) ≡ type_text representation
+unfolding httparse_on_literals
+media_trimmed Text = refl
+media_trimmed Json = refl
+media_trimmed Html = refl
+
+-- the fields of the head, by name
+abbrev AreStated : ReplyValue → List (List ℕ) → Type 0
+AreStated reply locations =
+    (value_in (head_of reply) (codes "content-length") ≡ Some (trim_ows (32 ∷ decimal (length reply.body))))
+    × (value_in (head_of reply) (codes "content-type") ≡ Some (trim_ows (32 ∷ type_text reply.representation)))
+    × (values_named (codes "location") (head_of reply).fields ≡ locations)
+
+abbrev with_status : Status → ReplyValue → ReplyValue
+with_status code reply = record { status = code; location = reply.location; representation = reply.representation; body = reply.body }
+
+stated : (code : Status) (reply : ReplyValue) → AreStated (with_status code reply) (locations code (trim_ows (32 ∷ reply.location)))
+stated status.Good reply = (refl, refl, refl)
+stated status.Found reply = (refl, refl, refl)
+stated status.BadRequest reply = (refl, refl, refl)
+stated status.Unauthorized reply = (refl, refl, refl)
+stated status.NotFound reply = (refl, refl, refl)
+stated status.MethodNotAllowed reply = (refl, refl, refl)
+stated status.Conflict reply = (refl, refl, refl)
+stated status.UriTooLong reply = (refl, refl, refl)
+stated status.NotImplemented reply = (refl, refl, refl)
+
+head_states : (reply : ReplyValue) → IsSendable reply → IsHeadOf reply (head_of reply)
+head_states reply sendable = let facts = stated reply.status reply in
+    record {
+      status = (status_digits reply.status).2;
+      size = facts.0 ∙ ap (λ t. Some t) (trimmed (decimal (length reply.body)) (digits_pass (length reply.body) sendable.size));
+      media = facts.1 ∙ ap (λ t. Some t) (media_trimmed reply.representation);
+      location = facts.2 ∙ ap (locations reply.status) (trimmed reply.location sendable.location);
+    }
+
+pub sent_as : (reply : ReplyValue) → IsSendable reply → IsSentAs reply (head_of reply)
+sent_as reply sendable = let states = head_states reply sendable in
+    record {
+      states = states;
+      whole = record { reads = (head_valid reply sendable, ap (λ t. t ++ reply.body) (sym (head_printed reply))); sent = head_sent reply; status = states.status; body_length = refl };
+      alone = record { reads = (head_valid reply sendable, ap (λ t. t ++ []) (sym (head_printed reply))); sent = head_sent reply; status = states.status; body_length = refl };
+    }
+
+-- the same for one of the two ways in which it is sent
+pub message_for : (head_alone : Bool) (reply : ReplyValue) → IsSendable reply → IsMessageFor head_alone (response_of head_alone reply)
+message_for false reply sendable = let sent = sent_as reply sendable in
+    record { head = head_of reply; body = reply.body; message = sent.whole; whole = λ whole. sent.states.size; alone = λ e. absurd (cc) }
+message_for true reply sendable = let sent = sent_as reply sendable in
+    record { head = head_of reply; body = []; message = sent.alone; whole = λ e. absurd (cc); alone = λ alone. refl }
+
+-- the same for the parts of a response
+pub message_of : (head_alone : Bool) (reply : ReplyValue) (bytes : List ℕ) (code size : ℕ) → IsSendable reply → bytes ≡ reply_head reply ++ reply_body head_alone reply
+    → code ≡ status_code reply.status → size ≡ length (reply_body head_alone reply) → IsMessageFor head_alone (record { bytes = bytes; status = code; body_length = size })
+message_of head_alone reply bytes code size sendable made coded sized = rw (made, coded, sized) (message_for head_alone reply sendable)
+
+-- ---- the reply that reports progress
+
+abbrev progress_pairs : Pairs
+progress_pairs = (codes "Content-Type", codes "text/plain; charset=utf-8") ∷ (codes "X-Content-Type-Options", codes "nosniff") ∷ (codes "Connection", codes "close") ∷ []
+
+abbrev stream_head : ResponseHead
+stream_head = record { blank = []; minor = 1; digits = codes "200"; reason = Some (codes "OK"); line_end = crlf; fields = fields_of progress_pairs; last = crlf }
+
+stream_valid : IsResponseHead stream_head
+unfolding httparse_on_literals
+stream_valid = record {
+  minor = omega arith;
+  digits = (refl, AllPass-from_list_all is_ascii_digit (codes "200") refl);
+  reason = AllPass-from_list_all is_value_byte (codes "OK") refl;
+  fields = All-from_recursion IsField (fields_of progress_pairs) (
+    literal_field (codes "Content-Type") (codes "text/plain; charset=utf-8") (omega arith) refl refl,
+    (literal_field (codes "X-Content-Type-Options") (codes "nosniff") (omega arith) refl refl, (literal_field (codes "Connection") (codes "close") (omega arith) refl refl, tt)),
+  );
+}
+
+stream_printed : progress_head ≡ print_response stream_head ++ []
+unfolding progress_head print_response
+stream_printed = refl
+
+begins_stream : BeginsStream progress_response
+begins_stream = record {
+  head = stream_head;
+  message = record {
+    reads = (stream_valid, stream_printed);
+    sent = record { minor = refl; first = refl; line = refl; lines = in_crlf progress_pairs; last = refl };
+    status = refl;
+    body_length = refl;
+  };
+  good = refl;
+  unknown = refl;
+}
+
+pub stream_of : (bytes : List ℕ) → bytes ≡ progress_head → BeginsStream (record { bytes = bytes; status = 200; body_length = 0 })
+stream_of bytes made = rw made begins_stream

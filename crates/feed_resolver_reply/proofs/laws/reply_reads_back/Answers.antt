@@ -1,0 +1,5 @@
+use Rattle.feed_resolver_reply.proofs.HeadsRead.{head_of, sent_as}
+use Rattle.feed_resolver_reply.proofs.laws.reply_reads_back.Goals as goal
+
+pub returns : goal.returns
+returns c = λ reply sendable. (head_of reply, sent_as reply sendable)

@@ -1,0 +1,78 @@
+-- Replies as the grammar of HTTP reads them (RFC 9112, sections 2.2, 4 and 6).
+use Rattle.std.specs.Prelude.{◌≡◌, ◌<◌, ◌^◌, ℕ, Bool, false, true, List, [], ◌∷◌, length, All, codes, Option, Some}
+use Rattle.std.specs.Fmt.{decimal}
+use Rattle.httparse.specs.Grammar.{AllPass, is_uri_byte, Field, crlf, ResponseHead, ReadsResponse}
+use Rattle.httparse.specs.Grammar as grammar
+use Rattle.feed_http_heads.specs.Fields.{values_named, only}
+use Rattle.feed_resolver_reply.specs.Replies.{ReplyValue, ResponseValue, status_code, type_text, response_of}
+use Rattle.feed_resolver_reply.specs.declared.status.Status.{Status}
+use Rattle.feed_resolver_reply.specs.declared.status.Status.TheVariants as status
+
+-- a field line ends in CR LF
+abbrev pub EndsInCrlf : Field → Type 0
+EndsInCrlf field = field.end ≡ crlf
+
+-- a head as a server has to send it: HTTP/1.1, no line before the status line, and each line ended by CR LF
+pub record IsSentHead (head : ResponseHead) : Type 0 where
+  pub minor : head.minor ≡ 1
+  pub first : head.blank ≡ []
+  pub line : head.line_end ≡ crlf
+  pub lines : All EndsInCrlf head.fields
+  pub last : head.last ≡ crlf
+
+-- the value of the head's only field with this name
+abbrev pub value_in : ResponseHead → List ℕ → Option (List ℕ)
+value_in head name = only (values_named name head.fields)
+
+-- the head states this length of a body
+abbrev pub StatesLength : ResponseHead → ℕ → Type 0
+StatesLength head size = value_in head (codes "content-length") ≡ Some (decimal size)
+
+-- the bytes are such a head, with the status of the response, and this body
+pub record IsMessage (response : ResponseValue) (head : ResponseHead) (body : List ℕ) : Type 0 where
+  pub reads : ReadsResponse response.bytes head body
+  pub sent : IsSentHead head
+  pub status : grammar.status_code head ≡ response.status
+  pub body_length : response.body_length ≡ length body
+
+-- the locations that a reply of this status states
+abbrev pub locations : Status → List ℕ → List (List ℕ)
+locations status.Found location = location ∷ []
+locations code location = []
+
+-- the head states the status of the reply, its media type, the length of its body and, in a redirect, the location
+pub record IsHeadOf (reply : ReplyValue) (head : ResponseHead) : Type 0 where
+  pub status : grammar.status_code head ≡ status_code reply.status
+  pub size : StatesLength head (length reply.body)
+  pub media : value_in head (codes "content-type") ≡ Some (type_text reply.representation)
+  pub location : values_named (codes "location") head.fields ≡ locations reply.status reply.location
+
+-- the reply is sent as this head and its body, and to a HEAD as this head and nothing after it
+pub record IsSentAs (reply : ReplyValue) (head : ResponseHead) : Type 0 where
+  pub states : IsHeadOf reply head
+  pub whole : IsMessage (response_of false reply) head reply.body
+  pub alone : IsMessage (response_of true reply) head []
+
+-- a location has no space and no control byte
+abbrev pub IsLocation : List ℕ → Type 0
+IsLocation location = AllPass is_uri_byte location
+
+-- a reply whose length and location can be stated
+pub record IsSendable (reply : ReplyValue) : Type 0 where
+  pub location : IsLocation reply.location
+  pub size : length reply.body < 2 ^ 64
+
+-- the response is one head, and then the body of which the head states the length, or nothing if the head alone is sent
+pub record IsMessageFor (head_alone : Bool) (response : ResponseValue) : Type 0 where
+  pub head : ResponseHead
+  pub body : List ℕ
+  pub message : IsMessage response head body
+  pub whole : head_alone ≡ false → StatesLength head (length body)
+  pub alone : head_alone ≡ true → body ≡ []
+
+-- the response is a head of status 200 that states no length, with its body still to come
+pub record BeginsStream (response : ResponseValue) : Type 0 where
+  pub head : ResponseHead
+  pub message : IsMessage response head []
+  pub good : response.status ≡ 200
+  pub unknown : values_named (codes "content-length") head.fields ≡ []

@@ -1,0 +1,4 @@
+pub mod Escapes
+pub mod Numbers
+pub mod Splits
+pub mod Laws
