@@ -3,7 +3,8 @@
 
 raw_client.py ADDR
 raw_client.py ADDR --hold SECONDS LEN   sends the first LEN bytes, then nothing, and waits at most SECONDS
-raw_client.py ADDR --stall SECONDS      sends them all, reads nothing for SECONDS, and prints how many bytes arrived
+raw_client.py ADDR --stall FILE TEXT    sends them all, reads nothing until FILE has TEXT, at most a minute, and prints
+                                        whether the reply arrived whole
 raw_client.py ADDR --drip SECONDS       sends one byte every SECONDS, until the peer has closed or all were sent"""
 import socket
 import sys
@@ -19,6 +20,16 @@ def received(peer):
     except ConnectionError:
         pass
     return b"".join(parts)
+
+
+def wait_for(file, text):
+    """Waits until the file has the text, at most a minute."""
+    end = time.monotonic() + 60
+    while time.monotonic() < end:
+        with open(file, "rb") as it:
+            if text in it.read():
+                return
+        time.sleep(0.05)
 
 
 def main():
@@ -38,7 +49,7 @@ def main():
             peer.sendall(text[:int(sys.argv[4])])
         elif "--stall" in sys.argv:
             peer.sendall(text)
-            time.sleep(float(sys.argv[3]))
+            wait_for(sys.argv[3], sys.argv[4].encode())
             print("all" if received(peer).endswith(b"end") else "cut off")
             return
         else:
