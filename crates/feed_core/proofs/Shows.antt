@@ -2,9 +2,9 @@
 use Rattle.std.proofs.Common.{◌≡◌, ◌<◌, ◌+◌, ◌++◌, ℕ, Bool, true, false, List, [], ◌∷◌, length, map, take, get_or, refl, sym, ap, subst, length-take, arith}
 use Rattle.std.specs.Prelude.{if◌then◌else◌, MatchBool}
 use Rattle.std.proofs.lemmas.List.{append-nil, length-map, take_more}
-use Rattle.feed_model.specs.History.{History}
 use Rattle.feed_world.specs.World.{World, WorldEvent, Line, Happens, Shows, start}
 use Rattle.feed_core.specs.Chosen.{events_on, is_on, lines_on}
+use Rattle.feed_core.specs.declared.node.Node.{Ghosts}
 use Rattle.feed_core.specs.Step.{HappensOn, IsWorldStep, HasShown, Moment}
 
 pub shows-push : (w m v : World) (es : List WorldEvent) (ls : List Line) (e : WorldEvent) (l : Line) → Shows w es ls m → Happens m e l v → Shows w (es ++ e ∷ []) (ls ++ l ∷ []) v
@@ -59,11 +59,11 @@ shows_more chosen w m v es ls e l same before step = rw (events_push chosen es e
     by false stays = rw (append-nil (events_on chosen es), append-nil (lines_on chosen es ls)) (subst (λ (x : World). Shows w (events_on chosen es) (lines_on chosen es ls) x) (sym stays) before)
 
 -- one more event and one more line
-pub has_more : {M E L : Type 0} (chosen : ℕ → Bool) (clean : M → Type 0) (has_state : M → Bool → History → Type 0) (to_event : E → WorldEvent) (shown : L
+pub has_more : {M E L : Type 0} (chosen : ℕ → Bool) (ghosts : Ghosts M) (to_event : E → WorldEvent) (shown : L
     → Line) (count : ℕ) (es : List E) (ls ks : List L) (i : ℕ) (e : E) (l : L) (old new : Moment M) → e ≡ get_or es i e
-    → i < length es → length ls ≡ i → ks ≡ ls ++ l ∷ [] → HasShown chosen clean has_state count (map to_event (take i es)) (map shown ls) old
-    → IsWorldStep chosen clean has_state old new (to_event e) (shown l) → HasShown chosen clean has_state count (map to_event (take (i + 1) es)) (map shown ks) new
-has_more {M} {E} chosen clean has_state to_event shown count es ls ks i e l old new at lt same is s step = λ a.
+    → i < length es → length ls ≡ i → ks ≡ ls ++ l ∷ [] → HasShown chosen ghosts count (map to_event (take i es)) (map shown ls) old
+    → IsWorldStep chosen ghosts old new (to_event e) (shown l) → HasShown chosen ghosts count (map to_event (take (i + 1) es)) (map shown ks) new
+has_more {M} {E} chosen ghosts to_event shown count es ls ks i e l old new at lt same is s step = λ a.
     let r = step a in
     let q = s r.0 in
     let t = r.1 q.0 q.2 q.3 in

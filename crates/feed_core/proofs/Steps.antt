@@ -16,6 +16,7 @@ use Rattle.feed_releases.specs.declared.feed.Point.{Point}
 use Rattle.feed_releases.specs.declared.feed.Point.TheVariants.{Before, After}
 use Rattle.feed_core.specs.Nodes.{HasStopped, shown_arrived}
 use Rattle.feed_core.specs.Chosen.{is_on, node_of}
+use Rattle.feed_core.specs.declared.node.Node.{Ghosts}
 use Rattle.feed_core.specs.Step.{AllClean, AreNodes, HappensOn, IsNodeStep, IsAway, IsReady, rest_of, stop_event}
 
 -- the statement for the value of a test
@@ -109,45 +110,45 @@ pub record Acts {M : Type 0} (has_state : M → Bool → History → Type 0) (fi
   pub in_state : has_state z up history
 
 -- one node advances
-pub step_set : {M : Type 0} (chosen : ℕ → Bool) (clean : M → Type 0) (has_state : M → Bool → History → Type 0) (fits : Shelf → Type 0) (xs : List M) (at : ℕ) (x z : M) (node : ℕ)
-    (event : WorldEvent) (line : Line) → at < length xs → x ≡ get_or xs at x → node ≡ at + 1 → node_of event ≡ Some node → (clean z → clean x)
-    → ((w : World) (y : Node) → fits w.shelf → node_at w.nodes node ≡ Some y → clean z → has_state x y.up y.history → Acts has_state fits node x z event line w y)
-    → IsNodeStep chosen clean has_state fits xs (slice_set xs at z) event line
-step_set {M} chosen clean has_state fits xs at x z node event line lt e is here f act = λ a. (let c = clean_set chosen clean xs at x z lt e f a in (c.0, λ w s n. pick w s n c.1 (chosen node) refl))
+pub step_set : {M : Type 0} (chosen : ℕ → Bool) (ghosts : Ghosts M) (fits : Shelf → Type 0) (xs : List M) (at : ℕ) (x z : M) (node : ℕ)
+    (event : WorldEvent) (line : Line) → at < length xs → x ≡ get_or xs at x → node ≡ at + 1 → node_of event ≡ Some node → (ghosts.clean z → ghosts.clean x)
+    → ((w : World) (y : Node) → fits w.shelf → node_at w.nodes node ≡ Some y → ghosts.clean z → ghosts.has_state x y.up y.history → Acts ghosts.has_state fits node x z event line w y)
+    → IsNodeStep chosen ghosts fits (record { old = xs; new = slice_set xs at z }) event line
+step_set {M} chosen ghosts fits xs at x z node event line lt e is here f act = λ a. (let c = clean_set chosen ghosts.clean xs at x z lt e f a in (c.0, λ w s n. pick w s n c.1 (chosen node) refl))
   where
     seen : (b : Bool) → chosen node ≡ b → is_on chosen event ≡ b
     seen b is_b = on_node chosen event node here ∙ is_b
 
-    pick : (w : World) → fits w.shelf → AreNodes chosen has_state xs w.nodes → (IsTrue (chosen (suc at)) → clean z) → (b : Bool) → chosen node ≡ b
-        → (v : World) × HappensOn chosen w event line v × (v.shelf ≡ w.shelf) × AreNodes chosen has_state (slice_set xs at z) v.nodes
+    pick : (w : World) → fits w.shelf → AreNodes chosen ghosts.has_state xs w.nodes → (IsTrue (chosen (suc at)) → ghosts.clean z) → (b : Bool) → chosen node ≡ b
+        → (v : World) × HappensOn chosen w event line v × (v.shelf ≡ w.shelf) × AreNodes chosen ghosts.has_state (slice_set xs at z) v.nodes
     pick w s n clean_z true t =
-        let y = some_at chosen has_state xs w.nodes node at x n is lt e in
+        let y = some_at chosen ghosts.has_state xs w.nodes node at x n is lt e in
         let r = act w y.0 s y.1 (clean_z (chosen_at chosen node at is t)) (y.2 t) in
         let v = with_node w node r.up r.history in (
           v,
           subst (λ (b : Bool). MatchBool b (Happens w event line v) (v ≡ w)) (sym (seen true t)) r.happens,
           refl,
-          are_nodes-set chosen has_state xs w.nodes node at z (record { up = r.up; history = r.history }) n is r.in_state,
+          are_nodes-set chosen ghosts.has_state xs w.nodes node at z (record { up = r.up; history = r.history }) n is r.in_state,
         )
     pick w s n clean_z false t = (
       w,
       subst (λ (b : Bool). MatchBool b (Happens w event line w) (w ≡ w)) (sym (seen false t)) refl,
       refl,
-      are_same chosen has_state xs w.nodes at z n (λ c. (let other : chosen (suc at) ≡ false = (let same : suc at ≡ node = omega (arith, is) in ap chosen same ∙ t) in
+      are_same chosen ghosts.has_state xs w.nodes at z n (λ c. (let other : chosen (suc at) ≡ false = (let same : suc at ≡ node = omega (arith, is) in ap chosen same ∙ t) in
           let both : true ≡ false = sym c ∙ other in absurd (cc))),
     )
 
 -- no node advances
-pub step_not : {M : Type 0} (chosen : ℕ → Bool) (clean : M → Type 0) (has_state : M → Bool → History → Type 0) (fits : Shelf → Type 0) (xs : List M) (event : WorldEvent) (line : Line)
-    → ((w : World) → fits w.shelf → IsTrue (is_on chosen event) → AllClean chosen clean xs → AreNodes chosen has_state xs w.nodes → Happens w event line w)
-    → IsNodeStep chosen clean has_state fits xs xs event line
-step_not chosen clean has_state fits xs event line stay = λ a. (a, λ w s n. (w, match_by (is_on chosen event) (Happens w event line w) (w ≡ w) (λ t. stay w s t a n) refl, refl, n))
+pub step_not : {M : Type 0} (chosen : ℕ → Bool) (ghosts : Ghosts M) (fits : Shelf → Type 0) (xs : List M) (event : WorldEvent) (line : Line)
+    → ((w : World) → fits w.shelf → IsTrue (is_on chosen event) → AllClean chosen ghosts.clean xs → AreNodes chosen ghosts.has_state xs w.nodes → Happens w event line w)
+    → IsNodeStep chosen ghosts fits (record { old = xs; new = xs }) event line
+step_not chosen ghosts fits xs event line stay = λ a. (a, λ w s n. (w, match_by (is_on chosen event) (Happens w event line w) (w ≡ w) (λ t. stay w s t a n) refl, refl, n))
 
 -- no node has this number
-pub step_none : {M : Type 0} (chosen : ℕ → Bool) (clean : M → Type 0) (has_state : M → Bool → History → Type 0) (fits : Shelf → Type 0) (xs : List M) (node : ℕ) (event : WorldEvent)
-    (line : Line) → (node ≡ 0) ⊎ (length xs < node) → ((w : World) → node_at w.nodes node ≡ None → Happens w event line w) → IsNodeStep chosen clean has_state fits xs xs event line
-step_none chosen clean has_state fits xs node event line out stay =
-    step_not chosen clean has_state fits xs event line (λ w s t a n. stay w (none_at chosen has_state xs w.nodes node n out))
+pub step_none : {M : Type 0} (chosen : ℕ → Bool) (ghosts : Ghosts M) (fits : Shelf → Type 0) (xs : List M) (node : ℕ) (event : WorldEvent)
+    (line : Line) → (node ≡ 0) ⊎ (length xs < node) → ((w : World) → node_at w.nodes node ≡ None → Happens w event line w) → IsNodeStep chosen ghosts fits (record { old = xs; new = xs }) event line
+step_none chosen ghosts fits xs node event line out stay =
+    step_not chosen ghosts fits xs event line (λ w s t a n. stay w (none_at chosen ghosts.has_state xs w.nodes node n out))
 
 -- an element of a list
 element : {X : Type 0} (xs : List X) (i : ℕ) → i < length xs → (x : X) × (x ≡ get_or xs i x)
@@ -156,74 +157,74 @@ element (z ∷ zs) zero lt = (z, refl)
 element (z ∷ zs) (suc i) lt = element zs i (omega arith)
 
 -- there is one, whatever it is
-step_known : {M : Type 0} (chosen : ℕ → Bool) (clean : M → Type 0) (has_state : M → Bool → History → Type 0) (fits : Shelf → Type 0) (xs : List M) (at node : ℕ) (event : WorldEvent)
+step_known : {M : Type 0} (chosen : ℕ → Bool) (ghosts : Ghosts M) (fits : Shelf → Type 0) (xs : List M) (at node : ℕ) (event : WorldEvent)
     (line : Line) → at < length xs → node ≡ at + 1 → ((w : World) (y : Node) → fits w.shelf → node_at w.nodes node ≡ Some y → Happens w event line w)
-    → IsNodeStep chosen clean has_state fits xs xs event line
-step_known chosen clean has_state fits xs at node event line lt is stay =
-    step_not chosen clean has_state fits xs event line
-    (λ w s t a n. (let x = element xs at lt in let y = some_at chosen has_state xs w.nodes node at x.0 n is lt x.1 in stay w y.0 s y.1))
+    → IsNodeStep chosen ghosts fits (record { old = xs; new = xs }) event line
+step_known chosen ghosts fits xs at node event line lt is stay =
+    step_not chosen ghosts fits xs event line
+    (λ w s t a n. (let x = element xs at lt in let y = some_at chosen ghosts.has_state xs w.nodes node at x.0 n is lt x.1 in stay w y.0 s y.1))
 
 -- it is up or down, and nothing changes
-step_stay : {M : Type 0} (chosen : ℕ → Bool) (clean : M → Type 0) (has_state : M → Bool → History → Type 0) (fits : Shelf → Type 0) (xs : List M) (at : ℕ) (v : M) (node : ℕ) (event : WorldEvent)
-    (line : Line) (b : Bool) → at < length xs → v ≡ get_or xs at v → node ≡ at + 1 → node_of event ≡ Some node → ((up : Bool) (h : History) → has_state v up h → b ≡ up)
-    → ((w : World) (y : Node) → fits w.shelf → node_at w.nodes node ≡ Some y → y.up ≡ b → has_state v b y.history → Happens w event line w)
-    → IsNodeStep chosen clean has_state fits xs xs event line
-step_stay chosen clean has_state fits xs at v node event line b lt e is here law stay =
-    step_not chosen clean has_state fits xs event line
-    (λ w s t a n. (let y = some_at chosen has_state xs w.nodes node at v n is lt e in let state = y.2 (sym (on_node chosen event node here) ∙ t) in let up = law y.0.up y.0.history state in
-    stay w y.0 s y.1 (sym up) (subst (λ (u : Bool). has_state v u y.0.history) (sym up) state)))
+step_stay : {M : Type 0} (chosen : ℕ → Bool) (ghosts : Ghosts M) (fits : Shelf → Type 0) (xs : List M) (at : ℕ) (v : M) (node : ℕ) (event : WorldEvent)
+    (line : Line) (b : Bool) → at < length xs → v ≡ get_or xs at v → node ≡ at + 1 → node_of event ≡ Some node → ((up : Bool) (h : History) → ghosts.has_state v up h → b ≡ up)
+    → ((w : World) (y : Node) → fits w.shelf → node_at w.nodes node ≡ Some y → y.up ≡ b → ghosts.has_state v b y.history → Happens w event line w)
+    → IsNodeStep chosen ghosts fits (record { old = xs; new = xs }) event line
+step_stay chosen ghosts fits xs at v node event line b lt e is here law stay =
+    step_not chosen ghosts fits xs event line
+    (λ w s t a n. (let y = some_at chosen ghosts.has_state xs w.nodes node at v n is lt e in let state = y.2 (sym (on_node chosen event node here) ∙ t) in let up = law y.0.up y.0.history state in
+    stay w y.0 s y.1 (sym up) (subst (λ (u : Bool). ghosts.has_state v u y.0.history) (sym up) state)))
 
 -- nothing happens to what is sent to a node
-pub away_sent : {M : Type 0} (chosen : ℕ → Bool) (clean : M → Type 0) (has_state : M → Bool → History → Type 0) (xs : List M) (node : ℕ) (sent : Sent)
+pub away_sent : {M : Type 0} (chosen : ℕ → Bool) (ghosts : Ghosts M) (xs : List M) (node : ℕ) (sent : Sent)
     (arrived : Result code_event.Event why.Why) (reason : why.Why) (event : WorldEvent) (Rest : World → Line → World → Node → Event → Type 0) → node_of event ≡ Some node
     → ((w : World) (line : Line) (v : World) → AtNode node w line v (λ x. Arrives sent w line v (λ e. IfUp x w line v (Rest w line v x e))) → Happens w event line v)
-    → IsAway has_state xs node arrived reason → IsNodeStep chosen clean has_state (λ z. arriving z sent ≡ shown_arrived arrived) xs xs event (Refused reason)
-away_sent chosen clean has_state xs node sent arrived reason event Rest here happens (inl none) =
-    subst (λ (r : why.Why). IsNodeStep chosen clean has_state (λ z. arriving z sent ≡ shown_arrived arrived) xs xs event (Refused r)) (sym none.0)
-    (step_none chosen clean has_state (λ (z : Shelf). arriving z sent ≡ shown_arrived arrived) xs node event (Refused NoNode) none.1
+    → IsAway ghosts.has_state xs node arrived reason → IsNodeStep chosen ghosts (λ z. arriving z sent ≡ shown_arrived arrived) (record { old = xs; new = xs }) event (Refused reason)
+away_sent chosen ghosts xs node sent arrived reason event Rest here happens (inl none) =
+    subst (λ (r : why.Why). IsNodeStep chosen ghosts (λ z. arriving z sent ≡ shown_arrived arrived) (record { old = xs; new = xs }) event (Refused r)) (sym none.0)
+    (step_none chosen ghosts (λ (z : Shelf). arriving z sent ≡ shown_arrived arrived) xs node event (Refused NoNode) none.1
     (λ w at. happens w (Refused NoNode) w (rw at (refl, refl))))
-away_sent chosen clean has_state xs node sent arrived reason event Rest here happens (inr (inl away)) =
-    step_known chosen clean has_state (λ (z : Shelf). arriving z sent ≡ shown_arrived arrived) xs away.at node event (Refused reason) away.within (next away.number)
+away_sent chosen ghosts xs node sent arrived reason event Rest here happens (inr (inl away)) =
+    step_known chosen ghosts (λ (z : Shelf). arriving z sent ≡ shown_arrived arrived) xs away.at node event (Refused reason) away.within (next away.number)
     (λ w y s at. happens w (Refused reason) w (rw (at, s ∙ ap shown_arrived away.refused) (refl, refl)))
-away_sent chosen clean has_state xs node sent arrived reason event Rest here happens (inr (inr down)) =
+away_sent chosen ghosts xs node sent arrived reason event Rest here happens (inr (inr down)) =
     let x = element xs down.1.at down.1.within in
-    subst (λ (r : why.Why). IsNodeStep chosen clean has_state (λ z. arriving z sent ≡ shown_arrived arrived) xs xs event (Refused r)) (sym down.0)
-    (step_stay chosen clean has_state (λ (z : Shelf). arriving z sent ≡ shown_arrived arrived) xs down.1.at x.0 node event (Refused Down) false down.1.within x.1 (next down.1.number) here
+    subst (λ (r : why.Why). IsNodeStep chosen ghosts (λ z. arriving z sent ≡ shown_arrived arrived) (record { old = xs; new = xs }) event (Refused r)) (sym down.0)
+    (step_stay chosen ghosts (λ (z : Shelf). arriving z sent ≡ shown_arrived arrived) xs down.1.at x.0 node event (Refused Down) false down.1.within x.1 (next down.1.number) here
     (λ up h s. sym (down.1.up x.0 x.1 up h s))
     (λ w y s at up in_state. happens w (Refused Down) w (rw (at, s ∙ ap shown_arrived down.1.came, up) (refl, refl))))
 
 -- nothing is asked of a node
-pub away_asked : {M : Type 0} (chosen : ℕ → Bool) (clean : M → Type 0) (has_state : M → Bool → History → Type 0) (xs : List M) (node : ℕ) (reason : why.Why) (event : WorldEvent)
+pub away_asked : {M : Type 0} (chosen : ℕ → Bool) (ghosts : Ghosts M) (xs : List M) (node : ℕ) (reason : why.Why) (event : WorldEvent)
     (Rest : World → Line → World → Node → Type 0) → node_of event ≡ Some node
     → ((w : World) (line : Line) (v : World) → AtNode node w line v (λ x. IfUp x w line v (Rest w line v x)) → Happens w event line v)
-    → (let came : Result (Unit {0}) why.Why = Ok tt in IsAway has_state xs node came reason) → IsNodeStep chosen clean has_state (λ _. Unit {0}) xs xs event (Refused reason)
-away_asked chosen clean has_state xs node reason event Rest here happens (inl none) =
-    subst (λ (r : why.Why). IsNodeStep chosen clean has_state (λ _. Unit {0}) xs xs event (Refused r)) (sym none.0)
-    (step_none chosen clean has_state (λ _. Unit {0}) xs node event (Refused NoNode) none.1 (λ w at. happens w (Refused NoNode) w (rw at (refl, refl))))
-away_asked chosen clean has_state xs node reason event Rest here happens (inr (inl away)) = absurd (let e = away.refused in cc)
-away_asked chosen clean has_state xs node reason event Rest here happens (inr (inr down)) =
+    → (let came : Result (Unit {0}) why.Why = Ok tt in IsAway ghosts.has_state xs node came reason) → IsNodeStep chosen ghosts (λ _. Unit {0}) (record { old = xs; new = xs }) event (Refused reason)
+away_asked chosen ghosts xs node reason event Rest here happens (inl none) =
+    subst (λ (r : why.Why). IsNodeStep chosen ghosts (λ _. Unit {0}) (record { old = xs; new = xs }) event (Refused r)) (sym none.0)
+    (step_none chosen ghosts (λ _. Unit {0}) xs node event (Refused NoNode) none.1 (λ w at. happens w (Refused NoNode) w (rw at (refl, refl))))
+away_asked chosen ghosts xs node reason event Rest here happens (inr (inl away)) = absurd (let e = away.refused in cc)
+away_asked chosen ghosts xs node reason event Rest here happens (inr (inr down)) =
     let x = element xs down.1.at down.1.within in
-    subst (λ (r : why.Why). IsNodeStep chosen clean has_state (λ _. Unit {0}) xs xs event (Refused r)) (sym down.0)
-    (step_stay chosen clean has_state (λ _. Unit {0}) xs down.1.at x.0 node event (Refused Down) false down.1.within x.1 (next down.1.number) here (λ up h s. sym (down.1.up x.0 x.1 up h s))
+    subst (λ (r : why.Why). IsNodeStep chosen ghosts (λ _. Unit {0}) (record { old = xs; new = xs }) event (Refused r)) (sym down.0)
+    (step_stay chosen ghosts (λ _. Unit {0}) xs down.1.at x.0 node event (Refused Down) false down.1.within x.1 (next down.1.number) here (λ up h s. sym (down.1.up x.0 x.1 up h s))
     (λ w y s at up in_state. happens w (Refused Down) w (rw (at, up) (refl, refl))))
 
 -- a node that is ready advances
-pub step_ready : {M : Type 0} (chosen : ℕ → Bool) (clean : M → Type 0) (has_state : M → Bool → History → Type 0) (fits : Shelf → Type 0) (xs : List M) (at : ℕ) (x z : M) (node : ℕ)
-    (event : WorldEvent) (line : Line) → IsReady has_state xs node at → x ≡ get_or xs at x → node_of event ≡ Some node → (clean z → clean x)
-    → ((w : World) (y : Node) → fits w.shelf → node_at w.nodes node ≡ Some y → y.up ≡ true → clean z → has_state x true y.history → Acts has_state fits node x z event line w y)
-    → IsNodeStep chosen clean has_state fits xs (slice_set xs at z) event line
-step_ready chosen clean has_state fits xs at x z node event line ready is here back act =
-    step_set chosen clean has_state fits xs at x z node event line ready.within is (next ready.number) here back
-    (λ w y s there c in_state. (let up = ready.up x is y.up y.history in_state in act w y s there up c (subst (λ (u : Bool). has_state x u y.history) up in_state)))
+pub step_ready : {M : Type 0} (chosen : ℕ → Bool) (ghosts : Ghosts M) (fits : Shelf → Type 0) (xs : List M) (at : ℕ) (x z : M) (node : ℕ)
+    (event : WorldEvent) (line : Line) → IsReady ghosts.has_state xs node at → x ≡ get_or xs at x → node_of event ≡ Some node → (ghosts.clean z → ghosts.clean x)
+    → ((w : World) (y : Node) → fits w.shelf → node_at w.nodes node ≡ Some y → y.up ≡ true → ghosts.clean z → ghosts.has_state x true y.history → Acts ghosts.has_state fits node x z event line w y)
+    → IsNodeStep chosen ghosts fits (record { old = xs; new = slice_set xs at z }) event line
+step_ready chosen ghosts fits xs at x z node event line ready is here back act =
+    step_set chosen ghosts fits xs at x z node event line ready.within is (next ready.number) here back
+    (λ w y s there c in_state. (let up = ready.up x is y.up y.history in_state in act w y s there up c (subst (λ (u : Bool). ghosts.has_state x u y.history) up in_state)))
 
 -- nothing is sent to a node that would stop
-pub away_stopped : {M : Type 0} (chosen : ℕ → Bool) (clean : M → Type 0) (has_state : M → Bool → History → Type 0) (xs : List M) (point : Point) (node : ℕ) (sent : Sent)
-    (arrived : Result code_event.Event why.Why) (reason : why.Why) → IsAway has_state xs node arrived reason
-    → IsNodeStep chosen clean has_state (λ z. arriving z sent ≡ shown_arrived arrived) xs xs (stop_event point node sent) (Refused reason)
-away_stopped chosen clean has_state xs Before node sent arrived reason away =
-    away_sent chosen clean has_state xs node sent arrived reason (StopBefore node sent) (λ w line v x e. Reopens node x.history Stopped w line v) refl (λ w line v h. h) away
-away_stopped chosen clean has_state xs After node sent arrived reason away =
-    away_sent chosen clean has_state xs node sent arrived reason (StopAfter node sent)
+pub away_stopped : {M : Type 0} (chosen : ℕ → Bool) (ghosts : Ghosts M) (xs : List M) (point : Point) (node : ℕ) (sent : Sent)
+    (arrived : Result code_event.Event why.Why) (reason : why.Why) → IsAway ghosts.has_state xs node arrived reason
+    → IsNodeStep chosen ghosts (λ z. arriving z sent ≡ shown_arrived arrived) (record { old = xs; new = xs }) (stop_event point node sent) (Refused reason)
+away_stopped chosen ghosts xs Before node sent arrived reason away =
+    away_sent chosen ghosts xs node sent arrived reason (StopBefore node sent) (λ w line v x e. Reopens node x.history Stopped w line v) refl (λ w line v h. h) away
+away_stopped chosen ghosts xs After node sent arrived reason away =
+    away_sent chosen ghosts xs node sent arrived reason (StopAfter node sent)
     (λ w line v x e. (answer : Answer) × IsRight x.history e answer × Reopens node ((e, answer) ∷ x.history) Stopped w line v) refl (λ w line v h. h) away
 
 -- a node that stopped is open again
@@ -258,12 +259,12 @@ stop_fails has_state fits After node x z sent fault event w y at up is stop = re
 }
 
 -- a node that is ready is asked
-pub asks_ready : {M : Type 0} (chosen : ℕ → Bool) (clean : M → Type 0) (has_state : M → Bool → History → Type 0) (xs : List M) (at : ℕ) (x : M) (node : ℕ) (event : WorldEvent) (line : Line)
-    → IsReady has_state xs node at → x ≡ get_or xs at x → node_of event ≡ Some node
-    → ((w : World) (y : Node) → node_at w.nodes node ≡ Some y → y.up ≡ true → has_state x true y.history → Happens w event line w)
-    → IsNodeStep chosen clean has_state (λ _. Unit {0}) xs xs event line
-asks_ready chosen clean has_state xs at x node event line ready is here asks =
-    step_stay chosen clean has_state (λ _. Unit {0}) xs at x node event line true ready.within is (next ready.number) here (λ up h s. sym (ready.up x is up h s))
+pub asks_ready : {M : Type 0} (chosen : ℕ → Bool) (ghosts : Ghosts M) (xs : List M) (at : ℕ) (x : M) (node : ℕ) (event : WorldEvent) (line : Line)
+    → IsReady ghosts.has_state xs node at → x ≡ get_or xs at x → node_of event ≡ Some node
+    → ((w : World) (y : Node) → node_at w.nodes node ≡ Some y → y.up ≡ true → ghosts.has_state x true y.history → Happens w event line w)
+    → IsNodeStep chosen ghosts (λ _. Unit {0}) (record { old = xs; new = xs }) event line
+asks_ready chosen ghosts xs at x node event line ready is here asks =
+    step_stay chosen ghosts (λ _. Unit {0}) xs at x node event line true ready.within is (next ready.number) here (λ up h s. sym (ready.up x is up h s))
     (λ w y s there up in_state. asks w y there up in_state)
 
 -- what is put back at its place

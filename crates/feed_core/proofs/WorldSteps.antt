@@ -8,25 +8,26 @@ use Rattle.feed_model.specs.History.{History}
 use Rattle.feed_model.specs.Content.{Content, IsContent}
 use Rattle.feed_world.specs.World.{World, Node, WorldEvent, Line, Shelf, Happens}
 use Rattle.feed_core.specs.Chosen.{node_of}
+use Rattle.feed_core.specs.declared.node.Node.{Ghosts}
 use Rattle.feed_core.specs.Step.{AllClean, AreNodes, AreKept, Files, IsNodeStep, IsWorldStep, IsShelf, rest_of}
 
 -- a node advances, and the published files stay the same
-pub step_to : {M : Type 0} (chosen : ℕ → Bool) (clean : M → Type 0) (has_state : M → Bool → History → Type 0) (fits : Shelf
+pub step_to : {M : Type 0} (chosen : ℕ → Bool) (ghosts : Ghosts M) (fits : Shelf
     → Type 0) (files : Files) (old new : List M) (event : WorldEvent) (line : Line) → ((shelf : Shelf) → IsShelf files shelf → fits shelf)
-    → IsNodeStep chosen clean has_state fits old new event line → IsWorldStep chosen clean has_state (record { files = files; nodes = old }) (record { files = files; nodes = new }) event line
-step_to chosen clean has_state fits files old new event line fit step all =
+    → IsNodeStep chosen ghosts fits (record { old = old; new = new }) event line → IsWorldStep chosen ghosts (record { files = files; nodes = old }) (record { files = files; nodes = new }) event line
+step_to chosen ghosts fits files old new event line fit step all =
     let r = step all in
     (r.0, λ w is n. (let t = r.1 w (fit w.shelf is) n in (t.0, t.1, subst (IsShelf files) (sym t.2) is, t.3)))
 
 -- a file is published, and the nodes stay
-pub publishes : {M : Type 0} (chosen : ℕ → Bool) (clean : M → Type 0) (has_state : M → Bool → History → Type 0) (before files : Files) (nodes : List M) (event : WorldEvent)
+pub publishes : {M : Type 0} (chosen : ℕ → Bool) (ghosts : Ghosts M) (before files : Files) (nodes : List M) (event : WorldEvent)
     (line : Line) → node_of event ≡ None
     → ((w : World) → IsShelf before w.shelf → (v : World) × Happens w event line v × IsShelf files v.shelf × (v.nodes ≡ w.nodes))
-    → IsWorldStep chosen clean has_state (record { files = before; nodes = nodes }) (record { files = files; nodes = nodes }) event line
-publishes chosen clean has_state before files nodes event line none publish all = (
+    → IsWorldStep chosen ghosts (record { files = before; nodes = nodes }) (record { files = files; nodes = nodes }) event line
+publishes chosen ghosts before files nodes event line none publish all = (
   all,
   λ w is n. (let t = publish w is in let seen = ap (λ o. option_map_or chosen o true) none in
-      (t.0, subst (λ (b : Bool). MatchBool b (Happens w event line t.0) (t.0 ≡ w)) (sym seen) t.1, t.2, subst (AreNodes chosen has_state nodes) (sym t.3) n)),
+      (t.0, subst (λ (b : Bool). MatchBool b (Happens w event line t.0) (t.0 ≡ w)) (sym seen) t.1, t.2, subst (AreNodes chosen ghosts.has_state nodes) (sym t.3) n)),
 )
 
 -- two lists whose elements at each place are related

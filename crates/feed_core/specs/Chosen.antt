@@ -22,7 +22,7 @@ abbrev pub events_on : (ℕ → Bool) → List WorldEvent → List WorldEvent
 events_on chosen [] = []
 events_on chosen (event ∷ events) = if is_on chosen event then event ∷ events_on chosen events else events_on chosen events
 
--- the lines of these events
+-- the lines of the events that remain
 abbrev pub lines_on : (ℕ → Bool) → List WorldEvent → List Line → List Line
 lines_on chosen [] lines = []
 lines_on chosen (event ∷ events) [] = []

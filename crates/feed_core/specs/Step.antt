@@ -10,6 +10,8 @@ use Rattle.feed_names.specs.ReleaseName.{Name, IsName}
 use Rattle.feed_model.specs.History.{History}
 use Rattle.feed_model.specs.Content.{Content, IsContent}
 use Rattle.feed_keep.specs.Cause.{HasFailed}
+use Rattle.feed_keep.specs.declared.keep.Keep as keep
+use Rattle.feed_core.specs.declared.node.Node.{Ghosts}
 use Rattle.feed_core.specs.Nodes.{IsStartRefused, shown_arrived}
 use Rattle.feed_core.specs.Chosen.{events_on, is_on, lines_on}
 use Rattle.feed_releases.specs.declared.event.Event as code_event
@@ -78,17 +80,23 @@ IsAway has_state nodes node arrived reason =
 abbrev pub HappensOn : (ℕ → Bool) → World → WorldEvent → Line → World → Type 0
 HappensOn chosen w event line v = MatchBool (is_on chosen event) (Happens w event line v) (v ≡ w)
 
+-- the nodes before and after an event
+pub record Transition (M : Type 0) : Type 0 where
+  pub old : List M
+  pub new : List M
+
 -- If the chosen nodes are clean now, they were clean before; and from each world that they represent, whose published
 -- files fit, the event may be shown by this line and lead to a world that they represent.
-abbrev pub IsNodeStep : {M : Type 0} → (ℕ → Bool) → (M → Type 0) → (M → Bool → History → Type 0) → (Shelf → Type 0) → List M → List M → WorldEvent → Line → Type 0
-IsNodeStep chosen clean has_state fits old new event line =
-    AllClean chosen clean new → AllClean chosen clean old
-    × ((w : World) → fits w.shelf → AreNodes chosen has_state old w.nodes → (v : World) × HappensOn chosen w event line v × (v.shelf ≡ w.shelf) × AreNodes chosen has_state new v.nodes)
+abbrev pub IsNodeStep : {M : Type 0} → (ℕ → Bool) → Ghosts M → (Shelf → Type 0) → Transition M → WorldEvent → Line → Type 0
+IsNodeStep chosen ghosts fits nodes event line =
+    AllClean chosen ghosts.clean nodes.new → AllClean chosen ghosts.clean nodes.old
+    × ((w : World) → fits w.shelf → AreNodes chosen ghosts.has_state nodes.old w.nodes
+    → (v : World) × HappensOn chosen w event line v × (v.shelf ≡ w.shelf) × AreNodes chosen ghosts.has_state nodes.new v.nodes)
 
 -- the same for a message to a node, given what arrives of it
-abbrev pub IsMessageStep : {M : Type 0} → (ℕ → Bool) → (M → Type 0) → (M → Bool → History → Type 0) → Result code_event.Event why.Why → List M → List M → (Sent → WorldEvent) → Line → Type 0
-IsMessageStep chosen clean has_state arrived old new telling line =
-    (sent : Sent) → IsNodeStep chosen clean has_state (λ shelf. arriving shelf sent ≡ shown_arrived arrived) old new (telling sent) line
+abbrev pub IsMessageStep : {M : Type 0} → (ℕ → Bool) → Ghosts M → Result code_event.Event why.Why → Transition M → (Sent → WorldEvent) → Line → Type 0
+IsMessageStep chosen ghosts arrived nodes telling line =
+    (sent : Sent) → IsNodeStep chosen ghosts (λ shelf. arriving shelf sent ≡ shown_arrived arrived) nodes (telling sent) line
 
 -- the event of a world at which a node stops, at this point of what is sent to it
 abbrev pub stop_event : Point → ℕ → Sent → WorldEvent
@@ -114,18 +122,19 @@ pub record Moment (M : Type 0) : Type 0 where
 
 -- If the chosen nodes are clean now, they were clean before; and from each world that the files and the nodes represent,
 -- the event may be shown by this line and lead to a world that they represent.
-abbrev pub IsWorldStep : {M : Type 0} → (ℕ → Bool) → (M → Type 0) → (M → Bool → History → Type 0) → Moment M → Moment M → WorldEvent → Line → Type 0
-IsWorldStep chosen clean has_state old new event line =
-    AllClean chosen clean new.nodes
-    → AllClean chosen clean old.nodes × ((w : World) → IsShelf old.files w.shelf → AreNodes chosen has_state old.nodes w.nodes
-    → (v : World) × HappensOn chosen w event line v × IsShelf new.files v.shelf × AreNodes chosen has_state new.nodes v.nodes)
+abbrev pub IsWorldStep : {M : Type 0} → (ℕ → Bool) → Ghosts M → Moment M → Moment M → WorldEvent → Line → Type 0
+IsWorldStep chosen ghosts old new event line =
+    AllClean chosen ghosts.clean new.nodes
+    → AllClean chosen ghosts.clean old.nodes × ((w : World) → IsShelf old.files w.shelf → AreNodes chosen ghosts.has_state old.nodes w.nodes
+    → (v : World) × HappensOn chosen w event line v × IsShelf new.files v.shelf × AreNodes chosen ghosts.has_state new.nodes v.nodes)
 
 -- If the chosen nodes are clean, the lines so far show the events so far, without those of the other nodes, and the files
 -- and the nodes represent the world that they lead to.
-abbrev pub HasShown : {M : Type 0} → (ℕ → Bool) → (M → Type 0) → (M → Bool → History → Type 0) → ℕ → List WorldEvent → List Line → Moment M → Type 0
-HasShown chosen clean has_state count events lines now =
-    AllClean chosen clean now.nodes
-    → (w : World) × Shows (start count) (events_on chosen events) (lines_on chosen events lines) w × IsShelf now.files w.shelf × AreNodes chosen has_state now.nodes w.nodes
+abbrev pub HasShown : {M : Type 0} → (ℕ → Bool) → Ghosts M → ℕ → List WorldEvent → List Line → Moment M → Type 0
+HasShown chosen ghosts count events lines now =
+    AllClean chosen ghosts.clean now.nodes
+    → (w : World) × Shows (start count) (events_on chosen events) (lines_on chosen events lines) w × IsShelf now.files w.shelf
+    × AreNodes chosen ghosts.has_state now.nodes w.nodes
 
 -- each chosen keeper holds a list of records, which is a content of the history of the world's node
 abbrev pub AreKept : {K : Type 0} → (ℕ → Bool) → (K → Content) → (K → Type 0) → List K → List Node → Type 0
@@ -137,18 +146,18 @@ AreKept chosen content listed (k ∷ ks) [] = ⊥
 -- the node that did not start, counted from 1: its device failed, or its keeper did not hold a list of records, or it
 -- held a nonempty one; the keeper is returned with its content, was clean if it is now, and its count of failures did
 -- not fall
-pub record IsNoStart {K : Type 0} (clean : K → Type 0) (content : K → Content) (listed : K → Type 0) (failed : K → ℕ) (keepers : List K) (node : ℕ) (keeper : K) : Type 0 where
+pub record IsNoStart {K : Type 0} (ghosts : keep.Ghosts K) (keepers : List K) (node : ℕ) (keeper : K) : Type 0 where
   pub before : K
   pub at : ℕ
   pub number : node ≡ suc at
   pub given : slice_get keepers at ≡ Some before
-  pub kept : clean keeper → content keeper ≡ content before
-  pub was_clean : clean keeper → clean before
-  pub rises : failed before ≤ failed keeper
-  pub refused : IsStartRefused (HasFailed (failed before) (failed keeper)) (clean keeper) ∥ listed before ∥₁ (content before)
+  pub kept : ghosts.clean keeper → ghosts.content keeper ≡ ghosts.content before
+  pub was_clean : ghosts.clean keeper → ghosts.clean before
+  pub rises : ghosts.failed before ≤ ghosts.failed keeper
+  pub refused : IsStartRefused (HasFailed (ghosts.failed before) (ghosts.failed keeper)) (ghosts.clean keeper) ∥ ghosts.listed before ∥₁ (ghosts.content before)
 
 -- what a fault of a replay says about the keepers
-abbrev pub IsStart : {K : Type 0} → (K → Type 0) → (K → Content) → (K → Type 0) → (K → ℕ) → List K → ReplayFault K → Type 0
-IsStart clean content listed failed keepers (faults.Start node keeper) = IsNoStart clean content listed failed keepers node keeper
-IsStart clean content listed failed keepers faults.Memory = Unit {0}
-IsStart clean content listed failed keepers faults.Nodes = Unit {0}
+abbrev pub IsStart : {K : Type 0} → keep.Ghosts K → List K → ReplayFault K → Type 0
+IsStart ghosts keepers (faults.Start node keeper) = IsNoStart ghosts keepers node keeper
+IsStart ghosts keepers faults.Memory = Unit {0}
+IsStart ghosts keepers faults.Nodes = Unit {0}

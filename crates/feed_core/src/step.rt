@@ -118,8 +118,8 @@ fn stop_node<N: Node + Drop>(
 
 /// Opens a node again.
 pub(crate) fn restart_at<N: Node + Drop>(alloc: Global, nodes: &mut Vec<N>, node: u64) -> Line
-    ensures step { (chosen : ℕ → Bool) → IsNodeStep chosen N.clean N.has_state (λ _. Unit {0}) nodes.old.items
-        nodes.new.items (Restart node) (shown_line result) }
+    ensures step { (chosen : ℕ → Bool) → IsNodeStep chosen N.Node (λ _. Unit {0})
+        (record { old = nodes.old.items; new = nodes.new.items }) (Restart node) (shown_line result) }
     ensures count { length nodes.new.items ≡ length nodes.old.items }
     ensures account { IsAccountOf N.failed N.loads (Restart node) (shown_line result) nodes.old.items nodes.new.items }
 {
@@ -138,8 +138,8 @@ pub(crate) fn tell_at<N: Node>(
     node: u64,
     arrived: Result<Event<'_>, Why>,
 ) -> Line
-    ensures step { (chosen : ℕ → Bool) → IsMessageStep chosen N.clean N.has_state arrived.entry nodes.old.items
-        nodes.new.items (Tell node) (shown_line result) }
+    ensures step { (chosen : ℕ → Bool) → IsMessageStep chosen N.Node arrived.entry
+        (record { old = nodes.old.items; new = nodes.new.items }) (Tell node) (shown_line result) }
     ensures count { length nodes.new.items ≡ length nodes.old.items }
     ensures account { arrived.entry ≢ Err (Why.Feed Refusal.Device) → (sent : Sent)
         → IsAccountOf N.failed N.loads (Tell node sent) (shown_line result) nodes.old.items nodes.new.items }
@@ -162,8 +162,8 @@ pub(crate) fn stop_at<N: Node + Drop>(
     arrived: Result<Event<'_>, Why>,
     point: Point,
 ) -> Line
-    ensures step { (chosen : ℕ → Bool) → IsMessageStep chosen N.clean N.has_state arrived.entry nodes.old.items
-        nodes.new.items (stop_event point node) (shown_line result) }
+    ensures step { (chosen : ℕ → Bool) → IsMessageStep chosen N.Node arrived.entry
+        (record { old = nodes.old.items; new = nodes.new.items }) (stop_event point node) (shown_line result) }
     ensures count { length nodes.new.items ≡ length nodes.old.items }
     ensures account { arrived.entry ≢ Err (Why.Feed Refusal.Device) → (sent : Sent)
         → IsAccountOf N.failed N.loads (stop_event point node sent) (shown_line result) nodes.old.items
@@ -181,8 +181,8 @@ pub(crate) fn stop_at<N: Node + Drop>(
 
 /// Reports the active release of a package at a node.
 pub(crate) fn report_at<N: Node>(nodes: &[N], node: u64, package: &[u8]) -> Result<Line, AllocError>
-    ensures step { IfOk result (λ line. (chosen : ℕ → Bool) → IsNodeStep chosen N.clean N.has_state (λ _. Unit {0})
-        nodes.now nodes.now (Report node «package».now) (shown_line line)) }
+    ensures step { IfOk result (λ line. (chosen : ℕ → Bool) → IsNodeStep chosen N.Node (λ _. Unit {0})
+        (record { old = nodes.now; new = nodes.now }) (Report node «package».now) (shown_line line)) }
     ensures device { IfOk result (λ line. ¬ (IsDeviceFailure (shown_line line))) }
     ensures unloaded { IfOk result (λ line. loads_in (shown_line line) ≡ 0) }
 {
@@ -204,8 +204,8 @@ pub(crate) fn ask_at<N: Node>(
     package: &[u8],
     query: &[u8],
 ) -> Line
-    ensures step { (chosen : ℕ → Bool) → IsNodeStep chosen N.clean N.has_state (λ _. Unit {0})
-        nodes.now nodes.now (Ask node «package».now query.now) (shown_line result) }
+    ensures step { (chosen : ℕ → Bool) → IsNodeStep chosen N.Node (λ _. Unit {0})
+        (record { old = nodes.now; new = nodes.now }) (Ask node «package».now query.now) (shown_line result) }
     ensures device { ¬ (IsDeviceFailure (shown_line result)) }
     ensures unloaded { loads_in (shown_line result) ≡ 0 }
 {

@@ -59,7 +59,7 @@ pub fn replay<K: Keep + Drop>(
     ensures loaded { IfOk result (λ t. AreLoaded (λ node. suc (loads_shown (map shown_event events.now)
         (map shown_line (lines_of t)) node)) K.loads K.loads keepers.items (keepers_of t)) }
     ensures nodes { ((vec_len keepers ≡ 0) ⊎ (16 < vec_len keepers)) ↔ IsErrOf result ReplayFault.Nodes }
-    ensures start { IfErr result (λ fault. IsStart K.clean K.content K.listed K.failed keepers.items fault) }
+    ensures start { IfErr result (λ fault. IsStart K.Keep keepers.items fault) }
 {
     if keepers.is_empty() || keepers.len() > NODE_LIMIT {
         return Err(ReplayFault::Nodes);
@@ -82,7 +82,7 @@ fn start_all<K: Keep + Drop>(alloc: Global, keepers: Vec<K>) -> Result<Vec<Slot<
     ensures loaded { IfOk result (λ nodes. EachNode (λ _ k s. (slot_count K.failed s ≡ K.failed k)
         × (slot_count K.loads s ≡ one_more (K.loads k))) 1 keepers.items nodes.items) }
     ensures nodes { ¬ (IsErrOf result ReplayFault.Nodes) }
-    ensures start { IfErr result (λ fault. IsStart K.clean K.content K.listed K.failed keepers.items fault) }
+    ensures start { IfErr result (λ fault. IsStart K.Keep keepers.items fault) }
 {
     let Ok(mut nodes) = Vec::with_capacity(alloc, keepers.len()) else {
         return Err(ReplayFault::Memory);
@@ -173,7 +173,7 @@ fn show<'a, N: Node + Drop>(
     nodes: &mut Vec<N>,
     event: &'a WorldEvent,
 ) -> Result<Line, AllocError>
-    ensures step { IfOk result (λ line. (chosen : ℕ → Bool) → IsWorldStep chosen N.clean N.has_state
+    ensures step { IfOk result (λ line. (chosen : ℕ → Bool) → IsWorldStep chosen N.Node
         (record { files = shelf.old.files.entries; nodes = nodes.old.items })
         (record { files = shelf.new.files.entries; nodes = nodes.new.items })
         (shown_event event.now) (shown_line line)) }

@@ -37,7 +37,7 @@ impl fmt::Display for Counts {
     }
 }
 
-/// Returns how many of these records are skipped for a reason.
+/// Returns the number of records that are skipped for this reason.
 pub fn count_of(skipped: &[Aside], reason: Reason) -> usize
     ensures { result ≡ count_by (is_for reason) skipped.now }
 {

@@ -11,8 +11,7 @@ pub(crate) fn commit<K: Keep>(keeper: &mut K, change: &Change<'_>) -> Result<(),
     requires listed { K.clean keeper.old → ∥ K.listed keeper.old ∥₁ }
     requires allowed { K.clean keeper.old → IsAllowed (shown_change change.now) (K.content keeper.old) }
     ensures listed { K.clean keeper.new → ∥ K.listed keeper.new ∥₁ }
-    ensures committed { IsCommitted K.clean K.content K.failed K.loads (shown_change change.now)
-        keeper.old keeper.new result }
+    ensures committed { IsCommitted K.Keep (shown_change change.now) keeper.old keeper.new result }
 {
     match keeper.commit(change) {
         Ok(()) => Ok(()),

@@ -10,7 +10,7 @@ use Rattle.feed_model.specs.History.{IsFile, IsWhole, Reports}
 use Rattle.feed_answer.specs.Queries.{query_of}
 use Rattle.feed_world.specs.World.{World, Node, WorldEvent, Report, Ask, Line, Active, Text, Refused, node_at, start, report_line, file_says, IsRefused, IfUp, OrMemory, Happens, Shows}
 use Rattle.feed_model.specs.File.{fault_of}
-use Rattle.feed_world.specs.Headline.{file_of, IsOneMoment, IsShownAt, IsAnswerAt, IsNoOlder, IsGoodRelease, IsFrom, IsHeadline, HasAlike, IsLatest, IsUpAt}
+use Rattle.feed_world.specs.Headline.{file_of, IsOneMoment, IsShownAt, Question, IsAnswerAt, IsNoOlder, IsGoodRelease, IsFrom, IsHeadline, HasAlike, IsLatest, IsUpAt}
 use Rattle.feed_model.proofs.Reports.{reports_one}
 use Rattle.feed_world.proofs.Over.{file_published, later_report, reports_alike, latest_active}
 use Rattle.feed_world.proofs.Slices.{same_some}
@@ -22,12 +22,12 @@ order : (j k : ℕ) → (j < k) ⊎ ((j ≡ k) ⊎ (k < j))
 order j k = grind arith
 
 -- the ask at a place, and the report that the node would give there
-record Met (count : ℕ) (events : List WorldEvent) (lines : List Line) (k a : ℕ) (stem : List ℕ) (n : Name) (query : List ℕ) (x : Line) : Type 0 where
+record Met (count : ℕ) (events : List WorldEvent) (lines : List Line) (k : ℕ) (q : Question) (n : Name) (x : Line) : Type 0 where
   old : World
   new : World
   come : Shows (start count) (take k events) (take k lines) old
-  step : Happens old (Ask a stem query) x new
-  reports : IsUp old a stem (Some n)
+  step : Happens old (Ask q.node q.stem q.query) x new
+  reports : IsUp old q.node q.stem (Some n)
 
 -- the same node reports the same
 up_same : (w v : World) (a : ℕ) (stem : List ℕ) (o : Option Name) → node_at v.nodes a ≡ node_at w.nodes a → IsUp w a stem o → IsUp v a stem o
@@ -42,34 +42,37 @@ gap_quiet count events lines j k a e f l m p together lt =
     shows_quiet p.two p.three (drop (suc j) (take k events)) (drop (suc j) (take k lines)) a
     (λ i g is. (let t = gap_event events j k i g is in together (suc j + i) g (omega (arith, lt)) (omega (arith, t.1)) t.0)) p.gap
 
-met : (count : ℕ) (events : List WorldEvent) (lines : List Line) (w : World) → Shows (start count) events lines w → (k a : ℕ) (stem : List ℕ) (n : Name) (query : List ℕ) (x : Line)
-    → IsAnswerAt events lines k a stem n query x → Met count events lines k a stem n query x
-met count events lines w s k a stem n query x t = by (order t.report k)
+met : (count : ℕ) (events : List WorldEvent) (lines : List Line) (w : World) → Shows (start count) events lines w → (k : ℕ) (q : Question) (n : Name) (x : Line) → IsAnswerAt events lines k q n x
+    → Met count events lines k q n x
+met count events lines w s k q n x t = by (order t.report k)
   where
-    by : (t.report < k) ⊎ ((t.report ≡ k) ⊎ (k < t.report)) → Met count events lines k a stem n query x
+    by : (t.report < k) ⊎ ((t.report ≡ k) ⊎ (k < t.report)) → Met count events lines k q n x
     by (inl lt) =
-        let p = places_of (start count) w events lines t.report k (Report a stem) (Ask a stem query) (Active n) x lt s t.reported.happened t.reported.shown t.asked.happened t.asked.shown in
-        let r = active_shown p.one p.two a stem n p.first in
+        let p = places_of (start count) w events lines t.report k (Report q.node q.stem) (Ask q.node q.stem q.query) (Active n) x lt s
+        t.reported.happened t.reported.shown t.asked.happened t.asked.shown in
+        let r = active_shown p.one p.two q.node q.stem n p.first in
         record {
           old = p.three;
           new = p.four;
           come = p.reach;
           step = p.second;
-          reports = up_same p.one p.three a stem (Some n)
-              (gap_quiet count events lines t.report k a (Report a stem) (Ask a stem query) (Active n) x p t.together lt ∙ ap (λ (z : World). node_at z.nodes a) r.0) r.1;
+          reports = up_same p.one p.three q.node q.stem (Some n)
+              (gap_quiet count events lines t.report k q.node (Report q.node q.stem) (Ask q.node q.stem q.query) (Active n) x p t.together lt ∙ ap (λ (z : World). node_at z.nodes q.node) r.0) r.1;
         }
-    by (inr (inl same)) = absurd (let e : slice_get events t.report ≡ Some (Ask a stem query) = ap (slice_get events) same ∙ t.asked.happened in let f = t.reported.happened in cc)
+    by (inr (inl same)) = absurd (let e : slice_get events t.report ≡ Some (Ask q.node q.stem q.query) = ap (slice_get events) same ∙ t.asked.happened in let f = t.reported.happened in cc)
     by (inr (inr lt)) =
-        let p = places_of (start count) w events lines k t.report (Ask a stem query) (Report a stem) x (Active n) lt s t.asked.happened t.asked.shown t.reported.happened t.reported.shown in
-        let r = active_shown p.three p.four a stem n p.second in
-        let turned : IsOneMoment events a k t.report = λ m e low high. t.together m e (omega (arith, low)) (omega (arith, high)) in
+        let p = places_of (start count) w events lines k t.report (Ask q.node q.stem q.query) (Report q.node q.stem) x (Active n) lt s
+        t.asked.happened t.asked.shown t.reported.happened t.reported.shown in
+        let r = active_shown p.three p.four q.node q.stem n p.second in
+        let turned : IsOneMoment events q.node k t.report = λ m e low high. t.together m e (omega (arith, low)) (omega (arith, high)) in
         record {
           old = p.one;
           new = p.two;
           come = p.come;
           step = p.first;
-          reports = up_same p.three p.one a stem (Some n)
-              (sym (gap_quiet count events lines k t.report a (Ask a stem query) (Report a stem) x (Active n) p turned lt ∙ ask_stays p.one p.two a stem query x p.first)) r.1;
+          reports = up_same p.three p.one q.node q.stem (Some n)
+              (sym (gap_quiet count events lines k t.report q.node (Ask q.node q.stem q.query) (Report q.node q.stem) x (Active n) p turned lt
+              ∙ ask_stays p.one p.two q.node q.stem q.query x p.first)) r.1;
         }
 
 -- a whole file of a node is what the events so far publish
@@ -78,25 +81,25 @@ published_at : (count : ℕ) (events : List WorldEvent) (lines : List Line) (w :
 published_at count events lines w i x n file s at f =
     sym (shows_files (start count) w events lines n s) ∙ file_published w.shelf x.history n file ((shows_sound (start count) w events lines (sound_start count) s).over i x at) f
 
-whole : (count : ℕ) (events : List WorldEvent) (lines : List Line) (w : World) → Shows (start count) events lines w → (k a : ℕ) (stem : List ℕ) (n : Name) (query : List ℕ) (x : Line)
-    → IsAnswerAt events lines k a stem n query x → (file : List ℕ) × (file_of (take k events) n ≡ Some file) × (x ≡ file_says n file (query_of query))
-whole count events lines w s k a stem n query x t = by (ask_shown p.old p.new a stem n query x p.reports p.step)
+whole : (count : ℕ) (events : List WorldEvent) (lines : List Line) (w : World) → Shows (start count) events lines w → (k : ℕ) (q : Question) (n : Name) (x : Line)
+    → IsAnswerAt events lines k q n x → (file : List ℕ) × (file_of (take k events) n ≡ Some file) × (x ≡ file_says n file (query_of q.query))
+whole count events lines w s k q n x t = by (ask_shown p.old p.new q.node q.stem n q.query x p.reports p.step)
   where
-    p : Met count events lines k a stem n query x
-    p = met count events lines w s k a stem n query x t
+    p : Met count events lines k q n x
+    p = met count events lines w s k q n x t
 
-    by : OrMemory x ((file : List ℕ) × (y : Node) × (node_at p.old.nodes a ≡ Some y) × IsFile y.history n file × (x ≡ file_says n file (query_of query)))
-        → (file : List ℕ) × (file_of (take k events) n ≡ Some file) × (x ≡ file_says n file (query_of query))
+    by : OrMemory x ((file : List ℕ) × (y : Node) × (node_at p.old.nodes q.node ≡ Some y) × IsFile y.history n file × (x ≡ file_says n file (query_of q.query)))
+        → (file : List ℕ) × (file_of (take k events) n ≡ Some file) × (x ≡ file_says n file (query_of q.query))
     by (inr e) = absurd (t.given e)
-    by (inl r) = (r.0, published_at count (take k events) (take k lines) p.old a r.1 n r.0 p.come r.2 r.3, r.4)
+    by (inl r) = (r.0, published_at count (take k events) (take k lines) p.old q.node r.1 n r.0 p.come r.2 r.3, r.4)
 
-same : (count : ℕ) (events : List WorldEvent) (lines : List Line) (w : World) → Shows (start count) events lines w → (j k a b : ℕ) (stem : List ℕ) (n : Name) (query : List ℕ) (x y : Line)
-    → IsAnswerAt events lines j a stem n query x → IsAnswerAt events lines k b stem n query y → x ≡ y
-same count events lines w s j k a b stem n query x y t u =
-    let p = whole count events lines w s j a stem n query x t in
-    let q = whole count events lines w s k b stem n query y u in
-    let is : p.0 ≡ q.0 = same_some (file_of events n) p.0 q.0 (file_of-take j events n p.0 p.1) (file_of-take k events n q.0 q.1) in
-    p.2 ∙ ap (λ (f : List ℕ). file_says n f (query_of query)) is ∙ sym q.2
+same : (count : ℕ) (events : List WorldEvent) (lines : List Line) (w : World) → Shows (start count) events lines w → (j k b : ℕ) (q : Question) (n : Name) (x y : Line)
+    → IsAnswerAt events lines j q n x → IsAnswerAt events lines k (record q { node = b }) n y → x ≡ y
+same count events lines w s j k b q n x y t u =
+    let p = whole count events lines w s j q n x t in
+    let r = whole count events lines w s k (record q { node = b }) n y u in
+    let is : p.0 ≡ r.0 = same_some (file_of events n) p.0 r.0 (file_of-take j events n p.0 p.1) (file_of-take k events n r.0 r.1) in
+    p.2 ∙ ap (λ (f : List ℕ). file_says n f (query_of q.query)) is ∙ sym r.2
 
 -- what a node has at a later world
 grown : (u v : World) (es : List WorldEvent) (ls : List Line) (a : ℕ) (stem : List ℕ) (n : Name) → IsSound u → Shows u es ls v → IsUp u a stem (Some n)
@@ -184,49 +187,49 @@ text_says count events lines w s k a stem query text t =
     let p = place_of (start count) w events lines k (Ask a stem query) (Text text) s t.happened t.shown in
     let r = text_shown p.old p.new a stem query text p.step in record { name = r.1; stays = r.0; up = r.2 }
 
-from_it : (count : ℕ) (events : List WorldEvent) (lines : List Line) (w : World) (s : Shows (start count) events lines w) (k a : ℕ) (stem query text : List ℕ)
-    (t : IsShownAt events lines k (Ask a stem query) (Text text)) → IsFrom events lines k a stem query text (text_says count events lines w s k a stem query text t).name
+from_it : (count : ℕ) (events : List WorldEvent) (lines : List Line) (w : World) (s : Shows (start count) events lines w) (k : ℕ) (q : Question) (text : List ℕ)
+    (t : IsShownAt events lines k (Ask q.node q.stem q.query) (Text text)) → IsFrom events lines k q text (text_says count events lines w s k q.node q.stem q.query text t).name
 unfolding text_says report_says
-from_it count events lines w s k a stem query text t = record {
+from_it count events lines w s k q text t = record {
   release = good;
-  whole = f.3.4 ∙ ap (λ (z : List ℕ). file_says f.1 z (query_of query)) same;
-  before = λ j n lt u. says_on count events lines w j k a stem (Report a stem) (Ask a stem query) (Active n) (Text text) lt s u.happened u.shown t.happened t.shown
-      (report_says count events lines w s j a stem n u) r;
-  after = λ j n lt u. says_on count events lines w k j a stem (Ask a stem query) (Report a stem) (Text text) (Active n) lt s t.happened t.shown u.happened u.shown r
-      (report_says count events lines w s j a stem n u);
+  whole = f.3.4 ∙ ap (λ (z : List ℕ). file_says f.1 z (query_of q.query)) same;
+  before = λ j n lt u. says_on count events lines w j k q.node q.stem (Report q.node q.stem) (Ask q.node q.stem q.query) (Active n) (Text text) lt s u.happened u.shown t.happened t.shown
+      (report_says count events lines w s j q.node q.stem n u) r;
+  after = λ j n lt u. says_on count events lines w k j q.node q.stem (Ask q.node q.stem q.query) (Report q.node q.stem) (Text text) (Active n) lt s t.happened t.shown u.happened u.shown r
+      (report_says count events lines w s j q.node q.stem n u);
 }
   where
-    p : IsAt (start count) w events lines k (Ask a stem query) (Text text)
-    p = place_of (start count) w events lines k (Ask a stem query) (Text text) s t.happened t.shown
+    p : IsAt (start count) w events lines k (Ask q.node q.stem q.query) (Text text)
+    p = place_of (start count) w events lines k (Ask q.node q.stem q.query) (Text text) s t.happened t.shown
 
-    r : Says count w events lines k a stem (Ask a stem query) (Text text) p
-    r = text_says count events lines w s k a stem query text t
+    r : Says count w events lines k q.node q.stem (Ask q.node q.stem q.query) (Text text) p
+    r = text_says count events lines w s k q.node q.stem q.query text t
 
-    f : (p.new ≡ p.old) × (n : Name) × IsUp p.old a stem (Some n) × FileSays p.old a n query (Text text)
-    f = text_shown p.old p.new a stem query text p.step
+    f : (p.new ≡ p.old) × (n : Name) × IsUp p.old q.node q.stem (Some n) × FileSays p.old q.node n q.query (Text text)
+    f = text_shown p.old p.new q.node q.stem q.query text p.step
 
-    good : IsGoodRelease events k stem f.1
-    good = let g = f.2.reports.1.0 in says_good count events lines w k a stem (Ask a stem query) (Text text) p r g.0 g.1 g.2
+    good : IsGoodRelease events k q.stem f.1
+    good = let g = f.2.reports.1.0 in says_good count events lines w k q.node q.stem (Ask q.node q.stem q.query) (Text text) p r g.0 g.1 g.2
 
     same : f.3.0 ≡ good.its_file
     same = same_some (file_of (take k events) f.1) f.3.0 good.its_file
-        (published_at count (take k events) (take k lines) p.old a f.3.1 f.1 f.3.0 p.come f.3.2 f.3.3) good.published
+        (published_at count (take k events) (take k lines) p.old q.node f.3.1 f.1 f.3.0 p.come f.3.2 f.3.3) good.published
 
-from : (count : ℕ) (events : List WorldEvent) (lines : List Line) (w : World) → Shows (start count) events lines w → (k a : ℕ) (stem : List ℕ) (query : List ℕ) (text : List ℕ)
-    → IsShownAt events lines k (Ask a stem query) (Text text) → (n : Name) × IsFrom events lines k a stem query text n
-from count events lines w s k a stem query text t = ((text_says count events lines w s k a stem query text t).name, from_it count events lines w s k a stem query text t)
+from : (count : ℕ) (events : List WorldEvent) (lines : List Line) (w : World) → Shows (start count) events lines w → (k : ℕ) (q : Question) (text : List ℕ)
+    → IsShownAt events lines k (Ask q.node q.stem q.query) (Text text) → (n : Name) × IsFrom events lines k q text n
+from count events lines w s k q text t = ((text_says count events lines w s k q.node q.stem q.query text t).name, from_it count events lines w s k q text t)
 
-onward : (count : ℕ) (events : List WorldEvent) (lines : List Line) (w : World) → Shows (start count) events lines w → (j k a : ℕ) (stem : List ℕ) (q r : List ℕ) (text other : List ℕ)
-    → j < k → IsShownAt events lines j (Ask a stem q) (Text text) → IsShownAt events lines k (Ask a stem r) (Text other)
-    → (n : Name) × (m : Name) × IsFrom events lines j a stem q text n × IsFrom events lines k a stem r other m × IsNoOlder n m
-onward count events lines w s j k a stem q r text other lt t u =
-    let x = text_says count events lines w s j a stem q text t in
-    let y = text_says count events lines w s k a stem r other u in (
+onward : (count : ℕ) (events : List WorldEvent) (lines : List Line) (w : World) → Shows (start count) events lines w → (j k : ℕ) (q : Question) (query text other : List ℕ)
+    → j < k → IsShownAt events lines j (Ask q.node q.stem q.query) (Text text) → IsShownAt events lines k (Ask q.node q.stem query) (Text other)
+    → (n : Name) × (m : Name) × IsFrom events lines j q text n × IsFrom events lines k (record q { query = query }) other m × IsNoOlder n m
+onward count events lines w s j k q query text other lt t u =
+    let x = text_says count events lines w s j q.node q.stem q.query text t in
+    let y = text_says count events lines w s k q.node q.stem query other u in (
       x.name,
       y.name,
-      from_it count events lines w s j a stem q text t,
-      from_it count events lines w s k a stem r other u,
-      says_on count events lines w j k a stem (Ask a stem q) (Ask a stem r) (Text text) (Text other) lt s t.happened t.shown u.happened u.shown x y,
+      from_it count events lines w s j q text t,
+      from_it count events lines w s k (record q { query = query }) other u,
+      says_on count events lines w j k q.node q.stem (Ask q.node q.stem q.query) (Ask q.node q.stem query) (Text text) (Text other) lt s t.happened t.shown u.happened u.shown x y,
     )
 
 -- one node is reported in one way

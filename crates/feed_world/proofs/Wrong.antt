@@ -34,7 +34,7 @@ lies : (n : Name) (file query text : List ℕ) → Text text ≢ file_says n fil
     → IsHeadline (Publish n file ∷ Report 1 n.stem ∷ Ask 1 n.stem query ∷ []) (Published ∷ Active n ∷ Text text ∷ []) → ⊥
 lies n file query text apart h =
     let together : IsOneMoment (Publish n file ∷ Report 1 n.stem ∷ Ask 1 n.stem query ∷ []) 1 1 2 = quiet in
-    let w = h.whole 2 1 n.stem n query (Text text) (record {
+    let w = h.whole 2 (record { node = 1; stem = n.stem; query = query }) n (Text text) (record {
       asked = record { happened = refl; shown = refl };
       report = 1;
       reported = record { happened = refl; shown = refl };

@@ -31,12 +31,18 @@ pub record IsShownAt (events : List WorldEvent) (lines : List Line) (place : ℕ
   pub happened : slice_get events place ≡ Some event
   pub shown : slice_get lines place ≡ Some line
 
--- at this place the node is queried and answers with this line, and a report of the same moment shows this release
-pub record IsAnswerAt (events : List WorldEvent) (lines : List Line) (place node : ℕ) (stem : List ℕ) (name : Name) (query : List ℕ) (line : Line) : Type 0 where
-  pub asked : IsShownAt events lines place (Ask node stem query) line
+-- a query about a package, to a node
+pub record Question : Type 0 where
+  pub node : ℕ
+  pub stem : List ℕ
+  pub query : List ℕ
+
+-- at this place the node is asked the question and answers with this line, and a report of the same moment shows this release
+pub record IsAnswerAt (events : List WorldEvent) (lines : List Line) (place : ℕ) (q : Question) (name : Name) (line : Line) : Type 0 where
+  pub asked : IsShownAt events lines place (Ask q.node q.stem q.query) line
   pub report : ℕ
-  pub reported : IsShownAt events lines report (Report node stem) (Active name)
-  pub together : IsOneMoment events node report place
+  pub reported : IsShownAt events lines report (Report q.node q.stem) (Active name)
+  pub together : IsOneMoment events q.node report place
   pub given : line ≢ Refused whys.Memory
 
 -- the same package, and no earlier day
@@ -51,27 +57,28 @@ pub record IsGoodRelease (events : List WorldEvent) (place : ℕ) (stem : List �
   pub good : fault_of its_file ≡ None
 
 -- a line of text is the answer of such a release, which is no older than any earlier report of the node, and no newer than any later one
-pub record IsFrom (events : List WorldEvent) (lines : List Line) (place node : ℕ) (stem : List ℕ) (query : List ℕ) (text : List ℕ) (name : Name) : Type 0 where
-  pub release : IsGoodRelease events place stem name
-  pub whole : Text text ≡ file_says name release.its_file (query_of query)
-  pub before : (j : ℕ) (n : Name) → j < place → IsShownAt events lines j (Report node stem) (Active n) → IsNoOlder n name
-  pub after : (j : ℕ) (n : Name) → place < j → IsShownAt events lines j (Report node stem) (Active n) → IsNoOlder name n
+pub record IsFrom (events : List WorldEvent) (lines : List Line) (place : ℕ) (q : Question) (text : List ℕ) (name : Name) : Type 0 where
+  pub release : IsGoodRelease events place q.stem name
+  pub whole : Text text ≡ file_says name release.its_file (query_of q.query)
+  pub before : (j : ℕ) (n : Name) → j < place → IsShownAt events lines j (Report q.node q.stem) (Active n) → IsNoOlder n name
+  pub after : (j : ℕ) (n : Name) → place < j → IsShownAt events lines j (Report q.node q.stem) (Active n) → IsNoOlder name n
 
 -- Any two nodes that report the same release of a package give every query the same answer, the one which that
 -- release's published file as a whole defines; and no later report of a node names an older release. Besides, a report
 -- holds until the next event of its node, and names a good release that was published before; and each text is the
 -- answer of such a release, no older than any that the node reported before.
 pub record IsHeadline (events : List WorldEvent) (lines : List Line) : Type 0 where
-  pub same : (j k a b : ℕ) (stem : List ℕ) (n : Name) (query : List ℕ) (x y : Line) → IsAnswerAt events lines j a stem n query x → IsAnswerAt events lines k b stem n query y → x ≡ y
-  pub whole : (j a : ℕ) (stem : List ℕ) (n : Name) (query : List ℕ) (x : Line) → IsAnswerAt events lines j a stem n query x
-      → (file : List ℕ) × (file_of (take j events) n ≡ Some file) × (x ≡ file_says n file (query_of query))
+  pub same : (j k b : ℕ) (q : Question) (n : Name) (x y : Line) → IsAnswerAt events lines j q n x → IsAnswerAt events lines k (record q { node = b }) n y → x ≡ y
+  pub whole : (j : ℕ) (q : Question) (n : Name) (x : Line) → IsAnswerAt events lines j q n x
+      → (file : List ℕ) × (file_of (take j events) n ≡ Some file) × (x ≡ file_says n file (query_of q.query))
   pub later : (j k a : ℕ) (stem : List ℕ) (n : Name) (line : Line) → j < k → IsShownAt events lines j (Report a stem) (Active n) → IsShownAt events lines k (Report a stem) line
       → (line ≡ Refused whys.Down) ⊎ ((m : Name) × (line ≡ Active m) × IsNoOlder n m)
   pub named : (k a : ℕ) (stem : List ℕ) (n : Name) → IsShownAt events lines k (Report a stem) (Active n) → IsGoodRelease events k stem n
   pub still : (j k a : ℕ) (stem : List ℕ) (x y : Line) → IsShownAt events lines j (Report a stem) x → IsShownAt events lines k (Report a stem) y → IsOneMoment events a j k → x ≡ y
-  pub from : (k a : ℕ) (stem : List ℕ) (query : List ℕ) (text : List ℕ) → IsShownAt events lines k (Ask a stem query) (Text text) → (n : Name) × IsFrom events lines k a stem query text n
-  pub onward : (j k a : ℕ) (stem : List ℕ) (q r : List ℕ) (text other : List ℕ) → j < k → IsShownAt events lines j (Ask a stem q) (Text text)
-      → IsShownAt events lines k (Ask a stem r) (Text other) → (n : Name) × (m : Name) × IsFrom events lines j a stem q text n × IsFrom events lines k a stem r other m × IsNoOlder n m
+  pub from : (k : ℕ) (q : Question) (text : List ℕ) → IsShownAt events lines k (Ask q.node q.stem q.query) (Text text) → (n : Name) × IsFrom events lines k q text n
+  pub onward : (j k : ℕ) (q : Question) (query text other : List ℕ) → j < k → IsShownAt events lines j (Ask q.node q.stem q.query) (Text text)
+      → IsShownAt events lines k (Ask q.node q.stem query) (Text other)
+      → (n : Name) × (m : Name) × IsFrom events lines j q text n × IsFrom events lines k (record q { query = query }) other m × IsNoOlder n m
 
 -- two histories have the same size and the same bytes of each release of a package
 pub record HasAlike (h k : History) (stem : List ℕ) : Type 0 where

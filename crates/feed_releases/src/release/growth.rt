@@ -69,8 +69,8 @@ impl Release {
         }) }
         ensures same { OnErr result (self.new ≡ self.old) }
         ensures listed { K.clean keeper.new → ∥ K.listed keeper.new ∥₁ }
-        ensures committed { IsCommitted K.clean K.content K.failed K.loads
-            (change_of self.old.kept growth) keeper.old keeper.new result }
+        ensures committed { IsCommitted K.Keep (change_of self.old.kept growth) keeper.old keeper.new
+            result }
     {
         let Growth {
             new,

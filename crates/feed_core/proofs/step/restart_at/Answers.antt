@@ -9,15 +9,15 @@ use Rattle.feed_core.proofs.step.restart_at.Goals as goal
 pub returns-in_default-clause-step : goal.returns-in_default-clause-step
 returns-in_default-clause-step g c = λ chosen.
     let out : (c.args.node ≡ 0) ⊎ (length c.args.nodes.now.items < c.args.node) = search rules in
-    step_not chosen g.N.Node.clean g.N.Node.has_state (λ _. Unit {0}) c.args.nodes.now.items (Restart c.args.node) (Refused NoNode)
+    step_not chosen g.N.Node (λ _. Unit {0}) c.args.nodes.now.items (Restart c.args.node) (Refused NoNode)
     (λ w s t a n. rw (none_at chosen g.N.Node.has_state c.args.nodes.now.items w.nodes c.args.node n out) (refl, refl))
 
 pub returns-in-Ok-clause-step : goal.returns-in-Ok-clause-step
 returns-in-Ok-clause-step g c = λ chosen.
     let lt : c.in-Some.at < length c.args.nodes.now.items = omega (arith, c.in-Some.ensures.found.1, c.len.ensures) in
     let r = c.in-Ok.ensures in
-    subst (λ (ys : List _). IsNodeStep chosen g.N.Node.clean g.N.Node.has_state (λ _. Unit {0}) c.args.nodes.now.items ys (Restart c.args.node) Restarted) (sym r.now)
-    (step_set chosen g.N.Node.clean g.N.Node.has_state (λ _. Unit {0}) c.args.nodes.now.items c.in-Some.at r.before r.after c.args.node
+    subst (λ (ys : List _). IsNodeStep chosen g.N.Node (λ _. Unit {0}) (record { old = c.args.nodes.now.items; new = ys }) (Restart c.args.node) Restarted) (sym r.now)
+    (step_set chosen g.N.Node (λ _. Unit {0}) c.args.nodes.now.items c.in-Some.at r.before r.after c.args.node
     (Restart c.args.node) Restarted lt r.was c.in-Some.ensures.found.0 refl r.was_clean
     (λ w y s at clean in_state. record { up = true; history = y.history; happens = rw at (inl (refl, refl)); in_state = r.holds.2 y.up y.history clean in_state }))
 
@@ -25,8 +25,8 @@ pub returns-in-Err-clause-step : goal.returns-in-Err-clause-step
 returns-in-Err-clause-step g c = λ chosen.
     let lt : c.in-Some.at < length c.args.nodes.now.items = omega (arith, c.in-Some.ensures.found.1, c.len.ensures) in
     let r = c.in-Err.ensures in
-    subst (λ (ys : List _). IsNodeStep chosen g.N.Node.clean g.N.Node.has_state (λ _. Unit {0}) c.args.nodes.now.items ys (Restart c.args.node) (IsDown c.in-Err.cause)) (sym r.now)
-    (step_set chosen g.N.Node.clean g.N.Node.has_state (λ _. Unit {0}) c.args.nodes.now.items c.in-Some.at r.before r.after c.args.node (Restart c.args.node)
+    subst (λ (ys : List _). IsNodeStep chosen g.N.Node (λ _. Unit {0}) (record { old = c.args.nodes.now.items; new = ys }) (Restart c.args.node) (IsDown c.in-Err.cause)) (sym r.now)
+    (step_set chosen g.N.Node (λ _. Unit {0}) c.args.nodes.now.items c.in-Some.at r.before r.after c.args.node (Restart c.args.node)
     (IsDown c.in-Err.cause) lt r.was c.in-Some.ensures.found.0 refl r.was_clean
     (λ w y s at clean in_state.
     (let t = r.holds.2 y.up y.history clean in_state in record { up = false; history = y.history; happens = rw at (inr (c.in-Err.cause, t.0, refl, refl)); in_state = t.1 })))

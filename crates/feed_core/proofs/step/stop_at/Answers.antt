@@ -9,7 +9,7 @@ use Rattle.feed_core.proofs.step.stop_at.Goals as goal
 
 pub returns-in-Err-clause-step : goal.returns-in-Err-clause-step
 returns-in-Err-clause-step g c = λ chosen sent.
-    away_stopped chosen g.N.Node.clean g.N.Node.has_state c.args.nodes.now.items c.args.point c.args.node sent c.args.arrived c.in-Err.why
+    away_stopped chosen g.N.Node c.args.nodes.now.items c.args.point c.args.node sent c.args.arrived c.in-Err.why
     (rw c.deref.ensures.value at c.in-Err.ensures.away)
 
 pub returns-in-Err-clause-account : goal.returns-in-Err-clause-account
@@ -21,9 +21,9 @@ pub returns-in-Ok-stop_node-clause-step : goal.returns-in-Ok-stop_node-clause-st
 returns-in-Ok-stop_node-clause-step g c = λ chosen sent.
     let ready = rw c.deref.ensures.value at c.in-Ok.ensures.ready in
     let r = c.in-Ok-stop_node.ensures in
-    subst (λ (ys : List _). IsNodeStep chosen g.N.Node.clean g.N.Node.has_state (λ (z : Shelf). arriving z sent ≡ shown_arrived c.args.arrived) c.args.nodes.now.items ys
+    subst (λ (ys : List _). IsNodeStep chosen g.N.Node (λ (z : Shelf). arriving z sent ≡ shown_arrived c.args.arrived) (record { old = c.args.nodes.now.items; new = ys })
     (stop_event c.args.point c.args.node sent) Stopped) (sym r.now)
-    (step_ready chosen g.N.Node.clean g.N.Node.has_state (λ (z : Shelf). arriving z sent ≡ shown_arrived c.args.arrived) c.args.nodes.now.items c.in-Ok.ready.0 r.before r.after c.args.node
+    (step_ready chosen g.N.Node (λ (z : Shelf). arriving z sent ≡ shown_arrived c.args.arrived) c.args.nodes.now.items c.in-Ok.ready.0 r.before r.after c.args.node
     (stop_event c.args.point c.args.node sent) Stopped ready.0 r.was (stop_at_node c.args.point c.args.node sent) r.was_clean
     (λ w y s at up k in_state.
     stop_shown g.N.Node.has_state (λ (z : Shelf). arriving z sent ≡ shown_arrived c.args.arrived) c.args.point c.args.node r.before r.after sent (event_of c.in-Ok.ready.1) w y at up
@@ -33,9 +33,9 @@ pub returns-in-Err-stop_node-clause-step : goal.returns-in-Err-stop_node-clause-
 returns-in-Err-stop_node-clause-step g c = λ chosen sent.
     let ready = rw c.deref.ensures.value at c.in-Ok.ensures.ready in
     let r = c.in-Err-stop_node.ensures in
-    subst (λ (ys : List _). IsNodeStep chosen g.N.Node.clean g.N.Node.has_state (λ (z : Shelf). arriving z sent ≡ shown_arrived c.args.arrived) c.args.nodes.now.items ys
+    subst (λ (ys : List _). IsNodeStep chosen g.N.Node (λ (z : Shelf). arriving z sent ≡ shown_arrived c.args.arrived) (record { old = c.args.nodes.now.items; new = ys })
     (stop_event c.args.point c.args.node sent) (IsDown c.in-Err-stop_node.cause)) (sym r.now)
-    (step_ready chosen g.N.Node.clean g.N.Node.has_state (λ (z : Shelf). arriving z sent ≡ shown_arrived c.args.arrived) c.args.nodes.now.items c.in-Ok.ready.0 r.before r.after c.args.node
+    (step_ready chosen g.N.Node (λ (z : Shelf). arriving z sent ≡ shown_arrived c.args.arrived) c.args.nodes.now.items c.in-Ok.ready.0 r.before r.after c.args.node
     (stop_event c.args.point c.args.node sent) (IsDown c.in-Err-stop_node.cause) ready.0 r.was (stop_at_node c.args.point c.args.node sent) r.was_clean
     (λ w y s at up k in_state.
     stop_fails g.N.Node.has_state (λ (z : Shelf). arriving z sent ≡ shown_arrived c.args.arrived) c.args.point c.args.node r.before r.after sent c.in-Err-stop_node.cause

@@ -11,7 +11,7 @@ use Rattle.feed_core.proofs.step.tell_at.Goals as goal
 
 pub returns-in-Err-clause-step : goal.returns-in-Err-clause-step
 returns-in-Err-clause-step g c = λ chosen sent.
-    away_sent chosen g.N.Node.clean g.N.Node.has_state c.args.nodes.now.items c.args.node sent c.args.arrived c.in-Err.why (Tell c.args.node sent)
+    away_sent chosen g.N.Node c.args.nodes.now.items c.args.node sent c.args.arrived c.in-Err.why (Tell c.args.node sent)
     (λ w line v x e. (answer : Answer) × IsRight x.history e answer × (line ≡ answer_line answer) × (v ≡ with_node w c.args.node true ((e, answer) ∷ x.history))) refl (λ w line v h. h)
     (rw c.deref.ensures.value at c.in-Err.ensures.away)
 
@@ -23,7 +23,7 @@ returns-in-Err-clause-account g c = λ other sent.
 pub returns-in-Ok-handle-clause-step : goal.returns-in-Ok-handle-clause-step
 returns-in-Ok-handle-clause-step g c = λ chosen sent.
     let ready = rw c.deref.ensures.value at c.in-Ok.ensures.ready in
-    step_ready chosen g.N.Node.clean g.N.Node.has_state
+    step_ready chosen g.N.Node
     (λ (z : Shelf). arriving z sent ≡ shown_arrived c.args.arrived) c.args.nodes.now.items c.in-Ok.ready.0 c.index_mut.result.now c.handle.new.self c.args.node (Tell c.args.node sent)
     (Replied c.in-Ok-handle.reply) ready.0 c.index_mut.ensures.value refl c.in-Ok-handle.ensures.clean
     (λ w y s at up k in_state. (let r = c.in-Ok-handle.ensures.right y.history in_state in record {
@@ -37,7 +37,7 @@ returns-in-Ok-handle-clause-step g c = λ chosen sent.
 pub returns-in-Err-handle-clause-step : goal.returns-in-Err-handle-clause-step
 returns-in-Err-handle-clause-step g c = λ chosen sent.
     let ready = rw c.deref.ensures.value at c.in-Ok.ensures.ready in
-    step_ready chosen g.N.Node.clean g.N.Node.has_state
+    step_ready chosen g.N.Node
     (λ (z : Shelf). arriving z sent ≡ shown_arrived c.args.arrived) c.args.nodes.now.items c.in-Ok.ready.0 c.index_mut.result.now c.handle.new.self c.args.node (Tell c.args.node sent)
     (Refused (Feed c.in-Err-handle.refusal)) ready.0 c.index_mut.ensures.value refl c.in-Err-handle.ensures.clean
     (λ w y s at up k in_state. (let r = c.in-Err-handle.ensures.right y.history in_state in record {

@@ -18,7 +18,7 @@ loop-event-init g c = record {
 
 pub loop-event-preserved : goal.loop-event-preserved
 loop-event-preserved g c = record {
-  shown = λ chosen. has_more chosen g.N.Node.clean g.N.Node.has_state shown_event shown_line
+  shown = λ chosen. has_more chosen g.N.Node shown_event shown_line
       (vec_len c.args.nodes) c.args.events.now c.loop-event.lines.items c.push.new.self.items c.loop-event.event-index c.event-item.result c.in_ok-line.line
       (record { files = c.loop-event.shelf.files.entries; nodes = c.loop-event.nodes.items }) (record { files = c.show.new.shelf.files.entries; nodes = c.show.new.nodes.items }) c.event-item.is
       c.loop-event-test.true c.loop-event.invariant.lines c.in_ok-push.ensures.items (c.loop-event.invariant.shown chosen)
