@@ -1,7 +1,8 @@
 -- The reply of a node to a request.
-use Rattle.std.specs.Prelude.{◌≡◌, ◌⊎◌, ℕ, Bool, true, if◌then◌else◌, List, None}
+use Rattle.std.specs.Prelude.{◌≡◌, ◌⊎◌, ℕ, Bool, true, false, if◌then◌else◌, List, None}
 use Rattle.std.specs.Option.{option_map_or}
 use Rattle.httparse.specs.Grammar.{RequestHead}
+use Rattle.feed_http_heads.specs.Options.{SaysWhetherItKeeps}
 use Rattle.feed_http_heads.specs.Requests.{lacks_host}
 use Rattle.feed_model.specs.History.{History}
 use Rattle.feed_releases.specs.Actives.{ActiveValue, AreReported}
@@ -42,3 +43,8 @@ AsksForNoFetch bytes = (head : RequestHead) → BeginsWith bytes head → (lacks
 -- a reply of a node as a client parses it: like that of a resolver, or the beginning of one that reports progress
 abbrev pub IsNodeMessage : List ℕ → Bool → ResponseValue → Type 0
 IsNodeMessage bytes keeps response = IsMessageTo bytes keeps response ⊎ BeginsStream response
+
+-- the reply says whether the connection is kept; one that reports progress says that it is closed, since it ends with it
+abbrev pub SaysOfConnection : Bool → ResponseValue → Type 0
+SaysOfConnection keeps response =
+    SaysWhetherItKeeps keeps response.bytes ⊎ (BeginsStream response × SaysWhetherItKeeps false response.bytes)

@@ -8,7 +8,7 @@ ghost use Rattle.feed_releases.specs.Actives.{actives_of};
 ghost use Rattle.feed_releases.specs.Feeds.{recorded, releases_of};
 ghost use Rattle.feed_resolver_reply.specs.Messages.{IsMessageFor, BeginsStream};
 ghost use Rattle.feed_resolver.specs.NodeReplies.{node_reply, IsNodeReply, IsNodeReplyText};
-ghost use Rattle.feed_resolver.specs.NodeReplies.{IsNodeReplyAt, IsNodeMessage};
+ghost use Rattle.feed_resolver.specs.NodeReplies.{IsNodeReplyAt, IsNodeMessage, SaysOfConnection};
 
 use crate::responses::response_to;
 use feed_http_heads::{FIELD_LIMIT, Request};
@@ -51,6 +51,7 @@ fn node_reply_with(
     ensures value { IfOk result (λ response. IsNodeReply policy.now bytes.now keeps actives.now response) }
     ensures text { IfOk result (λ response. IsNodeReplyText policy.now bytes.now keeps actives.now response.bytes) }
     ensures message { IfOk result (λ response. IsNodeMessage bytes.now keeps response) }
+    ensures says { IfOk result (λ response. SaysOfConnection keeps response) }
 {
     let mut headers = [EMPTY_HEADER_SPAN; FIELD_LIMIT];
     match find_request(bytes, &mut headers) {
@@ -82,6 +83,7 @@ pub fn respond_as_node<K: Keep + Drop>(
     ensures reported { IfOk result (λ response. (h : History) → IsContent (recorded feed.now) h
         → IsNodeReplyAt policy.now h bytes.now keeps response) }
     ensures message { IfOk result (λ response. IsNodeMessage bytes.now keeps response) }
+    ensures says { IfOk result (λ response. SaysOfConnection keeps response) }
 {
     let actives = feed.actives()?;
     node_reply_with(alloc, bytes, keeps, policy, &actives)

@@ -1,6 +1,7 @@
 //! Computes the reply to the head of a request.
 ghost use Rattle.std.specs.Prelude.{◌≡◌, IfOk, position};
 ghost use Rattle.httparse.specs.Grammar.{RequestHead};
+ghost use Rattle.feed_http_heads.specs.Options.{SaysWhetherItKeeps};
 ghost use Rattle.feed_http_heads.specs.Requests.{IsInBuffer, HasHead, is_head};
 ghost use Rattle.feed_releases.specs.Actives.{actives_of};
 ghost use Rattle.feed_model.specs.History.{History};
@@ -227,6 +228,7 @@ pub fn respond_with(
 ) -> Result<Response, AllocError>
     ensures value { IfOk result (λ response. IsResponse bytes.now keeps actives.now response) }
     ensures message { IfOk result (λ response. IsMessageTo bytes.now keeps response) }
+    ensures says { IfOk result (λ response. SaysWhetherItKeeps keeps response.bytes) }
 {
     let mut headers = [EMPTY_HEADER_SPAN; FIELD_LIMIT];
     match find_request(bytes, &mut headers) {
@@ -258,6 +260,7 @@ pub fn respond<K: Keep + Drop>(
     // A client parses it as one head, and the body of the length that this states; the reply to a HEAD has no body. The
     // head has one Connection field, `close`, or none if the connection is kept.
     ensures message { IfOk result (λ response. IsMessageTo bytes.now keeps response) }
+    ensures says { IfOk result (λ response. SaysWhetherItKeeps keeps response.bytes) }
 {
     let actives = feed.actives()?;
     respond_with(alloc, bytes, keeps, &actives)

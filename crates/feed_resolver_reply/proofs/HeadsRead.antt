@@ -16,10 +16,12 @@ use Rattle.httparse.proofs.OnLiterals.{httparse_on_literals}
 use Rattle.httparse.proofs.TrimLemmas.{trim_ows_space, AllPass-reverse}
 use Rattle.feed_range.proofs.Digits.{numerals}
 use Rattle.feed_http_heads.specs.Fields.{values_named, only}
+use Rattle.feed_http_heads.specs.Options.{lists, lacks_close, SaysWhetherItKeeps}
 use Rattle.feed_resolver_request.specs.declared.representation.Representation.{Representation}
 use Rattle.feed_resolver_request.specs.declared.representation.Representation.TheVariants.{Text, Json, Html}
-use Rattle.feed_resolver_reply.specs.Replies.{ReplyValue, status_code, reason_text, status_line, status_field, type_text, connection_field, reply_head, reply_body, response_of}
-use Rattle.feed_resolver_reply.specs.Messages.{EndsInCrlf, IsSentHead, IsMessage, IsHeadOf, IsSentAs, IsSendable, StatesLength, IsMessageFor, BeginsStream, StatesConnection, connection_values, value_in, locations}
+use Rattle.feed_resolver_reply.specs.Replies.{ReplyValue, ResponseValue, status_code, reason_text, status_line, status_field, type_text, connection_field, reply_head, reply_body, response_of}
+use Rattle.feed_resolver_reply.specs.Messages.{EndsInCrlf, IsSentHead, IsMessage, IsHeadOf, IsSentAs, IsSendable, StatesLength, IsMessageFor, BeginsStream, value_in, locations}
+use Rattle.feed_resolver_reply.specs.Messages.{StatesConnection, connection_values}
 use Rattle.feed_resolver_reply.specs.Pieces.{joined}
 use Rattle.feed_resolver_reply.specs.declared.reply.TheConstants.{LAST_FIELDS}
 use Rattle.feed_resolver_reply.specs.FetchReplies.{progress_head, progress_response}
@@ -380,3 +382,19 @@ begins_stream = record {
 
 pub stream_of : (bytes : List ℕ) → bytes ≡ progress_head → BeginsStream (record { bytes = bytes; status = 200; body_length = 0 })
 stream_of bytes made = rw made begins_stream
+
+-- ---- what a reply says of its connection
+
+says_by_values : (keeps : Bool) → list_all (λ value. not (lists (codes "close") value)) (connection_values keeps) ≡ keeps
+unfolding httparse_on_literals
+says_by_values true = refl
+says_by_values false = refl
+
+says_by : (keeps : Bool) (head : ResponseHead) → StatesConnection head keeps → lacks_close head.fields ≡ keeps
+says_by keeps head states = ap (list_all (λ value. not (lists (codes "close") value))) states ∙ says_by_values keeps
+
+pub message_says : (keeps head_alone : Bool) (response : ResponseValue) → IsMessageFor keeps head_alone response → SaysWhetherItKeeps keeps response.bytes
+message_says keeps head_alone response is = record { head = is.head; rest = is.body; reads = is.message.reads; says = says_by keeps is.head is.connection }
+
+pub stream_says : (response : ResponseValue) → BeginsStream response → SaysWhetherItKeeps false response.bytes
+stream_says response is = record { head = is.head; rest = []; reads = is.message.reads; says = says_by false is.head is.connection }
