@@ -3,6 +3,7 @@ pub mod Reads
 pub mod RequestHeads
 pub mod HeadEnds
 pub mod Fields
+pub mod Options
 pub mod Requests
 pub mod Targets
 pub mod ReplyHeads

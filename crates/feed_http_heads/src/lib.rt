@@ -6,6 +6,7 @@ mod fields;
 mod head_ends;
 mod http_fault;
 mod limits;
+mod options;
 mod reads;
 mod reply_head;
 mod request;

@@ -27,9 +27,9 @@ pub struct FeedResponder<'a, K: Keep + Drop> {
 impl<'a, K: Keep + Drop> FeedResponder<'a, K> {
     // Returns the reply. A reply is streamed exactly if the request makes the node begin to fetch.
     fn reply(&self, alloc: Global, bytes: &[u8]) -> Result<Reply, RespondFault>
-        ensures text { IfOk result (λ reply. IsNodeReplyText (policy_of self.now) bytes.now
+        ensures text { IfOk result (λ reply. IsNodeReplyText (policy_of self.now) bytes.now false
             (actives_of (releases_of self.now.feed.now)) reply.bytes.items) }
-        ensures value { IfOk result (λ reply. IsNodeReply (policy_of self.now) bytes.now
+        ensures value { IfOk result (λ reply. IsNodeReply (policy_of self.now) bytes.now false
             (actives_of (releases_of self.now.feed.now)) (response_in reply)) }
         ensures streamed { IfOk result (λ reply. IsWhetherToBegin (policy_of self.now) bytes.now
             reply.summary.is_streamed) }
@@ -46,7 +46,7 @@ impl<'a, K: Keep + Drop> FeedResponder<'a, K> {
                 return Err(RespondFault::Busy);
             }
         }
-        let response = respond_as_node(alloc, bytes, &policy, self.feed)?;
+        let response = respond_as_node(alloc, bytes, false, &policy, self.feed)?;
         if !self.state.reserve_bytes(response.bytes().len()) {
             return Err(RespondFault::Busy);
         }
@@ -69,7 +69,7 @@ impl<'a, K: Keep + Drop> Respond for FeedResponder<'a, K> {
     ghost use Rattle.feed_resolver.specs.NodeReplies.{IsNodeReplyText};
     ghost use Rattle.feed_node_service.specs.Responders.{policy_of};
 
-    ghost replies = { λ responder bytes reply. IsNodeReplyText (policy_of responder) bytes
+    ghost replies = { λ responder bytes reply. IsNodeReplyText (policy_of responder) bytes false
         (actives_of (releases_of responder.feed.now)) reply };
 
     fn respond(&self, alloc: Global, bytes: &[u8]) -> Result<Reply, RespondFault> {

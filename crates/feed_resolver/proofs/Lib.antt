@@ -1,3 +1,4 @@
+pub mod Connections
 pub mod Locations
 pub mod Requests
 pub mod Resources

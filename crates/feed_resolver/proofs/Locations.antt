@@ -1,6 +1,6 @@
 -- The location of a reply can be stated in its head.
 use Rattle.std.proofs.Common.{◌≡◌, ℕ, List, [], Bool, true, false, Option, Some, None, Result, Ok, Err, All, refl, arith}
-use Rattle.std.specs.Prelude.{if◌then◌else◌, ◌&&◌, ◌||◌, not, position, codes}
+use Rattle.std.specs.Prelude.{if◌then◌else◌, ◌&&◌, ◌||◌, not, position, codes, nat_le, length}
 use Rattle.std.specs.List.{list_all}
 use Rattle.std.specs.Option.{option_map_or}
 use Rattle.std.proofs.lemmas.Bool.Decides.{nat_tests}
@@ -22,7 +22,7 @@ use Rattle.feed_resolver_request.specs.declared.target.Resource.TheVariants as r
 use Rattle.feed_resolver_reply.specs.Replies.{ReplyValue, refusal, redirect_to}
 use Rattle.feed_resolver_reply.specs.Messages.{IsLocation}
 use Rattle.feed_resolver_reply.specs.declared.status.Status.TheVariants as status
-use Rattle.feed_resolver_hits.specs.Links.{is_link, is_visible, begins_with}
+use Rattle.feed_resolver_hits.specs.Links.{is_link, link_limit, is_visible, begins_with}
 use Rattle.feed_resolver_hits.specs.Hits.{best_link}
 use Rattle.feed_resolver_hits.proofs.Redirects.{best_is}
 use Rattle.feed_resolver.specs.Answers.{is_of, hits_among}
@@ -40,7 +40,9 @@ visible_byte b visible = grind (arith, nat_tests)
 
 pub link_location : (url : List ℕ) → is_link url ≡ true → IsLocation url
 link_location url link = All-weaker (λ b. is_visible b ≡ true) (λ b. is_uri_byte b ≡ true) visible_byte url
-    (AllPass-from_list_all is_visible url (second (begins_with (codes "http://") url || begins_with (codes "https://") url) (list_all is_visible url) link))
+    (AllPass-from_list_all is_visible url
+    (second (begins_with (codes "http://") url || begins_with (codes "https://") url) (list_all is_visible url)
+    (second (nat_le (length url) link_limit) ((begins_with (codes "http://") url || begins_with (codes "https://") url) && list_all is_visible url) link)))
 
 abbrev IsLocated : ReplyValue → Type 0
 IsLocated reply = IsLocation reply.location

@@ -36,9 +36,9 @@ use Rattle.feed_resolver.proofs.Locations.{reply_located, link_location}
 use Rattle.feed_resolver.proofs.SameBytes.{one_reply}
 
 -- the reply to a request with this head
-reply_at : (bytes : List ℕ) (actives : List ActiveValue) (head : RequestHead) (response : ResponseValue) → BeginsWith bytes head → IsResponse bytes actives response
-    → response ≡ response_to head actives
-reply_at bytes actives head response begins is = one_reply bytes actives response (response_to head actives) is (inl (head, begins, refl))
+reply_at : (keeps : Bool) (bytes : List ℕ) (actives : List ActiveValue) (head : RequestHead) (response : ResponseValue) → BeginsWith bytes head → IsResponse bytes keeps actives response
+    → response ≡ response_to keeps head actives
+reply_at keeps bytes actives head response begins is = one_reply keeps bytes actives response (response_to keeps head actives) is (inl (head, begins, refl))
 
 -- ---- the first case that holds
 
@@ -94,16 +94,16 @@ same_reply head actives is =
     ∙ sym (read_reply head actives (or_true (is_get head) (is_head head) is))
 
 pub head_alone : HeadIsHeadOfGet
-head_alone actives bytes asked head response reply is begins also one other small =
+head_alone keeps actives bytes asked head response reply is begins also one other small =
     let r : ReplyValue = reply_to head actives in
-    let short : response ≡ response_of true r = reply_at bytes actives head response begins one ∙ ap (λ b. response_of b r) is in
-    let long : reply ≡ response_of false r = reply_at asked actives (as_get head) reply also other ∙ ap (response_of false) (same_reply head actives is) in
+    let short : response ≡ response_of keeps true r = reply_at keeps bytes actives head response begins one ∙ ap (λ b. response_of keeps b r) is in
+    let long : reply ≡ response_of keeps false r = reply_at keeps asked actives (as_get head) reply also other ∙ ap (response_of keeps false) (same_reply head actives is) in
     let sized : length r.body < 2 ^ 64 = subst (λ (v : ResponseValue). v.body_length < 2 ^ 64) long small in
-    let sent : IsSentAs r (head_of r) = sent_as r (record { location = reply_located head actives; size = sized }) in (
-      head_of r,
+    let sent : IsSentAs keeps r (head_of keeps r) = sent_as keeps r (record { location = reply_located head actives; size = sized }) in (
+      head_of keeps r,
       r.body,
-      subst (λ (v : ResponseValue). IsMessage v (head_of r) r.body) (sym long) sent.whole,
-      subst (λ (v : ResponseValue). IsMessage v (head_of r) []) (sym short) sent.alone,
+      subst (λ (v : ResponseValue). IsMessage v (head_of keeps r) r.body) (sym long) sent.whole,
+      subst (λ (v : ResponseValue). IsMessage v (head_of keeps r) []) (sym short) sent.alone,
     )
 
 -- ---- /go
@@ -116,27 +116,27 @@ go_reply head query actives asks =
     ∙ ap (λ r. resource_reply r head (origin_form head.target) actives) asks.resource
     ∙ ap (λ q. query_reply (accepted_representation head) (redirect_reply (accepted_representation head) actives) q) asks.asked
 
-redirect_sent : (url : List ℕ) → is_link url ≡ true → IsSentAs (redirect_to url) (head_of (redirect_to url))
-redirect_sent url link = sent_as (redirect_to url) (record { location = link_location url link; size = lit< tt })
+redirect_sent : (keeps : Bool) (url : List ℕ) → is_link url ≡ true → IsSentAs keeps (redirect_to url) (head_of keeps (redirect_to url))
+redirect_sent keeps url link = sent_as keeps (redirect_to url) (record { location = link_location url link; size = lit< tt })
 
-redirected : (alone : Bool) (url : List ℕ) → is_link url ≡ true
-    → (head : ResponseHead) × IsMessage (response_of alone (redirect_to url)) head [] × (values_named (codes "location") head.fields ≡ url ∷ [])
-redirected true url link = let sent = redirect_sent url link in (head_of (redirect_to url), sent.alone, sent.states.location)
-redirected false url link = let sent = redirect_sent url link in (head_of (redirect_to url), sent.whole, sent.states.location)
+redirected : (keeps alone : Bool) (url : List ℕ) → is_link url ≡ true
+    → (head : ResponseHead) × IsMessage (response_of keeps alone (redirect_to url)) head [] × (values_named (codes "location") head.fields ≡ url ∷ [])
+redirected keeps true url link = let sent = redirect_sent keeps url link in (head_of keeps (redirect_to url), sent.alone, sent.states.location)
+redirected keeps false url link = let sent = redirect_sent keeps url link in (head_of keeps (redirect_to url), sent.whole, sent.states.location)
 
-goes : (alone : Bool) (hits : List ReleaseHitValue) (o : Option (List ℕ)) (other : ReplyValue) → IsBestLink hits o → other.status ≡ status.NotFound
-    → GoesTo o (response_of alone (option_map_or redirect_to o other))
-goes alone hits None other best is = ap status_code is
-goes alone hits (Some url) other best is = (refl, redirected alone url (ap is_link best.3 ∙ best.2.link))
+goes : (keeps alone : Bool) (hits : List ReleaseHitValue) (o : Option (List ℕ)) (other : ReplyValue) → IsBestLink hits o → other.status ≡ status.NotFound
+    → GoesTo o (response_of keeps alone (option_map_or redirect_to o other))
+goes keeps alone hits None other best is = ap status_code is
+goes keeps alone hits (Some url) other best is = (refl, redirected keeps alone url (ap is_link best.3 ∙ best.2.link))
 
 pub goes_to_best : GoesToBest
-goes_to_best actives bytes head query response begins asks is =
+goes_to_best keeps actives bytes head query response begins asks is =
     let hits = hits_among query actives in
     let other : ReplyValue = hits_reply status.NotFound (accepted_representation head) actives query in
     let best : IsBestLink hits (best_link hits) = links.best_is hits in
-    let same : response ≡ response_of (is_head head) (option_map_or redirect_to (best_link hits) other) =
-    reply_at bytes actives head response begins is ∙ ap (response_of (is_head head)) (go_reply head query actives asks) in
-    (best_link hits, best, subst (λ (v : ResponseValue). GoesTo (best_link hits) v) (sym same) (goes (is_head head) hits (best_link hits) other best refl))
+    let same : response ≡ response_of keeps (is_head head) (option_map_or redirect_to (best_link hits) other) =
+    reply_at keeps bytes actives head response begins is ∙ ap (response_of keeps (is_head head)) (go_reply head query actives asks) in
+    (best_link hits, best, subst (λ (v : ResponseValue). GoesTo (best_link hits) v) (sym same) (goes keeps (is_head head) hits (best_link hits) other best refl))
 
 -- ---- nodes
 
@@ -147,15 +147,15 @@ plain_chosen false None fetch plain other = refl
 plain_chosen false (Some name) fetch plain (inl e) = absurd (cc)
 plain_chosen false (Some name) fetch plain (inr e) = absurd (cc)
 
-resolves : (policy : FetchPolicyValue) (actives : List ActiveValue) (head : RequestHead) → (lacks_host head ≡ true) ⊎ (name_to_fetch head ≡ None)
-    → node_reply policy actives head ≡ response_to head actives
-resolves policy actives head other = plain_chosen (lacks_host head) (name_to_fetch head) (fetch_reply policy head) (response_to head actives) other
+resolves : (policy : FetchPolicyValue) (keeps : Bool) (actives : List ActiveValue) (head : RequestHead) → (lacks_host head ≡ true) ⊎ (name_to_fetch head ≡ None)
+    → node_reply policy keeps actives head ≡ response_to keeps head actives
+resolves policy keeps actives head other = plain_chosen (lacks_host head) (name_to_fetch head) (fetch_reply policy keeps head) (response_to keeps head actives) other
 
 -- a node replies as a resolver to a request that does not ask it to fetch
-pub as_resolver : (policy : FetchPolicyValue) (bytes : List ℕ) (actives : List ActiveValue) (response : ResponseValue) → AsksForNoFetch bytes → IsNodeReply policy bytes actives response
-    → IsResponse bytes actives response
-as_resolver policy bytes actives response plain (inl (head, begins, is)) = inl (head, begins, is ∙ resolves policy actives head (plain head begins))
-as_resolver policy bytes actives response plain (inr none) = inr none
+pub as_resolver : (policy : FetchPolicyValue) (bytes : List ℕ) (keeps : Bool) (actives : List ActiveValue) (response : ResponseValue) → AsksForNoFetch bytes
+    → IsNodeReply policy bytes keeps actives response → IsResponse bytes keeps actives response
+as_resolver policy bytes keeps actives response plain (inl (head, begins, is)) = inl (head, begins, is ∙ resolves policy keeps actives head (plain head begins))
+as_resolver policy bytes keeps actives response plain (inr none) = inr none
 
 only_then : (b : Bool) (o : Option (List ℕ)) (text : List ℕ) → (if b then o else None) ≡ Some text → b ≡ true
 only_then true o text e = refl
@@ -168,7 +168,7 @@ post_not_head head text named =
     ap (λ m. bytes_eq m (codes "HEAD")) ((bytes_decides head.method (codes "POST")).0 post)
 
 -- the reply to such a request
-pub fetch_message : (head : RequestHead) (text : List ℕ) (response : ResponseValue) → name_to_fetch head ≡ Some text → IsFetchMessage response
-    → IsMessageFor (is_head head) response ⊎ BeginsStream response
-fetch_message head text response named (inl message) = inl (subst (λ (b : Bool). IsMessageFor b response) (sym (post_not_head head text named)) message)
-fetch_message head text response named (inr begins) = inr begins
+pub fetch_message : (keeps : Bool) (head : RequestHead) (text : List ℕ) (response : ResponseValue) → name_to_fetch head ≡ Some text → IsFetchMessage keeps response
+    → IsMessageFor keeps (is_head head) response ⊎ BeginsStream response
+fetch_message keeps head text response named (inl message) = inl (subst (λ (b : Bool). IsMessageFor keeps b response) (sym (post_not_head head text named)) message)
+fetch_message keeps head text response named (inr begins) = inr begins

@@ -16,11 +16,12 @@ use Rattle.feed_resolver_hits.specs.Ranks.{IsBestLink}
 use Rattle.feed_resolver.specs.Answers.{hits_among}
 use Rattle.feed_resolver.specs.Replies.{IsResponse, has_coded_body}
 
--- the response to these bytes is one head, and then the body of which it states the length, or nothing if the bytes
--- are a HEAD
-abbrev pub IsMessageTo : List ℕ → ResponseValue → Type 0
-IsMessageTo bytes response =
-    ((head : RequestHead) × BeginsWith bytes head × IsMessageFor (is_head head) response) ⊎ (HasNoHead bytes × IsMessageFor false response)
+-- the response to these bytes is one head and a body whose length the head states, or the head alone if the bytes begin
+-- with a HEAD; the head announces that the connection is closed exactly if it is not kept
+abbrev pub IsMessageTo : List ℕ → Bool → ResponseValue → Type 0
+IsMessageTo bytes keeps response =
+    ((head : RequestHead) × BeginsWith bytes head × IsMessageFor keeps (is_head head) response)
+    ⊎ (HasNoHead bytes × IsMessageFor keeps false response)
 
 -- the same head with the method GET
 abbrev pub as_get : RequestHead → RequestHead
@@ -41,9 +42,9 @@ IsHeadAlone response other = (head : ResponseHead) × (body : List ℕ) × IsMes
 -- the reply to a HEAD is the head of the reply to the same request with the method GET
 abbrev pub HeadIsHeadOfGet : Type 0
 HeadIsHeadOfGet =
-    (actives : List ActiveValue) (bytes asked : List ℕ) (head : RequestHead) (response reply : ResponseValue)
+    (keeps : Bool) (actives : List ActiveValue) (bytes asked : List ℕ) (head : RequestHead) (response reply : ResponseValue)
     → is_head head ≡ true → BeginsWith bytes head → BeginsWith asked (as_get head)
-    → IsResponse bytes actives response → IsResponse asked actives reply → reply.body_length < 2 ^ 64
+    → IsResponse bytes keeps actives response → IsResponse asked keeps actives reply → reply.body_length < 2 ^ 64
     → IsHeadAlone response reply
 
 -- the request is one of `/go` with this query
@@ -63,6 +64,6 @@ GoesTo (Some url) response =
 -- `/go` redirects to a hit above which no hit ranks that may be linked to
 abbrev pub GoesToBest : Type 0
 GoesToBest =
-    (actives : List ActiveValue) (bytes : List ℕ) (head : RequestHead) (query : QueryValue) (response : ResponseValue)
-    → BeginsWith bytes head → AsksToGo head query → IsResponse bytes actives response
+    (keeps : Bool) (actives : List ActiveValue) (bytes : List ℕ) (head : RequestHead) (query : QueryValue) (response : ResponseValue)
+    → BeginsWith bytes head → AsksToGo head query → IsResponse bytes keeps actives response
     → (best : Option (List ℕ)) × IsBestLink (hits_among query actives) best × GoesTo best response

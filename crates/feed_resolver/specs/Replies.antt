@@ -80,23 +80,23 @@ reply_to head actives =
     else (if has_coded_body head then refusal status.NotImplemented Text (codes "Coding")
     else target_reply head actives)))
 
--- the reply to a request with this head, and its bytes
-abbrev pub response_to : RequestHead → List ActiveValue → ResponseValue
-response_to head actives = response_of (is_head head) (reply_to head actives)
+-- the reply to a request with this head, and its bytes, on a connection that is kept or not
+abbrev pub response_to : Bool → RequestHead → List ActiveValue → ResponseValue
+response_to keeps head actives = response_of keeps (is_head head) (reply_to head actives)
 
 -- the reply to the head at the front of the bytes, within the limits
-abbrev pub IsReplyToHead : List ℕ → List ActiveValue → ResponseValue → Type 0
-IsReplyToHead bytes actives response =
-    (head : RequestHead) × BeginsWith bytes head × (response ≡ response_to head actives)
+abbrev pub IsReplyToHead : List ℕ → Bool → List ActiveValue → ResponseValue → Type 0
+IsReplyToHead bytes keeps actives response =
+    (head : RequestHead) × BeginsWith bytes head × (response ≡ response_to keeps head actives)
 
 -- the reply if the bytes have no such head
-abbrev pub IsReplyToNone : List ℕ → ResponseValue → Type 0
-IsReplyToNone bytes response = HasNoHead bytes × (response ≡ bad_head_response)
+abbrev pub IsReplyToNone : List ℕ → Bool → ResponseValue → Type 0
+IsReplyToNone bytes keeps response = HasNoHead bytes × (response ≡ bad_head_response keeps)
 
--- the reply to the bytes of a request
-abbrev pub IsResponse : List ℕ → List ActiveValue → ResponseValue → Type 0
-IsResponse bytes actives response = IsReplyToHead bytes actives response ⊎ IsReplyToNone bytes response
+-- the reply to the bytes of a request, after which the connection is kept or not
+abbrev pub IsResponse : List ℕ → Bool → List ActiveValue → ResponseValue → Type 0
+IsResponse bytes keeps actives response = IsReplyToHead bytes keeps actives response ⊎ IsReplyToNone bytes keeps response
 
 -- the reply from exactly the releases that a feed with this history reports, with the holdings of their complete files
-abbrev pub IsResponseAt : History → List ℕ → ResponseValue → Type 0
-IsResponseAt h bytes response = (actives : List ActiveValue) × AreReported h actives × IsResponse bytes actives response
+abbrev pub IsResponseAt : History → List ℕ → Bool → ResponseValue → Type 0
+IsResponseAt h bytes keeps response = (actives : List ActiveValue) × AreReported h actives × IsResponse bytes keeps actives response

@@ -8,7 +8,7 @@ ghost use Rattle.feed_releases.specs.Actives.{actives_of};
 ghost use Rattle.feed_releases.specs.Feeds.{recorded, releases_of};
 ghost use Rattle.feed_resolver_reply.specs.Messages.{IsMessageFor, BeginsStream};
 ghost use Rattle.feed_resolver.specs.NodeReplies.{node_reply, IsNodeReply, IsNodeReplyText};
-ghost use Rattle.feed_resolver.specs.NodeReplies.{IsNodeReplyAt, IsNodeMessage};
+ghost use Rattle.feed_resolver.specs.NodeReplies.{IsNodeReplyAt, IsNodeMessage, SaysOfConnection};
 
 use crate::responses::response_to;
 use feed_http_heads::{FIELD_LIMIT, Request};
@@ -23,41 +23,45 @@ fn node_reply(
     alloc: Global,
     policy: &FetchPolicy<'_>,
     request: &Request<'_>,
+    keeps: bool,
     actives: &[ActiveRelease<'_>],
 ) -> Result<Response, AllocError>
     requires { IsInBuffer request.now }
     ensures value { IfOk result (λ response. (head : RequestHead) → HasHead request.now head
-        → response ≡ node_reply policy.now actives.now head) }
+        → response ≡ node_reply policy.now keeps actives.now head) }
     ensures message { IfOk result (λ response. (head : RequestHead) → HasHead request.now head
-        → IsMessageFor (is_head head) response ⊎ BeginsStream response) }
+        → IsMessageFor keeps (is_head head) response ⊎ BeginsStream response) }
 {
     if request.lacks_host() {
-        return response_to(alloc, request, actives);
+        return response_to(alloc, request, keeps, actives);
     }
     match name_to_fetch(request) {
-        Some(_) => fetch_reply(alloc, policy, request),
-        None => response_to(alloc, request, actives),
+        Some(_) => fetch_reply(alloc, policy, keeps, request),
+        None => response_to(alloc, request, keeps, actives),
     }
 }
 
 fn node_reply_with(
     alloc: Global,
     bytes: &[u8],
+    keeps: bool,
     policy: &FetchPolicy<'_>,
     actives: &[ActiveRelease<'_>],
 ) -> Result<Response, AllocError>
-    ensures value { IfOk result (λ response. IsNodeReply policy.now bytes.now actives.now response) }
-    ensures text { IfOk result (λ response. IsNodeReplyText policy.now bytes.now actives.now response.bytes) }
-    ensures message { IfOk result (λ response. IsNodeMessage bytes.now response) }
+    ensures value { IfOk result (λ response. IsNodeReply policy.now bytes.now keeps actives.now response) }
+    ensures text { IfOk result (λ response. IsNodeReplyText policy.now bytes.now keeps actives.now response.bytes) }
+    ensures message { IfOk result (λ response. IsNodeMessage bytes.now keeps response) }
+    ensures says { IfOk result (λ response. SaysOfConnection keeps response) }
 {
     let mut headers = [EMPTY_HEADER_SPAN; FIELD_LIMIT];
     match find_request(bytes, &mut headers) {
-        Some(request) => node_reply(alloc, policy, &request, actives),
-        None => bad_head_response(alloc),
+        Some(request) => node_reply(alloc, policy, &request, keeps, actives),
+        None => bad_head_response(alloc, keeps),
     }
 }
 
 /// Returns the reply of a node to a request: to a fetch request by its authorization, and to any other as `respond`.
+/// A reply that reports progress always says `Connection: close`, since it ends with the connection.
 ///
 /// # Errors
 ///
@@ -65,20 +69,22 @@ fn node_reply_with(
 pub fn respond_as_node<K: Keep + Drop>(
     alloc: Global,
     bytes: &[u8],
+    keeps: bool,
     policy: &FetchPolicy<'_>,
     feed: &Feed<K>,
 ) -> Result<Response, AllocError>
     ensures value { IfOk result (λ response.
-        IsNodeReply policy.now bytes.now (actives_of (releases_of feed.now)) response) }
+        IsNodeReply policy.now bytes.now keeps (actives_of (releases_of feed.now)) response) }
     ensures text { IfOk result (λ response.
-        IsNodeReplyText policy.now bytes.now (actives_of (releases_of feed.now)) response.bytes) }
+        IsNodeReplyText policy.now bytes.now keeps (actives_of (releases_of feed.now)) response.bytes) }
 
     // For every history that the feed may have: from the releases that it reports, with the holdings of their complete
     // files.
     ensures reported { IfOk result (λ response. (h : History) → IsContent (recorded feed.now) h
-        → IsNodeReplyAt policy.now h bytes.now response) }
-    ensures message { IfOk result (λ response. IsNodeMessage bytes.now response) }
+        → IsNodeReplyAt policy.now h bytes.now keeps response) }
+    ensures message { IfOk result (λ response. IsNodeMessage bytes.now keeps response) }
+    ensures says { IfOk result (λ response. SaysOfConnection keeps response) }
 {
     let actives = feed.actives()?;
-    node_reply_with(alloc, bytes, policy, &actives)
+    node_reply_with(alloc, bytes, keeps, policy, &actives)
 }

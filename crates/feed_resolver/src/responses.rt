@@ -1,6 +1,7 @@
 //! Computes the reply to the head of a request.
 ghost use Rattle.std.specs.Prelude.{◌≡◌, IfOk, position};
 ghost use Rattle.httparse.specs.Grammar.{RequestHead};
+ghost use Rattle.feed_http_heads.specs.Options.{SaysWhetherItKeeps};
 ghost use Rattle.feed_http_heads.specs.Requests.{IsInBuffer, HasHead, is_head};
 ghost use Rattle.feed_releases.specs.Actives.{actives_of};
 ghost use Rattle.feed_model.specs.History.{History};
@@ -204,36 +205,41 @@ fn reply_to<'a>(
 pub(crate) fn response_to(
     alloc: Global,
     request: &Request<'_>,
+    keeps: bool,
     actives: &[ActiveRelease<'_>],
 ) -> Result<Response, AllocError>
     requires { IsInBuffer request.now }
     ensures value { IfOk result (λ response. (head : RequestHead) → HasHead request.now head
-        → response ≡ response_to head actives.now) }
+        → response ≡ response_to keeps head actives.now) }
     ensures message { IfOk result (λ response. (head : RequestHead) → HasHead request.now head
-        → IsMessageFor (is_head head) response) }
+        → IsMessageFor keeps (is_head head) response) }
 {
     let reply = reply_to(alloc, request, actives)?;
-    reply.response(alloc, request.is_head())
+    reply.response(alloc, keeps, request.is_head())
 }
 
-/// Returns the reply to the head at the front of the bytes, from the given releases.
+/// Returns the reply to the head at the front of the bytes, from the given releases. The reply says
+/// `Connection: close` exactly if the connection is not kept.
 pub fn respond_with(
     alloc: Global,
     bytes: &[u8],
+    keeps: bool,
     actives: &[ActiveRelease<'_>],
 ) -> Result<Response, AllocError>
-    ensures value { IfOk result (λ response. IsResponse bytes.now actives.now response) }
-    ensures message { IfOk result (λ response. IsMessageTo bytes.now response) }
+    ensures value { IfOk result (λ response. IsResponse bytes.now keeps actives.now response) }
+    ensures message { IfOk result (λ response. IsMessageTo bytes.now keeps response) }
+    ensures says { IfOk result (λ response. SaysWhetherItKeeps keeps response.bytes) }
 {
     let mut headers = [EMPTY_HEADER_SPAN; FIELD_LIMIT];
     match find_request(bytes, &mut headers) {
-        Some(request) => response_to(alloc, &request, actives),
-        None => bad_head_response(alloc),
+        Some(request) => response_to(alloc, &request, keeps, actives),
+        None => bad_head_response(alloc, keeps),
     }
 }
 
 /// Returns the whole reply to a request, whose head is at the front of the bytes. Ignores what follows the head, and
-/// uses only the active releases of the feed. Reads and writes nothing, and stores nothing.
+/// uses only the active releases of the feed. Reads and writes nothing, and stores nothing. The reply says
+/// `Connection: close` exactly if the connection is not kept for another request (RFC 9112, section 9.6).
 ///
 /// # Errors
 ///
@@ -241,18 +247,21 @@ pub fn respond_with(
 pub fn respond<K: Keep + Drop>(
     alloc: Global,
     bytes: &[u8],
+    keeps: bool,
     feed: &Feed<K>,
 ) -> Result<Response, AllocError>
-    ensures value { IfOk result (λ response. IsResponse bytes.now (actives_of (releases_of feed.now)) response) }
+    ensures value { IfOk result (λ response. IsResponse bytes.now keeps (actives_of (releases_of feed.now)) response) }
 
     // For every history that the feed may have: from the releases that it reports, with the holdings of their complete
     // files.
     ensures reported { IfOk result (λ response. (h : History) → IsContent (recorded feed.now) h
-        → IsResponseAt h bytes.now response) }
+        → IsResponseAt h bytes.now keeps response) }
 
-    // A client parses it as one head, and the body of the length that this states; the reply to a HEAD has no body.
-    ensures message { IfOk result (λ response. IsMessageTo bytes.now response) }
+    // A client parses it as one head, and the body of the length that this states; the reply to a HEAD has no body. The
+    // head has one Connection field, `close`, or none if the connection is kept.
+    ensures message { IfOk result (λ response. IsMessageTo bytes.now keeps response) }
+    ensures says { IfOk result (λ response. SaysWhetherItKeeps keeps response.bytes) }
 {
     let actives = feed.actives()?;
-    respond_with(alloc, bytes, &actives)
+    respond_with(alloc, bytes, keeps, &actives)
 }

@@ -37,7 +37,7 @@ linked rank found ranked link = ap (λ r. r && is_link found.hit.row.url) (eq-eq
 some_same : {A : Type 0} → (a b : A) → Some a ≡ Some b → a ≡ b
 some_same {A} a b e = cc
 
--- a hit that is not linked is none of the linked ones
+-- a hit that may not be linked to differs from every hit of the rank that may be
 not_linked : (rank : ℕ) (found other : ReleaseHitValue) → is_linked rank found ≡ false → Some found ≡ Some other → rank_of other.hit.grade ≡ rank
     → is_link other.hit.row.url ≡ true → ⊥
 not_linked rank found other none at ranked link = false≢true (sym none ∙ ap (is_linked rank) (some_same found other at) ∙ linked rank other ranked link)

@@ -6,7 +6,7 @@ use Rattle.feed_resolver_hits.specs.Links.{is_link}
 use Rattle.feed_resolver_hits.specs.Hits.{ReleaseHitValue, best_link}
 use Rattle.feed_resolver_hits.specs.HitsJson.{hits_json, hit_value}
 
--- a redirect goes to a URL of `http` or `https` in visible ASCII
+-- a redirect goes to a URL of `http` or `https` in visible ASCII, within the limit of a link
 abbrev pub RedirectsToLink : Type 0
 RedirectsToLink = (hits : List ReleaseHitValue) (url : List ℕ) → best_link hits ≡ Some url → is_link url ≡ true
 

@@ -11,6 +11,10 @@ begins_with front text = nat_lt (length front) (length text) && str_eq_ignore_as
 abbrev pub is_visible : ℕ → Bool
 is_visible b = nat_le 33 b && nat_le b 126
 
--- a URL of `http` or `https` in visible ASCII
+-- the most bytes of a URL that a reply links to or redirects to (RFC 9110, section 4.1)
+abbrev pub link_limit : ℕ
+link_limit = 8000
+
+-- a URL of `http` or `https` in visible ASCII, within the limit
 abbrev pub is_link : List ℕ → Bool
-is_link url = (begins_with (codes "http://") url || begins_with (codes "https://") url) && list_all is_visible url
+is_link url = nat_le (length url) link_limit && ((begins_with (codes "http://") url || begins_with (codes "https://") url) && list_all is_visible url)

@@ -1,6 +1,6 @@
 -- The head of a reply, as the grammar reads it.
 use Rattle.std.proofs.Common.{◌≡◌, ◌<◌, ◌^◌, ℕ, List, [], ◌∷◌, ◌++◌, length, codes, Some, Bool, true, false, refl, sym, ap, arith, ◌∙◌, append_assoc, reverse, All}
-use Rattle.std.specs.Prelude.{IsTrue, nat_lt, nat_le, ◌==◌, ◌&&◌, ◌||◌, not}
+use Rattle.std.specs.Prelude.{IsTrue, nat_lt, nat_le, if◌then◌else◌, ◌==◌, ◌&&◌, ◌||◌, not}
 use Rattle.std.specs.List.{list_all, flat_map, AllByRecursion}
 use Rattle.std.specs.Char.{is_ascii_digit}
 use Rattle.std.specs.Fmt.{decimal, digits}
@@ -16,10 +16,14 @@ use Rattle.httparse.proofs.OnLiterals.{httparse_on_literals}
 use Rattle.httparse.proofs.TrimLemmas.{trim_ows_space, AllPass-reverse}
 use Rattle.feed_range.proofs.Digits.{numerals}
 use Rattle.feed_http_heads.specs.Fields.{values_named, only}
+use Rattle.feed_http_heads.specs.Options.{lists, lacks_close, SaysWhetherItKeeps}
 use Rattle.feed_resolver_request.specs.declared.representation.Representation.{Representation}
 use Rattle.feed_resolver_request.specs.declared.representation.Representation.TheVariants.{Text, Json, Html}
-use Rattle.feed_resolver_reply.specs.Replies.{ReplyValue, status_code, reason_text, status_line, status_field, type_text, reply_head, reply_body, response_of}
+use Rattle.feed_resolver_reply.specs.Replies.{ReplyValue, ResponseValue, status_code, reason_text, status_line, status_field, type_text, connection_field, reply_head, reply_body, response_of}
 use Rattle.feed_resolver_reply.specs.Messages.{EndsInCrlf, IsSentHead, IsMessage, IsHeadOf, IsSentAs, IsSendable, StatesLength, IsMessageFor, BeginsStream, value_in, locations}
+use Rattle.feed_resolver_reply.specs.Messages.{StatesConnection, connection_values}
+use Rattle.feed_resolver_reply.specs.Pieces.{joined}
+use Rattle.feed_resolver_reply.specs.declared.reply.TheConstants.{LAST_FIELDS}
 use Rattle.feed_resolver_reply.specs.FetchReplies.{progress_head, progress_response}
 use Rattle.feed_resolver_reply.specs.declared.status.Status.{Status}
 use Rattle.feed_resolver_reply.specs.declared.status.Status.TheVariants as status
@@ -65,22 +69,27 @@ status_pairs status.MethodNotAllowed location = (codes "Allow", codes "GET, HEAD
 status_pairs status.Unauthorized location = (codes "WWW-Authenticate", codes "Bearer") ∷ []
 status_pairs code location = []
 
-abbrev common_pairs : List ℕ → List ℕ → Pairs
-common_pairs media count =
+-- the field that announces the end of the connection
+abbrev connection_pairs : Bool → Pairs
+connection_pairs true = []
+connection_pairs false = (codes "Connection", codes "close") ∷ []
+
+abbrev common_pairs : Bool → List ℕ → List ℕ → Pairs
+common_pairs keeps media count =
     (codes "Content-Type", media) ∷ (codes "Content-Length", count) ∷ (codes "Vary", codes "Accept") ∷ (codes "X-Content-Type-Options", codes "nosniff") ∷
-    (codes "Connection", codes "close") ∷ []
+    connection_pairs keeps
 
-abbrev pairs_of : ReplyValue → Pairs
-pairs_of reply = status_pairs reply.status reply.location ++ common_pairs (type_text reply.representation) (decimal (length reply.body))
+abbrev pairs_of : Bool → ReplyValue → Pairs
+pairs_of keeps reply = status_pairs reply.status reply.location ++ common_pairs keeps (type_text reply.representation) (decimal (length reply.body))
 
-abbrev pub head_of : ReplyValue → ResponseHead
-head_of reply = record {
+abbrev pub head_of : Bool → ReplyValue → ResponseHead
+head_of keeps reply = record {
   blank = [];
   minor = 1;
   digits = decimal (status_code reply.status);
   reason = Some (reason_text reply.status);
   line_end = crlf;
-  fields = fields_of (pairs_of reply);
+  fields = fields_of (pairs_of keeps reply);
   last = crlf;
 }
 
@@ -96,17 +105,25 @@ status_written status.UriTooLong location rest = refl
 status_written status.NotImplemented location rest = refl
 
 -- the status line, and then lines
-start_printed : (reply : ReplyValue) → print_response (head_of reply) ≡ status_line reply.status ++ (13 ∷ 10 ∷ (flat_map print_field (fields_of (pairs_of reply)) ++ (13 ∷ 10 ∷ [])))
+start_printed : (keeps : Bool) (reply : ReplyValue)
+    → print_response (head_of keeps reply) ≡ status_line reply.status ++ (13 ∷ 10 ∷ (flat_map print_field (fields_of (pairs_of keeps reply)) ++ (13 ∷ 10 ∷ [])))
 unfolding print_response
-start_printed reply = simp (append_assoc, append-nil) refl
+start_printed keeps reply = simp (append_assoc, append-nil) refl
 
-pub head_printed : (reply : ReplyValue) → print_response (head_of reply) ≡ reply_head reply
+-- the fields that each head has
+common_written : (keeps : Bool) (media count : List ℕ) → lines (common_pairs keeps media count) (13 ∷ 10 ∷ 13 ∷ 10 ∷ [])
+    ≡ joined (codes "\r\nContent-Type: " ∷ media ∷ codes "\r\nContent-Length: " ∷ count ∷ LAST_FIELDS.now ∷ connection_field keeps ∷ codes "\r\n\r\n" ∷ [])
+common_written true media count = refl
+common_written false media count = refl
+
+pub head_printed : (keeps : Bool) (reply : ReplyValue) → print_response (head_of keeps reply) ≡ reply_head keeps reply
 unfolding reply_head
-head_printed reply =
-    let common = common_pairs (type_text reply.representation) (decimal (length reply.body)) in
-    start_printed reply
-    ∙ ap (λ t. status_line reply.status ++ t) (lines_printed (pairs_of reply) (13 ∷ 10 ∷ []) ∙ lines-append (status_pairs reply.status reply.location) common (13 ∷ 10 ∷ 13 ∷ 10 ∷ [])
-    ∙ sym (status_written reply.status reply.location (lines common (13 ∷ 10 ∷ 13 ∷ 10 ∷ []))))
+head_printed keeps reply =
+    let common = common_pairs keeps (type_text reply.representation) (decimal (length reply.body)) in
+    start_printed keeps reply
+    ∙ ap (λ t. status_line reply.status ++ t) (lines_printed (pairs_of keeps reply) (13 ∷ 10 ∷ []) ∙ lines-append (status_pairs reply.status reply.location) common (13 ∷ 10 ∷ 13 ∷ 10 ∷ [])
+    ∙ sym (status_written reply.status reply.location (lines common (13 ∷ 10 ∷ 13 ∷ 10 ∷ [])))
+    ∙ ap (λ t. status_field reply.status reply.location ++ t) (common_written keeps (type_text reply.representation) (decimal (length reply.body))))
 
 -- ---- each part is of its class
 
@@ -166,9 +183,15 @@ media_passes Text = refl
 media_passes Json = refl
 media_passes Html = refl
 
-common_valid : (representation : Representation) (count : List ℕ) → AllPass is_uri_byte count → All IsField (fields_of (common_pairs (type_text representation) count))
+connection_valid : (keeps : Bool) → AllByRecursion IsField (fields_of (connection_pairs keeps))
 unfolding httparse_on_literals
-common_valid representation count passes = All-from_recursion IsField (fields_of (common_pairs (type_text representation) count)) (
+connection_valid true = tt
+connection_valid false = (literal_field (codes "Connection") (codes "close") (omega arith) refl refl, tt)
+
+common_valid : (keeps : Bool) (representation : Representation) (count : List ℕ) → AllPass is_uri_byte count
+    → All IsField (fields_of (common_pairs keeps (type_text representation) count))
+unfolding httparse_on_literals
+common_valid keeps representation count passes = All-from_recursion IsField (fields_of (common_pairs keeps (type_text representation) count)) (
   literal_field (codes "Content-Type") (type_text representation) (omega arith) refl (media_passes representation),
   (
     visible_field (codes "Content-Length") count (omega arith) refl passes,
@@ -176,17 +199,18 @@ common_valid representation count passes = All-from_recursion IsField (fields_of
       literal_field (codes "Vary") (codes "Accept") (omega arith) refl refl,
       (
         literal_field (codes "X-Content-Type-Options") (codes "nosniff") (omega arith) refl refl,
-        (literal_field (codes "Connection") (codes "close") (omega arith) refl refl, tt),
+        connection_valid keeps,
       ),
     ),
   ),
 )
 
-fields_valid : (reply : ReplyValue) → AllPass is_uri_byte reply.location → AllPass is_uri_byte (decimal (length reply.body)) → All IsField (fields_of (pairs_of reply))
-fields_valid reply location count =
-    let common = common_pairs (type_text reply.representation) (decimal (length reply.body)) in
+fields_valid : (keeps : Bool) (reply : ReplyValue) → AllPass is_uri_byte reply.location → AllPass is_uri_byte (decimal (length reply.body))
+    → All IsField (fields_of (pairs_of keeps reply))
+fields_valid keeps reply location count =
+    let common = common_pairs keeps (type_text reply.representation) (decimal (length reply.body)) in
     rw (fields_of-append (status_pairs reply.status reply.location) common)
-    (All-append IsField (fields_of (status_pairs reply.status reply.location)) (fields_of common) (status_valid reply.status reply.location location) (common_valid reply.representation
+    (All-append IsField (fields_of (status_pairs reply.status reply.location)) (fields_of common) (status_valid reply.status reply.location location) (common_valid keeps reply.representation
     (decimal (length reply.body)) count))
 
 -- the digits of a length
@@ -196,13 +220,13 @@ digits_pass n small = All-weaker IsDigit (λ b. is_uri_byte b ≡ true) digit_vi
     all_digits : (n : ℕ) → n < 2 ^ 64 → AllPass is_ascii_digit (decimal n)
     all_digits n small = AllPass-from_list_all is_ascii_digit (decimal n) (numerals.from (decimal n) (decimal_is_IsNumeral n small).0.1)
 
-head_valid : (reply : ReplyValue) → IsSendable reply → IsResponseHead (head_of reply)
-head_valid reply sendable = let right = status_digits reply.status in
+head_valid : (keeps : Bool) (reply : ReplyValue) → IsSendable reply → IsResponseHead (head_of keeps reply)
+head_valid keeps reply sendable = let right = status_digits reply.status in
     record {
       minor = omega arith;
       digits = (right.0, AllPass-from_list_all is_ascii_digit (decimal (status_code reply.status)) right.1);
       reason = AllPass-from_list_all is_value_byte (reason_text reply.status) right.3;
-      fields = fields_valid reply sendable.location (digits_pass (length reply.body) sendable.size);
+      fields = fields_valid keeps reply sendable.location (digits_pass (length reply.body) sendable.size);
     }
 
 in_crlf : (ps : Pairs) → All EndsInCrlf (fields_of ps)
@@ -212,8 +236,8 @@ in_crlf ps = All-from_recursion EndsInCrlf (fields_of ps) (each ps)
     each [] = tt
     each (p ∷ ps) = (refl, each ps)
 
-head_sent : (reply : ReplyValue) → IsSentHead (head_of reply)
-head_sent reply = record { minor = refl; first = refl; line = refl; lines = in_crlf (pairs_of reply); last = refl }
+head_sent : (keeps : Bool) (reply : ReplyValue) → IsSentHead (head_of keeps reply)
+head_sent keeps reply = record { minor = refl; first = refl; line = refl; lines = in_crlf (pairs_of keeps reply); last = refl }
 
 -- ---- the values of its fields
 
@@ -233,55 +257,90 @@ media_trimmed Text = refl
 media_trimmed Json = refl
 media_trimmed Html = refl
 
+close_trimmed : trim_ows (32 ∷ codes "close") ≡ codes "close"
+unfolding httparse_on_literals
+close_trimmed = refl
+
+-- one text, or none if the connection is kept
+abbrev unless_kept : Bool → List ℕ → List (List ℕ)
+unless_kept keeps text = if keeps then [] else text ∷ []
+
 -- the fields of the head, by name
-abbrev AreStated : ReplyValue → List (List ℕ) → Type 0
-AreStated reply locations =
-    (value_in (head_of reply) (codes "content-length") ≡ Some (trim_ows (32 ∷ decimal (length reply.body))))
-    × (value_in (head_of reply) (codes "content-type") ≡ Some (trim_ows (32 ∷ type_text reply.representation)))
-    × (values_named (codes "location") (head_of reply).fields ≡ locations)
+abbrev AreStated : Bool → ReplyValue → List (List ℕ) → Type 0
+AreStated keeps reply locations =
+    (value_in (head_of keeps reply) (codes "content-length") ≡ Some (trim_ows (32 ∷ decimal (length reply.body))))
+    × (value_in (head_of keeps reply) (codes "content-type") ≡ Some (trim_ows (32 ∷ type_text reply.representation)))
+    × (values_named (codes "location") (head_of keeps reply).fields ≡ locations)
+    × (values_named (codes "connection") (head_of keeps reply).fields ≡ unless_kept keeps (trim_ows (32 ∷ codes "close")))
 
 abbrev with_status : Status → ReplyValue → ReplyValue
 with_status code reply = record { status = code; location = reply.location; representation = reply.representation; body = reply.body }
 
-stated : (code : Status) (reply : ReplyValue) → AreStated (with_status code reply) (locations code (trim_ows (32 ∷ reply.location)))
-stated status.Good reply = (refl, refl, refl)
-stated status.Found reply = (refl, refl, refl)
-stated status.BadRequest reply = (refl, refl, refl)
-stated status.Unauthorized reply = (refl, refl, refl)
-stated status.NotFound reply = (refl, refl, refl)
-stated status.MethodNotAllowed reply = (refl, refl, refl)
-stated status.Conflict reply = (refl, refl, refl)
-stated status.UriTooLong reply = (refl, refl, refl)
-stated status.NotImplemented reply = (refl, refl, refl)
+stated : (keeps : Bool) (code : Status) (reply : ReplyValue) → AreStated keeps (with_status code reply) (locations code (trim_ows (32 ∷ reply.location)))
+stated true status.Good reply = (refl, refl, refl, refl)
+stated true status.Found reply = (refl, refl, refl, refl)
+stated true status.BadRequest reply = (refl, refl, refl, refl)
+stated true status.Unauthorized reply = (refl, refl, refl, refl)
+stated true status.NotFound reply = (refl, refl, refl, refl)
+stated true status.MethodNotAllowed reply = (refl, refl, refl, refl)
+stated true status.Conflict reply = (refl, refl, refl, refl)
+stated true status.UriTooLong reply = (refl, refl, refl, refl)
+stated true status.NotImplemented reply = (refl, refl, refl, refl)
+stated false status.Good reply = (refl, refl, refl, refl)
+stated false status.Found reply = (refl, refl, refl, refl)
+stated false status.BadRequest reply = (refl, refl, refl, refl)
+stated false status.Unauthorized reply = (refl, refl, refl, refl)
+stated false status.NotFound reply = (refl, refl, refl, refl)
+stated false status.MethodNotAllowed reply = (refl, refl, refl, refl)
+stated false status.Conflict reply = (refl, refl, refl, refl)
+stated false status.UriTooLong reply = (refl, refl, refl, refl)
+stated false status.NotImplemented reply = (refl, refl, refl, refl)
 
-head_states : (reply : ReplyValue) → IsSendable reply → IsHeadOf reply (head_of reply)
-head_states reply sendable = let facts = stated reply.status reply in
+head_states : (keeps : Bool) (reply : ReplyValue) → IsSendable reply → IsHeadOf keeps reply (head_of keeps reply)
+head_states keeps reply sendable = let facts = stated keeps reply.status reply in
     record {
       status = (status_digits reply.status).2;
       size = facts.0 ∙ ap (λ t. Some t) (trimmed (decimal (length reply.body)) (digits_pass (length reply.body) sendable.size));
       media = facts.1 ∙ ap (λ t. Some t) (media_trimmed reply.representation);
       location = facts.2 ∙ ap (locations reply.status) (trimmed reply.location sendable.location);
+      connection = facts.3 ∙ ap (unless_kept keeps) close_trimmed;
     }
 
-pub sent_as : (reply : ReplyValue) → IsSendable reply → IsSentAs reply (head_of reply)
-sent_as reply sendable = let states = head_states reply sendable in
+pub sent_as : (keeps : Bool) (reply : ReplyValue) → IsSendable reply → IsSentAs keeps reply (head_of keeps reply)
+sent_as keeps reply sendable = let states = head_states keeps reply sendable in
+    let valid = head_valid keeps reply sendable in
+    let printed = sym (head_printed keeps reply) in
     record {
       states = states;
-      whole = record { reads = (head_valid reply sendable, ap (λ t. t ++ reply.body) (sym (head_printed reply))); sent = head_sent reply; status = states.status; body_length = refl };
-      alone = record { reads = (head_valid reply sendable, ap (λ t. t ++ []) (sym (head_printed reply))); sent = head_sent reply; status = states.status; body_length = refl };
+      whole = record { reads = (valid, ap (λ t. t ++ reply.body) printed); sent = head_sent keeps reply; status = states.status; body_length = refl };
+      alone = record { reads = (valid, ap (λ t. t ++ []) printed); sent = head_sent keeps reply; status = states.status; body_length = refl };
     }
 
 -- the same for one of the two ways in which it is sent
-pub message_for : (head_alone : Bool) (reply : ReplyValue) → IsSendable reply → IsMessageFor head_alone (response_of head_alone reply)
-message_for false reply sendable = let sent = sent_as reply sendable in
-    record { head = head_of reply; body = reply.body; message = sent.whole; whole = λ whole. sent.states.size; alone = λ e. absurd (cc) }
-message_for true reply sendable = let sent = sent_as reply sendable in
-    record { head = head_of reply; body = []; message = sent.alone; whole = λ e. absurd (cc); alone = λ alone. refl }
+pub message_for : (keeps head_alone : Bool) (reply : ReplyValue) → IsSendable reply → IsMessageFor keeps head_alone (response_of keeps head_alone reply)
+message_for keeps false reply sendable = let sent = sent_as keeps reply sendable in
+    record {
+      head = head_of keeps reply;
+      body = reply.body;
+      message = sent.whole;
+      whole = λ whole. sent.states.size;
+      alone = λ e. absurd (cc);
+      connection = sent.states.connection;
+    }
+message_for keeps true reply sendable = let sent = sent_as keeps reply sendable in
+    record {
+      head = head_of keeps reply;
+      body = [];
+      message = sent.alone;
+      whole = λ e. absurd (cc);
+      alone = λ alone. refl;
+      connection = sent.states.connection;
+    }
 
 -- the same for the parts of a response
-pub message_of : (head_alone : Bool) (reply : ReplyValue) (bytes : List ℕ) (code size : ℕ) → IsSendable reply → bytes ≡ reply_head reply ++ reply_body head_alone reply
-    → code ≡ status_code reply.status → size ≡ length (reply_body head_alone reply) → IsMessageFor head_alone (record { bytes = bytes; status = code; body_length = size })
-message_of head_alone reply bytes code size sendable made coded sized = rw (made, coded, sized) (message_for head_alone reply sendable)
+pub message_of : (keeps head_alone : Bool) (reply : ReplyValue) (bytes : List ℕ) (code size : ℕ) → IsSendable reply → bytes ≡ reply_head keeps reply ++ reply_body head_alone reply
+    → code ≡ status_code reply.status → size ≡ length (reply_body head_alone reply) → IsMessageFor keeps head_alone (record { bytes = bytes; status = code; body_length = size })
+message_of keeps head_alone reply bytes code size sendable made coded sized = rw (made, coded, sized) (message_for keeps head_alone reply sendable)
 
 -- ---- the reply that reports progress
 
@@ -318,7 +377,24 @@ begins_stream = record {
   };
   good = refl;
   unknown = refl;
+  connection = ap (λ value. value ∷ []) close_trimmed;
 }
 
 pub stream_of : (bytes : List ℕ) → bytes ≡ progress_head → BeginsStream (record { bytes = bytes; status = 200; body_length = 0 })
 stream_of bytes made = rw made begins_stream
+
+-- ---- what a reply says of its connection
+
+says_by_values : (keeps : Bool) → list_all (λ value. not (lists (codes "close") value)) (connection_values keeps) ≡ keeps
+unfolding httparse_on_literals
+says_by_values true = refl
+says_by_values false = refl
+
+says_by : (keeps : Bool) (head : ResponseHead) → StatesConnection head keeps → lacks_close head.fields ≡ keeps
+says_by keeps head states = ap (list_all (λ value. not (lists (codes "close") value))) states ∙ says_by_values keeps
+
+pub message_says : (keeps head_alone : Bool) (response : ResponseValue) → IsMessageFor keeps head_alone response → SaysWhetherItKeeps keeps response.bytes
+message_says keeps head_alone response is = record { head = is.head; rest = is.body; reads = is.message.reads; says = says_by keeps is.head is.connection }
+
+pub stream_says : (response : ResponseValue) → BeginsStream response → SaysWhetherItKeeps false response.bytes
+stream_says response is = record { head = is.head; rest = []; reads = is.message.reads; says = says_by false is.head is.connection }

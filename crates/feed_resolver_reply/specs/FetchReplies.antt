@@ -18,15 +18,16 @@ abbrev pub progress_response : ResponseValue
 progress_response = record { bytes = progress_head; status = 200; body_length = 0 }
 
 -- the reply to a client that has the token
-abbrev pub authorized_reply : Bool → ResponseValue
-authorized_reply is_busy = if is_busy then response_of false (refusal status.Conflict Text (codes "Busy")) else progress_response
+abbrev pub authorized_reply : Bool → Bool → ResponseValue
+authorized_reply keeps is_busy = if is_busy then response_of keeps false (refusal status.Conflict Text (codes "Busy")) else progress_response
 
 -- the reply to a client that requests a fetch
-abbrev pub fetch_reply : FetchPolicyValue → RequestHead → ResponseValue
-fetch_reply policy head = option_map_or
-    (λ token. if is_authorized token head then authorized_reply policy.is_busy else response_of false (refusal status.Unauthorized Text (codes "Unauthorized")))
-    policy.token (response_of false (refusal status.NotFound Text (codes "NoTarget")))
+abbrev pub fetch_reply : FetchPolicyValue → Bool → RequestHead → ResponseValue
+fetch_reply policy keeps head = option_map_or
+    (λ token. if is_authorized token head then authorized_reply keeps policy.is_busy
+    else response_of keeps false (refusal status.Unauthorized Text (codes "Unauthorized")))
+    policy.token (response_of keeps false (refusal status.NotFound Text (codes "NoTarget")))
 
 -- a response to such a client: an error reply, or the beginning of the one that reports progress
-abbrev pub IsFetchMessage : ResponseValue → Type 0
-IsFetchMessage response = IsMessageFor false response ⊎ BeginsStream response
+abbrev pub IsFetchMessage : Bool → ResponseValue → Type 0
+IsFetchMessage keeps response = IsMessageFor keeps false response ⊎ BeginsStream response

@@ -1,5 +1,5 @@
 -- Laws of replies and of escaped texts.
-use Rattle.std.specs.Prelude.{◌≡◌, ℕ, List, Some, false, All, codes}
+use Rattle.std.specs.Prelude.{◌≡◌, ℕ, Bool, List, Some, false, All, codes}
 use Rattle.feed_resolver_reply.specs.Escapes.{escaped, is_markup, unescaped}
 use Rattle.json.specs.Json.{document, string, object, member, no_members}
 use Rattle.feed_resolver_request.specs.declared.representation.Representation.TheVariants.{Json}
@@ -25,7 +25,7 @@ JsonReadsBack = (text : List ℕ) → document (json_string text) ≡ Some (stri
 abbrev pub FaultIsJson : Type 0
 FaultIsJson = (name : List ℕ) → document (fault_body Json name) ≡ Some (object (member (codes "fault") (string name) no_members))
 
--- a reply is sent as one head that states its status and the length of its body, and then the body; the reply to a HEAD
--- is the same head alone
+-- a reply is sent as one head that states its status, the length of its body and whether the connection is closed, and
+-- then the body; the reply to a HEAD is the same head alone
 abbrev pub ReplyReadsBack : Type 0
-ReplyReadsBack = (reply : ReplyValue) → IsSendable reply → (head : ResponseHead) × IsSentAs reply head
+ReplyReadsBack = (keeps : Bool) (reply : ReplyValue) → IsSendable reply → (head : ResponseHead) × IsSentAs keeps reply head

@@ -1,5 +1,5 @@
 -- Replies as the grammar of HTTP reads them (RFC 9112, sections 2.2, 4 and 6).
-use Rattle.std.specs.Prelude.{◌≡◌, ◌<◌, ◌^◌, ℕ, Bool, false, true, List, [], ◌∷◌, length, All, codes, Option, Some}
+use Rattle.std.specs.Prelude.{◌≡◌, ◌<◌, ◌^◌, ℕ, Bool, false, true, if◌then◌else◌, List, [], ◌∷◌, length, All, codes, Option, Some}
 use Rattle.std.specs.Fmt.{decimal}
 use Rattle.httparse.specs.Grammar.{AllPass, is_uri_byte, Field, crlf, ResponseHead, ReadsResponse}
 use Rattle.httparse.specs.Grammar as grammar
@@ -28,6 +28,15 @@ value_in head name = only (values_named name head.fields)
 abbrev pub StatesLength : ResponseHead → ℕ → Type 0
 StatesLength head size = value_in head (codes "content-length") ≡ Some (decimal size)
 
+-- the values of the Connection fields in the head of a reply: `close` alone, or none if the connection is kept
+-- (RFC 9112, section 9.6)
+abbrev pub connection_values : Bool → List (List ℕ)
+connection_values keeps = if keeps then [] else codes "close" ∷ []
+
+-- the head announces that the connection is closed after the reply exactly if it is not kept
+abbrev pub StatesConnection : ResponseHead → Bool → Type 0
+StatesConnection head keeps = values_named (codes "connection") head.fields ≡ connection_values keeps
+
 -- the bytes are such a head, with the status of the response, and this body
 pub record IsMessage (response : ResponseValue) (head : ResponseHead) (body : List ℕ) : Type 0 where
   pub reads : ReadsResponse response.bytes head body
@@ -40,18 +49,20 @@ abbrev pub locations : Status → List ℕ → List (List ℕ)
 locations status.Found location = location ∷ []
 locations code location = []
 
--- the head states the status of the reply, its media type, the length of its body and, in a redirect, the location
-pub record IsHeadOf (reply : ReplyValue) (head : ResponseHead) : Type 0 where
+-- the head states the status of the reply, its media type, the length of its body, whether the connection is closed
+-- and, in a redirect, the location
+pub record IsHeadOf (keeps : Bool) (reply : ReplyValue) (head : ResponseHead) : Type 0 where
   pub status : grammar.status_code head ≡ status_code reply.status
   pub size : StatesLength head (length reply.body)
   pub media : value_in head (codes "content-type") ≡ Some (type_text reply.representation)
   pub location : values_named (codes "location") head.fields ≡ locations reply.status reply.location
+  pub connection : StatesConnection head keeps
 
 -- the reply is sent as this head and its body, and to a HEAD as this head and nothing after it
-pub record IsSentAs (reply : ReplyValue) (head : ResponseHead) : Type 0 where
-  pub states : IsHeadOf reply head
-  pub whole : IsMessage (response_of false reply) head reply.body
-  pub alone : IsMessage (response_of true reply) head []
+pub record IsSentAs (keeps : Bool) (reply : ReplyValue) (head : ResponseHead) : Type 0 where
+  pub states : IsHeadOf keeps reply head
+  pub whole : IsMessage (response_of keeps false reply) head reply.body
+  pub alone : IsMessage (response_of keeps true reply) head []
 
 -- a location has no space and no control byte
 abbrev pub IsLocation : List ℕ → Type 0
@@ -62,17 +73,21 @@ pub record IsSendable (reply : ReplyValue) : Type 0 where
   pub location : IsLocation reply.location
   pub size : length reply.body < 2 ^ 64
 
--- the response is one head, and then the body of which the head states the length, or nothing if the head alone is sent
-pub record IsMessageFor (head_alone : Bool) (response : ResponseValue) : Type 0 where
+-- the response is one head and a body whose length the head states, or the head alone; the head announces that the
+-- connection is closed exactly if it is not kept
+pub record IsMessageFor (keeps : Bool) (head_alone : Bool) (response : ResponseValue) : Type 0 where
   pub head : ResponseHead
   pub body : List ℕ
   pub message : IsMessage response head body
   pub whole : head_alone ≡ false → StatesLength head (length body)
   pub alone : head_alone ≡ true → body ≡ []
+  pub connection : StatesConnection head keeps
 
--- the response is a head of status 200 that states no length, with its body still to come
+-- the response is a head of status 200 that states no length, with its body still to come; the connection is closed
+-- after the body
 pub record BeginsStream (response : ResponseValue) : Type 0 where
   pub head : ResponseHead
   pub message : IsMessage response head []
   pub good : response.status ≡ 200
   pub unknown : values_named (codes "content-length") head.fields ≡ []
+  pub connection : StatesConnection head false

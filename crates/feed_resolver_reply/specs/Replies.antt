@@ -75,28 +75,32 @@ status_field status.MethodNotAllowed location = joined (codes "\r\nAllow: GET, H
 status_field status.Unauthorized location = joined (codes "\r\nWWW-Authenticate: Bearer" ∷ [])
 status_field code location = []
 
--- the head of a reply
-unfoldable pub reply_head : ReplyValue → List ℕ
-reply_head reply =
+-- the field that announces that the connection is closed after the reply, unless it is kept (RFC 9112, section 9.6)
+abbrev pub connection_field : Bool → List ℕ
+connection_field keeps = if keeps then [] else codes "\r\nConnection: close"
+
+-- the head of a reply, on a connection that is kept or not
+unfoldable pub reply_head : Bool → ReplyValue → List ℕ
+reply_head keeps reply =
     status_line reply.status
     ++ (status_field reply.status reply.location
     ++ joined (
     codes "\r\nContent-Type: " ∷ type_text reply.representation
     ∷ codes "\r\nContent-Length: " ∷ decimal (length reply.body)
-    ∷ LAST_FIELDS.now ∷ []))
+    ∷ LAST_FIELDS.now ∷ connection_field keeps ∷ codes "\r\n\r\n" ∷ []))
 
 -- the body that is sent; the reply to a HEAD has none
 abbrev pub reply_body : Bool → ReplyValue → List ℕ
 reply_body head_alone reply = if head_alone then [] else reply.body
 
 -- the bytes of a reply, with its status code and the length of the body that is sent
-abbrev pub response_of : Bool → ReplyValue → ResponseValue
-response_of head_alone reply = record {
-  bytes = reply_head reply ++ reply_body head_alone reply;
+abbrev pub response_of : Bool → Bool → ReplyValue → ResponseValue
+response_of keeps head_alone reply = record {
+  bytes = reply_head keeps reply ++ reply_body head_alone reply;
   status = status_code reply.status;
   body_length = length (reply_body head_alone reply);
 }
 
 -- the reply to bytes without a valid head
-abbrev pub bad_head_response : ResponseValue
-bad_head_response = response_of false (refusal status.BadRequest Text (codes "BadHead"))
+abbrev pub bad_head_response : Bool → ResponseValue
+bad_head_response keeps = response_of keeps false (refusal status.BadRequest Text (codes "BadHead"))

@@ -75,20 +75,28 @@ pub fn refusal(
 /// Returns the response with an error reply.
 pub(crate) fn refusal_response(
     alloc: Global,
+    keeps: bool,
     status: Status,
     representation: Representation,
     name: &[u8],
 ) -> Result<Response, AllocError>
-    ensures value { IfOk result (λ response. response ≡ response_of false (refusal status representation name.now)) }
-    ensures message { IfOk result (IsMessageFor false) }
+    ensures value { IfOk result (λ response. response
+        ≡ response_of keeps false (refusal status representation name.now)) }
+    ensures message { IfOk result (IsMessageFor keeps false) }
 {
-    refusal(alloc, status, representation, name)?.response(alloc, false)
+    refusal(alloc, status, representation, name)?.response(alloc, keeps, false)
 }
 
 /// Returns the reply to bytes that do not begin with a valid head.
-pub fn bad_head_response(alloc: Global) -> Result<Response, AllocError>
-    ensures value { IfOk result (λ response. response ≡ bad_head_response) }
-    ensures message { IfOk result (IsMessageFor false) }
+pub fn bad_head_response(alloc: Global, keeps: bool) -> Result<Response, AllocError>
+    ensures value { IfOk result (λ response. response ≡ bad_head_response keeps) }
+    ensures message { IfOk result (IsMessageFor keeps false) }
 {
-    refusal_response(alloc, Status::BadRequest, Representation::Text, b"BadHead")
+    refusal_response(
+        alloc,
+        keeps,
+        Status::BadRequest,
+        Representation::Text,
+        b"BadHead",
+    )
 }

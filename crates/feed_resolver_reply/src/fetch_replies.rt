@@ -35,36 +35,51 @@ fn progress_response(alloc: Global) -> Result<Response, AllocError>
     })
 }
 
-fn authorized_reply(alloc: Global, is_busy: bool) -> Result<Response, AllocError>
-    ensures value { IfOk result (λ response. response ≡ authorized_reply is_busy) }
-    ensures message { IfOk result IsFetchMessage }
+fn authorized_reply(alloc: Global, keeps: bool, is_busy: bool) -> Result<Response, AllocError>
+    ensures value { IfOk result (λ response. response ≡ authorized_reply keeps is_busy) }
+    ensures message { IfOk result (IsFetchMessage keeps) }
 {
     if is_busy {
-        refusal_response(alloc, Status::Conflict, Representation::Text, b"Busy")
+        refusal_response(
+            alloc,
+            keeps,
+            Status::Conflict,
+            Representation::Text,
+            b"Busy",
+        )
     } else {
         progress_response(alloc)
     }
 }
 
 /// Returns the reply to a fetch request: the head of a reply whose body reports the progress of the fetch, or an error.
+/// A reply that reports progress ends with the connection, which is not kept.
 pub fn fetch_reply(
     alloc: Global,
     policy: &FetchPolicy<'_>,
+    keeps: bool,
     request: &Request<'_>,
 ) -> Result<Response, AllocError>
     requires { IsInBuffer request.now }
     ensures value { IfOk result (λ response. (head : RequestHead) → HasHead request.now head
-        → response ≡ fetch_reply policy.now head) }
-    ensures message { IfOk result IsFetchMessage }
+        → response ≡ fetch_reply policy.now keeps head) }
+    ensures message { IfOk result (IsFetchMessage keeps) }
 {
     let Some(token) = policy.token else {
-        return refusal_response(alloc, Status::NotFound, Representation::Text, b"NoTarget");
+        return refusal_response(
+            alloc,
+            keeps,
+            Status::NotFound,
+            Representation::Text,
+            b"NoTarget",
+        );
     };
     if is_authorized(token, request) {
-        authorized_reply(alloc, policy.is_busy)
+        authorized_reply(alloc, keeps, policy.is_busy)
     } else {
         refusal_response(
             alloc,
+            keeps,
             Status::Unauthorized,
             Representation::Text,
             b"Unauthorized",

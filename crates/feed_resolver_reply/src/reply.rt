@@ -2,6 +2,7 @@
 ghost use Rattle.std.specs.Prelude.{◌≡◌, ◌<◌, ◌^◌, ◌++◌, IfOk, OnOk, length};
 ghost use Rattle.feed_resolver_reply.specs.Replies.{reply_head, reply_body, reply_with, redirect_to, response_of};
 ghost use Rattle.feed_resolver_reply.specs.Replies.{status_code, status_line, status_field, type_text};
+ghost use Rattle.feed_resolver_reply.specs.Replies.{connection_field};
 ghost use Rattle.feed_resolver_reply.specs.Messages.{IsLocation, IsMessageFor};
 
 use crate::escape::put;
@@ -12,9 +13,8 @@ use feed_resolver_request::Representation;
 use std::alloc::{AllocError, Global};
 use std::marker::Model;
 
-// The fields that end each head, and the empty line behind them.
-const LAST_FIELDS: &[u8] =
-    b"\r\nVary: Accept\r\nX-Content-Type-Options: nosniff\r\nConnection: close\r\n\r\n";
+// The fields of each head after its length.
+const LAST_FIELDS: &[u8] = b"\r\nVary: Accept\r\nX-Content-Type-Options: nosniff";
 
 /// A reply. Its location is empty unless its status is `Found`.
 #[derive(Drop)]
@@ -46,6 +46,12 @@ fn type_text(representation: Representation) -> &'static [u8]
         Representation::Json => b"application/json",
         Representation::Html => b"text/html; charset=utf-8",
     }
+}
+
+fn connection_field(keeps: bool) -> &'static [u8]
+    ensures { result.now ≡ connection_field keeps }
+{
+    if keeps { b"" } else { b"\r\nConnection: close" }
 }
 
 fn length_of(body: &[u8]) -> u64
@@ -108,8 +114,8 @@ impl<'a> Reply<'a> {
     }
 
     #[tactic(auto, unfolding(crate::specs::Replies::reply_head))]
-    fn put_head(&self, out: &mut Vec<u8>) -> Result<(), AllocError>
-        ensures text { OnOk result (out.new.items ≡ out.old.items ++ reply_head self.now) }
+    fn put_head(&self, out: &mut Vec<u8>, keeps: bool) -> Result<(), AllocError>
+        ensures text { OnOk result (out.new.items ≡ out.old.items ++ reply_head keeps self.now) }
         ensures size { OnOk result (length self.now.body < 2 ^ 64) }
     {
         put_status_line(out, self.status)?;
@@ -122,6 +128,8 @@ impl<'a> Reply<'a> {
                 Piece::Plain(b"\r\nContent-Length: "),
                 Piece::Number(length_of(&self.body)),
                 Piece::Plain(LAST_FIELDS),
+                Piece::Plain(connection_field(keeps)),
+                Piece::Plain(b"\r\n\r\n"),
             ],
         )
     }
@@ -133,15 +141,21 @@ impl<'a> Reply<'a> {
         if head_alone { b"" } else { &self.body }
     }
 
-    /// Returns the bytes of the reply, without its body if only the head was requested.
-    pub fn response(&self, alloc: Global, head_alone: bool) -> Result<Response, AllocError>
-        ensures value { IfOk result (λ response. response ≡ response_of head_alone self.now) }
+    /// Returns the bytes of the reply, without its body if only the head was requested. They say `Connection: close`
+    /// exactly if the connection is not kept (RFC 9112, section 9.6).
+    pub fn response(
+        &self,
+        alloc: Global,
+        keeps: bool,
+        head_alone: bool,
+    ) -> Result<Response, AllocError>
+        ensures value { IfOk result (λ response. response ≡ response_of keeps head_alone self.now) }
         ensures message { IfOk result (λ response. IsLocation self.now.location
-            → IsMessageFor head_alone response) }
+            → IsMessageFor keeps head_alone response) }
     {
         let body = self.body(head_alone);
         let mut bytes = Vec::new(alloc);
-        self.put_head(&mut bytes)?;
+        self.put_head(&mut bytes, keeps)?;
         put(&mut bytes, body)?;
         Ok(Response {
             bytes,

@@ -38,8 +38,8 @@
 //! A node, with the releases that it received:
 //!
 //!     release NAME TEXT               offers a release to the node, and sends its whole file
-//!     respond TEXT                    the resolver's reply to a request
-//!     respond-as-node TOKEN free|busy TEXT    the node's reply, if TOKEN authorizes a fetch; `-` for none
+//!     respond keep|close TEXT         the resolver's reply to a request, on a connection that is kept or closed
+//!     respond-as-node TOKEN free|busy keep|close TEXT    the node's reply, if TOKEN authorizes a fetch; `-` for none
 //!     fetch-asked TOKEN TEXT          the release that a request asks the node to fetch, `no name`, or `none`
 //!     head-end TEXT                   whether a text begins with the head of a request, and where the head ends
 //!

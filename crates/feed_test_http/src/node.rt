@@ -57,9 +57,10 @@ impl<'a> Node<'a> {
         Ok(())
     }
 
-    fn respond(&self, line: Line<'_>) -> Result<(), Fault> {
+    fn respond(&self, mut line: Line<'_>) -> Result<(), Fault> {
+        let keeps = line.flag("keep", "close")?;
         let request = line.text(self.rt.alloc())?;
-        let reply = respond(self.rt.alloc(), &request, &self.feed)?;
+        let reply = respond(self.rt.alloc(), &request, keeps, &self.feed)?;
         println!(self.rt; "{}", Escaped(reply.bytes()))?;
         Ok(())
     }
@@ -70,9 +71,10 @@ impl<'a> Node<'a> {
             token => Some(token.as_bytes()),
         };
         let is_busy = line.flag("busy", "free")?;
+        let keeps = line.flag("keep", "close")?;
         let request = line.text(self.rt.alloc())?;
         let policy = FetchPolicy { token, is_busy };
-        let reply = respond_as_node(self.rt.alloc(), &request, &policy, &self.feed)?;
+        let reply = respond_as_node(self.rt.alloc(), &request, keeps, &policy, &self.feed)?;
         println!(self.rt; "{}", Escaped(reply.bytes()))?;
         Ok(())
     }

@@ -8,7 +8,7 @@ use Rattle.feed_resolver.proofs.Requests.{fetch_message}
 use Rattle.feed_resolver.proofs.node.node_reply.Goals as goal
 
 pub returns-in-Some-clause-message : goal.returns-in-Some-clause-message
-returns-in-Some-clause-message c = IfOk-weaker c.fetch_reply.result IsFetchMessage
-    (λ response. (head : RequestHead) → HasHead c.args.request.now head → IsMessageFor (is_head head) response ⊎ BeginsStream response)
-    (λ response message head has. fetch_message head _ response (sym (c.in-Some.ensures head has)) message)
+returns-in-Some-clause-message c = IfOk-weaker c.fetch_reply.result (IsFetchMessage c.args.keeps)
+    (λ response. (head : RequestHead) → HasHead c.args.request.now head → IsMessageFor c.args.keeps (is_head head) response ⊎ BeginsStream response)
+    (λ response message head has. fetch_message c.args.keeps head _ response (sym (c.in-Some.ensures head has)) message)
     c.fetch_reply.ensures.message

@@ -7,6 +7,6 @@ use Rattle.feed_resolver_reply.specs.Messages.{IsLocation, IsMessageFor}
 use Rattle.feed_resolver_reply.proofs.fault.refusal_response.Goals as goal
 
 pub returns-clause-message : goal.returns-clause-message
-returns-clause-message c = IfOk-weaker c.response-2.result _ (IsMessageFor false)
+returns-clause-message c = IfOk-weaker c.response-2.result _ (IsMessageFor c.args.keeps false)
     (λ response is. is (subst (λ (r : ReplyValue). IsLocation r.location) (sym c.in_ok-refusal.ensures) (All-nil (λ b. is_uri_byte b ≡ true))))
     c.response-2.ensures.message

@@ -2,4 +2,4 @@ use Rattle.feed_resolver_reply.proofs.HeadsRead.{head_of, sent_as}
 use Rattle.feed_resolver_reply.proofs.laws.reply_reads_back.Goals as goal
 
 pub returns : goal.returns
-returns c = λ reply sendable. (head_of reply, sent_as reply sendable)
+returns c = λ keeps reply sendable. (head_of keeps reply, sent_as keeps reply sendable)

@@ -4,9 +4,9 @@ use Rattle.feed_resolver_reply.proofs.HeadsRead.{message_of}
 use Rattle.feed_resolver_reply.proofs.reply.Reply.response.Goals as goal
 
 pub returns-clause-message : goal.returns-clause-message
-returns-clause-message c = λ located. message_of c.args.head_alone c.args.self.now c.put.new.out.items c.status_code.result (length c.body-body.result.now)
+returns-clause-message c = λ located. message_of c.args.keeps c.args.head_alone c.args.self.now c.put.new.out.items c.status_code.result (length c.body-body.result.now)
     (record { location = located; size = c.in_ok-put_head.ensures.size })
-    (c.in_ok-put.ensures ∙ ap (λ t. t ++ c.body-body.result.now) (c.in_ok-put_head.ensures.text ∙ ap (λ t. t ++ reply_head c.args.self.now) c.new-bytes.ensures.items)
-    ∙ ap (λ t. reply_head c.args.self.now ++ t) c.body-body.ensures)
+    (c.in_ok-put.ensures ∙ ap (λ t. t ++ c.body-body.result.now) (c.in_ok-put_head.ensures.text ∙ ap (λ t. t ++ reply_head c.args.keeps c.args.self.now) c.new-bytes.ensures.items)
+    ∙ ap (λ t. reply_head c.args.keeps c.args.self.now ++ t) c.body-body.ensures)
     (c.status_code.ensures ∙ ap (λ (r : ReplyValue). status_code r.status) c.self.view_is)
     (ap length c.body-body.ensures)
