@@ -9,7 +9,7 @@ _kbfeed() {
   for ((index = 1; index < COMP_CWORD; index++)); do
     case $has_options${COMP_WORDS[index]} in
       yes--) has_options= ;;
-      yes--name | yes--count | yes--timeout | yes--piece | yes--clients | yes--from | yes--token)
+      yes--name | yes--count | yes--timeout | yes--idle | yes--piece | yes--clients | yes--from | yes--token)
         [[ ${COMP_WORDS[index + 1]} == = ]] && ((index++))
         ((index++)) ;;
       yes-?*) ;;
@@ -22,7 +22,7 @@ _kbfeed() {
     '') options='-h --help -V --version -v --verbose' ;;
     check) options='-h --help -v --verbose --name --strict --summary --explain --json' ;;
     serve) options='-h --help -v --verbose --count --timeout' ;;
-    node) options='-h --help -v --verbose --from --token --piece --clients --timeout' ;;
+    node) options='-h --help -v --verbose --from --token --piece --clients --timeout --idle' ;;
     fetch) options='-h --help -v --verbose --piece --timeout' ;;
     replay | answer | ask | status | why) options='-h --help -v --verbose' ;;
   esac

@@ -55,7 +55,7 @@ def answered(address):
     began = time.monotonic()
     reply = b""
     with socket.create_connection(address, timeout=60) as peer:
-        peer.sendall(HEAD + b"\r\n")
+        peer.sendall(HEAD + b"Connection: close\r\n\r\n")
         while part := peer.recv(65_536):
             reply += part
     return time.monotonic() - began, reply

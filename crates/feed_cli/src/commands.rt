@@ -170,7 +170,7 @@ static SERVE: [Argument; 4] = [
     CLIENT_TIMEOUT,
 ];
 
-static NODE: [Argument; 7] = [
+static NODE: [Argument; 8] = [
     DATABASE,
     LISTENING_ADDRESS,
     Argument {
@@ -200,6 +200,15 @@ static NODE: [Argument; 7] = [
         help: "The most connections at a time, 1 to 65536",
     },
     CLIENT_TIMEOUT,
+    Argument {
+        id: "idle",
+        kind: Kind::Number {
+            value: "SECONDS",
+            limit: 3_600,
+            default: "15",
+        },
+        help: "How long a connection may wait between two requests, 1 to 3600",
+    },
 ];
 
 static FETCH: [Argument; 5] = [

@@ -1,28 +1,33 @@
 //! `kbfeed node`: a link resolver that answers readers over HTTP from the database of a node, and fetches releases.
 use crate::command::Upstream;
 use crate::token::read_token;
-use feed_command::{FAILED, Faults, MISUSED, REFUSED, open_file};
+use feed_command::{DONE, FAILED, Faults, MISUSED, REFUSED, open_file};
 use feed_database_commands::{Database, close_keeper, open_feed};
 use feed_http::is_host;
-use feed_node_server::{Server, Settings};
+use feed_node_server::{Server, Settings, TimeLimits};
 use feed_node_service::{End, Source, run};
 use std::io;
 use std::io::Write;
 use std::net::ToSocketAddrs;
 
-/// Where a node listens, how many clients it answers at a time, and how many milliseconds each step of a connection may
-/// take.
+// The fewest clients with which a node starts if it may open too few descriptors for all.
+const MIN_CLIENTS: usize = 16;
+
+/// Where a node listens, how many clients it answers at a time, and how many milliseconds each step of a connection and
+/// the time between two requests may take.
 #[derive(Clone, Copy)]
 pub struct Hosting<'a> {
     pub addr: &'a str,
     pub clients: usize,
     pub limit: u64,
+    pub idle: u64,
 }
 
 /// Runs a node: opens the feed of a database and answers readers at an address, without end. If it has a source, a
 /// client that has the token can make it fetch a release from there. It prints a line for each request, at once. The
 /// first fault is reported: of the source (`Host`, `Read`, `Token`), of the database, of the address (`Bind`), of the
-/// sockets (`Poll`) and of the print.
+/// sockets (`Poll`) and of the print. If there are too few descriptors for all clients, that is reported
+/// (`Descriptors`), and the node answers fewer at a time, or does not start with fewer than 16.
 pub fn run_node<D: Database, O: Write, F: Write + Drop>(
     rt: &HostRuntime,
     database: &D,
@@ -88,10 +93,16 @@ fn run_server<D: Database, O: Write, F: Write + Drop>(
         Err(status) => return status,
     };
     let end = match bind(rt, hosting) {
-        Ok(mut server) => match announce(out) {
-            Ok(()) => run(rt, &mut feed, &mut server, source, out),
-            Err(error) => End::Print(error),
-        },
+        Ok(mut server) => {
+            if has_too_few_descriptors(&server, hosting, faults) {
+                close_keeper(database, feed.restart(), faults);
+                return FAILED;
+            }
+            match announce(out) {
+                Ok(()) => run(rt, &mut feed, &mut server, source, out),
+                Err(error) => End::Print(error),
+            }
+        }
         Err(error) => {
             close_keeper(database, feed.restart(), faults);
             return faults.report_with("Bind", hosting.addr, error, FAILED);
@@ -101,11 +112,33 @@ fn run_server<D: Database, O: Write, F: Write + Drop>(
     report_end(end, faults)
 }
 
+// Reports that the process may open fewer descriptors than all clients need, and returns whether these are too few for
+// a node.
+fn has_too_few_descriptors<F: Write + Drop>(
+    server: &Server,
+    hosting: Hosting<'_>,
+    faults: &mut Faults<F>,
+) -> bool {
+    if server.clients() >= hosting.clients {
+        return false;
+    }
+    let _ = faults.report_with(
+        "Descriptors",
+        hosting.addr,
+        "the process may open fewer than --clients needs",
+        DONE,
+    );
+    server.clients() < MIN_CLIENTS
+}
+
 fn bind(rt: &HostRuntime, hosting: Hosting<'_>) -> io::Result<Server> {
     let mut last = io::Error::from(io::ErrorKind::NotFound);
     let settings = Settings {
         clients: hosting.clients.max(1),
-        limit: hosting.limit.max(1),
+        limits: TimeLimits {
+            step: hosting.limit.max(1),
+            idle: hosting.idle.max(1),
+        },
     };
     for addr in hosting.addr.to_socket_addrs(rt)? {
         match Server::bind(rt, addr, settings) {

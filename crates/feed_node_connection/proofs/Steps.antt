@@ -1,10 +1,12 @@
 -- The bytes of two consecutive steps, taken together.
-use Rattle.std.proofs.Common.{◌≡◌, ℕ, List, [], ◌∷◌, ◌++◌, Option, Some, None, refl, sym, ap, ◌∙◌, append_assoc, append-nil, subst, inl, inr}
+use Rattle.std.proofs.Common.{◌≡◌, ◌≤◌, ◌+◌, ℕ, Bool, true, false, List, [], ◌∷◌, ◌++◌, length, Option, Some, None, refl, sym, ap, ◌∙◌, append_assoc, append-nil, length-append, arith, subst, inl, inr}
 use Rattle.std.specs.Io.KnownBytes.{Consumes, Appends}
 use Rattle.feed_node_connection.specs.declared.connection.Connection.{Connection}
-use Rattle.feed_node_connection.specs.Events.{Event, Received, Replied, Sent, Elapsed, received_bytes, replies_in, sent_bytes}
-use Rattle.feed_node_connection.specs.Replies.{Replies, IsReplyTo}
-use Rattle.feed_node_connection.specs.States.{HasState, HasReceived}
+use Rattle.feed_node_connection.specs.declared.streams.Share.{Share}
+use Rattle.feed_node_connection.specs.Requests.{Request}
+use Rattle.feed_node_connection.specs.Events.{Event, Received, Replied, Sent, Resumed, Elapsed, received_bytes, requests_in, sent_bytes}
+use Rattle.feed_node_connection.specs.Replies.{Replies}
+use Rattle.feed_node_connection.specs.States.{HasState, HasParsed}
 use Rattle.feed_node_connection.specs.Streams.{AreReplies, HasAdvanced, HasRead, HasWritten}
 
 consumes_none : (old : Option (List ℕ)) → Consumes old old []
@@ -30,73 +32,147 @@ appends_more (Some xs) (Some ys) (Some zs) bs cs a b = b ∙ rw a (append_assoc 
 received_bytes-append : (later earlier : List Event) → received_bytes (later ++ earlier) ≡ received_bytes earlier ++ received_bytes later
 received_bytes-append [] earlier = sym (append-nil (received_bytes earlier))
 received_bytes-append (Received bytes ∷ later) earlier = ap (λ t. t ++ bytes) (received_bytes-append later earlier) ∙ append_assoc (received_bytes earlier) (received_bytes later) bytes
-received_bytes-append (Replied reply ∷ later) earlier = received_bytes-append later earlier
+received_bytes-append (Replied request reply ∷ later) earlier = received_bytes-append later earlier
 received_bytes-append (Sent bytes ∷ later) earlier = received_bytes-append later earlier
+received_bytes-append (Resumed idle ∷ later) earlier = received_bytes-append later earlier
 received_bytes-append (Elapsed millis ∷ later) earlier = received_bytes-append later earlier
 
 sent_bytes-append : (later earlier : List Event) → sent_bytes (later ++ earlier) ≡ sent_bytes earlier ++ sent_bytes later
 sent_bytes-append [] earlier = sym (append-nil (sent_bytes earlier))
 sent_bytes-append (Received bytes ∷ later) earlier = sent_bytes-append later earlier
-sent_bytes-append (Replied reply ∷ later) earlier = sent_bytes-append later earlier
+sent_bytes-append (Replied request reply ∷ later) earlier = sent_bytes-append later earlier
 sent_bytes-append (Sent bytes ∷ later) earlier = ap (λ t. t ++ bytes) (sent_bytes-append later earlier) ∙ append_assoc (sent_bytes earlier) (sent_bytes later) bytes
+sent_bytes-append (Resumed idle ∷ later) earlier = sent_bytes-append later earlier
 sent_bytes-append (Elapsed millis ∷ later) earlier = sent_bytes-append later earlier
 
+requests-append : (later earlier : List Event) → requests_in (later ++ earlier) ≡ requests_in earlier ++ requests_in later
+requests-append [] earlier = sym (append-nil (requests_in earlier))
+requests-append (Received bytes ∷ later) earlier = requests-append later earlier
+requests-append (Replied request reply ∷ later) earlier =
+    ap (λ t. t ++ request ∷ []) (requests-append later earlier) ∙ append_assoc (requests_in earlier) (requests_in later) (request ∷ [])
+requests-append (Sent bytes ∷ later) earlier = requests-append later earlier
+requests-append (Resumed idle ∷ later) earlier = requests-append later earlier
+requests-append (Elapsed millis ∷ later) earlier = requests-append later earlier
+
+nil≢snoc : (xs : List Request) (x : Request) → xs ++ x ∷ [] ≡ [] → ⊥
+nil≢snoc [] x is = absurd (cc)
+nil≢snoc (y ∷ xs) x is = absurd (cc)
+
 -- if no reply was made, every reply is right
-no_replies : (replies : Replies) (more history : List Event) → replies_in more ≡ [] → AreReplies replies more history
-no_replies replies [] history none = tt
-no_replies replies (Received bytes ∷ more) history none = no_replies replies more history none
-no_replies replies (Replied reply ∷ more) history none = absurd (cc)
-no_replies replies (Sent bytes ∷ more) history none = no_replies replies more history none
-no_replies replies (Elapsed millis ∷ more) history none = no_replies replies more history none
+no_replies : (replies : Replies) (more : List Event) → requests_in more ≡ [] → AreReplies replies more
+no_replies replies [] none = tt
+no_replies replies (Received bytes ∷ more) none = no_replies replies more none
+no_replies replies (Replied request reply ∷ more) none = absurd (nil≢snoc (requests_in more) request none)
+no_replies replies (Sent bytes ∷ more) none = no_replies replies more none
+no_replies replies (Resumed idle ∷ more) none = no_replies replies more none
+no_replies replies (Elapsed millis ∷ more) none = no_replies replies more none
 
-replies-append : (replies : Replies) (later earlier history : List Event) → AreReplies replies later (earlier ++ history) → AreReplies replies earlier history
-    → AreReplies replies (later ++ earlier) history
-replies-append replies [] earlier history these those = those
-replies-append replies (Received bytes ∷ later) earlier history these those = replies-append replies later earlier history these those
-replies-append replies (Replied reply ∷ later) earlier history these those = (
-  subst (λ (h : List Event). IsReplyTo replies (received_bytes h) reply) (sym (append_assoc later earlier history)) these.0,
-  replies-append replies later earlier history these.1 those,
-)
-replies-append replies (Sent bytes ∷ later) earlier history these those = replies-append replies later earlier history these those
-replies-append replies (Elapsed millis ∷ later) earlier history these those = replies-append replies later earlier history these those
+replies-append : (replies : Replies) (later earlier : List Event) → AreReplies replies later → AreReplies replies earlier → AreReplies replies (later ++ earlier)
+replies-append replies [] earlier these those = those
+replies-append replies (Received bytes ∷ later) earlier these those = replies-append replies later earlier these those
+replies-append replies (Replied request reply ∷ later) earlier these those = (these.0, replies-append replies later earlier these.1 those)
+replies-append replies (Sent bytes ∷ later) earlier these those = replies-append replies later earlier these those
+replies-append replies (Resumed idle ∷ later) earlier these those = replies-append replies later earlier these those
+replies-append replies (Elapsed millis ∷ later) earlier these those = replies-append replies later earlier these those
 
-pub nothing : (replies : Replies) (connection : Connection) (history : List Event) (r w : Option (List ℕ)) → HasState connection history
-    → HasAdvanced replies connection history r r w w
-nothing replies connection history r w state = record { more = []; state = state; replies_made = tt; bytes_received = consumes_none r; bytes_sent = appends_none w }
+covered_none : (left share : ℕ) → left ≡ share → 0 + left ≤ share
+covered_none left share same = omega (arith, same)
 
-pub after_read : (replies : Replies) (new : Connection) (history : List Event) (r0 r1 w : Option (List ℕ)) → HasRead replies new history r0 r1
-    → HasAdvanced replies new history r0 r1 w w
-after_read replies new history r0 r1 w has = record {
+covered_one : (left share : ℕ) → left + 1 ≡ share → 1 + left ≤ share
+covered_one left share less = omega (arith, less)
+
+pub nothing : (replies : Replies) (share : Share) (connection : Connection) (history : List Event) (r w : Option (List ℕ)) → HasState connection history
+    → HasAdvanced replies share share connection history r r w w
+nothing replies share connection history r w state = record {
+  more = [];
+  state = state;
+  replies_made = tt;
+  bytes_received = consumes_none r;
+  bytes_sent = appends_none w;
+  bytes_covered = covered_none share.bytes share.bytes refl;
+  replies_covered = covered_none share.replies share.replies refl;
+}
+
+pub after_read : (replies : Replies) (share left : Share) (new : Connection) (history : List Event) (r0 r1 w : Option (List ℕ)) → HasRead share left new history r0 r1
+    → HasAdvanced replies share left new history r0 r1 w w
+after_read replies share left new history r0 r1 w has = record {
   more = has.more;
   state = has.state;
-  replies_made = has.replies_made;
+  replies_made = no_replies replies has.more has.no_reply_made;
   bytes_received = has.bytes_received;
   bytes_sent = subst (Appends w w) (sym has.none_sent) (appends_none w);
+  bytes_covered = has.bytes_covered;
+  replies_covered = rw has.no_reply_made (covered_none left.replies share.replies has.replies_kept);
 }
 
-pub after_write : (replies : Replies) (new : Connection) (history : List Event) (r w0 w1 : Option (List ℕ)) → HasWritten new history w0 w1
-    → HasAdvanced replies new history r r w0 w1
-after_write replies new history r w0 w1 has = record {
+pub after_write : (replies : Replies) (share : Share) (new : Connection) (history : List Event) (r w0 w1 : Option (List ℕ)) → HasWritten new history w0 w1
+    → HasAdvanced replies share share new history r r w0 w1
+after_write replies share new history r w0 w1 has = record {
   more = has.more;
   state = has.state;
-  replies_made = no_replies replies has.more history has.no_reply_made;
+  replies_made = no_replies replies has.more has.no_reply_made;
   bytes_received = subst (Consumes r r) (sym has.none_received) (consumes_none r);
   bytes_sent = has.bytes_sent;
+  bytes_covered = rw has.none_received (covered_none share.bytes share.bytes refl);
+  replies_covered = rw has.no_reply_made (covered_none share.replies share.replies refl);
 }
 
-pub further : (replies : Replies) (mid new : Connection) (history : List Event) (r0 r1 r2 w0 w1 w2 : Option (List ℕ))
-    → (before : HasAdvanced replies mid history r0 r1 w0 w1) → HasAdvanced replies new (before.more ++ history) r1 r2 w1 w2 → HasAdvanced replies new history r0 r2 w0 w2
-further replies mid new history r0 r1 r2 w0 w1 w2 before after = record {
+-- the bytes held were parsed, and a reply may have been made
+pub after_parse : (replies : Replies) (share left : Share) (complete : Bool) (new : Connection) (history : List Event) (r w : Option (List ℕ))
+    → left.bytes ≡ share.bytes → (complete ≡ false → left.replies ≡ share.replies) → (complete ≡ true → left.replies + 1 ≡ share.replies)
+    → HasParsed replies complete new history → HasAdvanced replies share left new history r r w w
+after_parse replies share left false new history r w bytes same less (phase, state) = record {
+  more = [];
+  state = state;
+  replies_made = tt;
+  bytes_received = consumes_none r;
+  bytes_sent = appends_none w;
+  bytes_covered = covered_none left.bytes share.bytes bytes;
+  replies_covered = covered_none left.replies share.replies (same refl);
+}
+after_parse replies share left true new history r w bytes same less (inl (request, reply, is, state)) = record {
+  more = Replied request reply ∷ [];
+  state = state;
+  replies_made = (is, tt);
+  bytes_received = consumes_none r;
+  bytes_sent = appends_none w;
+  bytes_covered = covered_none left.bytes share.bytes bytes;
+  replies_covered = covered_one left.replies share.replies (less refl);
+}
+after_parse replies share left true new history r w bytes same less (inr (text, none, phase, state)) = record {
+  more = [];
+  state = state;
+  replies_made = tt;
+  bytes_received = consumes_none r;
+  bytes_sent = appends_none w;
+  bytes_covered = covered_none left.bytes share.bytes bytes;
+  replies_covered = omega (arith, covered_one left.replies share.replies (less refl));
+}
+
+pub further : (replies : Replies) (share mid_share left : Share) (mid new : Connection) (history : List Event) (r0 r1 r2 w0 w1 w2 : Option (List ℕ))
+    → (before : HasAdvanced replies share mid_share mid history r0 r1 w0 w1) → HasAdvanced replies mid_share left new (before.more ++ history) r1 r2 w1 w2
+    → HasAdvanced replies share left new history r0 r2 w0 w2
+further replies share mid_share left mid new history r0 r1 r2 w0 w1 w2 before after = record {
   more = after.more ++ before.more;
   state = subst (HasState new) (sym (append_assoc after.more before.more history)) after.state;
-  replies_made = replies-append replies after.more before.more history after.replies_made before.replies_made;
+  replies_made = replies-append replies after.more before.more after.replies_made before.replies_made;
   bytes_received = subst (Consumes r0 r2) (sym (received_bytes-append after.more before.more)) (consumes_more r0 r1 r2 _ _ before.bytes_received after.bytes_received);
   bytes_sent = subst (Appends w0 w2) (sym (sent_bytes-append after.more before.more)) (appends_more w0 w1 w2 _ _ before.bytes_sent after.bytes_sent);
+  bytes_covered = rw (received_bytes-append after.more before.more, length-append (received_bytes before.more) (received_bytes after.more))
+      (omega (arith, before.bytes_covered, after.bytes_covered));
+  replies_covered = rw (requests-append after.more before.more, length-append (requests_in before.more) (requests_in after.more))
+      (omega (arith, before.replies_covered, after.replies_covered));
 }
 
 -- bytes of a single read
-pub read_some : (replies : Replies) (new : Connection) (history : List Event) (bytes : List ℕ) (r0 r1 : Option (List ℕ)) → Consumes r0 r1 bytes
-    → HasReceived replies new bytes history → HasRead replies new history r0 r1
-read_some replies new history bytes r0 r1 bytes_received (inl state) = record { more = Received bytes ∷ []; state = state; replies_made = tt; bytes_received = bytes_received; none_sent = refl }
-read_some replies new history bytes r0 r1 bytes_received (inr (reply, is, state)) =
-    record { more = Replied reply ∷ Received bytes ∷ []; state = state; replies_made = (is, tt); bytes_received = bytes_received; none_sent = refl }
+pub read_some : (share left : Share) (new : Connection) (history : List Event) (bytes : List ℕ) (r0 r1 : Option (List ℕ)) → Consumes r0 r1 bytes
+    → HasState new (Received bytes ∷ history) → length bytes + left.bytes ≤ share.bytes → left.replies ≡ share.replies → HasRead share left new history r0 r1
+read_some share left new history bytes r0 r1 received state covered kept = record {
+  more = Received bytes ∷ [];
+  state = state;
+  no_reply_made = refl;
+  bytes_received = received;
+  none_sent = refl;
+  bytes_covered = covered;
+  replies_kept = kept;
+}

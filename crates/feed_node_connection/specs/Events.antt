@@ -1,33 +1,59 @@
 -- The events of a connection, the newest first.
-use Rattle.std.specs.Prelude.{ℕ, ◌+◌, nat_le, if◌then◌else◌, List, [], ◌∷◌, ◌++◌, length}
+use Rattle.std.specs.Prelude.{ℕ, ◌+◌, nat_le, Bool, false, if◌then◌else◌, List, [], ◌∷◌, ◌++◌, length}
+use Rattle.feed_node_connection.specs.Requests.{Request}
 
+-- `Resumed` is the moment at which the connection turns to the next request: it is idle, or it has received a part of
+-- that request already
 pub data Event : Type 0 where
-  Received Replied Sent : List ℕ → Event
+  Received Sent : List ℕ → Event
+  Replied : Request → List ℕ → Event
+  Resumed : Bool → Event
   Elapsed : ℕ → Event
 
 -- all bytes received
 abbrev pub received_bytes : List Event → List ℕ
 received_bytes [] = []
 received_bytes (Received bytes ∷ earlier) = received_bytes earlier ++ bytes
-received_bytes (Replied reply ∷ earlier) = received_bytes earlier
 received_bytes (Sent bytes ∷ earlier) = received_bytes earlier
+received_bytes (Replied request reply ∷ earlier) = received_bytes earlier
+received_bytes (Resumed idle ∷ earlier) = received_bytes earlier
 received_bytes (Elapsed millis ∷ earlier) = received_bytes earlier
 
 -- all bytes sent, which the peer accepted
 abbrev pub sent_bytes : List Event → List ℕ
 sent_bytes [] = []
 sent_bytes (Received bytes ∷ earlier) = sent_bytes earlier
-sent_bytes (Replied reply ∷ earlier) = sent_bytes earlier
 sent_bytes (Sent bytes ∷ earlier) = sent_bytes earlier ++ bytes
+sent_bytes (Replied request reply ∷ earlier) = sent_bytes earlier
+sent_bytes (Resumed idle ∷ earlier) = sent_bytes earlier
 sent_bytes (Elapsed millis ∷ earlier) = sent_bytes earlier
 
--- the replies that were made
-abbrev pub replies_in : List Event → List (List ℕ)
-replies_in [] = []
-replies_in (Received bytes ∷ earlier) = replies_in earlier
-replies_in (Replied reply ∷ earlier) = reply ∷ replies_in earlier
-replies_in (Sent bytes ∷ earlier) = replies_in earlier
-replies_in (Elapsed millis ∷ earlier) = replies_in earlier
+-- the requests to which a reply was made, the first one first
+abbrev pub requests_in : List Event → List Request
+requests_in [] = []
+requests_in (Received bytes ∷ earlier) = requests_in earlier
+requests_in (Sent bytes ∷ earlier) = requests_in earlier
+requests_in (Replied request reply ∷ earlier) = requests_in earlier ++ request ∷ []
+requests_in (Resumed idle ∷ earlier) = requests_in earlier
+requests_in (Elapsed millis ∷ earlier) = requests_in earlier
+
+-- the bytes of their replies, in the same order
+abbrev pub reply_bytes : List Event → List ℕ
+reply_bytes [] = []
+reply_bytes (Received bytes ∷ earlier) = reply_bytes earlier
+reply_bytes (Sent bytes ∷ earlier) = reply_bytes earlier
+reply_bytes (Replied request reply ∷ earlier) = reply_bytes earlier ++ reply
+reply_bytes (Resumed idle ∷ earlier) = reply_bytes earlier
+reply_bytes (Elapsed millis ∷ earlier) = reply_bytes earlier
+
+-- the connection waits for the first byte of the next request
+abbrev pub is_idle : List Event → Bool
+is_idle [] = false
+is_idle (Received bytes ∷ earlier) = false
+is_idle (Sent bytes ∷ earlier) = is_idle earlier
+is_idle (Replied request reply ∷ earlier) = false
+is_idle (Resumed idle ∷ earlier) = idle
+is_idle (Elapsed millis ∷ earlier) = is_idle earlier
 
 -- the number of bytes of a reply that the peer must accept within the time limit
 abbrev pub min_progress : ℕ
@@ -38,13 +64,17 @@ abbrev pub sent_since : List Event → ℕ
 sent_since [] = 0
 sent_since (Received bytes ∷ earlier) = sent_since earlier
 sent_since (Sent bytes ∷ earlier) = if nat_le min_progress (sent_since earlier + length bytes) then 0 else sent_since earlier + length bytes
-sent_since (Replied reply ∷ earlier) = 0
+sent_since (Replied request reply ∷ earlier) = 0
+sent_since (Resumed idle ∷ earlier) = 0
 sent_since (Elapsed millis ∷ earlier) = sent_since earlier
 
--- the milliseconds since then: since the connection or its reply began, or the peer accepted enough of the reply
+-- the milliseconds since the timer was last restarted: when the connection or a reply began, when the peer accepted
+-- enough of the reply, when the reply was sent and the connection resumed, and when the first bytes of a request came
+-- to an idle connection
 abbrev pub elapsed : List Event → ℕ
 elapsed [] = 0
-elapsed (Received bytes ∷ earlier) = elapsed earlier
+elapsed (Received bytes ∷ earlier) = if is_idle earlier then 0 else elapsed earlier
 elapsed (Sent bytes ∷ earlier) = if nat_le min_progress (sent_since earlier + length bytes) then 0 else elapsed earlier
-elapsed (Replied reply ∷ earlier) = 0
+elapsed (Replied request reply ∷ earlier) = 0
+elapsed (Resumed idle ∷ earlier) = 0
 elapsed (Elapsed millis ∷ earlier) = elapsed earlier + millis

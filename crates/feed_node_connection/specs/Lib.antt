@@ -1,3 +1,4 @@
+pub mod Requests
 pub mod Events
 pub mod Replies
 pub mod States

@@ -1,97 +1,169 @@
 -- The state of a connection, as determined by its events.
-use Rattle.std.specs.Prelude.{◌≡◌, ◌≤◌, ◌<◌, ◌⊎◌, ℕ, Bool, true, false, List, [], ◌∷◌, ◌++◌, length, take, drop}
+use Rattle.std.specs.Prelude.{◌≡◌, ◌==◌, ◌&&◌, ◌||◌, nat_lt, ◌≤◌, ◌<◌, ◌-◌, ◌⊎◌, ℕ, Bool, true, false, List, [], ◌∷◌, ◌++◌, length, take, drop, Some}
 use Rattle.feed_http_heads.specs.Limits.{head_limit}
 use Rattle.feed_http_heads.specs.RequestHeads.{IsUnfinished}
 use Rattle.feed_node_connection.specs.declared.connection.Connection.{Connection}
 use Rattle.feed_node_connection.specs.declared.connection.Phase.{Phase}
-use Rattle.feed_node_connection.specs.declared.connection.Phase.TheVariants.{Receiving, Sending, Lingering, Complete, Aborted}
+use Rattle.feed_node_connection.specs.declared.connection.Phase.TheVariants.{Idle, Receiving, Parsing, Sending, Answered, Lingering, Complete, Aborted}
+use Rattle.feed_node_connection.specs.declared.connection.TimeLimits.{TimeLimits}
 use Rattle.feed_node_connection.specs.declared.connection.Wants.{Wants}
-use Rattle.feed_node_connection.specs.declared.connection.Wants.TheVariants.{Bytes, Room, Close}
-use Rattle.feed_node_connection.specs.Events.{Event, Received, Replied, received_bytes, replies_in, sent_bytes, sent_since, elapsed}
-use Rattle.feed_node_connection.specs.Replies.{Replies, IsEnough, IsRespondedTo, IsReplyTo}
+use Rattle.feed_node_connection.specs.declared.connection.Wants.TheVariants as wants
+use Rattle.feed_node_connection.specs.declared.head_state.AfterReply.{AfterReply}
+use Rattle.feed_node_connection.specs.declared.head_state.AfterReply.TheVariants.{Persist, Linger, Close}
+use Rattle.feed_node_connection.specs.Events.{Event, Received, Replied, Resumed, received_bytes, reply_bytes, requests_in, sent_bytes, sent_since, elapsed, is_idle}
+use Rattle.feed_node_connection.specs.Requests.{Request, AreRequestsIn, all_persist}
+use Rattle.feed_node_connection.specs.Replies.{Replies, HasNoReply, IsRepliedTo, persists_in, unavailable}
 
--- exactly this reply was made
-abbrev pub IsOnlyReply : List Event → List ℕ → Type 0
-IsOnlyReply history reply = replies_in history ≡ reply ∷ []
+-- the requests with replies are the first in the bytes received, these bytes follow them, and another may have a reply
+pub record IsServedUpTo (history : List Event) (rest : List ℕ) : Type 0 where
+  pub in_order : AreRequestsIn (received_bytes history) (requests_in history) rest
+  pub persists : all_persist (requests_in history) ≡ true
 
--- no reply was made and nothing was sent, or the first bytes of the only reply were sent
-abbrev pub IsPartOfReply : List Event → Type 0
-IsPartOfReply history =
-    ((replies_in history ≡ []) × (sent_bytes history ≡ []))
-    ⊎ ((reply : List ℕ) × (sent : ℕ) × IsOnlyReply history reply × (sent_bytes history ≡ take sent reply))
+-- the requests with replies are the first in the bytes received
+abbrev pub AreFirst : List Event → Type 0
+AreFirst history = (rest : List ℕ) × AreRequestsIn (received_bytes history) (requests_in history) rest
+
+-- and the last of them ended the connection
+abbrev pub HasEnded : List Event → Type 0
+HasEnded history = AreFirst history × (all_persist (requests_in history) ≡ false)
+
+-- all replies were sent
+abbrev pub AreSent : List Event → Type 0
+AreSent history = reply_bytes history ≡ sent_bytes history
+
+-- the bytes sent are the beginning of the replies
+abbrev pub IsFrontSent : List Event → Type 0
+IsFrontSent history = (unsent : List ℕ) × (reply_bytes history ≡ sent_bytes history ++ unsent)
+
+-- the time that a connection may take now
+abbrev pub limit_in : Bool → TimeLimits → ℕ
+limit_in true limits = limits.idle
+limit_in false limits = limits.step
 
 -- the timer and the bytes that restart it are right, and time is left
-pub record IsInTime (connection : Connection) (history : List Event) : Type 0 where
+pub record IsInTime (idle : Bool) (connection : Connection) (history : List Event) : Type 0 where
+  pub idleness : is_idle history ≡ idle
   pub counted_time : connection.elapsed ≡ elapsed history
   pub counted_bytes : connection.sent_since ≡ sent_since history
-  pub left : connection.elapsed < connection.limit
+  pub left : connection.elapsed < limit_in idle connection.limits
 
--- no reply was made, and the bytes received are kept and may become a head
+-- the bytes held after the request with the current reply
+abbrev pub rest_of : Connection → List ℕ
+rest_of connection = drop connection.request_len connection.received.items
+
+-- each request before the bytes held has its reply, and the replies were sent
+pub record IsCurrent (idle : Bool) (connection : Connection) (history : List Event) : Type 0 where
+  pub served : IsServedUpTo history connection.received.items
+  pub sent : AreSent history
+  pub in_time : IsInTime idle connection history
+
+-- no byte of the next request was received
+pub record IsIdle (connection : Connection) (history : List Event) : Type 0 where
+  pub current : IsCurrent true connection history
+  pub none : connection.received.items ≡ []
+
+-- the bytes held are not a whole head, and may become one
 pub record IsReceiving (connection : Connection) (history : List Event) : Type 0 where
-  pub kept : connection.received.items ≡ received_bytes history
-  pub none : replies_in history ≡ []
-  pub nothing_sent : sent_bytes history ≡ []
-  pub unfinished : IsUnfinished head_limit (received_bytes history)
-  pub in_time : IsInTime connection history
+  pub current : IsCurrent false connection history
+  pub unfinished : IsUnfinished head_limit connection.received.items
 
--- a part of the reply remains to be sent
+-- what follows the request with the current reply
+abbrev pub IsAfterReply : AfterReply → Connection → List Event → Type 0
+IsAfterReply Persist connection history = IsServedUpTo history (rest_of connection)
+IsAfterReply Linger connection history = HasEnded history
+IsAfterReply Close connection history = HasEnded history
+
+-- a part of the last reply remains to be sent
 pub record IsSending (connection : Connection) (history : List Event) : Type 0 where
-  pub replied : IsOnlyReply history connection.reply.items
-  pub bytes_sent : sent_bytes history ≡ take connection.sent connection.reply.items
+  pub after : IsAfterReply connection.after connection history
+  pub sent : reply_bytes history ≡ sent_bytes history ++ drop connection.sent connection.reply.items
   pub more : connection.sent < length connection.reply.items
-  pub in_time : IsInTime connection history
+  pub in_time : IsInTime false connection history
 
--- the whole reply was sent
+-- all replies were sent, the last one is freed, and another request may be answered
+pub record IsAnswered (connection : Connection) (history : List Event) : Type 0 where
+  pub served : IsServedUpTo history (rest_of connection)
+  pub sent : AreSent history
+  pub freed : connection.reply.items ≡ []
+  pub in_time : IsInTime false connection history
+
+-- all replies were sent, the last one is freed, and no other request is answered
+pub record IsComplete (connection : Connection) (history : List Event) : Type 0 where
+  pub ended : HasEnded history
+  pub sent : AreSent history
+  pub freed : connection.reply.items ≡ []
+
+-- and time is left for the peer to close its side
 pub record IsLingering (connection : Connection) (history : List Event) : Type 0 where
-  pub whole : IsOnlyReply history (sent_bytes history)
-  pub in_time : IsInTime connection history
+  pub complete : IsComplete connection history
+  pub in_time : IsInTime false connection history
 
 abbrev pub HasStateIn : Phase → Connection → List Event → Type 0
+HasStateIn Idle connection history = IsIdle connection history
 HasStateIn Receiving connection history = IsReceiving connection history
+HasStateIn Parsing connection history = IsCurrent false connection history
 HasStateIn Sending connection history = IsSending connection history
+HasStateIn Answered connection history = IsAnswered connection history
 HasStateIn Lingering connection history = IsLingering connection history
-HasStateIn Complete connection history = IsOnlyReply history (sent_bytes history)
-HasStateIn Aborted connection history = IsPartOfReply history
+HasStateIn Complete connection history = IsComplete connection history
+HasStateIn Aborted connection history = AreFirst history × IsFrontSent history
 
 -- the connection has the state that this history determines
 abbrev pub HasState : Connection → List Event → Type 0
 HasState connection history = HasStateIn connection.phase connection history
 
--- bytes were received, and a reply to all of them may have been made
-abbrev pub HasReceived : Replies → Connection → List ℕ → List Event → Type 0
-HasReceived replies connection bytes history =
-    HasState connection (Received bytes ∷ history)
-    ⊎ ((reply : List ℕ) × IsReplyTo replies (received_bytes (Received bytes ∷ history)) reply × HasState connection (Replied reply ∷ Received bytes ∷ history))
+-- a reply to the next request was made; or the responder made none, and memory ran out for the one that says so
+abbrev pub HasReplied : Replies → Connection → List Event → Type 0
+HasReplied replies connection history =
+    ((request : Request) × (reply : List ℕ) × IsRepliedTo replies request reply × HasState connection (Replied request reply ∷ history))
+    ⊎ ((bytes : List ℕ) × HasNoReply replies bytes × (connection.phase ≡ Aborted) × HasState connection history)
 
--- a phase after the whole reply was sent
-abbrev pub IsReplySent : Phase → Type 0
-IsReplySent phase = (phase ≡ Lingering) ⊎ (phase ≡ Complete)
+-- the bytes held were parsed: they are an incomplete request, or it was replied to
+abbrev pub HasParsed : Replies → Bool → Connection → List Event → Type 0
+HasParsed replies false connection history = (connection.phase ≡ Receiving) × HasState connection history
+HasParsed replies true connection history = HasReplied replies connection history
+
+-- the phase after the whole reply was sent
+abbrev pub phase_after : AfterReply → Phase
+phase_after Persist = Answered
+phase_after Linger = Lingering
+phase_after Close = Complete
 
 -- the phase in which a reply begins
-abbrev pub IsFirstPhaseOf : List ℕ → Phase → Type 0
-IsFirstPhaseOf [] phase = IsReplySent phase
-IsFirstPhaseOf (byte ∷ bytes) phase = phase ≡ Sending
+abbrev pub first_phase : List ℕ → AfterReply → Phase
+first_phase [] after = phase_after after
+first_phase (byte ∷ bytes) after = Sending
 
--- the reply begins
-pub record HasBegunReply (reply : List ℕ) (new : Connection) : Type 0 where
+-- the reply to this number of bytes begins
+pub record HasBegunReply (reply : List ℕ) (size : ℕ) (after : AfterReply) (old new : Connection) : Type 0 where
   pub text : new.reply.items ≡ reply
   pub sent : new.sent ≡ 0
-  pub phase : IsFirstPhaseOf reply new.phase
+  pub request_len : new.request_len ≡ size
+  pub after_is : new.after ≡ after
+  pub received : new.received.items ≡ old.received.items
+  pub phase : new.phase ≡ first_phase reply after
   pub sent_since : new.sent_since ≡ 0
   pub elapsed : new.elapsed ≡ 0
 
--- the connection continues to receive
-pub record KeepsReceiving (received : List ℕ) (old new : Connection) : Type 0 where
-  pub bytes : new.received.items ≡ received
-  pub phase : new.phase ≡ Receiving
-  pub sent_since : new.sent_since ≡ old.sent_since
-  pub elapsed : new.elapsed ≡ old.elapsed
+-- the responder made no reply to the first bytes: the connection says so, or memory ran out for that too
+abbrev pub HasRefused : ℕ → Connection → Connection → Type 0
+HasRefused size old new = HasBegunReply unavailable size Linger old new ⊎ (new.phase ≡ Aborted)
 
--- after these bytes the connection continues to receive, or begins the reply to all bytes received
-abbrev pub HasAppended : Replies → List ℕ → Connection → Connection → Type 0
-HasAppended replies bytes old new =
-    (IsUnfinished head_limit (old.received.items ++ bytes) × KeepsReceiving (old.received.items ++ bytes) old new)
-    ⊎ ((reply : List ℕ) × IsEnough (old.received.items ++ bytes) × IsRespondedTo replies (old.received.items ++ bytes) reply × HasBegunReply reply new)
+-- the reply to the first bytes begins, or the responder made none
+abbrev pub HasResponded : Replies → ℕ → AfterReply → Connection → Connection → Type 0
+HasResponded replies size after old new =
+    ((reply : List ℕ) × replies (take size old.received.items) (persists_in after) (Some reply) × HasBegunReply reply size after old new)
+    ⊎ (HasNoReply replies (take size old.received.items) × HasRefused size old new)
+
+-- the number of bytes that may be received at once
+abbrev pub room_in : Phase → Connection → ℕ
+room_in Idle connection = head_limit - length connection.received.items
+room_in Receiving connection = head_limit - length connection.received.items
+room_in Lingering connection = head_limit
+room_in phase connection = 0
+
+abbrev pub room_of : Connection → ℕ
+room_of connection = room_in connection.phase connection
 
 -- the part of the reply that remains to be sent
 abbrev pub pending_in : Phase → Connection → List ℕ
@@ -103,27 +175,56 @@ pending_of connection = pending_in connection.phase connection
 
 -- the event that a connection waits for
 abbrev pub wants_in : Phase → Wants
-wants_in Receiving = Bytes
-wants_in Sending = Room
-wants_in Lingering = Bytes
-wants_in Complete = Close
-wants_in Aborted = Close
+wants_in Idle = wants.Bytes
+wants_in Receiving = wants.Bytes
+wants_in Parsing = wants.Parse
+wants_in Sending = wants.Room
+wants_in Answered = wants.Next
+wants_in Lingering = wants.Bytes
+wants_in Complete = wants.Close
+wants_in Aborted = wants.Close
+
+abbrev pub is_idle_in : Phase → Bool
+is_idle_in Idle = true
+is_idle_in phase = false
 
 abbrev pub is_lingering_in : Phase → Bool
 is_lingering_in Lingering = true
 is_lingering_in phase = false
 
 abbrev pub is_reply_sent_in : Phase → Bool
+is_reply_sent_in Answered = true
 is_reply_sent_in Lingering = true
 is_reply_sent_in Complete = true
 is_reply_sent_in phase = false
 
--- the properties of a connection after any history: it made at most one reply; the bytes sent are the front of the
--- reply, or all of it if the connection is done; and past its time limit it waits for nothing
+-- the class of a connection among those that are closed to make room: first those that have all their replies, then those
+-- that read theirs
+abbrev pub closing_class : Phase → ℕ
+closing_class Receiving = 0
+closing_class Parsing = 0
+closing_class Sending = 1
+closing_class phase = 2
+
+-- the first is closed before the second
+abbrev pub is_closed_before : Connection → Connection → Bool
+is_closed_before first second =
+    nat_lt (closing_class second.phase) (closing_class first.phase)
+    || ((closing_class first.phase == closing_class second.phase) && nat_lt second.elapsed first.elapsed)
+
+-- the properties of a connection after any history: the requests with replies are the first in the bytes received; the
+-- bytes sent are the beginning of the replies; once the last reply is sent, it is freed and all are sent; another
+-- request is answered unless the last one ended the connection; while the connection waits for a request, each one
+-- before the bytes held was answered, and those bytes have no whole head; and past its time it waits for nothing
 pub record IsRightAfter (connection : Connection) (history : List Event) : Type 0 where
-  pub front : IsPartOfReply history
-  pub whole : IsReplySent connection.phase → IsOnlyReply history (sent_bytes history)
-  pub closed : connection.limit ≤ elapsed history → wants_in connection.phase ≡ Close
+  pub first : AreFirst history
+  pub front : IsFrontSent history
+  pub whole : is_reply_sent_in connection.phase ≡ true → AreSent history × (connection.reply.items ≡ [])
+  pub persists : connection.phase ≡ Answered → all_persist (requests_in history) ≡ true
+  pub ends : (connection.phase ≡ Lingering) ⊎ (connection.phase ≡ Complete) → all_persist (requests_in history) ≡ false
+  pub waits : connection.phase ≡ Receiving → AreSent history × IsServedUpTo history connection.received.items × IsUnfinished head_limit connection.received.items
+  pub idles : connection.phase ≡ Idle → AreSent history × IsServedUpTo history []
+  pub closes : limit_in (is_idle history) connection.limits ≤ elapsed history → wants_in connection.phase ≡ wants.Close
 
 abbrev pub StateIsRight : Type 0
 StateIsRight = (connection : Connection) (history : List Event) → HasState connection history → IsRightAfter connection history

@@ -1,82 +1,110 @@
 //! The state machine of one connection of a node, without its socket.
-ghost use Rattle.std.specs.Prelude.{◌≡◌, ◌≢◌, ◌+◌, ◌<◌, ◌≤◌, List, ◌∷◌, [], length, take, OnOk, vec_len};
-ghost use Rattle.feed_node_connection.specs.Events.{Event, Received, Sent, Elapsed};
+ghost use Rattle.std.specs.Prelude.{◌≡◌, ◌==◌, ◌+◌, ◌<◌, ◌≤◌, List, ◌∷◌, [], length, take, drop, vec_len};
+ghost use Rattle.feed_node_connection.specs.Events.{Event, Received, Sent, Resumed, Elapsed};
 
-use crate::head_state::{HeadState, head_state};
-use crate::respond::{Reply, ReplySummary, Respond, make_reply};
+use crate::head_state::{AfterReply, HeadState, head_state};
+use crate::respond::{Reply, ReplySummary, Respond, RespondFault, unavailable};
 use feed_http_heads::HEAD_LIMIT;
-use std::alloc::{AllocError, Global};
+use std::alloc::Global;
 
 /// The number of bytes of a reply that a peer must accept within the time in which it has to send its head.
 pub const MIN_PROGRESS: usize = 16_384;
+
+/// The milliseconds that a connection may take.
+#[derive(Clone, Copy)]
+pub struct TimeLimits {
+    /// For each step: receiving a head, sending every 16,384 bytes of a reply, and sending the rest.
+    pub step: u64,
+    /// Between two requests, until the first byte of the second one arrives.
+    pub idle: u64,
+    ghost step_some: { 0 < step },
+    ghost idle_some: { 0 < idle },
+}
 
 /// The event that a connection waits for.
 #[derive(Clone, Copy, Debug, PartialEq, Eq)]
 pub enum Wants {
     /// Bytes from the peer.
     Bytes,
+    /// A call of `parse_request`: it holds bytes that were not parsed.
+    Parse,
     /// Room for bytes to the peer.
     Room,
+    /// A call of `resume`: a reply was sent, and the connection persists.
+    Next,
     /// Nothing: close it.
     Close,
 }
 
 /// How far a connection is.
-#[derive(Clone, Copy)]
+#[derive(Clone, Copy, Debug, PartialEq, Eq)]
 pub enum Phase {
-    /// The head is incomplete.
+    /// No byte of the next request was received.
+    Idle,
+    /// The head of a request is incomplete.
     Receiving,
+    /// The bytes held were not parsed.
+    Parsing,
     /// A part of the reply remains to be sent.
     Sending,
-    /// The whole reply was sent. Further bytes from the peer are dropped until it closes its side, because closing a
-    /// connection with unread bytes may lose the reply (RFC 9112, section 9.6).
+    /// The whole reply was sent, and the connection persists.
+    Answered,
+    /// The last reply was sent. Further bytes from the peer are dropped until it closes its side.
     Lingering,
-    /// The whole reply was sent, and the connection waits for nothing.
+    /// The last reply was sent, and the connection waits for nothing.
     Complete,
     /// The time limit passed, the peer closed its side, or memory ran out.
     Aborted,
 }
 
-/// A connection that receives one request and sends one reply.
+/// A connection that receives requests, one after the other, and sends the reply to each.
 #[derive(Drop)]
 pub struct Connection {
     phase: Phase,
+    /// The bytes after the requests that were answered before. They begin with the request whose reply is sent.
     received: Vec<u8>,
+    /// The length of that request, or 0.
+    request_len: usize,
+    /// Whether the last read filled its room, so that bytes may be left unread.
+    more_may_come: bool,
     reply: Vec<u8>,
     sent: usize,
-    more_may_come: bool,
+    after: AfterReply,
     /// The bytes sent since the timer was last restarted.
     sent_since: usize,
     /// The milliseconds since then.
     elapsed: u64,
-    limit: u64,
+    limits: TimeLimits,
     summary: Option<ReplySummary>,
     ghost bounded: { vec_len received ≤ 8192 },
+    ghost inside: { request_len ≤ vec_len received },
     ghost within: { sent ≤ vec_len reply },
     ghost slow: { sent_since < 16384 },
-    ghost in_time: { elapsed ≤ limit },
 }
 
 impl Connection {
-    ghost use Rattle.feed_node_connection.specs.States.{HasState, HasReceived, pending_of, wants_in, IsReplySent};
-    ghost use Rattle.feed_node_connection.specs.States.{HasAppended, HasBegunReply, is_lingering_in, is_reply_sent_in};
+    ghost use Rattle.feed_node_connection.specs.Replies.{persists_in};
+    ghost use Rattle.feed_node_connection.specs.States.{HasState, HasParsed, HasBegunReply, HasRefused, HasResponded};
+    ghost use Rattle.feed_node_connection.specs.States.{is_idle_in, is_lingering_in, is_reply_sent_in, limit_in};
+    ghost use Rattle.feed_node_connection.specs.States.{pending_of, phase_after, rest_of, room_of, wants_in};
+    ghost use Rattle.feed_node_connection.specs.States.{closing_class, is_closed_before};
 
-    /// Returns a connection in which each step may take `limit` milliseconds: receiving the head, sending every 16,384
-    /// bytes of the reply, and sending the rest.
-    pub fn new(alloc: Global, limit: u64) -> Connection
-        requires { 0 < limit }
+    /// Returns a connection with these time limits.
+    pub fn new(alloc: Global, limits: TimeLimits) -> Connection
         ensures state { HasState result [] }
-        ensures limit { result.limit ≡ limit }
+        ensures limits { result.limits ≡ limits }
     {
         Connection {
             phase: Phase::Receiving,
             received: Vec::new(alloc),
+            request_len: 0,
+            more_may_come: false,
             reply: Vec::new(alloc),
             sent: 0,
-            more_may_come: true,
+            after: AfterReply::Persist,
             sent_since: 0,
             elapsed: 0,
-            limit,
+            limits,
             summary: None,
         }
     }
@@ -86,15 +114,29 @@ impl Connection {
         ensures { result ≡ wants_in self.now.phase }
     {
         match self.phase {
+            Phase::Idle => Wants::Bytes,
             Phase::Receiving => Wants::Bytes,
+            Phase::Parsing => Wants::Parse,
             Phase::Sending => Wants::Room,
+            Phase::Answered => Wants::Next,
             Phase::Lingering => Wants::Bytes,
             Phase::Complete => Wants::Close,
             Phase::Aborted => Wants::Close,
         }
     }
 
-    /// Returns whether the reply was sent and the peer may send more. If so, the caller shuts down the sending side.
+    /// Returns whether the connection waits for the first byte of another request.
+    pub fn is_idle(&self) -> bool
+        ensures { result ≡ is_idle_in self.now.phase }
+    {
+        match self.phase {
+            Phase::Idle => true,
+            _ => false,
+        }
+    }
+
+    /// Returns whether the last reply was sent and the peer may send more. If so, the caller shuts down the sending
+    /// side.
     pub fn is_lingering(&self) -> bool
         ensures { result ≡ is_lingering_in self.now.phase }
     {
@@ -109,94 +151,131 @@ impl Connection {
         ensures { result ≡ is_reply_sent_in self.now.phase }
     {
         match self.phase {
+            Phase::Answered => true,
             Phase::Lingering => true,
             Phase::Complete => true,
             _ => false,
         }
     }
 
-    /// Adds received bytes to the head, and makes the reply once the head is complete or invalid. Drops bytes after the
-    /// head.
-    pub fn receive<R: Respond>(&mut self, alloc: Global, responder: &R, bytes: &[u8])
-        ensures state { (history : List Event) → HasState self.old history
-            → HasReceived (R.replies responder.now) self.new bytes.now history }
-        ensures limit { self.new.limit ≡ self.old.limit }
+    /// Returns how many bytes may be received at once.
+    pub fn room(&self) -> usize
+        ensures { result ≡ room_of self.now }
     {
-        let Phase::Receiving = self.phase else {
-            return;
-        };
-        let room = HEAD_LIMIT - self.received.len();
-        let (front, _) = bytes.split_at(bytes.len().min(room));
-        if self.append_request(alloc, responder, front).is_err() {
-            self.phase = Phase::Aborted;
+        match self.phase {
+            Phase::Idle => HEAD_LIMIT - self.received.len(),
+            Phase::Receiving => HEAD_LIMIT - self.received.len(),
+            Phase::Lingering => HEAD_LIMIT,
+            _ => 0,
         }
     }
 
-    fn append_request<R: Respond>(
-        &mut self,
-        alloc: Global,
-        responder: &R,
-        bytes: &[u8],
-    ) -> Result<(), AllocError>
-        requires hearing { self.old.phase ≡ Phase.Receiving }
-        requires room { vec_len self.old.received + length bytes.now ≤ HEAD_LIMIT }
-        ensures appended { OnOk result (HasAppended (R.replies responder.now) bytes.now self.old self.new) }
-        ensures limit { self.new.limit ≡ self.old.limit }
+    /// Adds received bytes to the bytes held, and drops them once no other request is answered. `more_may_come` says
+    /// whether the peer may have sent more.
+    pub fn receive(&mut self, bytes: &[u8], more_may_come: bool)
+        requires waiting { wants_in self.old.phase ≡ Wants.Bytes }
+        requires room { length bytes.now ≤ room_of self.old }
+        ensures state { (history : List Event) → HasState self.old history
+            → HasState self.new (Received bytes.now ∷ history) }
+        ensures limits { self.new.limits ≡ self.old.limits }
     {
-        self.received.extend_from_slice(bytes)?;
-        match head_state(&self.received) {
-            HeadState::Incomplete => Ok(()),
-            HeadState::Enough { more_may_come } => {
-                let reply = make_reply(alloc, responder, &self.received)?;
-                self.begin_reply(reply, more_may_come);
-                Ok(())
+        if self.is_lingering() {
+            return;
+        }
+        if self.is_idle() {
+            self.elapsed = 0;
+        }
+        self.more_may_come = more_may_come;
+        self.phase = match self.received.extend_from_slice(bytes) {
+            Ok(()) => Phase::Parsing,
+            Err(_) => Phase::Aborted,
+        };
+    }
+
+    /// Parses the bytes held, and begins the reply to a request at their front. Returns whether there is one.
+    pub fn parse_request<R: Respond>(&mut self, alloc: Global, responder: &R) -> bool
+        requires { self.old.phase ≡ Phase.Parsing }
+        ensures state { (history : List Event) → HasState self.old history
+            → HasParsed (R.replies responder.now) result self.new history }
+        ensures limits { self.new.limits ≡ self.old.limits }
+    {
+        let held = self.received.len();
+        match head_state(&self.received, self.more_may_come) {
+            HeadState::Incomplete => {
+                self.phase = Phase::Receiving;
+                false
+            }
+            HeadState::Whole(size, after) => {
+                self.respond(alloc, responder, size, after);
+                true
+            }
+            HeadState::Invalid => {
+                self.respond(alloc, responder, held, AfterReply::Linger);
+                true
             }
         }
     }
 
-    fn begin_reply(&mut self, reply: Reply, more_may_come: bool)
-        ensures begun { HasBegunReply reply.bytes.items self.new }
-        ensures limit { self.new.limit ≡ self.old.limit }
+    fn respond<R: Respond>(&mut self, alloc: Global, responder: &R, size: usize, after: AfterReply)
+        requires within { size ≤ vec_len self.old.received }
+        ensures responded { HasResponded (R.replies responder.now) size after self.old self.new }
+        ensures limits { self.new.limits ≡ self.old.limits }
+    {
+        match responder.respond(alloc, &self.received[..size], after.persists()) {
+            Ok(reply) => self.begin_reply(reply, size, after),
+            Err(fault) => self.refuse(alloc, size, fault),
+        }
+    }
+
+    fn refuse(&mut self, alloc: Global, size: usize, fault: RespondFault)
+        requires within { size ≤ vec_len self.old.received }
+        ensures refused { HasRefused size self.old self.new }
+        ensures limits { self.new.limits ≡ self.old.limits }
+    {
+        match unavailable(alloc, fault) {
+            Ok(reply) => self.begin_reply(reply, size, AfterReply::Linger),
+            Err(_) => self.phase = Phase::Aborted,
+        }
+    }
+
+    fn begin_reply(&mut self, reply: Reply, size: usize, after: AfterReply)
+        requires within { size ≤ vec_len self.old.received }
+        ensures begun { HasBegunReply reply.bytes.items size after self.old self.new }
+        ensures limits { self.new.limits ≡ self.old.limits }
     {
         self.summary = Some(reply.summary);
         self.reply = reply.bytes;
         self.sent = 0;
+        self.request_len = size;
+        self.after = after;
         self.sent_since = 0;
         self.elapsed = 0;
-        self.more_may_come = more_may_come;
         self.phase = if self.reply.is_empty() {
-            self.phase_after_reply()
+            self.phase_after()
         } else {
             Phase::Sending
         };
     }
 
     // The phase after the whole reply was sent.
-    fn phase_after_reply(&self) -> Phase
-        ensures { IsReplySent result }
+    fn phase_after(&self) -> Phase
+        ensures { result ≡ phase_after self.now.after }
     {
-        if self.more_may_come {
-            Phase::Lingering
-        } else {
-            Phase::Complete
+        match self.after {
+            AfterReply::Persist => Phase::Answered,
+            AfterReply::Linger => Phase::Lingering,
+            AfterReply::Close => Phase::Complete,
         }
     }
 
-    /// Returns the bytes received: the request's head and what arrived with it, or bytes that are not a head.
+    /// Returns the request whose reply is sent: its head, or bytes that are not a head.
     pub fn request_bytes(&self) -> &[u8]
-        ensures { result.now ≡ self.now.received.items }
+        ensures { result.now ≡ take self.now.request_len self.now.received.items }
     {
-        &self.received
+        &self.received[..self.request_len]
     }
 
-    /// Returns the whole reply. It is empty until the reply is made.
-    pub fn reply(&self) -> &[u8]
-        ensures { result.now ≡ self.now.reply.items }
-    {
-        &self.reply
-    }
-
-    /// Returns the status of the reply and the length of its body, once there is a reply.
+    /// Returns the status of the reply and the length of its body, from when it is made until `resume`.
     pub fn summary(&self) -> Option<ReplySummary>
         ensures { result ≡ self.now.summary }
     {
@@ -210,6 +289,28 @@ impl Connection {
         self.elapsed
     }
 
+    fn closing_class(&self) -> u8
+        ensures { result ≡ closing_class self.now.phase }
+    {
+        match self.phase {
+            Phase::Sending => 1,
+            Phase::Receiving => 0,
+            Phase::Parsing => 0,
+            _ => 2,
+        }
+    }
+
+    /// Returns whether this connection is closed before the other one to make room for a new one: a connection that has
+    /// all its replies before one that reads its reply, this before one whose request is incomplete, and of two such
+    /// the one whose timer was restarted earlier.
+    pub fn is_closed_before(&self, other: &Connection) -> bool
+        ensures { result ≡ is_closed_before self.now other.now }
+    {
+        let class = self.closing_class();
+        let other_class = other.closing_class();
+        other_class < class || (class == other_class && other.elapsed < self.elapsed)
+    }
+
     /// Returns the part of the reply that remains to be sent.
     pub fn pending_reply(&self) -> &[u8]
         ensures { result.now ≡ pending_of self.now }
@@ -220,13 +321,13 @@ impl Connection {
         }
     }
 
-    /// Records that the peer accepted this many bytes of `pending_reply`.
-    pub fn mark_sent(&mut self, count: usize)
+    /// Records that the peer accepted this many bytes of `pending_reply`. Frees the reply once it is sent.
+    pub fn mark_sent(&mut self, alloc: Global, count: usize)
         requires some { 0 < count }
         requires within { count ≤ length (pending_of self.old) }
         ensures state { (history : List Event) → HasState self.old history
             → HasState self.new (Sent (take count (pending_of self.old)) ∷ history) }
-        ensures limit { self.new.limit ≡ self.old.limit }
+        ensures limits { self.new.limits ≡ self.old.limits }
     {
         if count >= MIN_PROGRESS - self.sent_since {
             self.sent_since = 0;
@@ -234,9 +335,42 @@ impl Connection {
         } else {
             self.sent_since += count;
         }
-        self.sent += count;
-        if self.sent == self.reply.len() {
-            self.phase = self.phase_after_reply();
+        if count == self.reply.len() - self.sent {
+            self.sent = 0;
+            self.reply = Vec::new(alloc);
+            self.phase = self.phase_after();
+        } else {
+            self.sent += count;
+        }
+    }
+
+    /// Turns to the next request, once the reply to the last one was sent and the connection persists. Drops that
+    /// request.
+    pub fn resume(&mut self)
+        requires { self.old.phase ≡ Phase.Answered }
+        ensures state { (history : List Event) → HasState self.old history
+            → HasState self.new (Resumed (length (rest_of self.old) == 0) ∷ history) }
+        ensures limits { self.new.limits ≡ self.old.limits }
+    {
+        self.received.drain(..self.request_len);
+        self.request_len = 0;
+        self.summary = None;
+        self.sent_since = 0;
+        self.elapsed = 0;
+        self.phase = if self.received.is_empty() {
+            Phase::Idle
+        } else {
+            Phase::Parsing
+        };
+    }
+
+    fn time_limit(&self) -> u64
+        ensures { result ≡ limit_in (is_idle_in self.now.phase) self.now.limits }
+    {
+        if self.is_idle() {
+            self.limits.idle
+        } else {
+            self.limits.step
         }
     }
 
@@ -244,13 +378,14 @@ impl Connection {
     pub fn advance_clock(&mut self, millis: u64)
         ensures state { (history : List Event) → HasState self.old history
             → HasState self.new (Elapsed millis ∷ history) }
-        ensures kept { self.old.elapsed + millis < self.old.limit → self.new.phase ≡ self.old.phase }
-        ensures limit { self.new.limit ≡ self.old.limit }
+        ensures kept { self.old.elapsed + millis < limit_in (is_idle_in self.old.phase) self.old.limits
+            → self.new.phase ≡ self.old.phase }
+        ensures limits { self.new.limits ≡ self.old.limits }
     {
         if self.wants() == Wants::Close {
             return;
         }
-        if millis >= self.limit - self.elapsed {
+        if millis >= self.time_limit().saturating_sub(self.elapsed) {
             self.end();
         } else {
             self.elapsed += millis;
@@ -262,14 +397,12 @@ impl Connection {
         ensures state { (history : List Event) → HasState self.old history
             → HasState self.new history }
         ensures over { wants_in self.new.phase ≡ Wants.Close }
-        ensures limit { self.new.limit ≡ self.old.limit }
+        ensures limits { self.new.limits ≡ self.old.limits }
     {
         self.phase = match self.phase {
-            Phase::Receiving => Phase::Aborted,
-            Phase::Sending => Phase::Aborted,
             Phase::Lingering => Phase::Complete,
             Phase::Complete => Phase::Complete,
-            Phase::Aborted => Phase::Aborted,
+            _ => Phase::Aborted,
         };
     }
 }

@@ -1,29 +1,90 @@
-//! Decides whether the bytes received so far are enough for a reply.
-ghost use Rattle.std.specs.Prelude.{◌≤◌, length};
-ghost use Rattle.feed_http_heads.specs.Requests.{IsInBuffer};
-ghost use Rattle.feed_node_connection.specs.Replies.{IsHeadState};
+//! Decides whether the bytes held begin with a request, and what follows its reply.
+ghost use Rattle.std.specs.Prelude.{◌≡◌, ◌≤◌, length};
+ghost use Rattle.httparse.specs.Grammar.{RequestHead};
+ghost use Rattle.feed_http_heads.specs.Requests.{IsInBuffer, HasHead};
+ghost use Rattle.feed_node_connection.specs.Requests.{is_post, lacks_body, persists};
+ghost use Rattle.feed_node_connection.specs.Replies.{IsHeadState, persists_in};
 
 use feed_http_heads::{FIELD_LIMIT, HEAD_LIMIT, HeadFound, Request, find_head};
 use httparse::spans::EMPTY_HEADER_SPAN;
 
-/// Whether bytes are enough for a reply.
+/// The state of a connection after a reply was sent.
+#[derive(Clone, Copy, Debug, PartialEq, Eq)]
+pub enum AfterReply {
+    /// The next request.
+    Persist,
+    /// Further bytes from the peer are dropped until it closes its side, because closing a connection with unread bytes
+    /// may lose the reply (RFC 9112, section 9.6).
+    Linger,
+    /// The connection is closed: the peer has nothing more to send.
+    Close,
+}
+
+impl AfterReply {
+    /// Returns whether the connection persists.
+    pub fn persists(self) -> bool
+        ensures { result ≡ persists_in self }
+    {
+        match self {
+            AfterReply::Persist => true,
+            AfterReply::Linger => false,
+            AfterReply::Close => false,
+        }
+    }
+}
+
+/// Whether bytes begin with a request.
 #[derive(Clone, Copy)]
 pub(crate) enum HeadState {
     /// The head is incomplete.
     Incomplete,
-    /// The head is complete, or never will be. The peer may send more bytes if the head announces a body, if bytes
-    /// follow the head, or if the head is invalid.
-    Enough { more_may_come: bool },
+    /// They begin with a head of this length, and this follows its reply.
+    Whole(usize, AfterReply),
+    /// They never will, whatever follows.
+    Invalid,
 }
 
-fn announces_body(request: &Request<'_>) -> bool
+fn lacks_body(request: &Request<'_>) -> bool
     requires { IsInBuffer request.now }
+    ensures { (head : RequestHead) → HasHead request.now head → result ≡ lacks_body head }
 {
-    request.fields().has_field(b"content-length")
-        || request.fields().has_field(b"transfer-encoding")
+    !request.fields().has_field(b"transfer-encoding")
+        && request.fields().all_values_are(b"content-length", b"0")
 }
 
-pub(crate) fn head_state(bytes: &[u8]) -> HeadState
+fn is_post(request: &Request<'_>) -> bool
+    requires { IsInBuffer request.now }
+    ensures { (head : RequestHead) → HasHead request.now head → result ≡ is_post head }
+{
+    request.method() == b"POST".as_slice()
+}
+
+fn persists(request: &Request<'_>) -> bool
+    requires { IsInBuffer request.now }
+    ensures { (head : RequestHead) → HasHead request.now head → result ≡ persists head }
+{
+    request.spans.version == 1
+        && !is_post(request)
+        && request.fields().lacks_option(b"connection", b"close")
+        && lacks_body(request)
+}
+
+// The peer may have more to send if it already has, or if the head announces a body.
+fn after_reply(request: &Request<'_>, more_may_come: bool) -> AfterReply
+    requires { IsInBuffer request.now }
+    ensures { (head : RequestHead) → HasHead request.now head → persists_in result ≡ persists head }
+{
+    if persists(request) {
+        AfterReply::Persist
+    } else if more_may_come || !lacks_body(request) {
+        AfterReply::Linger
+    } else {
+        AfterReply::Close
+    }
+}
+
+/// Parses the bytes held. More may come if the last read left bytes unread.
+pub(crate) fn head_state(bytes: &[u8], more_may_come: bool) -> HeadState
     requires { length bytes.now ≤ HEAD_LIMIT }
     ensures { IsHeadState bytes.now result }
 {
@@ -31,13 +92,10 @@ pub(crate) fn head_state(bytes: &[u8]) -> HeadState
     match find_head(bytes, &mut headers) {
         HeadFound::Whole(spans) => {
             let request = Request::new(bytes, &headers, spans);
-            HeadState::Enough {
-                more_may_come: spans.len < bytes.len() || announces_body(&request),
-            }
+            let more_may_come = more_may_come || spans.len < bytes.len();
+            HeadState::Whole(spans.len, after_reply(&request, more_may_come))
         }
         HeadFound::Unfinished => HeadState::Incomplete,
-        HeadFound::Never => HeadState::Enough {
-            more_may_come: true,
-        },
+        HeadFound::Never => HeadState::Invalid,
     }
 }

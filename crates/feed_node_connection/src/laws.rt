@@ -1,8 +1,24 @@
 //! Laws of connections, each stated as the contract of a function with an empty body.
+ghost use Rattle.feed_node_connection.specs.Requests.{RequestsAreUnique};
 ghost use Rattle.feed_node_connection.specs.States.{StateIsRight};
+ghost use Rattle.feed_node_connection.specs.Streams.{AllIsServed};
 
-/// The bytes sent are the front of a reply to the bytes received, and all of it if the reply is done. Past its time
-/// limit a connection waits for nothing.
+use crate::respond::Respond;
+
+/// The first requests received have replies, and the bytes sent are the beginning of these: all of them if the last one
+/// was sent whole. A connection that waits for a request has answered each one that was received whole. Past its time
+/// limit it waits for nothing.
 pub fn state_is_right()
     ensures { StateIsRight }
+{}
+
+/// If each reply is one to its request, the bytes sent are the beginning of the replies to the requests in the bytes
+/// received, in their order.
+pub fn all_is_served<R: Respond>(_responder: &R)
+    ensures { AllIsServed (R.replies _responder.now) }
+{}
+
+/// The bytes received contain no other requests.
+pub fn requests_are_unique()
+    ensures { RequestsAreUnique }
 {}

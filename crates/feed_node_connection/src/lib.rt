@@ -1,5 +1,5 @@
 //! One connection of a node, without its socket. Its inputs are bytes received, bytes sent and time passed. It receives
-//! one request, sends one reply, and is closed.
+//! requests, one after the other, and sends the reply to each, until a request ends it (RFC 9112, section 9.3).
 #![tactic(auto)]
 
 mod connection;
@@ -8,7 +8,8 @@ mod laws;
 mod respond;
 mod streams;
 
-pub use connection::{Connection, MIN_PROGRESS, Phase, Wants};
-pub use laws::state_is_right;
+pub use connection::{Connection, MIN_PROGRESS, Phase, TimeLimits, Wants};
+pub use head_state::AfterReply;
+pub use laws::{all_is_served, requests_are_unique, state_is_right};
 pub use respond::{Reply, ReplySummary, Respond, RespondFault, UNAVAILABLE};
-pub use streams::advance;
+pub use streams::{Progress, Share, TURN_SHARE, advance};

@@ -1,6 +1,6 @@
 //! The trait `Respond`, which makes the replies of a node, and the reply if there can be no other.
 ghost use Rattle.std.specs.Prelude.{◌≡◌, IfOk};
-ghost use Rattle.feed_node_connection.specs.Replies.{IsRespondedTo, unavailable};
+ghost use Rattle.feed_node_connection.specs.Replies.{unavailable};
 
 use std::alloc::{AllocError, Global};
 
@@ -63,31 +63,20 @@ impl Reply {
 
 /// Makes the replies of a node.
 pub trait Respond {
-    ghost use Rattle.std.specs.Prelude.{List, ℕ, IfOk};
+    ghost use Rattle.std.specs.Prelude.{List, ℕ, Bool, Option, Some, None, IfOk, IfErr};
 
-    /// These bytes of a request have this reply.
-    ghost replies: { Self → List ℕ → List ℕ → Type 0 };
+    /// These bytes of a request have this reply if the connection persists after it, or does not. Without a reply the
+    /// responder made none.
+    ghost replies: { Self → List ℕ → Bool → Option (List ℕ) → Type 0 };
 
-    /// Returns the reply to bytes that begin with the head of a request, or that never will, whatever follows.
-    fn respond(&self, alloc: Global, bytes: &[u8]) -> Result<Reply, RespondFault>
-        ensures { IfOk result (λ reply. replies self.now bytes.now reply.bytes.items) };
+    /// Returns the reply to the head of a request, or to bytes that are not the head of a request, whatever follows.
+    fn respond(&self, alloc: Global, bytes: &[u8], persists: bool) -> Result<Reply, RespondFault>
+        ensures reply { IfOk result (λ reply. replies self.now bytes.now persists (Some reply.bytes.items)) }
+        ensures none { IfErr result (λ fault. replies self.now bytes.now persists None) };
 }
 
-/// Returns the reply of the responder, or `UNAVAILABLE` if it makes none.
-pub(crate) fn make_reply<R: Respond>(
-    alloc: Global,
-    responder: &R,
-    bytes: &[u8],
-) -> Result<Reply, AllocError>
-    ensures { IfOk result (λ reply. IsRespondedTo (R.replies responder.now) bytes.now reply.bytes.items) }
-{
-    match responder.respond(alloc, bytes) {
-        Ok(reply) => Ok(reply),
-        Err(fault) => unavailable(alloc, fault),
-    }
-}
-
-fn unavailable(alloc: Global, fault: RespondFault) -> Result<Reply, AllocError>
+/// Returns the reply `UNAVAILABLE`.
+pub(crate) fn unavailable(alloc: Global, fault: RespondFault) -> Result<Reply, AllocError>
     ensures { IfOk result (λ reply. reply.bytes.items ≡ unavailable) }
 {
     Ok(Reply {

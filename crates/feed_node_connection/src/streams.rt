@@ -1,15 +1,41 @@
-//! Runs a connection over a nonblocking reader and writer.
-ghost use Rattle.std.specs.Prelude.{◌≡◌, List};
+//! Runs a connection over a nonblocking reader and writer, one bounded turn after the other.
+ghost use Rattle.std.specs.Prelude.{◌≡◌, ◌≢◌, ℕ, List, Option};
 ghost use Rattle.feed_node_connection.specs.Events.{Event};
 ghost use Rattle.feed_node_connection.specs.States.{HasState, wants_in};
-ghost use Rattle.feed_node_connection.specs.Streams.{HasAdvanced, HasRead, HasWritten};
+ghost use Rattle.feed_node_connection.specs.Streams.{HasAdvanced, HasRead, HasWritten, IsStopped};
 
 use crate::connection::{Connection, Wants};
 use crate::respond::Respond;
 use std::alloc::Global;
 use std::io::{ErrorKind, Read, Write};
 
-/// Receives and sends until the reader or the writer would block, or there is nothing left to do.
+/// The work that is left to a connection in a turn.
+#[derive(Clone, Copy, Debug)]
+pub struct Share {
+    /// The bytes that it may receive.
+    pub bytes: usize,
+    /// The replies that it may make.
+    pub replies: usize,
+}
+
+/// The work that one connection may do in a turn.
+pub const TURN_SHARE: Share = Share {
+    bytes: 16_384,
+    replies: 1,
+};
+
+/// Why a connection stops.
+#[derive(Clone, Copy, Debug, PartialEq, Eq)]
+pub enum Progress {
+    /// It does not: there may be more to do.
+    Moved,
+    /// It waits for its socket, for `resume` or to be closed.
+    Blocked,
+    /// Its share of the turn is used.
+    Spent,
+}
+
+/// Receives, replies and sends until the reader or the writer would block, a reply was sent, or the share is used.
 pub fn advance<S: Respond, R: Read, W: Write>(
     connection: &mut Connection,
     alloc: Global,
@@ -17,19 +43,24 @@ pub fn advance<S: Respond, R: Read, W: Write>(
     reader: &mut R,
     writer: &mut W,
     buffer: &mut [u8],
-)
-    ensures { (history : List Event) → HasState connection.old history
-        → HasAdvanced (S.replies responder.now) connection.new history (R.remaining reader.old) (R.remaining reader.new)
-        (W.contents writer.old) (W.contents writer.new) }
+    share: &mut Share,
+) -> Progress
+    ensures advanced { (history : List Event) → HasState connection.old history
+        → HasAdvanced (S.replies responder.now) share.old share.new connection.new history (R.remaining reader.old)
+        (R.remaining reader.new) (W.contents writer.old) (W.contents writer.new) }
+    ensures still { result ≢ Progress.Moved }
+    ensures stopped { IsStopped result share.new connection.new }
 {
     for _ in 0..u64::MAX {
-        if !step(connection, alloc, responder, reader, writer, buffer) {
-            return;
+        let progress = step(connection, alloc, responder, reader, writer, buffer, share);
+        if progress != Progress::Moved {
+            return progress;
         }
     }
+    connection.end();
+    Progress::Blocked
 }
 
-// Returns whether to continue.
 fn step<S: Respond, R: Read, W: Write>(
     connection: &mut Connection,
     alloc: Global,
@@ -37,73 +68,107 @@ fn step<S: Respond, R: Read, W: Write>(
     reader: &mut R,
     writer: &mut W,
     buffer: &mut [u8],
-) -> bool
-    ensures { (history : List Event) → HasState connection.old history
-        → HasAdvanced (S.replies responder.now) connection.new history (R.remaining reader.old) (R.remaining reader.new)
-        (W.contents writer.old) (W.contents writer.new) }
+    share: &mut Share,
+) -> Progress
+    ensures advanced { (history : List Event) → HasState connection.old history
+        → HasAdvanced (S.replies responder.now) share.old share.new connection.new history (R.remaining reader.old)
+        (R.remaining reader.new) (W.contents writer.old) (W.contents writer.new) }
+    ensures stopped { IsStopped result share.new connection.new }
 {
     match connection.wants() {
-        Wants::Bytes => receive_once(connection, alloc, responder, reader, buffer),
-        Wants::Room => send_once(connection, writer),
-        Wants::Close => false,
+        Wants::Bytes => receive_once(connection, reader, buffer, share),
+        Wants::Parse => parse_once(connection, alloc, responder, share),
+        Wants::Room => send_once(connection, alloc, writer),
+        Wants::Next => Progress::Blocked,
+        Wants::Close => Progress::Blocked,
     }
 }
 
-// Returns whether to continue.
-fn receive_once<S: Respond, R: Read>(
+fn parse_once<S: Respond>(
     connection: &mut Connection,
     alloc: Global,
     responder: &S,
+    share: &mut Share,
+) -> Progress
+    requires { wants_in connection.old.phase ≡ Wants.Parse }
+    ensures advanced { (history : List Event) (unread unwritten : Option (List ℕ)) → HasState connection.old history
+        → HasAdvanced (S.replies responder.now) share.old share.new connection.new history unread unread
+        unwritten unwritten }
+    ensures stopped { IsStopped result share.new connection.new }
+{
+    if share.replies == 0 {
+        return Progress::Spent;
+    }
+    if connection.parse_request(alloc, responder) {
+        share.replies -= 1;
+    }
+    Progress::Moved
+}
+
+// Reads no more than there is room for, and than the share allows.
+fn receive_once<R: Read>(
+    connection: &mut Connection,
     reader: &mut R,
     buffer: &mut [u8],
-) -> bool
-    ensures { (history : List Event) → HasState connection.old history
-        → HasRead (S.replies responder.now) connection.new history (R.remaining reader.old) (R.remaining reader.new) }
+    share: &mut Share,
+) -> Progress
+    requires { wants_in connection.old.phase ≡ Wants.Bytes }
+    ensures read { (history : List Event) → HasState connection.old history
+        → HasRead share.old share.new connection.new history (R.remaining reader.old) (R.remaining reader.new) }
+    ensures stopped { IsStopped result share.new connection.new }
 {
-    match reader.read(buffer) {
+    if share.bytes == 0 {
+        return Progress::Spent;
+    }
+    let room = connection.room().min(buffer.len()).min(share.bytes);
+    let (space, _) = buffer.split_at_mut(room);
+    match reader.read(space) {
         Ok(0) => {
             connection.end();
-            false
+            Progress::Blocked
         }
         Ok(count) => {
-            let (bytes, _) = buffer.split_at(count);
-            connection.receive(alloc, responder, bytes);
-            true
+            let (bytes, _) = space.split_at(count);
+            connection.receive(bytes, count == room);
+            share.bytes -= count;
+            Progress::Moved
         }
         Err(fault) => handle_error(connection, fault.kind()),
     }
 }
 
-// Returns whether to continue.
-fn send_once<W: Write>(connection: &mut Connection, writer: &mut W) -> bool
+fn send_once<W: Write>(connection: &mut Connection, alloc: Global, writer: &mut W) -> Progress
     requires { wants_in connection.old.phase ≡ Wants.Room }
-    ensures { (history : List Event) → HasState connection.old history
+    ensures written { (history : List Event) → HasState connection.old history
         → HasWritten connection.new history (W.contents writer.old) (W.contents writer.new) }
+    ensures stopped { (share : Share) → IsStopped result share connection.new }
 {
     match writer.write(connection.pending_reply()) {
         Ok(0) => {
             connection.end();
-            false
+            Progress::Blocked
         }
         Ok(count) => {
-            connection.mark_sent(count);
-            true
+            connection.mark_sent(alloc, count);
+            Progress::Moved
         }
         Err(fault) => handle_error(connection, fault.kind()),
     }
 }
 
-// Returns whether to try again at once. An error other than `WouldBlock` or `Interrupted` ends the connection.
-fn handle_error(connection: &mut Connection, fault: ErrorKind) -> bool
-    ensures { (history : List Event) → HasState connection.old history
+// An error other than `WouldBlock` or `Interrupted` ends the connection.
+fn handle_error(connection: &mut Connection, fault: ErrorKind) -> Progress
+    requires { wants_in connection.old.phase ≢ Wants.Parse }
+    ensures state { (history : List Event) → HasState connection.old history
         → HasState connection.new history }
+    ensures stopped { (share : Share) → IsStopped result share connection.new }
 {
     match fault {
-        ErrorKind::WouldBlock => false,
-        ErrorKind::Interrupted => true,
+        ErrorKind::WouldBlock => Progress::Blocked,
+        ErrorKind::Interrupted => Progress::Moved,
         _ => {
             connection.end();
-            false
+            Progress::Blocked
         }
     }
 }

@@ -1,5 +1,4 @@
 //! The access log of a node: a line in the common log format for each request.
-use crate::node_state::NodeState;
 use feed_dates::write_date;
 use feed_node_connection::{Connection, ReplySummary};
 use feed_node_server::Log;
@@ -8,24 +7,34 @@ use std::io::Write;
 use std::net::SocketAddr;
 use std::time::{SystemTime, UNIX_EPOCH};
 
-/// A log that prints a line for each connection that got a reply, and keeps the first error of a print.
+/// A log that prints a line for each reply, and keeps the first error of a print.
 #[derive(Drop)]
 pub struct AccessLog<'o, O: Write> {
     rt: &'o HostRuntime,
     out: &'o mut O,
-    state: &'o NodeState,
     outcome: io::Result<()>,
     is_clean: bool,
 }
 
 impl<'o, O: Write> AccessLog<'o, O> {
-    pub fn new(rt: &'o HostRuntime, out: &'o mut O, state: &'o NodeState) -> AccessLog<'o, O> {
+    pub fn new(rt: &'o HostRuntime, out: &'o mut O) -> AccessLog<'o, O> {
         AccessLog {
             rt,
             out,
-            state,
             outcome: Ok(()),
             is_clean: true,
+        }
+    }
+
+    // Prints a line for the reply of a connection, if it has one.
+    fn put_reply(&mut self, addr: SocketAddr, connection: &Connection) {
+        let Some(summary) = connection.summary() else {
+            return;
+        };
+        self.is_clean = false;
+        if self.outcome.is_ok() {
+            let request = connection.request_bytes();
+            self.outcome = put_line(self.rt, self.out, addr, request, summary);
         }
     }
 
@@ -41,18 +50,12 @@ impl<'o, O: Write> AccessLog<'o, O> {
 }
 
 impl<'o, O: Write> Log for AccessLog<'o, O> {
+    fn on_reply(&mut self, addr: SocketAddr, connection: &Connection) {
+        self.put_reply(addr, connection);
+    }
+
     fn on_close(&mut self, addr: SocketAddr, connection: &Connection) {
-        let Some(summary) = connection.summary() else {
-            return;
-        };
-        if summary.fault.is_none() {
-            self.state.release_bytes(connection.reply().len());
-        }
-        self.is_clean = false;
-        if self.outcome.is_ok() {
-            let request = connection.request_bytes();
-            self.outcome = put_line(self.rt, self.out, addr, request, summary);
-        }
+        self.put_reply(addr, connection);
     }
 }
 

@@ -34,7 +34,7 @@ pub fn run<K: Keep + Drop, O: Write>(
     };
     let state = NodeState::new();
     let mut fetcher = Fetcher::new(rt, source);
-    let mut log = AccessLog::new(rt, out, &state);
+    let mut log = AccessLog::new(rt, out);
     for _ in 0..u64::MAX {
         let responder = FeedResponder {
             feed,

@@ -26,10 +26,10 @@ pub struct FeedResponder<'a, K: Keep + Drop> {
 
 impl<'a, K: Keep + Drop> FeedResponder<'a, K> {
     // Returns the reply. A reply is streamed exactly if the request makes the node begin to fetch.
-    fn reply(&self, alloc: Global, bytes: &[u8]) -> Result<Reply, RespondFault>
-        ensures text { IfOk result (λ reply. IsNodeReplyText (policy_of self.now) bytes.now false
+    fn reply(&self, alloc: Global, bytes: &[u8], persists: bool) -> Result<Reply, RespondFault>
+        ensures text { IfOk result (λ reply. IsNodeReplyText (policy_of self.now) bytes.now persists
             (actives_of (releases_of self.now.feed.now)) reply.bytes.items) }
-        ensures value { IfOk result (λ reply. IsNodeReply (policy_of self.now) bytes.now false
+        ensures value { IfOk result (λ reply. IsNodeReply (policy_of self.now) bytes.now persists
             (actives_of (releases_of self.now.feed.now)) (response_in reply)) }
         ensures streamed { IfOk result (λ reply. IsWhetherToBegin (policy_of self.now) bytes.now
             reply.summary.is_streamed) }
@@ -46,10 +46,7 @@ impl<'a, K: Keep + Drop> FeedResponder<'a, K> {
                 return Err(RespondFault::Busy);
             }
         }
-        let response = respond_as_node(alloc, bytes, false, &policy, self.feed)?;
-        if !self.state.reserve_bytes(response.bytes().len()) {
-            return Err(RespondFault::Busy);
-        }
+        let response = respond_as_node(alloc, bytes, persists, &policy, self.feed)?;
         let summary = ReplySummary {
             status: response.status(),
             body_len: response.body_length(),
@@ -64,15 +61,16 @@ impl<'a, K: Keep + Drop> FeedResponder<'a, K> {
 }
 
 impl<'a, K: Keep + Drop> Respond for FeedResponder<'a, K> {
+    ghost use Rattle.std.specs.Prelude.{IfSome};
     ghost use Rattle.feed_releases.specs.Actives.{actives_of};
     ghost use Rattle.feed_releases.specs.Feeds.{releases_of};
     ghost use Rattle.feed_resolver.specs.NodeReplies.{IsNodeReplyText};
     ghost use Rattle.feed_node_service.specs.Responders.{policy_of};
 
-    ghost replies = { λ responder bytes reply. IsNodeReplyText (policy_of responder) bytes false
-        (actives_of (releases_of responder.feed.now)) reply };
+    ghost replies = { λ responder bytes persists reply. IfSome reply (IsNodeReplyText (policy_of responder) bytes
+        persists (actives_of (releases_of responder.feed.now))) };
 
-    fn respond(&self, alloc: Global, bytes: &[u8]) -> Result<Reply, RespondFault> {
-        self.reply(alloc, bytes)
+    fn respond(&self, alloc: Global, bytes: &[u8], persists: bool) -> Result<Reply, RespondFault> {
+        self.reply(alloc, bytes, persists)
     }
 }

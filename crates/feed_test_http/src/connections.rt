@@ -4,25 +4,30 @@ use crate::escapes::Escaped;
 use crate::fault::Fault;
 use crate::line::Line;
 use crate::node::Node;
-use feed_node_connection::{Connection, Reply, Respond, RespondFault, advance};
+use feed_node_connection::{
+    Connection, Reply, Respond, RespondFault, TURN_SHARE, TimeLimits, Wants, advance,
+};
 use std::alloc::Global;
 
-/// Replies with the bytes of the request, or fails for lack of memory.
+/// Replies with `+` if the connection persists and `-` if it does not, and with the bytes of the request, or fails for
+/// lack of memory.
 #[derive(Clone, Copy)]
 struct Echo {
     is_short: bool,
 }
 
 impl Respond for Echo {
-    ghost use Rattle.std.specs.Prelude.{◌≡◌};
+    ghost use Rattle.std.specs.Prelude.{⊤};
 
-    ghost replies = { λ echo bytes reply. reply ≡ bytes };
+    ghost replies = { λ echo bytes persists reply. ⊤ };
 
-    fn respond(&self, alloc: Global, bytes: &[u8]) -> Result<Reply, RespondFault> {
+    fn respond(&self, alloc: Global, bytes: &[u8], persists: bool) -> Result<Reply, RespondFault> {
         if self.is_short {
             return Err(RespondFault::Memory);
         }
-        Ok(Reply::new(Vec::from_slice(alloc, bytes)?, 200, bytes.len()))
+        let mut text = Vec::from_slice(alloc, if persists { b"+" } else { b"-" })?;
+        text.extend_from_slice(bytes)?;
+        Ok(Reply::new(text, 200, bytes.len()))
     }
 }
 
@@ -33,6 +38,7 @@ impl Node<'_> {
             "receive" => self.receive(line)?,
             "advance-clock" => self.advance_clock(line)?,
             "mark-sent" => self.mark_sent(line)?,
+            "resume" => self.resume()?,
             "converse" => return self.converse(line),
             _ => return Err(Fault::NoCommand),
         }
@@ -42,18 +48,41 @@ impl Node<'_> {
     }
 
     fn begin(&mut self, mut line: Line<'_>) -> Result<(), Fault> {
-        let limit = line.number()?;
-        if limit == 0 {
+        let step = line.number()?;
+        let idle = line.number()?;
+        if step == 0 || idle == 0 {
             return Err(Fault::NoTime);
         }
-        self.connection = Connection::new(self.rt.alloc(), limit);
+        self.connection = Connection::new(self.rt.alloc(), TimeLimits { step, idle });
         Ok(())
     }
 
+    // Bytes arrive, as many as there is room for, and are parsed.
     fn receive(&mut self, line: Line<'_>) -> Result<(), Fault> {
-        let bytes = line.text(self.rt.alloc())?;
-        self.connection
-            .receive(self.rt.alloc(), &Echo { is_short: false }, &bytes);
+        let alloc = self.rt.alloc();
+        let bytes = line.text(alloc)?;
+        let room = self.connection.room();
+        if let Wants::Bytes = self.connection.wants() {
+            let (bytes, _) = bytes.split_at(bytes.len().min(room));
+            self.connection.receive(bytes, false);
+        }
+        self.parse();
+        Ok(())
+    }
+
+    fn parse(&mut self) {
+        if let Wants::Parse = self.connection.wants() {
+            self.connection
+                .parse_request(self.rt.alloc(), &Echo { is_short: false });
+        }
+    }
+
+    // Turns to the next request, and parses what was received of it.
+    fn resume(&mut self) -> Result<(), Fault> {
+        if let Wants::Next = self.connection.wants() {
+            self.connection.resume();
+        }
+        self.parse();
         Ok(())
     }
 
@@ -67,16 +96,17 @@ impl Node<'_> {
         if count == 0 || count > self.connection.pending_reply().len() {
             return Err(Fault::NoBytes);
         }
-        self.connection.mark_sent(count);
+        self.connection.mark_sent(self.rt.alloc(), count);
         Ok(())
     }
 
-    // Advances a new connection 200 times.
+    // Gives a new connection 200 turns.
     fn converse(&self, mut line: Line<'_>) -> Result<(), Fault> {
         let ends = line.flag("ends", "waits")?;
         let is_short = line.flag("short", "serves")?;
         let request = line.text(self.rt.alloc())?;
-        let mut connection = Connection::new(self.rt.alloc(), 10);
+        let limits = TimeLimits { step: 10, idle: 10 };
+        let mut connection = Connection::new(self.rt.alloc(), limits);
         let mut reader = ShortReader {
             bytes: &request,
             step: self.step,
@@ -87,6 +117,7 @@ impl Node<'_> {
         let mut writer = ShortWriter::new(self.rt.alloc());
         let mut buffer = [0u8; 64];
         for _ in 0..200 {
+            let mut share = TURN_SHARE;
             advance(
                 &mut connection,
                 self.rt.alloc(),
@@ -94,7 +125,11 @@ impl Node<'_> {
                 &mut reader,
                 &mut writer,
                 &mut buffer,
+                &mut share,
             );
+            if let Wants::Next = connection.wants() {
+                connection.resume();
+            }
         }
         let lingers = connection.is_lingering();
         println!(self.rt;

@@ -43,11 +43,12 @@
 //!     fetch-asked TOKEN TEXT          the release that a request asks the node to fetch, `no name`, or `none`
 //!     head-end TEXT                   whether a text begins with the head of a request, and where the head ends
 //!
-//! A connection to it, which replies with the bytes of the request. Each command prints what the connection waits for,
-//! and how many bytes of the reply are left:
+//! A connection to it, which replies with `+` if it persists, `-` if it does not, and the bytes of the request. Each
+//! command prints what the connection waits for, and how many bytes of the reply are left:
 //!
-//!     connection LIMIT                opens a new one, whose steps may take so many milliseconds
+//!     connection STEP IDLE            opens a new one, with these limits in milliseconds
 //!     receive TEXT                    bytes arrive
+//!     resume                          turns to the next request, once a reply was sent
 //!     mark-sent N                     the peer takes so many bytes
 //!     advance-clock N                 so many milliseconds pass
 //!     converse ends|waits short|serves TEXT    moves a new one on 200 times, over a reader that then ends or waits,

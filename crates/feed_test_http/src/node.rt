@@ -6,7 +6,7 @@ use feed_http_heads::head_end;
 use feed_keep::ListKeep;
 use feed_model::{Refusal, Reply};
 use feed_names::ReleaseName;
-use feed_node_connection::Connection;
+use feed_node_connection::{Connection, TimeLimits};
 use feed_releases::{Event, Feed};
 use feed_resolver::{respond, respond_as_node};
 use feed_resolver_request::{FetchPolicy, fetch_request};
@@ -26,7 +26,7 @@ impl<'a> Node<'a> {
             Ok(feed) => Ok(Node {
                 rt,
                 step,
-                connection: Connection::new(rt.alloc(), 1),
+                connection: Connection::new(rt.alloc(), TimeLimits { step: 1, idle: 1 }),
                 feed,
             }),
             Err(_) => Err(Fault::Memory),

@@ -4,8 +4,8 @@ use Rattle.feed_node_connection.specs.Events.{Sent}
 use Rattle.feed_node_connection.specs.States.{pending_of}
 use Rattle.feed_node_connection.proofs.streams.send_once.Goals as goal
 
-pub returns-in-Ok : goal.returns-in-Ok
-returns-in-Ok g c = λ history state. record {
+pub returns-in-Ok-clause-written : goal.returns-in-Ok-clause-written
+returns-in-Ok-clause-written g c = λ history state. record {
   more = Sent (take c.in-Ok.count (pending_of c.args.connection.now)) ∷ [];
   state = c.mark_sent.ensures.state history state;
   no_reply_made = refl;

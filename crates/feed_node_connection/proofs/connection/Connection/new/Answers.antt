@@ -1,12 +1,15 @@
-use Rattle.std.proofs.Common.{refl}
+use Rattle.std.proofs.Common.{refl, sym, subst}
+use Rattle.feed_http_heads.specs.Limits.{head_limit}
+use Rattle.feed_http_heads.specs.RequestHeads.{IsUnfinished}
 use Rattle.feed_node_connection.proofs.States.{nothing_yet}
 use Rattle.feed_node_connection.proofs.connection.Connection.new.Goals as goal
 
 pub returns-clause-state : goal.returns-clause-state
 returns-clause-state c = record {
-  kept = c.new.ensures.items;
-  none = refl;
-  nothing_sent = refl;
-  unfinished = nothing_yet;
-  in_time = record { counted_time = refl; counted_bytes = refl; left = c.requires };
+  current = record {
+    served = record { in_order = sym c.new.ensures.items; persists = refl };
+    sent = refl;
+    in_time = record { idleness = refl; counted_time = refl; counted_bytes = refl; left = c.args.limits.step_some };
+  };
+  unfinished = subst (IsUnfinished head_limit) (sym c.new.ensures.items) nothing_yet;
 }

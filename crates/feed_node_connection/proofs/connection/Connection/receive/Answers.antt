@@ -1,11 +1,22 @@
-use Rattle.std.proofs.Common.{arith, sym, ◌∙◌}
-use Rattle.feed_node_connection.proofs.States.{received_more, from_ok}
+use Rattle.std.proofs.Common.{refl, sym, ap, ◌∙◌}
+use Rattle.feed_node_connection.specs.States.{is_idle_in}
+use Rattle.feed_node_connection.proofs.States.{received_late, received_whole, received_aborted, current_in, lingering_is}
+use Rattle.feed_node_connection.proofs.connection.Connection.receive.Goals.{in-Ok, in-Err, then-is_idle, else-is_idle}
 use Rattle.feed_node_connection.proofs.connection.Connection.receive.Goals as goal
 
-pub returns-else-is_err-clause-state : goal.returns-else-is_err-clause-state
-returns-else-is_err-clause-state g c = λ history state.
-    let least = c.min.ensures in
-    let room = c.len-room.ensures in
-    received_more (g.R.Respond.replies c.args.responder.now) c.args.self.now c.append_request.new.self history c.args.bytes.now c.split_at.result.0.now c.min.result
-    c.append_request.ensures.limit (omega (arith, room)) (omega (arith, least, room)) c.split_at.ensures.front c.in-Receiving.is state
-    (from_ok c.append_request.result _ (sym c.is_err.ensures.value ∙ c.if-is_err.false) c.append_request.ensures.appended)
+pub returns-then-is_lingering-clause-state : goal.returns-then-is_lingering-clause-state
+returns-then-is_lingering-clause-state c = λ history state.
+    received_late c.args.self.now history c.args.bytes.now (lingering_is c.args.self.now.phase (sym c.is_lingering.ensures ∙ c.if-is_lingering.true)) state
+
+pub returns-clause-state : goal.returns-clause-state
+returns-clause-state c = λ history state.
+    let current = current_in c.args.self.now.phase c.args.self.now history c.requires.waiting (sym c.is_lingering.ensures ∙ c.if-is_lingering.false) state in
+    elim c.match-extend_from_slice.branch [
+      | in-Ok w ↦ received_whole (is_idle_in c.args.self.now.phase) c.args.self.now _ history c.args.bytes.now current w.self-is w.in-Ok.ensures.items refl refl
+          c.args.self.now.limits.step_some
+          (elim c.if-is_idle.branch [
+            | then-is_idle v ↦ rw (sym c.is_idle.ensures ∙ v.if-is_idle.true) (ap (λ s. s.1.1.1.1.1.1.1.1.1.0) v.self-is)
+            | else-is_idle v ↦ rw (sym c.is_idle.ensures ∙ v.if-is_idle.false) (ap (λ s. s.1.1.1.1.1.1.1.1.1.0) v.self-is)
+          ])
+      | in-Err w ↦ received_aborted (is_idle_in c.args.self.now.phase) c.args.self.now _ history c.args.bytes.now current w.self-is
+    ]
