@@ -62,6 +62,7 @@ lines_printed (p ∷ ps) rest =
 abbrev status_pairs : Status → List ℕ → Pairs
 status_pairs status.Found location = (codes "Location", location) ∷ []
 status_pairs status.MethodNotAllowed location = (codes "Allow", codes "GET, HEAD") ∷ []
+status_pairs status.PostOnly location = (codes "Allow", codes "POST") ∷ []
 status_pairs status.Unauthorized location = (codes "WWW-Authenticate", codes "Bearer") ∷ []
 status_pairs code location = []
 
@@ -91,6 +92,7 @@ status_written status.BadRequest location rest = refl
 status_written status.Unauthorized location rest = refl
 status_written status.NotFound location rest = refl
 status_written status.MethodNotAllowed location rest = refl
+status_written status.PostOnly location rest = refl
 status_written status.Conflict location rest = refl
 status_written status.UriTooLong location rest = refl
 status_written status.NotImplemented location rest = refl
@@ -133,6 +135,7 @@ status_digits status.BadRequest = (refl, refl, refl, refl)
 status_digits status.Unauthorized = (refl, refl, refl, refl)
 status_digits status.NotFound = (refl, refl, refl, refl)
 status_digits status.MethodNotAllowed = (refl, refl, refl, refl)
+status_digits status.PostOnly = (refl, refl, refl, refl)
 status_digits status.Conflict = (refl, refl, refl, refl)
 status_digits status.UriTooLong = (refl, refl, refl, refl)
 status_digits status.NotImplemented = (refl, refl, refl, refl)
@@ -157,6 +160,8 @@ status_valid status.Unauthorized location passes =
 status_valid status.NotFound location passes = All-from_recursion IsField [] tt
 status_valid status.MethodNotAllowed location passes =
     All-from_recursion IsField (field (codes "Allow") (codes "GET, HEAD") ∷ []) (literal_field (codes "Allow") (codes "GET, HEAD") (omega arith) refl refl, tt)
+status_valid status.PostOnly location passes =
+    All-from_recursion IsField (field (codes "Allow") (codes "POST") ∷ []) (literal_field (codes "Allow") (codes "POST") (omega arith) refl refl, tt)
 status_valid status.Conflict location passes = All-from_recursion IsField [] tt
 status_valid status.UriTooLong location passes = All-from_recursion IsField [] tt
 status_valid status.NotImplemented location passes = All-from_recursion IsField [] tt
@@ -250,6 +255,7 @@ stated status.BadRequest reply = (refl, refl, refl)
 stated status.Unauthorized reply = (refl, refl, refl)
 stated status.NotFound reply = (refl, refl, refl)
 stated status.MethodNotAllowed reply = (refl, refl, refl)
+stated status.PostOnly reply = (refl, refl, refl)
 stated status.Conflict reply = (refl, refl, refl)
 stated status.UriTooLong reply = (refl, refl, refl)
 stated status.NotImplemented reply = (refl, refl, refl)
