@@ -33,8 +33,8 @@ pub fn status_after<K: Keep + Drop>(feed: &Feed<K>, name: &ReleaseName, end: Fet
     }
 }
 
-/// Prints the last lines of the reply: the fault, if there is one; why a release is broken that was complete before; and
-/// the exit status.
+/// Prints the last lines of the reply: the fault, if there is one, or why a release is broken that was complete before,
+/// and then the exit status.
 pub fn print_end<K: Keep + Drop, O: Write>(
     feed: &Feed<K>,
     name: &ReleaseName,
