@@ -176,10 +176,9 @@ impl OutgoingRequest {
             return Ok(0);
         }
         let most = room.min(self.buffer.len());
-        let (space, _) = self.buffer.split_at_mut(most);
-        let count = (&self.stream).read(space)?;
-        let (bytes, _) = self.buffer.split_at(count);
-        self.reply.extend_from_slice(bytes)?;
+        let count = (&self.stream).read(&mut self.buffer[..most])?;
+        let arrived = count.min(self.buffer.len());
+        self.reply.extend_from_slice(&self.buffer[..arrived])?;
         if count == 0 {
             self.end(None);
         }
