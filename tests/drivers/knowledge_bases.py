@@ -23,7 +23,7 @@ TOKEN = "a-token-of-this-test"
 NAME = "Odd_2024-01-01.txt"
 MIB = 1_048_576
 # The most seconds of a fetch and of a reader's wait, and the most bytes that a fetch that stops may take.
-LONGEST, WAIT, MEMORY = 20, 0.5, 24 * MIB
+LONGEST, WAIT, MEMORY = 20, 0.5, 32 * MIB
 
 
 def message(status, *fields):

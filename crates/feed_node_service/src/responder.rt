@@ -40,6 +40,7 @@ impl<'a, K: Keep + Drop> FeedResponder<'a, K> {
         }
     }
 
+    #[tactic(auto, using(crate::proofs::Turns::as_node))]
     fn response(
         &self,
         alloc: Global,
@@ -49,11 +50,13 @@ impl<'a, K: Keep + Drop> FeedResponder<'a, K> {
         ensures { IfOk result (λ response. IsReplyBy policy.now bytes.now
             (actives_of (releases_of self.now.feed.now)) response) }
     {
-        if let Some(response) = respond_about_feed(alloc, bytes, policy, self.feed)? {
-            return Ok(response);
+        match respond_about_feed(alloc, bytes, policy, self.feed)? {
+            Some(response) => Ok(response),
+            None => {
+                let response = respond_as_node(alloc, bytes, policy, self.feed)?;
+                Ok(response)
+            }
         }
-        let response = respond_as_node(alloc, bytes, policy, self.feed)?;
-        Ok(response)
     }
 
     // Returns the reply. A reply is streamed exactly if the request makes the node begin to fetch.
