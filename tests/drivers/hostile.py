@@ -4,17 +4,20 @@
 hostile.py files COUNT SEED [--ends]
 hostile.py heads COUNT SEED [--ends]
 hostile.py replies COUNT SEED [--ends]
+hostile.py fed COUNT SEED [--ends]
 
 Most inputs are made of good ones: cut, spliced, repeated, with bytes changed, dropped or inserted, in other encodings,
 with very many columns, fields or chunks, or of one very long line. The others are random bytes. Files are given to
-`check` and to `answer`, heads are sent to `serve`, and replies to `fetch`. Each run has to end with an answer or a
-named fault, within a second of processor time and 300 MiB: no signal, and never without a message. Only a file above 16
+`check` and to `answer`, heads are sent to `serve`, and replies to `fetch` and (`fed`) to a node that fetches. Each run
+has to end with an answer or a named fault, within a second of processor time and 300 MiB: no signal, and never without a message. Only a file above 16
 MiB may run out of memory, since a line of so many tabs has as many fields. Also, `check` and `answer` have to agree on
 a file, the body of a reply has to match its head, and a node has to answer from its release until another one is whole.
 The first input that ends in another way is saved and reported with status 1. With --ends, prints how often each kind of
 end occurred."""
 import argparse
 import collections
+import functools
+import http.client
 import os
 import pathlib
 import random
@@ -32,6 +35,7 @@ WAIT = 60
 LIMITED = ["sh", "-c", f'ulimit -t 1; ulimit -v {ROOM // 1_024}; ulimit -c 0; exec kbfeed "$@"', "kbfeed"]
 
 NAME, LATER = "Acme_Global_All_2024-01-01.txt", "Acme_Global_All_2024-02-01.txt"
+TOKEN = "a-token-of-this-test"
 QUERY = "rft.issn=2434561x&rft.isbn=0306406152&rft.date=1996"
 LABELS = ["publication_title", "print_identifier", "online_identifier", "date_first_issue_online",
           "num_first_vol_online", "date_last_issue_online", "num_last_vol_online", "title_url", "publication_type"]
@@ -354,7 +358,7 @@ LAST_LINES = re.compile(rf"activated|known|older|missing|unsatisfied|nothing|bro
                         r"(noted|size \d+|repeated|stored missing \d+)|refused (WrongSize|Outside|Conflict|TooBig|"
                         r"BadPiece|Full)")
 FETCH_FAULTS = re.compile(r"kbfeed: (Short|HeadTooLong|BadHead|Coding|Length|Range|BodyTooLong|NoProgress|Read|Write|"
-                          r"Status \d+)\n")
+                          r"NoRanges|Status \d+)\n")
 
 
 def fetch_ended(before, node, address):
@@ -374,7 +378,55 @@ def fetch_ended(before, node, address):
     return err.removeprefix("kbfeed: ").strip() or " ".join(last.split()[:2 if status else 1])
 
 
-def replies(draw, count, folder):
+class Node:
+    """A node over a database, which fetches from an address. `ran` has the lines of a fetch, and an answer after it."""
+
+    def __init__(self, database, address):
+        token = database.parent / "token"
+        token.write_text(TOKEN + "\n", encoding="ascii")
+        with socket.create_server(("127.0.0.1", 0)) as held:
+            self.address = "127.0.0.1:%d" % held.getsockname()[1]
+        self.process = subprocess.Popen([*LIMITED, "node", str(database), self.address, "--from", address, "--token",
+                                         str(token), "--piece", "200"], stdin=subprocess.DEVNULL,
+                                        stdout=subprocess.PIPE)
+        if self.process.stdout.readline() != b"listening\n":
+            raise Unexpected("a node does not start")
+
+    def ran(self, method, target, fields=()):
+        conn = http.client.HTTPConnection(self.address, timeout=WAIT)
+        conn.request(method, target, headers=dict(fields))
+        text = conn.getresponse().read().decode("utf-8", "replace")
+        conn.close()
+        return text
+
+    def end(self):
+        self.process.kill()
+        self.process.wait()
+        self.process.stdout.close()
+
+
+def fed_ended(before, database, address):
+    """How a fetch of a node ended. The node then has to answer as before, or from the later release if that is active."""
+    node = Node(database, address)
+    try:
+        *lines, last = node.ran("POST", f"/feed/{LATER}", [("Authorization", f"Bearer {TOKEN}")]).splitlines()
+        after = node.ran("GET", f"/resolve/Acme_Global_All?{QUERY}")
+    except (OSError, http.client.HTTPException) as fault:
+        raise Unexpected(f"a node ends: {fault!r}") from fault
+    finally:
+        node.end()
+    end = lines[-1] if lines else ""
+    if not re.fullmatch("status [013]", last) or not (FETCH_FAULTS.fullmatch(end + "\n") or LAST_LINES.fullmatch(end)):
+        raise Unexpected(f"fed: {last!r} after {lines}")
+    if (last == "status 0") != (end in ("activated", "known", "older")):
+        raise Unexpected(f"fed: {last!r} after {end!r}")
+    later = last == "status 0" and after.startswith(f"release {LATER} hits ")
+    if after != before[1] and not later:
+        raise Unexpected(f"answer after {end!r}: {after!r}")
+    return " ".join(end.removeprefix("kbfeed: ").split()[:2])
+
+
+def replies(draw, count, folder, ended=fetch_ended):
     peer = Replies(draw, GOOD.encode() * 2)
     peer.start()
     first, node = folder / "first.db", folder / "node.db"
@@ -384,11 +436,13 @@ def replies(draw, count, folder):
     peer.is_honest = False
     kept = folder / "replies"
     while peer.count < count:
+        for old in folder.glob("node.db*"):
+            old.unlink()
         shutil.copy(first, node)
         peer.last.clear()
         was = peer.count
         try:
-            end = fetch_ended(before, node, peer.address)
+            end = ended(before, node, peer.address)
         finally:
             kept.write_bytes(b"\n== a reply\n".join(peer.last))
         for _ in range(min(peer.count, count) - was):
@@ -397,7 +451,7 @@ def replies(draw, count, folder):
 
 def main():
     asked = argparse.ArgumentParser(description=__doc__, formatter_class=argparse.RawDescriptionHelpFormatter)
-    asked.add_argument("kind", choices=["files", "heads", "replies"])
+    asked.add_argument("kind", choices=["files", "heads", "replies", "fed"])
     asked.add_argument("count", type=int)
     asked.add_argument("seed", type=int)
     asked.add_argument("--ends", action="store_true")
@@ -407,7 +461,8 @@ def main():
     place = "/dev/shm" if os.access("/dev/shm", os.W_OK) else None
     with tempfile.TemporaryDirectory(prefix="kbfeed-hostile-", dir=place) as name:
         folder = pathlib.Path(name)
-        kind = {"files": files, "heads": heads, "replies": replies}[given.kind]
+        fed = functools.partial(replies, ended=fed_ended)
+        kind = {"files": files, "heads": heads, "replies": replies, "fed": fed}[given.kind]
         at = None
         try:
             for at, end in kind(random.Random(given.seed), given.count, folder):
@@ -418,7 +473,8 @@ def main():
                 shutil.copy(path, f"hostile_{path.name}")
             print(f"after {ends.total()} {given.kind}; what was given is beside this, as hostile_*")
             return 1
-    print(f"{ends.total()} {given.kind}: each ended with an answer or a named fault")
+    inputs = given.kind.replace("fed", "replies to a node")
+    print(f"{ends.total()} {inputs}: each ended with an answer or a named fault")
     if given.ends:
         for end, count in ends.most_common():
             print(f"{count} {end}")

@@ -87,8 +87,8 @@ fn report_database<F: Write + Drop>(
     }
 }
 
-/// Reports why a keeper does not return its records, or why no feed keeps such records, and returns the status.
-pub fn report_keeper<F: Write + Drop>(faults: &mut Faults<F>, fault: KeepFault, path: &str) -> u8 {
+// Reports why a keeper does not return its records, or why no feed keeps such records, and returns the status.
+fn report_keeper<F: Write + Drop>(faults: &mut Faults<F>, fault: KeepFault, path: &str) -> u8 {
     match fault {
         KeepFault::Memory => faults.report(fault, FAILED),
         KeepFault::Device => faults.report_with(fault, path, "it does not read", FAILED),

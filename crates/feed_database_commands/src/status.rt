@@ -1,8 +1,7 @@
 //! `kbfeed status`: the releases that a node has recorded.
-use crate::database::{Database, close_keeper, open_feed, report_keeper};
-use feed_command::{DONE, Faults};
-use feed_keep::{Keep, Record};
-use feed_model::State;
+use crate::database::{Database, close_keeper, open_feed};
+use feed_command::{DONE, FAILED, Faults};
+use feed_releases::ReleaseStatus;
 use std::alloc::Global;
 use std::io;
 use std::io::Write;
@@ -25,47 +24,17 @@ pub fn print_status<D: Database, O: Write, F: Write + Drop>(
         Ok(feed) => feed,
         Err(status) => return status,
     };
-    let mut keeper = feed.restart();
-    let status = match keeper.load(alloc) {
-        Ok(records) => faults.check_print(print_records(out, &records), DONE),
-        Err(fault) => report_keeper(faults, fault, database.name()),
+    let status = match feed.statuses() {
+        Ok(statuses) => faults.check_print(print_statuses(out, &statuses), DONE),
+        Err(_) => faults.report("Memory", FAILED),
     };
-    close_keeper(database, keeper, faults);
+    close_keeper(database, feed.restart(), faults);
     status
 }
 
-fn print_records<O: Write>(out: &mut O, records: &[Record]) -> io::Result<()> {
-    for record in records {
-        let state = state_name(record.state);
-        let size = record.size;
-        let missing = missing_bytes(record);
-        out.write_all(record.name.text())?;
-        write!(out, "\t{state}\t{size}\t{missing}")?;
-        if let Some(why) = record.reason {
-            write!(out, "\t{why}")?;
-        }
-        writeln!(out)?;
+fn print_statuses<O: Write>(out: &mut O, statuses: &[ReleaseStatus<'_>]) -> io::Result<()> {
+    for status in statuses {
+        status.write_line(out)?;
     }
     out.flush()
-}
-
-fn missing_bytes(record: &Record) -> u64 {
-    match record.state {
-        State::Active | State::Broken => 0,
-        State::Staged => {
-            let mut missing = record.size;
-            for part in &record.parts {
-                missing = missing.saturating_sub(part.bytes.len() as u64);
-            }
-            missing
-        }
-    }
-}
-
-fn state_name(state: State) -> &'static str {
-    match state {
-        State::Staged => "staged",
-        State::Active => "active",
-        State::Broken => "broken",
-    }
 }

@@ -1,5 +1,5 @@
 -- The steps of a fetch.
-use Rattle.std.specs.Prelude.{◌≡◌, ℕ, ◌+◌, List, length, Some, None, Result, Ok, Err, MatchResult}
+use Rattle.std.specs.Prelude.{◌≡◌, ℕ, Bool, ◌+◌, List, length, Some, None, Result, Ok, Err, MatchResult}
 use Rattle.std.specs.Prelude.{slice_range}
 use Rattle.feed_names.specs.ReleaseName.{Name, text_of}
 use Rattle.feed_dial.specs.Replies.{Replies, IfKnown}
@@ -26,6 +26,15 @@ use Rattle.feed_fetch.specs.Effects.{IsPieceOf}
 abbrev pub phase_after : Result (Unit {0}) Stop → Phase
 phase_after (Ok done) = phases.Offered
 phase_after (Err stop) = phases.Stopped
+
+-- the same after a part of a file that is still arriving
+abbrev pub phase_after_part : Phase → Result Bool Stop → Phase
+phase_after_part phase (Ok is_new) = phase
+phase_after_part phase (Err stop) = phases.Stopped
+
+-- the bytes that have arrived of a whole file of this length, from this place on; the rest of the file may never arrive
+abbrev pub IsArrivedPart : List ℕ → ℕ → ℕ → List ℕ → Type 0
+IsArrivedPart file first size bytes = IsPieceOf (got.Whole file) first (Some size) bytes
 
 -- what a fetch needs next: the length; then a range exactly if it is the next missing one, and nothing exactly if none
 -- is missing; after a stop nothing

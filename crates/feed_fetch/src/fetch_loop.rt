@@ -105,8 +105,8 @@ pub fn fetch_file<D: Dial, K: Keep + Drop, O: Write>(
     Err(Stop::NoProgress)
 }
 
-// Returns whether the release is the active one of its package.
-fn is_reported<K: Keep + Drop>(feed: &Feed<K>, name: &ReleaseName) -> bool
+/// Returns whether the release is the active one of its package.
+pub fn is_reported<K: Keep + Drop>(feed: &Feed<K>, name: &ReleaseName) -> bool
     ensures reported { (h : History) → IsContent (recorded feed.now) h → IsTrue result → IsReported name.now h }
     ensures found { (h : History) → IsContent (recorded feed.now) h → IsReported name.now h → IsTrue result }
     ensures good { (h : History) → IsContent (recorded feed.now) h → ¬ (IsPassed h name.now)

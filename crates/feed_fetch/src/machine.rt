@@ -1,16 +1,17 @@
 //! A fetch of one release, as a machine that does no I/O: it says what to request next, and takes the replies.
-ghost use Rattle.std.specs.Prelude.{ℕ, List, Option, ◌≡◌, ◌≤◌, Some, Err, IfErr};
+ghost use Rattle.std.specs.Prelude.{ℕ, List, Option, ◌≡◌, ◌≤◌, ◌⊎◌, Some, None, Err, IfErr};
 ghost use Rattle.feed_model.specs.Content.{IsContent};
-ghost use Rattle.feed_model.specs.History.{History};
+ghost use Rattle.feed_model.specs.History.{History, Piece};
 ghost use Rattle.feed_releases.specs.Feeds.{recorded};
 ghost use Rattle.feed_limits.specs.Limits.{piece_limit};
-ghost use Rattle.feed_fetch.specs.Answers.{HasCause, IsStoppedAt};
-ghost use Rattle.feed_fetch.specs.Effects.{IsExtension, IsFetchable, IsOpened, IsFilled};
-ghost use Rattle.feed_fetch.specs.Steps.{IsNextStep, IsReplyEvent, HasLength, HasRange, phase_after};
+ghost use Rattle.feed_fetch.specs.Answers.{HasCause, HasRightAnswer, IsStoppedAt, piece_result, reply_or_stop};
+ghost use Rattle.feed_fetch.specs.Effects.{IsExtension, IsTakenFrom, IsFetchable, IsOpened, IsFilled};
+ghost use Rattle.feed_fetch.specs.Steps.{IsNextStep, IsReplyEvent, IsArrivedPart, HasLength, HasRange};
+ghost use Rattle.feed_fetch.specs.Steps.{phase_after, phase_after_part};
 ghost use Rattle.feed_fetch.specs.Printing.{has_failed};
 
 use crate::printer::Printer;
-use crate::replies::{take_length, take_range};
+use crate::replies::{handle_piece, take_length, take_range};
 use crate::stop::{RequestFault, Stop};
 use feed_dial::DialFault;
 use feed_http::Got;
@@ -64,6 +65,16 @@ fn phase_after(outcome: Result<(), Stop>) -> Phase
 {
     match outcome {
         Ok(()) => Phase::Offered,
+        Err(_) => Phase::Stopped,
+    }
+}
+
+// Returns the phase after a part of a file that is still arriving.
+fn phase_after_part(phase: Phase, taken: Result<bool, Stop>) -> Phase
+    ensures { result ≡ phase_after_part phase taken }
+{
+    match taken {
+        Ok(_) => phase,
         Err(_) => Phase::Stopped,
     }
 }
@@ -148,5 +159,32 @@ impl Fetch {
         let outcome = self.submit(feed, name, reply, out);
         self.phase = phase_after(outcome);
         outcome
+    }
+
+    /// Takes a part of a whole file whose length the reply stated, before the rest of it has arrived: submits it to the
+    /// feed as a piece from the place `first`, and prints the feed's answer. Returns whether the part had new bytes, or
+    /// why the fetch stops.
+    pub fn take_part<K: Keep + Drop, O: Write>(
+        &mut self,
+        feed: &mut Feed<K>,
+        name: &ReleaseName,
+        first: u64,
+        length: u64,
+        bytes: &[u8],
+        out: &mut Printer<O>,
+    ) -> Result<bool, Stop>
+        ensures extends { (file : List ℕ) → IsArrivedPart file first length bytes.now
+            → IsExtension (IsTakenFrom name.now (Got.Whole file))
+            (λ k. IfErr result (λ stop. IsStoppedAt name.now stop k)) (recorded feed.old) (recorded feed.new) }
+        ensures right { HasRightAnswer
+            (λ answer. (result ≡ piece_result (reply_or_stop answer)) ⊎ (result ≡ Err Stop.Print))
+            (recorded feed.old) (Piece name.now first (Some length) bytes.now) (recorded feed.new) }
+        ensures caused { IfErr result (λ stop. HasCause (has_failed out.new) None stop) }
+        ensures phase { self.new.phase ≡ phase_after_part self.old.phase result }
+        ensures piece { self.new.piece ≡ self.old.piece }
+    {
+        let taken = handle_piece(feed, name, first, Some(length), bytes, out);
+        self.phase = phase_after_part(self.phase, taken);
+        taken
     }
 }

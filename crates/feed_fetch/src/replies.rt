@@ -70,8 +70,8 @@ fn has_new_bytes(reply: Reply) -> bool
     }
 }
 
-// Passes a piece to the feed, and returns whether it had new bytes.
-fn handle_piece<K: Keep + Drop, O: Write>(
+/// Passes a piece to the feed, and returns whether it had new bytes.
+pub fn handle_piece<K: Keep + Drop, O: Write>(
     feed: &mut Feed<K>,
     name: &ReleaseName,
     first: u64,

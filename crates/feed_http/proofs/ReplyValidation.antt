@@ -18,6 +18,8 @@ use Rattle.feed_http_heads.specs.ReplyHeads.{BeginsWithHeads, print_heads}
 use Rattle.feed_http_heads.specs.ReplyReads.{IsReplyIn}
 use Rattle.feed_http.specs.Announcements.{announcement_of}
 use Rattle.feed_http.specs.Got.{IsGot, IsReply, IsReadingFault}
+use Rattle.feed_http.specs.declared.fetching.reply_scan.ReplyBody.{ReplyBody}
+use Rattle.feed_http.specs.ReplyScans.{body_behind, IsBodyOf}
 use Rattle.feed_http.proofs.AnnouncedFaults.{announced_fault}
 use Rattle.feed_http_heads.proofs.ReplyReading.{split_text, part_is, counted}
 
@@ -116,3 +118,24 @@ body_given method (Some text) (Some rest) chain buffer headers start filled span
   begins = begins text buffer rest headers start filled spans read taken;
   is = rw (← says read.reply.head (at_part buffer headers start filled spans read)) (rw e at is);
 })
+
+-- what the validated head announces follows it
+pub body_found : (method : Method) (text : List ℕ) (new : Option (List ℕ)) (buffer : List ℕ) (headers : List HeaderSpan) (start filled : ℕ) (spans : ResponseSpans)
+    (announced : Result Announcement HttpFault) (result : ReplyBody)
+    → IsHeadRead buffer headers start filled spans → Consumes (Some text) new (take filled buffer)
+    → ((head : ResponseHead) → IsResponseAt (take (filled - start) (drop start buffer)) headers spans head → announced ≡ announcement_of method head)
+    → result ≡ body_behind (start + spans.len) announced → IsBodyOf method text result
+body_found method text None buffer headers start filled spans announced result read taken says is = absurd taken
+body_found method text (Some rest) buffer headers start filled spans announced result read taken says is =
+    let heads : ℕ = length (print_heads read.reply.interim) + length (print_response read.reply.head) in
+    let front : length (take filled buffer) ≡ filled = length-take-le filled buffer read.fits in
+    let starts : length (print_heads read.reply.interim) ≡ start = ap length read.reply.before.front ∙ length-take-le start (take filled buffer) (omega (arith, read.ordered)) in
+    let place : start + spans.len ≡ heads = omega (arith, starts, read.reply.at.len) in
+    inl (record {
+      interim = read.reply.interim;
+      head = read.reply.head;
+      rest = ahead_of buffer start filled spans ++ rest;
+      begins = begins text buffer rest headers start filled spans read taken;
+      is = is ∙ ap (λ (n : ℕ). body_behind n announced) place
+          ∙ ap (λ (a : Result Announcement HttpFault). body_behind heads a) (says read.reply.head (at_part buffer headers start filled spans read));
+    })

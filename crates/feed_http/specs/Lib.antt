@@ -9,4 +9,5 @@ pub mod Announcements
 pub mod Bodies
 pub mod Chunks
 pub mod Got
+pub mod ReplyScans
 pub mod Laws

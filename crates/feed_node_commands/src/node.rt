@@ -5,7 +5,8 @@ use feed_command::{DONE, FAILED, Faults, MISUSED, REFUSED, open_file};
 use feed_database_commands::{Database, close_keeper, open_feed};
 use feed_http::is_host;
 use feed_node_server::{Server, Settings, TimeLimits};
-use feed_node_service::{End, Source, run};
+use feed_node_service::{End, Source, SourceAddrs, run};
+use feed_range::read_number;
 use std::io;
 use std::io::Write;
 use std::net::ToSocketAddrs;
@@ -26,8 +27,9 @@ pub struct Hosting<'a> {
 /// Runs a node: opens the feed of a database and answers readers at an address, without end. If it has a source, a
 /// client that has the token can make it fetch a release from there. It prints a line for each request, at once. The
 /// first fault is reported: of the source (`Host`, `Read`, `Token`), of the database, of the address (`Bind`), of the
-/// sockets (`Poll`) and of the print. If there are too few descriptors for all clients, that is reported
-/// (`Descriptors`), and the node answers fewer at a time, or does not start with fewer than 16.
+/// sockets (`Poll`) and of the print. A host that has no address yet is reported too (`Resolve`), and the node runs. If
+/// there are too few descriptors for all clients, that is reported (`Descriptors`), and the node answers fewer at a time,
+/// or does not start with fewer than 16.
 pub fn run_node<D: Database, O: Write, F: Write + Drop>(
     rt: &HostRuntime,
     database: &D,
@@ -36,10 +38,11 @@ pub fn run_node<D: Database, O: Write, F: Write + Drop>(
     out: &mut O,
     faults: &mut Faults<F>,
 ) -> u8 {
+    let mut addrs = SourceAddrs::new(rt);
     let Some(upstream) = upstream else {
-        return run_server(rt, database, hosting, None, out, faults);
+        return run_server(rt, database, hosting, None, addrs, out, faults);
     };
-    if !is_host(upstream.addr.as_bytes()) {
+    if !is_host(upstream.addr.as_bytes()) || !has_port(upstream.addr.as_bytes()) {
         return faults.report_with(
             "Host",
             upstream.addr,
@@ -57,7 +60,21 @@ pub fn run_node<D: Database, O: Write, F: Write + Drop>(
         piece: upstream.piece,
         limit: hosting.limit,
     };
-    run_server(rt, database, hosting, Some(source), out, faults)
+    if let Err(error) = addrs.resolve(rt, upstream.addr) {
+        let _ = faults.report_with("Resolve", upstream.addr, error, DONE);
+    }
+    run_server(rt, database, hosting, Some(source), addrs, out, faults)
+}
+
+// Returns whether a host ends with a colon and a port from 1 to 65,535.
+fn has_port(host: &[u8]) -> bool {
+    match host.iter().rposition(|byte| *byte == b':') {
+        Some(place) => match read_number(&host[place.saturating_add(1)..]) {
+            Some(port) => 0 < port && port <= 65_535,
+            None => false,
+        },
+        None => false,
+    }
 }
 
 // Reads the token of a file, or reports the fault and returns the exit status.
@@ -85,6 +102,7 @@ fn run_server<D: Database, O: Write, F: Write + Drop>(
     database: &D,
     hosting: Hosting<'_>,
     source: Option<Source<'_>>,
+    addrs: SourceAddrs,
     out: &mut O,
     faults: &mut Faults<F>,
 ) -> u8 {
@@ -99,7 +117,7 @@ fn run_server<D: Database, O: Write, F: Write + Drop>(
                 return FAILED;
             }
             match announce(out) {
-                Ok(()) => run(rt, &mut feed, &mut server, source, out),
+                Ok(()) => run(rt, &mut feed, &mut server, source, addrs, out),
                 Err(error) => End::Print(error),
             }
         }

@@ -21,11 +21,11 @@ pub struct Destination {
     pub addr: SocketAddr,
     /// The milliseconds that the request and its reply may take, and a second more for each 65,536 bytes that move.
     pub limit: u64,
-    /// The bytes of the reply after which no more are read.
+    /// How many bytes of the reply are kept at a time. No more are read until some are discarded.
     pub reply_limit: usize,
 }
 
-/// A request to another server, and its reply, which ends with the connection.
+/// A request to another server, and the bytes of its reply that were received and not yet discarded.
 #[derive(Drop)]
 pub struct OutgoingRequest {
     pub(crate) stream: TcpStream,
@@ -67,17 +67,25 @@ impl OutgoingRequest {
         })
     }
 
-    /// Returns the whole request.
-    pub fn request(&self) -> &[u8] {
-        &self.request
-    }
-
-    /// Returns the bytes of the reply that were received.
+    /// Returns the bytes of the reply that were received and not yet discarded.
     pub fn reply(&self) -> &[u8] {
         &self.reply
     }
 
-    /// Returns whether the server ended the reply, the reply reached its limit, or there was an error.
+    /// Discards the first bytes of the reply. The ones after them move to its front.
+    pub fn discard(&mut self, count: usize) {
+        let kept = self.reply.len().saturating_sub(count);
+        let from = self.reply.len() - kept;
+        self.reply.copy_within(from.., 0);
+        self.reply.truncate(kept);
+    }
+
+    /// Changes how many bytes of the reply are kept at a time.
+    pub fn set_reply_limit(&mut self, limit: usize) {
+        self.reply_limit = limit;
+    }
+
+    /// Returns whether the server ended the connection, or there was an error.
     pub fn is_over(&self) -> bool {
         self.is_over
     }
@@ -119,8 +127,8 @@ impl OutgoingRequest {
         }
     }
 
-    /// Sends and receives until the socket would block, the request is over, or its share of the turn is used. Returns
-    /// whether it used all of its share.
+    /// Sends and receives until the socket would block, the request is over, the reply has as many bytes as are kept at
+    /// a time, or its share of the turn is used. Returns whether more may be received at once.
     pub fn advance(&mut self) -> bool {
         for _ in 0..READS {
             if self.is_over || !self.step() {
@@ -163,10 +171,15 @@ impl OutgoingRequest {
     }
 
     fn receive(&mut self) -> io::Result<usize> {
-        let count = (&self.stream).read(&mut self.buffer)?;
-        let (bytes, _) = self.buffer.split_at(count);
-        self.reply.extend_from_slice(bytes)?;
-        if count == 0 || self.reply.len() >= self.reply_limit {
+        let room = self.reply_limit.saturating_sub(self.reply.len());
+        if room == 0 {
+            return Ok(0);
+        }
+        let most = room.min(self.buffer.len());
+        let count = (&self.stream).read(&mut self.buffer[..most])?;
+        let arrived = count.min(self.buffer.len());
+        self.reply.extend_from_slice(&self.buffer[..arrived])?;
+        if count == 0 {
             self.end(None);
         }
         Ok(count)

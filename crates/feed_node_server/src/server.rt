@@ -141,14 +141,14 @@ impl Server {
         Ok(())
     }
 
-    /// Takes the request to another server, with its reply, if it is over.
-    pub fn take_finished_request(&mut self) -> Option<OutgoingRequest> {
-        let outgoing = self.outgoing.take()?;
-        if outgoing.is_over() {
-            return Some(outgoing);
-        }
-        self.outgoing = Some(outgoing);
-        None
+    /// Returns the request to another server that is under way.
+    pub fn outgoing(&mut self) -> Option<&mut OutgoingRequest> {
+        self.outgoing.as_mut()
+    }
+
+    /// Takes the request to another server, with the bytes of its reply, and with it the connection.
+    pub fn take_request(&mut self) -> Option<OutgoingRequest> {
+        self.outgoing.take()
     }
 
     /// Appends a text to the bodies of the streamed replies.

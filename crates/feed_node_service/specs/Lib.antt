@@ -1,1 +1,2 @@
+pub mod FetchEnds
 pub mod Responders

@@ -1,17 +1,20 @@
 //! Fetches releases for a node, one request at a time, between the turns of its loop.
+use crate::exchange::{Arrival, Exchange, WholePart};
+use crate::fetch_end::{FetchEnd, print_end, print_name_fault};
 use crate::recorded_reply::RecordedReply;
+use crate::source_addrs::SourceAddrs;
 use feed_dial::DialFault;
-use feed_fetch::{Fetch, Next, Phase, Printer, Request, RequestFault, print_stop};
+use feed_fetch::{Fetch, Next, Printer, Request, RequestFault, Stop};
 use feed_http::{Got, Method, is_host, read_reply, write_head_request, write_request};
+use feed_http_heads::HttpFault;
 use feed_keep::Keep;
-use feed_limits::{FILE_LIMIT, PIECE_LIMIT};
+use feed_limits::PIECE_LIMIT;
 use feed_names::{NameFault, ReleaseName};
 use feed_node_server::{Destination, OutgoingRequest, Server};
 use feed_releases::Feed;
 use std::alloc::AllocError;
 use std::io;
 use std::io::{ErrorKind, Write};
-use std::net::{SocketAddr, ToSocketAddrs};
 
 /// The server that a node fetches from, the token that authorizes a fetch, and the limits of its requests.
 #[derive(Clone, Copy)]
@@ -25,14 +28,15 @@ pub struct Source<'a> {
     pub limit: u64,
 }
 
-// The most bytes of a reply: a file, and beside it a head and the framing of chunks.
-const REPLY_LIMIT: usize = FILE_LIMIT + 16_777_216;
+// The most parts of a whole file that are taken in one turn, which is all that are kept at a time.
+const PARTS: usize = 4;
 
 /// Fetches releases for a node, one at a time.
 #[derive(Drop)]
 pub struct Fetcher<'a> {
     rt: &'a HostRuntime,
     source: Option<Source<'a>>,
+    addrs: SourceAddrs,
     fetch: Option<RunningFetch>,
 }
 
@@ -41,16 +45,31 @@ pub struct Fetcher<'a> {
 struct RunningFetch {
     name: ReleaseName,
     fetch: Fetch,
-    addrs: Vec<SocketAddr>,
-    /// The address in use.
+    /// The place of the address in use.
     at: usize,
+    exchange: Exchange,
+}
+
+// What a fetch does after it looked at the reply.
+#[derive(Clone, Copy)]
+enum Step {
+    /// It waits for more of the reply.
+    Wait,
+    /// It looks again, since it took a part of the reply.
+    Again,
+    /// It sends the next request.
+    Send,
+    /// It tries the next address of the server.
+    Retry,
+    End(FetchEnd),
 }
 
 impl<'a> Fetcher<'a> {
-    pub fn new(rt: &'a HostRuntime, source: Option<Source<'a>>) -> Fetcher<'a> {
+    pub fn new(rt: &'a HostRuntime, source: Option<Source<'a>>, addrs: SourceAddrs) -> Fetcher<'a> {
         Fetcher {
             rt,
             source,
+            addrs,
             fetch: None,
         }
     }
@@ -75,36 +94,43 @@ impl<'a> Fetcher<'a> {
         feed: &Feed<K>,
         name: Result<ReleaseName, NameFault>,
     ) {
+        let Some(source) = self.source else {
+            return server.finish_streams();
+        };
         let name = match name {
             Ok(name) => name,
-            Err(fault) => return report_fault(self.rt, server, fault),
+            Err(fault) => {
+                let mut lines = self.lines();
+                print_name_fault(fault, &mut lines);
+                return finish(server, lines);
+            }
         };
-        let addrs = match self.resolve_addrs() {
-            Ok(addrs) => addrs,
-            Err(_) => Vec::new(self.rt.alloc()),
-        };
-        let piece = match self.source {
-            Some(source) => source.piece.max(1).min(PIECE_LIMIT as u64),
-            None => 1,
-        };
+        self.addrs.renew(self.rt, source.addr);
+        let fetch = Fetch::new(source.piece.max(1).min(PIECE_LIMIT as u64));
         let fetch = RunningFetch {
             name,
-            fetch: Fetch::new(piece),
-            addrs,
+            fetch,
             at: 0,
+            exchange: Exchange::new(Method::Head, fetch.piece),
         };
         self.send_next(server, feed, fetch);
     }
 
-    // Returns the addresses of the source.
-    fn resolve_addrs(&self) -> io::Result<Vec<SocketAddr>> {
-        let mut addrs = Vec::new(self.rt.alloc());
-        if let Some(source) = self.source {
-            for addr in source.addr.to_socket_addrs(self.rt)? {
-                addrs.push(addr)?;
-            }
-        }
-        Ok(addrs)
+    fn lines(&self) -> Printer<Vec<u8>> {
+        Printer::new(Vec::new(self.rt.alloc()))
+    }
+
+    // Reports the end of a fetch, and completes the reply to its client.
+    fn end<K: Keep + Drop>(
+        &self,
+        server: &mut Server,
+        feed: &Feed<K>,
+        name: &ReleaseName,
+        end: FetchEnd,
+    ) {
+        let mut lines = self.lines();
+        print_end(feed, name, end, &mut lines);
+        finish(server, lines);
     }
 
     // Sends the next request of a fetch. If there is none, the fetch is over.
@@ -112,15 +138,19 @@ impl<'a> Fetcher<'a> {
         &mut self,
         server: &mut Server,
         feed: &Feed<K>,
-        fetch: RunningFetch,
+        mut fetch: RunningFetch,
     ) {
-        match self.try_send_next(server, feed, &fetch) {
+        match self.try_send_next(server, feed, &mut fetch) {
             Ok(true) => self.fetch = Some(fetch),
-            Ok(false) => server.finish_streams(),
-            Err(fault) if fault.kind() == ErrorKind::OutOfMemory => {
-                report_fault(self.rt, server, DialFault::Memory);
+            Ok(false) => self.end(server, feed, &fetch.name, FetchEnd::Done),
+            Err(error) => {
+                let fault = match error.kind() {
+                    ErrorKind::OutOfMemory => DialFault::Memory,
+                    _ => DialFault::Connect,
+                };
+                let stop = Stop::Request(RequestFault::Dial(fault));
+                self.end(server, feed, &fetch.name, FetchEnd::Stopped(stop));
             }
-            Err(_) => report_fault(self.rt, server, DialFault::Connect),
         }
     }
 
@@ -128,89 +158,112 @@ impl<'a> Fetcher<'a> {
         &self,
         server: &mut Server,
         feed: &Feed<K>,
-        fetch: &RunningFetch,
+        fetch: &mut RunningFetch,
     ) -> io::Result<bool> {
         let Some(source) = self.source else {
             return Ok(false);
         };
-        let Some(addr) = fetch.addrs.get(fetch.at) else {
+        let Some(addr) = self.addrs.get(fetch.at) else {
             return Err(io::Error::from(ErrorKind::NotFound));
         };
-        match next_request(self.rt, feed, fetch, source)? {
-            Some(text) => {
-                let destination = Destination {
-                    addr: *addr,
-                    limit: source.limit,
-                    reply_limit: REPLY_LIMIT,
-                };
-                server.begin_request(self.rt, destination, text)?;
-                Ok(true)
-            }
-            None => Ok(false),
-        }
+        let Some((method, text)) = next_request(self.rt, feed, fetch, source)? else {
+            return Ok(false);
+        };
+        fetch.exchange = Exchange::new(method, fetch.fetch.piece);
+        let destination = Destination {
+            addr,
+            limit: source.limit,
+            reply_limit: fetch.exchange.limit(),
+        };
+        server.begin_request(self.rt, destination, text)?;
+        Ok(true)
     }
 
-    /// Takes the finished request, if there is one, and sends the next request of the fetch.
+    /// Takes what has arrived of the reply to the last request. Once it is complete, sends the next request of the
+    /// fetch.
     pub fn advance<K: Keep + Drop>(&mut self, server: &mut Server, feed: &mut Feed<K>) {
-        if self.fetch.is_none() {
-            return;
-        }
-        let Some(outgoing) = server.take_finished_request() else {
-            return;
-        };
         let Some(mut fetch) = self.fetch.take() else {
             return;
         };
-        if outgoing.has_sent() {
-            self.process_reply(server, feed, fetch, &outgoing);
-        } else {
-            fetch.at = fetch.at.saturating_add(1);
-            self.send_next(server, feed, fetch);
+        let mut lines = self.lines();
+        let step = self.take_arrived(server, feed, &mut fetch, &mut lines);
+        server.send_to_streams(&lines.into_writer());
+        match step {
+            Step::Wait | Step::Again => self.fetch = Some(fetch),
+            Step::Send => self.send_next(server, feed, fetch),
+            Step::Retry => {
+                fetch.at = fetch.at.saturating_add(1);
+                self.send_next(server, feed, fetch);
+            }
+            Step::End(end) => {
+                let _ = server.take_request();
+                self.end(server, feed, &fetch.name, end);
+            }
         }
     }
 
-    // Applies the reply to the feed, reports the outcome, and sends the next request, if there is one.
-    fn process_reply<K: Keep + Drop>(
-        &mut self,
+    // Takes the parts of the reply that have arrived, or the reply.
+    fn take_arrived<K: Keep + Drop>(
+        &self,
         server: &mut Server,
         feed: &mut Feed<K>,
-        mut fetch: RunningFetch,
-        outgoing: &OutgoingRequest,
-    ) {
-        let mut lines = Printer::new(Vec::new(self.rt.alloc()));
-        let continues = self.apply_reply(feed, &mut fetch, outgoing, &mut lines);
-        server.send_to_streams(&lines.into_writer());
-        if continues {
-            self.send_next(server, feed, fetch);
-        } else {
-            server.finish_streams();
+        fetch: &mut RunningFetch,
+        lines: &mut Printer<Vec<u8>>,
+    ) -> Step {
+        let Some(outgoing) = server.outgoing() else {
+            return Step::Wait;
+        };
+        for _ in 0..PARTS {
+            match self.take_next(feed, fetch, outgoing, lines) {
+                Step::Again => {}
+                step => return step,
+            }
         }
+        Step::Again
     }
 
-    // Applies the reply to the feed, and returns whether the fetch continues.
-    fn apply_reply<K: Keep + Drop>(
+    fn take_next<K: Keep + Drop>(
         &self,
         feed: &mut Feed<K>,
         fetch: &mut RunningFetch,
-        outgoing: &OutgoingRequest,
+        outgoing: &mut OutgoingRequest,
         lines: &mut Printer<Vec<u8>>,
-    ) -> bool {
-        let reply = self.parse_reply(fetch.fetch.phase, outgoing);
-        match fetch.fetch.take(feed, &fetch.name, &reply, lines) {
-            Ok(()) => true,
-            Err(stop) => {
-                let _ = print_stop(stop, lines);
-                false
+    ) -> Step {
+        if outgoing.is_over() && !outgoing.has_sent() {
+            return Step::Retry;
+        }
+        match fetch.exchange.look(outgoing.reply(), outgoing.is_over()) {
+            Arrival::Unfinished => {
+                outgoing.set_reply_limit(fetch.exchange.limit());
+                Step::Wait
+            }
+            Arrival::Part(part) => take_part(feed, fetch, outgoing, part, lines),
+            Arrival::Whole { is_new: true } => Step::Send,
+            Arrival::Whole { is_new: false } => Step::End(FetchEnd::Stopped(Stop::NoProgress)),
+            Arrival::Complete => {
+                let reply = self.parse_reply(fetch.exchange.method(), outgoing);
+                take_reply(feed, fetch, &reply, lines)
+            }
+            Arrival::Cut => {
+                let fault = match outgoing.fault() {
+                    Some(_) => HttpFault::Read,
+                    None => HttpFault::Short,
+                };
+                take_reply(feed, fetch, &Err(RequestFault::Http(fault)), lines)
+            }
+            Arrival::TooLong(fault) => {
+                take_reply(feed, fetch, &Err(RequestFault::Http(fault)), lines)
+            }
+            Arrival::NoRanges => {
+                let fault = RequestFault::Http(HttpFault::BodyTooLong);
+                let _ = take_reply(feed, fetch, &Err(fault), lines);
+                Step::End(FetchEnd::NoRanges)
             }
         }
     }
 
     // Parses the reply to the last request.
-    fn parse_reply(&self, phase: Phase, outgoing: &OutgoingRequest) -> Result<Got, RequestFault> {
-        let method = match phase {
-            Phase::New => Method::Head,
-            Phase::Offered | Phase::Stopped => Method::Get,
-        };
+    fn parse_reply(&self, method: Method, outgoing: &OutgoingRequest) -> Result<Got, RequestFault> {
         match read_reply(self.rt.alloc(), &mut RecordedReply::new(outgoing), method) {
             Ok(got) => Ok(got),
             Err(fault) => Err(RequestFault::Http(fault)),
@@ -218,36 +271,79 @@ impl<'a> Fetcher<'a> {
     }
 }
 
-// Returns the next request of a fetch, or none if it is over.
+// Takes the reply, or why there is none.
+fn take_reply<K: Keep + Drop>(
+    feed: &mut Feed<K>,
+    fetch: &mut RunningFetch,
+    reply: &Result<Got, RequestFault>,
+    lines: &mut Printer<Vec<u8>>,
+) -> Step {
+    match fetch.fetch.take(feed, &fetch.name, reply, lines) {
+        Ok(()) => Step::Send,
+        Err(stop) => Step::End(FetchEnd::Stopped(stop)),
+    }
+}
+
+// Takes a part of a whole file, and discards its bytes. No more parts are taken once nothing is missing.
+fn take_part<K: Keep + Drop>(
+    feed: &mut Feed<K>,
+    fetch: &mut RunningFetch,
+    outgoing: &mut OutgoingRequest,
+    part: WholePart,
+    lines: &mut Printer<Vec<u8>>,
+) -> Step {
+    let Some(bytes) = outgoing.reply().get(part.from..part.to) else {
+        return Step::Wait;
+    };
+    let WholePart { first, length, .. } = part;
+    match fetch
+        .fetch
+        .take_part(feed, &fetch.name, first, length, bytes, lines)
+    {
+        Ok(is_new) => {
+            outgoing.discard(part.to);
+            fetch.exchange.pass(part, is_new);
+            if fetch.fetch.next(feed, &fetch.name) == Next::Done {
+                Step::Send
+            } else {
+                Step::Again
+            }
+        }
+        Err(stop) => Step::End(FetchEnd::Stopped(stop)),
+    }
+}
+
+// Returns the next request of a fetch with its method, or none if the fetch is over.
 fn next_request<K: Keep + Drop>(
     rt: &HostRuntime,
     feed: &Feed<K>,
     running: &RunningFetch,
     source: Source<'_>,
-) -> Result<Option<Vec<u8>>, AllocError> {
+) -> Result<Option<(Method, Vec<u8>)>, AllocError> {
     let host = source.addr.as_bytes();
     if !is_host(host) {
         return Ok(None);
     }
     let mut text = Vec::new(rt.alloc());
-    let written = match running.fetch.next(feed, &running.name) {
-        Next::Ask(Request::Length) => write_head_request(&mut text, host, &running.name),
+    let (method, written) = match running.fetch.next(feed, &running.name) {
+        Next::Ask(Request::Length) => {
+            let written = write_head_request(&mut text, host, &running.name);
+            (Method::Head, written)
+        }
         Next::Ask(Request::Range { first, last }) => {
-            write_request(&mut text, host, &running.name, first, last)
+            let written = write_request(&mut text, host, &running.name, first, last);
+            (Method::Get, written)
         }
         Next::Done => return Ok(None),
     };
     match written {
-        Ok(()) => Ok(Some(text)),
+        Ok(()) => Ok(Some((method, text))),
         Err(_) => Err(AllocError),
     }
 }
 
-// Reports why a fetch does not begin or continue, and completes the reply to its client.
-fn report_fault<T: std::fmt::Display + Drop>(rt: &HostRuntime, server: &mut Server, fault: T) {
-    let mut line = Vec::new(rt.alloc());
-    if writeln!(&mut line, "kbfeed: {fault}").is_ok() {
-        server.send_to_streams(&line);
-    }
+// Sends the last lines to the client of a fetch, and completes the reply to it.
+fn finish(server: &mut Server, lines: Printer<Vec<u8>>) {
+    server.send_to_streams(&lines.into_writer());
     server.finish_streams();
 }

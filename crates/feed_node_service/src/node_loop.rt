@@ -3,6 +3,7 @@ use crate::access_log::AccessLog;
 use crate::fetcher::{Fetcher, Source};
 use crate::node_state::NodeState;
 use crate::responder::FeedResponder;
+use crate::source_addrs::SourceAddrs;
 use feed_keep::Keep;
 use feed_node_server::Server;
 use feed_releases::Feed;
@@ -26,6 +27,7 @@ pub fn run<K: Keep + Drop, O: Write>(
     feed: &mut Feed<K>,
     server: &mut Server,
     source: Option<Source<'_>>,
+    addrs: SourceAddrs,
     out: &mut O,
 ) -> End {
     let mut events = match server.events() {
@@ -33,7 +35,7 @@ pub fn run<K: Keep + Drop, O: Write>(
         Err(_) => return End::Memory,
     };
     let state = NodeState::new();
-    let mut fetcher = Fetcher::new(rt, source);
+    let mut fetcher = Fetcher::new(rt, source, addrs);
     let mut log = AccessLog::new(rt, out);
     for _ in 0..u64::MAX {
         let responder = FeedResponder {

@@ -30,6 +30,14 @@ impl NodeState {
         }
     }
 
+    /// Returns whether a client has asked to fetch a release in this turn.
+    pub fn is_requested(&self) -> bool {
+        match self.requested.try_borrow() {
+            Ok(requested) => requested.is_some(),
+            Err(_) => true,
+        }
+    }
+
     /// Takes the release to fetch.
     pub fn take_fetch(&self) -> Option<Result<ReleaseName, NameFault>> {
         match self.requested.try_borrow_mut() {

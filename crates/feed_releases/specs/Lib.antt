@@ -14,3 +14,4 @@ pub mod Feeds
 pub mod Actives
 pub mod Growth
 pub mod Committed
+pub mod Statuses

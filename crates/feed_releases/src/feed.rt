@@ -12,6 +12,7 @@ use crate::event::Event;
 use crate::feed::reopen::from_records;
 use crate::release::Release;
 use crate::releases::{active_of, find};
+use crate::statuses::{ReleaseStatus, statuses_of};
 use feed_answer::{Answer, Query, answer};
 use feed_kbart::BadFile;
 use feed_keep::Keep;
@@ -75,6 +76,7 @@ impl<K: Keep + Drop> Feed<K> {
     ghost use Rattle.feed_keep.specs.Cause.{HasFailedSince, IsCounted};
     ghost use Rattle.feed_keep.specs.Loads.{one_more};
     ghost use Rattle.feed_releases.specs.Feeds.{CommitsNothing, keeper_of, recorded, releases_of};
+    ghost use Rattle.feed_releases.specs.Statuses.{status_of};
 
     /// Opens a feed on the records of a keeper. Validates and reads the file of each complete release.
     ///
@@ -216,6 +218,13 @@ impl<K: Keep + Drop> Feed<K> {
             → AreReported h actives.items) }
     {
         actives_of(self.alloc, &self.releases)
+    }
+
+    /// Returns the status of each recorded release, in the order in which the feed recorded them.
+    pub fn statuses(&self) -> Result<Vec<ReleaseStatus<'_>>, AllocError>
+        ensures { IfOk result (λ statuses. statuses.items ≡ map status_of (recorded self.now)) }
+    {
+        statuses_of(self.alloc, &self.releases)
     }
 
     /// Returns whether no release is recorded.

@@ -11,8 +11,10 @@ mod overlap;
 mod release;
 mod releases;
 mod standing;
+mod statuses;
 
 pub use actives::ActiveRelease;
 pub use event::Event;
 pub use feed::{AnswerFault, Feed, OpenFault, Point};
 pub use laws::{answers_stay, list_alike};
+pub use statuses::ReleaseStatus;

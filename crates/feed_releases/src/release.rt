@@ -1,6 +1,6 @@
 //! A recorded release in memory.
 ghost use Rattle.std.specs.Prelude.{◌≡◌, ◌≤◌, ◌+◌, length, None, option_map};
-ghost use Rattle.feed_model.specs.Reply.{max_file};
+ghost use Rattle.feed_model.specs.Reply.{max_file, missing_below};
 ghost use Rattle.feed_model.specs.Content.{byte_in};
 ghost use Rattle.feed_model.specs.Change.{new_record};
 ghost use Rattle.feed_releases.specs.NextRange.{IsNextOf};
@@ -77,6 +77,13 @@ impl Release {
         ensures { result ≡ self.now.kept.state }
     {
         self.standing.state()
+    }
+
+    /// Returns the number of bytes of the file that are not stored.
+    pub(crate) fn missing(&self) -> u64
+        ensures { result ≡ missing_below (byte_in self.now.kept.parts) self.now.kept.size }
+    {
+        self.kept.missing(self.size)
     }
 
     /// Returns why the file of a broken release is bad.

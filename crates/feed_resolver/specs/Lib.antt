@@ -3,4 +3,5 @@ pub mod Status
 pub mod Replies
 pub mod Messages
 pub mod NodeReplies
+pub mod FeedReplies
 pub mod Laws

@@ -3,11 +3,13 @@
 #![tactic(auto)]
 
 mod answers;
+mod feed_replies;
 mod laws;
 mod node;
 mod responses;
 mod status;
 
+pub use feed_replies::{FeedTarget, respond_about_feed};
 pub use laws::{
     goes_to_best, head_is_head_of_get, same_releases_same_bytes, same_releases_same_node_bytes,
     status_is_json,

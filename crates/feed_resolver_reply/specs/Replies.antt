@@ -42,6 +42,7 @@ status_code status.BadRequest = 400
 status_code status.Unauthorized = 401
 status_code status.NotFound = 404
 status_code status.MethodNotAllowed = 405
+status_code status.PostOnly = 405
 status_code status.Conflict = 409
 status_code status.UriTooLong = 414
 status_code status.NotImplemented = 501
@@ -54,6 +55,7 @@ reason_text status.BadRequest = codes "Bad Request"
 reason_text status.Unauthorized = codes "Unauthorized"
 reason_text status.NotFound = codes "Not Found"
 reason_text status.MethodNotAllowed = codes "Method Not Allowed"
+reason_text status.PostOnly = codes "Method Not Allowed"
 reason_text status.Conflict = codes "Conflict"
 reason_text status.UriTooLong = codes "URI Too Long"
 reason_text status.NotImplemented = codes "Not Implemented"
@@ -72,6 +74,7 @@ type_text Html = codes "text/html; charset=utf-8"
 abbrev pub status_field : Status → List ℕ → List ℕ
 status_field status.Found location = joined (codes "\r\nLocation: " ∷ location ∷ [])
 status_field status.MethodNotAllowed location = joined (codes "\r\nAllow: GET, HEAD" ∷ [])
+status_field status.PostOnly location = joined (codes "\r\nAllow: POST" ∷ [])
 status_field status.Unauthorized location = joined (codes "\r\nWWW-Authenticate: Bearer" ∷ [])
 status_field code location = []
 

@@ -83,6 +83,7 @@ fn put_status_field(out: &mut Vec<u8>, status: Status, location: &[u8]) -> Resul
             &[Piece::Plain(b"\r\nLocation: "), Piece::Plain(location)],
         ),
         Status::MethodNotAllowed => put_all(out, &[Piece::Plain(b"\r\nAllow: GET, HEAD")]),
+        Status::PostOnly => put_all(out, &[Piece::Plain(b"\r\nAllow: POST")]),
         Status::Unauthorized => put_all(out, &[Piece::Plain(b"\r\nWWW-Authenticate: Bearer")]),
         _ => Ok(()),
     }

@@ -17,6 +17,8 @@ pub enum Status {
     NotFound,
     /// 405
     MethodNotAllowed,
+    /// 405, of a target that only a POST may have
+    PostOnly,
     /// 409
     Conflict,
     /// 414
@@ -35,7 +37,7 @@ pub(crate) fn status_code(status: Status) -> u16
         Status::BadRequest => 400,
         Status::Unauthorized => 401,
         Status::NotFound => 404,
-        Status::MethodNotAllowed => 405,
+        Status::MethodNotAllowed | Status::PostOnly => 405,
         Status::Conflict => 409,
         Status::UriTooLong => 414,
         Status::NotImplemented => 501,
@@ -52,7 +54,7 @@ pub(crate) fn reason_text(status: Status) -> &'static [u8]
         Status::BadRequest => b"Bad Request",
         Status::Unauthorized => b"Unauthorized",
         Status::NotFound => b"Not Found",
-        Status::MethodNotAllowed => b"Method Not Allowed",
+        Status::MethodNotAllowed | Status::PostOnly => b"Method Not Allowed",
         Status::Conflict => b"Conflict",
         Status::UriTooLong => b"URI Too Long",
         Status::NotImplemented => b"Not Implemented",

@@ -83,6 +83,7 @@ impl<'a> Driver<'a> {
             "get" => self.get(line)?,
             "head" => self.head(line)?,
             "reply" => self.reply(line)?,
+            "reply-end" => self.reply_end(line)?,
             "request" => self.request(line)?,
             "serve" => self.serve(line)?,
             _ => return self.take_value(command, line),

@@ -6,7 +6,7 @@ use crate::fault::Fault;
 use crate::line::Line;
 use crate::shelf::CountingShelf;
 use feed_http::{
-    Bytes, Got, HttpFault, MemoryShelf, Method, Shelf, is_host, read_reply, serve_one,
+    Bytes, Got, HttpFault, MemoryShelf, Method, ReplyScan, Shelf, is_host, read_reply, serve_one,
     write_head_request, write_request,
 };
 
@@ -51,11 +51,7 @@ impl Driver<'_> {
     }
 
     pub fn reply(&mut self, mut line: Line<'_>) -> Result<(), Fault> {
-        let method = match line.word()? {
-            "get" => Method::Get,
-            "head" => Method::Head,
-            _ => return Err(Fault::NoMethod),
-        };
+        let method = method_of(line.word()?)?;
         let text = line.text(self.rt.alloc())?;
         let bytes = self.plan.front_of(&text);
         let mut reader = ShortReader::new(bytes, self.step, self.plan.fails_read);
@@ -66,6 +62,22 @@ impl Driver<'_> {
             Ok(got) => self.print_got(got),
             Err(fault) => Ok(println!(self.rt; "{fault}")?),
         }
+    }
+
+    pub fn reply_end(&self, mut line: Line<'_>) -> Result<(), Fault> {
+        let method = method_of(line.word()?)?;
+        let text = line.text(self.rt.alloc())?;
+        let mut scan = ReplyScan::new(method);
+        let mut end = 0;
+        for _ in 0..=text.len() {
+            if scan.is_complete(&text[..end]) {
+                println!(self.rt; "complete {end}")?;
+                return Ok(());
+            }
+            end = end.saturating_add(self.step).min(text.len());
+        }
+        println!(self.rt; "unfinished")?;
+        Ok(())
     }
 
     fn print_got(&self, got: Got) -> Result<(), Fault> {
@@ -118,5 +130,13 @@ impl Driver<'_> {
             Err(fault) => println!(self.rt; "{fault} {}", Escaped(&sink.bytes))?,
         }
         Ok(())
+    }
+}
+
+fn method_of(word: &str) -> Result<Method, Fault> {
+    match word {
+        "get" => Ok(Method::Get),
+        "head" => Ok(Method::Head),
+        _ => Err(Fault::NoMethod),
     }
 }

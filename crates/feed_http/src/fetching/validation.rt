@@ -19,7 +19,7 @@ use httparse::spans::{HeaderSpan, ResponseSpans};
 
 /// The framing of a body: how its end is found.
 #[derive(Clone, Copy, Debug, PartialEq, Eq)]
-pub(crate) enum Framing {
+pub enum Framing {
     Chunked,
     /// After this many bytes.
     Sized(u64),

@@ -1,0 +1,68 @@
+//! How a fetch of a node ends: the last lines of the reply to the client that requested it.
+ghost use Rattle.feed_model.specs.Content.{IsContent};
+ghost use Rattle.feed_model.specs.History.{History};
+ghost use Rattle.feed_releases.specs.Feeds.{recorded};
+ghost use Rattle.feed_node_service.specs.FetchEnds.{IsEndStatus};
+
+use feed_fetch::{Printer, Stop, is_reported, print_stop};
+use feed_keep::Keep;
+use feed_names::{NameFault, ReleaseName};
+use feed_releases::Feed;
+use std::io::Write;
+
+/// How a fetch of a node ended.
+#[derive(Clone, Copy)]
+pub enum FetchEnd {
+    /// No range is missing.
+    Done,
+    /// The fetch stopped.
+    Stopped(Stop),
+    /// The server sends a whole file in place of a range, without its length and with more than 8,388,608 bytes.
+    NoRanges,
+}
+
+/// Returns the exit status that `kbfeed fetch` has after such an end: 0 if the release or a later one is reported, 1
+/// because of the peer or the file, 3 if a connection or device failed, or memory ran out.
+pub fn status_after<K: Keep + Drop>(feed: &Feed<K>, name: &ReleaseName, end: FetchEnd) -> u8
+    ensures { (h : History) → IsContent (recorded feed.now) h → IsEndStatus name.now end result h }
+{
+    match end {
+        FetchEnd::Done => { if is_reported(feed, name) { 0 } else { 1 } }
+        FetchEnd::Stopped(stop) => stop.status(),
+        FetchEnd::NoRanges => 1,
+    }
+}
+
+/// Prints the last lines of the reply: the fault, if there is one, or why a release is broken that was complete before,
+/// and then the exit status.
+pub fn print_end<K: Keep + Drop, O: Write>(
+    feed: &Feed<K>,
+    name: &ReleaseName,
+    end: FetchEnd,
+    lines: &mut Printer<O>,
+) {
+    match end {
+        FetchEnd::Done => {
+            if let Some(why) = feed.reason(name) {
+                let _ = lines.print(format_args!("broken {why}"));
+            }
+        }
+        FetchEnd::Stopped(stop) => {
+            let _ = print_stop(stop, lines);
+        }
+        FetchEnd::NoRanges => {
+            let _ = lines.print("kbfeed: NoRanges");
+        }
+    }
+    print_status(status_after(feed, name, end), lines);
+}
+
+/// Prints why a name is invalid, and the status that `kbfeed fetch` has for it.
+pub fn print_name_fault<O: Write>(fault: NameFault, lines: &mut Printer<O>) {
+    let _ = lines.print(format_args!("kbfeed: {fault}"));
+    print_status(2, lines);
+}
+
+fn print_status<O: Write>(status: u8, lines: &mut Printer<O>) {
+    let _ = lines.print(format_args!("status {status}"));
+}

@@ -1,0 +1,182 @@
+//! The replies of a node to a GET of `/feed`, which lists the recorded releases, and of what is below it, which takes
+//! only a POST.
+ghost use Rattle.std.specs.Prelude.{◌≡◌, IfOk};
+ghost use Rattle.httparse.specs.Grammar.{RequestHead};
+ghost use Rattle.feed_http_heads.specs.Requests.{IsInBuffer, HasHead};
+ghost use Rattle.feed_resolver.specs.FeedReplies.{feed_target, IsFeedReply, IsFeedResponse, IsListReply};
+
+use feed_http_heads::{FIELD_LIMIT, Request, origin_form};
+use feed_keep::Keep;
+use feed_range::strip_prefix;
+use feed_releases::{Feed, ReleaseStatus};
+use feed_resolver_reply::{
+    Piece, Reply, Response, Status, put_all, put_comma, put_list_end, put_list_start, refusal,
+};
+use feed_resolver_request::{
+    FetchPolicy, Representation, find_request, is_authorized, path_in, query_in, representation_of,
+};
+use httparse::spans::EMPTY_HEADER_SPAN;
+use std::alloc::{AllocError, Global};
+use std::io::Write;
+
+/// What a GET or a HEAD of a target names in the feed of a node.
+#[derive(Clone, Copy, Debug, PartialEq, Eq)]
+pub enum FeedTarget {
+    /// `/feed`: the recorded releases.
+    Releases,
+    /// `/feed/` and more: a release, which only a POST may name.
+    Release,
+}
+
+fn feed_target(request: &Request<'_>) -> Option<FeedTarget>
+    requires { IsInBuffer request.now }
+    ensures { (head : RequestHead) → HasHead request.now head → result ≡ feed_target head }
+{
+    if request.lacks_host() || !(request.is_get() || request.is_head()) {
+        return None;
+    }
+    let path = path_in(origin_form(request.target()));
+    if path == b"/feed".as_slice() {
+        Some(FeedTarget::Releases)
+    } else if strip_prefix(path, b"/feed/").is_some() {
+        Some(FeedTarget::Release)
+    } else {
+        None
+    }
+}
+
+// Writes why a release is broken as a value of JSON.
+fn put_reason(
+    alloc: Global,
+    out: &mut Vec<u8>,
+    status: &ReleaseStatus<'_>,
+) -> Result<(), AllocError> {
+    let Some(why) = status.reason else {
+        return put_all(out, &[Piece::Plain(b"null")]);
+    };
+    let mut text = Vec::new(alloc);
+    if write!(&mut text, "{why}").is_err() {
+        return Err(AllocError);
+    }
+    put_all(out, &[Piece::Quoted(&text)])
+}
+
+// Writes the status of a release as an object of JSON.
+fn put_object(
+    alloc: Global,
+    out: &mut Vec<u8>,
+    status: &ReleaseStatus<'_>,
+) -> Result<(), AllocError> {
+    put_all(
+        out,
+        &[
+            Piece::Plain(b"{\"name\":"),
+            Piece::Quoted(status.name.text()),
+            Piece::Plain(b",\"state\":"),
+            Piece::Quoted(status.state_name().as_bytes()),
+            Piece::Plain(b",\"size\":"),
+            Piece::Number(status.size),
+            Piece::Plain(b",\"missing\":"),
+            Piece::Number(status.missing),
+            Piece::Plain(b",\"reason\":"),
+        ],
+    )?;
+    put_reason(alloc, out, status)?;
+    put_all(out, &[Piece::Plain(b"}")])
+}
+
+fn put_json(
+    alloc: Global,
+    out: &mut Vec<u8>,
+    statuses: &[ReleaseStatus<'_>],
+) -> Result<(), AllocError> {
+    put_list_start(out)?;
+    for (place, status) in statuses.iter().enumerate() {
+        put_comma(out, place)?;
+        put_object(alloc, out, status)?;
+    }
+    put_list_end(out)
+}
+
+fn put_lines(out: &mut Vec<u8>, statuses: &[ReleaseStatus<'_>]) -> Result<(), AllocError> {
+    for status in statuses {
+        if status.write_line(out).is_err() {
+            return Err(AllocError);
+        }
+    }
+    Ok(())
+}
+
+// Returns the reply with the recorded releases, as JSON or as text.
+fn list_reply<K: Keep + Drop>(
+    alloc: Global,
+    feed: &Feed<K>,
+    representation: Representation,
+) -> Result<Reply<'static>, AllocError>
+    ensures { IfOk result IsListReply }
+{
+    let mut statuses = feed.statuses()?;
+    statuses.sort_unstable_by(|one, other| one.name.text().cmp(&other.name.text()));
+    let mut body = Vec::new(alloc);
+    if representation == Representation::Json {
+        put_json(alloc, &mut body, &statuses)?;
+        return Ok(Reply::new(Status::Good, Representation::Json, body));
+    }
+    put_lines(&mut body, &statuses)?;
+    Ok(Reply::new(Status::Good, Representation::Text, body))
+}
+
+fn feed_reply<K: Keep + Drop>(
+    alloc: Global,
+    token: &[u8],
+    request: &Request<'_>,
+    target: FeedTarget,
+    feed: &Feed<K>,
+) -> Result<Reply<'static>, AllocError>
+    requires { IsInBuffer request.now }
+    ensures { IfOk result (λ reply. (head : RequestHead) → HasHead request.now head
+        → IsFeedReply token.now head target reply) }
+{
+    let text = Representation::Text;
+    match target {
+        FeedTarget::Release => refusal(alloc, Status::PostOnly, text, b"Method"),
+        FeedTarget::Releases => {
+            if !is_authorized(token, request) {
+                return refusal(alloc, Status::Unauthorized, text, b"Unauthorized");
+            }
+            let query = query_in(origin_form(request.target()));
+            list_reply(alloc, feed, representation_of(query, &request.fields()))
+        }
+    }
+}
+
+/// Returns the reply of a node to a GET or HEAD of `/feed`, or of a target below it. To a client that has the token the
+/// first one lists the recorded releases: the name, the state, the size, the missing bytes and the reason of each.
+/// Returns none for any other request, and for a node without a token. `keeps` is whether the connection persists after it.
+///
+/// # Errors
+///
+/// Running out of memory.
+pub fn respond_about_feed<K: Keep + Drop>(
+    alloc: Global,
+    bytes: &[u8],
+    keeps: bool,
+    policy: &FetchPolicy<'_>,
+    feed: &Feed<K>,
+) -> Result<Option<Response>, AllocError>
+    ensures { IfOk result (IsFeedResponse policy.now bytes.now keeps) }
+{
+    let Some(token) = policy.token else {
+        return Ok(None);
+    };
+    let mut headers = [EMPTY_HEADER_SPAN; FIELD_LIMIT];
+    let Some(request) = find_request(bytes, &mut headers) else {
+        return Ok(None);
+    };
+    let Some(target) = feed_target(&request) else {
+        return Ok(None);
+    };
+    let reply = feed_reply(alloc, token, &request, target, feed)?;
+    let response = reply.response(alloc, keeps, request.is_head())?;
+    Ok(Some(response))
+}
