@@ -9,9 +9,10 @@ hostile.py fed COUNT SEED [--ends]
 Most inputs are made of good ones: cut, spliced, repeated, with bytes changed, dropped or inserted, in other encodings,
 with very many columns, fields or chunks, or of one very long line. The others are random bytes. Files are given to
 `check` and to `answer`, heads are sent to `serve`, and replies to `fetch` and (`fed`) to a node that fetches. Each run
-has to end with an answer or a named fault, within a second of processor time and 300 MiB: no signal, and never without a message. Only a file above 16
-MiB may run out of memory, since a line of so many tabs has as many fields. Also, `check` and `answer` have to agree on
-a file, the body of a reply has to match its head, and a node has to answer from its release until another one is whole.
+has to end with an answer or a named fault, within a second of processor time and 300 MiB: no signal, and never without
+a message. Only a file above 16 MiB may run out of memory, since a line of so many tabs has as many fields. Also,
+`check` and `answer` have to agree on a file, the body of a reply has to match its head, and a node has to answer from
+its release until another one is whole.
 The first input that ends in another way is saved and reported with status 1. With --ends, prints how often each kind of
 end occurred."""
 import argparse
@@ -406,7 +407,7 @@ class Node:
 
 
 def fed_ended(before, database, address):
-    """How a fetch of a node ended. The node then has to answer as before, or from the later release if that is active."""
+    """How a fetch of a node ended. The node has to answer as before, or from the later release if that is active."""
     node = Node(database, address)
     try:
         *lines, last = node.ran("POST", f"/feed/{LATER}", [("Authorization", f"Bearer {TOKEN}")]).splitlines()

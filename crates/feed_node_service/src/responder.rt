@@ -40,7 +40,6 @@ impl<'a, K: Keep + Drop> FeedResponder<'a, K> {
         }
     }
 
-    #[tactic(auto, using(crate::proofs::Turns::as_node))]
     fn response(
         &self,
         alloc: Global,
