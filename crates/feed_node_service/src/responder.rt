@@ -61,7 +61,8 @@ impl<'a, K: Keep + Drop> FeedResponder<'a, K> {
 
     // Returns the reply. A reply is streamed exactly if the request makes the node begin to fetch.
     fn reply(&self, alloc: Global, bytes: &[u8], persists: bool) -> Result<Reply, RespondFault>
-        ensures { IfOk result (λ reply. IsTurnReply self.now bytes.now persists (response_in reply) reply.summary.is_streamed) }
+        ensures { IfOk result (λ reply. IsTurnReply self.now bytes.now persists (response_in reply)
+            reply.summary.is_streamed) }
     {
         let policy = self.policy();
         let asked = fetch_to_begin(alloc, bytes, &policy);
