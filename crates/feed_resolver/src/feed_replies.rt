@@ -152,7 +152,8 @@ fn feed_reply<K: Keep + Drop>(
 
 /// Returns the reply of a node to a GET or HEAD of `/feed`, or of a target below it. To a client that has the token the
 /// first one lists the recorded releases: the name, the state, the size, the missing bytes and the reason of each.
-/// Returns none for any other request, and for a node without a token. `keeps` is whether the connection persists after it.
+/// Returns none for any other request, and for a node without a token. `keeps` is whether the connection persists after
+/// the reply.
 ///
 /// # Errors
 ///
