@@ -13,12 +13,13 @@ DOC = share/doc/kbfeed
 PAGES = README.md CHANGELOG.md LICENSE SECURITY.md $(wildcard docs/*.md docs/*.svg docs/*.png samples/*.script samples/*.transcript \
 	samples/lists/* samples/fleet/*)
 # The scripts to install as programs, each with its place below PREFIX.
-SCRIPTS = samples/fleet/feed:bin/kbfeed-feed
+SCRIPTS = samples/fleet/feed:bin/kbfeed-feed tools/statistics:bin/kbfeed-statistics
 # Files with the path of a program, /usr/local, which becomes PREFIX.
 UNITS = $(foreach unit,kbfeed-node@.service kbfeed-feed.service kbfeed-feed.timer, \
 	samples/fleet/$(unit):lib/systemd/system/$(unit))
 # The other files to install.
 DATA = man/kbfeed.1:share/man/man1/kbfeed.1 man/kbfeed-feed.1:share/man/man1/kbfeed-feed.1 \
+	man/kbfeed-statistics.1:share/man/man1/kbfeed-statistics.1 \
 	samples/fleet/sysusers.conf:lib/sysusers.d/kbfeed.conf samples/fleet/tmpfiles.conf:lib/tmpfiles.d/kbfeed.conf \
 	completions/kbfeed.bash:share/bash-completion/completions/kbfeed \
 	completions/_kbfeed:$(ZSH_FUNCTIONS)/_kbfeed \

@@ -1,5 +1,5 @@
 #!/usr/bin/env python3
-"""A server of HTTP/1.1 with persistent connections, whose replies have a strong ETag, in place of a node behind a proxy.
+"""A server of HTTP/1.1 with persistent connections and a strong ETag in its replies, in place of a node behind a proxy.
 
 tagged_server.py
 
@@ -24,7 +24,8 @@ class Handler(http.server.BaseHTTPRequestHandler):
 
     def reply(self):
         self.rfile.read(int(self.headers.get("Content-Length", 0)))
-        fields = [f"{name}: {self.headers[name]}" for name in ("X-Forwarded-For", "If-None-Match") if self.headers[name]]
+        names = ["X-Forwarded-For", "If-None-Match"]
+        fields = [f"{name}: {self.headers[name]}" for name in names if self.headers[name]]
         print(" ".join([str(self.number), self.command, self.path, *fields]), flush=True)
         has_tag = self.headers["If-None-Match"] == TAG
         body = b"" if has_tag or self.command == "HEAD" else b"the page\n"
