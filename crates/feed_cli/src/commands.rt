@@ -170,9 +170,14 @@ static SERVE: [Argument; 4] = [
     CLIENT_TIMEOUT,
 ];
 
-static NODE: [Argument; 7] = [
+static NODE: [Argument; 8] = [
     DATABASE,
     LISTENING_ADDRESS,
+    Argument {
+        id: "check",
+        kind: Kind::Flag { excludes: &[] },
+        help: "Opens all that the node needs, prints ok, and ends",
+    },
     Argument {
         id: "from",
         kind: Kind::Text {

@@ -8,11 +8,13 @@ use std::time::Duration;
 /// A command on the database of a node.
 #[derive(Clone, Copy)]
 pub enum Command<'a> {
-    /// Answer `clients` readers at a time. `time` is the limit of each step of a connection.
+    /// Answer `clients` readers at a time. `time` is the limit of each step of a connection. A check only opens all
+    /// that the node needs.
     Node {
         addr: &'a str,
         clients: usize,
         time: Duration,
+        is_check: bool,
         upstream: Option<Upstream<'a>>,
     },
     /// A command that needs no server.
@@ -42,12 +44,14 @@ pub fn run_command<D: Database, O: Write, F: Write + Drop>(
             addr,
             clients,
             time,
+            is_check,
             upstream,
         } => {
             let hosting = Hosting {
                 addr,
                 clients,
                 limit: millis_of(time),
+                is_check,
             };
             run_node(rt, database, hosting, upstream, out, faults)
         }

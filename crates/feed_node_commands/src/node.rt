@@ -1,7 +1,7 @@
 //! `kbfeed node`: a link resolver that answers readers over HTTP from the database of a node, and fetches releases.
 use crate::command::Upstream;
 use crate::token::read_token;
-use feed_command::{FAILED, Faults, MISUSED, REFUSED, open_file};
+use feed_command::{DONE, FAILED, Faults, MISUSED, REFUSED, open_file};
 use feed_database_commands::{Database, close_keeper, open_feed};
 use feed_http::is_host;
 use feed_node_server::{Server, Settings};
@@ -11,18 +11,19 @@ use std::io::Write;
 use std::net::ToSocketAddrs;
 
 /// Where a node listens, how many clients it answers at a time, and how many milliseconds each step of a connection may
-/// take.
+/// take. A check ends once all is open.
 #[derive(Clone, Copy)]
 pub struct Hosting<'a> {
     pub addr: &'a str,
     pub clients: usize,
     pub limit: u64,
+    pub is_check: bool,
 }
 
 /// Runs a node: opens the feed of a database and answers readers at an address, without end. If it has a source, a
 /// client that has the token can make it fetch a release from there. It prints a line for each request, at once. The
 /// first fault is reported: of the source (`Host`, `Read`, `Token`), of the database, of the address (`Bind`), of the
-/// sockets (`Poll`) and of the print.
+/// sockets (`Poll`) and of the print. A check answers no reader, and prints `ok` if all is well.
 pub fn run_node<D: Database, O: Write, F: Write + Drop>(
     rt: &HostRuntime,
     database: &D,
@@ -74,7 +75,7 @@ fn token_of<F: Write + Drop>(
     }
 }
 
-// Opens the feed and answers readers, until the sockets or a print fail.
+// Opens the feed and answers readers, until the sockets or a print fail. A check closes it again.
 fn run_server<D: Database, O: Write, F: Write + Drop>(
     rt: &HostRuntime,
     database: &D,
@@ -87,18 +88,23 @@ fn run_server<D: Database, O: Write, F: Write + Drop>(
         Ok(feed) => feed,
         Err(status) => return status,
     };
-    let end = match bind(rt, hosting) {
-        Ok(mut server) => match announce(out) {
-            Ok(()) => run(rt, &mut feed, &mut server, source, out),
-            Err(error) => End::Print(error),
-        },
+    let mut server = match bind(rt, hosting) {
+        Ok(server) => server,
         Err(error) => {
             close_keeper(database, feed.restart(), faults);
             return faults.report_with("Bind", hosting.addr, error, FAILED);
         }
     };
+    let end = match announce(out, hosting.is_check) {
+        Err(error) => Some(End::Print(error)),
+        Ok(()) if hosting.is_check => None,
+        Ok(()) => Some(run(rt, &mut feed, &mut server, source, out)),
+    };
     close_keeper(database, feed.restart(), faults);
-    report_end(end, faults)
+    match end {
+        Some(end) => report_end(end, faults),
+        None => DONE,
+    }
 }
 
 fn bind(rt: &HostRuntime, hosting: Hosting<'_>) -> io::Result<Server> {
@@ -116,8 +122,10 @@ fn bind(rt: &HostRuntime, hosting: Hosting<'_>) -> io::Result<Server> {
     Err(last)
 }
 
-fn announce<O: Write>(out: &mut O) -> io::Result<()> {
-    writeln!(out, "listening")?;
+// Prints that all is open.
+fn announce<O: Write>(out: &mut O, is_check: bool) -> io::Result<()> {
+    let line = if is_check { "ok" } else { "listening" };
+    writeln!(out, "{line}")?;
     out.flush()
 }
 

@@ -90,6 +90,7 @@ fn run_request<O: Write, F: Write + Drop>(
                 addr,
                 clients: options.clients,
                 time: options.time,
+                is_check: options.is_check,
                 upstream: upstream_of(source),
             };
             (db, node)
