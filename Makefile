@@ -12,8 +12,15 @@ SOURCES = crates.txt $(shell find crates -name out -prune -o \( -name '*.rt' -o 
 DOC = share/doc/kbfeed
 PAGES = README.md CHANGELOG.md LICENSE SECURITY.md $(wildcard docs/*.md docs/*.svg docs/*.png samples/*.script samples/*.transcript \
 	samples/lists/* samples/fleet/*)
-# The other files to install, each with its place below PREFIX.
-DATA = man/kbfeed.1:share/man/man1/kbfeed.1 \
+# The scripts to install as programs, each with its place below PREFIX.
+SCRIPTS = samples/fleet/feed:bin/kbfeed-feed tools/statistics:bin/kbfeed-statistics
+# Files with the path of a program, /usr/local, which becomes PREFIX.
+UNITS = $(foreach unit,kbfeed-node@.service kbfeed-feed.service kbfeed-feed.timer, \
+	samples/fleet/$(unit):lib/systemd/system/$(unit))
+# The other files to install.
+DATA = man/kbfeed.1:share/man/man1/kbfeed.1 man/kbfeed-feed.1:share/man/man1/kbfeed-feed.1 \
+	man/kbfeed-statistics.1:share/man/man1/kbfeed-statistics.1 \
+	samples/fleet/sysusers.conf:lib/sysusers.d/kbfeed.conf samples/fleet/tmpfiles.conf:lib/tmpfiles.d/kbfeed.conf \
 	completions/kbfeed.bash:share/bash-completion/completions/kbfeed \
 	completions/_kbfeed:$(ZSH_FUNCTIONS)/_kbfeed \
 	completions/kbfeed.fish:share/fish/vendor_completions.d/kbfeed.fish \
@@ -27,7 +34,7 @@ help:
 	@echo "make replay     replays the scripts of samples/ and compares the transcripts, with the proved program, or with a"
 	@echo "                small one without proof if the proved one is missing or older than a source"
 	@echo "make test       what CI runs: the pages, every proof, the mutants that must be rejected, and the sessions"
-	@echo "make install    installs the program, its page, its completions and its docs below DESTDIR and PREFIX"
+	@echo "make install    installs the program, its scripts, units, pages, completions and docs below DESTDIR and PREFIX"
 	@echo "                ($(PREFIX)); it builds a program that is missing or older than a source, and PROGRAM=FILE"
 	@echo "                installs one as it is"
 	@echo "make uninstall  removes what make install put there"
@@ -76,11 +83,15 @@ lint:
 install: $(PROGRAM)
 	@put() { install -d "$${3%/*}" && install -m "$$1" "$$2" "$$3" && echo "$$3"; }; \
 	put 755 "$(PROGRAM)" "$(INTO)/bin/kbfeed" || exit; \
+	for file in $(SCRIPTS); do put 755 "$${file%%:*}" "$(INTO)/$${file##*:}" || exit; done; \
+	for file in $(UNITS); do \
+		sed 's|/usr/local/|$(PREFIX)/|' "$${file%%:*}" | put 644 /dev/stdin "$(INTO)/$${file##*:}" || exit; \
+	done; \
 	for file in $(DATA); do put 644 "$${file%%:*}" "$(INTO)/$${file##*:}" || exit; done
 
 # Removes the files, and then the program's own folders if nothing else is in them.
 uninstall:
-	@for place in bin/kbfeed $(foreach file,$(DATA),$(lastword $(subst :, ,$(file)))); do \
+	@for place in bin/kbfeed $(foreach file,$(SCRIPTS) $(UNITS) $(DATA),$(lastword $(subst :, ,$(file)))); do \
 		rm -f "$(INTO)/$$place" || exit; \
 	done
 	@for folder in samples/lists samples/fleet samples docs ''; do rmdir "$(INTO)/$(DOC)/$$folder" 2> /dev/null; done; true

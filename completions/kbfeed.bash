@@ -22,7 +22,7 @@ _kbfeed() {
     '') options='-h --help -V --version -v --verbose' ;;
     check) options='-h --help -v --verbose --name --strict --summary --explain --json' ;;
     serve) options='-h --help -v --verbose --count --timeout' ;;
-    node) options='-h --help -v --verbose --from --token --piece --clients --timeout --idle' ;;
+    node) options='-h --help -v --verbose --check --from --token --piece --clients --timeout --idle' ;;
     fetch) options='-h --help -v --verbose --piece --timeout' ;;
     replay | answer | ask | status | why) options='-h --help -v --verbose' ;;
   esac

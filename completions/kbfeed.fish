@@ -61,6 +61,7 @@ complete -c kbfeed -n $check -l json -d 'Prints a JSON object for each file'
 complete -c kbfeed -n '__kbfeed_at answer/0 node/0 fetch/0 ask/0 status/0 why/0' -F
 complete -c kbfeed -n '__kbfeed_at serve/0' -a '(__fish_complete_directories)'
 complete -c kbfeed -n '__kbfeed_at "serve/*"' -x -l count -d 'How many connections to serve'
+complete -c kbfeed -n '__kbfeed_at "node/*"' -l check -d 'Opens all that the node needs, prints ok, and ends'
 complete -c kbfeed -n '__kbfeed_at "node/*"' -x -l from -d 'The server to fetch releases from'
 complete -c kbfeed -n '__kbfeed_at "node/*"' -r -F -l token -d 'The file with the token that authorizes a fetch'
 complete -c kbfeed -n '__kbfeed_at "node/*"' -x -l clients -d 'The most connections at a time'

@@ -5,8 +5,9 @@ fleet.py FOLDER
 
 The nodes and nginx use the files of samples/fleet/; `kbfeed` and `nginx` are on the path. One node is killed in the
 middle of its fetch, and restarts. Every reply has to be the answer of a replay of the old or of the new release. No
-client may get an answer of the old release from a node after one of the new, and no request may fail. FOLDER is for the
-files of the test. Prints what is wrong, and what was done."""
+client may get an answer of the old release from a node after one of the new, and no request may fail. Each request has
+a tag, by which the logs of the nodes say which of them answered it. FOLDER is for the files of the test. Prints what is
+wrong, and what was done."""
 import collections
 import http.client
 import os
@@ -36,8 +37,17 @@ def ports(count):
     return found
 
 
+def has_ipv6():
+    """Returns whether a server can listen on the loopback address of IPv6."""
+    try:
+        socket.create_server(("::1", 0), family=socket.AF_INET6).close()
+        return True
+    except OSError:
+        return False
+
+
 def waited(port):
-    for _ in range(200):
+    for _ in range(800):
         try:
             socket.create_connection(("127.0.0.1", port), timeout=5).close()
             return
@@ -68,16 +78,14 @@ def replayed(folder, name, queries):
 
 
 class Client(threading.Thread):
-    """Sends one query after another, and records which node answered from which release."""
+    """Sends one query after another, and records the tag of each and the release that answered it."""
 
-    def __init__(self, front, answers):
+    def __init__(self, number, front, answers):
         super().__init__(daemon=True)
-        self.front, self.answers = front, answers
+        self.number, self.front, self.answers = number, front, answers
         self.queries = list(answers[0])
         self.is_asked_to_end = False
-        self.count, self.wrong = 0, []
-        self.latest = collections.defaultdict(int)
-        self.seen = set()
+        self.count, self.wrong, self.replies = 0, [], []
 
     def run(self):
         while not self.is_asked_to_end and len(self.wrong) < 5:
@@ -85,24 +93,21 @@ class Client(threading.Thread):
             self.count += 1
 
     def ask(self, query):
+        tag = f"{self.number}.{self.count}"
         try:
             conn = http.client.HTTPConnection("127.0.0.1", self.front, timeout=30)
-            conn.request("GET", f"/resolve/Fleet?{query}")
+            conn.request("GET", f"/resolve/Fleet?{query}&tag={tag}")
             reply = conn.getresponse()
             text = reply.read().decode("ascii")
             conn.close()
         except (OSError, http.client.HTTPException) as fault:
             self.wrong.append(f"{query}: {fault!r}")
             return
-        node = reply.headers["X-Node"].split(", ")[-1]
         release = [at for at in (0, 1) if text == self.answers[at][query]]
         if reply.status != 200 or not release:
-            self.wrong.append(f"{query}: {reply.status} {text[:200]!r} of {node}")
-        elif release[0] < self.latest[node]:
-            self.wrong.append(f"{node} went back")
+            self.wrong.append(f"{query}: {reply.status} {text[:200]!r}")
         else:
-            self.latest[node] = release[0]
-            self.seen.add((node, release[0]))
+            self.replies.append((tag, release[0]))
 
 
 class Fleet:
@@ -128,13 +133,16 @@ class Fleet:
         text = (SAMPLES / "nginx.conf").read_text(encoding="ascii")
         for at, port in enumerate(self.ports):
             text = text.replace(f"127.0.0.1:{8081 + at}", f"127.0.0.1:{port}")
-        text = text.replace("127.0.0.1:8080", f"127.0.0.1:{self.front}")
-        text = text.replace("127.0.0.1:8090", f"127.0.0.1:{self.way}")
-        text = text.replace("https://lists.example/kbart/", f"http://127.0.0.1:{self.origin}/")
-        text = "".join(line for line in text.splitlines(True) if "proxy_ssl_" not in line)
+        for old, new in [("127.0.0.1:8080", f"127.0.0.1:{self.front}"), ("[::1]:8080", f"[::1]:{self.front}"),
+                         ("127.0.0.1:8090", f"127.0.0.1:{self.way}"), ("[::1]:8090", f"[::1]:{self.way}"),
+                         ("https://lists.example/kbart/", f"http://127.0.0.1:{self.origin}/"),
+                         ("/var/cache/nginx", str(self.folder)), ("rate=20", "rate=90000")]:
+            text = text.replace(old, new)
+        unwanted = ["proxy_ssl_"] if has_ipv6() else ["proxy_ssl_", "listen [::1]"]
+        text = "".join(line for line in text.splitlines(True) if not any(it in line for it in unwanted))
         (self.folder / "kbfeed.conf").write_text(text, encoding="ascii")
         (self.folder / "nginx.conf").write_text(
-            f"daemon off; pid {self.folder}/nginx.pid; error_log {self.folder}/error.log; worker_processes 1;\n"
+            f"daemon off; pid {self.folder}/nginx.pid; error_log {self.folder}/error.log; master_process off;\n"
             "events { worker_connections 256; }\n"
             f"http {{ access_log off; {self.paths()} include {self.folder}/kbfeed.conf; }}\n", encoding="ascii")
         self.begin("nginx", "nginx", "-e", self.folder / "error.log", "-p", self.folder, "-c",
@@ -158,6 +166,36 @@ class Fleet:
             process.terminate()
         for process in self.begun.values():
             process.wait()
+
+
+def answerers(folder):
+    """The nodes that logged a reply to the request of each tag."""
+    found = collections.defaultdict(set)
+    for at in range(3):
+        text = (folder / f"node{at}.log").read_text(encoding="ascii")
+        for tag in re.findall(r'"GET [^ "]*&tag=([\d.]+) HTTP/1\.[01]" 200 ', text):
+            found[tag].add(at)
+    return found
+
+
+def compared(clients, nodes):
+    """The faults of the replies by the nodes that gave them, and which node answered from which release. The reply of a
+    node that was killed is in no log, if it was not printed yet: that is one request of each client."""
+    wrong, seen, unknown = [], set(), 0
+    for client in clients:
+        latest = collections.defaultdict(int)
+        for tag, release in client.replies:
+            if len(nodes[tag]) != 1:
+                unknown += 1
+                continue
+            node, = nodes[tag]
+            if release < latest[node]:
+                wrong.append(f"node {node} went back at {tag}")
+            latest[node] = release
+            seen.add((node, release))
+    if unknown > len(clients):
+        wrong.append(f"{unknown} requests are in no log, or in two")
+    return wrong, seen
 
 
 def fed_and_killed(fleet, at):
@@ -194,7 +232,7 @@ def main():
         fleet.begin_nginx()
         if fleet.feed(NAMES[0]).returncode:
             print("the first release does not arrive")
-        clients = [Client(fleet.front, answers) for _ in range(4)]
+        clients = [Client(number, fleet.front, answers) for number in range(4)]
         for client in clients:
             client.start()
         time.sleep(0.5)
@@ -211,10 +249,12 @@ def main():
             client.is_asked_to_end = True
         for client in clients:
             client.join(60)
+        # A node prints a line once the connection is closed.
+        time.sleep(1)
     finally:
         fleet.end()
-    wrong = [it for client in clients for it in client.wrong]
-    seen = set().union(*(client.seen for client in clients))
+    wrong, seen = compared(clients, answerers(folder))
+    wrong += [it for client in clients for it in client.wrong]
     for line in wrong:
         print(line)
     if len(seen) != 6:

@@ -174,6 +174,11 @@ static NODE: [Argument; 8] = [
     DATABASE,
     LISTENING_ADDRESS,
     Argument {
+        id: "check",
+        kind: Kind::Flag { excludes: &[] },
+        help: "Opens all that the node needs, prints ok, and ends",
+    },
+    Argument {
         id: "from",
         kind: Kind::Text {
             value: "HOST:PORT",

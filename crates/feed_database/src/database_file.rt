@@ -5,6 +5,7 @@ use sqlite_std_file::File;
 use sqlite_store::FileStore;
 use std::fs;
 use std::io::ErrorKind;
+use std::os::unix::fs::MetadataExt;
 
 /// The database in a file, with its log beside it.
 #[derive(Drop)]
@@ -30,6 +31,7 @@ impl Database for DatabaseFile<'_> {
     fn open(&self) -> Result<SqlKeep<FileStore<File>>, DatabaseFault> {
         match SqlKeep::open_file(self.rt, self.path) {
             Ok(keeper) => Ok(keeper),
+            Err(StoreFault::NotOurs) if self.has_other_name() => Err(DatabaseFault::Linked),
             Err(fault) => Err(fault_of(fault)),
         }
     }
@@ -38,6 +40,17 @@ impl Database for DatabaseFile<'_> {
         match keeper.close() {
             Ok(()) => Ok(()),
             Err(fault) => Err(fault_of(fault)),
+        }
+    }
+}
+
+impl DatabaseFile<'_> {
+    // Returns whether the file has more names than one. Its log is found by its name, so a process that opens it by
+    // another name would not see the commits in the log.
+    fn has_other_name(&self) -> bool {
+        match fs::metadata(self.rt, self.path) {
+            Ok(found) => found.is_file() && found.nlink() > 1,
+            Err(_) => false,
         }
     }
 }

@@ -32,6 +32,8 @@ pub enum DatabaseFault {
     Device,
     /// It is not a database of kbfeed.
     NotOurs,
+    /// It is a file that has another name, a hard link. Such a file is not opened.
+    Linked,
 }
 
 /// Opens the feed on what a database holds. A fault is reported: `NotOurs` and `Damaged` give status 1, `Memory` and
@@ -82,6 +84,12 @@ fn report_database<F: Write + Drop>(
             "NotOurs",
             path,
             "it is no database of kbfeed, or no file can be made there",
+            REFUSED,
+        ),
+        DatabaseFault::Linked => faults.report_with(
+            "NotOurs",
+            path,
+            "the file has another name, a hard link: remove that",
             REFUSED,
         ),
     }

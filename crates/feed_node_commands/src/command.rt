@@ -9,12 +9,13 @@ use std::time::Duration;
 #[derive(Clone, Copy)]
 pub enum Command<'a> {
     /// Answer `clients` readers at a time. `time` is the limit of each step of a connection, and `idle` of the time
-    /// between two requests.
+    /// between two requests. A check only opens all that the node needs.
     Node {
         addr: &'a str,
         clients: usize,
         time: Duration,
         idle: Duration,
+        is_check: bool,
         upstream: Option<Upstream<'a>>,
     },
     /// A command that needs no server.
@@ -45,6 +46,7 @@ pub fn run_command<D: Database, O: Write, F: Write + Drop>(
             clients,
             time,
             idle,
+            is_check,
             upstream,
         } => {
             let hosting = Hosting {
@@ -52,6 +54,7 @@ pub fn run_command<D: Database, O: Write, F: Write + Drop>(
                 clients,
                 limit: millis_of(time),
                 idle: millis_of(idle),
+                is_check,
             };
             run_node(rt, database, hosting, upstream, out, faults)
         }

@@ -15,21 +15,22 @@ use std::net::ToSocketAddrs;
 const MIN_CLIENTS: usize = 16;
 
 /// Where a node listens, how many clients it answers at a time, and how many milliseconds each step of a connection and
-/// the time between two requests may take.
+/// the time between two requests may take. A check ends once all is open.
 #[derive(Clone, Copy)]
 pub struct Hosting<'a> {
     pub addr: &'a str,
     pub clients: usize,
     pub limit: u64,
     pub idle: u64,
+    pub is_check: bool,
 }
 
 /// Runs a node: opens the feed of a database and answers readers at an address, without end. If it has a source, a
 /// client that has the token can make it fetch a release from there. It prints a line for each request, at once. The
 /// first fault is reported: of the source (`Host`, `Read`, `Token`), of the database, of the address (`Bind`), of the
 /// sockets (`Poll`) and of the print. A host that has no address yet is reported too (`Resolve`), and the node runs. If
-/// there are too few descriptors for all clients, that is reported (`Descriptors`), and the node answers fewer at a time,
-/// or does not start with fewer than 16.
+/// there are too few descriptors for all clients, that is reported (`Descriptors`), and the node answers fewer at a
+/// time, or does not start with fewer than 16. A check answers no reader, and prints `ok` if all is well.
 pub fn run_node<D: Database, O: Write, F: Write + Drop>(
     rt: &HostRuntime,
     database: &D,
@@ -96,7 +97,7 @@ fn token_of<F: Write + Drop>(
     }
 }
 
-// Opens the feed and answers readers, until the sockets or a print fail.
+// Opens the feed and answers readers, until the sockets or a print fail. A check closes it again.
 fn run_server<D: Database, O: Write, F: Write + Drop>(
     rt: &HostRuntime,
     database: &D,
@@ -110,24 +111,27 @@ fn run_server<D: Database, O: Write, F: Write + Drop>(
         Ok(feed) => feed,
         Err(status) => return status,
     };
-    let end = match bind(rt, hosting) {
-        Ok(mut server) => {
-            if has_too_few_descriptors(&server, hosting, faults) {
-                close_keeper(database, feed.restart(), faults);
-                return FAILED;
-            }
-            match announce(out) {
-                Ok(()) => run(rt, &mut feed, &mut server, source, addrs, out),
-                Err(error) => End::Print(error),
-            }
-        }
+    let mut server = match bind(rt, hosting) {
+        Ok(server) => server,
         Err(error) => {
             close_keeper(database, feed.restart(), faults);
             return faults.report_with("Bind", hosting.addr, error, FAILED);
         }
     };
+    if has_too_few_descriptors(&server, hosting, faults) {
+        close_keeper(database, feed.restart(), faults);
+        return FAILED;
+    }
+    let end = match announce(out, hosting.is_check) {
+        Err(error) => Some(End::Print(error)),
+        Ok(()) if hosting.is_check => None,
+        Ok(()) => Some(run(rt, &mut feed, &mut server, source, addrs, out)),
+    };
     close_keeper(database, feed.restart(), faults);
-    report_end(end, faults)
+    match end {
+        Some(end) => report_end(end, faults),
+        None => DONE,
+    }
 }
 
 // Reports that the process may open fewer descriptors than all clients need, and returns whether these are too few for
@@ -167,8 +171,10 @@ fn bind(rt: &HostRuntime, hosting: Hosting<'_>) -> io::Result<Server> {
     Err(last)
 }
 
-fn announce<O: Write>(out: &mut O) -> io::Result<()> {
-    writeln!(out, "listening")?;
+// Prints that all is open.
+fn announce<O: Write>(out: &mut O, is_check: bool) -> io::Result<()> {
+    let line = if is_check { "ok" } else { "listening" };
+    writeln!(out, "{line}")?;
     out.flush()
 }
 

@@ -91,6 +91,7 @@ fn run_request<O: Write, F: Write + Drop>(
                 clients: options.clients,
                 time: options.time,
                 idle: options.idle,
+                is_check: options.is_check,
                 upstream: upstream_of(source),
             };
             (db, node)
