@@ -170,7 +170,7 @@ static SERVE: [Argument; 4] = [
     CLIENT_TIMEOUT,
 ];
 
-static NODE: [Argument; 8] = [
+static NODE: [Argument; 9] = [
     DATABASE,
     LISTENING_ADDRESS,
     Argument {
