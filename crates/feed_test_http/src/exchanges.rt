@@ -70,7 +70,7 @@ impl Driver<'_> {
         let mut scan = ReplyScan::new(method);
         let mut end = 0;
         for _ in 0..=text.len() {
-            if scan.is_complete(&text[..end]) {
+            if scan.is_complete(&text[..end.min(text.len())]) {
                 println!(self.rt; "complete {end}")?;
                 return Ok(());
             }
