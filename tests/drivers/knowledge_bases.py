@@ -130,6 +130,7 @@ class KnowledgeBase(threading.Thread):
                 time.sleep(0.02)
         else:
             peer.sendall(part(file, first, last, f"Content-Length: {last - first + 1}") + file[first:last + 1])
+            self.all_sent = time.monotonic()
 
 
 class Reader(threading.Thread):
