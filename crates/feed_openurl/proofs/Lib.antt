@@ -1,0 +1,6 @@
+pub mod Sets
+pub mod Shapes
+pub mod Pairs
+pub mod Sizes
+pub mod Reading
+pub mod Kept

@@ -1,0 +1,8 @@
+pub mod Texts
+pub mod Keys
+pub mod Core
+pub mod Tiers
+pub mod Values
+pub mod Numbers
+pub mod Written
+pub mod Laws
