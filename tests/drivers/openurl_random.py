@@ -18,9 +18,11 @@ ISBNS = ["9780306406157", "0-306-40615-2", "1-84930-204-9", "9781849302043", "0 
 DATES = ["2001", "2001-03", "20010315", "200103", "2001-02-30", "2005/10/20", "20 Oct 2005", "Oct-Nov 2005",
          "1996-1997", "Spring 2004", "", " 1996 ", "x", "0000", "2004-21", "10/11/2005", "20050000", "2005-10-20T00:00Z"]
 VOLUMES = ["7", "12", "365 (9453)", "Vol. 9", "12A", "XIV", "", " 3 ", "007", "12-13", "1234567890", "t. 12"]
-FORMATS = ["info:ofi/fmt:kev:mtx:journal", "info:ofi/fmt:kev:mtx:book", "info:ofi/fmt:kev:mtx:patent", "", "INFO:OFI/fmt:kev:mtx:book"]
+FORMATS = ["info:ofi/fmt:kev:mtx:journal", "info:ofi/fmt:kev:mtx:book", "info:ofi/fmt:kev:mtx:patent", "",
+           "INFO:OFI/fmt:kev:mtx:book"]
 VERSIONS = ["Z39.88-2004", "Z39.88-2003", "", "z39.88-2004"]
-NAMES = ["urn:ISSN:2434-561X", "URN:issn:0317-8471", "urn:ISBN:0306406152", "info:doi/10.5555/a.1", "info:pmid/99999901", "x"]
+NAMES = ["urn:ISSN:2434-561X", "URN:issn:0317-8471", "urn:ISBN:0306406152", "info:doi/10.5555/a.1",
+         "info:pmid/99999901", "x"]
 KEYS = {
     "rft.issn": ISSNS, "rft.eissn": ISSNS, "rft.isbn": ISBNS, "rft.date": DATES, "rft.volume": VOLUMES,
     "rft_val_fmt": FORMATS, "url_ver": VERSIONS, "ctx_ver": VERSIONS, "rft_id": NAMES, "issn": ISSNS, "eissn": ISSNS,
