@@ -1,5 +1,6 @@
 -- What the core reads of the pairs that are written.
-use Rattle.std.proofs.Common.{◌≡◌, ◌≤◌, ◌<◌, ◌+◌, ℕ, Bool, true, false, ◌&&◌, ◌||◌, List, [], ◌∷◌, ◌++◌, length, map, Option, Some, None, Result, Ok, Err, if◌then◌else◌, is_some, codes, refl, sym, ap, ◌∙◌, arith}
+use Rattle.std.proofs.Common.{◌≡◌, ◌≤◌, ◌<◌, ◌+◌, ℕ, Bool, true, false, ◌&&◌, ◌||◌, List, [], ◌∷◌, ◌++◌, length}
+use Rattle.std.proofs.Common.{map, Option, Some, None, Result, Ok, Err, if◌then◌else◌, is_some, codes, refl, sym, ap, ◌∙◌, arith}
 use Rattle.std.specs.Prelude.{IfSome}
 use Rattle.std.specs.Option.{option_and_then}
 use Rattle.std.specs.List.{All, cons_option, filter_map, list_any}
@@ -10,7 +11,8 @@ use Rattle.feed_identifiers.specs.Text.{trimmed}
 use Rattle.feed_dates.specs.DayRanges.{query_days_of, with_hyphens}
 use Rattle.feed_kbart.specs.Volumes.{volume_of}
 use Rattle.feed_answer.specs.IdentifierSet.{identifier_set}
-use Rattle.feed_answer.specs.Pairs.{book_format, days_of_pair, first, first_days, first_volume, has_format, is_empty, is_other_format, is_other_version, isbn_of_pair, isbns_among, issn_of_pair, issns_among, journal_format}
+use Rattle.feed_answer.specs.Pairs.{book_format, days_of_pair, first, first_days, first_volume, has_format, is_empty}
+use Rattle.feed_answer.specs.Pairs.{is_other_format, is_other_version, isbn_of_pair, isbns_among, issn_of_pair, issns_among, journal_format}
 use Rattle.feed_answer.specs.Pairs as core
 use Rattle.feed_answer.specs.QueryValue.{QueryValue}
 use Rattle.feed_answer.specs.Queries.{has_book_format, has_journal_format, has_other_format, query_isbns, query_issns, query_of_pairs}

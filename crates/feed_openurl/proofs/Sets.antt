@@ -1,16 +1,20 @@
 -- Sets of identifiers: they ascend, they grow, and an ascending list is the set of its elements.
-use Rattle.std.proofs.Common.{◌≡◌, ◌≤◌, ◌++◌, ℕ, List, [], ◌∷◌, length, refl, sym, ap, ◌∙◌, subst, append_assoc, arith}
+use Rattle.std.proofs.Common.{◌≡◌, ◌≤◌, ◌<◌, ◌+◌, ◌++◌, ℕ, suc, List, [], ◌∷◌, length, get_or, drop, Option}
+use Rattle.std.proofs.Common.{Some, Result, Ok, Err, OnOk, IfErr, refl, sym, ap, ◌∙◌, subst, append_assoc, drop-cons, arith}
 use Rattle.std.specs.Prelude.{fold}
 use Rattle.std.specs.declared.cmp.Ordering.TheVariants.{Less, Equal, Greater}
 use Rattle.std.specs.Ordering.{match_ordering, ordering_reverse}
-use Rattle.std.specs.List.{AllByRecursion}
+use Rattle.std.specs.List.{AllByRecursion, cons_option, filter_map}
 use Rattle.std.specs.List.Sorted.{IsStrictlySortedBy}
 use Rattle.std.specs.BTreeSet.{insert_key}
 use Rattle.std.proofs.lemmas.List.{append-nil}
+use Rattle.std.proofs.lemmas.List.Elements.{All-nil}
 use Rattle.std.proofs.lemmas.Cmp.{nat_list_cmp_total}
 use Rattle.std.proofs.lemmas.Map.Views.{All-insert_key}
 use Rattle.feed_answer.specs.IdentifierSet.{bytes_cmp, IsAscending, identifier_set}
-use Rattle.feed_openurl.specs.Values.{AreIdentifiers, IsIsbnText, IsIssnText}
+use Rattle.feed_openurl.specs.Values.{AreAdded, AreIdentifiers, IdentifiersValue, IsAdded, IsIsbnText, IsIssnText, count, identifier_limit}
+use Rattle.feed_openurl.specs.declared.collect.Stop.{Stop}
+use Rattle.feed_openurl.specs.declared.collect.Stop.TheVariants.{Memory, TooMany}
 
 all_below : (first second : List ℕ) (issns : List (List ℕ)) → bytes_cmp first second ≡ Less
     → AllByRecursion (λ issn. bytes_cmp second issn ≡ Less) issns → AllByRecursion (λ issn. bytes_cmp first issn ≡ Less) issns
@@ -108,4 +112,56 @@ with_isbn_valid issns isbns isbn valid parses = record {
   isbns_ascend = ascending_insert isbn isbns valid.isbns_ascend;
   issns_parse = valid.issns_parse;
   isbns_parse = All-insert_key bytes_cmp isbn IsIsbnText isbns valid.isbns_parse parses;
+}
+
+-- a set with one identifier more, and then with those that are left, is no smaller
+pub still_more : {P : Type 0} (read : P → Option (List ℕ)) (pairs : List P) (index : ℕ) (pair : P) (one : List ℕ) (set total : List (List ℕ))
+    → index < length pairs → pair ≡ get_or pairs index pair → read pair ≡ Some one
+    → fold (insert_key bytes_cmp) set (filter_map read (drop index pairs)) ≡ total
+    → length (insert_key bytes_cmp set one) ≤ length total
+still_more read pairs index pair one set total inside item is whole =
+    let rest = filter_map read (drop (suc index) pairs) in
+    let grown = fold_grows rest (insert_key bytes_cmp set one) in
+    let front : drop index pairs ≡ pair ∷ drop (suc index) pairs =
+    drop-cons pairs index pair inside ∙ ap (λ p. p ∷ drop (suc index) pairs) (sym item) in
+    let step = ap (λ l. fold (insert_key bytes_cmp) set (filter_map read l)) front in
+    let same = ap (λ o. fold (insert_key bytes_cmp) set (cons_option o rest)) is in
+    let sizes = ap length (sym same ∙ sym step ∙ whole) in
+    omega (arith, grown, sizes)
+
+-- an addition that stopped stops the additions after it
+pub stopped_issns : (stop : Stop) (step total isbns others : List (List ℕ)) (one more : IdentifiersValue) → length step ≤ length total → isbns ≡ others
+    → IsAdded step isbns one (Err stop) → AreAdded total others more (Err stop)
+stopped_issns TooMany step total isbns others one more grown same many = let sizes = ap length same in omega (arith, grown, sizes, many)
+stopped_issns Memory step total isbns others one more grown same many = tt
+
+pub stopped_isbns : (stop : Stop) (issns others step total : List (List ℕ)) (one more : IdentifiersValue) → length step ≤ length total → issns ≡ others
+    → IsAdded issns step one (Err stop) → AreAdded others total more (Err stop)
+stopped_isbns TooMany issns others step total one more grown same many = let sizes = ap length same in omega (arith, grown, sizes, many)
+stopped_isbns Memory issns others step total one more grown same many = tt
+
+-- one identifier is added, and the limit is checked
+pub checked_added : (issns isbns : List (List ℕ)) (found : IdentifiersValue) (result : Result (Unit {0}) Stop) → found.issns ≡ issns → found.isbns ≡ isbns
+    → OnOk result (count found.issns found.isbns ≤ identifier_limit)
+    → IfErr result (λ stop. (stop ≡ TooMany) × (identifier_limit < count found.issns found.isbns))
+    → IsAdded issns isbns found result
+checked_added issns isbns found (Ok done) first second within many =
+    let first_size = ap length first in
+    let second_size = ap length second in
+    let few : count issns isbns ≤ identifier_limit = omega (arith, first_size, second_size, within) in
+    ((first, second), few)
+checked_added issns isbns found (Err TooMany) first second within many =
+    let first_size = ap length first in
+    let second_size = ap length second in
+    let above = many.1 in
+    omega (arith, first_size, second_size, above)
+checked_added issns isbns found (Err Memory) first second within many = tt
+
+-- no identifiers
+pub no_identifiers : AreIdentifiers [] []
+no_identifiers = record {
+  issns_ascend = ascending_nil;
+  isbns_ascend = ascending_nil;
+  issns_parse = All-nil IsIssnText;
+  isbns_parse = All-nil IsIsbnText;
 }

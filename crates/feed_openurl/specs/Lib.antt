@@ -3,6 +3,5 @@ pub mod Keys
 pub mod Core
 pub mod Tiers
 pub mod Values
-pub mod Numbers
 pub mod Written
 pub mod Laws

@@ -104,7 +104,8 @@ impl Identifiers {
     /// Fails if there are more than the limit.
     pub(crate) fn check(&self) -> Result<(), Stop>
         ensures within { OnOk result (count self.now.issns self.now.isbns ≤ identifier_limit) }
-        ensures many { IfErr result (λ stop. (stop ≡ TooMany) × (identifier_limit < count self.now.issns self.now.isbns)) }
+        ensures many { IfErr result (λ stop. (stop ≡ TooMany)
+            × (identifier_limit < count self.now.issns self.now.isbns)) }
     {
         let issns = self.issns.len();
         if issns > IDENTIFIER_LIMIT || self.isbns.len() > IDENTIFIER_LIMIT - issns {

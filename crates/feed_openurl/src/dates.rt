@@ -45,7 +45,8 @@ fn core_date(pairs: &[Pair<'_>]) -> Option<DateText>
 
 // The first date of a tier in the form of the core, or else the first in another.
 fn date_in(alloc: Global, pairs: &[Pair<'_>], tier: Tier) -> Result<Option<DateText>, AllocError>
-    ensures strict { IfOk result (λ date. is_some (strict_date tier pairs.now) ≡ true → date ≡ strict_date tier pairs.now) }
+    ensures strict { IfOk result (λ date. is_some (strict_date tier pairs.now) ≡ true
+        → date ≡ strict_date tier pairs.now) }
     ensures absent { IfOk result (λ date. list_any (is_date tier) pairs.now ≡ false → date ≡ None) }
 {
     if !has_date(pairs, tier) {

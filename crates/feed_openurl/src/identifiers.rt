@@ -45,7 +45,10 @@ fn add_issns(pairs: &[Pair<'_>], found: &mut Identifiers) -> Result<(), Stop>
 {
     for pair in pairs {
         if let Some(issn) = pair.issn() {
-            found.add_issn(issn)?;
+            match found.add_issn(issn) {
+                Ok(()) => {}
+                Err(stop) => return Err(stop),
+            }
         }
     }
     Ok(())
@@ -57,7 +60,10 @@ fn add_isbns(pairs: &[Pair<'_>], found: &mut Identifiers) -> Result<(), Stop>
 {
     for pair in pairs {
         if let Some(isbn) = pair.isbn() {
-            found.add_isbn(isbn)?;
+            match found.add_isbn(isbn) {
+                Ok(()) => {}
+                Err(stop) => return Err(stop),
+            }
         }
     }
     Ok(())

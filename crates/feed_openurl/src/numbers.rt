@@ -1,8 +1,7 @@
 //! The ISSNs and ISBNs in a value that has several, or words and spaces around them.
-ghost use Rattle.std.specs.Prelude.{◌≡◌, ◌<◌, ◌≤◌, IfOk, IfSome, length};
+ghost use Rattle.std.specs.Prelude.{◌≡◌, IfOk, IfSome};
 ghost use Rattle.feed_identifiers.specs.Isbn.{isbn_of};
 ghost use Rattle.feed_identifiers.specs.Issn.{issn_of};
-ghost use Rattle.feed_openurl.specs.Numbers.{IsNumber};
 ghost use Rattle.feed_openurl.specs.Values.{IsIsbnText, IsIssnText};
 
 use crate::collect::{Identifiers, Stop};
@@ -65,26 +64,6 @@ fn words<'a>(alloc: Global, phrase: &'a [u8]) -> Result<Vec<&'a [u8]>, AllocErro
     Ok(words)
 }
 
-/// An ISSN or an ISBN.
-#[derive(Clone, Copy)]
-pub(crate) enum Number {
-    Issn(Issn),
-    Isbn(Isbn),
-}
-
-impl Number {
-    ghost use Rattle.feed_openurl.specs.Numbers.{IsNumber};
-
-    fn add_to(self, found: &mut Identifiers) -> Result<(), Stop>
-        requires { IsNumber self }
-    {
-        match self {
-            Number::Issn(issn) => found.add_issn(issn),
-            Number::Isbn(isbn) => found.add_isbn(isbn),
-        }
-    }
-}
-
 /// The kinds of identifiers that count.
 #[derive(Clone, Copy, PartialEq, Eq)]
 pub(crate) enum Kind {
@@ -93,12 +72,25 @@ pub(crate) enum Kind {
     Either,
 }
 
-impl Kind {
-    fn counts(self, number: Number) -> bool {
-        match number {
-            Number::Issn(_) => self != Kind::Isbn,
-            Number::Isbn(_) => self != Kind::Issn,
-        }
+// Adds an ISSN, if ISSNs count.
+fn add_issn(issn: Issn, kind: Kind, found: &mut Identifiers) -> Result<(), Stop>
+    requires { IsIssnText issn }
+{
+    match kind {
+        Kind::Issn => found.add_issn(issn),
+        Kind::Isbn => Ok(()),
+        Kind::Either => found.add_issn(issn),
+    }
+}
+
+// Adds an ISBN, if ISBNs count.
+fn add_isbn(isbn: Isbn, kind: Kind, found: &mut Identifiers) -> Result<(), Stop>
+    requires { IsIsbnText isbn }
+{
+    match kind {
+        Kind::Issn => Ok(()),
+        Kind::Isbn => found.add_isbn(isbn),
+        Kind::Either => found.add_isbn(isbn),
     }
 }
 
@@ -120,19 +112,6 @@ fn isbn_of(word: &[u8]) -> Option<Isbn>
     Isbn::parse(word)
 }
 
-// The number that a word is.
-fn number_of(word: &[u8]) -> Option<Number>
-    ensures { IfSome result IsNumber }
-{
-    match issn_of(word) {
-        Some(issn) => Some(Number::Issn(issn)),
-        None => match isbn_of(word) {
-            Some(isbn) => Some(Number::Isbn(isbn)),
-            None => None,
-        },
-    }
-}
-
 // The ISSN of two words of four characters, as a space stands for its hyphen.
 fn spaced_issn(front: &[u8], back: &[u8]) -> Option<Issn>
     ensures { IfSome result IsIssnText }
@@ -146,13 +125,9 @@ fn spaced_issn(front: &[u8], back: &[u8]) -> Option<Issn>
     }
 }
 
-// The ISBN of the first words together, as spaces stand for its hyphens, and how many they are.
-fn joined_isbn(
-    alloc: Global,
-    words: &[&[u8]],
-    count: usize,
-) -> Result<Option<(Isbn, usize)>, AllocError>
-    ensures { IfOk result (λ found. IfSome found (λ isbn. IsIsbnText isbn.0 × (isbn.1 ≡ count) × (count ≤ length words.now))) }
+// The ISBN of the first words together, as spaces stand for its hyphens.
+fn joined_isbn(alloc: Global, words: &[&[u8]], count: usize) -> Result<Option<Isbn>, AllocError>
+    ensures { IfOk result (λ found. IfSome found IsIsbnText) }
 {
     let Some((front, _)) = words.split_at_checked(count) else {
         return Ok(None);
@@ -161,47 +136,40 @@ fn joined_isbn(
     for word in front {
         text.extend_from_slice(word)?;
     }
-    match isbn_of(&text) {
-        Some(isbn) => Ok(Some((isbn, count))),
-        None => Ok(None),
-    }
+    Ok(isbn_of(&text))
 }
 
-// The ISBN of the first words, two to five of them, and how many they are.
-fn first_isbn(alloc: Global, words: &[&[u8]]) -> Result<Option<(Isbn, usize)>, AllocError>
-    ensures { IfOk result (λ found. IfSome found (λ isbn. IsIsbnText isbn.0 × (0 < isbn.1) × (isbn.1 ≤ length words.now))) }
-{
-    if let Some(found) = joined_isbn(alloc, words, 5)? {
-        return Ok(Some(found));
-    }
-    if let Some(found) = joined_isbn(alloc, words, 4)? {
-        return Ok(Some(found));
-    }
-    if let Some(found) = joined_isbn(alloc, words, 3)? {
-        return Ok(Some(found));
-    }
-    joined_isbn(alloc, words, 2)
-}
-
-// The number at the front of some words, and of how many words it is.
-fn number_at(alloc: Global, words: &[&[u8]]) -> Result<Option<(Number, usize)>, AllocError>
-    ensures { IfOk result (λ found. IfSome found (λ number. IsNumber number.0 × (0 < number.1) × (number.1 ≤ length words.now))) }
-{
+// Adds the number at the front of some words, if there is one, and returns how many words it takes.
+fn add_first(
+    alloc: Global,
+    words: &[&[u8]],
+    kind: Kind,
+    found: &mut Identifiers,
+) -> Result<usize, Stop> {
     let Some((first, rest)) = words.split_first() else {
-        return Ok(None);
+        return Ok(1);
     };
-    if let Some(number) = number_of(first) {
-        return Ok(Some((number, 1)));
+    if let Some(issn) = issn_of(first) {
+        add_issn(issn, kind, found)?;
+        return Ok(1);
+    }
+    if let Some(isbn) = isbn_of(first) {
+        add_isbn(isbn, kind, found)?;
+        return Ok(1);
     }
     if let Some(second) = rest.first() {
         if let Some(issn) = spaced_issn(first, second) {
-            return Ok(Some((Number::Issn(issn), 2)));
+            add_issn(issn, kind, found)?;
+            return Ok(2);
         }
     }
-    match first_isbn(alloc, words)? {
-        Some((isbn, used)) => Ok(Some((Number::Isbn(isbn), used))),
-        None => Ok(None),
+    for count in [5, 4, 3, 2] {
+        if let Some(isbn) = joined_isbn(alloc, words, count)? {
+            add_isbn(isbn, kind, found)?;
+            return Ok(count);
+        }
     }
+    Ok(1)
 }
 
 fn add_words(
@@ -210,16 +178,10 @@ fn add_words(
     kind: Kind,
     found: &mut Identifiers,
 ) -> Result<(), Stop> {
-    let mut rest = words;
-    while !rest.is_empty() {
-        match number_at(alloc, rest)? {
-            Some((number, used)) => {
-                if kind.counts(number) {
-                    number.add_to(found)?;
-                }
-                rest = &rest[used..];
-            }
-            None => rest = &rest[1..],
+    let mut next = 0;
+    for place in 0..words.len() {
+        if place >= next {
+            next = place.saturating_add(add_first(alloc, &words[place..], kind, found)?);
         }
     }
     Ok(())

@@ -49,7 +49,7 @@ impl Model for Understanding {
 impl Understanding {
     ghost use Rattle.std.specs.Prelude.{◌≡◌, IfOk, IfSome, option_copied};
     ghost use Rattle.feed_openurl.specs.Texts.{IsDateText, IsVolumeText};
-    ghost use Rattle.feed_openurl.specs.Values.{IsUnderstood, IsWellFormed};
+    ghost use Rattle.feed_openurl.specs.Values.{AreIdentifiers, IsUnderstood, IsWellFormed};
     ghost use Rattle.feed_openurl.specs.Written.{written};
 
     /// Reads the bytes after the `?` of an OpenURL, or the body of a form, of any length.
@@ -81,7 +81,9 @@ impl Understanding {
 
     /// Returns the ISSNs to look up, ascending by their printed bytes, each once.
     pub fn issns(&self) -> &[Issn]
-        ensures { result.now ≡ self.now.issns }
+        ensures value { result.now ≡ self.now.issns }
+        ensures valid { AreIdentifiers self.now.issns self.now.isbns }
+        ensures counted { IsCounted self.now.issns self.now.isbns self.now.refusal }
     {
         self.identifiers.issns()
     }

@@ -48,7 +48,8 @@ fn volume_in(
     pairs: &[Pair<'_>],
     tier: Tier,
 ) -> Result<Option<VolumeText>, AllocError>
-    ensures strict { IfOk result (λ volume. is_some (strict_volume tier pairs.now) ≡ true → volume ≡ strict_volume tier pairs.now) }
+    ensures strict { IfOk result (λ volume. is_some (strict_volume tier pairs.now) ≡ true
+        → volume ≡ strict_volume tier pairs.now) }
     ensures absent { IfOk result (λ volume. list_any (is_volume tier) pairs.now ≡ false → volume ≡ None) }
 {
     if !has_volume(pairs, tier) {
