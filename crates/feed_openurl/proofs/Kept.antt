@@ -1,10 +1,9 @@
--- A query that the core answers is understood as the core reads it, and what is written is understood as itself.
-use Rattle.std.proofs.Common.{◌≡◌, ◌≤◌, ◌<◌, ◌+◌, ℕ, Bool, true, false, ◌&&◌, ◌||◌, List, [], ◌∷◌, length}
-use Rattle.std.proofs.Common.{Option, Some, None, Result, Ok, Err, if◌then◌else◌, is_some, codes, refl, sym, ap, ◌∙◌, subst, arith}
+-- A query that the core answers is understood as the core reads it.
+use Rattle.std.proofs.Common.{◌≡◌, ◌≤◌, ◌<◌, ℕ, Bool, true, false, ◌&&◌, ◌||◌, List, [], ◌∷◌, length}
+use Rattle.std.proofs.Common.{Option, Some, None, Ok, Err, if◌then◌else◌, is_some, codes, refl, ap, ◌∙◌, arith}
 use Rattle.std.specs.Prelude.{IfSome, nat_lt}
 use Rattle.std.specs.Option.{option_and_then}
 use Rattle.std.specs.List.{cons_option, filter_map, list_any}
-use Rattle.std.proofs.lemmas.Bool.Decides.{nat_tests}
 use Rattle.form_urlencoded.specs.Form as form
 use Rattle.feed_identifiers.specs.Text.{trimmed}
 use Rattle.feed_dates.specs.declared.day_range.DayRange.{DayRange}
@@ -13,80 +12,29 @@ use Rattle.feed_kbart.specs.Volumes.{volume_of}
 use Rattle.feed_answer.specs.Limits.{query_limit}
 use Rattle.feed_answer.specs.Pairs.{days_of_pair, first, first_days, first_volume, has_key, is_empty, is_other_version}
 use Rattle.feed_answer.specs.Pairs as core
-use Rattle.feed_answer.specs.Queries.{has_book_format, has_other_format, query_isbns, query_issns, query_of, query_of_pairs}
+use Rattle.feed_answer.specs.Queries.{has_book_format, has_other_format, query_isbns, query_issns, query_of}
 use Rattle.feed_answer.specs.QueryValue.{QueryValue}
 use Rattle.feed_answer.specs.declared.fault.QueryFault.{QueryFault}
 use Rattle.feed_answer.specs.declared.fault.QueryFault.TheVariants.{NoIsbn, NoIssn, OtherFormat, TooLong, Version}
-use Rattle.feed_openurl.proofs.Pairs.{written_parses}
-use Rattle.feed_openurl.proofs.Reading.{core_date_read, core_isbns_read, core_issns_read, core_volume_read, no_date, no_volume, pairs_accepted}
-use Rattle.feed_openurl.proofs.Sizes.{written_length}
 use Rattle.feed_openurl.specs.Core.{core_date, core_isbns, core_issns, core_volume, date_of_pair, is_refused, volume_of_pair}
-use Rattle.feed_openurl.specs.Laws.{AnswersAreKept, KeepsAnswer, WrittenIsAccepted, WrittenIsItself}
+use Rattle.feed_openurl.specs.Laws.{AnswersAreKept, KeepsAnswer}
 use Rattle.feed_openurl.specs.Texts.{date_text_of, volume_text_of}
-use Rattle.feed_openurl.specs.Tiers.{IsChosen, IsDateOf, IsVolumeOf}
-use Rattle.feed_openurl.specs.Values.{AreUnderstood, IsCounted, IsUnderstood, IsWellFormed, UnderstandingValue, count, identifier_limit}
-use Rattle.feed_openurl.specs.Written.{asked, pairs_for, written, written_of}
-use Rattle.feed_openurl.specs.declared.fault.Refusal.{Refusal}
-use Rattle.feed_openurl.specs.declared.key.Tier.TheVariants.{Rft, Old}
-
--- what is written is accepted
-
-within : (m n : ℕ) → m ≤ n → nat_lt n m ≡ false
-within m n e = grind (arith, nat_tests)
-
-short_accepted : (text : List ℕ) (pairs : List (List ℕ × List ℕ)) (q : QueryValue) → length text ≤ query_limit → form.parse text ≡ pairs → query_of_pairs pairs ≡ Ok q → query_of text ≡ Ok q
-unfolding query_of
-short_accepted text pairs q short parsed read =
-    ap (λ long. if long then Err TooLong else query_of_pairs (form.parse text)) (within (length text) query_limit short)
-    ∙ ap query_of_pairs parsed ∙ read
-
-counted : (issns isbns : List (List ℕ)) (refusal : Option Refusal) → refusal ≡ None → IsCounted issns isbns refusal
-    → (0 < count issns isbns) × (count issns isbns ≤ identifier_limit)
-counted issns isbns None none some = some
-counted issns isbns (Some refusal) none some = absurd (cc)
-
-pub written_accepted : WrittenIsAccepted
-written_accepted u valid none =
-    let some = counted u.issns u.isbns u.refusal none valid.counted in
-    short_accepted (written u) (pairs_for u.issns u.isbns u.date u.volume) (asked u)
-    (written_length u valid some.1) (written_parses u valid) (pairs_accepted u valid some.0)
-
--- what is written is understood as itself
-
--- a value that is chosen is the core's, and is absent if the keys are
-chosen : (core rft old value : Option (List ℕ)) (has_rft has_old : Bool) (wanted : Option (List ℕ)) → IsChosen core rft has_rft old has_old value
-    → core ≡ wanted → (wanted ≡ None → has_rft ≡ false) → (wanted ≡ None → has_old ≡ false) → value ≡ wanted
-chosen None rft old value has_rft has_old None is same no_rft no_old = is.absent refl (no_rft refl) (no_old refl)
-chosen None rft old value has_rft has_old (Some wanted) is same no_rft no_old = absurd (cc)
-chosen (Some text) rft old value has_rft has_old wanted is same no_rft no_old = is.of_core refl ∙ same
-
-understood_alike : (u v : UnderstandingValue) → IsWellFormed u → u.refusal ≡ None → AreUnderstood (pairs_for u.issns u.isbns u.date u.volume) v → written v ≡ written u
-understood_alike u v valid none is =
-    let some = counted u.issns u.isbns u.refusal none valid.counted in
-    let issns = core_issns_read u valid in
-    let isbns = core_isbns_read u valid in
-    let same_count = ap length issns in
-    let other_count = ap length isbns in
-    let kept = is.identifiers.kept (omega (arith, some.0, same_count, other_count)) (omega (arith, some.1, same_count, other_count)) in
-    let same_issns = kept.0 ∙ issns in
-    let same_isbns = kept.1 ∙ isbns in
-    let date = chosen _ _ _ v.date _ _ u.date is.date (core_date_read u valid) (no_date Rft u) (no_date Old u) in
-    let volume = chosen _ _ _ v.volume _ _ u.volume is.volume (core_volume_read u valid) (no_volume Rft u) (no_volume Old u) in
-    ap (λ x. written_of x v.isbns v.date v.volume) same_issns
-    ∙ ap (λ x. written_of u.issns x v.date v.volume) same_isbns
-    ∙ ap (λ x. written_of u.issns u.isbns x v.volume) date
-    ∙ ap (λ x. written_of u.issns u.isbns u.date x) volume
-
-pub written_itself : WrittenIsItself
-written_itself u v valid none is =
-    understood_alike u v valid none (subst (λ pairs. AreUnderstood pairs v) (written_parses u valid) is)
+use Rattle.feed_openurl.specs.Tiers.{IsChosen}
+use Rattle.feed_openurl.specs.Values.{AreUnderstood, UnderstandingValue, count, identifier_limit}
 
 -- what the core answers is kept
 
 hyphens_again : (text : List ℕ) → with_hyphens (with_hyphens text) ≡ with_hyphens text
+hyphens_again [] = refl
+hyphens_again (a ∷ []) = refl
+hyphens_again (a ∷ b ∷ []) = refl
+hyphens_again (a ∷ b ∷ c ∷ []) = refl
+hyphens_again (a ∷ b ∷ c ∷ d ∷ []) = refl
+hyphens_again (a ∷ b ∷ c ∷ d ∷ e ∷ []) = refl
 hyphens_again (a ∷ b ∷ c ∷ d ∷ e ∷ f ∷ []) = refl
+hyphens_again (a ∷ b ∷ c ∷ d ∷ e ∷ f ∷ g ∷ []) = refl
 hyphens_again (a ∷ b ∷ c ∷ d ∷ e ∷ f ∷ g ∷ h ∷ []) = refl
-hyphens_again _ = refl
+hyphens_again (a ∷ b ∷ c ∷ d ∷ e ∷ f ∷ g ∷ h ∷ i ∷ text) = refl
 
 -- the first date, as a text, has the days of the first date
 step_days : (value : List ℕ) (days : Option DayRange) (texts : List (List ℕ)) (others : List DayRange) → query_days_of value ≡ days

@@ -6,8 +6,7 @@ use Rattle.feed_kbart.specs.Volumes.{volume_of}
 use Rattle.std.specs.Option.{option_and_then}
 use Rattle.feed_answer.specs.Queries.{query_of}
 use Rattle.feed_answer.specs.QueryValue.{QueryValue}
-use Rattle.feed_openurl.specs.Values.{IsUnderstood, IsWellFormed, UnderstandingValue, count, identifier_limit}
-use Rattle.feed_openurl.specs.Written.{asked, written}
+use Rattle.feed_openurl.specs.Values.{IsUnderstood, UnderstandingValue, count, identifier_limit}
 
 -- a query that the core answers keeps its identifiers, its days and its volume
 pub record KeepsAnswer (q : QueryValue) (u : UnderstandingValue) : Type 0 where
@@ -21,12 +20,3 @@ pub record KeepsAnswer (q : QueryValue) (u : UnderstandingValue) : Type 0 where
 abbrev pub AnswersAreKept : Type 0
 AnswersAreKept = (text : List ℕ) (q : QueryValue) (u : UnderstandingValue)
     → query_of text ≡ Ok q → count q.issns q.isbns ≤ identifier_limit → IsUnderstood text u → KeepsAnswer q u
-
--- the core answers what is written, and reads exactly what was understood
-abbrev pub WrittenIsAccepted : Type 0
-WrittenIsAccepted = (u : UnderstandingValue) → IsWellFormed u → u.refusal ≡ None → query_of (written u) ≡ Ok (asked u)
-
--- what is written is understood as itself
-abbrev pub WrittenIsItself : Type 0
-WrittenIsItself = (u v : UnderstandingValue)
-    → IsWellFormed u → u.refusal ≡ None → IsUnderstood (written u) v → written v ≡ written u

@@ -1,10 +1,6 @@
 -- The OpenURL 1.0 query of a query that is understood (Z39.88-2004, key/value format).
 use Rattle.std.specs.Prelude.{ℕ, List, [], ◌∷◌, ◌++◌, map, Option, Some, None, codes}
-use Rattle.std.specs.Option.{option_and_then}
 use Rattle.form_urlencoded.specs.Form as form
-use Rattle.feed_dates.specs.DayRanges.{query_days_of}
-use Rattle.feed_kbart.specs.Volumes.{volume_of}
-use Rattle.feed_answer.specs.QueryValue.{QueryValue}
 use Rattle.feed_openurl.specs.Values.{UnderstandingValue}
 
 -- a pair with this key
@@ -40,12 +36,3 @@ written_of issns isbns date volume = form.extend_pairs [] (pairs_for issns isbns
 -- the text of the query for what is understood
 abbrev pub written : UnderstandingValue → List ℕ
 written u = written_of u.issns u.isbns u.date u.volume
-
--- what the core is asked
-abbrev pub asked : UnderstandingValue → QueryValue
-asked u = record {
-  issns = u.issns;
-  isbns = u.isbns;
-  days = option_and_then query_days_of u.date;
-  volume = option_and_then volume_of u.volume;
-}

@@ -1,5 +1,0 @@
-use Rattle.feed_openurl.proofs.Kept.{written_accepted}
-use Rattle.feed_openurl.proofs.laws.written_is_accepted.Goals as goal
-
-pub returns : goal.returns
-returns c = written_accepted
