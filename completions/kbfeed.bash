@@ -1,6 +1,6 @@
 # Completion of kbfeed for bash. Paths are left to readline, which knows of quotes, spaces and ~.
 _kbfeed() {
-  local commands='replay check answer serve node fetch ask status why help'
+  local commands='replay check answer openurl serve node fetch ask status why help'
   local word=${COMP_WORDS[COMP_CWORD]} has_options=yes command= places=0 options= index
   COMPREPLY=()
   case ${COMP_WORDS[COMP_CWORD - 1]} in '<' | '>' | '>>' | --token) compopt -o default; return ;; esac
@@ -21,6 +21,7 @@ _kbfeed() {
   case $command in
     '') options='-h --help -V --version -v --verbose' ;;
     check) options='-h --help -v --verbose --name --strict --summary --explain --json' ;;
+    openurl) options='-h --help -v --verbose --json' ;;
     serve) options='-h --help -v --verbose --count --timeout' ;;
     node) options='-h --help -v --verbose --check --from --token --piece --clients --timeout --idle' ;;
     fetch) options='-h --help -v --verbose --piece --timeout' ;;

@@ -37,6 +37,7 @@ set -l is_command '__kbfeed_at /0 help/0'
 complete -c kbfeed -n $is_command -a replay -d 'Replays a script of published files and nodes'
 complete -c kbfeed -n $is_command -a check -d 'Checks holdings lists'
 complete -c kbfeed -n $is_command -a answer -d 'Answers a query from a holdings list'
+complete -c kbfeed -n $is_command -a openurl -d 'Prints how an OpenURL query is understood'
 complete -c kbfeed -n $is_command -a serve -d 'Serves a folder of releases over HTTP'
 complete -c kbfeed -n $is_command -a node -d 'Answers readers over HTTP from the database of a node'
 complete -c kbfeed -n $is_command -a fetch -d 'Fetches a release into the database of a node'
@@ -59,6 +60,7 @@ complete -c kbfeed -n $check -l explain -d 'Prints the line, the title and the r
 complete -c kbfeed -n $check -l json -d 'Prints a JSON object for each file'
 
 complete -c kbfeed -n '__kbfeed_at answer/0 node/0 fetch/0 ask/0 status/0 why/0' -F
+complete -c kbfeed -n '__kbfeed_at "openurl/*"' -l json -d 'Prints a JSON object'
 complete -c kbfeed -n '__kbfeed_at serve/0' -a '(__fish_complete_directories)'
 complete -c kbfeed -n '__kbfeed_at "serve/*"' -x -l count -d 'How many connections to serve'
 complete -c kbfeed -n '__kbfeed_at "node/*"' -l check -d 'Opens all that the node needs, prints ok, and ends'

@@ -1,7 +1,7 @@
 //! The commands of the program with their arguments: a table, and the loop that builds clap's command from it.
 use crate::helps::{
-    ANSWER_HELP, ASK_HELP, CHECK_HELP, FETCH_HELP, NODE_HELP, REPLAY_HELP, SERVE_HELP, STATUS_HELP,
-    WHY_HELP,
+    ANSWER_HELP, ASK_HELP, CHECK_HELP, FETCH_HELP, NODE_HELP, OPENURL_HELP, REPLAY_HELP,
+    SERVE_HELP, STATUS_HELP, WHY_HELP,
 };
 use clap::builder::ValueParser;
 use clap::{Arg, ArgAction, Command};
@@ -17,6 +17,7 @@ enum Subcommand {
     Replay,
     Check,
     Answer,
+    Openurl,
     Serve,
     Node,
     Fetch,
@@ -151,6 +152,19 @@ static ANSWER: [Argument; 2] = [
     QUERY,
 ];
 
+static OPENURL: [Argument; 2] = [
+    Argument {
+        id: "QUERY",
+        kind: Kind::Positional,
+        help: "An OpenURL query of any form, as issn=2434561x&date=20010315",
+    },
+    Argument {
+        id: "json",
+        kind: Kind::Flag { excludes: &[] },
+        help: "Prints a JSON object",
+    },
+];
+
 static SERVE: [Argument; 4] = [
     Argument {
         id: "DIR",
@@ -251,10 +265,11 @@ static STATUS: [Argument; 1] = [DATABASE];
 static WHY: [Argument; 2] = [DATABASE, RELEASE];
 
 // The commands with their names, in the order of the help.
-const SUBCOMMANDS: [(&str, Subcommand); 9] = [
+const SUBCOMMANDS: [(&str, Subcommand); 10] = [
     ("replay", Subcommand::Replay),
     ("check", Subcommand::Check),
     ("answer", Subcommand::Answer),
+    ("openurl", Subcommand::Openurl),
     ("serve", Subcommand::Serve),
     ("node", Subcommand::Node),
     ("fetch", Subcommand::Fetch),
@@ -269,6 +284,7 @@ impl Subcommand {
             Subcommand::Replay => "Replays a script of published files and nodes",
             Subcommand::Check => "Checks holdings lists",
             Subcommand::Answer => "Answers a query from a holdings list",
+            Subcommand::Openurl => "Prints how an OpenURL query is understood",
             Subcommand::Serve => "Serves a folder of releases over HTTP",
             Subcommand::Node => "Answers readers over HTTP from the database of a node",
             Subcommand::Fetch => "Fetches a release into the database of a node",
@@ -283,6 +299,7 @@ impl Subcommand {
             Subcommand::Replay => REPLAY_HELP,
             Subcommand::Check => CHECK_HELP,
             Subcommand::Answer => ANSWER_HELP,
+            Subcommand::Openurl => OPENURL_HELP,
             Subcommand::Serve => SERVE_HELP,
             Subcommand::Node => NODE_HELP,
             Subcommand::Fetch => FETCH_HELP,
@@ -297,6 +314,7 @@ impl Subcommand {
             Subcommand::Replay => &[],
             Subcommand::Check => &CHECK,
             Subcommand::Answer => &ANSWER,
+            Subcommand::Openurl => &OPENURL,
             Subcommand::Serve => &SERVE,
             Subcommand::Node => &NODE,
             Subcommand::Fetch => &FETCH,

@@ -1,11 +1,13 @@
-//! The commands of kbfeed that work on files: `check`, `answer` and `serve`.
+//! The commands of kbfeed that need no database: `check`, `answer` and `serve` on files, and `openurl` on a query.
 #![tactic(auto)]
 
 mod answer;
 mod check;
 mod folder;
+mod openurl;
 mod serve;
 
 pub use answer::answer_file;
 pub use check::{Check, check_files};
+pub use openurl::explain_query;
 pub use serve::serve_folder;

@@ -5,7 +5,7 @@ use feed_cli::{Request, Source, parse};
 use feed_command::{FAILED, Faults, MISUSED, take_stack};
 use feed_database::run_at;
 use feed_database_commands::DatabaseCommand;
-use feed_file_commands::{Check, answer_file, check_files, serve_folder};
+use feed_file_commands::{Check, answer_file, check_files, explain_query, serve_folder};
 use feed_node_commands::{Command, Upstream};
 use feed_replay::replay_input;
 use std::io;
@@ -77,6 +77,9 @@ fn run_request<O: Write, F: Write + Drop>(
             return check_files(rt, &files, check, out, faults);
         }
         Request::Answer { file, query } => return answer_file(rt, file, query, out, faults),
+        Request::Openurl { query, is_json } => {
+            return explain_query(rt, query, is_json, out, faults);
+        }
         Request::Serve { dir, addr, options } => {
             return serve_folder(rt, dir, addr, options.count, options.time, out, faults);
         }

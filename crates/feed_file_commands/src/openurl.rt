@@ -1,0 +1,222 @@
+//! `kbfeed openurl`: how a query is understood, in lines or as JSON.
+use feed_command::{DONE, FAILED, Faults, REFUSED};
+use feed_openurl::{Citation, Dropped, Refusal, Understanding, dropped_keys};
+use std::alloc::{AllocError, Global};
+use std::io;
+use std::io::{ErrorKind, Write};
+
+// A query with how it is understood, the query that asks the core for the same, and the keys that nobody reads.
+#[derive(Drop)]
+struct Reading {
+    understood: Understanding,
+    written: Vec<u8>,
+    dropped: Vec<Dropped>,
+}
+
+/// Prints how a query is understood: its citation, what of it is looked up, the query that asks for that, and the keys
+/// that nobody reads. Returns the exit status: 1 for a query with nothing to look up, whose reason is reported, 3 for a
+/// failing print and for running out of memory.
+pub fn explain_query<O: Write, F: Write + Drop>(
+    rt: &HostRuntime,
+    query: &str,
+    is_json: bool,
+    out: &mut O,
+    faults: &mut Faults<F>,
+) -> u8 {
+    let Ok(reading) = read(rt.alloc(), query) else {
+        return faults.report("Memory", FAILED);
+    };
+    let printed = if is_json {
+        print_json(rt.alloc(), &reading, out)
+    } else {
+        print_lines(&reading, out)
+    };
+    if printed.is_err() {
+        return faults.report_unprinted(out);
+    }
+    let status = faults.check_print(out.flush(), DONE);
+    match reading.understood.refusal() {
+        Some(refusal) if status == DONE => {
+            faults.report_with(refusal, query, cause_of(refusal), REFUSED)
+        }
+        _ => status,
+    }
+}
+
+fn read(alloc: Global, query: &str) -> Result<Reading, AllocError> {
+    let Ok(understood) = Understanding::read(alloc, query.as_bytes()) else {
+        return Err(AllocError);
+    };
+    let written = understood.write(alloc)?;
+    let dropped = dropped_keys(alloc, query.as_bytes())?;
+    Ok(Reading {
+        understood,
+        written,
+        dropped,
+    })
+}
+
+// Returns why a query has nothing to look up.
+fn cause_of(refusal: Refusal) -> &'static str {
+    match refusal {
+        Refusal::Version => "url_ver and ctx_ver are Z39.88-2004",
+        Refusal::OtherFormat => "rft_val_fmt is that of journals or that of books",
+        Refusal::NoIssn => "no value has an ISSN or an ISBN with its check digit",
+        Refusal::NoIsbn => "no value has an ISBN or an ISSN with its check digit",
+        Refusal::TooMany => "a query has at most 64 ISSNs and ISBNs",
+    }
+}
+
+// Prints a label and a value in a line.
+fn print_line<O: Write>(out: &mut O, label: &str, value: &[u8]) -> io::Result<()> {
+    out.write_all(label.as_bytes())?;
+    out.write_all(b" ")?;
+    out.write_all(value)?;
+    out.write_all(b"\n")
+}
+
+// Prints a line for a part of a citation, unless it is absent.
+fn print_part<O: Write>(out: &mut O, label: &str, value: &String) -> io::Result<()> {
+    if value.is_empty() {
+        return Ok(());
+    }
+    print_line(out, label, value.as_bytes())
+}
+
+fn print_lines<O: Write>(reading: &Reading, out: &mut O) -> io::Result<()> {
+    let understood = &reading.understood;
+    for issn in understood.issns() {
+        print_line(out, "issn", &issn.text())?;
+    }
+    for isbn in understood.isbns() {
+        print_line(out, "isbn", &isbn.text())?;
+    }
+    print_date(understood, out)?;
+    print_volume(understood, out)?;
+    print_citation(understood.citation(), out)?;
+    if understood.refusal().is_none() {
+        print_line(out, "query", &reading.written)?;
+    }
+    for dropped in &reading.dropped {
+        let key = dropped.key.as_str();
+        let count = dropped.count;
+        writeln!(out, "dropped {key} {count} times")?;
+    }
+    Ok(())
+}
+
+// Prints the date, or the text of which no date is read.
+fn print_date<O: Write>(understood: &Understanding, out: &mut O) -> io::Result<()> {
+    match understood.date() {
+        Some(date) => print_line(out, "date", date),
+        None => print_part(out, "unread date", &understood.citation().date),
+    }
+}
+
+// Prints the volume, or the text of which no volume is read.
+fn print_volume<O: Write>(understood: &Understanding, out: &mut O) -> io::Result<()> {
+    match understood.volume() {
+        Some(volume) => print_line(out, "volume", volume),
+        None => print_part(out, "unread volume", &understood.citation().volume),
+    }
+}
+
+fn print_citation<O: Write>(citation: &Citation, out: &mut O) -> io::Result<()> {
+    print_part(out, "issue", &citation.issue)?;
+    print_part(out, "page", &citation.page)?;
+    print_part(out, "article", &citation.article)?;
+    print_part(out, "title", &citation.title)?;
+    print_part(out, "author", &citation.author)?;
+    print_part(out, "doi", &citation.doi)?;
+    print_part(out, "pmid", &citation.pmid)
+}
+
+// Writes a text as a JSON string.
+fn write_text<O: Write>(alloc: Global, out: &mut O, text: &[u8]) -> io::Result<()> {
+    let text = str::from_utf8(text).unwrap_or("");
+    match serde_json::to_vec(alloc, &text) {
+        Ok(quoted) => out.write_all(&quoted),
+        Err(_) => Err(io::Error::from(ErrorKind::OutOfMemory)),
+    }
+}
+
+// Writes a member of an object, with a comma before it unless it is the first.
+fn write_member<O: Write>(alloc: Global, out: &mut O, name: &str, value: &[u8]) -> io::Result<()> {
+    write!(out, ",\"{name}\":")?;
+    write_text(alloc, out, value)
+}
+
+// Writes one object on a line. A member that is absent is an empty text or an empty list.
+fn print_json<O: Write>(alloc: Global, reading: &Reading, out: &mut O) -> io::Result<()> {
+    write_identifiers(&reading.understood, out)?;
+    write_values(alloc, reading, out)?;
+    write_citation(alloc, reading.understood.citation(), out)?;
+    write_dropped(alloc, &reading.dropped, out)?;
+    out.write_all(b"}\n")
+}
+
+fn write_identifiers<O: Write>(understood: &Understanding, out: &mut O) -> io::Result<()> {
+    out.write_all(b"{\"issns\":[")?;
+    for (place, issn) in understood.issns().iter().enumerate() {
+        write_quoted(out, place, &issn.text())?;
+    }
+    out.write_all(b"],\"isbns\":[")?;
+    for (place, isbn) in understood.isbns().iter().enumerate() {
+        write_quoted(out, place, &isbn.text())?;
+    }
+    out.write_all(b"]")
+}
+
+// Writes an element of a list that needs no escapes.
+fn write_quoted<O: Write>(out: &mut O, place: usize, text: &[u8]) -> io::Result<()> {
+    let front: &[u8] = if place == 0 { b"\"" } else { b",\"" };
+    out.write_all(front)?;
+    out.write_all(text)?;
+    out.write_all(b"\"")
+}
+
+fn write_values<O: Write>(alloc: Global, reading: &Reading, out: &mut O) -> io::Result<()> {
+    let understood = &reading.understood;
+    match understood.date() {
+        Some(date) => write_member(alloc, out, "date", date)?,
+        None => write_member(alloc, out, "date", b"")?,
+    }
+    match understood.volume() {
+        Some(volume) => write_member(alloc, out, "volume", volume)?,
+        None => write_member(alloc, out, "volume", b"")?,
+    }
+    match understood.refusal() {
+        Some(refusal) => write!(out, ",\"refused\":\"{refusal}\",\"query\":\"\""),
+        None => {
+            out.write_all(b",\"refused\":\"\"")?;
+            write_member(alloc, out, "query", &reading.written)
+        }
+    }
+}
+
+fn write_citation<O: Write>(alloc: Global, citation: &Citation, out: &mut O) -> io::Result<()> {
+    out.write_all(b",\"citation\":{\"article\":")?;
+    write_text(alloc, out, citation.article.as_bytes())?;
+    write_member(alloc, out, "title", citation.title.as_bytes())?;
+    write_member(alloc, out, "author", citation.author.as_bytes())?;
+    write_member(alloc, out, "date", citation.date.as_bytes())?;
+    write_member(alloc, out, "volume", citation.volume.as_bytes())?;
+    write_member(alloc, out, "issue", citation.issue.as_bytes())?;
+    write_member(alloc, out, "page", citation.page.as_bytes())?;
+    write_member(alloc, out, "doi", citation.doi.as_bytes())?;
+    write_member(alloc, out, "pmid", citation.pmid.as_bytes())?;
+    out.write_all(b"}")
+}
+
+fn write_dropped<O: Write>(alloc: Global, dropped: &[Dropped], out: &mut O) -> io::Result<()> {
+    out.write_all(b",\"dropped\":[")?;
+    let mut front: &[u8] = b"{\"key\":";
+    for one in dropped {
+        out.write_all(front)?;
+        front = b",{\"key\":";
+        write_text(alloc, out, one.key.as_bytes())?;
+        let count = one.count;
+        write!(out, ",\"times\":{count}}}")?;
+    }
+    out.write_all(b"]")
+}

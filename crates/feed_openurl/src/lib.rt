@@ -1,0 +1,35 @@
+//! Understands the OpenURLs that real sources send: the citation of a query, and the query for the core that it stands
+//! for (ANSI/NISO Z39.88-2004, and OpenURL 0.1 before it).
+//!
+//! `Understanding::read` reads a query in any of these forms, and `Understanding::write` writes the OpenURL 1.0 query
+//! that `feed_answer` reads.
+#![tactic(auto)]
+
+mod citation;
+mod collect;
+mod date;
+mod dates;
+mod decode;
+mod digits;
+mod dropped;
+mod fault;
+mod identifiers;
+mod key;
+mod kind;
+mod laws;
+mod lenient_date;
+mod links;
+mod numbers;
+mod pair;
+mod plain;
+mod tokens;
+mod understanding;
+mod volume;
+mod volumes;
+mod writing;
+
+pub use crate::citation::Citation;
+pub use crate::dropped::{Dropped, dropped_keys};
+pub use crate::fault::{ReadFault, Refusal};
+pub use crate::laws::answers_are_kept;
+pub use crate::understanding::{IDENTIFIER_LIMIT, Understanding};
