@@ -19,7 +19,11 @@ impl SqlKeep<FileStore<File>> {
     ///
     /// Returns `NotOurs` if SQLite rejects the file or its tables are not those of a keeper, and `Device` if another
     /// process has it open.
-    pub fn open_file(rt: &HostRuntime, path: &str) -> Result<SqlKeep<FileStore<File>>, StoreFault> {
+    pub fn open_file(rt: &HostRuntime, path: &str) -> Result<SqlKeep<FileStore<File>>, StoreFault>
+        ensures opened { IfOk result (λ keep.
+            IsOpenedAs (image_at ⟦<Unknown as Start>⟧) keep.0 keep.1.1) }
+        ensures fresh { IfOk result (λ keep. (keep.1.0 ≡ 0) × (keep.1.2 ≡ 0)) }
+    {
         SqlKeep::open_from(rt, path, Unknown)
     }
 }
@@ -33,7 +37,7 @@ impl<S: Start> SqlKeep<FileStore<FileFrom<S>>> {
     ) -> Result<SqlKeep<FileStore<FileFrom<S>>>, StoreFault>
         ensures opened { IfOk result (λ keep.
             IsOpenedAs (image_at S.Start) keep.0 keep.1.1) }
-        ensures fresh { IfOk result (λ keep. keep.1.0 ≡ 0) }
+        ensures fresh { IfOk result (λ keep. (keep.1.0 ≡ 0) × (keep.1.2 ≡ 0)) }
     {
         match Connection::open_from(rt, path, false, start) {
             Ok(conn) => SqlKeep::adopt_file(rt.alloc(), conn),
@@ -51,7 +55,7 @@ impl<D: Disk + Drop> SqlKeep<FileStore<D>> {
     ) -> Result<SqlKeep<FileStore<D>>, StoreFault>
         requires { conn.in_transaction ≡ false }
         ensures adopted { IfOk result (λ keep. IsAdoptedFile conn keep.0 keep.1.1) }
-        ensures fresh { IfOk result (λ keep. keep.1.0 ≡ 0) }
+        ensures fresh { IfOk result (λ keep. (keep.1.0 ≡ 0) × (keep.1.2 ≡ 0)) }
     {
         match SqlKeep::adopt(alloc, conn) {
             Ok(keep) => Ok(keep),

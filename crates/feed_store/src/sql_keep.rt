@@ -58,7 +58,7 @@ impl<S: Alter> SqlKeep<S> {
         ensures prepared { IfOk result (λ keep. IsLive (state S.Store keep.0) → IsPrepared S.Store conn keep.0) }
         ensures cause { IfErr result (λ fault. fault.cause ≡ StoreFault.NotOurs
             → IsLive (state S.Store fault.connection) → IsRefused (state S.Store conn).now) }
-        ensures fresh { IfOk result (λ keep. keep.1.0 ≡ 0) }
+        ensures fresh { IfOk result (λ keep. (keep.1.0 ≡ 0) × (keep.1.2 ≡ 0)) }
         ensures refused { IfErr result (λ fault. fault.connection.in_transaction ≡ false) }
         ensures neither { IfErr result (λ fault. IsLive (state S.Store fault.connection)
             → (state S.Store fault.connection).now ≡ (state S.Store conn).now) }
