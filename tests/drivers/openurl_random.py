@@ -1,11 +1,13 @@
 #!/usr/bin/env python3
-"""Holds random queries against the core: what it reads of a query is what is understood of it.
+"""Holds the queries that are written of random ones against what reads them.
 
-openurl_random.py COUNT SEED
+openurl_random.py COUNT SEED LIST
 
-Makes queries of the keys of OpenURL 1.0 and 0.1, alone and mixed, with values that the core reads and others. Runs
-feed_test_openurl on each, and on the query that is written of each. Prints each breach of a law, and then the number of
-queries. Fails if the core answers fewer than one in twenty of them, or if fewer are answered only as understood."""
+Makes queries of the keys of OpenURL 1.0 and 0.1, alone and mixed, with values that `kbfeed answer` reads and others.
+What `kbfeed openurl` writes of each has to be accepted by `kbfeed answer` with the list, and understood as itself.
+Prints each breach, and then the number of queries. Fails if fewer than one in twenty of them are answered as they are,
+or only as they are understood."""
+import json
 import random
 import subprocess
 import sys
@@ -41,37 +43,32 @@ def query_of(rng):
     return rng.choice(["&", "&", "&&", "&amp;"]).join(pairs)
 
 
-def run(lines):
-    text = "".join(line + "\n" for line in lines)
-    ran = subprocess.run(["feed_test_openurl"], input=text, capture_output=True, text=True, check=True)
-    return [line.split("\t") for line in ran.stdout.splitlines()]
+def understood(query):
+    ran = subprocess.run(["kbfeed", "openurl", "--json", query], capture_output=True, text=True, check=False)
+    return json.loads(ran.stdout)
+
+
+def is_answered(query):
+    words = ["kbfeed", "answer", sys.argv[3], query]
+    return subprocess.run(words, capture_output=True, check=False).returncode == 0
 
 
 count, seed = int(sys.argv[1]), int(sys.argv[2])
 rng = random.Random(seed)
-queries = [query_of(rng) for _ in range(count)]
-read = run("read " + query for query in queries)
-core = run("core " + query for query in queries)
-written = [fields[-1] for fields in read]
-again = run("read " + query for query in written)
-asked = run("core " + query for query in written)
 answered = only = 0
-for place, query in enumerate(queries):
-    breaches = []
-    is_refused = read[place][3] != "none"
-    if not core[place][0].startswith("refused"):
-        answered += 1
-        if is_refused or asked[place][0] != core[place][0]:
-            breaches.append("identifiers")
-        for meaning in (1, 2):
-            if core[place][meaning] not in ("none", asked[place][meaning]):
-                breaches.append(("days", "volume")[meaning - 1])
-    elif not is_refused:
-        only += 1
-    if not is_refused and (asked[place][0] != read[place][0] or again[place][-1] != written[place]):
-        breaches.append("written")
-    for breach in breaches:
-        print(breach, query)
+for query in [query_of(rng) for _ in range(count)]:
+    read = understood(query)
+    is_plain = is_answered(query)
+    answered += is_plain
+    if read["refused"]:
+        if is_plain:
+            print("refused", query)
+        continue
+    only += not is_plain
+    if not is_answered(read["query"]):
+        print("not accepted", query)
+    if understood(read["query"])["query"] != read["query"]:
+        print("not itself", query)
 if min(answered, only) * 20 < count:
-    sys.exit(f"{answered} answered by the core, {only} only as they are understood")
+    sys.exit(f"{answered} answered as they are, {only} only as they are understood")
 print(f"{count} queries")
