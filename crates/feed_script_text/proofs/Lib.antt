@@ -1,2 +1,1 @@
 pub mod EscapedTexts
-pub mod Digits
