@@ -1,13 +1,17 @@
 -- Laws of queries and grades.
 use Rattle.std.specs.Prelude.{◌≡◌, ◌↔◌, ℕ, List, Option, Some, None, true, ℤ, ◌≤ℤ◌}
 use Rattle.feed_dates.specs.declared.day_range.DayRange.{DayRange}
-use Rattle.feed_answer.specs.IdentifierSet.{is_among, identifier_set}
+use Rattle.feed_answer.specs.IdentifierSet.{IsAscending, is_among, identifier_set}
 use Rattle.feed_answer.specs.Grades.{has_begun_by, has_not_ended_before, tested_days}
 use Rattle.feed_answer.specs.declared.grade.Grade.TheVariants.{Inside}
 
 -- the set of a list's identifiers has each identifier of the list, and no other
 abbrev pub SetHasExactlyItsIdentifiers : Type 0
 SetHasExactlyItsIdentifiers = (identifiers : List (List ℕ)) (one : List ℕ) → is_among one (identifier_set identifiers) ≡ is_among one identifiers
+
+-- the set of a list's identifiers ascends, so it has each once
+abbrev pub SetsAscend : Type 0
+SetsAscend = (identifiers : List (List ℕ)) → IsAscending (identifier_set identifiers)
 
 -- a day is covered from a first day to a last; a missing side is open
 pub record IsCovered (first last : Option ℤ) (day : ℤ) : Type 0 where

@@ -30,9 +30,9 @@ fn unescape(alloc: Global, text: &[u8]) -> Result<Vec<u8>, AllocError>
     Ok(bytes)
 }
 
-// Decodes a key or a value: `+` is a space, and `%` with two hexadecimal digits is a byte. Any other `%` is
-// itself. A text that has neither is borrowed.
-fn decode(alloc: Global, text: &[u8]) -> Result<CowSlice<'_, u8, Global>, AllocError>
+/// Decodes a key or a value: `+` is a space, and `%` with two hexadecimal digits is a byte. Any other `%` is
+/// itself. A text that has neither is borrowed.
+pub fn decode_text(alloc: Global, text: &[u8]) -> Result<CowSlice<'_, u8, Global>, AllocError>
     ensures { IfOk result (λ v. cow_slice_items v ≡ form.decode text.now) }
 {
     if !text.contains(&b'+') {
@@ -43,13 +43,13 @@ fn decode(alloc: Global, text: &[u8]) -> Result<CowSlice<'_, u8, Global>, AllocE
 }
 
 /// Returns the pairs of a query, in order. Skips empty pieces between `&`. A key without `=` has the empty value.
-pub(crate) fn decode_pairs(alloc: Global, text: &[u8]) -> Result<Vec<Pair<'_>>, AllocError>
+pub fn decode_pairs(alloc: Global, text: &[u8]) -> Result<Vec<Pair<'_>>, AllocError>
     ensures { IfOk result (λ pairs. pairs.items ≡ form.parse text.now) }
 {
     let mut pairs = Vec::new(alloc);
     for (key, value) in raw_pairs(text) {
-        let key = decode(alloc, key)?;
-        let value = decode(alloc, value)?;
+        let key = decode_text(alloc, key)?;
+        let value = decode_text(alloc, value)?;
         pairs.push(Pair::of(key, value))?;
     }
     Ok(pairs)

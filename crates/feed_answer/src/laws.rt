@@ -1,10 +1,15 @@
 //! Laws of queries and grades, each stated as the contract of a function with an empty body.
-ghost use Rattle.feed_answer.specs.Laws.{GradesFollowDays, SetHasExactlyItsIdentifiers};
+ghost use Rattle.feed_answer.specs.Laws.{GradesFollowDays, SetHasExactlyItsIdentifiers, SetsAscend};
 ghost use Rattle.feed_answer.specs.Serials.{SerialAnswersAreUnchanged};
 
 /// The set of a list's identifiers has each identifier of the list, and no other.
 pub fn set_has_exactly_its_identifiers()
     ensures { SetHasExactlyItsIdentifiers }
+{}
+
+/// The set of a list's identifiers ascends, so it has each once.
+pub fn sets_ascend()
+    ensures { SetsAscend }
 {}
 
 /// By its dates alone, a row does not match exactly if no day asked for is covered, and it is `Inside` exactly if

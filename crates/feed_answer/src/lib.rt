@@ -13,11 +13,13 @@ mod matching;
 mod pair;
 mod query;
 
+pub use crate::decode::{decode_pairs, decode_text};
 pub use crate::fault::{QueryFault, WriteFault};
 pub use crate::grade::Grade;
 pub use crate::hits::{Answer, Hit};
 pub use crate::laws::{
-    grades_follow_days, serial_answers_are_unchanged, set_has_exactly_its_identifiers,
+    grades_follow_days, serial_answers_are_unchanged, set_has_exactly_its_identifiers, sets_ascend,
 };
 pub use crate::matching::answer;
-pub use crate::query::{QUERY_LIMIT, Query};
+pub use crate::pair::{BOOK, JOURNAL, Pair};
+pub use crate::query::{QUERY_LIMIT, Query, has_format, has_other_format, has_other_version};

@@ -13,14 +13,14 @@ use std::marker::Model;
 const VERSION: &str = "Z39.88-2004";
 
 /// The format of journals, as a value of `rft_val_fmt`.
-pub(crate) const JOURNAL: &str = "info:ofi/fmt:kev:mtx:journal";
+pub const JOURNAL: &str = "info:ofi/fmt:kev:mtx:journal";
 
 /// The format of books, as a value of `rft_val_fmt`.
-pub(crate) const BOOK: &str = "info:ofi/fmt:kev:mtx:book";
+pub const BOOK: &str = "info:ofi/fmt:kev:mtx:book";
 
 /// A decoded key and its value. They need not be UTF-8.
 #[derive(Drop)]
-pub(crate) struct Pair<'a> {
+pub struct Pair<'a> {
     key: CowSlice<'a, u8, Global>,
     value: CowSlice<'a, u8, Global>,
 }
@@ -37,14 +37,29 @@ impl<'a> Model for Pair<'a> {
 impl<'a> Pair<'a> {
     ghost use Rattle.std.specs.Cow.{cow_slice_items};
 
-    pub(crate) fn of(key: CowSlice<'a, u8, Global>, value: CowSlice<'a, u8, Global>) -> Pair<'a>
+    /// Returns the pair of a key and a value.
+    pub fn of(key: CowSlice<'a, u8, Global>, value: CowSlice<'a, u8, Global>) -> Pair<'a>
         ensures { result ≡ (cow_slice_items key.entry, cow_slice_items value.entry) }
     {
         Pair { key, value }
     }
 
+    /// Returns the key as it is decoded.
+    pub fn key(&self) -> &[u8]
+        ensures { result.now ≡ self.now.0 }
+    {
+        self.key.as_slice()
+    }
+
+    /// Returns the value as it is decoded.
+    pub fn value(&self) -> &[u8]
+        ensures { result.now ≡ self.now.1 }
+    {
+        self.value.as_slice()
+    }
+
     /// Returns whether the key is this text.
-    pub(crate) fn has_key(&self, key: &str) -> bool
+    pub fn has_key(&self, key: &str) -> bool
         ensures { result ≡ has_key key.now self.now }
     {
         self.key.as_slice() == key.as_bytes()
@@ -59,28 +74,28 @@ impl<'a> Pair<'a> {
     }
 
     /// Returns whether it names another version of the standard.
-    pub(crate) fn is_other_version(&self) -> bool
+    pub fn is_other_version(&self) -> bool
         ensures { result ≡ is_other_version self.now }
     {
         self.is_other("url_ver", VERSION) || self.is_other("ctx_ver", VERSION)
     }
 
     /// Returns whether it names this format.
-    pub(crate) fn has_format(&self, format: &str) -> bool
+    pub fn has_format(&self, format: &str) -> bool
         ensures { result ≡ has_format format.now self.now }
     {
         self.has_key("rft_val_fmt") && self.value.as_slice() == format.as_bytes()
     }
 
     /// Returns whether it names a format other than those of journals and of books.
-    pub(crate) fn is_other_format(&self) -> bool
+    pub fn is_other_format(&self) -> bool
         ensures { result ≡ is_other_format self.now }
     {
         self.is_other("rft_val_fmt", JOURNAL) && self.value.as_slice() != BOOK.as_bytes()
     }
 
     /// Returns the ISSN that it names, if any.
-    pub(crate) fn issn(&self) -> Option<Issn>
+    pub fn issn(&self) -> Option<Issn>
         ensures { result ≡ issn_of_pair self.now }
     {
         if self.has_key("rft.issn") || self.has_key("rft.eissn") {
@@ -93,7 +108,7 @@ impl<'a> Pair<'a> {
     }
 
     /// Returns the ISBN that it names, if any.
-    pub(crate) fn isbn(&self) -> Option<Isbn>
+    pub fn isbn(&self) -> Option<Isbn>
         ensures { result ≡ isbn_of_pair self.now }
     {
         if self.has_key("rft.isbn") {
@@ -104,7 +119,7 @@ impl<'a> Pair<'a> {
     }
 
     /// Returns the days of its date, if it has a valid one.
-    pub(crate) fn days(&self) -> Option<DayRange>
+    pub fn days(&self) -> Option<DayRange>
         ensures { result ≡ days_of_pair self.now }
     {
         if self.has_key("rft.date") {
@@ -115,7 +130,7 @@ impl<'a> Pair<'a> {
     }
 
     /// Returns the number of its volume, if it has a valid one.
-    pub(crate) fn volume(&self) -> Option<u32>
+    pub fn volume(&self) -> Option<u32>
         ensures { result ≡ volume_of_pair self.now }
     {
         if self.has_key("rft.volume") {

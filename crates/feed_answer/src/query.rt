@@ -116,14 +116,15 @@ impl Query {
     }
 }
 
-fn has_other_version(pairs: &[Pair<'_>]) -> bool
+/// Returns whether one of the pairs names another version of the standard.
+pub fn has_other_version(pairs: &[Pair<'_>]) -> bool
     ensures { result ≡ list_any is_other_version pairs.now }
 {
     pairs.iter().any(|pair| pair.is_other_version())
 }
 
-// Returns whether one of the pairs names this format.
-fn has_format(pairs: &[Pair<'_>], format: &str) -> bool
+/// Returns whether one of the pairs names this format.
+pub fn has_format(pairs: &[Pair<'_>], format: &str) -> bool
     ensures { result ≡ list_any (has_format format.now) pairs.now }
 {
     pairs.iter().any(|pair| pair.has_format(format))
@@ -136,7 +137,8 @@ fn has_unsupported_format(pairs: &[Pair<'_>]) -> bool
     pairs.iter().any(|pair| pair.is_other_format())
 }
 
-fn has_other_format(pairs: &[Pair<'_>]) -> bool
+/// Returns whether the pairs name an unsupported format, or both formats.
+pub fn has_other_format(pairs: &[Pair<'_>]) -> bool
     ensures { result ≡ has_other_format pairs.now }
 {
     has_unsupported_format(pairs) || (has_format(pairs, JOURNAL) && has_format(pairs, BOOK))
