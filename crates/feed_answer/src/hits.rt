@@ -58,7 +58,8 @@ impl<'a> Answer<'a> {
     }
 }
 
-fn write_head<W: Write>(out: &mut W, name: &ReleaseName, count: usize) -> io::Result<()>
+/// Writes the line before the hits of a release: `release NAME hits COUNT`.
+pub fn write_head<W: Write>(out: &mut W, name: &ReleaseName, count: usize) -> io::Result<()>
     ensures { OnOk result (Appends (W.contents out.old) (W.contents out.new) (head_line (text_of name.now) count)) }
 {
     out.write_all(b"release ")?;
@@ -73,7 +74,8 @@ fn write_text<W: Write>(out: &mut W, text: &[u8]) -> io::Result<()>
     out.write_all(text)
 }
 
-fn write_hit<W: Write>(out: &mut W, row: &Row, grade: Grade) -> io::Result<()>
+/// Writes the line of a hit, as `Answer::write` does.
+pub fn write_hit<W: Write>(out: &mut W, row: &Row, grade: Grade) -> io::Result<()>
     ensures { OnOk result (Appends (W.contents out.old) (W.contents out.new)
         (hit_line (record { row = row.now; grade = grade }))) }
 {

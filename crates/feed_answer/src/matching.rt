@@ -33,8 +33,8 @@ fn add_isbns(places: &mut Vec<u32>, holdings: &Holdings, isbns: &[Isbn]) -> Resu
     Ok(())
 }
 
-// The places of the rows that have one of the identifiers of a query, ascending and each once.
-fn places_of(alloc: Global, holdings: &Holdings, query: &Query) -> Result<Vec<u32>, AllocError>
+/// Returns the places of the rows that have one of the identifiers of a query, ascending and each once.
+pub fn places_of(alloc: Global, holdings: &Holdings, query: &Query) -> Result<Vec<u32>, AllocError>
     ensures ascending { IfOk result (λ places. IsStrictlyIncreasing places.items) }
     ensures whole { IfOk result (λ places. (place : ℕ) → Contains (places_among query.now holdings.now.rows) place
         → Contains places.items place) }
@@ -47,8 +47,8 @@ fn places_of(alloc: Global, holdings: &Holdings, query: &Query) -> Result<Vec<u3
     Ok(places)
 }
 
-// The row at a place with its grade, if the row exists and matches.
-fn hit_at<'a>(rows: &'a [Row], place: u32, query: &Query) -> Option<Hit<'a>>
+/// Returns the row at a place with its grade, if the row exists and matches.
+pub fn hit_at<'a>(rows: &'a [Row], place: u32, query: &Query) -> Option<Hit<'a>>
     ensures { option_map hit_of result ≡ hit_at query.now rows.now place }
 {
     let row = rows.get(place as usize)?;
