@@ -37,12 +37,13 @@ pub fn parse_query<F: Write + Drop>(
 // Returns why a text is not the name of a release.
 fn cause_of_name(fault: NameFault) -> &'static str {
     match fault {
-        NameFault::BadEnding => "a release's name ends in .txt",
-        NameFault::BadDate => "before .txt stands _ and the date of a real day, as _2024-01-01",
+        NameFault::BadEnding => "the name of a release ends in .txt",
+        NameFault::BadDate =>
+            "_ and the date of a real day come before .txt, as in _2024-01-01.txt",
         NameFault::BadStem => {
-            "before the date stand 1 to 100 letters, digits, -, _ and ., of which the first is no ."
+            "the package before the date has 1 to 100 letters, digits, -, _ and ., and does not begin with ."
         }
-        NameFault::Memory => "there was no memory",
+        NameFault::Memory => "memory ran out",
     }
 }
 
@@ -56,6 +57,6 @@ fn cause_of_query(fault: QueryFault) -> &'static str {
         QueryFault::NoIssn =>
             "no rft.issn, rft.eissn or rft_id has an ISSN with its check digit, and no rft.isbn an ISBN that counts",
         QueryFault::NoIsbn => "no rft.isbn has an ISBN with its check digit",
-        QueryFault::Memory => "there was no memory",
+        QueryFault::Memory => "memory ran out",
     }
 }

@@ -105,7 +105,7 @@ fn print_lines<O: Write>(reading: &Reading, out: &mut O) -> io::Result<()> {
     Ok(())
 }
 
-// Prints the date, or the text of which no date is read.
+// Prints the date, or the text from which no date was read.
 fn print_date<O: Write>(understood: &Understanding, out: &mut O) -> io::Result<()> {
     match understood.date() {
         Some(date) => print_line(out, "date", date),
@@ -113,7 +113,7 @@ fn print_date<O: Write>(understood: &Understanding, out: &mut O) -> io::Result<(
     }
 }
 
-// Prints the volume, or the text of which no volume is read.
+// Prints the volume, or the text from which no volume was read.
 fn print_volume<O: Write>(understood: &Understanding, out: &mut O) -> io::Result<()> {
     match understood.volume() {
         Some(volume) => print_line(out, "volume", volume),
