@@ -1,5 +1,5 @@
 -- The columns of the labels in a header, and the faults of a header.
-use Rattle.std.specs.Prelude.{ℕ, nat_lt, List, [], Option, Some, None, is_none, unwrap_or, count_by, find}
+use Rattle.std.specs.Prelude.{ℕ, nat_lt, Bool, List, [], Option, Some, None, is_none, unwrap_or, count_by, find}
 use Rattle.std.specs.List.{position_from}
 use Rattle.csv.specs.Records.{field_at}
 use Rattle.feed_kbart.specs.Labels.{is_label, required_labels, used_labels}
@@ -40,9 +40,13 @@ columns_of header = record {
 abbrev pub first_missing : List (List ℕ) → Option Label
 first_missing header = find (λ l. is_none (column l header)) required_labels
 
+-- two fields are the label
+abbrev pub is_twice : List (List ℕ) → Label → Bool
+is_twice header label = nat_lt 1 (count_by (is_label label) header)
+
 -- the first label that two fields have
 abbrev pub first_twice : List (List ℕ) → Option Label
-first_twice header = find (λ l. nat_lt 1 (count_by (is_label l) header)) used_labels
+first_twice header = find (is_twice header) used_labels
 
 -- a missing label takes precedence over a repeated one
 abbrev pub bad_labels : Option Label → Option Label → Option BadFile

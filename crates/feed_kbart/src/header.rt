@@ -1,11 +1,12 @@
 //! The header of a file: which column has which label, and what is wrong with it.
 ghost use Rattle.std.specs.Prelude.{◌≡◌, Ok, Err, Some, None, MatchResult, count_by};
+ghost use Rattle.std.specs.List.{find};
 ghost use Rattle.csv.specs.Records.{fields_of};
-ghost use Rattle.feed_kbart.specs.Columns.{bad_header, cell, column, columns_of, first_missing, first_twice};
+ghost use Rattle.feed_kbart.specs.Columns.{bad_header, cell, column, columns_of, first_missing, first_twice, is_twice};
 ghost use Rattle.feed_kbart.specs.Labels.{is_label};
 
 use crate::fault::BadFile;
-use crate::label::{Label, REQUIRED_LABELS, USED};
+use crate::label::{Label, OPTIONAL_LABELS, REQUIRED_LABELS};
 use csv::ByteRecord;
 
 /// The columns of the labels in use, counted from 0.
@@ -65,13 +66,21 @@ fn missing_label(header: &ByteRecord) -> Option<Label>
         .find(|label| column_of(header, *label).is_none())
 }
 
+// The first of the labels that two fields have.
+fn twice_among(header: &ByteRecord, labels: &[Label]) -> Option<Label>
+    ensures { result ≡ find (is_twice (fields_of header.now)) labels.now }
+{
+    labels
+        .iter()
+        .copied()
+        .find(|label| count_of(header, *label) > 1)
+}
+
 // The first label that two fields have.
 fn double_label(header: &ByteRecord) -> Option<Label>
     ensures { result ≡ first_twice (fields_of header.now) }
 {
-    USED.iter()
-        .copied()
-        .find(|label| count_of(header, *label) > 1)
+    twice_among(header, &REQUIRED_LABELS).or(twice_among(header, &OPTIONAL_LABELS))
 }
 
 /// Returns the field in a column. It is empty if the record is short or the column is absent.

@@ -35,16 +35,8 @@ pub const REQUIRED_LABELS: [Label; 8] = [
     Label::TitleUrl,
 ];
 
-/// The labels in use, in order.
-pub(crate) const USED: [Label; 13] = [
-    Label::PublicationTitle,
-    Label::PrintIdentifier,
-    Label::OnlineIdentifier,
-    Label::DateFirstIssueOnline,
-    Label::NumFirstVolOnline,
-    Label::DateLastIssueOnline,
-    Label::NumLastVolOnline,
-    Label::TitleUrl,
+/// The labels that a file may have as well, in order.
+pub(crate) const OPTIONAL_LABELS: [Label; 5] = [
     Label::TitleId,
     Label::EmbargoInfo,
     Label::CoverageDepth,

@@ -1,10 +1,13 @@
 -- The parts that a piece meets, from a place on.
-use Rattle.std.proofs.Common.{◌≡◌, ◌<◌, ◌≤◌, ◌⊎◌, inl, inr, max, ℕ, List, [], ◌∷◌, None, IsSome, All, sym, ◌∙◌, arith}
+use Rattle.std.proofs.Common.{◌≡◌, ◌<◌, ◌≤◌, ◌+◌, ◌⊎◌, inl, inr, max, ℕ, List, [], ◌∷◌, None, IsSome, All, length, get_or, drop, sym, subst, ◌∙◌, arith}
 use Rattle.std.proofs.lemmas.Bool.{cases_lt}
 use Rattle.std.proofs.lemmas.List.Elements.{All-head, All-tail}
 use Rattle.feed_model.specs.History.{byte_at}
 use Rattle.feed_model.specs.Content.{Part, byte_in, end_of}
 use Rattle.feed_model.specs.Parts.{AreWithin}
+use Rattle.feed_parts.specs.declared.part.Part as code_part
+use Rattle.feed_parts.specs.Shown.{shown_part, shown_parts}
+use Rattle.feed_parts.proofs.Rest.{next}
 use Rattle.feed_parts.proofs.Places.{some_is, first_none, first_some, byte_at_after, byte_at_inside, none_before, starts_earlier}
 
 -- what all parts have from the place up to the end of the piece is in these
@@ -12,6 +15,16 @@ pub record IsLeft (size end : ℕ) (all : List Part) (place : ℕ) (rest : List 
   pub order : AreWithin size rest
   pub begins : All (λ p. p.first < end) rest
   pub same : (at : ℕ) → place ≤ at → at < end → byte_in rest at ≡ byte_in all at
+
+-- all parts that the piece meets are left at its start
+pub left_start : (size end : ℕ) (all : List Part) (place : ℕ) (rest : List Part) → AreWithin size rest → All (λ p. p.first < end) rest
+    → ((at : ℕ) → place ≤ at → at < end → byte_in rest at ≡ byte_in all at) → IsLeft size end all place rest
+left_start size end all place rest order begins same = record { order = order; begins = begins; same = same }
+
+-- the part that a loop takes next is the first that is left
+pub left_at : (size end : ℕ) (all : List Part) (place : ℕ) (ps : List code_part.Part) (i : ℕ) (p : code_part.Part) → i < length ps → p ≡ get_or ps i p
+    → IsLeft size end all place (shown_parts (drop i ps)) → IsLeft size end all place (shown_part p ∷ shown_parts (drop (i + 1) ps))
+left_at size end all place ps i p lt is = subst (IsLeft size end all place) (next ps i p lt is)
 
 module _ (size end : ℕ) (all : List Part) (place : ℕ) (p : Part) (rest : List Part) (left : IsLeft size end all place (p ∷ rest)) where
   pub left_starts : p.first < end

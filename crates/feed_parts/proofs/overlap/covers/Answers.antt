@@ -7,16 +7,8 @@ use Rattle.feed_parts.specs.Shown.{shown_part, shown_parts}
 use Rattle.feed_model.specs.Parts.{HasNew}
 use Rattle.feed_parts.proofs.Places.{some_is, some_value, byte_at_inside, byte_at_place}
 use Rattle.feed_parts.proofs.Rest.{next, finished, end_is}
-use Rattle.feed_parts.proofs.Left.{IsLeft, left_starts, left_ends, left_missing, left_next, left_none, kept_more}
+use Rattle.feed_parts.proofs.Left.{IsLeft, left_at, left_start, left_starts, left_ends, left_missing, left_next, left_none, kept_more}
 use Rattle.feed_parts.proofs.overlap.covers.Goals as goal
-use Rattle.feed_parts.proofs.overlap.covers.Goals.{After-part-item}
-
-at_part : (c : After-part-item)
-    → IsLeft last_place (c.args.first + length c.args.bytes.now) (shown_parts c.args.parts.now) c.loop-part.place
-    (shown_part c.part-item.result ∷ shown_parts (drop (c.loop-part.part-index + 1) c.meeting-part-items.result.now))
-at_part c =
-    subst (IsLeft last_place (c.args.first + length c.args.bytes.now) (shown_parts c.args.parts.now) c.loop-part.place)
-    (next c.meeting-part-items.result.now c.loop-part.part-index c.part-item.result c.loop-part-test.true c.part-item.is) c.loop-part.invariant.left
 
 -- a place of the piece that is missing
 lacks : (all : List Part) (first : ℕ) (bytes : List ℕ) (place : ℕ) → first ≤ place → place < first + length bytes → byte_in all place ≡ None → HasNew all first bytes
@@ -25,11 +17,7 @@ lacks all first bytes place le lt none = (place, some_is (byte_at first bytes pl
 pub loop-part-init : goal.loop-part-init
 loop-part-init c = record {
   from = omega arith;
-  left = record {
-    order = c.meeting-part-items.ensures.order;
-    begins = c.meeting-part-items.ensures.begins;
-    same = c.meeting-part-items.ensures.same;
-  };
+  left = left_start _ _ _ _ _ c.meeting-part-items.ensures.order c.meeting-part-items.ensures.begins c.meeting-part-items.ensures.same;
   kept = λ at le lt below. absurd (omega arith);
 }
 
@@ -39,7 +27,7 @@ loop-part-preserved c =
     let all = shown_parts c.args.parts.now in
     let part = shown_part c.part-item.result in
     let rest = shown_parts (drop (c.loop-part.part-index + 1) c.meeting-part-items.result.now) in
-    let left = at_part (goal.at.loop-part-preserved c).After-part-item in
+    let left = left_at last_place end all c.loop-part.place c.meeting-part-items.result.now c.loop-part.part-index c.part-item.result c.loop-part-test.true c.part-item.is c.loop-part.invariant.left in
     let ends = end_is c.part-item.result c.end_of.result last_place c.end_of.ensures (left_ends last_place end all c.loop-part.place part rest left) (omega arith) in
     let is = c.max-place.ensures ∙ ap (max c.loop-part.place) ends in
     record {
@@ -54,7 +42,7 @@ returns-then-place-part c =
     let all = shown_parts c.args.parts.now in
     let part = shown_part c.part-item.result in
     let rest = shown_parts (drop (c.loop-part.part-index + 1) c.meeting-part-items.result.now) in
-    let left = at_part (goal.at.returns-then-place-part c).After-part-item in
+    let left = left_at last_place end all c.loop-part.place c.meeting-part-items.result.now c.loop-part.part-index c.part-item.result c.loop-part-test.true c.part-item.is c.loop-part.invariant.left in
     let starts = left_starts last_place end all c.loop-part.place part rest left in
     let below : c.loop-part.place < end = omega (arith, starts, c.if-place-part.true) in
     record {

@@ -5,36 +5,24 @@ use Rattle.feed_parts.specs.Segments.{last_place}
 use Rattle.feed_parts.specs.Shown.{shown_part, shown_parts}
 use Rattle.feed_parts.specs.Cut.{cuts}
 use Rattle.feed_parts.proofs.Rest.{next, finished, end_is}
-use Rattle.feed_parts.proofs.Left.{IsLeft, left_starts, left_ends, left_missing, left_kept, left_next, left_none}
+use Rattle.feed_parts.proofs.Left.{IsLeft, left_at, left_start, left_starts, left_ends, left_missing, left_kept, left_next, left_none}
 use Rattle.feed_parts.proofs.Fresh.{fresh_start, fresh_more, fresh_past, fresh_wider, fresh_adds, fresh_some}
 use Rattle.feed_parts.proofs.overlap.new_parts.Goals as goal
-use Rattle.feed_parts.proofs.overlap.new_parts.Goals.{After-part-item}
-
-at_part : (c : After-part-item)
-    → IsLeft last_place (c.args.first + length c.args.bytes.now) (shown_parts c.args.parts.now) c.loop-part.place
-    (shown_part c.part-item.result ∷ shown_parts (drop (c.loop-part.part-index + 1) c.meeting-part-items.result.now))
-at_part c =
-    subst (IsLeft last_place (c.args.first + length c.args.bytes.now) (shown_parts c.args.parts.now) c.loop-part.place)
-    (next c.meeting-part-items.result.now c.loop-part.part-index c.part-item.result c.loop-part-test.true c.part-item.is) c.loop-part.invariant.left
 
 pub loop-part-init : goal.loop-part-init
 loop-part-init c = record {
   from = omega arith;
-  left = record {
-    order = c.meeting-part-items.ensures.order;
-    begins = c.meeting-part-items.ensures.begins;
-    same = c.meeting-part-items.ensures.same;
-  };
+  left = left_start _ _ _ _ _ c.meeting-part-items.ensures.order c.meeting-part-items.ensures.begins c.meeting-part-items.ensures.same;
   so_far = rw c.new-new.ensures.items (fresh_start (c.args.first + length c.args.bytes.now) c.args.first c.args.bytes.now (shown_parts c.args.parts.now));
 }
 
 pub push_cut-requires-clause-high : goal.push_cut-requires-clause-high
 push_cut-requires-clause-high c =
     let end = c.args.first + length c.args.bytes.now in
+    let all = shown_parts c.args.parts.now in
     let rest = shown_parts (drop (c.loop-part.part-index + 1) c.meeting-part-items.result.now) in
-    let starts = left_starts last_place end (shown_parts c.args.parts.now) c.loop-part.place (shown_part c.part-item.result) rest
-    (at_part (goal.at.push_cut-requires-clause-high c).After-part-item) in
-    omega (arith, starts)
+    let left = left_at last_place end all c.loop-part.place c.meeting-part-items.result.now c.loop-part.part-index c.part-item.result c.loop-part-test.true c.part-item.is c.loop-part.invariant.left in
+    omega (arith, left_starts last_place end all c.loop-part.place (shown_part c.part-item.result) rest left)
 
 pub loop-part-preserved : goal.loop-part-preserved
 loop-part-preserved c =
@@ -47,7 +35,7 @@ loop-part-preserved c =
     let part = shown_part c.part-item.result in
     let rest = shown_parts (drop (c.loop-part.part-index + 1) c.meeting-part-items.result.now) in
     let new = shown_parts c.loop-part.new.items in
-    let left = at_part (goal.at.loop-part-preserved c).After-part-item in
+    let left = left_at size end all place c.meeting-part-items.result.now c.loop-part.part-index c.part-item.result c.loop-part-test.true c.part-item.is c.loop-part.invariant.left in
     let starts = left_starts size end all place part rest left in
     let ends = end_is c.part-item.result c.end_of.result size c.end_of.ensures (left_ends size end all place part rest left) (omega arith) in
     let next_place : c.max-place.result ≡ max place (end_of part) = c.max-place.ensures ∙ ap (max place) ends in
