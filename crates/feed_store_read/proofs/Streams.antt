@@ -1,6 +1,6 @@
 -- Rows that are read one by one.
 use Rattle.std.proofs.Common.{◌≡◌, ◌≤◌, ◌⊎◌, inl, inr, ℕ, List, [], ◌∷◌, ◌++◌, false, None, Some, IsSome, Ok, Err, Option, Result, IsTrue, IfErr, IfOk, OnErr, OnOk, refl, sym, ap, subst, ◌∙◌, arith}
-use Rattle.std.specs.Borrow.{Bor}
+use Rattle.std.specs.Borrow.{Bor, GName}
 use Rattle.sqlite_value.specs.Order.{Row}
 use Rattle.sqlite_schema.specs.declared.command.Returning.{Returning}
 use Rattle.sqlite_schema.specs.declared.command.Command.{Command}
@@ -103,12 +103,13 @@ begun_same g sql old new read (inr h) = absurd (never_both (understood old.schem
     never_both (Ok c) none some = absurd (let e : IsSome {T = Returning} None = subst IsSome none.0 some in cc)
     never_both (Err e) none some = some
 
--- the effect so far of a query that returns its rows one by one
-pub record IsUnderWay {S : Type 0} (g : store.Ghosts S) (sql : List ℕ) (Known : List Row → Type 0) (old now : Held S) : Type 0 where
-  pub idle : old.in_transaction ≡ false → now.in_transaction ≡ false
-  pub live : IsLive (state g now) → IsLive (state g old)
-  pub limit : (state g now).step_limit ≡ (state g old).step_limit
-  pub read : HasCleanDisk (state g now) → HasRead g sql Known old now
+-- the effect so far of a query that returns its rows one by one, as it was begun and as it is now
+pub record IsUnderWay {S : Type 0} (g : store.Ghosts S) (sql : List ℕ) (Known : List Row → Type 0) (old : Held S) (begun now : Rows S g) : Type 0 where
+  pub lent : now.conn.ghost_name ≡ begun.conn.ghost_name
+  pub idle : old.in_transaction ≡ false → now.conn.now.in_transaction ≡ false
+  pub live : IsLive (state g now.conn.now) → IsLive (state g old)
+  pub limit : (state g now.conn.now).step_limit ≡ (state g old).step_limit
+  pub read : HasCleanDisk (state g now.conn.now) → HasRead g sql Known old now.conn.now
 
 -- a row was returned, after those that are known to be so
 pub record HasRow {S : Type 0} (g : store.Ghosts S) (sql : List ℕ) (Known : List Row → Type 0) (old now : Held S) (row : Row) : Type 0 where
@@ -126,14 +127,16 @@ pub record HasAll {S : Type 0} (g : store.Ghosts S) (sql : List ℕ) (Known : Li
   pub known : Known rows
 
 -- a query that only reads has begun
-pub begun_way : {S : Type 0} (g : store.Ghosts S) (sql : List ℕ) (Known : List Row → Type 0) (old new : Held S) → IfOk (first sql) IsRead
-    → (HasCleanDisk (state g new) → HasBegun g sql [] old new) → (old.in_transaction ≡ false → new.in_transaction ≡ false) → doubt (state g old).is_clean ≤ doubt (state g new).is_clean
-    → (state g new).step_limit ≡ (state g old).step_limit → Known [] → IsUnderWay g sql Known old new
-begun_way g sql Known old new read begins idle falls limit known = record {
+pub begun_way : {S : Type 0} (g : store.Ghosts S) (sql : List ℕ) (Known : List Row → Type 0) (old : Held S) (rows : Rows S g) → IfOk (first sql) IsRead
+    → (HasCleanDisk (state g rows.conn.now) → HasBegun g sql [] old rows.conn.now) → (old.in_transaction ≡ false → rows.conn.now.in_transaction ≡ false)
+    → doubt (state g old).is_clean ≤ doubt (state g rows.conn.now).is_clean → (state g rows.conn.now).step_limit ≡ (state g old).step_limit → Known []
+    → IsUnderWay g sql Known old rows rows
+begun_way g sql Known old rows read begins idle falls limit known = record {
+  lent = refl;
   idle = idle;
-  live = λ live. (omega (arith, falls, live.0), begun_open g sql old new (begins live.0));
+  live = λ live. (omega (arith, falls, live.0), begun_open g sql old rows.conn.now (begins live.0));
   limit = limit;
-  read = λ clean. let it = begun_same g sql old new read (begins clean) in record { rows = []; given = it.0; same = it.1; known = known };
+  read = λ clean. let it = begun_same g sql old rows.conn.now read (begins clean) in record { rows = []; given = it.0; same = it.1; known = known };
 }
 
 then_undone : (a b c : State) → IsUnchanged a b → IsRolledBack b c → IsRolledBack a c
@@ -151,12 +154,12 @@ stays a b (Err e) same (inl fails) = inr fails.3
 stays a b (Err e) same (inr still) = inl still
 
 -- a connection that was lent is what the rows left, once they are dropped
-pub lent_back : {X N : Type 0} {begun mid last : N} {name : N} {left new : X} (end : (x : X) × (name ≡ last → x ≡ new)) → new ≡ left → last ≡ mid → mid ≡ begun → begun ≡ name → left ≡ end.0
+lent_back : {X N : Type 0} {begun mid last : N} {name : N} {left new : X} (end : (x : X) × (name ≡ last → x ≡ new)) → new ≡ left → last ≡ mid → mid ≡ begun → begun ≡ name → left ≡ end.0
 lent_back end dropped three two one = sym (end.1 (sym (three ∙ two ∙ one)) ∙ dropped)
 
 -- one more call of `next`, whatever it returned
-module _ {S : Type 0} {g : store.Ghosts S} {sql : List ℕ} {Known : List Row → Type 0} {old : Held S} {a b : Rows S g} {result : Result (Option (Bor OneRow)) Error}
-    (way : IsUnderWay g sql Known old a.conn.now) (moved : HasMoved g a result b) where
+module _ {S : Type 0} {g : store.Ghosts S} {sql : List ℕ} {Known : List Row → Type 0} {old : Held S} {begun a b : Rows S g}
+    {result : Result (Option (Bor OneRow)) Error} (way : IsUnderWay g sql Known old begun a) (moved : HasMoved g a result b) where
   before : HasCleanDisk (state g b.conn.now) → HasCleanDisk (state g a.conn.now)
   before clean = omega (arith, moved.survives.clean)
 
@@ -193,8 +196,9 @@ module _ {S : Type 0} {g : store.Ghosts S} {sql : List ℕ} {Known : List Row �
       }
 
   pub next_way : (More : List Row → Type 0) (row : Bor OneRow) → result ≡ Ok (Some row) → ((rows : List Row) → Known rows → More (rows ++ row.now ∷ []))
-      → IsUnderWay g sql More old b.conn.now
+      → IsUnderWay g sql More old begun b
   next_way More row is more = record {
+    lent = moved.same_reference ∙ way.lent;
     idle = next_idle;
     live = next_live;
     limit = moved.survives.limit ∙ way.limit;
@@ -215,24 +219,29 @@ module _ {S : Type 0} {g : store.Ghosts S} {sql : List ℕ} {Known : List Row �
       }
 
   -- the rows were dropped after the call, and the connection is its owner's again
-  module _ {end : Held S} (back : b.conn.now ≡ end) where
-    here : HasCleanDisk (state g end) → HasCleanDisk (state g b.conn.now)
+  module _ {name : GName} {new : Held S} (taken : begun.conn.ghost_name ≡ name) (end : (x : Held S) × (name ≡ b.conn.ghost_name → x ≡ new)) (dropped : new ≡ b.conn.now) where
+    back : b.conn.now ≡ end.0
+    back = lent_back end dropped moved.same_reference way.lent taken
+
+    here : HasCleanDisk (state g end.0) → HasCleanDisk (state g b.conn.now)
     here clean = subst (λ h. HasCleanDisk (state g h)) (sym back) clean
 
-    unchanged : IsUnchanged (state g old) (state g b.conn.now) → IsUnchanged (state g old) (state g end)
+    unchanged : IsUnchanged (state g old) (state g b.conn.now) → IsUnchanged (state g old) (state g end.0)
     unchanged same = subst (λ h. IsUnchanged (state g old) (state g h)) back same
 
-    pub ended_leaves : WritesNothing (state g old) (state g end)
+    pub ended_leaves : WritesNothing (state g old) (state g end.0)
     ended_leaves = subst (λ h. WritesNothing (state g old) (state g h)) back next_leaves
 
-    pub ended_row : (row : Bor OneRow) → result ≡ Ok (Some row) → IsLive (state g end) → HasRow g sql Known old b.conn.now row.now × IsUnchanged (state g old) (state g end)
+    pub ended_row : (row : Bor OneRow) → result ≡ Ok (Some row) → IsLive (state g end.0) → HasRow g sql Known old b.conn.now row.now × IsUnchanged (state g old) (state g end.0)
     ended_row row is live = let it = next_row row is (here live.0) in (it, unchanged it.same)
 
-    pub ended_all : result ≡ Ok None → IsLive (state g end) → HasAll g sql Known old a.conn.now b.conn.now × IsUnchanged (state g old) (state g end)
-    ended_all is live = let it = next_all is (here live.0) in (it, unchanged it.same)
+    pub ended_all : {P : Type 0} → result ≡ Ok None → IsLive (state g end.0) → (HasAll g sql Known old a.conn.now b.conn.now → P) → IsUnchanged (state g old) (state g end.0) × P
+    ended_all is live then = let it = next_all is (here live.0) in (unchanged it.same, then it)
 
 -- the rows were dropped before the last one
-pub way_leaves : {S : Type 0} {g : store.Ghosts S} {sql : List ℕ} {Known : List Row → Type 0} {old now end : Held S} → IsUnderWay g sql Known old now → now ≡ end
-    → WritesNothing (state g old) (state g end)
-way_leaves {g = g} {old = old} way back =
-    subst (λ h. WritesNothing (state g old) (state g h)) back (record { idle = way.idle; live = way.live; kept = λ live. inl (way.read live.0).same; limit = way.limit })
+pub way_leaves : {S : Type 0} {g : store.Ghosts S} {sql : List ℕ} {Known : List Row → Type 0} {old : Held S} {begun now : Rows S g} {name : GName} {new : Held S}
+    → IsUnderWay g sql Known old begun now → begun.conn.ghost_name ≡ name → (end : (x : Held S) × (name ≡ now.conn.ghost_name → x ≡ new)) → new ≡ now.conn.now
+    → WritesNothing (state g old) (state g end.0)
+way_leaves {g = g} {old = old} way taken end dropped =
+    subst (λ h. WritesNothing (state g old) (state g h)) (lent_back end dropped refl way.lent taken)
+    (record { idle = way.idle; live = way.live; kept = λ live. inl (way.read live.0).same; limit = way.limit })

@@ -9,8 +9,7 @@ use Rattle.feed_store_read.proofs.pieces.select_pieces.Given as goal
 abbrev pub invariant-rows : goal.invariant-rows
 invariant-rows g l =
     let start = shown l.fn.found.records.items in record {
-      lent : l.rows.conn.ghost_name ≡ l.initial.rows.conn.ghost_name;
-      way : IsUnderWay g.S.Store pieces_text (λ rows. ShowPieces rows l.ids.items start (shown l.found.records.items)) l.fn.conn l.rows.conn.now;
+      way : IsUnderWay g.S.Store pieces_text (λ rows. ShowPieces rows l.ids.items start (shown l.found.records.items)) l.fn.conn l.initial.rows l.rows;
       ids : l.found.ids ≡ l.fn.found.ids;
       names : names (shown l.found.records.items) ≡ names start;
     }

@@ -9,8 +9,7 @@ use Rattle.feed_store_read.proofs.reasons.select_reasons.Given as goal
 abbrev pub invariant-rows : goal.invariant-rows
 invariant-rows g l =
     let start = shown l.fn.records.items in record {
-      lent : l.rows.conn.ghost_name ≡ l.initial.rows.conn.ghost_name;
-      way : IsUnderWay g.S.Store reasons_text (λ rows. ShowReasons rows l.ids.items start (shown l.records.items)) l.fn.conn l.rows.conn.now;
+      way : IsUnderWay g.S.Store reasons_text (λ rows. ShowReasons rows l.ids.items start (shown l.records.items)) l.fn.conn l.initial.rows l.rows;
       names : names (shown l.records.items) ≡ names start;
       parts : map (λ r. r.parts) (shown l.records.items) ≡ map (λ r. r.parts) start;
     }
