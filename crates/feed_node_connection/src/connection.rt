@@ -1,6 +1,6 @@
 //! The state machine of one connection of a node, without its socket.
 ghost use Rattle.std.specs.Prelude.{◌≡◌, ◌==◌, ◌+◌, ◌<◌, ◌≤◌, List, ◌∷◌, [], length, take, drop, vec_len};
-ghost use Rattle.feed_node_connection.specs.Events.{Event, Received, Sent, Resumed, Elapsed};
+ghost use Rattle.feed_node_connection.specs.Events.{Event, Received, Sent, Resumed, Elapsed, sent_len};
 
 use crate::head_state::{AfterReply, HeadState, head_state};
 use crate::respond::{Reply, ReplySummary, Respond, RespondFault, unavailable};
@@ -76,6 +76,8 @@ pub struct Connection {
     elapsed: u64,
     limits: TimeLimits,
     summary: Option<ReplySummary>,
+    /// The bytes of the current reply that were sent, also after it was freed.
+    sent_len: usize,
     ghost bounded: { vec_len received ≤ 8192 },
     ghost inside: { request_len ≤ vec_len received },
     ghost within: { sent ≤ vec_len reply },
@@ -106,6 +108,7 @@ impl Connection {
             elapsed: 0,
             limits,
             summary: None,
+            sent_len: 0,
         }
     }
 
@@ -246,6 +249,7 @@ impl Connection {
         self.summary = Some(reply.summary);
         self.reply = reply.bytes;
         self.sent = 0;
+        self.sent_len = 0;
         self.request_len = size;
         self.after = after;
         self.sent_since = 0;
@@ -280,6 +284,13 @@ impl Connection {
         ensures { result ≡ self.now.summary }
     {
         self.summary
+    }
+
+    /// Returns how many bytes of the reply the peer accepted, from when it is made until `resume`, and otherwise 0.
+    pub fn sent_len(&self) -> usize
+        ensures { (history : List Event) → HasState self.now history → result ≡ sent_len history }
+    {
+        self.sent_len
     }
 
     /// Returns the milliseconds since the timer was last restarted.
@@ -335,6 +346,7 @@ impl Connection {
         } else {
             self.sent_since += count;
         }
+        self.sent_len = self.sent + count;
         if count == self.reply.len() - self.sent {
             self.sent = 0;
             self.reply = Vec::new(alloc);
@@ -355,6 +367,7 @@ impl Connection {
         self.received.drain(..self.request_len);
         self.request_len = 0;
         self.summary = None;
+        self.sent_len = 0;
         self.sent_since = 0;
         self.elapsed = 0;
         self.phase = if self.received.is_empty() {
