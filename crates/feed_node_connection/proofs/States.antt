@@ -14,14 +14,15 @@ use Rattle.feed_node_connection.specs.declared.connection.Phase.{Phase}
 use Rattle.feed_node_connection.specs.declared.connection.Phase.TheVariants.{Idle, Receiving, Parsing, Sending, Answered, Lingering, Complete, Aborted}
 use Rattle.feed_node_connection.specs.declared.connection.Wants.TheVariants as wants
 use Rattle.feed_node_connection.specs.declared.head_state.AfterReply.{AfterReply}
-use Rattle.feed_node_connection.specs.declared.head_state.AfterReply.TheVariants.{Persist, Linger, Close}
-use Rattle.feed_node_connection.specs.Requests.{Request, Persistent, Last, Invalid, AreRequestsIn, Begins, persists, all_persist}
+use Rattle.feed_node_connection.specs.declared.head_state.AfterReply.TheVariants.{Persist, Linger}
+use Rattle.feed_node_connection.specs.Requests.{Request, Persistent, Last, Invalid, AreRequestsIn, Begins, IsPersistent, persists, all_persist}
 use Rattle.feed_node_connection.specs.Events.{Event, Received, Replied, Resumed, Sent, received_bytes, reply_bytes, sent_bytes, requests_in, min_progress, is_idle, sent_len, sent_since, elapsed}
 use Rattle.feed_node_connection.specs.Replies.{Replies, IsRepliedTo, IsHeadIn, IsServed, HasNoReply, persists_in, unavailable}
 use Rattle.feed_node_connection.specs.States.{IsServedUpTo, AreFirst, HasEnded, AreSent, IsFrontSent, IsInTime, IsCurrent, IsAfterReply}
 use Rattle.feed_node_connection.specs.States.{HasStateIn, HasState, HasParsed, HasReplied, rest_of, limit_in}
 use Rattle.feed_node_connection.specs.States.{HasBegunReply, HasResponded, HasRefused, phase_after, pending_in, wants_in, is_idle_in, is_lingering_in, is_reply_sent_in, IsRightAfter, StateIsRight}
 use Rattle.feed_node_connection.specs.Streams.{AreReplies, AllIsServed}
+use Rattle.feed_node_connection.proofs.Unavailable.{unavailable_says}
 use Rattle.feed_node_connection.proofs.Exchanges.{requests_on, requests_with, all_persist_with, ends_with, ends_with_none, head_taken, head_dropped}
 use Rattle.feed_node_connection.proofs.Exchanges.{exchanges, exchanges_asked, exchanges_replies, exchanges_replied}
 
@@ -122,7 +123,6 @@ done : (after : AfterReply) (new : Connection) (history : List Event) → IsAfte
     → IsInTime false new history → HasStateIn (phase_after after) new history
 done Persist new history is sent freed time = record { served = is; sent = sent; freed = freed; in_time = time }
 done Linger new history is sent freed time = record { complete = record { ended = is; sent = sent; freed = freed }; in_time = time }
-done Close new history is sent freed time = record { ended = is; sent = sent; freed = freed }
 
 -- a reply begins
 begun : (reply : List ℕ) (size : ℕ) (after : AfterReply) (request : Request) (old new : Connection) (history : List Event) → IsCurrent false old history → new.limits ≡ old.limits
@@ -178,6 +178,19 @@ invalid_after old history reply was never = (
   ends_with_none (requests_in history) old.received.items,
 )
 
+-- the bytes of a persistent head allow its reply to say so
+pub allowed_head : (bytes : List ℕ) (size : ℕ) (after : AfterReply) → IsHeadIn bytes size after → persists_in after ≡ true → IsPersistent (take size bytes)
+allowed_head bytes size after is keeps = record {
+  head = is.head;
+  begins = subst (λ (t : List ℕ). Begins t is.head) (sym (head_taken bytes is.head size is.begins is.size_is)) (record {
+    rest = [];
+    reads = (is.begins.reads.0, sym (append-nil (print_request is.head)));
+    short = is.begins.short;
+    few = is.begins.few;
+  });
+  keeps = sym is.after_is ∙ keeps;
+}
+
 -- the reply to a head
 pub replied_head : (replies : Replies) (after : AfterReply) (old new : Connection) (history : List Event) (size : ℕ) → old.phase ≡ Parsing → HasState old history → new.limits ≡ old.limits
     → IsHeadIn old.received.items size after → HasResponded replies size after old new → HasParsed replies true new history
@@ -193,34 +206,27 @@ replied_head replies after old new history size parsing state limits is responde
     refused h begins size_is was none (inl has) = inl (
       Last h,
       unavailable,
-      inr (subst (HasNoReply replies) (head_taken old.received.items h size begins size_is) none, refl),
+      record { reply_of = inr (subst (HasNoReply replies) (head_taken old.received.items h size begins size_is) none, refl); says = unavailable_says },
       begun unavailable size Linger (Last h) old new history was limits has (ends_after old history unavailable h was begins),
     )
     refused h begins size_is was none (inr aborted) = inr (take size old.received.items, none, aborted.0, cut old new history was state.1 aborted)
 
     by : (a : AfterReply) → IsCurrent false old history → IsHeadIn old.received.items size a → HasResponded replies size a old new → HasReplied replies new history
-    by Persist was head (inl (reply, has, begins)) = inl (
+    by Persist was head (inl (reply, has, says, begins)) = inl (
       Persistent head.head,
       reply,
-      text head.head head.begins head.size_is true reply has,
+      record { reply_of = text head.head head.begins head.size_is true reply has; says = says },
       begun reply size Persist (Persistent head.head) old new history was limits begins
           (persists_after old new history reply size head.head was head.begins head.size_is (sym head.after_is) begins),
     )
     by Persist was head (inr (none, refuses)) = refused head.head head.begins head.size_is was none refuses
-    by Linger was head (inl (reply, has, begins)) = inl (
+    by Linger was head (inl (reply, has, says, begins)) = inl (
       Last head.head,
       reply,
-      inl (sym head.after_is, text head.head head.begins head.size_is false reply has),
+      record { reply_of = inl (sym head.after_is, text head.head head.begins head.size_is false reply has); says = says },
       begun reply size Linger (Last head.head) old new history was limits begins (ends_after old history reply head.head was head.begins),
     )
     by Linger was head (inr (none, refuses)) = refused head.head head.begins head.size_is was none refuses
-    by Close was head (inl (reply, has, begins)) = inl (
-      Last head.head,
-      reply,
-      inl (sym head.after_is, text head.head head.begins head.size_is false reply has),
-      begun reply size Close (Last head.head) old new history was limits begins (ends_after old history reply head.head was head.begins),
-    )
-    by Close was head (inr (none, refuses)) = refused head.head head.begins head.size_is was none refuses
 
 -- the reply to bytes that are not a request
 pub replied_invalid : (replies : Replies) (old new : Connection) (history : List Event) (size : ℕ) → old.phase ≡ Parsing → HasState old history → new.limits ≡ old.limits
@@ -232,16 +238,16 @@ replied_invalid replies old new history size parsing state limits is never respo
     all = take_all size old.received.items (omega (arith, is))
 
     by : IsCurrent false old history → HasResponded replies size Linger old new → HasReplied replies new history
-    by was (inl (reply, has, begins)) = inl (
+    by was (inl (reply, has, says, begins)) = inl (
       Invalid old.received.items,
       reply,
-      inl (subst (λ (t : List ℕ). replies t false (Some reply)) all has),
+      record { reply_of = inl (subst (λ (t : List ℕ). replies t false (Some reply)) all has); says = says },
       begun reply size Linger (Invalid old.received.items) old new history was limits begins (invalid_after old history reply was never),
     )
     by was (inr (none, inl begins)) = inl (
       Invalid old.received.items,
       unavailable,
-      inr (subst (HasNoReply replies) all none, refl),
+      record { reply_of = inr (subst (HasNoReply replies) all none, refl); says = unavailable_says },
       begun unavailable size Linger (Invalid old.received.items) old new history was limits begins (invalid_after old history unavailable was never),
     )
     by was (inr (none, inr aborted)) = inr (take size old.received.items, none, aborted.0, cut old new history was state.1 aborted)
@@ -296,7 +302,6 @@ after_same Persist old new history bytes same is = record {
   persists = is.persists;
 }
 after_same Linger old new history bytes same is = is
-after_same Close old new history bytes same is = is
 
 -- the replies are the bytes sent before, those sent now, and the rest
 went_on : (reply : List ℕ) (sent count : ℕ) (before replies : List ℕ) → replies ≡ before ++ drop sent reply
@@ -398,7 +403,6 @@ resumed old new history answered state held anew since step_some idle_some idle 
 first_after : (after : AfterReply) (connection : Connection) (history : List Event) → IsAfterReply after connection history → AreFirst history
 first_after Persist connection history is = (rest_of connection, is.in_order)
 first_after Linger connection history is = is.0
-first_after Close connection history is = is.0
 
 pub first_in : (phase : Phase) (connection : Connection) (history : List Event) → HasStateIn phase connection history → AreFirst history
 first_in Idle connection history state = (connection.received.items, state.current.served.in_order)

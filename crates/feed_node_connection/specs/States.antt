@@ -1,6 +1,7 @@
 -- The state of a connection, as determined by its events.
 use Rattle.std.specs.Prelude.{◌≡◌, ◌==◌, ◌&&◌, ◌||◌, nat_lt, ◌≤◌, ◌<◌, ◌-◌, ◌⊎◌, ℕ, Bool, true, false, List, [], ◌∷◌, ◌++◌, length, take, drop, Some}
 use Rattle.feed_http_heads.specs.Limits.{head_limit}
+use Rattle.feed_http_heads.specs.Options.{SaysWhetherItKeeps}
 use Rattle.feed_http_heads.specs.RequestHeads.{IsUnfinished}
 use Rattle.feed_node_connection.specs.declared.connection.Connection.{Connection}
 use Rattle.feed_node_connection.specs.declared.connection.Phase.{Phase}
@@ -9,7 +10,7 @@ use Rattle.feed_node_connection.specs.declared.connection.TimeLimits.{TimeLimits
 use Rattle.feed_node_connection.specs.declared.connection.Wants.{Wants}
 use Rattle.feed_node_connection.specs.declared.connection.Wants.TheVariants as wants
 use Rattle.feed_node_connection.specs.declared.head_state.AfterReply.{AfterReply}
-use Rattle.feed_node_connection.specs.declared.head_state.AfterReply.TheVariants.{Persist, Linger, Close}
+use Rattle.feed_node_connection.specs.declared.head_state.AfterReply.TheVariants.{Persist, Linger}
 use Rattle.feed_node_connection.specs.Events.{Event, Received, Replied, Resumed, received_bytes, reply_bytes, requests_in, sent_bytes, sent_len, sent_since, elapsed, is_idle}
 use Rattle.feed_node_connection.specs.Requests.{Request, AreRequestsIn, all_persist}
 use Rattle.feed_node_connection.specs.Replies.{Replies, HasNoReply, IsRepliedTo, persists_in, unavailable}
@@ -71,7 +72,6 @@ pub record IsReceiving (connection : Connection) (history : List Event) : Type 0
 abbrev pub IsAfterReply : AfterReply → Connection → List Event → Type 0
 IsAfterReply Persist connection history = IsServedUpTo history (rest_of connection)
 IsAfterReply Linger connection history = HasEnded history
-IsAfterReply Close connection history = HasEnded history
 
 -- a part of the last reply remains to be sent
 pub record IsSending (connection : Connection) (history : List Event) : Type 0 where
@@ -128,7 +128,6 @@ HasParsed replies true connection history = HasReplied replies connection histor
 abbrev pub phase_after : AfterReply → Phase
 phase_after Persist = Answered
 phase_after Linger = Lingering
-phase_after Close = Complete
 
 -- the phase in which a reply begins
 abbrev pub first_phase : List ℕ → AfterReply → Phase
@@ -154,7 +153,8 @@ HasRefused size old new = HasBegunReply unavailable size Linger old new ⊎ ((ne
 -- the reply to the first bytes begins, or the responder made none
 abbrev pub HasResponded : Replies → ℕ → AfterReply → Connection → Connection → Type 0
 HasResponded replies size after old new =
-    ((reply : List ℕ) × replies (take size old.received.items) (persists_in after) (Some reply) × HasBegunReply reply size after old new)
+    ((reply : List ℕ) × replies (take size old.received.items) (persists_in after) (Some reply) × SaysWhetherItKeeps (persists_in after) reply
+    × HasBegunReply reply size after old new)
     ⊎ (HasNoReply replies (take size old.received.items) × HasRefused size old new)
 
 -- the number of bytes that may be received at once

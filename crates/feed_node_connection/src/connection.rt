@@ -1,5 +1,5 @@
 //! The state machine of one connection of a node, without its socket.
-ghost use Rattle.std.specs.Prelude.{◌≡◌, ◌==◌, ◌+◌, ◌<◌, ◌≤◌, List, ◌∷◌, [], length, take, drop, vec_len};
+ghost use Rattle.std.specs.Prelude.{◌≡◌, ◌≢◌, true, ◌==◌, ◌+◌, ◌<◌, ◌≤◌, List, ◌∷◌, [], length, take, drop, vec_len};
 ghost use Rattle.feed_node_connection.specs.Events.{Event, Received, Sent, Resumed, Elapsed, sent_len};
 
 use crate::head_state::{AfterReply, HeadState, head_state};
@@ -51,7 +51,7 @@ pub enum Phase {
     Answered,
     /// The last reply was sent. Further bytes from the peer are dropped until it closes its side.
     Lingering,
-    /// The last reply was sent, and the connection waits for nothing.
+    /// The last reply was sent, and the peer closed its side or the time limit passed.
     Complete,
     /// The time limit passed, the peer closed its side, or memory ran out.
     Aborted,
@@ -65,8 +65,6 @@ pub struct Connection {
     received: Vec<u8>,
     /// The length of that request, or 0.
     request_len: usize,
-    /// Whether the last read filled its room, so that bytes may be left unread.
-    more_may_come: bool,
     reply: Vec<u8>,
     sent: usize,
     after: AfterReply,
@@ -85,6 +83,7 @@ pub struct Connection {
 }
 
 impl Connection {
+    ghost use Rattle.feed_node_connection.specs.Requests.{IsPersistent};
     ghost use Rattle.feed_node_connection.specs.Replies.{persists_in};
     ghost use Rattle.feed_node_connection.specs.States.{HasState, HasParsed, HasBegunReply, HasRefused, HasResponded};
     ghost use Rattle.feed_node_connection.specs.States.{is_idle_in, is_lingering_in, is_reply_sent_in, limit_in};
@@ -100,7 +99,6 @@ impl Connection {
             phase: Phase::Receiving,
             received: Vec::new(alloc),
             request_len: 0,
-            more_may_come: false,
             reply: Vec::new(alloc),
             sent: 0,
             after: AfterReply::Persist,
@@ -173,9 +171,8 @@ impl Connection {
         }
     }
 
-    /// Adds received bytes to the bytes held, and drops them once no other request is answered. `more_may_come` says
-    /// whether the peer may have sent more.
-    pub fn receive(&mut self, bytes: &[u8], more_may_come: bool)
+    /// Adds received bytes to the bytes held, and drops them once no other request is answered.
+    pub fn receive(&mut self, bytes: &[u8])
         requires waiting { wants_in self.old.phase ≡ Wants.Bytes }
         requires room { length bytes.now ≤ room_of self.old }
         ensures state { (history : List Event) → HasState self.old history
@@ -188,7 +185,6 @@ impl Connection {
         if self.is_idle() {
             self.elapsed = 0;
         }
-        self.more_may_come = more_may_come;
         self.phase = match self.received.extend_from_slice(bytes) {
             Ok(()) => Phase::Parsing,
             Err(_) => Phase::Aborted,
@@ -200,10 +196,11 @@ impl Connection {
         requires { self.old.phase ≡ Phase.Parsing }
         ensures state { (history : List Event) → HasState self.old history
             → HasParsed (R.replies responder.now) result self.new history }
+        ensures lingers { self.new.phase ≢ Phase.Complete }
         ensures limits { self.new.limits ≡ self.old.limits }
     {
         let held = self.received.len();
-        match head_state(&self.received, self.more_may_come) {
+        match head_state(&self.received) {
             HeadState::Incomplete => {
                 self.phase = Phase::Receiving;
                 false
@@ -221,6 +218,7 @@ impl Connection {
 
     fn respond<R: Respond>(&mut self, alloc: Global, responder: &R, size: usize, after: AfterReply)
         requires within { size ≤ vec_len self.old.received }
+        requires allowed { persists_in after ≡ true → IsPersistent (take size self.old.received.items) }
         ensures responded { HasResponded (R.replies responder.now) size after self.old self.new }
         ensures limits { self.new.limits ≡ self.old.limits }
     {
@@ -268,7 +266,6 @@ impl Connection {
         match self.after {
             AfterReply::Persist => Phase::Answered,
             AfterReply::Linger => Phase::Lingering,
-            AfterReply::Close => Phase::Complete,
         }
     }
 
@@ -338,6 +335,7 @@ impl Connection {
         requires within { count ≤ length (pending_of self.old) }
         ensures state { (history : List Event) → HasState self.old history
             → HasState self.new (Sent (take count (pending_of self.old)) ∷ history) }
+        ensures lingers { self.new.phase ≢ Phase.Complete }
         ensures limits { self.new.limits ≡ self.old.limits }
     {
         if count >= MIN_PROGRESS - self.sent_since {

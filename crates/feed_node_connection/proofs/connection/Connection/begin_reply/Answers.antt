@@ -7,8 +7,8 @@ returns-clause-begun c = record {
   text = search rules;
   sent = search rules;
   sent_len = elim c.if-is_empty.branch [
-    | then-is_empty w ↦ ap (λ s. s.1.1.1.1.1.1.1.1.1.1.1.1.0) w.self-is
-    | else-is_empty w ↦ ap (λ s. s.1.1.1.1.1.1.1.1.1.1.1.1.0) w.self-is
+    | then-is_empty w ↦ ap (λ s. s.1.1.1.1.1.1.1.1.1.1.1.0) w.self-is
+    | else-is_empty w ↦ ap (λ s. s.1.1.1.1.1.1.1.1.1.1.1.0) w.self-is
   ];
   request_len = search rules;
   after_is = search rules;

@@ -9,9 +9,9 @@ returns-then-count-len-clause-state c = λ history state. (
       (record { received = refl; request_len = refl; after = refl; limits = refl })
       (elim c.if-count-self.branch [
         | then-count-self w ↦
-            counted_anew c.args.count c.args.self.now _ w.if-count-self.true (ap (λ s. s.1.1.1.1.1.1.1.1.0) w.self-is) (ap (λ s. s.1.1.1.1.1.1.1.1.1.0) w.self-is)
+            counted_anew c.args.count c.args.self.now _ w.if-count-self.true (ap (λ s. s.1.1.1.1.1.1.1.0) w.self-is) (ap (λ s. s.1.1.1.1.1.1.1.1.0) w.self-is)
         | else-count-self w ↦
-            counted_on c.args.count c.args.self.now _ (omega (arith, w.if-count-self.false)) (ap (λ s. s.1.1.1.1.1.1.1.1.0) w.self-is) (ap (λ s. s.1.1.1.1.1.1.1.1.1.0) w.self-is)
+            counted_on c.args.count c.args.self.now _ (omega (arith, w.if-count-self.false)) (ap (λ s. s.1.1.1.1.1.1.1.0) w.self-is) (ap (λ s. s.1.1.1.1.1.1.1.1.0) w.self-is)
       ])
       (omega (arith, c.if-count-len.true, c.len.ensures)) c.new.ensures.items c.phase_after-self.ensures state.0,
   counted_sent c.args.self.now.phase c.args.self.now history c.args.count c.requires.some c.requires.within state.0,
@@ -23,9 +23,9 @@ returns-else-count-len-clause-state c = λ history state. (
       (record { received = refl; request_len = refl; after = refl; limits = refl }) refl refl
       (elim c.if-count-self.branch [
         | then-count-self w ↦
-            counted_anew c.args.count c.args.self.now _ w.if-count-self.true (ap (λ s. s.1.1.1.1.1.1.1.1.0) w.self-is) (ap (λ s. s.1.1.1.1.1.1.1.1.1.0) w.self-is)
+            counted_anew c.args.count c.args.self.now _ w.if-count-self.true (ap (λ s. s.1.1.1.1.1.1.1.0) w.self-is) (ap (λ s. s.1.1.1.1.1.1.1.1.0) w.self-is)
         | else-count-self w ↦
-            counted_on c.args.count c.args.self.now _ (omega (arith, w.if-count-self.false)) (ap (λ s. s.1.1.1.1.1.1.1.1.0) w.self-is) (ap (λ s. s.1.1.1.1.1.1.1.1.1.0) w.self-is)
+            counted_on c.args.count c.args.self.now _ (omega (arith, w.if-count-self.false)) (ap (λ s. s.1.1.1.1.1.1.1.0) w.self-is) (ap (λ s. s.1.1.1.1.1.1.1.1.0) w.self-is)
       ])
       (λ e. absurd (omega (arith, c.if-count-len.false, c.len.ensures, e))) state.0,
   counted_sent c.args.self.now.phase c.args.self.now history c.args.count c.requires.some c.requires.within state.0,

@@ -17,8 +17,8 @@ returns-clause-state c = λ history state.
         | in-Ok w ↦ received_whole (is_idle_in c.args.self.now.phase) c.args.self.now _ history c.args.bytes.now current w.self-is w.in-Ok.ensures.items refl refl
             c.args.self.now.limits.step_some
             (elim c.if-is_idle.branch [
-              | then-is_idle v ↦ rw (sym c.is_idle.ensures ∙ v.if-is_idle.true) (ap (λ s. s.1.1.1.1.1.1.1.1.1.0) v.self-is)
-              | else-is_idle v ↦ rw (sym c.is_idle.ensures ∙ v.if-is_idle.false) (ap (λ s. s.1.1.1.1.1.1.1.1.1.0) v.self-is)
+              | then-is_idle v ↦ rw (sym c.is_idle.ensures ∙ v.if-is_idle.true) (ap (λ s. s.1.1.1.1.1.1.1.1.0) v.self-is)
+              | else-is_idle v ↦ rw (sym c.is_idle.ensures ∙ v.if-is_idle.false) (ap (λ s. s.1.1.1.1.1.1.1.1.0) v.self-is)
             ])
         | in-Err w ↦ received_aborted (is_idle_in c.args.self.now.phase) c.args.self.now _ history c.args.bytes.now current w.self-is
       ],
