@@ -6,7 +6,7 @@ use Rattle.feed_node_connection.proofs.connection.Connection.mark_sent.Goals as 
 pub returns-then-count-len-clause-state : goal.returns-then-count-len-clause-state
 returns-then-count-len-clause-state c = λ history state. (
   sent_whole c.args.self.now.phase c.args.self.now _ history c.args.count c.requires.some c.requires.within
-      (record { received = refl; request_len = refl; after = refl; limits = refl })
+      (record { received = refl; request_len = refl; after = refl; continued = refl; limits = refl })
       (elim c.if-count-self.branch [
         | then-count-self w ↦
             counted_anew c.args.count c.args.self.now _ w.if-count-self.true (ap (λ s. s.1.1.1.1.1.1.1.0) w.self-is) (ap (λ s. s.1.1.1.1.1.1.1.1.0) w.self-is)
@@ -20,7 +20,7 @@ returns-then-count-len-clause-state c = λ history state. (
 pub returns-else-count-len-clause-state : goal.returns-else-count-len-clause-state
 returns-else-count-len-clause-state c = λ history state. (
   sent_part c.args.self.now.phase c.args.self.now _ history c.args.count c.requires.some c.requires.within
-      (record { received = refl; request_len = refl; after = refl; limits = refl }) refl refl
+      (record { received = refl; request_len = refl; after = refl; continued = refl; limits = refl }) refl refl
       (elim c.if-count-self.branch [
         | then-count-self w ↦
             counted_anew c.args.count c.args.self.now _ w.if-count-self.true (ap (λ s. s.1.1.1.1.1.1.1.0) w.self-is) (ap (λ s. s.1.1.1.1.1.1.1.1.0) w.self-is)

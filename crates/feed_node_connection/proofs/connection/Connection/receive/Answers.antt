@@ -14,7 +14,7 @@ pub returns-clause-state : goal.returns-clause-state
 returns-clause-state c = λ history state.
     let current = current_in c.args.self.now.phase c.args.self.now history c.requires.waiting (sym c.is_lingering.ensures ∙ c.if-is_lingering.false) state.0 in (
       elim c.match-extend_from_slice.branch [
-        | in-Ok w ↦ received_whole (is_idle_in c.args.self.now.phase) c.args.self.now _ history c.args.bytes.now current w.self-is w.in-Ok.ensures.items refl refl
+        | in-Ok w ↦ received_whole (is_idle_in c.args.self.now.phase) c.args.self.now _ history c.args.bytes.now current w.self-is w.in-Ok.ensures.items refl refl refl
             c.args.self.now.limits.step_some
             (elim c.if-is_idle.branch [
               | then-is_idle v ↦ rw (sym c.is_idle.ensures ∙ v.if-is_idle.true) (ap (λ s. s.1.1.1.1.1.1.1.1.0) v.self-is)
