@@ -1,3 +1,5 @@
 pub mod Exchanges
+pub mod Found
+pub mod Unavailable
 pub mod States
 pub mod Steps

@@ -1,29 +1,36 @@
 -- The state of a connection after each of its events.
-use Rattle.std.proofs.Common.{◌≡◌, ◌≢◌, ◌≤◌, ◌<◌, ◌+◌, ◌-◌, ◌⊎◌, ℕ, Bool, true, false, List, [], ◌∷◌, ◌++◌, length, take, drop, nat_le, Some}
+use Rattle.std.proofs.Common.{◌≡◌, ◌≢◌, ◌≤◌, ◌<◌, ◌+◌, ◌-◌, ◌⊎◌, ℕ, Bool, true, false, List, [], ◌∷◌, ◌++◌, length, take, drop, nat_le, Some, None}
 use Rattle.std.proofs.Common.{suc, eqb-true, refl, sym, ap, ◌∙◌, subst, arith, inl, inr, append_assoc, append-nil, take-append-drop, length-append, length-take-le, length-drop, cond}
-use Rattle.std.specs.Prelude.{◌==◌, vec_len}
+use Rattle.std.specs.Prelude.{◌==◌, ◌&&◌, not, if◌then◌else◌, vec_len}
+use Rattle.httparse.proofs.GrammarLemmas.{request_unique}
 use Rattle.std.proofs.lemmas.Bool.{cases_Bool, false≢true}
 use Rattle.std.proofs.lemmas.Bool.Decides.{nat_tests}
 use Rattle.std.proofs.lemmas.List.{take_all, drop_all, drop-drop}
 use Rattle.httparse.specs.Grammar.{RequestHead, print_request}
 use Rattle.feed_http_heads.specs.Limits.{head_limit, field_limit}
-use Rattle.feed_http_heads.specs.RequestHeads.{IsUnfinished, NeverBeginsWithHead}
+use Rattle.feed_http_heads.specs.RequestHeads.{BeginsWithHead, IsUnfinished, NeverBeginsWithHead}
 use Rattle.feed_http_heads.proofs.RequestReading as reading
 use Rattle.feed_node_connection.specs.declared.connection.Connection.{Connection}
 use Rattle.feed_node_connection.specs.declared.connection.Phase.{Phase}
 use Rattle.feed_node_connection.specs.declared.connection.Phase.TheVariants.{Idle, Receiving, Parsing, Sending, Answered, Lingering, Complete, Aborted}
 use Rattle.feed_node_connection.specs.declared.connection.Wants.TheVariants as wants
 use Rattle.feed_node_connection.specs.declared.head_state.AfterReply.{AfterReply}
-use Rattle.feed_node_connection.specs.declared.head_state.AfterReply.TheVariants.{Persist, Linger, Close}
-use Rattle.feed_node_connection.specs.Requests.{Request, Persistent, Last, Invalid, AreRequestsIn, Begins, persists, all_persist}
-use Rattle.feed_node_connection.specs.Events.{Event, Received, Replied, Resumed, Sent, received_bytes, reply_bytes, sent_bytes, requests_in, min_progress, is_idle, sent_since, elapsed}
-use Rattle.feed_node_connection.specs.Replies.{Replies, IsRepliedTo, IsHeadIn, IsServed, HasNoReply, persists_in, unavailable}
+use Rattle.feed_node_connection.specs.declared.head_state.FoundRequest.{FoundRequest}
+use Rattle.feed_node_connection.specs.declared.head_state.AfterReply.TheVariants.{Persist, Linger, Receive}
+use Rattle.feed_node_connection.specs.Requests.{Request, Persistent, Last, Invalid, AreRequestsIn, Begins, IsPersistent, persists, all_persist, states_len, body_len_of, expects_continue}
+use Rattle.feed_node_connection.specs.Events.{Event, Received, Replied, Continued, Resumed, Sent, interim, continue_text, received_bytes, reply_bytes, sent_bytes, requests_in, min_progress, is_idle, sent_len, sent_since, elapsed}
+use Rattle.feed_node_connection.specs.Replies.{Replies, IsRepliedTo, IsFoundIn, IsInterim, IsPending, IsServed, HasNoReply, after_reply, unavailable}
 use Rattle.feed_node_connection.specs.States.{IsServedUpTo, AreFirst, HasEnded, AreSent, IsFrontSent, IsInTime, IsCurrent, IsAfterReply}
-use Rattle.feed_node_connection.specs.States.{HasStateIn, HasState, HasParsed, HasReplied, rest_of, limit_in}
+use Rattle.feed_node_connection.specs.States.{HasStateIn, HasState, HasParsed, HasReplied, HasWaited, HasBegunWait, HasBegunInterim, IsSameButPhase, AreInterims, AreExpected, KnowsInterim, IsIncomplete, IsPartial, body_after, room_in, request_limit, rest_of, limit_in}
 use Rattle.feed_node_connection.specs.States.{HasBegunReply, HasResponded, HasRefused, phase_after, pending_in, wants_in, is_idle_in, is_lingering_in, is_reply_sent_in, IsRightAfter, StateIsRight}
 use Rattle.feed_node_connection.specs.Streams.{AreReplies, AllIsServed}
-use Rattle.feed_node_connection.proofs.Exchanges.{requests_on, requests_with, all_persist_with, ends_with, ends_with_none, head_taken, head_dropped}
+use Rattle.feed_node_connection.proofs.Unavailable.{unavailable_says}
+use Rattle.feed_node_connection.proofs.Exchanges.{begins_on, requests_on, requests_with, all_persist_with, ends_with, ends_with_none, head_taken, whole_begins}
 use Rattle.feed_node_connection.proofs.Exchanges.{exchanges, exchanges_asked, exchanges_replies, exchanges_replied}
+
+-- the phase is right for this history
+abbrev pub HasPhase : Connection → List Event → Type 0
+HasPhase connection history = HasStateIn connection.phase connection history
 
 -- no bytes may become a head
 pub nothing_yet : IsUnfinished head_limit []
@@ -31,20 +38,37 @@ nothing_yet = record { short = omega arith; not_whole = reading.nothing_yet.not_
 
 -- ---- bytes are received
 
+-- a client that waits for an interim reply still does
+pending_on : (bytes more text : List ℕ) → IsPending bytes text → IsPending (bytes ++ more) text
+pending_on bytes more text (inl none) = inl none
+pending_on bytes more text (inr is) = inr (is.0, (is.1.0, begins_on bytes more is.1.0 is.1.1, is.1.2))
+
 first_on : (history : List Event) (bytes : List ℕ) → AreFirst history → AreFirst (Received bytes ∷ history)
-first_on history bytes first = (first.0 ++ bytes, requests_on (requests_in history) (received_bytes history) first.0 bytes first.1)
+first_on history bytes first = (
+  first.0 ++ bytes,
+  requests_on (requests_in history) (received_bytes history) first.0 bytes first.1,
+  (first.2.0, pending_on first.0 bytes (interim history) first.2.1),
+)
+
+-- each request before these bytes has its reply
+served_on : (history : List Event) (bytes rest : List ℕ) → IsServedUpTo history rest → IsServedUpTo (Received bytes ∷ history) (rest ++ bytes)
+served_on history bytes rest was = record {
+  in_order = requests_on (requests_in history) (received_bytes history) rest bytes was.in_order;
+  persists = was.persists;
+  expected = (was.expected.0, pending_on rest bytes (interim history) was.expected.1);
+}
+
+first_of : (history : List Event) (rest : List ℕ) → IsServedUpTo history rest → AreFirst history
+first_of history rest served = (rest, served.in_order, served.expected)
 
 -- the bytes are held after those before
 pub received_whole : (idle : Bool) (old new : Connection) (history : List Event) (bytes : List ℕ) → IsCurrent idle old history
-    → new.phase ≡ Parsing → new.received.items ≡ old.received.items ++ bytes → new.sent_since ≡ old.sent_since → new.limits ≡ old.limits
-    → 0 < new.limits.step → new.elapsed ≡ cond idle 0 old.elapsed → HasState new (Received bytes ∷ history)
-received_whole idle old new history bytes was parsing held since limits some counted =
+    → new.phase ≡ Parsing → new.received.items ≡ old.received.items ++ bytes → new.is_continued ≡ old.is_continued → new.sent_since ≡ old.sent_since → new.limits ≡ old.limits
+    → 0 < new.limits.step → new.elapsed ≡ cond idle 0 old.elapsed → HasPhase new (Received bytes ∷ history)
+received_whole idle old new history bytes was parsing held continued since limits some counted =
     subst (λ (p : Phase). HasStateIn p new (Received bytes ∷ history)) (sym parsing) (record {
-      served = record {
-        in_order = subst (λ (t : List ℕ). AreRequestsIn (received_bytes history ++ bytes) (requests_in history) t) (sym held)
-            (requests_on (requests_in history) (received_bytes history) old.received.items bytes was.served.in_order);
-        persists = was.served.persists;
-      };
+      served = subst (IsServedUpTo (Received bytes ∷ history)) (sym held) (served_on history bytes old.received.items was.served);
+      knows = rw continued was.knows;
       sent = was.sent;
       in_time = time idle was counted;
     })
@@ -65,14 +89,14 @@ received_whole idle old new history bytes was parsing held since limits some cou
 
 -- memory ran out
 pub received_aborted : (idle : Bool) (old new : Connection) (history : List Event) (bytes : List ℕ) → IsCurrent idle old history
-    → new.phase ≡ Aborted → HasState new (Received bytes ∷ history)
+    → new.phase ≡ Aborted → HasPhase new (Received bytes ∷ history)
 received_aborted idle old new history bytes was aborted =
     subst (λ (p : Phase). HasStateIn p new (Received bytes ∷ history)) (sym aborted)
-    (first_on history bytes (old.received.items, was.served.in_order), ([], was.sent ∙ sym (append-nil (sent_bytes history))))
+    (first_on history bytes (first_of history old.received.items was.served), ([], was.sent ∙ sym (append-nil (sent_bytes history))))
 
 -- the bytes are dropped
 pub received_late : (connection : Connection) (history : List Event) (bytes : List ℕ) → connection.phase ≡ Lingering
-    → HasState connection history → HasState connection (Received bytes ∷ history)
+    → HasPhase connection history → HasPhase connection (Received bytes ∷ history)
 received_late connection history bytes lingering state =
     let was = subst (λ (p : Phase). HasStateIn p connection history) lingering state in
     subst (λ (p : Phase). HasStateIn p connection (Received bytes ∷ history)) (sym lingering) (record {
@@ -116,45 +140,75 @@ lingering_is Aborted is = absurd (cc)
 -- the whole reply was sent
 done : (after : AfterReply) (new : Connection) (history : List Event) → IsAfterReply after new history → AreSent history → new.reply.items ≡ []
     → IsInTime false new history → HasStateIn (phase_after after) new history
-done Persist new history is sent freed time = record { served = is; sent = sent; freed = freed; in_time = time }
+done Persist new history is sent freed time = record { served = is.0; no_interim = is.1; sent = sent; freed = freed; in_time = time }
+done Receive new history is sent freed time = record { served = is.0; knows = is.1; sent = sent; in_time = time }
 done Linger new history is sent freed time = record { complete = record { ended = is; sent = sent; freed = freed }; in_time = time }
-done Close new history is sent freed time = record { ended = is; sent = sent; freed = freed }
 
 -- a reply begins
 begun : (reply : List ℕ) (size : ℕ) (after : AfterReply) (request : Request) (old new : Connection) (history : List Event) → IsCurrent false old history → new.limits ≡ old.limits
     → HasBegunReply reply size after old new → IsAfterReply after new (Replied request reply ∷ history) → HasState new (Replied request reply ∷ history)
-begun [] size after request old new history was limits has is =
-    subst (λ (p : Phase). HasStateIn p new (Replied request [] ∷ history)) (sym has.phase)
-    (done after new (Replied request [] ∷ history) is (append-nil (reply_bytes history) ∙ was.sent) has.text
-    (record { idleness = refl; counted_time = has.elapsed; counted_bytes = has.sent_since; left = rw (has.elapsed, limits) (omega (arith, was.in_time.left)) }))
-begun (byte ∷ bytes) size after request old new history was limits has is =
-    subst (λ (p : Phase). HasStateIn p new (Replied request (byte ∷ bytes) ∷ history)) (sym has.phase) (record {
-      after = subst (λ (a : AfterReply). IsAfterReply a new (Replied request (byte ∷ bytes) ∷ history)) (sym has.after_is) is;
-      sent = rw (has.sent, has.text) (ap (λ t. t ++ byte ∷ bytes) was.sent);
-      more = rw (has.sent, has.text) (omega arith);
-      in_time = record { idleness = refl; counted_time = has.elapsed; counted_bytes = has.sent_since; left = rw (has.elapsed, limits) (omega (arith, was.in_time.left)) };
-    })
+begun [] size after request old new history was limits has is = (
+  subst (λ (p : Phase). HasStateIn p new (Replied request [] ∷ history)) (sym has.phase)
+      (done after new (Replied request [] ∷ history) is (append-nil (reply_bytes history) ∙ was.sent) has.text
+      (record { idleness = refl; counted_time = has.elapsed; counted_bytes = has.sent_since; left = rw (has.elapsed, limits) (omega (arith, was.in_time.left)) })),
+  has.sent_len,
+)
+begun (byte ∷ bytes) size after request old new history was limits has is = (
+  subst (λ (p : Phase). HasStateIn p new (Replied request (byte ∷ bytes) ∷ history)) (sym has.phase) (record {
+    after = subst (λ (a : AfterReply). IsAfterReply a new (Replied request (byte ∷ bytes) ∷ history)) (sym has.after_is) is;
+    sent = rw (has.sent, has.text) (ap (λ t. t ++ byte ∷ bytes) was.sent);
+    more = rw (has.sent, has.text) (omega arith);
+    sent_is = has.sent;
+    in_time = record { idleness = refl; counted_time = has.elapsed; counted_bytes = has.sent_since; left = rw (has.elapsed, limits) (omega (arith, was.in_time.left)) };
+  }),
+  has.sent_len,
+)
 
 -- memory ran out
-cut : (old new : Connection) (history : List Event) → IsCurrent false old history → new.phase ≡ Aborted → HasState new history
-cut old new history was is = subst (λ (p : Phase). HasStateIn p new history) (sym is)
-    ((old.received.items, was.served.in_order), ([], was.sent ∙ sym (append-nil (sent_bytes history))))
+cut : (old new : Connection) (history : List Event) → IsCurrent false old history → old.sent_len ≡ sent_len history → (new.phase ≡ Aborted) × (new.sent_len ≡ old.sent_len)
+    → HasState new history
+cut old new history was counted is =
+    (subst (λ (p : Phase). HasStateIn p new history) (sym is.0) (first_of history old.received.items was.served, ([], was.sent ∙ sym (append-nil (sent_bytes history)))), is.1 ∙ counted)
+
+-- the interim reply to the head at the front is one that the client expects
+interim_head : (bytes text : List ℕ) (head : RequestHead) → BeginsWithHead head_limit field_limit bytes head → IsPending bytes text
+    → (text ≡ []) ⊎ ((text ≡ continue_text) × (expects_continue head ≡ true))
+interim_head bytes text head begins (inl none) = inl none
+interim_head bytes text head begins (inr is) =
+    let one = request_unique bytes head is.1.0 begins.rest is.1.1.rest begins.reads is.1.1.reads in
+    inr (is.0, subst (λ (h : RequestHead). expects_continue h ≡ true) (sym one.0) is.1.2)
+
+-- there is none to bytes that are not a request
+interim_none : (bytes text : List ℕ) → NeverBeginsWithHead head_limit field_limit bytes → IsPending bytes text → text ≡ []
+interim_none bytes text never (inl none) = none
+interim_none bytes text never (inr is) = absurd (never [] is.1.0 (begins_on bytes [] is.1.0 is.1.1))
 
 -- what follows a request
-persists_after : (old new : Connection) (history : List Event) (reply : List ℕ) (size : ℕ) (head : RequestHead) → IsCurrent false old history
-    → (begins : Begins old.received.items head) → size ≡ length (print_request head) → persists head ≡ true → HasBegunReply reply size Persist old new
-    → IsServedUpTo (Replied (Persistent head) reply ∷ history) (rest_of new)
-persists_after old new history reply size head was begins is keeps has = record {
-  in_order = requests_with (requests_in history) (received_bytes history) old.received.items (Persistent head) (rest_of new) was.served.persists was.served.in_order
-      (begins, keeps, sym (rw (has.request_len, has.received) (head_dropped old.received.items head size begins is)));
-  persists = all_persist_with (requests_in history) head was.served.persists;
-}
+persists_after : (old new : Connection) (history : List Event) (reply : List ℕ) (head_len body_len : ℕ) (head : RequestHead) → IsCurrent false old history
+    → BeginsWithHead head_limit field_limit old.received.items head → head_len ≡ length (print_request head)
+    → persists head (length (body_after head_len body_len old.received.items)) ≡ true → HasBegunReply reply (head_len + body_len) Persist old new
+    → IsAfterReply Persist new (Replied (Persistent head (body_after head_len body_len old.received.items)) reply ∷ history)
+persists_after old new history reply head_len body_len head was begins is keeps has = (
+  record {
+    in_order = requests_with (requests_in history) (received_bytes history) old.received.items (Persistent head (body_after head_len body_len old.received.items)) (rest_of new)
+        was.served.persists was.served.in_order (whole_begins old.received.items head head_len body_len begins is, keeps, sym (rw (has.request_len, has.received) refl));
+    persists = all_persist_with (requests_in history) head (body_after head_len body_len old.received.items) was.served.persists;
+    expected = ((interim_head old.received.items (interim history) head begins was.served.expected.1, was.served.expected.0), inl refl);
+  },
+  refl,
+)
 
-ends_after : (old : Connection) (history : List Event) (reply : List ℕ) (head : RequestHead) → IsCurrent false old history → Begins old.received.items head
-    → HasEnded (Replied (Last head) reply ∷ history)
-ends_after old history reply head was begins = (
-  ([], requests_with (requests_in history) (received_bytes history) old.received.items (Last head) [] was.served.persists was.served.in_order (begins, refl)),
-  ends_with (requests_in history) head,
+ends_after : (old : Connection) (history : List Event) (reply : List ℕ) (head_len body_len : ℕ) (head : RequestHead) → IsCurrent false old history
+    → BeginsWithHead head_limit field_limit old.received.items head → head_len ≡ length (print_request head)
+    → HasEnded (Replied (Last head (body_after head_len body_len old.received.items)) reply ∷ history)
+ends_after old history reply head_len body_len head was begins is = (
+  (
+    [],
+    requests_with (requests_in history) (received_bytes history) old.received.items (Last head (body_after head_len body_len old.received.items)) [] was.served.persists
+        was.served.in_order (whole_begins old.received.items head head_len body_len begins is, refl),
+    ((interim_head old.received.items (interim history) head begins was.served.expected.1, was.served.expected.0), inl refl),
+  ),
+  ends_with (requests_in history) head (body_after head_len body_len old.received.items),
 )
 
 invalid_after : (old : Connection) (history : List Event) (reply : List ℕ) → IsCurrent false old history → NeverBeginsWithHead head_limit field_limit old.received.items
@@ -164,77 +218,244 @@ invalid_after old history reply was never = (
     [],
     requests_with (requests_in history) (received_bytes history) old.received.items (Invalid old.received.items) [] was.served.persists was.served.in_order
         (sym (append-nil old.received.items), never, refl),
+    ((interim_none old.received.items (interim history) never was.served.expected.1, was.served.expected.0), inl refl),
   ),
   ends_with_none (requests_in history) old.received.items,
 )
 
--- the reply to a head
-pub replied_head : (replies : Replies) (after : AfterReply) (old new : Connection) (history : List Event) (size : ℕ) → old.phase ≡ Parsing → HasState old history → new.limits ≡ old.limits
-    → IsHeadIn old.received.items size after → HasResponded replies size after old new → HasParsed replies true new history
-replied_head replies after old new history size parsing state limits is responded =
-    by after (subst (λ (p : Phase). HasStateIn p old history) parsing state) is responded
+-- the bytes of a persistent head allow its reply to say so
+pub allowed_head : (wanted : List ℕ → ℕ) (bytes : List ℕ) (found : FoundRequest) → IsFoundIn wanted bytes found → found.head_len + found.body_len ≤ length bytes
+    → found.persists ≡ true → IsPersistent (wanted (take found.head_len bytes)) (take found.head_len bytes) (body_after found.head_len found.body_len bytes)
+allowed_head wanted bytes found is within keeps =
+    let taken : take found.head_len bytes ≡ print_request is.head = head_taken bytes is.head found.head_len is.begins is.found.head_len_is in
+    let long : length (body_after found.head_len found.body_len bytes) ≡ found.body_len = body_long found.head_len found.body_len bytes within in
+    record {
+      head = is.head;
+      begins = subst (λ (t : List ℕ). BeginsWithHead head_limit field_limit t is.head) (sym taken) (record {
+        rest = [];
+        reads = (is.begins.reads.0, sym (append-nil (print_request is.head)));
+        short = is.begins.short;
+        few = is.begins.few;
+      });
+      size = long ∙ is.found.body_is ∙ ap (λ t. body_len_of (wanted t) is.head) (sym taken);
+      keeps = ap (persists is.head) long ∙ sym is.found.persists_is ∙ keeps;
+    }
   where
-    text : (h : RequestHead) → Begins old.received.items h → size ≡ length (print_request h) → (keeps : Bool) (reply : List ℕ)
-        → replies (take size old.received.items) keeps (Some reply) → replies (print_request h) keeps (Some reply)
-    text h begins size_is keeps reply has = subst (λ (t : List ℕ). replies t keeps (Some reply)) (head_taken old.received.items h size begins size_is) has
+    body_long : (head_len body_len : ℕ) (bytes : List ℕ) → head_len + body_len ≤ length bytes → length (body_after head_len body_len bytes) ≡ body_len
+    body_long head_len body_len bytes within = length-take-le body_len (drop head_len bytes) (omega (arith, within, length-drop head_len bytes))
 
-    refused : (h : RequestHead) → Begins old.received.items h → size ≡ length (print_request h) → IsCurrent false old history
-        → HasNoReply replies (take size old.received.items) → HasRefused size old new → HasReplied replies new history
-    refused h begins size_is was none (inl has) = inl (
-      Last h,
+-- the reply to a head
+pub replied_head : (replies : Replies) (found : FoundRequest) (old new : Connection) (history : List Event) → old.phase ≡ Parsing → HasState old history → new.limits ≡ old.limits
+    → IsFoundIn replies.0 old.received.items found → found.head_len + found.body_len ≤ length old.received.items
+    → HasResponded replies found.head_len found.body_len found.persists old new → HasParsed replies true new history
+replied_head replies found old new history parsing state limits is within responded =
+    by found.persists refl (subst (λ (p : Phase). HasStateIn p old history) parsing state.0) responded
+  where
+    bytes : List ℕ
+    bytes = old.received.items
+
+    body : List ℕ
+    body = body_after found.head_len found.body_len old.received.items
+
+    taken : take found.head_len old.received.items ≡ print_request is.head
+    taken = head_taken old.received.items is.head found.head_len is.begins is.found.head_len_is
+
+    long : length (body_after found.head_len found.body_len old.received.items) ≡ found.body_len
+    long = length-take-le found.body_len (drop found.head_len old.received.items) (omega (arith, within, length-drop found.head_len old.received.items))
+
+    wanted : length (body_after found.head_len found.body_len old.received.items) ≡ body_len_of (replies.0 (print_request is.head)) is.head
+    wanted = long ∙ is.found.body_is
+
+    keeps : (p : Bool) → found.persists ≡ p → persists is.head (length (body_after found.head_len found.body_len old.received.items)) ≡ p
+    keeps p same = ap (persists is.head) long ∙ sym is.found.persists_is ∙ same
+
+    text : (p : Bool) (reply : List ℕ) → replies.1 (take found.head_len old.received.items) (body_after found.head_len found.body_len old.received.items) p (Some reply)
+        → replies.1 (print_request is.head) (body_after found.head_len found.body_len old.received.items) p (Some reply)
+    text p reply has = subst (λ (t : List ℕ). replies.1 t (body_after found.head_len found.body_len old.received.items) p (Some reply)) taken has
+
+    by : (p : Bool) → found.persists ≡ p → IsCurrent false old history → HasResponded replies found.head_len found.body_len p old new → HasReplied replies new history
+    by true same was (inl (reply, has, says, begins)) = inl (
+      Persistent is.head (body_after found.head_len found.body_len old.received.items),
+      reply,
+      record { wanted = wanted; reply_of = text true reply has; says = says },
+      begun reply (found.head_len + found.body_len) Persist (Persistent is.head (body_after found.head_len found.body_len old.received.items)) old new history was limits begins
+          (persists_after old new history reply found.head_len found.body_len is.head was is.begins is.found.head_len_is (keeps true same) begins),
+    )
+    by false same was (inl (reply, has, says, begins)) = inl (
+      Last is.head (body_after found.head_len found.body_len old.received.items),
+      reply,
+      record { wanted = wanted; reply_of = inl (keeps false same, text false reply has); says = says },
+      begun reply (found.head_len + found.body_len) Linger (Last is.head (body_after found.head_len found.body_len old.received.items)) old new history was limits begins
+          (ends_after old history reply found.head_len found.body_len is.head was is.begins is.found.head_len_is),
+    )
+    by p same was (inr (none, inl begins)) = inl (
+      Last is.head (body_after found.head_len found.body_len old.received.items),
       unavailable,
-      inr (subst (HasNoReply replies) (head_taken old.received.items h size begins size_is) none, refl),
-      begun unavailable size Linger (Last h) old new history was limits has (ends_after old history unavailable h was begins),
+      record {
+        wanted = wanted;
+        reply_of = inr (subst (λ (t : List ℕ). HasNoReply replies t (body_after found.head_len found.body_len old.received.items)) taken none, refl);
+        says = unavailable_says;
+      },
+      begun unavailable (found.head_len + found.body_len) Linger (Last is.head (body_after found.head_len found.body_len old.received.items)) old new history was limits begins
+          (ends_after old history unavailable found.head_len found.body_len is.head was is.begins is.found.head_len_is),
     )
-    refused h begins size_is was none (inr aborted) = inr (take size old.received.items, none, aborted, cut old new history was aborted)
-
-    by : (a : AfterReply) → IsCurrent false old history → IsHeadIn old.received.items size a → HasResponded replies size a old new → HasReplied replies new history
-    by Persist was head (inl (reply, has, begins)) = inl (
-      Persistent head.head,
-      reply,
-      text head.head head.begins head.size_is true reply has,
-      begun reply size Persist (Persistent head.head) old new history was limits begins
-          (persists_after old new history reply size head.head was head.begins head.size_is (sym head.after_is) begins),
+    by p same was (inr (none, inr aborted)) = inr (
+      take found.head_len old.received.items,
+      body_after found.head_len found.body_len old.received.items,
+      none,
+      aborted.0,
+      cut old new history was state.1 aborted,
     )
-    by Persist was head (inr (none, refuses)) = refused head.head head.begins head.size_is was none refuses
-    by Linger was head (inl (reply, has, begins)) = inl (
-      Last head.head,
-      reply,
-      inl (sym head.after_is, text head.head head.begins head.size_is false reply has),
-      begun reply size Linger (Last head.head) old new history was limits begins (ends_after old history reply head.head was head.begins),
-    )
-    by Linger was head (inr (none, refuses)) = refused head.head head.begins head.size_is was none refuses
-    by Close was head (inl (reply, has, begins)) = inl (
-      Last head.head,
-      reply,
-      inl (sym head.after_is, text head.head head.begins head.size_is false reply has),
-      begun reply size Close (Last head.head) old new history was limits begins (ends_after old history reply head.head was head.begins),
-    )
-    by Close was head (inr (none, refuses)) = refused head.head head.begins head.size_is was none refuses
 
 -- the reply to bytes that are not a request
 pub replied_invalid : (replies : Replies) (old new : Connection) (history : List Event) (size : ℕ) → old.phase ≡ Parsing → HasState old history → new.limits ≡ old.limits
-    → size ≡ length old.received.items → NeverBeginsWithHead head_limit field_limit old.received.items → HasResponded replies size Linger old new → HasParsed replies true new history
+    → size ≡ length old.received.items → NeverBeginsWithHead head_limit field_limit old.received.items → HasResponded replies size 0 false old new → HasParsed replies true new history
 replied_invalid replies old new history size parsing state limits is never responded =
-    by (subst (λ (p : Phase). HasStateIn p old history) parsing state) responded
+    by (subst (λ (p : Phase). HasStateIn p old history) parsing state.0) responded
   where
     all : take size old.received.items ≡ old.received.items
     all = take_all size old.received.items (omega (arith, is))
 
-    by : IsCurrent false old history → HasResponded replies size Linger old new → HasReplied replies new history
-    by was (inl (reply, has, begins)) = inl (
+    no_bytes : (xs : List ℕ) → take 0 xs ≡ []
+    no_bytes [] = refl
+    no_bytes (x ∷ xs) = refl
+
+    none_after : body_after size 0 old.received.items ≡ []
+    none_after = no_bytes (drop size old.received.items)
+
+    no_reply : HasNoReply replies (take size old.received.items) (body_after size 0 old.received.items) → HasNoReply replies old.received.items []
+    no_reply none = (
+      none.0,
+      subst (λ (t : List ℕ). replies.1 t [] none.0 None) all
+          (subst (λ (t : List ℕ). replies.1 (take size old.received.items) t none.0 None) none_after none.1),
+    )
+
+    by : IsCurrent false old history → HasResponded replies size 0 false old new → HasReplied replies new history
+    by was (inl (reply, has, says, begins)) = inl (
       Invalid old.received.items,
       reply,
-      inl (subst (λ (t : List ℕ). replies t false (Some reply)) all has),
-      begun reply size Linger (Invalid old.received.items) old new history was limits begins (invalid_after old history reply was never),
+      record {
+        wanted = tt;
+        reply_of = inl (subst (λ (t : List ℕ). replies.1 t [] false (Some reply)) all
+            (subst (λ (t : List ℕ). replies.1 (take size old.received.items) t false (Some reply)) none_after has));
+        says = says;
+      },
+      begun reply (size + 0) Linger (Invalid old.received.items) old new history was limits begins (invalid_after old history reply was never),
     )
     by was (inr (none, inl begins)) = inl (
       Invalid old.received.items,
       unavailable,
-      inr (subst (HasNoReply replies) all none, refl),
-      begun unavailable size Linger (Invalid old.received.items) old new history was limits begins (invalid_after old history unavailable was never),
+      record { wanted = tt; reply_of = inr (no_reply none, refl); says = unavailable_says },
+      begun unavailable (size + 0) Linger (Invalid old.received.items) old new history was limits begins (invalid_after old history unavailable was never),
     )
-    by was (inr (none, inr aborted)) = inr (take size old.received.items, none, aborted, cut old new history was aborted)
+    by was (inr (none, inr aborted)) = inr (
+      take size old.received.items,
+      body_after size 0 old.received.items,
+      none,
+      aborted.0,
+      cut old new history was state.1 aborted,
+    )
+
+-- ---- the connection waits for a body
+
+-- what it waits with
+still : (old new : Connection) (history : List Event) → IsCurrent false old history → new.limits ≡ old.limits → IsSameButPhase old new → IsCurrent false new history
+still old new history was limits same = record {
+  served = subst (IsServedUpTo history) (sym same.received) was.served;
+  knows = rw same.is_continued was.knows;
+  sent = was.sent;
+  in_time = record {
+    idleness = was.in_time.idleness;
+    counted_time = same.elapsed ∙ was.in_time.counted_time;
+    counted_bytes = same.sent_since ∙ was.in_time.counted_bytes;
+    left = rw (same.elapsed, limits) was.in_time.left;
+  };
+}
+
+-- the head is not whole
+pub unfinished : (old new : Connection) (history : List Event) → old.phase ≡ Parsing → HasState old history → new.limits ≡ old.limits → new.phase ≡ Receiving
+    → IsSameButPhase old new → IsUnfinished head_limit old.received.items → HasWaited new history
+unfinished old new history parsing state limits phase same is = inl (
+  phase,
+  (
+    subst (λ (p : Phase). HasStateIn p new history) (sym phase) (record {
+      current = still old new history (subst (λ (p : Phase). HasStateIn p old history) parsing state.0) limits same;
+      incomplete = inl (subst (IsUnfinished head_limit) (sym same.received) is);
+    }),
+    same.sent_len ∙ state.1,
+  ),
+)
+
+both_true : (a b : Bool) → (a && not b) ≡ true → (a ≡ true) × (b ≡ false)
+both_true true true is = absurd (cc)
+both_true true false is = (refl, refl)
+both_true false b is = absurd (cc)
+
+one_false : (a b : Bool) → (a && not b) ≡ false → a ≡ true → b ≡ true
+one_false true true is has = refl
+one_false true false is has = absurd (cc)
+one_false false b is has = absurd (cc)
+
+-- the length of a body that is not whole is the one that the head states
+stated_is : (wanted size : ℕ) (head : RequestHead) → size ≡ body_len_of wanted head → 0 < size → states_len head size ≡ true
+stated_is wanted size head is some = by (cases_Bool (states_len head wanted))
+  where
+    by : (states_len head wanted ≡ true) ⊎ (states_len head wanted ≡ false) → states_len head size ≡ true
+    by (inl states) = let same : size ≡ wanted = is ∙ rw states refl in subst (λ n. states_len head n ≡ true) (sym same) states
+    by (inr lacks) = let zero : size ≡ 0 = is ∙ rw lacks refl in absurd (omega (arith, zero, some))
+
+-- the bytes held do not have the body
+pub waited : (wanted : List ℕ → ℕ) (found : FoundRequest) (old new : Connection) (history : List Event) → old.phase ≡ Parsing → HasState old history → new.limits ≡ old.limits
+    → IsFoundIn wanted old.received.items found → length old.received.items < found.head_len + found.body_len
+    → HasBegunWait (found.expects_continue && not old.is_continued) old new → HasWaited new history
+waited wanted found old new history parsing state limits is missing waits =
+    by (found.expects_continue && not old.is_continued) refl (subst (λ (p : Phase). HasStateIn p old history) parsing state.0) waits
+  where
+    by : (b : Bool) → (found.expects_continue && not old.is_continued) ≡ b → IsCurrent false old history → HasBegunWait b old new → HasWaited new history
+    by true both was (inl has) =
+        let facts = both_true found.expects_continue old.is_continued both in
+        let none : interim history ≡ [] = was.knows ∙ rw facts.1 refl in
+        inr (inl (
+          subst (λ (p : Phase). HasStateIn p new (Continued ∷ history)) (sym has.phase) (record {
+            after = subst (λ (a : AfterReply). IsAfterReply a new (Continued ∷ history)) (sym has.after_is) (
+              record {
+                in_order = rw has.received was.served.in_order;
+                persists = was.served.persists;
+                expected = (was.served.expected.0, inr (rw none refl, (is.head, rw has.received is.begins, sym is.found.expects_is ∙ facts.0)));
+              },
+              rw (none, has.is_continued) refl,
+            );
+            sent = rw (has.sent, has.text) (ap (λ t. t ++ continue_text) was.sent);
+            more = rw (has.sent, has.text) (omega arith);
+            sent_is = has.sent;
+            in_time = record {
+              idleness = refl;
+              counted_time = has.elapsed ∙ was.in_time.counted_time;
+              counted_bytes = has.sent_since ∙ was.in_time.counted_bytes;
+              left = rw (has.elapsed, limits) was.in_time.left;
+            };
+          }),
+          has.sent_len,
+        ))
+    by true both was (inr aborted) = inr (inr (aborted.0, cut old new history was state.1 aborted))
+    by false none was (phase, same) = inl (
+      phase,
+      (
+        subst (λ (p : Phase). HasStateIn p new history) (sym phase) (record {
+          current = still old new history was limits same;
+          incomplete = inr (record {
+            head = is.head;
+            begins = rw same.received is.begins;
+            size = found.body_len;
+            states = stated_is (wanted (print_request is.head)) found.body_len is.head is.found.body_is (omega (arith, is.within, missing));
+            small = is.small;
+            missing = rw same.received (omega (arith, missing, is.found.head_len_is));
+            told = λ expects. same.is_continued ∙ one_false found.expects_continue old.is_continued none (is.found.expects_is ∙ expects);
+          });
+        }),
+        same.sent_len ∙ state.1,
+      ),
+    )
 
 -- ---- bytes are sent
 
@@ -277,16 +498,28 @@ pub record IsSameButSent (old new : Connection) : Type 0 where
   pub received : new.received ≡ old.received
   pub request_len : new.request_len ≡ old.request_len
   pub after : new.after ≡ old.after
+  pub continued : new.is_continued ≡ old.is_continued
   pub limits : new.limits ≡ old.limits
 
 after_same : (after : AfterReply) (old new : Connection) (history : List Event) (bytes : List ℕ) → IsSameButSent old new
     → IsAfterReply after old history → IsAfterReply after new (Sent bytes ∷ history)
-after_same Persist old new history bytes same is = record {
-  in_order = rw (same.received, same.request_len) is.in_order;
-  persists = is.persists;
-}
+after_same Persist old new history bytes same is = (
+  record {
+    in_order = rw (same.received, same.request_len) is.0.in_order;
+    persists = is.0.persists;
+    expected = (is.0.expected.0, rw (same.received, same.request_len) is.0.expected.1);
+  },
+  is.1,
+)
+after_same Receive old new history bytes same is = (
+  record {
+    in_order = rw same.received is.0.in_order;
+    persists = is.0.persists;
+    expected = (is.0.expected.0, rw same.received is.0.expected.1);
+  },
+  rw same.continued is.1,
+)
 after_same Linger old new history bytes same is = is
-after_same Close old new history bytes same is = is
 
 -- the replies are the bytes sent before, those sent now, and the rest
 went_on : (reply : List ℕ) (sent count : ℕ) (before replies : List ℕ) → replies ≡ before ++ drop sent reply
@@ -314,13 +547,14 @@ sent_part Sending old new history count some within same reply sent counts other
           (after_same old.after old new history bytes same state.after);
       sent = rw (reply, sent) (went_on old.reply.items old.sent count (sent_bytes history) (reply_bytes history) state.sent);
       more = rw (reply, sent) (omega (arith, state.more, within, other, length-drop old.sent old.reply.items));
+      sent_is = sent ∙ rw (long, state.sent_is) refl;
       in_time = in_time old new history bytes count long counts same.limits state.in_time;
     }
 
 -- the peer accepted all of it
 pub sent_whole : (phase : Phase) (old new : Connection) (history : List Event) (count : ℕ) → 0 < count → count ≤ length (pending_in phase old)
     → IsSameButSent old new → HasCounted count old new → count ≡ length old.reply.items - old.sent → new.reply.items ≡ [] → new.phase ≡ phase_after old.after
-    → HasStateIn phase old history → HasState new (Sent (take count (pending_in phase old)) ∷ history)
+    → HasStateIn phase old history → HasPhase new (Sent (take count (pending_in phase old)) ∷ history)
 sent_whole Idle old new history count some within same counts all freed is state = absurd (omega (arith, some, within))
 sent_whole Receiving old new history count some within same counts all freed is state = absurd (omega (arith, some, within))
 sent_whole Parsing old new history count some within same counts all freed is state = absurd (omega (arith, some, within))
@@ -339,12 +573,25 @@ sent_whole Sending old new history count some within same counts all freed is st
     freed
     (in_time old new history bytes count long counts same.limits state.in_time))
 
+-- the bytes of the reply that were sent, as the peer accepted some
+pub counted_sent : (phase : Phase) (old : Connection) (history : List Event) (count : ℕ) → 0 < count → count ≤ length (pending_in phase old)
+    → HasStateIn phase old history → old.sent + count ≡ sent_len (Sent (take count (pending_in phase old)) ∷ history)
+counted_sent Idle old history count some within state = absurd (omega (arith, some, within))
+counted_sent Receiving old history count some within state = absurd (omega (arith, some, within))
+counted_sent Parsing old history count some within state = absurd (omega (arith, some, within))
+counted_sent Answered old history count some within state = absurd (omega (arith, some, within))
+counted_sent Lingering old history count some within state = absurd (omega (arith, some, within))
+counted_sent Complete old history count some within state = absurd (omega (arith, some, within))
+counted_sent Aborted old history count some within state = absurd (omega (arith, some, within))
+counted_sent Sending old history count some within state =
+    rw (length-take-le count (drop old.sent old.reply.items) within, state.sent_is) refl
+
 -- ---- the connection resumes
 
-pub resumed : (old new : Connection) (history : List Event) → old.phase ≡ Answered → HasState old history → new.received.items ≡ rest_of old
+pub resumed : (old new : Connection) (history : List Event) → old.phase ≡ Answered → HasPhase old history → new.received.items ≡ rest_of old → new.is_continued ≡ false
     → new.elapsed ≡ 0 → new.sent_since ≡ 0 → 0 < new.limits.step → 0 < new.limits.idle → (idle : Bool) → idle ≡ (vec_len new.received == 0)
-    → new.phase ≡ cond idle Idle Parsing → HasState new (Resumed (length (rest_of old) == 0) ∷ history)
-resumed old new history answered state held anew since step_some idle_some idle is phase =
+    → new.phase ≡ cond idle Idle Parsing → HasPhase new (Resumed (length (rest_of old) == 0) ∷ history)
+resumed old new history answered state held continued anew since step_some idle_some idle is phase =
     by idle (is ∙ ap (λ n. n == 0) (long ∙ ap length held)) phase
   where
     long : vec_len new.received ≡ length new.received.items
@@ -355,7 +602,8 @@ resumed old new history answered state held anew since step_some idle_some idle 
 
     current : (i : Bool) → i ≡ (length (rest_of old) == 0) → 0 < limit_in i new.limits → IsCurrent i new (Resumed (length (rest_of old) == 0) ∷ history)
     current i same left = record {
-      served = record { in_order = rw held was.served.in_order; persists = was.served.persists };
+      served = record { in_order = rw held was.served.in_order; persists = was.served.persists; expected = (was.served.expected.0, rw held was.served.expected.1) };
+      knows = rw continued was.no_interim;
       sent = was.sent;
       in_time = record { idleness = sym same; counted_time = anew; counted_bytes = since; left = rw anew left };
     }
@@ -364,7 +612,7 @@ resumed old new history answered state held anew since step_some idle_some idle 
     none_left [] none = refl
     none_left (x ∷ xs) none = let zero : suc (length xs) ≡ 0 = eqb-true (length (x ∷ xs)) 0 none in absurd (omega (arith, zero))
 
-    by : (i : Bool) → i ≡ (length (rest_of old) == 0) → new.phase ≡ cond i Idle Parsing → HasState new (Resumed (length (rest_of old) == 0) ∷ history)
+    by : (i : Bool) → i ≡ (length (rest_of old) == 0) → new.phase ≡ cond i Idle Parsing → HasPhase new (Resumed (length (rest_of old) == 0) ∷ history)
     by true same phase_is = subst (λ (p : Phase). HasStateIn p new (Resumed (length (rest_of old) == 0) ∷ history)) (sym phase_is)
         (record { current = current true same idle_some; none = held ∙ none_left (rest_of old) (sym same) })
     by false same phase_is = subst (λ (p : Phase). HasStateIn p new (Resumed (length (rest_of old) == 0) ∷ history)) (sym phase_is) (current false same step_some)
@@ -372,16 +620,16 @@ resumed old new history answered state held anew since step_some idle_some idle 
 -- ---- the laws
 
 first_after : (after : AfterReply) (connection : Connection) (history : List Event) → IsAfterReply after connection history → AreFirst history
-first_after Persist connection history is = (rest_of connection, is.in_order)
+first_after Persist connection history is = first_of history (rest_of connection) is.0
 first_after Linger connection history is = is.0
-first_after Close connection history is = is.0
+first_after Receive connection history is = first_of history connection.received.items is.0
 
 pub first_in : (phase : Phase) (connection : Connection) (history : List Event) → HasStateIn phase connection history → AreFirst history
-first_in Idle connection history state = (connection.received.items, state.current.served.in_order)
-first_in Receiving connection history state = (connection.received.items, state.current.served.in_order)
-first_in Parsing connection history state = (connection.received.items, state.served.in_order)
+first_in Idle connection history state = first_of history connection.received.items state.current.served
+first_in Receiving connection history state = first_of history connection.received.items state.current.served
+first_in Parsing connection history state = first_of history connection.received.items state.served
 first_in Sending connection history state = first_after connection.after connection history state.after
-first_in Answered connection history state = (rest_of connection, state.served.in_order)
+first_in Answered connection history state = first_of history (rest_of connection) state.served
 first_in Lingering connection history state = state.complete.ended.0
 first_in Complete connection history state = state.ended.0
 first_in Aborted connection history state = state.0
@@ -401,19 +649,26 @@ front_in Aborted connection history state = state.1
 
 pub all_served : (replies : Replies) → AllIsServed replies
 all_served replies connection history state are =
-    let first = first_in connection.phase connection history state in
-    let front = front_in connection.phase connection history state in
+    let first = first_in connection.phase connection history state.0 in
+    let front = front_in connection.phase connection history state.0 in
     record {
       exchanges = exchanges history;
       rest = first.0;
+      pending = interim history;
       unsent = front.0;
       in_order = subst (λ (requests : List Request). AreRequestsIn (received_bytes history) requests first.0) (sym (exchanges_asked history)) first.1;
-      replied = exchanges_replied replies history are;
+      replied = exchanges_replied replies history first.2.0 are;
+      expected = first.2.1;
       front = exchanges_replies history ∙ front.1;
     }
 
+-- there is room for more of a request that is not whole
+has_room : (is_continued : Bool) (bytes : List ℕ) → IsIncomplete is_continued bytes → 0 < request_limit - length bytes
+has_room is_continued bytes (inl is) = omega (arith, is.short)
+has_room is_continued bytes (inr is) = omega (arith, is.missing, is.small, is.begins.short)
+
 pub state_right : StateIsRight
-state_right connection history state = by connection.phase refl (state)
+state_right connection history state = by connection.phase refl state.0
   where
     late_is_out : (idle : Bool) (time : IsInTime idle connection history) → limit_in (is_idle history) connection.limits ≤ elapsed history → ⊥
     late_is_out idle time late =
@@ -432,6 +687,7 @@ state_right connection history state = by connection.phase refl (state)
       ends = λ over. elim over [ inl e ↦ absurd (cc) | inr e ↦ absurd (cc) ];
       waits = λ e. absurd (cc);
       idles = λ e. (now.current.sent, subst (IsServedUpTo history) now.none now.current.served);
+      reads = λ e. subst (λ (p : Phase). 0 < room_in p connection) (sym is) (omega (arith, ap length now.none));
       closes = λ late. absurd (late_is_out true now.current.in_time late);
     }
     by Receiving is now = record {
@@ -440,8 +696,9 @@ state_right connection history state = by connection.phase refl (state)
       whole = λ e. absurd (unsent is refl e);
       persists = λ e. absurd (cc);
       ends = λ over. elim over [ inl e ↦ absurd (cc) | inr e ↦ absurd (cc) ];
-      waits = λ e. (now.current.sent, now.current.served, now.unfinished);
+      waits = λ e. (now.current.sent, now.current.served, now.incomplete);
       idles = λ e. absurd (cc);
+      reads = λ e. subst (λ (p : Phase). 0 < room_in p connection) (sym is) (has_room connection.is_continued connection.received.items now.incomplete);
       closes = λ late. absurd (late_is_out false now.current.in_time late);
     }
     by Parsing is now = record {
@@ -452,6 +709,7 @@ state_right connection history state = by connection.phase refl (state)
       ends = λ over. elim over [ inl e ↦ absurd (cc) | inr e ↦ absurd (cc) ];
       waits = λ e. absurd (cc);
       idles = λ e. absurd (cc);
+      reads = λ e. absurd (cc);
       closes = λ late. absurd (late_is_out false now.in_time late);
     }
     by Sending is now = record {
@@ -462,6 +720,7 @@ state_right connection history state = by connection.phase refl (state)
       ends = λ over. elim over [ inl e ↦ absurd (cc) | inr e ↦ absurd (cc) ];
       waits = λ e. absurd (cc);
       idles = λ e. absurd (cc);
+      reads = λ e. absurd (cc);
       closes = λ late. absurd (late_is_out false now.in_time late);
     }
     by Answered is now = record {
@@ -472,6 +731,7 @@ state_right connection history state = by connection.phase refl (state)
       ends = λ over. elim over [ inl e ↦ absurd (cc) | inr e ↦ absurd (cc) ];
       waits = λ e. absurd (cc);
       idles = λ e. absurd (cc);
+      reads = λ e. absurd (cc);
       closes = λ late. absurd (late_is_out false now.in_time late);
     }
     by Lingering is now = record {
@@ -482,6 +742,7 @@ state_right connection history state = by connection.phase refl (state)
       ends = λ over. now.complete.ended.1;
       waits = λ e. absurd (cc);
       idles = λ e. absurd (cc);
+      reads = λ e. subst (λ (p : Phase). 0 < room_in p connection) (sym is) (omega arith);
       closes = λ late. absurd (late_is_out false now.in_time late);
     }
     by Complete is now = record {
@@ -492,6 +753,7 @@ state_right connection history state = by connection.phase refl (state)
       ends = λ over. now.ended.1;
       waits = λ e. absurd (cc);
       idles = λ e. absurd (cc);
+      reads = λ e. absurd (cc);
       closes = λ late. rw is refl;
     }
     by Aborted is now = record {
@@ -502,5 +764,6 @@ state_right connection history state = by connection.phase refl (state)
       ends = λ over. elim over [ inl e ↦ absurd (cc) | inr e ↦ absurd (cc) ];
       waits = λ e. absurd (cc);
       idles = λ e. absurd (cc);
+      reads = λ e. absurd (cc);
       closes = λ late. rw is refl;
     }

@@ -4,9 +4,9 @@ use Rattle.std.specs.Io.KnownBytes.{Consumes, Appends}
 use Rattle.feed_node_connection.specs.declared.connection.Connection.{Connection}
 use Rattle.feed_node_connection.specs.declared.streams.Share.{Share}
 use Rattle.feed_node_connection.specs.Requests.{Request}
-use Rattle.feed_node_connection.specs.Events.{Event, Received, Replied, Sent, Resumed, Elapsed, received_bytes, requests_in, sent_bytes}
+use Rattle.feed_node_connection.specs.Events.{Event, Received, Replied, Sent, Continued, Resumed, Elapsed, received_bytes, requests_in, sent_bytes}
 use Rattle.feed_node_connection.specs.Replies.{Replies}
-use Rattle.feed_node_connection.specs.States.{HasState, HasParsed}
+use Rattle.feed_node_connection.specs.States.{HasState, HasParsed, HasWaited}
 use Rattle.feed_node_connection.specs.Streams.{AreReplies, HasAdvanced, HasRead, HasWritten}
 
 consumes_none : (old : Option (List ℕ)) → Consumes old old []
@@ -34,6 +34,7 @@ received_bytes-append [] earlier = sym (append-nil (received_bytes earlier))
 received_bytes-append (Received bytes ∷ later) earlier = ap (λ t. t ++ bytes) (received_bytes-append later earlier) ∙ append_assoc (received_bytes earlier) (received_bytes later) bytes
 received_bytes-append (Replied request reply ∷ later) earlier = received_bytes-append later earlier
 received_bytes-append (Sent bytes ∷ later) earlier = received_bytes-append later earlier
+received_bytes-append (Continued ∷ later) earlier = received_bytes-append later earlier
 received_bytes-append (Resumed idle ∷ later) earlier = received_bytes-append later earlier
 received_bytes-append (Elapsed millis ∷ later) earlier = received_bytes-append later earlier
 
@@ -42,6 +43,7 @@ sent_bytes-append [] earlier = sym (append-nil (sent_bytes earlier))
 sent_bytes-append (Received bytes ∷ later) earlier = sent_bytes-append later earlier
 sent_bytes-append (Replied request reply ∷ later) earlier = sent_bytes-append later earlier
 sent_bytes-append (Sent bytes ∷ later) earlier = ap (λ t. t ++ bytes) (sent_bytes-append later earlier) ∙ append_assoc (sent_bytes earlier) (sent_bytes later) bytes
+sent_bytes-append (Continued ∷ later) earlier = sent_bytes-append later earlier
 sent_bytes-append (Resumed idle ∷ later) earlier = sent_bytes-append later earlier
 sent_bytes-append (Elapsed millis ∷ later) earlier = sent_bytes-append later earlier
 
@@ -51,6 +53,7 @@ requests-append (Received bytes ∷ later) earlier = requests-append later earli
 requests-append (Replied request reply ∷ later) earlier =
     ap (λ t. t ++ request ∷ []) (requests-append later earlier) ∙ append_assoc (requests_in earlier) (requests_in later) (request ∷ [])
 requests-append (Sent bytes ∷ later) earlier = requests-append later earlier
+requests-append (Continued ∷ later) earlier = requests-append later earlier
 requests-append (Resumed idle ∷ later) earlier = requests-append later earlier
 requests-append (Elapsed millis ∷ later) earlier = requests-append later earlier
 
@@ -64,6 +67,7 @@ no_replies replies [] none = tt
 no_replies replies (Received bytes ∷ more) none = no_replies replies more none
 no_replies replies (Replied request reply ∷ more) none = absurd (nil≢snoc (requests_in more) request none)
 no_replies replies (Sent bytes ∷ more) none = no_replies replies more none
+no_replies replies (Continued ∷ more) none = no_replies replies more none
 no_replies replies (Resumed idle ∷ more) none = no_replies replies more none
 no_replies replies (Elapsed millis ∷ more) none = no_replies replies more none
 
@@ -72,6 +76,7 @@ replies-append replies [] earlier these those = those
 replies-append replies (Received bytes ∷ later) earlier these those = replies-append replies later earlier these those
 replies-append replies (Replied request reply ∷ later) earlier these those = (these.0, replies-append replies later earlier these.1 those)
 replies-append replies (Sent bytes ∷ later) earlier these those = replies-append replies later earlier these those
+replies-append replies (Continued ∷ later) earlier these those = replies-append replies later earlier these those
 replies-append replies (Resumed idle ∷ later) earlier these those = replies-append replies later earlier these those
 replies-append replies (Elapsed millis ∷ later) earlier these those = replies-append replies later earlier these those
 
@@ -121,15 +126,24 @@ after_write replies share new history r w0 w1 has = record {
 pub after_parse : (replies : Replies) (share left : Share) (complete : Bool) (new : Connection) (history : List Event) (r w : Option (List ℕ))
     → left.bytes ≡ share.bytes → (complete ≡ false → left.replies ≡ share.replies) → (complete ≡ true → left.replies + 1 ≡ share.replies)
     → HasParsed replies complete new history → HasAdvanced replies share left new history r r w w
-after_parse replies share left false new history r w bytes same less (phase, state) = record {
-  more = [];
-  state = state;
-  replies_made = tt;
-  bytes_received = consumes_none r;
-  bytes_sent = appends_none w;
-  bytes_covered = covered_none left.bytes share.bytes bytes;
-  replies_covered = covered_none left.replies share.replies (same refl);
-}
+after_parse replies share left false new history r w bytes same less waited = by waited
+  where
+    without : (more : List Event) → received_bytes more ≡ [] → sent_bytes more ≡ [] → requests_in more ≡ [] → HasState new (more ++ history)
+        → HasAdvanced replies share left new history r r w w
+    without more no_bytes none_sent none state = record {
+      more = more;
+      state = state;
+      replies_made = no_replies replies more none;
+      bytes_received = subst (Consumes r r) (sym no_bytes) (consumes_none r);
+      bytes_sent = subst (Appends w w) (sym none_sent) (appends_none w);
+      bytes_covered = rw no_bytes (covered_none left.bytes share.bytes bytes);
+      replies_covered = rw none (covered_none left.replies share.replies (same refl));
+    }
+
+    by : HasWaited new history → HasAdvanced replies share left new history r r w w
+    by (inl (phase, state)) = without [] refl refl refl state
+    by (inr (inl state)) = without (Continued ∷ []) refl refl refl state
+    by (inr (inr (phase, state))) = without [] refl refl refl state
 after_parse replies share left true new history r w bytes same less (inl (request, reply, is, state)) = record {
   more = Replied request reply ∷ [];
   state = state;
@@ -139,7 +153,7 @@ after_parse replies share left true new history r w bytes same less (inl (reques
   bytes_covered = covered_none left.bytes share.bytes bytes;
   replies_covered = covered_one left.replies share.replies (less refl);
 }
-after_parse replies share left true new history r w bytes same less (inr (text, none, phase, state)) = record {
+after_parse replies share left true new history r w bytes same less (inr (text, body, none, phase, state)) = record {
   more = [];
   state = state;
   replies_made = tt;

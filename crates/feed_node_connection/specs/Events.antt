@@ -1,12 +1,13 @@
 -- The events of a connection, the newest first.
-use Rattle.std.specs.Prelude.{ℕ, ◌+◌, nat_le, Bool, false, if◌then◌else◌, List, [], ◌∷◌, ◌++◌, length}
+use Rattle.std.specs.Prelude.{ℕ, ◌+◌, nat_le, Bool, false, if◌then◌else◌, List, [], ◌∷◌, ◌++◌, length, codes}
 use Rattle.feed_node_connection.specs.Requests.{Request}
 
--- `Resumed` is the moment at which the connection turns to the next request: it is idle, or it has received a part of
--- that request already
+-- `Continued` is the moment at which the interim reply is made. `Resumed` is the one at which the connection turns to the
+-- next request: it is idle, or it has received a part of that request already
 pub data Event : Type 0 where
   Received Sent : List ℕ → Event
   Replied : Request → List ℕ → Event
+  Continued : Event
   Resumed : Bool → Event
   Elapsed : ℕ → Event
 
@@ -16,6 +17,7 @@ received_bytes [] = []
 received_bytes (Received bytes ∷ earlier) = received_bytes earlier ++ bytes
 received_bytes (Sent bytes ∷ earlier) = received_bytes earlier
 received_bytes (Replied request reply ∷ earlier) = received_bytes earlier
+received_bytes (Continued ∷ earlier) = received_bytes earlier
 received_bytes (Resumed idle ∷ earlier) = received_bytes earlier
 received_bytes (Elapsed millis ∷ earlier) = received_bytes earlier
 
@@ -25,6 +27,7 @@ sent_bytes [] = []
 sent_bytes (Received bytes ∷ earlier) = sent_bytes earlier
 sent_bytes (Sent bytes ∷ earlier) = sent_bytes earlier ++ bytes
 sent_bytes (Replied request reply ∷ earlier) = sent_bytes earlier
+sent_bytes (Continued ∷ earlier) = sent_bytes earlier
 sent_bytes (Resumed idle ∷ earlier) = sent_bytes earlier
 sent_bytes (Elapsed millis ∷ earlier) = sent_bytes earlier
 
@@ -34,17 +37,43 @@ requests_in [] = []
 requests_in (Received bytes ∷ earlier) = requests_in earlier
 requests_in (Sent bytes ∷ earlier) = requests_in earlier
 requests_in (Replied request reply ∷ earlier) = requests_in earlier ++ request ∷ []
+requests_in (Continued ∷ earlier) = requests_in earlier
 requests_in (Resumed idle ∷ earlier) = requests_in earlier
 requests_in (Elapsed millis ∷ earlier) = requests_in earlier
 
--- the bytes of their replies, in the same order
+-- the interim reply to a client that waits before it sends the body (RFC 9110, section 15.2.1)
+abbrev pub continue_text : List ℕ
+continue_text = codes "HTTP/1.1 100 Continue\r\n\r\n"
+
+-- the bytes of the replies, in the same order, and of the interim ones between them
 abbrev pub reply_bytes : List Event → List ℕ
 reply_bytes [] = []
 reply_bytes (Received bytes ∷ earlier) = reply_bytes earlier
 reply_bytes (Sent bytes ∷ earlier) = reply_bytes earlier
 reply_bytes (Replied request reply ∷ earlier) = reply_bytes earlier ++ reply
+reply_bytes (Continued ∷ earlier) = reply_bytes earlier ++ continue_text
 reply_bytes (Resumed idle ∷ earlier) = reply_bytes earlier
 reply_bytes (Elapsed millis ∷ earlier) = reply_bytes earlier
+
+-- the interim reply that was made since the last reply
+abbrev pub interim : List Event → List ℕ
+interim [] = []
+interim (Received bytes ∷ earlier) = interim earlier
+interim (Sent bytes ∷ earlier) = interim earlier
+interim (Replied request reply ∷ earlier) = []
+interim (Continued ∷ earlier) = interim earlier ++ continue_text
+interim (Resumed idle ∷ earlier) = interim earlier
+interim (Elapsed millis ∷ earlier) = interim earlier
+
+-- the bytes of the current reply that the peer accepted
+abbrev pub sent_len : List Event → ℕ
+sent_len [] = 0
+sent_len (Received bytes ∷ earlier) = sent_len earlier
+sent_len (Sent bytes ∷ earlier) = sent_len earlier + length bytes
+sent_len (Replied request reply ∷ earlier) = 0
+sent_len (Continued ∷ earlier) = 0
+sent_len (Resumed idle ∷ earlier) = 0
+sent_len (Elapsed millis ∷ earlier) = sent_len earlier
 
 -- the connection waits for the first byte of the next request
 abbrev pub is_idle : List Event → Bool
@@ -52,6 +81,7 @@ is_idle [] = false
 is_idle (Received bytes ∷ earlier) = false
 is_idle (Sent bytes ∷ earlier) = is_idle earlier
 is_idle (Replied request reply ∷ earlier) = false
+is_idle (Continued ∷ earlier) = false
 is_idle (Resumed idle ∷ earlier) = idle
 is_idle (Elapsed millis ∷ earlier) = is_idle earlier
 
@@ -65,6 +95,7 @@ sent_since [] = 0
 sent_since (Received bytes ∷ earlier) = sent_since earlier
 sent_since (Sent bytes ∷ earlier) = if nat_le min_progress (sent_since earlier + length bytes) then 0 else sent_since earlier + length bytes
 sent_since (Replied request reply ∷ earlier) = 0
+sent_since (Continued ∷ earlier) = sent_since earlier
 sent_since (Resumed idle ∷ earlier) = 0
 sent_since (Elapsed millis ∷ earlier) = sent_since earlier
 
@@ -76,5 +107,6 @@ elapsed [] = 0
 elapsed (Received bytes ∷ earlier) = if is_idle earlier then 0 else elapsed earlier
 elapsed (Sent bytes ∷ earlier) = if nat_le min_progress (sent_since earlier + length bytes) then 0 else elapsed earlier
 elapsed (Replied request reply ∷ earlier) = 0
+elapsed (Continued ∷ earlier) = elapsed earlier
 elapsed (Resumed idle ∷ earlier) = 0
 elapsed (Elapsed millis ∷ earlier) = elapsed earlier + millis

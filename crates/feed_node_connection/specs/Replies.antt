@@ -1,13 +1,16 @@
 -- The replies to the requests of a connection.
-use Rattle.std.specs.Prelude.{◌≡◌, ◌⊎◌, ℕ, Bool, true, false, List, [], ◌∷◌, ◌++◌, codes, length, Option, Some, None}
+use Rattle.std.specs.Prelude.{◌≡◌, ◌⊎◌, ◌≤◌, ℕ, Bool, true, false, List, [], ◌∷◌, ◌++◌, codes, length, Option, Some, None}
 use Rattle.httparse.specs.Grammar.{RequestHead, print_request}
 use Rattle.feed_http_heads.specs.Limits.{head_limit, field_limit}
-use Rattle.feed_http_heads.specs.RequestHeads.{NeverBeginsWithHead, IsUnfinished}
-use Rattle.feed_node_connection.specs.Requests.{Request, Persistent, Last, Invalid, AreRequestsIn, Begins, persists}
+use Rattle.feed_http_heads.specs.Options.{SaysWhetherItKeeps}
+use Rattle.feed_http_heads.specs.RequestHeads.{BeginsWithHead, NeverBeginsWithHead, IsUnfinished}
+use Rattle.feed_node_connection.specs.Requests.{Request, Persistent, Last, Invalid, AreRequestsIn, persists, body_limit, body_len_of, expects_continue}
+use Rattle.feed_node_connection.specs.Events.{continue_text}
+use Rattle.feed_node_connection.specs.declared.head_state.FoundRequest.{FoundRequest}
 use Rattle.feed_node_connection.specs.declared.head_state.HeadState.{HeadState}
 use Rattle.feed_node_connection.specs.declared.head_state.HeadState.TheVariants as state
 use Rattle.feed_node_connection.specs.declared.head_state.AfterReply.{AfterReply}
-use Rattle.feed_node_connection.specs.declared.head_state.AfterReply.TheVariants.{Persist, Linger, Close}
+use Rattle.feed_node_connection.specs.declared.head_state.AfterReply.TheVariants.{Persist, Linger, Receive}
 
 -- the reply if the responder makes none (RFC 9110, section 15.6.4)
 abbrev pub unavailable : List ℕ
@@ -15,62 +18,116 @@ unavailable =
     codes "HTTP/1.1 503 Service Unavailable\r\nContent-Type: text/plain; charset=utf-8\r\n"
     ++ codes "Content-Length: 7\r\nRetry-After: 1\r\nConnection: close\r\n\r\nMemory\n"
 
--- a relation between the bytes of a request, whether the connection persists after it, and its reply, which is `None` if
--- the responder makes none
+-- the length of the body that a responder wants after the bytes of a head; and a relation between these bytes, a body,
+-- whether the connection persists after the request, and its reply, which is `None` if the responder makes none
 abbrev pub Replies : Type 1
-Replies = List ℕ → Bool → Option (List ℕ) → Type 0
+Replies = (List ℕ → ℕ) × (List ℕ → List ℕ → Bool → Option (List ℕ) → Type 0)
 
 -- the responder made no reply to these bytes
-abbrev pub HasNoReply : Replies → List ℕ → Type 0
-HasNoReply replies bytes = (keeps : Bool) × replies bytes keeps None
+abbrev pub HasNoReply : Replies → List ℕ → List ℕ → Type 0
+HasNoReply replies bytes body = (keeps : Bool) × replies.1 bytes body keeps None
 
--- a request has this reply. The last one is a request after which the connection does not persist, or one to which the
--- responder made no reply: then the reply is `unavailable`
-abbrev pub IsRepliedTo : Replies → Request → List ℕ → Type 0
-IsRepliedTo replies (Persistent head) reply = replies (print_request head) true (Some reply)
-IsRepliedTo replies (Last head) reply =
-    ((persists head ≡ false) × replies (print_request head) false (Some reply))
-    ⊎ (HasNoReply replies (print_request head) × (reply ≡ unavailable))
-IsRepliedTo replies (Invalid text) reply = replies text false (Some reply) ⊎ (HasNoReply replies text × (reply ≡ unavailable))
+-- the body has the length that the responder wants, if the head states that length
+abbrev pub IsWanted : Replies → RequestHead → List ℕ → Type 0
+IsWanted replies head body = length body ≡ body_len_of (replies.0 (print_request head)) head
 
--- the connection persists
-abbrev pub persists_in : AfterReply → Bool
-persists_in Persist = true
-persists_in Linger = false
-persists_in Close = false
+-- the reply to a request is the responder's. The last one is a request after which the connection does not persist, or
+-- one to which the responder made no reply: then the reply is `unavailable`
+abbrev pub IsReplyOf : Replies → Request → List ℕ → Type 0
+IsReplyOf replies (Persistent head body) reply = replies.1 (print_request head) body true (Some reply)
+IsReplyOf replies (Last head body) reply =
+    ((persists head (length body) ≡ false) × replies.1 (print_request head) body false (Some reply))
+    ⊎ (HasNoReply replies (print_request head) body × (reply ≡ unavailable))
+IsReplyOf replies (Invalid text) reply =
+    replies.1 text [] false (Some reply) ⊎ (HasNoReply replies text [] × (reply ≡ unavailable))
 
--- the bytes begin with a head of this length, after whose reply this follows
-pub record IsHeadIn (bytes : List ℕ) (size : ℕ) (after : AfterReply) : Type 0 where
+-- the request has the body that the responder wants
+abbrev pub HasWantedBody : Replies → Request → Type 0
+HasWantedBody replies (Persistent head body) = IsWanted replies head body
+HasWantedBody replies (Last head body) = IsWanted replies head body
+HasWantedBody replies (Invalid text) = Unit {0}
+
+-- the connection persists after the request
+abbrev pub is_persistent : Request → Bool
+is_persistent (Persistent head body) = true
+is_persistent (Last head body) = false
+is_persistent (Invalid text) = false
+
+-- a request has this reply, which says `Connection: close` exactly if the connection does not persist after it
+-- (RFC 9112, section 9.6)
+pub record IsRepliedTo (replies : Replies) (request : Request) (reply : List ℕ) : Type 0 where
+  pub wanted : HasWantedBody replies request
+  pub reply_of : IsReplyOf replies request reply
+  pub says : SaysWhetherItKeeps (is_persistent request) reply
+
+-- what follows the reply, if the connection persists or does not
+abbrev pub after_reply : Bool → AfterReply
+after_reply true = Persist
+after_reply false = Linger
+
+-- the request has this head of this length, where a body of this length is wanted
+pub record IsFound (head : RequestHead) (head_len wanted : ℕ) (found : FoundRequest) : Type 0 where
+  pub head_len_is : found.head_len ≡ head_len
+  pub body_is : found.body_len ≡ body_len_of wanted head
+  pub persists_is : found.persists ≡ persists head found.body_len
+  pub expects_is : found.expects_continue ≡ expects_continue head
+
+-- the bytes begin with the request
+pub record IsFoundIn (wanted : List ℕ → ℕ) (bytes : List ℕ) (request : FoundRequest) : Type 0 where
   pub head : RequestHead
-  pub begins : Begins bytes head
-  pub size_is : size ≡ length (print_request head)
-  pub after_is : persists_in after ≡ persists head
+  pub begins : BeginsWithHead head_limit field_limit bytes head
+  pub found : IsFound head (length (print_request head)) (wanted (print_request head)) request
+  pub within : request.head_len ≤ length bytes
+  pub small : request.body_len ≤ body_limit
 
 -- the state of the head is right for these bytes
-abbrev pub IsHeadState : List ℕ → HeadState → Type 0
-IsHeadState bytes state.Incomplete = IsUnfinished head_limit bytes
-IsHeadState bytes (state.Whole size after) = IsHeadIn bytes size after
-IsHeadState bytes state.Invalid = NeverBeginsWithHead head_limit field_limit bytes
+abbrev pub IsHeadState : (List ℕ → ℕ) → List ℕ → HeadState → Type 0
+IsHeadState wanted bytes state.Incomplete = IsUnfinished head_limit bytes
+IsHeadState wanted bytes (state.Whole found) = IsFoundIn wanted bytes found
+IsHeadState wanted bytes state.Invalid = NeverBeginsWithHead head_limit field_limit bytes
 
--- each request has the reply beside it
-abbrev pub AreRepliedTo : Replies → List (Request × List ℕ) → Type 0
+-- before the reply to this request there was no interim one, or the one that the client expects
+abbrev pub IsInterim : Request → List ℕ → Type 0
+IsInterim (Persistent head body) text = (text ≡ []) ⊎ ((text ≡ continue_text) × (expects_continue head ≡ true))
+IsInterim (Last head body) text = (text ≡ []) ⊎ ((text ≡ continue_text) × (expects_continue head ≡ true))
+IsInterim (Invalid other) text = text ≡ []
+
+-- before the reply to a request that is not whole there is no interim one, or the one that the client expects
+abbrev pub IsPending : List ℕ → List ℕ → Type 0
+IsPending bytes text =
+    (text ≡ [])
+    ⊎ ((text ≡ continue_text)
+    × ((head : RequestHead) × BeginsWithHead head_limit field_limit bytes head × (expects_continue head ≡ true)))
+
+-- a request with its interim reply and its reply
+pub record Exchange : Type 0 where
+  pub request : Request
+  pub interim : List ℕ
+  pub reply : List ℕ
+
+-- each request has the replies beside it
+abbrev pub AreRepliedTo : Replies → List Exchange → Type 0
 AreRepliedTo replies [] = Unit {0}
-AreRepliedTo replies (exchange ∷ exchanges) = IsRepliedTo replies exchange.0 exchange.1 × AreRepliedTo replies exchanges
+AreRepliedTo replies (exchange ∷ exchanges) =
+    IsInterim exchange.request exchange.interim × IsRepliedTo replies exchange.request exchange.reply × AreRepliedTo replies exchanges
 
-abbrev pub requests_of : List (Request × List ℕ) → List Request
+abbrev pub requests_of : List Exchange → List Request
 requests_of [] = []
-requests_of (exchange ∷ exchanges) = exchange.0 ∷ requests_of exchanges
+requests_of (exchange ∷ exchanges) = exchange.request ∷ requests_of exchanges
 
-abbrev pub replies_of : List (Request × List ℕ) → List ℕ
+abbrev pub replies_of : List Exchange → List ℕ
 replies_of [] = []
-replies_of (exchange ∷ exchanges) = exchange.1 ++ replies_of exchanges
+replies_of (exchange ∷ exchanges) = exchange.interim ++ (exchange.reply ++ replies_of exchanges)
 
 -- the promise: the bytes received begin with requests, and the bytes sent are the beginning of the replies to them, one
--- after the other in the order of the requests, and nothing else
+-- after the other in the order of the requests, and nothing else; an interim reply may follow to a request of which only
+-- the head was received
 pub record IsServed (replies : Replies) (received sent : List ℕ) : Type 0 where
-  pub exchanges : List (Request × List ℕ)
+  pub exchanges : List Exchange
   pub rest : List ℕ
+  pub pending : List ℕ
   pub unsent : List ℕ
   pub in_order : AreRequestsIn received (requests_of exchanges) rest
   pub replied : AreRepliedTo replies exchanges
-  pub front : replies_of exchanges ≡ sent ++ unsent
+  pub expected : IsPending rest pending
+  pub front : replies_of exchanges ++ pending ≡ sent ++ unsent

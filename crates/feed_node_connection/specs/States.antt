@@ -1,7 +1,9 @@
 -- The state of a connection, as determined by its events.
-use Rattle.std.specs.Prelude.{◌≡◌, ◌==◌, ◌&&◌, ◌||◌, nat_lt, ◌≤◌, ◌<◌, ◌-◌, ◌⊎◌, ℕ, Bool, true, false, List, [], ◌∷◌, ◌++◌, length, take, drop, Some}
-use Rattle.feed_http_heads.specs.Limits.{head_limit}
-use Rattle.feed_http_heads.specs.RequestHeads.{IsUnfinished}
+use Rattle.std.specs.Prelude.{◌≡◌, ◌==◌, ◌&&◌, ◌||◌, nat_lt, if◌then◌else◌, ◌≤◌, ◌<◌, ◌+◌, ◌-◌, ◌⊎◌, ℕ, Bool, true, false, List, [], ◌∷◌, ◌++◌, length, take, drop, Some}
+use Rattle.httparse.specs.Grammar.{RequestHead, print_request}
+use Rattle.feed_http_heads.specs.Limits.{head_limit, field_limit}
+use Rattle.feed_http_heads.specs.Options.{SaysWhetherItKeeps}
+use Rattle.feed_http_heads.specs.RequestHeads.{BeginsWithHead, IsUnfinished}
 use Rattle.feed_node_connection.specs.declared.connection.Connection.{Connection}
 use Rattle.feed_node_connection.specs.declared.connection.Phase.{Phase}
 use Rattle.feed_node_connection.specs.declared.connection.Phase.TheVariants.{Idle, Receiving, Parsing, Sending, Answered, Lingering, Complete, Aborted}
@@ -9,19 +11,34 @@ use Rattle.feed_node_connection.specs.declared.connection.TimeLimits.{TimeLimits
 use Rattle.feed_node_connection.specs.declared.connection.Wants.{Wants}
 use Rattle.feed_node_connection.specs.declared.connection.Wants.TheVariants as wants
 use Rattle.feed_node_connection.specs.declared.head_state.AfterReply.{AfterReply}
-use Rattle.feed_node_connection.specs.declared.head_state.AfterReply.TheVariants.{Persist, Linger, Close}
-use Rattle.feed_node_connection.specs.Events.{Event, Received, Replied, Resumed, received_bytes, reply_bytes, requests_in, sent_bytes, sent_since, elapsed, is_idle}
-use Rattle.feed_node_connection.specs.Requests.{Request, AreRequestsIn, all_persist}
-use Rattle.feed_node_connection.specs.Replies.{Replies, HasNoReply, IsRepliedTo, persists_in, unavailable}
+use Rattle.feed_node_connection.specs.declared.head_state.AfterReply.TheVariants.{Persist, Linger, Receive}
+use Rattle.feed_node_connection.specs.Events.{Event, Received, Sent, Replied, Continued, Resumed, Elapsed, interim, continue_text, received_bytes, reply_bytes, requests_in, sent_bytes, sent_len, sent_since, elapsed, is_idle}
+use Rattle.feed_node_connection.specs.Requests.{Request, AreRequestsIn, all_persist, states_len, body_limit, expects_continue}
+use Rattle.feed_node_connection.specs.Replies.{Replies, HasNoReply, IsRepliedTo, IsInterim, IsPending, after_reply, unavailable}
+
+-- each interim reply was one that its client expects
+abbrev pub AreInterims : List Event → Type 0
+AreInterims [] = Unit {0}
+AreInterims (Received bytes ∷ earlier) = AreInterims earlier
+AreInterims (Sent bytes ∷ earlier) = AreInterims earlier
+AreInterims (Replied request reply ∷ earlier) = IsInterim request (interim earlier) × AreInterims earlier
+AreInterims (Continued ∷ earlier) = AreInterims earlier
+AreInterims (Resumed idle ∷ earlier) = AreInterims earlier
+AreInterims (Elapsed millis ∷ earlier) = AreInterims earlier
+
+-- and so is the one to the request at the front of these bytes
+abbrev pub AreExpected : List Event → List ℕ → Type 0
+AreExpected history rest = AreInterims history × IsPending rest (interim history)
 
 -- the requests with replies are the first in the bytes received, these bytes follow them, and another may have a reply
 pub record IsServedUpTo (history : List Event) (rest : List ℕ) : Type 0 where
   pub in_order : AreRequestsIn (received_bytes history) (requests_in history) rest
   pub persists : all_persist (requests_in history) ≡ true
+  pub expected : AreExpected history rest
 
 -- the requests with replies are the first in the bytes received
 abbrev pub AreFirst : List Event → Type 0
-AreFirst history = (rest : List ℕ) × AreRequestsIn (received_bytes history) (requests_in history) rest
+AreFirst history = (rest : List ℕ) × AreRequestsIn (received_bytes history) (requests_in history) rest × AreExpected history rest
 
 -- and the last of them ended the connection
 abbrev pub HasEnded : List Event → Type 0
@@ -51,9 +68,14 @@ pub record IsInTime (idle : Bool) (connection : Connection) (history : List Even
 abbrev pub rest_of : Connection → List ℕ
 rest_of connection = drop connection.request_len connection.received.items
 
+-- the connection knows whether it made the interim reply
+abbrev pub KnowsInterim : Connection → List Event → Type 0
+KnowsInterim connection history = interim history ≡ (if connection.is_continued then continue_text else [])
+
 -- each request before the bytes held has its reply, and the replies were sent
 pub record IsCurrent (idle : Bool) (connection : Connection) (history : List Event) : Type 0 where
   pub served : IsServedUpTo history connection.received.items
+  pub knows : KnowsInterim connection history
   pub sent : AreSent history
   pub in_time : IsInTime idle connection history
 
@@ -62,27 +84,43 @@ pub record IsIdle (connection : Connection) (history : List Event) : Type 0 wher
   pub current : IsCurrent true connection history
   pub none : connection.received.items ≡ []
 
--- the bytes held are not a whole head, and may become one
+-- the bytes begin with a head, and the body that it states is not whole; a client that expects an interim reply had it
+pub record IsPartial (is_continued : Bool) (bytes : List ℕ) : Type 0 where
+  pub head : RequestHead
+  pub begins : BeginsWithHead head_limit field_limit bytes head
+  pub size : ℕ
+  pub states : states_len head size ≡ true
+  pub small : size ≤ body_limit
+  pub missing : length bytes < length (print_request head) + size
+  pub told : expects_continue head ≡ true → is_continued ≡ true
+
+-- the request at the front of the bytes is not whole
+abbrev pub IsIncomplete : Bool → List ℕ → Type 0
+IsIncomplete is_continued bytes = IsUnfinished head_limit bytes ⊎ IsPartial is_continued bytes
+
+-- the bytes held are not a whole request, and may become one
 pub record IsReceiving (connection : Connection) (history : List Event) : Type 0 where
   pub current : IsCurrent false connection history
-  pub unfinished : IsUnfinished head_limit connection.received.items
+  pub incomplete : IsIncomplete connection.is_continued connection.received.items
 
 -- what follows the request with the current reply
 abbrev pub IsAfterReply : AfterReply → Connection → List Event → Type 0
-IsAfterReply Persist connection history = IsServedUpTo history (rest_of connection)
+IsAfterReply Persist connection history = IsServedUpTo history (rest_of connection) × (interim history ≡ [])
 IsAfterReply Linger connection history = HasEnded history
-IsAfterReply Close connection history = HasEnded history
+IsAfterReply Receive connection history = IsServedUpTo history connection.received.items × KnowsInterim connection history
 
 -- a part of the last reply remains to be sent
 pub record IsSending (connection : Connection) (history : List Event) : Type 0 where
   pub after : IsAfterReply connection.after connection history
   pub sent : reply_bytes history ≡ sent_bytes history ++ drop connection.sent connection.reply.items
   pub more : connection.sent < length connection.reply.items
+  pub sent_is : connection.sent ≡ sent_len history
   pub in_time : IsInTime false connection history
 
 -- all replies were sent, the last one is freed, and another request may be answered
 pub record IsAnswered (connection : Connection) (history : List Event) : Type 0 where
   pub served : IsServedUpTo history (rest_of connection)
+  pub no_interim : interim history ≡ []
   pub sent : AreSent history
   pub freed : connection.reply.items ≡ []
   pub in_time : IsInTime false connection history
@@ -108,26 +146,32 @@ HasStateIn Lingering connection history = IsLingering connection history
 HasStateIn Complete connection history = IsComplete connection history
 HasStateIn Aborted connection history = AreFirst history × IsFrontSent history
 
--- the connection has the state that this history determines
+-- the connection has the state that this history determines, and knows how much of the current reply was sent
 abbrev pub HasState : Connection → List Event → Type 0
-HasState connection history = HasStateIn connection.phase connection history
+HasState connection history = HasStateIn connection.phase connection history × (connection.sent_len ≡ sent_len history)
 
 -- a reply to the next request was made; or the responder made none, and memory ran out for the one that says so
 abbrev pub HasReplied : Replies → Connection → List Event → Type 0
 HasReplied replies connection history =
     ((request : Request) × (reply : List ℕ) × IsRepliedTo replies request reply × HasState connection (Replied request reply ∷ history))
-    ⊎ ((bytes : List ℕ) × HasNoReply replies bytes × (connection.phase ≡ Aborted) × HasState connection history)
+    ⊎ ((bytes : List ℕ) × (body : List ℕ) × HasNoReply replies bytes body × (connection.phase ≡ Aborted) × HasState connection history)
+
+-- the bytes held are an incomplete request; or the interim reply was made, or memory ran out for it
+abbrev pub HasWaited : Connection → List Event → Type 0
+HasWaited connection history =
+    ((connection.phase ≡ Receiving) × HasState connection history)
+    ⊎ (HasState connection (Continued ∷ history) ⊎ ((connection.phase ≡ Aborted) × HasState connection history))
 
 -- the bytes held were parsed: they are an incomplete request, or it was replied to
 abbrev pub HasParsed : Replies → Bool → Connection → List Event → Type 0
-HasParsed replies false connection history = (connection.phase ≡ Receiving) × HasState connection history
+HasParsed replies false connection history = HasWaited connection history
 HasParsed replies true connection history = HasReplied replies connection history
 
 -- the phase after the whole reply was sent
 abbrev pub phase_after : AfterReply → Phase
 phase_after Persist = Answered
 phase_after Linger = Lingering
-phase_after Close = Complete
+phase_after Receive = Parsing
 
 -- the phase in which a reply begins
 abbrev pub first_phase : List ℕ → AfterReply → Phase
@@ -138,6 +182,7 @@ first_phase (byte ∷ bytes) after = Sending
 pub record HasBegunReply (reply : List ℕ) (size : ℕ) (after : AfterReply) (old new : Connection) : Type 0 where
   pub text : new.reply.items ≡ reply
   pub sent : new.sent ≡ 0
+  pub sent_len : new.sent_len ≡ 0
   pub request_len : new.request_len ≡ size
   pub after_is : new.after ≡ after
   pub received : new.received.items ≡ old.received.items
@@ -145,21 +190,58 @@ pub record HasBegunReply (reply : List ℕ) (size : ℕ) (after : AfterReply) (o
   pub sent_since : new.sent_since ≡ 0
   pub elapsed : new.elapsed ≡ 0
 
+-- the interim reply begins; the timer is not restarted
+pub record HasBegunInterim (old new : Connection) : Type 0 where
+  pub text : new.reply.items ≡ continue_text
+  pub sent : new.sent ≡ 0
+  pub sent_len : new.sent_len ≡ 0
+  pub after_is : new.after ≡ Receive
+  pub received : new.received.items ≡ old.received.items
+  pub phase : new.phase ≡ Sending
+  pub is_continued : new.is_continued ≡ true
+  pub sent_since : new.sent_since ≡ old.sent_since
+  pub elapsed : new.elapsed ≡ old.elapsed
+
 -- the responder made no reply to the first bytes: the connection says so, or memory ran out for that too
 abbrev pub HasRefused : ℕ → Connection → Connection → Type 0
-HasRefused size old new = HasBegunReply unavailable size Linger old new ⊎ (new.phase ≡ Aborted)
+HasRefused size old new = HasBegunReply unavailable size Linger old new ⊎ ((new.phase ≡ Aborted) × (new.sent_len ≡ old.sent_len))
 
--- the reply to the first bytes begins, or the responder made none
-abbrev pub HasResponded : Replies → ℕ → AfterReply → Connection → Connection → Type 0
-HasResponded replies size after old new =
-    ((reply : List ℕ) × replies (take size old.received.items) (persists_in after) (Some reply) × HasBegunReply reply size after old new)
-    ⊎ (HasNoReply replies (take size old.received.items) × HasRefused size old new)
+-- what a wait leaves as it is
+pub record IsSameButPhase (old new : Connection) : Type 0 where
+  pub received : new.received.items ≡ old.received.items
+  pub is_continued : new.is_continued ≡ old.is_continued
+  pub sent_len : new.sent_len ≡ old.sent_len
+  pub sent_since : new.sent_since ≡ old.sent_since
+  pub elapsed : new.elapsed ≡ old.elapsed
+
+-- the connection waits for the body of the request: it makes the interim reply if the client expects one that it did not
+-- get, or memory ran out for that
+abbrev pub HasBegunWait : Bool → Connection → Connection → Type 0
+HasBegunWait true old new = HasBegunInterim old new ⊎ ((new.phase ≡ Aborted) × (new.sent_len ≡ old.sent_len))
+HasBegunWait false old new = (new.phase ≡ Receiving) × IsSameButPhase old new
+
+-- the first bytes of those, and the bytes of a body after them
+abbrev pub body_after : ℕ → ℕ → List ℕ → List ℕ
+body_after head_len body_len bytes = take body_len (drop head_len bytes)
+
+-- the reply to a head and a body of these lengths begins, or the responder made none
+abbrev pub HasResponded : Replies → ℕ → ℕ → Bool → Connection → Connection → Type 0
+HasResponded replies head_len body_len persists old new =
+    ((reply : List ℕ)
+    × replies.1 (take head_len old.received.items) (body_after head_len body_len old.received.items) persists (Some reply)
+    × SaysWhetherItKeeps persists reply × HasBegunReply reply (head_len + body_len) (after_reply persists) old new)
+    ⊎ (HasNoReply replies (take head_len old.received.items) (body_after head_len body_len old.received.items)
+    × HasRefused (head_len + body_len) old new)
+
+-- the most bytes that are held: a head and a body
+abbrev pub request_limit : ℕ
+request_limit = head_limit + body_limit
 
 -- the number of bytes that may be received at once
 abbrev pub room_in : Phase → Connection → ℕ
-room_in Idle connection = head_limit - length connection.received.items
-room_in Receiving connection = head_limit - length connection.received.items
-room_in Lingering connection = head_limit
+room_in Idle connection = request_limit - length connection.received.items
+room_in Receiving connection = request_limit - length connection.received.items
+room_in Lingering connection = request_limit
 room_in phase connection = 0
 
 abbrev pub room_of : Connection → ℕ
@@ -215,15 +297,17 @@ is_closed_before first second =
 -- the properties of a connection after any history: the requests with replies are the first in the bytes received; the
 -- bytes sent are the beginning of the replies; once the last reply is sent, it is freed and all are sent; another
 -- request is answered unless the last one ended the connection; while the connection waits for a request, each one
--- before the bytes held was answered, and those bytes have no whole head; and past its time it waits for nothing
+-- before the bytes held was answered, and those bytes are not a whole request; and past its time it waits for nothing
 pub record IsRightAfter (connection : Connection) (history : List Event) : Type 0 where
   pub first : AreFirst history
   pub front : IsFrontSent history
   pub whole : is_reply_sent_in connection.phase ≡ true → AreSent history × (connection.reply.items ≡ [])
   pub persists : connection.phase ≡ Answered → all_persist (requests_in history) ≡ true
   pub ends : (connection.phase ≡ Lingering) ⊎ (connection.phase ≡ Complete) → all_persist (requests_in history) ≡ false
-  pub waits : connection.phase ≡ Receiving → AreSent history × IsServedUpTo history connection.received.items × IsUnfinished head_limit connection.received.items
+  pub waits : connection.phase ≡ Receiving → AreSent history × IsServedUpTo history connection.received.items
+      × IsIncomplete connection.is_continued connection.received.items
   pub idles : connection.phase ≡ Idle → AreSent history × IsServedUpTo history []
+  pub reads : wants_in connection.phase ≡ wants.Bytes → 0 < room_of connection
   pub closes : limit_in (is_idle history) connection.limits ≤ elapsed history → wants_in connection.phase ≡ wants.Close
 
 abbrev pub StateIsRight : Type 0

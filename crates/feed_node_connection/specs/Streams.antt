@@ -6,7 +6,7 @@ use Rattle.feed_node_connection.specs.declared.connection.Wants.TheVariants as w
 use Rattle.feed_node_connection.specs.declared.streams.Share.{Share}
 use Rattle.feed_node_connection.specs.declared.streams.Progress.{Progress}
 use Rattle.feed_node_connection.specs.declared.streams.Progress.TheVariants.{Moved, Blocked, Spent}
-use Rattle.feed_node_connection.specs.Events.{Event, Received, Replied, Sent, Resumed, Elapsed, received_bytes, requests_in, sent_bytes}
+use Rattle.feed_node_connection.specs.Events.{Event, Received, Replied, Sent, Continued, Resumed, Elapsed, received_bytes, requests_in, sent_bytes}
 use Rattle.feed_node_connection.specs.Replies.{Replies, IsRepliedTo, IsServed}
 use Rattle.feed_node_connection.specs.States.{HasState, wants_in}
 
@@ -16,6 +16,7 @@ AreReplies replies [] = Unit {0}
 AreReplies replies (Received bytes ∷ more) = AreReplies replies more
 AreReplies replies (Sent bytes ∷ more) = AreReplies replies more
 AreReplies replies (Replied request reply ∷ more) = IsRepliedTo replies request reply × AreReplies replies more
+AreReplies replies (Continued ∷ more) = AreReplies replies more
 AreReplies replies (Resumed idle ∷ more) = AreReplies replies more
 AreReplies replies (Elapsed millis ∷ more) = AreReplies replies more
 

@@ -1,19 +1,24 @@
 //! The state machine of one connection of a node, without its socket.
-ghost use Rattle.std.specs.Prelude.{◌≡◌, ◌==◌, ◌+◌, ◌<◌, ◌≤◌, List, ◌∷◌, [], length, take, drop, vec_len};
-ghost use Rattle.feed_node_connection.specs.Events.{Event, Received, Sent, Resumed, Elapsed};
+ghost use Rattle.std.specs.Prelude.{◌≡◌, ◌≢◌, ◌&&◌, not, true, false, ◌==◌, ◌+◌, ◌<◌, ◌≤◌, List, ◌∷◌, [], length, take, drop, vec_len};
+ghost use Rattle.feed_node_connection.specs.Events.{Event, Received, Sent, Resumed, Elapsed, sent_len};
 
-use crate::head_state::{AfterReply, HeadState, head_state};
-use crate::respond::{Reply, ReplySummary, Respond, RespondFault, unavailable};
+use crate::head_state::{AfterReply, FoundRequest, HeadState, after_reply, head_state};
+use crate::respond::{
+    BODY_LIMIT, Reply, ReplySummary, Respond, RespondFault, interim_reply, unavailable,
+};
 use feed_http_heads::HEAD_LIMIT;
 use std::alloc::Global;
 
 /// The number of bytes of a reply that a peer must accept within the time in which it has to send its head.
 pub const MIN_PROGRESS: usize = 16_384;
 
+/// The most bytes of a request that are held: its head and its body.
+pub(crate) const REQUEST_LIMIT: usize = HEAD_LIMIT + BODY_LIMIT;
+
 /// The milliseconds that a connection may take.
 #[derive(Clone, Copy)]
 pub struct TimeLimits {
-    /// For each step: receiving a head, sending every 16,384 bytes of a reply, and sending the rest.
+    /// For each step: receiving a request, sending every 16,384 bytes of a reply, and sending the rest.
     pub step: u64,
     /// Between two requests, until the first byte of the second one arrives.
     pub idle: u64,
@@ -41,7 +46,7 @@ pub enum Wants {
 pub enum Phase {
     /// No byte of the next request was received.
     Idle,
-    /// The head of a request is incomplete.
+    /// A request is incomplete: its head, or the body after it.
     Receiving,
     /// The bytes held were not parsed.
     Parsing,
@@ -51,7 +56,7 @@ pub enum Phase {
     Answered,
     /// The last reply was sent. Further bytes from the peer are dropped until it closes its side.
     Lingering,
-    /// The last reply was sent, and the connection waits for nothing.
+    /// The last reply was sent, and the peer closed its side or the time limit passed.
     Complete,
     /// The time limit passed, the peer closed its side, or memory ran out.
     Aborted,
@@ -65,8 +70,6 @@ pub struct Connection {
     received: Vec<u8>,
     /// The length of that request, or 0.
     request_len: usize,
-    /// Whether the last read filled its room, so that bytes may be left unread.
-    more_may_come: bool,
     reply: Vec<u8>,
     sent: usize,
     after: AfterReply,
@@ -76,15 +79,21 @@ pub struct Connection {
     elapsed: u64,
     limits: TimeLimits,
     summary: Option<ReplySummary>,
-    ghost bounded: { vec_len received ≤ 8192 },
+    /// The bytes of the current reply that were sent, also after it was freed.
+    sent_len: usize,
+    /// Whether the interim reply to the request at the front was made.
+    is_continued: bool,
+    ghost bounded: { vec_len received ≤ 16384 },
     ghost inside: { request_len ≤ vec_len received },
     ghost within: { sent ≤ vec_len reply },
     ghost slow: { sent_since < 16384 },
 }
 
 impl Connection {
-    ghost use Rattle.feed_node_connection.specs.Replies.{persists_in};
+    ghost use Rattle.feed_node_connection.specs.Requests.{IsPersistent};
+    ghost use Rattle.feed_node_connection.specs.Replies.{IsFoundIn};
     ghost use Rattle.feed_node_connection.specs.States.{HasState, HasParsed, HasBegunReply, HasRefused, HasResponded};
+    ghost use Rattle.feed_node_connection.specs.States.{HasBegunInterim, HasBegunWait, body_after};
     ghost use Rattle.feed_node_connection.specs.States.{is_idle_in, is_lingering_in, is_reply_sent_in, limit_in};
     ghost use Rattle.feed_node_connection.specs.States.{pending_of, phase_after, rest_of, room_of, wants_in};
     ghost use Rattle.feed_node_connection.specs.States.{closing_class, is_closed_before};
@@ -98,7 +107,6 @@ impl Connection {
             phase: Phase::Receiving,
             received: Vec::new(alloc),
             request_len: 0,
-            more_may_come: false,
             reply: Vec::new(alloc),
             sent: 0,
             after: AfterReply::Persist,
@@ -106,6 +114,8 @@ impl Connection {
             elapsed: 0,
             limits,
             summary: None,
+            sent_len: 0,
+            is_continued: false,
         }
     }
 
@@ -163,16 +173,15 @@ impl Connection {
         ensures { result ≡ room_of self.now }
     {
         match self.phase {
-            Phase::Idle => HEAD_LIMIT - self.received.len(),
-            Phase::Receiving => HEAD_LIMIT - self.received.len(),
-            Phase::Lingering => HEAD_LIMIT,
+            Phase::Idle => REQUEST_LIMIT - self.received.len(),
+            Phase::Receiving => REQUEST_LIMIT - self.received.len(),
+            Phase::Lingering => REQUEST_LIMIT,
             _ => 0,
         }
     }
 
-    /// Adds received bytes to the bytes held, and drops them once no other request is answered. `more_may_come` says
-    /// whether the peer may have sent more.
-    pub fn receive(&mut self, bytes: &[u8], more_may_come: bool)
+    /// Adds received bytes to the bytes held, and drops them once no other request is answered.
+    pub fn receive(&mut self, bytes: &[u8])
         requires waiting { wants_in self.old.phase ≡ Wants.Bytes }
         requires room { length bytes.now ≤ room_of self.old }
         ensures state { (history : List Event) → HasState self.old history
@@ -185,7 +194,6 @@ impl Connection {
         if self.is_idle() {
             self.elapsed = 0;
         }
-        self.more_may_come = more_may_come;
         self.phase = match self.received.extend_from_slice(bytes) {
             Ok(()) => Phase::Parsing,
             Err(_) => Phase::Aborted,
@@ -196,33 +204,114 @@ impl Connection {
     pub fn parse_request<R: Respond>(&mut self, alloc: Global, responder: &R) -> bool
         requires { self.old.phase ≡ Phase.Parsing }
         ensures state { (history : List Event) → HasState self.old history
-            → HasParsed (R.replies responder.now) result self.new history }
+            → HasParsed (R.wanted responder.now, R.replies responder.now) result self.new history }
+        ensures lingers { self.new.phase ≢ Phase.Complete }
         ensures limits { self.new.limits ≡ self.old.limits }
     {
         let held = self.received.len();
-        match head_state(&self.received, self.more_may_come) {
+        match head_state(&self.received, responder) {
             HeadState::Incomplete => {
-                self.phase = Phase::Receiving;
+                self.wait();
                 false
             }
-            HeadState::Whole(size, after) => {
-                self.respond(alloc, responder, size, after);
-                true
-            }
+            HeadState::Whole(found) => self.take_request(alloc, responder, found),
             HeadState::Invalid => {
-                self.respond(alloc, responder, held, AfterReply::Linger);
+                self.respond(alloc, responder, held, 0, false);
                 true
             }
         }
     }
 
-    fn respond<R: Respond>(&mut self, alloc: Global, responder: &R, size: usize, after: AfterReply)
-        requires within { size ≤ vec_len self.old.received }
-        ensures responded { HasResponded (R.replies responder.now) size after self.old self.new }
+    // Begins the reply to the request at the front, or waits for its body. Returns whether the request is whole.
+    fn take_request<R: Respond>(
+        &mut self,
+        alloc: Global,
+        responder: &R,
+        found: FoundRequest,
+    ) -> bool
+        requires parsing { self.old.phase ≡ Phase.Parsing }
+        requires found { IsFoundIn (R.wanted responder.now) self.old.received.items found }
+        ensures state { (history : List Event) → HasState self.old history
+            → HasParsed (R.wanted responder.now, R.replies responder.now) result self.new history }
+        ensures lingers { self.new.phase ≢ Phase.Complete }
         ensures limits { self.new.limits ≡ self.old.limits }
     {
-        match responder.respond(alloc, &self.received[..size], after.persists()) {
-            Ok(reply) => self.begin_reply(reply, size, after),
+        let after_head = self.received.len() - found.head_len;
+        if after_head < found.body_len {
+            self.await_body(alloc, found.expects_continue);
+            return false;
+        }
+        self.respond(
+            alloc,
+            responder,
+            found.head_len,
+            found.body_len,
+            found.persists,
+        );
+        true
+    }
+
+    // Waits for the body of the request at the front, after the interim reply if the client expects it.
+    fn await_body(&mut self, alloc: Global, expects_continue: bool)
+        ensures waits { HasBegunWait (expects_continue && not self.old.is_continued) self.old self.new }
+        ensures limits { self.new.limits ≡ self.old.limits }
+        ensures lingers { self.new.phase ≢ Phase.Complete }
+    {
+        if expects_continue && !self.is_continued {
+            self.begin_interim(alloc);
+        } else {
+            self.wait();
+        }
+    }
+
+    // Waits for the rest of the request at the front.
+    fn wait(&mut self)
+        ensures waits { HasBegunWait false self.old self.new }
+        ensures limits { self.new.limits ≡ self.old.limits }
+        ensures lingers { self.new.phase ≢ Phase.Complete }
+    {
+        self.phase = Phase::Receiving;
+    }
+
+    fn begin_interim(&mut self, alloc: Global)
+        ensures waits { HasBegunWait true self.old self.new }
+        ensures limits { self.new.limits ≡ self.old.limits }
+        ensures lingers { self.new.phase ≢ Phase.Complete }
+    {
+        match interim_reply(alloc) {
+            Ok(text) => {
+                self.reply = text;
+                self.sent = 0;
+                self.sent_len = 0;
+                self.after = AfterReply::Receive;
+                self.is_continued = true;
+                self.phase = Phase::Sending;
+            }
+            Err(_) => self.phase = Phase::Aborted,
+        }
+    }
+
+    fn respond<R: Respond>(
+        &mut self,
+        alloc: Global,
+        responder: &R,
+        head_len: usize,
+        body_len: usize,
+        persists: bool,
+    )
+        requires within { head_len + body_len ≤ vec_len self.old.received }
+        requires allowed { persists ≡ true
+            → IsPersistent (R.wanted responder.now (take head_len self.old.received.items))
+            (take head_len self.old.received.items) (body_after head_len body_len self.old.received.items) }
+        ensures responded { HasResponded (R.wanted responder.now, R.replies responder.now)
+            head_len body_len persists self.old self.new }
+        ensures limits { self.new.limits ≡ self.old.limits }
+    {
+        let size = head_len + body_len;
+        let head = &self.received[..head_len];
+        let body = &self.received[head_len..size];
+        match responder.respond(alloc, head, body, persists) {
+            Ok(reply) => self.begin_reply(reply, size, after_reply(persists)),
             Err(fault) => self.refuse(alloc, size, fault),
         }
     }
@@ -246,6 +335,7 @@ impl Connection {
         self.summary = Some(reply.summary);
         self.reply = reply.bytes;
         self.sent = 0;
+        self.sent_len = 0;
         self.request_len = size;
         self.after = after;
         self.sent_since = 0;
@@ -264,11 +354,11 @@ impl Connection {
         match self.after {
             AfterReply::Persist => Phase::Answered,
             AfterReply::Linger => Phase::Lingering,
-            AfterReply::Close => Phase::Complete,
+            AfterReply::Receive => Phase::Parsing,
         }
     }
 
-    /// Returns the request whose reply is sent: its head, or bytes that are not a head.
+    /// Returns the request whose reply is sent: its head and its body, or bytes that are not a head.
     pub fn request_bytes(&self) -> &[u8]
         ensures { result.now ≡ take self.now.request_len self.now.received.items }
     {
@@ -280,6 +370,13 @@ impl Connection {
         ensures { result ≡ self.now.summary }
     {
         self.summary
+    }
+
+    /// Returns how many bytes of the reply the peer accepted, from when it is made until `resume`, and otherwise 0.
+    pub fn sent_len(&self) -> usize
+        ensures { (history : List Event) → HasState self.now history → result ≡ sent_len history }
+    {
+        self.sent_len
     }
 
     /// Returns the milliseconds since the timer was last restarted.
@@ -327,6 +424,7 @@ impl Connection {
         requires within { count ≤ length (pending_of self.old) }
         ensures state { (history : List Event) → HasState self.old history
             → HasState self.new (Sent (take count (pending_of self.old)) ∷ history) }
+        ensures lingers { self.new.phase ≢ Phase.Complete }
         ensures limits { self.new.limits ≡ self.old.limits }
     {
         if count >= MIN_PROGRESS - self.sent_since {
@@ -335,6 +433,7 @@ impl Connection {
         } else {
             self.sent_since += count;
         }
+        self.sent_len = self.sent + count;
         if count == self.reply.len() - self.sent {
             self.sent = 0;
             self.reply = Vec::new(alloc);
@@ -355,6 +454,8 @@ impl Connection {
         self.received.drain(..self.request_len);
         self.request_len = 0;
         self.summary = None;
+        self.is_continued = false;
+        self.sent_len = 0;
         self.sent_since = 0;
         self.elapsed = 0;
         self.phase = if self.received.is_empty() {

@@ -1,11 +1,14 @@
 //! Decides whether the bytes held begin with a request, and what follows its reply.
-ghost use Rattle.std.specs.Prelude.{◌≡◌, ◌≤◌, length};
+ghost use Rattle.std.specs.Prelude.{◌≡◌, ◌==◌, ◌≤◌};
 ghost use Rattle.httparse.specs.Grammar.{RequestHead};
 ghost use Rattle.feed_http_heads.specs.Requests.{IsInBuffer, HasHead};
-ghost use Rattle.feed_node_connection.specs.Requests.{is_post, lacks_body, persists};
-ghost use Rattle.feed_node_connection.specs.Replies.{IsHeadState, persists_in};
+ghost use Rattle.feed_node_connection.specs.Requests.{is_post, stated_len, states_len, persists};
+ghost use Rattle.feed_node_connection.specs.Requests.{body_len_of, expects_continue};
+ghost use Rattle.feed_node_connection.specs.Replies.{IsHeadState, IsFound, after_reply};
 
-use feed_http_heads::{FIELD_LIMIT, HEAD_LIMIT, HeadFound, Request, find_head};
+use crate::respond::Respond;
+use feed_http_heads::{FIELD_LIMIT, HeadFound, Request, find_head};
+use feed_range::read_number;
 use httparse::spans::EMPTY_HEADER_SPAN;
 
 /// The state of a connection after a reply was sent.
@@ -13,24 +16,33 @@ use httparse::spans::EMPTY_HEADER_SPAN;
 pub enum AfterReply {
     /// The next request.
     Persist,
-    /// Further bytes from the peer are dropped until it closes its side, because closing a connection with unread bytes
-    /// may lose the reply (RFC 9112, section 9.6).
+    /// Further bytes from the peer are dropped until it closes its side: a connection that is closed before bytes of the
+    /// peer arrive may lose the reply (RFC 9112, section 9.6).
     Linger,
-    /// The connection is closed: the peer has nothing more to send.
-    Close,
+    /// The body of the same request: the reply was an interim one.
+    Receive,
 }
 
-impl AfterReply {
-    /// Returns whether the connection persists.
-    pub fn persists(self) -> bool
-        ensures { result ≡ persists_in self }
-    {
-        match self {
-            AfterReply::Persist => true,
-            AfterReply::Linger => false,
-            AfterReply::Close => false,
-        }
+pub(crate) fn after_reply(persists: bool) -> AfterReply
+    ensures { result ≡ after_reply persists }
+{
+    if persists {
+        AfterReply::Persist
+    } else {
+        AfterReply::Linger
     }
+}
+
+/// The head of a request at the front of the bytes held.
+#[derive(Clone, Copy)]
+pub(crate) struct FoundRequest {
+    pub(crate) head_len: usize,
+    /// The length of the body that the responder wants, or 0 if the head states another length.
+    pub(crate) body_len: usize,
+    /// Whether the connection persists after the reply.
+    pub(crate) persists: bool,
+    /// Whether the client waits for an interim reply before it sends the body.
+    pub(crate) expects_continue: bool,
 }
 
 /// Whether bytes begin with a request.
@@ -38,18 +50,37 @@ impl AfterReply {
 pub(crate) enum HeadState {
     /// The head is incomplete.
     Incomplete,
-    /// They begin with a head of this length, and this follows its reply.
-    Whole(usize, AfterReply),
+    /// They begin with this head.
+    Whole(FoundRequest),
     /// They never will, whatever follows.
     Invalid,
 }
 
-fn lacks_body(request: &Request<'_>) -> bool
+fn stated_len(request: &Request<'_>) -> Option<u64>
     requires { IsInBuffer request.now }
-    ensures { (head : RequestHead) → HasHead request.now head → result ≡ lacks_body head }
+    ensures { (head : RequestHead) → HasHead request.now head → result ≡ stated_len head }
 {
-    !request.fields().has_field(b"transfer-encoding")
-        && request.fields().all_values_are(b"content-length", b"0")
+    let fields = request.fields();
+    if fields.has_field(b"transfer-encoding") {
+        return None;
+    }
+    if !fields.has_field(b"content-length") {
+        return Some(0);
+    }
+    match fields.sole_value(b"content-length") {
+        Some(value) => read_number(value),
+        None => None,
+    }
+}
+
+fn states_len(request: &Request<'_>, size: usize) -> bool
+    requires { IsInBuffer request.now }
+    ensures { (head : RequestHead) → HasHead request.now head → result ≡ states_len head size }
+{
+    match stated_len(request) {
+        Some(stated) => stated == size as u64,
+        None => false,
+    }
 }
 
 fn is_post(request: &Request<'_>) -> bool
@@ -59,41 +90,67 @@ fn is_post(request: &Request<'_>) -> bool
     request.method() == b"POST".as_slice()
 }
 
-fn persists(request: &Request<'_>) -> bool
+fn is_http_1_1(request: &Request<'_>) -> bool
     requires { IsInBuffer request.now }
-    ensures { (head : RequestHead) → HasHead request.now head → result ≡ persists head }
+    ensures { (head : RequestHead) → HasHead request.now head → result ≡ (head.minor == 1) }
 {
     request.spans.version == 1
-        && !is_post(request)
-        && request.fields().lacks_option(b"connection", b"close")
-        && lacks_body(request)
 }
 
-// The peer may have more to send if it already has, or if the head announces a body.
-fn after_reply(request: &Request<'_>, more_may_come: bool) -> AfterReply
+fn persists(request: &Request<'_>, size: usize) -> bool
     requires { IsInBuffer request.now }
-    ensures { (head : RequestHead) → HasHead request.now head → persists_in result ≡ persists head }
+    ensures { (head : RequestHead) → HasHead request.now head → result ≡ persists head size }
 {
-    if persists(request) {
-        AfterReply::Persist
-    } else if more_may_come || !lacks_body(request) {
-        AfterReply::Linger
+    is_http_1_1(request)
+        && (!is_post(request) || 0 < size)
+        && request.fields().lacks_option(b"connection", b"close")
+        && states_len(request, size)
+}
+
+fn body_len(request: &Request<'_>, wanted: usize) -> usize
+    requires { IsInBuffer request.now }
+    ensures value { (head : RequestHead) → HasHead request.now head → result ≡ body_len_of wanted head }
+    ensures bound { result ≤ wanted }
+{
+    if states_len(request, wanted) {
+        wanted
     } else {
-        AfterReply::Close
+        0
     }
 }
 
-/// Parses the bytes held. More may come if the last read left bytes unread.
-pub(crate) fn head_state(bytes: &[u8], more_may_come: bool) -> HeadState
-    requires { length bytes.now ≤ HEAD_LIMIT }
-    ensures { IsHeadState bytes.now result }
+fn expects_continue(request: &Request<'_>) -> bool
+    requires { IsInBuffer request.now }
+    ensures { (head : RequestHead) → HasHead request.now head → result ≡ expects_continue head }
+{
+    is_http_1_1(request) && !request.fields().lacks_option(b"expect", b"100-continue")
+}
+
+// Returns the facts about a head of this length, if the responder wants a body of this length.
+fn found(request: &Request<'_>, head_len: usize, wanted: usize) -> FoundRequest
+    requires { IsInBuffer request.now }
+    ensures found { (head : RequestHead) → HasHead request.now head → IsFound head head_len wanted result }
+    ensures bound { result.body_len ≤ wanted }
+{
+    let body_len = body_len(request, wanted);
+    FoundRequest {
+        head_len,
+        body_len,
+        persists: persists(request, body_len),
+        expects_continue: expects_continue(request),
+    }
+}
+
+/// Parses the bytes held.
+pub(crate) fn head_state<R: Respond>(bytes: &[u8], responder: &R) -> HeadState
+    ensures { IsHeadState (R.wanted responder.now) bytes.now result }
 {
     let mut headers = [EMPTY_HEADER_SPAN; FIELD_LIMIT];
     match find_head(bytes, &mut headers) {
         HeadFound::Whole(spans) => {
             let request = Request::new(bytes, &headers, spans);
-            let more_may_come = more_may_come || spans.len < bytes.len();
-            HeadState::Whole(spans.len, after_reply(&request, more_may_come))
+            let wanted = responder.body_len(&bytes[..spans.len]);
+            HeadState::Whole(found(&request, spans.len, wanted))
         }
         HeadFound::Unfinished => HeadState::Incomplete,
         HeadFound::Never => HeadState::Invalid,

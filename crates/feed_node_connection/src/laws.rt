@@ -15,7 +15,7 @@ pub fn state_is_right()
 /// If each reply is one to its request, the bytes sent are the beginning of the replies to the requests in the bytes
 /// received, in their order.
 pub fn all_is_served<R: Respond>(_responder: &R)
-    ensures { AllIsServed (R.replies _responder.now) }
+    ensures { AllIsServed (R.wanted _responder.now, R.replies _responder.now) }
 {}
 
 /// The bytes received contain no other requests.

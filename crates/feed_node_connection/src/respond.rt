@@ -1,5 +1,6 @@
 //! The trait `Respond`, which makes the replies of a node, and the reply if there can be no other.
 ghost use Rattle.std.specs.Prelude.{◌≡◌, IfOk};
+ghost use Rattle.feed_node_connection.specs.Events.{continue_text};
 ghost use Rattle.feed_node_connection.specs.Replies.{unavailable};
 
 use std::alloc::{AllocError, Global};
@@ -8,6 +9,12 @@ use std::alloc::{AllocError, Global};
 pub const UNAVAILABLE: &[u8] =
     b"HTTP/1.1 503 Service Unavailable\r\nContent-Type: text/plain; charset=utf-8\r\n\
     Content-Length: 7\r\nRetry-After: 1\r\nConnection: close\r\n\r\nMemory\n";
+
+/// The interim reply to a client that waits before it sends the body of a request (RFC 9110, section 15.2.1).
+pub const CONTINUE: &[u8] = b"HTTP/1.1 100 Continue\r\n\r\n";
+
+/// The most bytes of the body of a request that is received.
+pub const BODY_LIMIT: usize = 8_192;
 
 /// Why a responder makes no reply.
 #[derive(Clone, Copy)]
@@ -63,16 +70,44 @@ impl Reply {
 
 /// Makes the replies of a node.
 pub trait Respond {
-    ghost use Rattle.std.specs.Prelude.{List, ℕ, Bool, Option, Some, None, IfOk, IfErr};
+    ghost use Rattle.std.specs.Prelude.{◌≡◌, ◌≤◌, List, ℕ, Bool, true, Option, Some, None, IfOk, IfErr};
+    ghost use Rattle.feed_http_heads.specs.Options.{SaysWhetherItKeeps};
+    ghost use Rattle.feed_node_connection.specs.Requests.{IsPersistent};
 
-    /// These bytes of a request have this reply if the connection persists after it, or does not. Without a reply the
-    /// responder made none.
-    ghost replies: { Self → List ℕ → Bool → Option (List ℕ) → Type 0 };
+    /// The length of the body that the responder wants after this head, or 0.
+    ghost wanted: { Self → List ℕ → ℕ };
 
-    /// Returns the reply to the head of a request, or to bytes that are not the head of a request, whatever follows.
-    fn respond(&self, alloc: Global, bytes: &[u8], persists: bool) -> Result<Reply, RespondFault>
-        ensures reply { IfOk result (λ reply. replies self.now bytes.now persists (Some reply.bytes.items)) }
-        ensures none { IfErr result (λ fault. replies self.now bytes.now persists None) };
+    /// A head of a request, or bytes that are not one, and this body have this reply if the connection persists after it,
+    /// or does not. Without a reply the responder made none.
+    ghost replies: { Self → List ℕ → List ℕ → Bool → Option (List ℕ) → Type 0 };
+
+    /// Returns how many bytes of a body are received after this head of a request: at most 8,192, and 0 for none. They
+    /// are received only if the head states this length.
+    fn body_len(&self, head: &[u8]) -> usize
+        ensures wanted { result ≡ wanted self.now head.now }
+        ensures limit { result ≤ BODY_LIMIT };
+
+    /// Returns the reply to the head of a request and the body after it, or to bytes that are not the head of a request,
+    /// whatever follows. The body is whole, or empty if none was received. The reply says `Connection: close` exactly if
+    /// the connection does not persist (RFC 9112, section 9.6).
+    fn respond(
+        &self,
+        alloc: Global,
+        head: &[u8],
+        body: &[u8],
+        persists: bool,
+    ) -> Result<Reply, RespondFault>
+        requires allowed { persists ≡ true → IsPersistent (wanted self.now head.now) head.now body.now }
+        ensures reply { IfOk result (λ reply. replies self.now head.now body.now persists (Some reply.bytes.items)) }
+        ensures says { IfOk result (λ reply. SaysWhetherItKeeps persists reply.bytes.items) }
+        ensures none { IfErr result (λ fault. replies self.now head.now body.now persists None) };
+}
+
+/// Returns the interim reply.
+pub(crate) fn interim_reply(alloc: Global) -> Result<Vec<u8>, AllocError>
+    ensures { IfOk result (λ text. text.items ≡ continue_text) }
+{
+    Vec::from_slice(alloc, CONTINUE)
 }
 
 /// Returns the reply `UNAVAILABLE`.

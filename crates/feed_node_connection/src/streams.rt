@@ -46,7 +46,7 @@ pub fn advance<S: Respond, R: Read, W: Write>(
     share: &mut Share,
 ) -> Progress
     ensures advanced { (history : List Event) → HasState connection.old history
-        → HasAdvanced (S.replies responder.now) share.old share.new connection.new history (R.remaining reader.old)
+        → HasAdvanced (S.wanted responder.now, S.replies responder.now) share.old share.new connection.new history (R.remaining reader.old)
         (R.remaining reader.new) (W.contents writer.old) (W.contents writer.new) }
     ensures still { result ≢ Progress.Moved }
     ensures stopped { IsStopped result share.new connection.new }
@@ -71,7 +71,7 @@ fn step<S: Respond, R: Read, W: Write>(
     share: &mut Share,
 ) -> Progress
     ensures advanced { (history : List Event) → HasState connection.old history
-        → HasAdvanced (S.replies responder.now) share.old share.new connection.new history (R.remaining reader.old)
+        → HasAdvanced (S.wanted responder.now, S.replies responder.now) share.old share.new connection.new history (R.remaining reader.old)
         (R.remaining reader.new) (W.contents writer.old) (W.contents writer.new) }
     ensures stopped { IsStopped result share.new connection.new }
 {
@@ -92,7 +92,7 @@ fn parse_once<S: Respond>(
 ) -> Progress
     requires { wants_in connection.old.phase ≡ Wants.Parse }
     ensures advanced { (history : List Event) (unread unwritten : Option (List ℕ)) → HasState connection.old history
-        → HasAdvanced (S.replies responder.now) share.old share.new connection.new history unread unread
+        → HasAdvanced (S.wanted responder.now, S.replies responder.now) share.old share.new connection.new history unread unread
         unwritten unwritten }
     ensures stopped { IsStopped result share.new connection.new }
 {
@@ -129,7 +129,7 @@ fn receive_once<R: Read>(
         }
         Ok(count) => {
             let (bytes, _) = space.split_at(count);
-            connection.receive(bytes, count == room);
+            connection.receive(bytes);
             share.bytes -= count;
             Progress::Moved
         }

@@ -15,12 +15,24 @@ pub(crate) struct RoomResponder<'a, S: Respond> {
 impl<'a, S: Respond> Respond for RoomResponder<'a, S> {
     ghost use Rattle.std.specs.Prelude.{◌≡◌, ◌⊎◌, false, None};
 
-    ghost replies = { λ room bytes persists reply. S.replies room.responder.now bytes persists reply
+    ghost wanted = { λ room head. S.wanted room.responder.now head };
+
+    ghost replies = { λ room head body persists reply. S.replies room.responder.now head body persists reply
         ⊎ ((room.has_room ≡ false) × (reply ≡ None)) };
 
-    fn respond(&self, alloc: Global, bytes: &[u8], persists: bool) -> Result<Reply, RespondFault> {
+    fn body_len(&self, head: &[u8]) -> usize {
+        self.responder.body_len(head)
+    }
+
+    fn respond(
+        &self,
+        alloc: Global,
+        head: &[u8],
+        body: &[u8],
+        persists: bool,
+    ) -> Result<Reply, RespondFault> {
         if self.has_room {
-            self.responder.respond(alloc, bytes, persists)
+            self.responder.respond(alloc, head, body, persists)
         } else {
             Err(RespondFault::Busy)
         }

@@ -2,6 +2,7 @@
 ghost use Rattle.std.specs.Prelude.{IfOk};
 ghost use Rattle.feed_releases.specs.Actives.{actives_of};
 ghost use Rattle.feed_releases.specs.Feeds.{releases_of};
+ghost use Rattle.feed_resolver.specs.NodeReplies.{SaysOfConnection};
 ghost use Rattle.feed_node_service.specs.Responders.{IsPolicyIn, IsReplyBy, IsTurnReply, response_in};
 
 use crate::node_state::NodeState;
@@ -47,8 +48,9 @@ impl<'a, K: Keep + Drop> FeedResponder<'a, K> {
         persists: bool,
         policy: &FetchPolicy<'_>,
     ) -> Result<Response, AllocError>
-        ensures { IfOk result (λ response. IsReplyBy policy.now bytes.now persists
+        ensures reply { IfOk result (λ response. IsReplyBy policy.now bytes.now persists
             (actives_of (releases_of self.now.feed.now)) response) }
+        ensures says { IfOk result (λ response. SaysOfConnection bytes.now persists response) }
     {
         match respond_about_feed(alloc, bytes, persists, policy, self.feed)? {
             Some(response) => Ok(response),
@@ -61,8 +63,9 @@ impl<'a, K: Keep + Drop> FeedResponder<'a, K> {
 
     // Returns the reply. A reply is streamed exactly if the request makes the node begin to fetch.
     fn reply(&self, alloc: Global, bytes: &[u8], persists: bool) -> Result<Reply, RespondFault>
-        ensures { IfOk result (λ reply. IsTurnReply self.now bytes.now persists (response_in reply)
+        ensures turn { IfOk result (λ reply. IsTurnReply self.now bytes.now persists (response_in reply)
             reply.summary.is_streamed) }
+        ensures says { IfOk result (λ reply. SaysOfConnection bytes.now persists (response_in reply)) }
     {
         let policy = self.policy();
         let asked = fetch_to_begin(alloc, bytes, &policy);
@@ -90,9 +93,21 @@ impl<'a, K: Keep + Drop> Respond for FeedResponder<'a, K> {
     ghost use Rattle.std.specs.Prelude.{IfSome};
     ghost use Rattle.feed_node_service.specs.Responders.{IsTurnText};
 
-    ghost replies = { λ responder bytes persists reply. IfSome reply (IsTurnText responder bytes persists) };
+    ghost wanted = { λ responder head. 0 };
 
-    fn respond(&self, alloc: Global, bytes: &[u8], persists: bool) -> Result<Reply, RespondFault> {
-        self.reply(alloc, bytes, persists)
+    ghost replies = { λ responder head body persists reply. IfSome reply (IsTurnText responder head persists) };
+
+    fn body_len(&self, _head: &[u8]) -> usize {
+        0
+    }
+
+    fn respond(
+        &self,
+        alloc: Global,
+        head: &[u8],
+        _body: &[u8],
+        persists: bool,
+    ) -> Result<Reply, RespondFault> {
+        self.reply(alloc, head, persists)
     }
 }

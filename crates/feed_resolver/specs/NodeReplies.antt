@@ -1,5 +1,5 @@
 -- The reply of a node to a request.
-use Rattle.std.specs.Prelude.{◌≡◌, ◌⊎◌, ℕ, Bool, true, false, if◌then◌else◌, List, None}
+use Rattle.std.specs.Prelude.{◌≡◌, ◌⊎◌, ℕ, Bool, true, false, if◌then◌else◌, List, None, is_some}
 use Rattle.std.specs.Option.{option_map_or}
 use Rattle.httparse.specs.Grammar.{RequestHead}
 use Rattle.feed_http_heads.specs.Options.{SaysWhetherItKeeps}
@@ -10,7 +10,8 @@ use Rattle.feed_resolver_request.specs.FoundRequests.{BeginsWith}
 use Rattle.feed_resolver_request.specs.FetchRequests.{FetchPolicyValue, name_to_fetch}
 use Rattle.feed_resolver_reply.specs.Replies.{ResponseValue}
 use Rattle.feed_resolver_reply.specs.FetchReplies.{fetch_reply}
-use Rattle.feed_resolver_reply.specs.Messages.{BeginsStream}
+use Rattle.feed_http_heads.specs.Requests.{is_head}
+use Rattle.feed_resolver_reply.specs.Messages.{IsMessageFor, BeginsStream}
 use Rattle.feed_resolver.specs.Replies.{response_to, IsReplyToNone}
 use Rattle.feed_resolver.specs.Messages.{IsMessageTo}
 
@@ -44,7 +45,20 @@ AsksForNoFetch bytes = (head : RequestHead) → BeginsWith bytes head → (lacks
 abbrev pub IsNodeMessage : List ℕ → Bool → ResponseValue → Type 0
 IsNodeMessage bytes keeps response = IsMessageTo bytes keeps response ⊎ BeginsStream response
 
--- the reply says whether the connection is kept; one that reports progress says that it is closed, since it ends with it
-abbrev pub SaysOfConnection : Bool → ResponseValue → Type 0
-SaysOfConnection keeps response =
-    SaysWhetherItKeeps keeps response.bytes ⊎ (BeginsStream response × SaysWhetherItKeeps false response.bytes)
+-- the head asks the node to fetch: it has one host, and is a POST of `/feed/` and a name
+abbrev pub IsFetchHead : RequestHead → Type 0
+IsFetchHead head = (lacks_host head ≡ false) × (is_some (name_to_fetch head) ≡ true)
+
+-- a reply to this head as a client parses it: one that reports progress only if it asks the node to fetch
+abbrev pub IsNodeMessageFor : Bool → RequestHead → ResponseValue → Type 0
+IsNodeMessageFor keeps head response = IsMessageFor keeps (is_head head) response ⊎ (BeginsStream response × IsFetchHead head)
+
+-- the bytes ask the node to fetch
+abbrev pub AsksForFetch : List ℕ → Type 0
+AsksForFetch bytes = (head : RequestHead) × BeginsWith bytes head × IsFetchHead head
+
+-- the reply to the bytes says whether the connection is kept; only one that asks the node to fetch may get a reply that
+-- says that it is closed although it is kept: the reply that reports progress ends with the connection
+abbrev pub SaysOfConnection : List ℕ → Bool → ResponseValue → Type 0
+SaysOfConnection bytes keeps response =
+    SaysWhetherItKeeps keeps response.bytes ⊎ (AsksForFetch bytes × SaysWhetherItKeeps false response.bytes)

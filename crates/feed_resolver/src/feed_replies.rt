@@ -1,7 +1,8 @@
 //! The replies of a node to a GET of `/feed`, which lists the recorded releases, and of what is below it, which takes
 //! only a POST.
-ghost use Rattle.std.specs.Prelude.{◌≡◌, IfOk};
+ghost use Rattle.std.specs.Prelude.{◌≡◌, IfOk, IfSome};
 ghost use Rattle.httparse.specs.Grammar.{RequestHead};
+ghost use Rattle.feed_http_heads.specs.Options.{SaysWhetherItKeeps};
 ghost use Rattle.feed_http_heads.specs.Requests.{IsInBuffer, HasHead};
 ghost use Rattle.feed_resolver.specs.FeedReplies.{feed_target, IsFeedReply, IsFeedResponse, IsListReply};
 
@@ -165,7 +166,8 @@ pub fn respond_about_feed<K: Keep + Drop>(
     policy: &FetchPolicy<'_>,
     feed: &Feed<K>,
 ) -> Result<Option<Response>, AllocError>
-    ensures { IfOk result (IsFeedResponse policy.now bytes.now keeps) }
+    ensures value { IfOk result (IsFeedResponse policy.now bytes.now keeps) }
+    ensures says { IfOk result (λ found. IfSome found (λ response. SaysWhetherItKeeps keeps response.bytes)) }
 {
     let Some(token) = policy.token else {
         return Ok(None);

@@ -1,14 +1,13 @@
 //! Computes the reply of a node to a request: to a fetch request by its authorization, to any other as a resolver.
-ghost use Rattle.std.specs.Prelude.{◌≡◌, ◌⊎◌, IfOk};
+ghost use Rattle.std.specs.Prelude.{◌≡◌, IfOk};
 ghost use Rattle.httparse.specs.Grammar.{RequestHead};
-ghost use Rattle.feed_http_heads.specs.Requests.{IsInBuffer, HasHead, is_head};
+ghost use Rattle.feed_http_heads.specs.Requests.{IsInBuffer, HasHead};
 ghost use Rattle.feed_model.specs.History.{History};
 ghost use Rattle.feed_model.specs.Content.{IsContent};
 ghost use Rattle.feed_releases.specs.Actives.{actives_of};
 ghost use Rattle.feed_releases.specs.Feeds.{recorded, releases_of};
-ghost use Rattle.feed_resolver_reply.specs.Messages.{IsMessageFor, BeginsStream};
 ghost use Rattle.feed_resolver.specs.NodeReplies.{node_reply, IsNodeReply, IsNodeReplyText};
-ghost use Rattle.feed_resolver.specs.NodeReplies.{IsNodeReplyAt, IsNodeMessage, SaysOfConnection};
+ghost use Rattle.feed_resolver.specs.NodeReplies.{IsNodeReplyAt, IsNodeMessage, IsNodeMessageFor, SaysOfConnection};
 
 use crate::responses::response_to;
 use feed_http_heads::{FIELD_LIMIT, Request};
@@ -30,7 +29,7 @@ fn node_reply(
     ensures value { IfOk result (λ response. (head : RequestHead) → HasHead request.now head
         → response ≡ node_reply policy.now keeps actives.now head) }
     ensures message { IfOk result (λ response. (head : RequestHead) → HasHead request.now head
-        → IsMessageFor keeps (is_head head) response ⊎ BeginsStream response) }
+        → IsNodeMessageFor keeps head response) }
 {
     if request.lacks_host() {
         return response_to(alloc, request, keeps, actives);
@@ -51,7 +50,7 @@ fn node_reply_with(
     ensures value { IfOk result (λ response. IsNodeReply policy.now bytes.now keeps actives.now response) }
     ensures text { IfOk result (λ response. IsNodeReplyText policy.now bytes.now keeps actives.now response.bytes) }
     ensures message { IfOk result (λ response. IsNodeMessage bytes.now keeps response) }
-    ensures says { IfOk result (λ response. SaysOfConnection keeps response) }
+    ensures says { IfOk result (λ response. SaysOfConnection bytes.now keeps response) }
 {
     let mut headers = [EMPTY_HEADER_SPAN; FIELD_LIMIT];
     match find_request(bytes, &mut headers) {
@@ -83,7 +82,7 @@ pub fn respond_as_node<K: Keep + Drop>(
     ensures reported { IfOk result (λ response. (h : History) → IsContent (recorded feed.now) h
         → IsNodeReplyAt policy.now h bytes.now keeps response) }
     ensures message { IfOk result (λ response. IsNodeMessage bytes.now keeps response) }
-    ensures says { IfOk result (λ response. SaysOfConnection keeps response) }
+    ensures says { IfOk result (λ response. SaysOfConnection bytes.now keeps response) }
 {
     let actives = feed.actives()?;
     node_reply_with(alloc, bytes, keeps, policy, &actives)

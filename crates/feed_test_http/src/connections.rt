@@ -1,44 +1,85 @@
 //! A connection of a node, over streams that make it wait.
+ghost use Rattle.std.specs.Prelude.{◌≡◌, ◌++◌, IfOk};
+ghost use Rattle.feed_test_http.specs.EchoHeads.{start_of};
+
 use crate::ends::{ShortReader, ShortWriter};
 use crate::escapes::Escaped;
 use crate::fault::Fault;
 use crate::line::Line;
 use crate::node::Node;
 use feed_node_connection::{
-    Connection, Reply, Respond, RespondFault, TURN_SHARE, TimeLimits, Wants, advance,
+    BODY_LIMIT, Connection, Reply, Respond, RespondFault, TURN_SHARE, TimeLimits, Wants, advance,
 };
-use std::alloc::Global;
+use std::alloc::{AllocError, Global};
 
-/// Replies with `+` if the connection persists and `-` if it does not, and with the bytes of the request, or fails for
-/// lack of memory.
+// The head of a reply on a connection that persists.
+const KEPT: &[u8] = b"HTTP/1.1 200 OK\r\n\r\n";
+
+// The head of a reply on one that does not.
+const CLOSED: &[u8] = b"HTTP/1.1 200 OK\r\nConnection: close\r\n\r\n";
+
+/// Replies with the bytes of a request, its head and its body, or fails for lack of memory.
 #[derive(Clone, Copy)]
 struct Echo {
+    /// The length of the bodies that it wants.
+    wanted: usize,
     is_short: bool,
 }
 
+fn reply_head(alloc: Global, persists: bool) -> Result<Vec<u8>, AllocError>
+    ensures { IfOk result (λ text. text.items ≡ start_of persists) }
+{
+    Vec::from_slice(alloc, if persists { KEPT } else { CLOSED })
+}
+
+// Returns the head of a reply, and after it the parts of a request.
+fn echo_text(alloc: Global, head: &[u8], body: &[u8], persists: bool) -> Result<Vec<u8>, AllocError>
+    ensures { IfOk result (λ text. text.items ≡ (start_of persists ++ head.now) ++ body.now) }
+{
+    let mut text = reply_head(alloc, persists)?;
+    text.extend_from_slice(head)?;
+    text.extend_from_slice(body)?;
+    Ok(text)
+}
+
 impl Respond for Echo {
-    ghost use Rattle.std.specs.Prelude.{⊤};
+    ghost use Rattle.std.specs.Prelude.{min, ⊤};
 
-    ghost replies = { λ echo bytes persists reply. ⊤ };
+    ghost wanted = { λ echo head. min echo.wanted 8192 };
 
-    fn respond(&self, alloc: Global, bytes: &[u8], persists: bool) -> Result<Reply, RespondFault> {
+    ghost replies = { λ echo head body persists reply. ⊤ };
+
+    fn body_len(&self, _head: &[u8]) -> usize {
+        self.wanted.min(BODY_LIMIT)
+    }
+
+    fn respond(
+        &self,
+        alloc: Global,
+        head: &[u8],
+        body: &[u8],
+        persists: bool,
+    ) -> Result<Reply, RespondFault> {
         if self.is_short {
             return Err(RespondFault::Memory);
         }
-        let mut text = Vec::from_slice(alloc, if persists { b"+" } else { b"-" })?;
-        text.extend_from_slice(bytes)?;
-        Ok(Reply::new(text, 200, bytes.len()))
+        let text = echo_text(alloc, head, body, persists)?;
+        Ok(Reply::new(text, 200, 0))
     }
 }
 
 impl Node<'_> {
-    pub fn take_connection(&mut self, command: &str, line: Line<'_>) -> Result<(), Fault> {
+    pub fn take_connection(&mut self, command: &str, mut line: Line<'_>) -> Result<(), Fault> {
         match command {
             "connection" => self.begin(line)?,
             "receive" => self.receive(line)?,
             "advance-clock" => self.advance_clock(line)?,
             "mark-sent" => self.mark_sent(line)?,
             "resume" => self.resume()?,
+            "want" => {
+                self.wanted = line.count()?;
+                return Ok(());
+            }
             "converse" => return self.converse(line),
             _ => return Err(Fault::NoCommand),
         }
@@ -64,7 +105,7 @@ impl Node<'_> {
         let room = self.connection.room();
         if let Wants::Bytes = self.connection.wants() {
             let (bytes, _) = bytes.split_at(bytes.len().min(room));
-            self.connection.receive(bytes, false);
+            self.connection.receive(bytes);
         }
         self.parse();
         Ok(())
@@ -72,8 +113,11 @@ impl Node<'_> {
 
     fn parse(&mut self) {
         if let Wants::Parse = self.connection.wants() {
-            self.connection
-                .parse_request(self.rt.alloc(), &Echo { is_short: false });
+            let echo = Echo {
+                wanted: self.wanted,
+                is_short: false,
+            };
+            self.connection.parse_request(self.rt.alloc(), &echo);
         }
     }
 
@@ -105,6 +149,10 @@ impl Node<'_> {
         let ends = line.flag("ends", "waits")?;
         let is_short = line.flag("short", "serves")?;
         let request = line.text(self.rt.alloc())?;
+        let echo = Echo {
+            wanted: self.wanted,
+            is_short,
+        };
         let limits = TimeLimits { step: 10, idle: 10 };
         let mut connection = Connection::new(self.rt.alloc(), limits);
         let mut reader = ShortReader {
@@ -121,7 +169,7 @@ impl Node<'_> {
             advance(
                 &mut connection,
                 self.rt.alloc(),
-                &Echo { is_short },
+                &echo,
                 &mut reader,
                 &mut writer,
                 &mut buffer,

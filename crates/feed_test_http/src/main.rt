@@ -44,10 +44,11 @@
 //!     fetch-asked TOKEN TEXT          the release that a request asks the node to fetch, `no name`, or `none`
 //!     head-end TEXT                   whether a text begins with the head of a request, and where the head ends
 //!
-//! A connection to it, which replies with `+` if it persists, `-` if it does not, and the bytes of the request. Each
-//! command prints what the connection waits for, and how many bytes of the reply are left:
+//! A connection to it, which replies with the head and the body of the request, after a head that says whether the
+//! connection persists. Each command prints what the connection waits for, and how many bytes of the reply are left:
 //!
 //!     connection STEP IDLE            opens a new one, with these limits in milliseconds
+//!     want N                          requests have bodies of N bytes, if they say so; prints nothing
 //!     receive TEXT                    bytes arrive
 //!     resume                          turns to the next request, once a reply was sent
 //!     mark-sent N                     the peer takes so many bytes

@@ -17,6 +17,8 @@ pub struct Node<'a> {
     pub rt: &'a HostRuntime,
     pub step: usize,
     pub connection: Connection,
+    /// The length of the bodies that the connection's responder wants.
+    pub wanted: usize,
     feed: Feed<ListKeep>,
 }
 
@@ -27,6 +29,7 @@ impl<'a> Node<'a> {
                 rt,
                 step,
                 connection: Connection::new(rt.alloc(), TimeLimits { step: 1, idle: 1 }),
+                wanted: 0,
                 feed,
             }),
             Err(_) => Err(Fault::Memory),

@@ -6,5 +6,5 @@ use Rattle.feed_node_connection.proofs.streams.advance.Given as goal
 
 abbrev pub invariant-loop : goal.invariant-loop
 invariant-loop g l = (history : List Event) → HasState l.fn.connection history
-    → HasAdvanced (g.S.Respond.replies l.responder) l.fn.share l.share l.connection history (g.R.Read.remaining l.fn.reader) (g.R.Read.remaining l.reader)
+    → HasAdvanced (g.S.Respond.wanted l.responder, g.S.Respond.replies l.responder) l.fn.share l.share l.connection history (g.R.Read.remaining l.fn.reader) (g.R.Read.remaining l.reader)
     (g.W.Write.contents l.fn.writer) (g.W.Write.contents l.writer)

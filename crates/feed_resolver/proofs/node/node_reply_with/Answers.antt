@@ -1,12 +1,11 @@
 use Rattle.std.proofs.Common.{◌⊎◌, inl, inr, refl, false}
 use Rattle.std.proofs.lemmas.Result.{IfOk-weaker}
 use Rattle.httparse.specs.Grammar.{RequestHead}
-use Rattle.feed_http_heads.specs.Requests.{is_head}
 use Rattle.feed_resolver_request.specs.FoundRequests.{BeginsWith}
 use Rattle.feed_resolver_reply.specs.Replies.{ResponseValue}
 use Rattle.feed_resolver_reply.specs.Messages.{IsMessageFor, BeginsStream}
 use Rattle.feed_resolver.specs.NodeReplies.{IsNodeReply, IsNodeReplyText, IsNodeMessage, SaysOfConnection}
-use Rattle.feed_resolver.proofs.Connections.{node_says}
+use Rattle.feed_resolver.proofs.Connections.{says, node_says}
 use Rattle.feed_resolver.proofs.node.node_reply_with.Goals as goal
 
 pub returns-in-Some-clause-value : goal.returns-in-Some-clause-value
@@ -22,7 +21,7 @@ returns-in-Some-clause-text c = let found = c.in-Some.ensures.found in
 pub returns-in-Some-clause-message : goal.returns-in-Some-clause-message
 returns-in-Some-clause-message c = let found = c.in-Some.ensures.found in
     IfOk-weaker c.node_reply.result _ (λ response. IsNodeMessage c.args.bytes.now c.args.keeps response)
-    (λ response is. elim (is found.head found.has) [ inl message ↦ inl (inl (found.head, found.begins, message)) | inr begins ↦ inr begins ]) c.node_reply.ensures.message
+    (λ response is. elim (is found.head found.has) [ inl message ↦ inl (inl (found.head, found.begins, message)) | inr begins ↦ inr begins.0 ]) c.node_reply.ensures.message
 
 pub returns-in-None-clause-text : goal.returns-in-None-clause-text
 returns-in-None-clause-text c = IfOk-weaker c.bad_head_response.result _ (λ response. IsNodeReplyText c.args.policy.now c.args.bytes.now c.args.keeps c.args.actives.now response.bytes)
@@ -38,9 +37,9 @@ returns-in-None-clause-message c = IfOk-weaker c.bad_head_response.result _ (λ 
 
 pub returns-in-Some-clause-says : goal.returns-in-Some-clause-says
 returns-in-Some-clause-says c = let found = c.in-Some.ensures.found in
-    IfOk-weaker c.node_reply.result _ (λ response. SaysOfConnection c.args.keeps response)
-    (λ response is. node_says c.args.keeps (is_head found.head) response (is found.head found.has)) c.node_reply.ensures.message
+    IfOk-weaker c.node_reply.result _ (λ response. SaysOfConnection c.args.bytes.now c.args.keeps response)
+    (λ response is. node_says c.args.bytes.now c.args.keeps found.head response found.begins (is found.head found.has)) c.node_reply.ensures.message
 
 pub returns-in-None-clause-says : goal.returns-in-None-clause-says
-returns-in-None-clause-says c = IfOk-weaker c.bad_head_response.result _ (λ response. SaysOfConnection c.args.keeps response)
-    (λ response is. node_says c.args.keeps false response (inl is)) c.bad_head_response.ensures.message
+returns-in-None-clause-says c = IfOk-weaker c.bad_head_response.result _ (λ response. SaysOfConnection c.args.bytes.now c.args.keeps response)
+    (λ response is. inl (says c.args.keeps false response is)) c.bad_head_response.ensures.message

@@ -1,17 +1,23 @@
 use Rattle.std.proofs.Common.{rules, subst}
 use Rattle.feed_releases.specs.Actives.{actives_of}
 use Rattle.feed_releases.specs.Feeds.{releases_of}
+use Rattle.feed_resolver.specs.NodeReplies.{SaysOfConnection}
 use Rattle.feed_resolver_reply.specs.Replies.{ResponseValue}
 use Rattle.feed_node_service.specs.Responders.{IsReplyBy}
 use Rattle.feed_node_service.proofs.Turns.{same_response}
 use Rattle.feed_node_service.proofs.responder.FeedResponder.reply.Goals as goal
 
-pub returns : goal.returns
-returns g c = (
+pub returns-clause-turn : goal.returns-clause-turn
+returns-clause-turn g c = (
   c.policy-policy.result,
   c.policy-policy.ensures,
   subst (λ (r : ResponseValue). IsReplyBy c.policy-policy.result c.args.bytes.now c.args.persists (actives_of (releases_of c.args.self.now.feed.now)) r)
       (same_response c.in_ok-response.response c.into_bytes.result.items c.status.result c.body_length.result c.into_bytes.ensures c.status.ensures c.body_length.ensures)
-      c.in_ok-response.ensures,
+      c.in_ok-response.ensures.reply,
   (c.fetch_to_begin-asked.result, c.fetch_to_begin-asked.ensures, search rules),
 )
+
+pub returns-clause-says : goal.returns-clause-says
+returns-clause-says g c = subst (λ (r : ResponseValue). SaysOfConnection c.args.bytes.now c.args.persists r)
+    (same_response c.in_ok-response.response c.into_bytes.result.items c.status.result c.body_length.result c.into_bytes.ensures c.status.ensures c.body_length.ensures)
+    c.in_ok-response.ensures.says
