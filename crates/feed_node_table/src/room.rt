@@ -1,0 +1,27 @@
+//! Replies only while there is room for them.
+use feed_node_connection::{Reply, Respond, RespondFault};
+use std::alloc::Global;
+
+/// The bytes of replies that are not yet sent, from which on no other reply is made.
+pub const UNSENT_LIMIT: usize = 33_554_432;
+
+/// A responder that makes replies while there is room for them.
+#[derive(Drop)]
+pub(crate) struct RoomResponder<'a, S: Respond> {
+    pub(crate) responder: &'a S,
+    pub(crate) has_room: bool,
+}
+
+impl<'a, S: Respond> Respond for RoomResponder<'a, S> {
+    ghost use Rattle.feed_node_table.specs.Connections.{replies_in_room};
+
+    ghost replies = { λ room. replies_in_room room.has_room (S.replies room.responder.now) };
+
+    fn respond(&self, alloc: Global, bytes: &[u8], persists: bool) -> Result<Reply, RespondFault> {
+        if self.has_room {
+            self.responder.respond(alloc, bytes, persists)
+        } else {
+            Err(RespondFault::Busy)
+        }
+    }
+}
