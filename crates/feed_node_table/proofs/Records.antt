@@ -17,6 +17,9 @@ closings-append (Accepted addr ∷ these) those = closings-append these those
 closings-append (Replied addr connection micros ∷ these) those = closings-append these those
 closings-append (Closed addr connection cause micros ∷ these) those = omega (arith, closings-append these those)
 
+same_before : (key : ℕ) (keys : List ℕ) → KeepsBefore key keys keys
+same_before key keys limit within differs place below = (omega (arith, within, below), refl)
+
 module _ {L : Type 0} (records : L → Entry → L → Type 0) where
   recorded-append : (later earlier : List Entry) (a b c : L) → AreRecorded records a earlier b → AreRecorded records b later c → AreRecorded records a (later ++ earlier) c
   recorded-append [] earlier a b c first is = subst (λ l. AreRecorded records a earlier l) (sym is) first
@@ -70,9 +73,6 @@ module _ {L : Type 0} (records : L → Entry → L → Type 0) where
       marked = λ more. absurd (false≢true more);
       closed = closed_one key cause now old new log after removed;
     }
-
-    same_before : (key : ℕ) (keys : List ℕ) → KeepsBefore key keys keys
-    same_before key keys limit within differs place below = (omega (arith, within, below), refl)
 
     -- nothing follows
     pub settled_none : (key : ℕ) (outcome : Outcome) (table : Table T) (log : L) → has_more outcome ≡ false → (outcome ≡ Over → peer_at table key ≡ None)
