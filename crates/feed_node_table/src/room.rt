@@ -2,8 +2,8 @@
 use feed_node_connection::{Reply, Respond, RespondFault};
 use std::alloc::Global;
 
-/// The bytes of replies that are not yet sent, past which no other reply is made.
-pub(crate) const UNSENT_LIMIT: usize = 33_554_432;
+/// The bytes of replies that are not yet sent, from which on no other reply is made.
+pub const UNSENT_LIMIT: usize = 33_554_432;
 
 /// A responder that makes replies while there is room for them.
 #[derive(Drop)]
@@ -13,12 +13,11 @@ pub(crate) struct RoomResponder<'a, S: Respond> {
 }
 
 impl<'a, S: Respond> Respond for RoomResponder<'a, S> {
-    ghost use Rattle.std.specs.Prelude.{◌≡◌, ◌⊎◌, false, None};
+    ghost use Rattle.feed_node_table.specs.Connections.{replies_in_room};
 
     ghost wanted = { λ room head. S.wanted room.responder.now head };
 
-    ghost replies = { λ room head body persists reply. S.replies room.responder.now head body persists reply
-        ⊎ ((room.has_room ≡ false) × (reply ≡ None)) };
+    ghost replies = { λ room. replies_in_room room.has_room (S.replies room.responder.now) };
 
     fn body_len(&self, head: &[u8]) -> usize {
         self.responder.body_len(head)
