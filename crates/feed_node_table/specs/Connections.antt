@@ -24,6 +24,6 @@ pub record HasMoved (replies : Replies) (share left : Share) (new : Connection) 
   pub replies_covered : length (requests_in more) + left.replies ≤ share.replies
 
 -- replies are made while there is room, and otherwise none
-abbrev pub replies_in_room : Bool → Replies → Replies
+abbrev pub replies_in_room : Bool → (List ℕ → List ℕ → Bool → Option (List ℕ) → Type 0) → List ℕ → List ℕ → Bool → Option (List ℕ) → Type 0
 replies_in_room has_room replies head body persists reply =
     ((has_room ≡ true) × replies head body persists reply) ⊎ ((has_room ≡ false) × (reply ≡ None))

@@ -28,5 +28,5 @@ pub trait Stream: Drop {
         share: &mut Share,
     ) -> Progress
         ensures { (history : List Event) → HasState connection.old history
-            → HasMoved (S.replies responder.now) share.old share.new connection.new history };
+            → HasMoved (S.wanted responder.now, S.replies responder.now) share.old share.new connection.new history };
 }
