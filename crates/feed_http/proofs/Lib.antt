@@ -6,6 +6,7 @@ pub mod RequestWriting
 pub mod CommonLengths
 pub mod LineReading
 pub mod ChunkReading
+pub mod ChunkScanning
 pub mod AnnouncedFaults
 pub mod ReplyValidation
 pub mod ExchangeLaw

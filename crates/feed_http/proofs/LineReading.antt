@@ -39,7 +39,7 @@ section_ends fields crlf = last_of-push_two (flat_map print_field fields) 13 10
 section_ends fields lf = last_of-push (flat_map print_field fields) 10
 
 -- a text that is not longer than the front is within it
-in_front : (front more p rest : List ℕ) → length p ≤ length front → front ++ more ≡ p ++ rest → front ≡ p ++ drop (length p) front
+pub in_front : (front more p rest : List ℕ) → length p ≤ length front → front ++ more ≡ p ++ rest → front ≡ p ++ drop (length p) front
 in_front front more p rest fits e =
     let same : take (length p) front ≡ p = sym (take-append-le (length p) front more fits) ∙ ap (take (length p)) e ∙ take_at p rest (length p) refl in
     sym (take-append-drop (length p) front) ∙ ap (λ t. t ++ drop (length p) front) same
@@ -82,7 +82,7 @@ whole_section front b fields end rest none reads = elim (cases_Bool (nat_le (len
   | inr f ↦ all_of front (print_section fields end) rest b (leb-false _ _ f) reads.1
 ]
 
-line_bytes : (l : ChunkLine) → 0 < length (print_chunk_line l)
+pub line_bytes : (l : ChunkLine) → 0 < length (print_chunk_line l)
 unfolding print_chunk_line
 line_bytes l = simp length-append (omega arith)
 

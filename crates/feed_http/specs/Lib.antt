@@ -8,6 +8,7 @@ pub mod RequestTexts
 pub mod Announcements
 pub mod Bodies
 pub mod Chunks
+pub mod ChunkScans
 pub mod Got
 pub mod ReplyScans
 pub mod Laws

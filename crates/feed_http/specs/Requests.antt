@@ -1,5 +1,5 @@
 -- Interpreting a request on the server (RFC 9112, section 3; RFC 9110, sections 9, 13.1.5 and 14.2).
-use Rattle.std.specs.Prelude.{◌≡◌, ◌==◌, ◌||◌, not, ℕ, List, [], ◌∷◌, Bool, drop, codes, if◌then◌else◌, Option, None, position, MatchOption}
+use Rattle.std.specs.Prelude.{◌≡◌, ◌||◌, not, ℕ, List, ◌∷◌, Bool, codes, if◌then◌else◌, Option, None, MatchOption}
 use Rattle.std.specs.Option.{option_map_or}
 use Rattle.httparse.specs.Grammar.{RequestHead}
 use Rattle.feed_names.specs.ReleaseName.{Name, IsName}

@@ -1,6 +1,6 @@
 //! Finds where a reply ends while its bytes arrive, without parsing it from its start each time.
-ghost use Rattle.std.specs.Prelude.{◌≡◌, ◌≢◌, length};
-ghost use Rattle.feed_http.specs.ReplyScans.{body_behind, IsBodyOf, IsEndOf};
+ghost use Rattle.std.specs.Prelude.{◌≡◌, ◌≢◌, ◌++◌, ℕ, List, [], length};
+ghost use Rattle.feed_http.specs.ReplyScans.{body_behind, start_of, IsBodyOf, IsEndOf, IsChunkedEndOf, HasScanned};
 
 use crate::fetching::chunk_scan::ChunkScan;
 use crate::fetching::got::Method;
@@ -59,8 +59,17 @@ fn body_of(bytes: &[u8], method: Method) -> ReplyBody
     }
 }
 
-/// Finds the end of a reply while its bytes arrive. It parses the heads until they are complete, and then looks at each
-/// line of a chunk once.
+// Returns where the body begins.
+fn start_of(body: ReplyBody) -> usize
+    ensures { result ≡ start_of body }
+{
+    match body {
+        ReplyBody::Part { start, framing: _ } | ReplyBody::Whole { start, framing: _ } => start,
+        ReplyBody::Unknown | ReplyBody::Absent => 0,
+    }
+}
+
+/// Finds the end of a reply while its bytes arrive. It parses the heads until they are complete, and then each chunk.
 #[derive(Clone, Copy, Debug)]
 pub struct ReplyScan {
     /// The method of the request.
@@ -75,6 +84,7 @@ impl ReplyScan {
     pub fn new(method: Method) -> ReplyScan
         ensures method { result.method ≡ method }
         ensures body { result.body ≡ ReplyBody.Unknown }
+        ensures scanned { HasScanned result [] }
     {
         ReplyScan {
             method,
@@ -88,18 +98,15 @@ impl ReplyScan {
         ensures method { self.new.method ≡ self.old.method }
         ensures found { self.old.body ≡ ReplyBody.Unknown → IsBodyOf self.old.method bytes.now self.new.body }
         ensures kept { self.old.body ≢ ReplyBody.Unknown → self.new.body ≡ self.old.body }
+        ensures scanned { (before more : List ℕ) → HasScanned self.old before → bytes.now ≡ before ++ more
+            → HasScanned self.new bytes.now }
     {
         if self.body != ReplyBody::Unknown {
             return;
         }
         let body = body_of(bytes, self.method);
         self.body = body;
-        match body {
-            ReplyBody::Part { start, framing: _ } | ReplyBody::Whole { start, framing: _ } => {
-                self.chunks = ChunkScan::new(start);
-            }
-            _ => {}
-        }
+        self.chunks = ChunkScan::new(start_of(body));
     }
 
     /// Returns whether no more bytes are needed: the reply at the front of the bytes received so far is complete, or it
@@ -110,6 +117,10 @@ impl ReplyScan {
         ensures found { self.old.body ≡ ReplyBody.Unknown → IsBodyOf self.old.method bytes.now self.new.body }
         ensures kept { self.old.body ≢ ReplyBody.Unknown → self.new.body ≡ self.old.body }
         ensures end { IsEndOf self.new.body (length bytes.now) result }
+        ensures chunks { (before more : List ℕ) → HasScanned self.old before → bytes.now ≡ before ++ more
+            → IsChunkedEndOf self.new.body bytes.now result }
+        ensures scanned { (before more : List ℕ) → HasScanned self.old before → bytes.now ≡ before ++ more
+            → HasScanned self.new bytes.now }
     {
         self.find_body(bytes);
         match self.body {
