@@ -1,6 +1,11 @@
 -- The object of a hit parses to its value.
-use Rattle.std.proofs.Common.{◌≡◌, ◌<◌, ◌≤◌, ◌^◌, ℕ, List, [], ◌∷◌, ◌++◌, true, false, refl, ap, ◌∙◌, arith, append_assoc, codes, lit≤}
-use Rattle.std.specs.Prelude.{All}
+use Rattle.std.proofs.Common.{◌≡◌, ◌<◌, ◌≤◌, ◌^◌, ◌+◌, ◌⊎◌, inl, inr, ℕ, suc, List, [], ◌∷◌, ◌++◌, Bool, true, false, Some, refl, sym, ap, ◌∙◌, arith, append_assoc, codes, length, map, lit≤}
+use Rattle.std.specs.Prelude.{All, ◌==◌, if◌then◌else◌}
+use Rattle.std.proofs.lemmas.List.{append-nil}
+use Rattle.json.specs.Json.{Json, array, document}
+use Rattle.json.specs.Value.{items_of}
+use Rattle.feed_resolver_reply.specs.JsonLists.{comma_before, items_from, json_list}
+use Rattle.feed_resolver_hits.specs.Tallies.{TallyValue, left_out}
 use Rattle.std.specs.List.{AllByRecursion}
 use Rattle.std.specs.Fmt.{decimal}
 use Rattle.std.proofs.lemmas.List.Elements.{recursion_from_All}
@@ -17,7 +22,7 @@ use Rattle.feed_answer.specs.Grades.{grade_text}
 use Rattle.feed_resolver_reply.specs.JsonStrings.{json_string}
 use Rattle.feed_resolver_reply.proofs.JsonTexts.{Lexes, lexes_then, lexes_string, IsText, AreOf, text_of_lexemes, list_read}
 use Rattle.feed_resolver_hits.specs.Hits.{ReleaseHitValue, name_text}
-use Rattle.feed_resolver_hits.specs.HitsJson.{release_members, grade_members, row_members, hit_object, hits_json, hit_value}
+use Rattle.feed_resolver_hits.specs.HitsJson.{release_members, grade_members, row_members, hit_object, more_start, more_object, more_items, hits_json, hit_value, more_value, item_values}
 use Rattle.feed_resolver_hits.specs.Laws.{HitsAreJson}
 
 -- a key, behind a comma, and a string
@@ -132,15 +137,131 @@ hit_is found after_value may more = absurd (cc)
 hit_is found after_comma may more = refl
 hit_is found after_key may more = absurd (cc)
 
-each_hit : (hits : List ReleaseHitValue) → AllByRecursion (λ (found : ReleaseHitValue). found.hit.row.number < 2 ^ 64) hits
-    → AllByRecursion (λ found. IsText (hit_object found) (hit_value found)) hits
-each_hit [] small = tt
-each_hit (found ∷ more) small = (text_of_lexemes (hit_object found) (hit_lexemes found) (hit_value found) (lexes_hit found small.0) (hit_is found), each_hit more small.1)
+-- ---- the object that counts what is left out
 
-each_flat : (hits : List ReleaseHitValue) → AllByRecursion (λ found. depth (hit_value found) ≤ 1) hits
-each_flat [] = tt
-each_flat (found ∷ more) = (lit≤ tt, each_flat more)
+more_key : Lexes (codes "{\"more\":") (token Token.begin_object ∷ token (Token.string (codes "more")) ∷ colon ∷ [])
+unfolding lex content
+more_key = record { lexed = λ rest. refl }
+
+at_least_key : Lexes (codes "{\"more_at_least\":") (token Token.begin_object ∷ token (Token.string (codes "more_at_least")) ∷ colon ∷ [])
+unfolding lex content
+at_least_key = record { lexed = λ rest. refl }
+
+abbrev more_name : Bool → List ℕ
+more_name true = codes "more"
+more_name false = codes "more_at_least"
+
+abbrev more_lexemes : ℕ → Bool → List Lexeme
+more_lexemes n b = token Token.begin_object ∷ token (Token.string (more_name b)) ∷ colon ∷ token (Token.number (decimal n)) ∷ token Token.end_object ∷ []
+
+start_key : (b : Bool) → Lexes (more_start b) (token Token.begin_object ∷ token (Token.string (more_name b)) ∷ colon ∷ [])
+start_key true = more_key
+start_key false = at_least_key
+
+-- a number, in front of a brace
+before_brace : (n : ℕ) → n < 2 ^ 64 → Lexes (decimal n ++ (codes "}" ++ [])) (token (Token.number (decimal n)) ∷ token Token.end_object ∷ [])
+before_brace n small = record {
+  lexed = λ rest. ap (lex between) (append_assoc (decimal n) (codes "}" ++ []) rest)
+      ∙ lex-number (decimal n) ((codes "}" ++ []) ++ rest) (IsNumber-decimal n small) refl
+      ∙ ap (λ ls. token (Token.number (decimal n)) ∷ ls) (last_brace.lexed rest);
+}
+
+lexes_more : (n : ℕ) (b : Bool) → n < 2 ^ 64 → Lexes (more_object n b) (more_lexemes n b)
+unfolding more_object
+lexes_more n b small = lexes_then (more_start b) _ _ _ (start_key b) (before_brace n small)
+
+more_is : (n : ℕ) (b : Bool) → AreOf (more_lexemes n b) (more_value n b)
+unfolding punctuate
+more_is n true fresh may more = refl
+more_is n true after_value may more = absurd (cc)
+more_is n true after_comma may more = refl
+more_is n true after_key may more = absurd (cc)
+more_is n false fresh may more = refl
+more_is n false after_value may more = absurd (cc)
+more_is n false after_comma may more = refl
+more_is n false after_key may more = absurd (cc)
+
+-- ---- all items
+
+-- an item: a hit, or how many are left out and whether these are all
+abbrev Item : Type 0
+Item = ReleaseHitValue ⊎ (ℕ × Bool)
+
+abbrev item_text : Item → List ℕ
+item_text (inl found) = hit_object found
+item_text (inr more) = more_object more.0 more.1
+
+abbrev item_value : Item → Json
+item_value (inl found) = hit_value found
+item_value (inr more) = more_value more.0 more.1
+
+abbrev hit_items : List ReleaseHitValue → List Item
+hit_items hits = map (λ found. inl found) hits
+
+-- the last item, if there is one
+abbrev last_items : Bool → ℕ → Bool → List Item
+last_items none n b = if none then [] else inr (n, b) ∷ []
+
+items_are : (hits : List ReleaseHitValue) (place : ℕ) (last : List Item)
+    → items_from item_text place (hit_items hits ++ last) ≡ items_from hit_object place hits ++ items_from item_text (place + length hits) last
+items_are [] place last = let same : place ≡ place + 0 = omega arith in ap (λ p. items_from item_text p last) same
+items_are (found ∷ more) place last =
+    let same : place + 1 + length more ≡ place + suc (length more) = omega arith in
+    let here = comma_before place ++ hit_object found in
+    ap (λ t. here ++ t) (items_are more (place + 1) last)
+    ∙ sym (append_assoc here (items_from hit_object (place + 1) more) (items_from item_text (place + 1 + length more) last))
+    ∙ ap (λ p. (here ++ items_from hit_object (place + 1) more) ++ items_from item_text p last) same
+
+last_is : (none : Bool) (place n : ℕ) (b : Bool) → items_from item_text (0 + place) (last_items none n b) ≡ (if none then [] else comma_before place ++ more_object n b)
+last_is true place n b = refl
+last_is false place n b =
+    let same : 0 + place ≡ place = omega arith in
+    append-nil (comma_before (0 + place) ++ more_object n b) ∙ ap (λ p. comma_before p ++ more_object n b) same
+
+abbrev items_in : TallyValue → List Item
+items_in tally = hit_items tally.shown ++ last_items (left_out tally == 0) (left_out tally) tally.is_whole
+
+text_is : (tally : TallyValue) → json_list item_text (items_in tally) ≡ hits_json tally
+unfolding hits_json
+text_is tally = let last = last_items (left_out tally == 0) (left_out tally) tally.is_whole in
+    ap (λ t. codes "[" ++ (t ++ codes "\n]\n"))
+    (items_are tally.shown 0 last ∙ ap (λ t. items_from hit_object 0 tally.shown ++ t) (last_is (left_out tally == 0) (length tally.shown) (left_out tally) tally.is_whole))
+    ∙ ap (λ t. codes "[" ++ t) (append_assoc (items_from hit_object 0 tally.shown) (more_items tally) (codes "\n]\n"))
+
+values_of : (hits : List ReleaseHitValue) (none : Bool) (n : ℕ) (b : Bool)
+    → map item_value (hit_items hits ++ last_items none n b) ≡ map hit_value hits ++ (if none then [] else more_value n b ∷ [])
+values_of [] true n b = refl
+values_of [] false n b = refl
+values_of (found ∷ more) none n b = ap (λ vs. hit_value found ∷ vs) (values_of more none n b)
+
+each_last : (none : Bool) (n : ℕ) (b : Bool) → n < 2 ^ 64 → AllByRecursion (λ item. IsText (item_text item) (item_value item)) (last_items none n b)
+each_last true n b small = tt
+each_last false n b small = (text_of_lexemes (more_object n b) (more_lexemes n b) (more_value n b) (lexes_more n b small) (more_is n b), tt)
+
+each_item : (hits : List ReleaseHitValue) (last : List Item) → AllByRecursion (λ (found : ReleaseHitValue). found.hit.row.number < 2 ^ 64) hits
+    → AllByRecursion (λ item. IsText (item_text item) (item_value item)) last
+    → AllByRecursion (λ item. IsText (item_text item) (item_value item)) (hit_items hits ++ last)
+each_item [] last small rest = rest
+each_item (found ∷ more) last small rest =
+    (text_of_lexemes (hit_object found) (hit_lexemes found) (hit_value found) (lexes_hit found small.0) (hit_is found), each_item more last small.1 rest)
+
+flat_last : (none : Bool) (n : ℕ) (b : Bool) → AllByRecursion (λ item. depth (item_value item) ≤ 1) (last_items none n b)
+flat_last true n b = tt
+flat_last false n true = (lit≤ tt, tt)
+flat_last false n false = (lit≤ tt, tt)
+
+flat_items : (hits : List ReleaseHitValue) (last : List Item) → AllByRecursion (λ item. depth (item_value item) ≤ 1) last
+    → AllByRecursion (λ item. depth (item_value item) ≤ 1) (hit_items hits ++ last)
+flat_items [] last rest = rest
+flat_items (found ∷ more) last rest = (lit≤ tt, flat_items more last rest)
 
 pub hits_read : HitsAreJson
-unfolding hits_json
-hits_read hits small = list_read hit_object hit_value hits (each_hit hits (recursion_from_All (λ (found : ReleaseHitValue). found.hit.row.number < 2 ^ 64) hits small)) (each_flat hits)
+hits_read tally small counts =
+    let fits : left_out tally < 2 ^ 64 = omega arith in
+    let last = last_items (left_out tally == 0) (left_out tally) tally.is_whole in
+    ap document (sym (text_is tally))
+    ∙ list_read item_text item_value (items_in tally)
+    (each_item tally.shown last (recursion_from_All (λ (found : ReleaseHitValue). found.hit.row.number < 2 ^ 64) tally.shown small)
+    (each_last (left_out tally == 0) (left_out tally) tally.is_whole fits))
+    (flat_items tally.shown last (flat_last (left_out tally == 0) (left_out tally) tally.is_whole))
+    ∙ ap (λ vs. Some (array (items_of vs))) (values_of tally.shown (left_out tally == 0) (left_out tally) tally.is_whole)

@@ -2,3 +2,5 @@ pub mod HitTexts
 pub mod BestLinks
 pub mod Redirects
 pub mod Written
+pub mod Tallies
+pub mod SolePlaces

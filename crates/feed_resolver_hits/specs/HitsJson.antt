@@ -1,5 +1,5 @@
 -- The hits of a query as JSON.
-use Rattle.std.specs.Prelude.{ℕ, List, [], ◌∷◌, ◌++◌, codes}
+use Rattle.std.specs.Prelude.{ℕ, ◌==◌, Bool, true, false, if◌then◌else◌, List, [], ◌∷◌, ◌++◌, length, map, codes}
 use Rattle.std.specs.Fmt.{decimal}
 use Rattle.json.specs.Json.{Json, object, string, number, Members, member, no_members}
 use Rattle.feed_names.specs.ReleaseName.{Name}
@@ -7,9 +7,10 @@ use Rattle.feed_kbart.specs.RowValue.{RowValue}
 use Rattle.feed_answer.specs.HitValue.{HitValue}
 use Rattle.feed_answer.specs.Grades.{grade_text}
 use Rattle.feed_resolver_reply.specs.JsonStrings.{json_string}
-use Rattle.feed_resolver_reply.specs.JsonLists.{json_list}
+use Rattle.feed_resolver_reply.specs.JsonLists.{comma_before, items_from}
 use Rattle.feed_resolver_reply.specs.Pieces.{joined}
 use Rattle.feed_resolver_hits.specs.Hits.{ReleaseHitValue, name_text}
+use Rattle.feed_resolver_hits.specs.Tallies.{TallyValue, left_out}
 
 -- the beginning of an object: the members that identify a release
 unfoldable pub release_members : Name → List ℕ
@@ -35,9 +36,23 @@ grade_members hit = joined (
 unfoldable pub hit_object : ReleaseHitValue → List ℕ
 hit_object found = release_members found.name ++ (grade_members found.hit ++ row_members found.hit.row)
 
--- the hits as a JSON list of objects
-unfoldable pub hits_json : List ReleaseHitValue → List ℕ
-hits_json hits = json_list hit_object hits
+-- the beginning of the object that counts the hits that are left out: whether there may be still more
+abbrev pub more_start : Bool → List ℕ
+more_start true = codes "{\"more\":"
+more_start false = codes "{\"more_at_least\":"
+
+-- this object
+unfoldable pub more_object : ℕ → Bool → List ℕ
+more_object n is_whole = joined (more_start is_whole ∷ decimal n ∷ codes "}" ∷ [])
+
+-- this object as the last item, if hits are left out
+abbrev pub more_items : TallyValue → List ℕ
+more_items tally =
+    if left_out tally == 0 then [] else comma_before (length tally.shown) ++ more_object (left_out tally) tally.is_whole
+
+-- the hits that are shown, as a JSON list of objects
+unfoldable pub hits_json : TallyValue → List ℕ
+hits_json tally = codes "[" ++ (items_from hit_object 0 tally.shown ++ (more_items tally ++ codes "\n]\n"))
 
 -- a member of an object whose value is a string, in front of others
 abbrev pub text_member : List ℕ → List ℕ → Members → Members
@@ -56,3 +71,13 @@ hit_value found = object (
     (text_member (codes "depth") found.hit.row.depth
     (text_member (codes "embargo") found.hit.row.embargo
     (text_member (codes "access") found.hit.row.access no_members))))))))))
+
+-- the object that states how many hits are left out
+abbrev pub more_value : ℕ → Bool → Json
+more_value n true = object (member (codes "more") (number (decimal n)) no_members)
+more_value n false = object (member (codes "more_at_least") (number (decimal n)) no_members)
+
+-- the values of the items: the hits that are shown, and the object if hits are left out
+abbrev pub item_values : TallyValue → List Json
+item_values tally =
+    map hit_value tally.shown ++ (if left_out tally == 0 then [] else more_value (left_out tally) tally.is_whole ∷ [])

@@ -1,5 +1,5 @@
 -- The hits of a query as an HTML page.
-use Rattle.std.specs.Prelude.{ℕ, if◌then◌else◌, List, [], ◌∷◌, ◌++◌, codes, Option, None, option_map}
+use Rattle.std.specs.Prelude.{ℕ, ◌==◌, Bool, true, false, if◌then◌else◌, List, [], ◌∷◌, ◌++◌, codes, Option, None, option_map}
 use Rattle.std.specs.List.{flat_map}
 use Rattle.std.specs.Fmt.{decimal}
 use Rattle.std.specs.Option.{option_and_then, option_map_or}
@@ -14,6 +14,7 @@ use Rattle.feed_resolver_reply.specs.Pages.{page_start, page_end}
 use Rattle.feed_resolver_hits.specs.declared.hits_page.TheConstants.{TABLE_HEAD, TABLE_END}
 use Rattle.feed_resolver_hits.specs.Links.{is_link}
 use Rattle.feed_resolver_hits.specs.Hits.{ReleaseHitValue}
+use Rattle.feed_resolver_hits.specs.Tallies.{TallyValue, left_out}
 
 -- a grade in words for readers
 abbrev pub grade_words : Grade → List ℕ
@@ -78,11 +79,26 @@ table_end = TABLE_END.now
 unfoldable pub hits_table : List ReleaseHitValue → List ℕ
 hits_table hits = table_head ++ (flat_map hit_row hits ++ table_end)
 
--- the table, or the statement that nothing matches
-abbrev pub hits_part : List ReleaseHitValue → List ℕ
-hits_part [] = codes "<p>No holdings match.</p>\n"
-hits_part (found ∷ more) = hits_table (found ∷ more)
+-- the words before a number that may be too small
+abbrev pub at_least : Bool → List ℕ
+at_least true = []
+at_least false = codes "at least "
 
--- the hits as an HTML page
-unfoldable pub hits_page : List ReleaseHitValue → List ℕ
-hits_page hits = page_start (codes "Holdings") ++ (hits_part hits ++ page_end)
+-- the paragraph that says how many hits are left out
+unfoldable pub more_text : ℕ → Bool → List ℕ
+more_text n is_whole = joined (
+    codes "<p>Not shown: " ∷ at_least is_whole ∷ decimal n
+    ∷ codes " more. Ask with a date or a volume for fewer.</p>\n" ∷ [])
+
+-- the same, if any are
+abbrev pub more_part : TallyValue → List ℕ
+more_part tally = if left_out tally == 0 then [] else more_text (left_out tally) tally.is_whole
+
+-- the table, or the statement that nothing matches
+abbrev pub hits_part : TallyValue → List ℕ
+hits_part tally =
+    if tally.count == 0 then codes "<p>No holdings match.</p>\n" else hits_table tally.shown ++ more_part tally
+
+-- the hits that are shown, as an HTML page
+unfoldable pub hits_page : TallyValue → List ℕ
+hits_page tally = page_start (codes "Holdings") ++ (hits_part tally ++ page_end)

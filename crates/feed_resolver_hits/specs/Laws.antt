@@ -4,14 +4,25 @@ use Rattle.json.specs.Json.{document, array}
 use Rattle.json.specs.Value.{items_of}
 use Rattle.feed_resolver_hits.specs.Links.{is_link}
 use Rattle.feed_resolver_hits.specs.Hits.{ReleaseHitValue, best_link}
-use Rattle.feed_resolver_hits.specs.HitsJson.{hits_json, hit_value}
+use Rattle.feed_resolver_hits.specs.HitsJson.{hits_json, item_values}
+use Rattle.feed_resolver_hits.specs.Ranks.{IsBestLink}
+use Rattle.feed_resolver_hits.specs.Tallies.{TallyValue, tally_of}
+use Rattle.feed_resolver_hits.specs.Tallying.{no_hits, with_hits, tally_from}
 
 -- a redirect goes to a URL of `http` or `https` in visible ASCII, within the limit of a link
 abbrev pub RedirectsToLink : Type 0
 RedirectsToLink = (hits : List ReleaseHitValue) (url : List ℕ) → best_link hits ≡ Some url → is_link url ≡ true
 
--- the hits in JSON are, by its grammar (RFC 8259), an array with one object for each hit, in their order; the number of
--- a record fits in 64 bits
+-- no hit that may be linked to ranks above the best link
+abbrev pub BestLinkRanksHighest : Type 0
+BestLinkRanksHighest = (hits : List ReleaseHitValue) → IsBestLink hits (best_link hits)
+
+-- what a tally tells after one hit of a list was added after another
+abbrev pub TallyTellsOfHits : Type 0
+TallyTellsOfHits = (hits : List ReleaseHitValue) → tally_from (with_hits no_hits hits) ≡ tally_of hits
+
+-- the hits in JSON are, by its grammar (RFC 8259), an array with one object for each that is shown, in their order, and
+-- one more if others are left out; numbers fit in 64 bits
 abbrev pub HitsAreJson : Type 0
-HitsAreJson = (hits : List ReleaseHitValue) → All (λ found. found.hit.row.number < 2 ^ 64) hits
-    → document (hits_json hits) ≡ Some (array (items_of (map hit_value hits)))
+HitsAreJson = (tally : TallyValue) → All (λ found. found.hit.row.number < 2 ^ 64) tally.shown → tally.count < 2 ^ 64
+    → document (hits_json tally) ≡ Some (array (items_of (item_values tally)))

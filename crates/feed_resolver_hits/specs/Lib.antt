@@ -1,6 +1,10 @@
 pub mod Links
 pub mod Hits
 pub mod Ranks
+pub mod Candidates
+pub mod Tallies
+pub mod Tallying
+pub mod HitsText
 pub mod HitsJson
 pub mod HitsPage
 pub mod QueryRefusals

@@ -2,9 +2,12 @@
 ghost use Rattle.std.specs.Prelude.{◌≡◌, ◌++◌, OnOk};
 ghost use Rattle.feed_answer.specs.Grades.{grade_text};
 ghost use Rattle.feed_resolver_reply.specs.JsonLists.{items_from};
-ghost use Rattle.feed_resolver_hits.specs.HitsJson.{release_members, grade_members, row_members, hit_object, hits_json};
+ghost use Rattle.feed_resolver_hits.specs.HitsJson.{release_members, grade_members, row_members, hit_object};
+ghost use Rattle.feed_resolver_hits.specs.HitsJson.{more_start, more_object, more_items, hits_json};
+ghost use Rattle.feed_resolver_hits.specs.Tallying.{tally_from};
 
 use crate::hits::{ReleaseHit, name_text};
+use crate::tally::Tally;
 use feed_answer::Grade;
 use feed_kbart::Row;
 use feed_names::ReleaseName;
@@ -95,12 +98,49 @@ fn put_objects(out: &mut Vec<u8>, hits: &[ReleaseHit<'_>]) -> Result<(), AllocEr
     Ok(())
 }
 
-/// Writes the hits as a list of objects.
+fn more_start(is_whole: bool) -> &'static [u8]
+    ensures { result.now ≡ more_start is_whole }
+{
+    if is_whole {
+        b"{\"more\":"
+    } else {
+        b"{\"more_at_least\":"
+    }
+}
+
+#[tactic(auto, unfolding(crate::specs::HitsJson::more_object))]
+fn put_more_object(out: &mut Vec<u8>, left_out: u64, is_whole: bool) -> Result<(), AllocError>
+    ensures { OnOk result (out.new.items ≡ out.old.items ++ more_object left_out is_whole) }
+{
+    put_all(
+        out,
+        &[
+            Piece::Plain(more_start(is_whole)),
+            Piece::Number(left_out),
+            Piece::Plain(b"}"),
+        ],
+    )
+}
+
+// Writes how many hits are left out, if any are.
+fn put_more(out: &mut Vec<u8>, tally: &Tally<'_>) -> Result<(), AllocError>
+    ensures { OnOk result (out.new.items ≡ out.old.items ++ more_items (tally_from tally.now)) }
+{
+    let left_out = tally.left_out();
+    if left_out == 0 {
+        return Ok(());
+    }
+    put_comma(out, tally.shown().len())?;
+    put_more_object(out, left_out as u64, tally.is_whole())
+}
+
+/// Writes the hits that a tally shows as a list of objects. If others are left out, the last item says how many.
 #[tactic(auto, unfolding(crate::specs::HitsJson::hits_json))]
-pub fn put_hits_json(out: &mut Vec<u8>, hits: &[ReleaseHit<'_>]) -> Result<(), AllocError>
-    ensures { OnOk result (out.new.items ≡ out.old.items ++ hits_json hits.now) }
+pub fn put_hits_json(out: &mut Vec<u8>, tally: &Tally<'_>) -> Result<(), AllocError>
+    ensures { OnOk result (out.new.items ≡ out.old.items ++ hits_json (tally_from tally.now)) }
 {
     put_list_start(out)?;
-    put_objects(out, hits)?;
+    put_objects(out, tally.shown())?;
+    put_more(out, tally)?;
     put_list_end(out)
 }

@@ -7,10 +7,12 @@ ghost use Rattle.feed_dates.specs.Days.{date_of_day};
 ghost use Rattle.feed_resolver_reply.specs.Pieces.{joined, piece_text};
 ghost use Rattle.feed_resolver_hits.specs.HitsPage.{grade_words, title_cell, or_nothing, dates_text, volumes_text};
 ghost use Rattle.feed_resolver_hits.specs.HitsPage.{coverage_cells, text_cells, hit_row, table_head, table_end};
-ghost use Rattle.feed_resolver_hits.specs.HitsPage.{hits_table, hits_part, hits_page};
+ghost use Rattle.feed_resolver_hits.specs.HitsPage.{hits_table, at_least, more_text, more_part, hits_part, hits_page};
+ghost use Rattle.feed_resolver_hits.specs.Tallying.{tally_from};
 
 use crate::hits::ReleaseHit;
 use crate::link::is_link;
+use crate::tally::Tally;
 use feed_answer::Grade;
 use feed_dates::write_date;
 use feed_kbart::Row;
@@ -183,22 +185,54 @@ fn put_table(out: &mut Vec<u8>, hits: &[ReleaseHit<'_>]) -> Result<(), AllocErro
     put(out, TABLE_END)
 }
 
-fn put_hits(out: &mut Vec<u8>, hits: &[ReleaseHit<'_>]) -> Result<(), AllocError>
-    ensures { OnOk result (out.new.items ≡ out.old.items ++ hits_part hits.now) }
+fn at_least(is_whole: bool) -> &'static [u8]
+    ensures { result.now ≡ at_least is_whole }
 {
-    if hits.is_empty() {
-        put(out, b"<p>No holdings match.</p>\n")
-    } else {
-        put_table(out, hits)
-    }
+    if is_whole { b"" } else { b"at least " }
 }
 
-/// Writes the page that lists the hits.
+#[tactic(auto, unfolding(crate::specs::HitsPage::more_text))]
+fn put_more_text(out: &mut Vec<u8>, left_out: u64, is_whole: bool) -> Result<(), AllocError>
+    ensures { OnOk result (out.new.items ≡ out.old.items ++ more_text left_out is_whole) }
+{
+    put_all(
+        out,
+        &[
+            Piece::Plain(b"<p>Not shown: "),
+            Piece::Plain(at_least(is_whole)),
+            Piece::Number(left_out),
+            Piece::Plain(b" more. Ask with a date or a volume for fewer.</p>\n"),
+        ],
+    )
+}
+
+// Writes how many hits are left out, if any are.
+fn put_more(out: &mut Vec<u8>, tally: &Tally<'_>) -> Result<(), AllocError>
+    ensures { OnOk result (out.new.items ≡ out.old.items ++ more_part (tally_from tally.now)) }
+{
+    let left_out = tally.left_out();
+    if left_out == 0 {
+        return Ok(());
+    }
+    put_more_text(out, left_out as u64, tally.is_whole())
+}
+
+fn put_hits(out: &mut Vec<u8>, tally: &Tally<'_>) -> Result<(), AllocError>
+    ensures { OnOk result (out.new.items ≡ out.old.items ++ hits_part (tally_from tally.now)) }
+{
+    if tally.count() == 0 {
+        return put(out, b"<p>No holdings match.</p>\n");
+    }
+    put_table(out, tally.shown())?;
+    put_more(out, tally)
+}
+
+/// Writes the page that lists the hits that a tally shows. If others are left out, it says how many.
 #[tactic(auto, unfolding(crate::specs::HitsPage::hits_page))]
-pub fn put_hits_page(out: &mut Vec<u8>, hits: &[ReleaseHit<'_>]) -> Result<(), AllocError>
-    ensures { OnOk result (out.new.items ≡ out.old.items ++ hits_page hits.now) }
+pub fn put_hits_page(out: &mut Vec<u8>, tally: &Tally<'_>) -> Result<(), AllocError>
+    ensures { OnOk result (out.new.items ≡ out.old.items ++ hits_page (tally_from tally.now)) }
 {
     put_page_start(out, b"Holdings")?;
-    put_hits(out, hits)?;
+    put_hits(out, tally)?;
     put_page_end(out)
 }

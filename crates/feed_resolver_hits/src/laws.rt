@@ -1,5 +1,6 @@
 //! Laws of hits, each stated as the contract of a function with an empty body.
-ghost use Rattle.feed_resolver_hits.specs.Laws.{HitsAreJson, RedirectsToLink};
+ghost use Rattle.feed_resolver_hits.specs.Laws.{BestLinkRanksHighest, HitsAreJson, RedirectsToLink};
+ghost use Rattle.feed_resolver_hits.specs.Laws.{TallyTellsOfHits};
 
 /// The URL of a redirect is one of `http` or `https` in at most 8,000 bytes of visible ASCII, so no byte of a file can
 /// end a line of a reply's head.
@@ -7,7 +8,18 @@ pub fn redirects_to_link()
     ensures { RedirectsToLink }
 {}
 
-/// The hits in JSON are, by its grammar (RFC 8259), an array with one object for each hit, in their order.
+/// No hit that may be linked to ranks above the best link.
+pub fn best_link_ranks_highest()
+    ensures { BestLinkRanksHighest }
+{}
+
+/// A tally that is made hit by hit tells how many hits there are, up to 1,000,000, the first ones, and the best link.
+pub fn tally_tells_of_hits()
+    ensures { TallyTellsOfHits }
+{}
+
+/// The hits in JSON are, by its grammar (RFC 8259), an array with one object for each hit that is shown, in their order,
+/// and one more if others are left out.
 pub fn hits_are_json()
     ensures { HitsAreJson }
 {}

@@ -1,16 +1,23 @@
-//! The hits of a query in the releases of a node: the best link among them, and how they are written as JSON and as an
-//! HTML page.
+//! The hits of a query in the releases of a node: how many there are, the first ones, and the best link among them; and
+//! how they are written as text, as JSON and as an HTML page.
 #![tactic(auto)]
 
+mod candidates;
 mod hits;
 mod hits_json;
 mod hits_page;
+mod hits_text;
 mod laws;
 mod link;
+mod links;
 mod refusals;
+mod shown;
+mod tally;
 
-pub use hits::{ReleaseHit, add_hits, best_link, name_text};
+pub use hits::{ReleaseHit, name_text};
 pub use hits_json::{put_hits_json, put_release_members};
 pub use hits_page::put_hits_page;
-pub use laws::{hits_are_json, redirects_to_link};
+pub use hits_text::put_release;
+pub use laws::{best_link_ranks_highest, hits_are_json, redirects_to_link, tally_tells_of_hits};
 pub use refusals::query_refusal;
+pub use tally::Tally;

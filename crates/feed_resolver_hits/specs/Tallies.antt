@@ -1,0 +1,54 @@
+-- The hits of a query that a reply counts, shows and chooses from.
+use Rattle.std.specs.Prelude.{ℕ, ◌+◌, ◌-◌, ◌&&◌, nat_lt, nat_le, Bool, if◌then◌else◌, List, [], ◌∷◌, length, take, Option}
+use Rattle.feed_resolver_hits.specs.Hits.{ReleaseHitValue, name_text, best_link}
+
+-- the most hits of a query that are counted
+abbrev pub count_limit : ℕ
+count_limit = 1000000
+
+-- the most hits that a reply shows
+abbrev pub shown_limit : ℕ
+shown_limit = 1000
+
+-- the texts of the hits that a reply shows have fewer bytes than this
+abbrev pub text_limit : ℕ
+text_limit = 524288
+
+-- the bytes in the texts of a hit
+abbrev pub text_size : ReleaseHitValue → ℕ
+text_size found =
+    length found.name.stem + length (name_text found.name) + length found.hit.row.title + length found.hit.row.url
+    + length found.hit.row.title_id + length found.hit.row.depth + length found.hit.row.embargo + length found.hit.row.access
+
+-- the first hits: at most so many, and whose texts have fewer than so many bytes in all
+abbrev pub first_within : ℕ → ℕ → List ReleaseHitValue → List ReleaseHitValue
+first_within places bytes [] = []
+first_within places bytes (found ∷ more) =
+    if nat_lt 0 places && nat_lt 0 (bytes - text_size found)
+    then found ∷ first_within (places - 1) (bytes - text_size found) more
+    else []
+
+-- the hits that are counted
+abbrev pub counted : List ReleaseHitValue → List ReleaseHitValue
+counted hits = take count_limit hits
+
+-- what a reply needs to know of the hits of a query
+pub record TallyValue : Type 0 where
+  pub count : ℕ
+  pub is_whole : Bool
+  pub shown : List ReleaseHitValue
+  pub best : Option (List ℕ)
+
+-- the tally of these hits: how many are counted, whether these are all, the ones shown, and the best link among those
+-- counted
+abbrev pub tally_of : List ReleaseHitValue → TallyValue
+tally_of hits = record {
+  count = length (counted hits);
+  is_whole = nat_le (length hits) count_limit;
+  shown = first_within shown_limit text_limit (counted hits);
+  best = best_link (counted hits);
+}
+
+-- how many of the counted hits are not shown
+abbrev pub left_out : TallyValue → ℕ
+left_out tally = tally.count - length tally.shown

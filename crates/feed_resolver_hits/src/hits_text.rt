@@ -1,0 +1,104 @@
+//! Writes the hits of a query in a release as text.
+ghost use Rattle.std.specs.Prelude.{◌≡◌, ◌++◌, OnOk, drop, map, true};
+ghost use Rattle.std.specs.List.{flat_map};
+ghost use Rattle.feed_names.specs.ReleaseName.{text_of};
+ghost use Rattle.feed_answer.specs.Answers.{answer_of};
+ghost use Rattle.feed_resolver_hits.specs.Hits.{release_hit};
+ghost use Rattle.feed_resolver_hits.specs.HitsText.{cut_head_line, release_head_line, release_hit_line, release_text};
+ghost use Rattle.feed_resolver_hits.specs.Tallying.{with_hits, tally_from};
+
+use crate::hits::ReleaseHit;
+use crate::tally::Tally;
+use feed_answer::{Query, write_head, write_hit};
+use feed_kbart::Holdings;
+use feed_names::ReleaseName;
+use feed_resolver_reply::{Piece, put_all};
+use std::alloc::{AllocError, Global};
+
+#[tactic(auto, unfolding(crate::specs::HitsText::cut_head_line))]
+fn put_cut_head(out: &mut Vec<u8>, name: &ReleaseName, count: usize) -> Result<(), AllocError>
+    ensures { OnOk result (out.new.items ≡ out.old.items ++ cut_head_line (text_of name.now) count) }
+{
+    put_all(
+        out,
+        &[
+            Piece::Plain(b"release "),
+            Piece::Plain(name.text()),
+            Piece::Plain(b" hits at least "),
+            Piece::Number(count as u64),
+            Piece::Plain(b"\n"),
+        ],
+    )
+}
+
+fn put_whole_head(out: &mut Vec<u8>, name: &ReleaseName, count: usize) -> Result<(), AllocError>
+    ensures { OnOk result (out.new.items ≡ out.old.items ++ release_head_line (text_of name.now) count true) }
+{
+    match write_head(out, name, count) {
+        Ok(()) => Ok(()),
+        Err(_) => Err(AllocError),
+    }
+}
+
+fn put_line(out: &mut Vec<u8>, found: &ReleaseHit<'_>) -> Result<(), AllocError>
+    ensures { OnOk result (out.new.items ≡ out.old.items ++ release_hit_line found.now) }
+{
+    match write_hit(out, found.row(), found.grade()) {
+        Ok(()) => Ok(()),
+        Err(_) => Err(AllocError),
+    }
+}
+
+fn hits_from<'h, 'a>(hits: &'h [ReleaseHit<'a>], first: usize) -> &'h [ReleaseHit<'a>]
+    ensures { result.now ≡ drop first hits.now }
+{
+    &hits[hits.len().min(first)..]
+}
+
+fn put_lines(out: &mut Vec<u8>, hits: &[ReleaseHit<'_>]) -> Result<(), AllocError>
+    ensures { OnOk result (out.new.items ≡ out.old.items ++ flat_map release_hit_line hits.now) }
+{
+    for found in hits {
+        put_line(out, found)?;
+    }
+    Ok(())
+}
+
+fn put_head(
+    out: &mut Vec<u8>,
+    name: &ReleaseName,
+    count: usize,
+    is_whole: bool,
+) -> Result<(), AllocError>
+    ensures { OnOk result (out.new.items ≡ out.old.items ++ release_head_line (text_of name.now) count is_whole) }
+{
+    if is_whole {
+        put_whole_head(out, name, count)
+    } else {
+        put_cut_head(out, name, count)
+    }
+}
+
+/// Adds the hits of a query in a release to a tally, and writes the answer of the release: the number of its hits, and
+/// a line for each that the tally shows.
+#[tactic(auto, unfolding(crate::specs::HitsText::release_text))]
+pub fn put_release<'a>(
+    alloc: Global,
+    out: &mut Vec<u8>,
+    tally: &mut Tally<'a>,
+    name: &'a ReleaseName,
+    holdings: &'a Holdings,
+    query: &Query,
+) -> Result<(), AllocError>
+    ensures tally { OnOk result (tally.new
+        ≡ with_hits tally.old (map (release_hit name.now) (answer_of holdings.now query.now))) }
+    ensures text { OnOk result (out.new.items
+        ≡ out.old.items ++ release_text (tally_from tally.old) (tally_from tally.new) name.now) }
+{
+    let counted = tally.count();
+    let shown = tally.shown().len();
+    tally.add_release(alloc, name, holdings, query)?;
+    let count = tally.count().saturating_sub(counted);
+    put_head(out, name, count, tally.is_whole())?;
+    put_lines(out, hits_from(tally.shown(), shown))
+}

@@ -1,0 +1,81 @@
+//! The hits that a reply shows.
+ghost use Rattle.std.specs.Prelude.{◌≡◌, ◌-◌, [], OnOk};
+ghost use Rattle.feed_resolver_hits.specs.Tallies.{text_size, shown_limit, text_limit};
+ghost use Rattle.feed_resolver_hits.specs.Tallying.{with_shown};
+
+use crate::hits::{ReleaseHit, name_text};
+use std::alloc::{AllocError, Global};
+use std::marker::Model;
+
+// The most hits that a reply shows.
+const SHOWN_LIMIT: usize = 1_000;
+
+// The texts of the hits that a reply shows have fewer bytes. Each byte takes at most six in JSON or in a page, so that
+// a reply has at most 4 MiB.
+const TEXT_LIMIT: usize = 524_288;
+
+/// The hits that a reply shows: the first ones, within the limits.
+#[derive(Drop)]
+pub(crate) struct Shown<'a> {
+    hits: Vec<ReleaseHit<'a>>,
+    // How many more hits may be shown, and with how many bytes.
+    places: usize,
+    bytes: usize,
+}
+
+impl<'a> Model for Shown<'a> {
+    ghost use Rattle.feed_resolver_hits.specs.Tallying.{ShownValue};
+
+    ghost Value = { ShownValue };
+
+    ghost view = { λ s. record { hits = s.hits.items; places = s.places; bytes = s.bytes } };
+}
+
+// The bytes left after the texts of a hit.
+fn bytes_after(bytes: usize, found: &ReleaseHit<'_>) -> usize
+    ensures { result ≡ bytes - text_size found.now }
+{
+    let row = found.row();
+    bytes
+        .saturating_sub(found.name().package().len())
+        .saturating_sub(name_text(found.name()).len())
+        .saturating_sub(row.title().len())
+        .saturating_sub(row.url().len())
+        .saturating_sub(row.title_id().len())
+        .saturating_sub(row.depth().len())
+        .saturating_sub(row.embargo().len())
+        .saturating_sub(row.access().len())
+}
+
+impl<'a> Shown<'a> {
+    pub(crate) fn new(alloc: Global) -> Shown<'a>
+        ensures { result ≡ record { hits = []; places = shown_limit; bytes = text_limit } }
+    {
+        Shown {
+            hits: Vec::new(alloc),
+            places: SHOWN_LIMIT,
+            bytes: TEXT_LIMIT,
+        }
+    }
+
+    pub(crate) fn hits(&self) -> &[ReleaseHit<'a>]
+        ensures { result.now ≡ self.now.hits }
+    {
+        &self.hits
+    }
+
+    /// Adds a hit, if there is room for it. Otherwise no later one is added either.
+    pub(crate) fn add(&mut self, found: ReleaseHit<'a>) -> Result<(), AllocError>
+        ensures { OnOk result (self.new ≡ with_shown self.old found.entry) }
+    {
+        let bytes = bytes_after(self.bytes, &found);
+        if self.places > 0 && bytes > 0 {
+            self.hits.push(found)?;
+            self.places -= 1;
+            self.bytes = bytes;
+        } else {
+            self.places = 0;
+        }
+        Ok(())
+    }
+}

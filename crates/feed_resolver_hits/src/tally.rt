@@ -1,0 +1,160 @@
+//! The tally of a query's hits: how many there are, the first ones, and the best link. It is made hit by hit.
+ghost use Rattle.std.specs.Prelude.{◌≡◌, ◌-◌, ◌∷◌, [], OnOk, map, length, option_copied};
+ghost use Rattle.std.specs.List.{filter_map};
+ghost use Rattle.feed_answer.specs.Answers.{answer_of};
+ghost use Rattle.feed_answer.specs.HitValue.{hit_of};
+ghost use Rattle.feed_answer.specs.Places.{hit_at};
+ghost use Rattle.feed_resolver_hits.specs.Hits.{release_hit};
+ghost use Rattle.feed_resolver_hits.specs.Tallies.{left_out};
+ghost use Rattle.feed_resolver_hits.specs.Tallying.{no_hits, with_hit, with_hits, tally_from};
+
+use crate::candidates::sole_places;
+use crate::hits::ReleaseHit;
+use crate::links::Links;
+use crate::shown::Shown;
+use feed_answer::{Hit, Query, hit_at, places_of};
+use feed_kbart::{Holdings, Row};
+use feed_names::ReleaseName;
+use std::alloc::{AllocError, Global};
+use std::marker::Model;
+
+// The most hits of a query that are counted.
+const COUNT_LIMIT: usize = 1_000_000;
+
+/// The tally of the hits of a query so far.
+#[derive(Drop)]
+pub struct Tally<'a> {
+    // How many more hits are counted.
+    left: usize,
+    is_whole: bool,
+    shown: Shown<'a>,
+    links: Links<'a>,
+}
+
+impl<'a> Model for Tally<'a> {
+    ghost use Rattle.feed_resolver_hits.specs.Tallying.{RunningValue};
+
+    ghost Value = { RunningValue };
+
+    ghost view = { λ t. record { left = t.left; is_whole = t.is_whole; shown = t.shown; links = t.links } };
+}
+
+impl<'a> Tally<'a> {
+    /// Returns the tally of no hits.
+    pub fn new(alloc: Global) -> Tally<'a>
+        ensures { result ≡ no_hits }
+    {
+        Tally {
+            left: COUNT_LIMIT,
+            is_whole: true,
+            shown: Shown::new(alloc),
+            links: Links::new(),
+        }
+    }
+
+    /// Returns the number of hits that were counted, at most 1,000,000.
+    pub fn count(&self) -> usize
+        ensures { result ≡ (tally_from self.now).count }
+    {
+        COUNT_LIMIT.saturating_sub(self.left)
+    }
+
+    /// Returns whether these are all hits.
+    pub fn is_whole(&self) -> bool
+        ensures { result ≡ (tally_from self.now).is_whole }
+    {
+        self.is_whole
+    }
+
+    /// Returns the hits that a reply shows.
+    pub fn shown(&self) -> &[ReleaseHit<'a>]
+        ensures { result.now ≡ (tally_from self.now).shown }
+    {
+        self.shown.hits()
+    }
+
+    /// Returns how many of the counted hits are not shown.
+    pub fn left_out(&self) -> usize
+        ensures { result ≡ left_out (tally_from self.now) }
+    {
+        self.count().saturating_sub(self.shown().len())
+    }
+
+    /// Returns the URL of the best hit that has a link: inside before overlap before untested; of equals the first.
+    pub fn best_link(&self) -> Option<&'a [u8]>
+        ensures { option_copied result ≡ (tally_from self.now).best }
+    {
+        self.links.best()
+    }
+
+    fn count_hit(&mut self, found: ReleaseHit<'a>) -> Result<(), AllocError>
+        ensures { OnOk result (self.new ≡ with_hit self.old found.entry) }
+    {
+        if !self.is_whole {
+            return Ok(());
+        }
+        if self.left == 0 {
+            self.is_whole = false;
+            return Ok(());
+        }
+        self.left -= 1;
+        self.links.add(&found);
+        self.shown.add(found)
+    }
+
+    fn add_hit_at(
+        &mut self,
+        name: &'a ReleaseName,
+        rows: &'a [Row],
+        place: u32,
+        query: &Query,
+    ) -> Result<(), AllocError>
+        ensures { OnOk result (self.new
+            ≡ with_hits self.old (map (release_hit name.now) (filter_map (hit_at query.now rows.now) (place ∷ [])))) }
+    {
+        match hit_at(rows, place, query) {
+            Some(hit) => self.count_hit(ReleaseHit::new(name, &hit)),
+            None => Ok(()),
+        }
+    }
+
+    fn add_hits_at(
+        &mut self,
+        name: &'a ReleaseName,
+        rows: &'a [Row],
+        places: &[u32],
+        query: &Query,
+    ) -> Result<(), AllocError>
+        ensures { OnOk result (self.new
+            ≡ with_hits self.old (map (release_hit name.now) (filter_map (hit_at query.now rows.now) places.now))) }
+    {
+        for place in places {
+            if !self.is_whole {
+                return Ok(());
+            }
+            self.add_hit_at(name, rows, *place, query)?;
+        }
+        Ok(())
+    }
+
+    /// Adds the hits of a query in a release. Looks at each row that has one of its identifiers, in file order, until
+    /// more hits are found than are counted.
+    pub fn add_release(
+        &mut self,
+        alloc: Global,
+        name: &'a ReleaseName,
+        holdings: &'a Holdings,
+        query: &Query,
+    ) -> Result<(), AllocError>
+        ensures { OnOk result (self.new
+            ≡ with_hits self.old (map (release_hit name.now) (answer_of holdings.now query.now))) }
+    {
+        match sole_places(holdings, query) {
+            Some(places) => self.add_hits_at(name, holdings.rows(), places, query),
+            None => {
+                let places = places_of(alloc, holdings, query)?;
+                self.add_hits_at(name, holdings.rows(), &places, query)
+            }
+        }
+    }
+}
