@@ -1,3 +1,4 @@
 pub mod Exchanges
+pub mod Unavailable
 pub mod States
 pub mod Steps

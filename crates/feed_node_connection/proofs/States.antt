@@ -14,16 +14,21 @@ use Rattle.feed_node_connection.specs.declared.connection.Phase.{Phase}
 use Rattle.feed_node_connection.specs.declared.connection.Phase.TheVariants.{Idle, Receiving, Parsing, Sending, Answered, Lingering, Complete, Aborted}
 use Rattle.feed_node_connection.specs.declared.connection.Wants.TheVariants as wants
 use Rattle.feed_node_connection.specs.declared.head_state.AfterReply.{AfterReply}
-use Rattle.feed_node_connection.specs.declared.head_state.AfterReply.TheVariants.{Persist, Linger, Close}
-use Rattle.feed_node_connection.specs.Requests.{Request, Persistent, Last, Invalid, AreRequestsIn, Begins, persists, all_persist}
-use Rattle.feed_node_connection.specs.Events.{Event, Received, Replied, Resumed, Sent, received_bytes, reply_bytes, sent_bytes, requests_in, min_progress, is_idle, sent_since, elapsed}
+use Rattle.feed_node_connection.specs.declared.head_state.AfterReply.TheVariants.{Persist, Linger}
+use Rattle.feed_node_connection.specs.Requests.{Request, Persistent, Last, Invalid, AreRequestsIn, Begins, IsPersistent, persists, all_persist}
+use Rattle.feed_node_connection.specs.Events.{Event, Received, Replied, Resumed, Sent, received_bytes, reply_bytes, sent_bytes, requests_in, min_progress, is_idle, sent_len, sent_since, elapsed}
 use Rattle.feed_node_connection.specs.Replies.{Replies, IsRepliedTo, IsHeadIn, IsServed, HasNoReply, persists_in, unavailable}
 use Rattle.feed_node_connection.specs.States.{IsServedUpTo, AreFirst, HasEnded, AreSent, IsFrontSent, IsInTime, IsCurrent, IsAfterReply}
 use Rattle.feed_node_connection.specs.States.{HasStateIn, HasState, HasParsed, HasReplied, rest_of, limit_in}
 use Rattle.feed_node_connection.specs.States.{HasBegunReply, HasResponded, HasRefused, phase_after, pending_in, wants_in, is_idle_in, is_lingering_in, is_reply_sent_in, IsRightAfter, StateIsRight}
 use Rattle.feed_node_connection.specs.Streams.{AreReplies, AllIsServed}
+use Rattle.feed_node_connection.proofs.Unavailable.{unavailable_says}
 use Rattle.feed_node_connection.proofs.Exchanges.{requests_on, requests_with, all_persist_with, ends_with, ends_with_none, head_taken, head_dropped}
 use Rattle.feed_node_connection.proofs.Exchanges.{exchanges, exchanges_asked, exchanges_replies, exchanges_replied}
+
+-- the phase is right for this history
+abbrev pub HasPhase : Connection → List Event → Type 0
+HasPhase connection history = HasStateIn connection.phase connection history
 
 -- no bytes may become a head
 pub nothing_yet : IsUnfinished head_limit []
@@ -37,7 +42,7 @@ first_on history bytes first = (first.0 ++ bytes, requests_on (requests_in histo
 -- the bytes are held after those before
 pub received_whole : (idle : Bool) (old new : Connection) (history : List Event) (bytes : List ℕ) → IsCurrent idle old history
     → new.phase ≡ Parsing → new.received.items ≡ old.received.items ++ bytes → new.sent_since ≡ old.sent_since → new.limits ≡ old.limits
-    → 0 < new.limits.step → new.elapsed ≡ cond idle 0 old.elapsed → HasState new (Received bytes ∷ history)
+    → 0 < new.limits.step → new.elapsed ≡ cond idle 0 old.elapsed → HasPhase new (Received bytes ∷ history)
 received_whole idle old new history bytes was parsing held since limits some counted =
     subst (λ (p : Phase). HasStateIn p new (Received bytes ∷ history)) (sym parsing) (record {
       served = record {
@@ -65,14 +70,14 @@ received_whole idle old new history bytes was parsing held since limits some cou
 
 -- memory ran out
 pub received_aborted : (idle : Bool) (old new : Connection) (history : List Event) (bytes : List ℕ) → IsCurrent idle old history
-    → new.phase ≡ Aborted → HasState new (Received bytes ∷ history)
+    → new.phase ≡ Aborted → HasPhase new (Received bytes ∷ history)
 received_aborted idle old new history bytes was aborted =
     subst (λ (p : Phase). HasStateIn p new (Received bytes ∷ history)) (sym aborted)
     (first_on history bytes (old.received.items, was.served.in_order), ([], was.sent ∙ sym (append-nil (sent_bytes history))))
 
 -- the bytes are dropped
 pub received_late : (connection : Connection) (history : List Event) (bytes : List ℕ) → connection.phase ≡ Lingering
-    → HasState connection history → HasState connection (Received bytes ∷ history)
+    → HasPhase connection history → HasPhase connection (Received bytes ∷ history)
 received_late connection history bytes lingering state =
     let was = subst (λ (p : Phase). HasStateIn p connection history) lingering state in
     subst (λ (p : Phase). HasStateIn p connection (Received bytes ∷ history)) (sym lingering) (record {
@@ -118,27 +123,32 @@ done : (after : AfterReply) (new : Connection) (history : List Event) → IsAfte
     → IsInTime false new history → HasStateIn (phase_after after) new history
 done Persist new history is sent freed time = record { served = is; sent = sent; freed = freed; in_time = time }
 done Linger new history is sent freed time = record { complete = record { ended = is; sent = sent; freed = freed }; in_time = time }
-done Close new history is sent freed time = record { ended = is; sent = sent; freed = freed }
 
 -- a reply begins
 begun : (reply : List ℕ) (size : ℕ) (after : AfterReply) (request : Request) (old new : Connection) (history : List Event) → IsCurrent false old history → new.limits ≡ old.limits
     → HasBegunReply reply size after old new → IsAfterReply after new (Replied request reply ∷ history) → HasState new (Replied request reply ∷ history)
-begun [] size after request old new history was limits has is =
-    subst (λ (p : Phase). HasStateIn p new (Replied request [] ∷ history)) (sym has.phase)
-    (done after new (Replied request [] ∷ history) is (append-nil (reply_bytes history) ∙ was.sent) has.text
-    (record { idleness = refl; counted_time = has.elapsed; counted_bytes = has.sent_since; left = rw (has.elapsed, limits) (omega (arith, was.in_time.left)) }))
-begun (byte ∷ bytes) size after request old new history was limits has is =
-    subst (λ (p : Phase). HasStateIn p new (Replied request (byte ∷ bytes) ∷ history)) (sym has.phase) (record {
-      after = subst (λ (a : AfterReply). IsAfterReply a new (Replied request (byte ∷ bytes) ∷ history)) (sym has.after_is) is;
-      sent = rw (has.sent, has.text) (ap (λ t. t ++ byte ∷ bytes) was.sent);
-      more = rw (has.sent, has.text) (omega arith);
-      in_time = record { idleness = refl; counted_time = has.elapsed; counted_bytes = has.sent_since; left = rw (has.elapsed, limits) (omega (arith, was.in_time.left)) };
-    })
+begun [] size after request old new history was limits has is = (
+  subst (λ (p : Phase). HasStateIn p new (Replied request [] ∷ history)) (sym has.phase)
+      (done after new (Replied request [] ∷ history) is (append-nil (reply_bytes history) ∙ was.sent) has.text
+      (record { idleness = refl; counted_time = has.elapsed; counted_bytes = has.sent_since; left = rw (has.elapsed, limits) (omega (arith, was.in_time.left)) })),
+  has.sent_len,
+)
+begun (byte ∷ bytes) size after request old new history was limits has is = (
+  subst (λ (p : Phase). HasStateIn p new (Replied request (byte ∷ bytes) ∷ history)) (sym has.phase) (record {
+    after = subst (λ (a : AfterReply). IsAfterReply a new (Replied request (byte ∷ bytes) ∷ history)) (sym has.after_is) is;
+    sent = rw (has.sent, has.text) (ap (λ t. t ++ byte ∷ bytes) was.sent);
+    more = rw (has.sent, has.text) (omega arith);
+    sent_is = has.sent;
+    in_time = record { idleness = refl; counted_time = has.elapsed; counted_bytes = has.sent_since; left = rw (has.elapsed, limits) (omega (arith, was.in_time.left)) };
+  }),
+  has.sent_len,
+)
 
 -- memory ran out
-cut : (old new : Connection) (history : List Event) → IsCurrent false old history → new.phase ≡ Aborted → HasState new history
-cut old new history was is = subst (λ (p : Phase). HasStateIn p new history) (sym is)
-    ((old.received.items, was.served.in_order), ([], was.sent ∙ sym (append-nil (sent_bytes history))))
+cut : (old new : Connection) (history : List Event) → IsCurrent false old history → old.sent_len ≡ sent_len history → (new.phase ≡ Aborted) × (new.sent_len ≡ old.sent_len)
+    → HasState new history
+cut old new history was counted is =
+    (subst (λ (p : Phase). HasStateIn p new history) (sym is.0) ((old.received.items, was.served.in_order), ([], was.sent ∙ sym (append-nil (sent_bytes history)))), is.1 ∙ counted)
 
 -- what follows a request
 persists_after : (old new : Connection) (history : List Event) (reply : List ℕ) (size : ℕ) (head : RequestHead) → IsCurrent false old history
@@ -168,11 +178,24 @@ invalid_after old history reply was never = (
   ends_with_none (requests_in history) old.received.items,
 )
 
+-- the bytes of a persistent head allow its reply to say so
+pub allowed_head : (bytes : List ℕ) (size : ℕ) (after : AfterReply) → IsHeadIn bytes size after → persists_in after ≡ true → IsPersistent (take size bytes)
+allowed_head bytes size after is keeps = record {
+  head = is.head;
+  begins = subst (λ (t : List ℕ). Begins t is.head) (sym (head_taken bytes is.head size is.begins is.size_is)) (record {
+    rest = [];
+    reads = (is.begins.reads.0, sym (append-nil (print_request is.head)));
+    short = is.begins.short;
+    few = is.begins.few;
+  });
+  keeps = sym is.after_is ∙ keeps;
+}
+
 -- the reply to a head
 pub replied_head : (replies : Replies) (after : AfterReply) (old new : Connection) (history : List Event) (size : ℕ) → old.phase ≡ Parsing → HasState old history → new.limits ≡ old.limits
     → IsHeadIn old.received.items size after → HasResponded replies size after old new → HasParsed replies true new history
 replied_head replies after old new history size parsing state limits is responded =
-    by after (subst (λ (p : Phase). HasStateIn p old history) parsing state) is responded
+    by after (subst (λ (p : Phase). HasStateIn p old history) parsing state.0) is responded
   where
     text : (h : RequestHead) → Begins old.received.items h → size ≡ length (print_request h) → (keeps : Bool) (reply : List ℕ)
         → replies (take size old.received.items) keeps (Some reply) → replies (print_request h) keeps (Some reply)
@@ -183,58 +206,51 @@ replied_head replies after old new history size parsing state limits is responde
     refused h begins size_is was none (inl has) = inl (
       Last h,
       unavailable,
-      inr (subst (HasNoReply replies) (head_taken old.received.items h size begins size_is) none, refl),
+      record { reply_of = inr (subst (HasNoReply replies) (head_taken old.received.items h size begins size_is) none, refl); says = unavailable_says },
       begun unavailable size Linger (Last h) old new history was limits has (ends_after old history unavailable h was begins),
     )
-    refused h begins size_is was none (inr aborted) = inr (take size old.received.items, none, aborted, cut old new history was aborted)
+    refused h begins size_is was none (inr aborted) = inr (take size old.received.items, none, aborted.0, cut old new history was state.1 aborted)
 
     by : (a : AfterReply) → IsCurrent false old history → IsHeadIn old.received.items size a → HasResponded replies size a old new → HasReplied replies new history
-    by Persist was head (inl (reply, has, begins)) = inl (
+    by Persist was head (inl (reply, has, says, begins)) = inl (
       Persistent head.head,
       reply,
-      text head.head head.begins head.size_is true reply has,
+      record { reply_of = text head.head head.begins head.size_is true reply has; says = says },
       begun reply size Persist (Persistent head.head) old new history was limits begins
           (persists_after old new history reply size head.head was head.begins head.size_is (sym head.after_is) begins),
     )
     by Persist was head (inr (none, refuses)) = refused head.head head.begins head.size_is was none refuses
-    by Linger was head (inl (reply, has, begins)) = inl (
+    by Linger was head (inl (reply, has, says, begins)) = inl (
       Last head.head,
       reply,
-      inl (sym head.after_is, text head.head head.begins head.size_is false reply has),
+      record { reply_of = inl (sym head.after_is, text head.head head.begins head.size_is false reply has); says = says },
       begun reply size Linger (Last head.head) old new history was limits begins (ends_after old history reply head.head was head.begins),
     )
     by Linger was head (inr (none, refuses)) = refused head.head head.begins head.size_is was none refuses
-    by Close was head (inl (reply, has, begins)) = inl (
-      Last head.head,
-      reply,
-      inl (sym head.after_is, text head.head head.begins head.size_is false reply has),
-      begun reply size Close (Last head.head) old new history was limits begins (ends_after old history reply head.head was head.begins),
-    )
-    by Close was head (inr (none, refuses)) = refused head.head head.begins head.size_is was none refuses
 
 -- the reply to bytes that are not a request
 pub replied_invalid : (replies : Replies) (old new : Connection) (history : List Event) (size : ℕ) → old.phase ≡ Parsing → HasState old history → new.limits ≡ old.limits
     → size ≡ length old.received.items → NeverBeginsWithHead head_limit field_limit old.received.items → HasResponded replies size Linger old new → HasParsed replies true new history
 replied_invalid replies old new history size parsing state limits is never responded =
-    by (subst (λ (p : Phase). HasStateIn p old history) parsing state) responded
+    by (subst (λ (p : Phase). HasStateIn p old history) parsing state.0) responded
   where
     all : take size old.received.items ≡ old.received.items
     all = take_all size old.received.items (omega (arith, is))
 
     by : IsCurrent false old history → HasResponded replies size Linger old new → HasReplied replies new history
-    by was (inl (reply, has, begins)) = inl (
+    by was (inl (reply, has, says, begins)) = inl (
       Invalid old.received.items,
       reply,
-      inl (subst (λ (t : List ℕ). replies t false (Some reply)) all has),
+      record { reply_of = inl (subst (λ (t : List ℕ). replies t false (Some reply)) all has); says = says },
       begun reply size Linger (Invalid old.received.items) old new history was limits begins (invalid_after old history reply was never),
     )
     by was (inr (none, inl begins)) = inl (
       Invalid old.received.items,
       unavailable,
-      inr (subst (HasNoReply replies) all none, refl),
+      record { reply_of = inr (subst (HasNoReply replies) all none, refl); says = unavailable_says },
       begun unavailable size Linger (Invalid old.received.items) old new history was limits begins (invalid_after old history unavailable was never),
     )
-    by was (inr (none, inr aborted)) = inr (take size old.received.items, none, aborted, cut old new history was aborted)
+    by was (inr (none, inr aborted)) = inr (take size old.received.items, none, aborted.0, cut old new history was state.1 aborted)
 
 -- ---- bytes are sent
 
@@ -286,7 +302,6 @@ after_same Persist old new history bytes same is = record {
   persists = is.persists;
 }
 after_same Linger old new history bytes same is = is
-after_same Close old new history bytes same is = is
 
 -- the replies are the bytes sent before, those sent now, and the rest
 went_on : (reply : List ℕ) (sent count : ℕ) (before replies : List ℕ) → replies ≡ before ++ drop sent reply
@@ -314,13 +329,14 @@ sent_part Sending old new history count some within same reply sent counts other
           (after_same old.after old new history bytes same state.after);
       sent = rw (reply, sent) (went_on old.reply.items old.sent count (sent_bytes history) (reply_bytes history) state.sent);
       more = rw (reply, sent) (omega (arith, state.more, within, other, length-drop old.sent old.reply.items));
+      sent_is = sent ∙ rw (long, state.sent_is) refl;
       in_time = in_time old new history bytes count long counts same.limits state.in_time;
     }
 
 -- the peer accepted all of it
 pub sent_whole : (phase : Phase) (old new : Connection) (history : List Event) (count : ℕ) → 0 < count → count ≤ length (pending_in phase old)
     → IsSameButSent old new → HasCounted count old new → count ≡ length old.reply.items - old.sent → new.reply.items ≡ [] → new.phase ≡ phase_after old.after
-    → HasStateIn phase old history → HasState new (Sent (take count (pending_in phase old)) ∷ history)
+    → HasStateIn phase old history → HasPhase new (Sent (take count (pending_in phase old)) ∷ history)
 sent_whole Idle old new history count some within same counts all freed is state = absurd (omega (arith, some, within))
 sent_whole Receiving old new history count some within same counts all freed is state = absurd (omega (arith, some, within))
 sent_whole Parsing old new history count some within same counts all freed is state = absurd (omega (arith, some, within))
@@ -339,11 +355,24 @@ sent_whole Sending old new history count some within same counts all freed is st
     freed
     (in_time old new history bytes count long counts same.limits state.in_time))
 
+-- the bytes of the reply that were sent, as the peer accepted some
+pub counted_sent : (phase : Phase) (old : Connection) (history : List Event) (count : ℕ) → 0 < count → count ≤ length (pending_in phase old)
+    → HasStateIn phase old history → old.sent + count ≡ sent_len (Sent (take count (pending_in phase old)) ∷ history)
+counted_sent Idle old history count some within state = absurd (omega (arith, some, within))
+counted_sent Receiving old history count some within state = absurd (omega (arith, some, within))
+counted_sent Parsing old history count some within state = absurd (omega (arith, some, within))
+counted_sent Answered old history count some within state = absurd (omega (arith, some, within))
+counted_sent Lingering old history count some within state = absurd (omega (arith, some, within))
+counted_sent Complete old history count some within state = absurd (omega (arith, some, within))
+counted_sent Aborted old history count some within state = absurd (omega (arith, some, within))
+counted_sent Sending old history count some within state =
+    rw (length-take-le count (drop old.sent old.reply.items) within, state.sent_is) refl
+
 -- ---- the connection resumes
 
-pub resumed : (old new : Connection) (history : List Event) → old.phase ≡ Answered → HasState old history → new.received.items ≡ rest_of old
+pub resumed : (old new : Connection) (history : List Event) → old.phase ≡ Answered → HasPhase old history → new.received.items ≡ rest_of old
     → new.elapsed ≡ 0 → new.sent_since ≡ 0 → 0 < new.limits.step → 0 < new.limits.idle → (idle : Bool) → idle ≡ (vec_len new.received == 0)
-    → new.phase ≡ cond idle Idle Parsing → HasState new (Resumed (length (rest_of old) == 0) ∷ history)
+    → new.phase ≡ cond idle Idle Parsing → HasPhase new (Resumed (length (rest_of old) == 0) ∷ history)
 resumed old new history answered state held anew since step_some idle_some idle is phase =
     by idle (is ∙ ap (λ n. n == 0) (long ∙ ap length held)) phase
   where
@@ -364,7 +393,7 @@ resumed old new history answered state held anew since step_some idle_some idle 
     none_left [] none = refl
     none_left (x ∷ xs) none = let zero : suc (length xs) ≡ 0 = eqb-true (length (x ∷ xs)) 0 none in absurd (omega (arith, zero))
 
-    by : (i : Bool) → i ≡ (length (rest_of old) == 0) → new.phase ≡ cond i Idle Parsing → HasState new (Resumed (length (rest_of old) == 0) ∷ history)
+    by : (i : Bool) → i ≡ (length (rest_of old) == 0) → new.phase ≡ cond i Idle Parsing → HasPhase new (Resumed (length (rest_of old) == 0) ∷ history)
     by true same phase_is = subst (λ (p : Phase). HasStateIn p new (Resumed (length (rest_of old) == 0) ∷ history)) (sym phase_is)
         (record { current = current true same idle_some; none = held ∙ none_left (rest_of old) (sym same) })
     by false same phase_is = subst (λ (p : Phase). HasStateIn p new (Resumed (length (rest_of old) == 0) ∷ history)) (sym phase_is) (current false same step_some)
@@ -374,7 +403,6 @@ resumed old new history answered state held anew since step_some idle_some idle 
 first_after : (after : AfterReply) (connection : Connection) (history : List Event) → IsAfterReply after connection history → AreFirst history
 first_after Persist connection history is = (rest_of connection, is.in_order)
 first_after Linger connection history is = is.0
-first_after Close connection history is = is.0
 
 pub first_in : (phase : Phase) (connection : Connection) (history : List Event) → HasStateIn phase connection history → AreFirst history
 first_in Idle connection history state = (connection.received.items, state.current.served.in_order)
@@ -401,8 +429,8 @@ front_in Aborted connection history state = state.1
 
 pub all_served : (replies : Replies) → AllIsServed replies
 all_served replies connection history state are =
-    let first = first_in connection.phase connection history state in
-    let front = front_in connection.phase connection history state in
+    let first = first_in connection.phase connection history state.0 in
+    let front = front_in connection.phase connection history state.0 in
     record {
       exchanges = exchanges history;
       rest = first.0;
@@ -413,7 +441,7 @@ all_served replies connection history state are =
     }
 
 pub state_right : StateIsRight
-state_right connection history state = by connection.phase refl (state)
+state_right connection history state = by connection.phase refl state.0
   where
     late_is_out : (idle : Bool) (time : IsInTime idle connection history) → limit_in (is_idle history) connection.limits ≤ elapsed history → ⊥
     late_is_out idle time late =

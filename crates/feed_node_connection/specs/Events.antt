@@ -46,6 +46,15 @@ reply_bytes (Replied request reply ∷ earlier) = reply_bytes earlier ++ reply
 reply_bytes (Resumed idle ∷ earlier) = reply_bytes earlier
 reply_bytes (Elapsed millis ∷ earlier) = reply_bytes earlier
 
+-- the bytes of the current reply that the peer accepted
+abbrev pub sent_len : List Event → ℕ
+sent_len [] = 0
+sent_len (Received bytes ∷ earlier) = sent_len earlier
+sent_len (Sent bytes ∷ earlier) = sent_len earlier + length bytes
+sent_len (Replied request reply ∷ earlier) = 0
+sent_len (Resumed idle ∷ earlier) = 0
+sent_len (Elapsed millis ∷ earlier) = sent_len earlier
+
 -- the connection waits for the first byte of the next request
 abbrev pub is_idle : List Event → Bool
 is_idle [] = false

@@ -2,12 +2,13 @@
 use Rattle.std.specs.Prelude.{◌≡◌, ◌⊎◌, ℕ, Bool, true, false, List, [], ◌∷◌, ◌++◌, codes, length, Option, Some, None}
 use Rattle.httparse.specs.Grammar.{RequestHead, print_request}
 use Rattle.feed_http_heads.specs.Limits.{head_limit, field_limit}
+use Rattle.feed_http_heads.specs.Options.{SaysWhetherItKeeps}
 use Rattle.feed_http_heads.specs.RequestHeads.{NeverBeginsWithHead, IsUnfinished}
 use Rattle.feed_node_connection.specs.Requests.{Request, Persistent, Last, Invalid, AreRequestsIn, Begins, persists}
 use Rattle.feed_node_connection.specs.declared.head_state.HeadState.{HeadState}
 use Rattle.feed_node_connection.specs.declared.head_state.HeadState.TheVariants as state
 use Rattle.feed_node_connection.specs.declared.head_state.AfterReply.{AfterReply}
-use Rattle.feed_node_connection.specs.declared.head_state.AfterReply.TheVariants.{Persist, Linger, Close}
+use Rattle.feed_node_connection.specs.declared.head_state.AfterReply.TheVariants.{Persist, Linger}
 
 -- the reply if the responder makes none (RFC 9110, section 15.6.4)
 abbrev pub unavailable : List ℕ
@@ -24,20 +25,31 @@ Replies = List ℕ → Bool → Option (List ℕ) → Type 0
 abbrev pub HasNoReply : Replies → List ℕ → Type 0
 HasNoReply replies bytes = (keeps : Bool) × replies bytes keeps None
 
--- a request has this reply. The last one is a request after which the connection does not persist, or one to which the
--- responder made no reply: then the reply is `unavailable`
-abbrev pub IsRepliedTo : Replies → Request → List ℕ → Type 0
-IsRepliedTo replies (Persistent head) reply = replies (print_request head) true (Some reply)
-IsRepliedTo replies (Last head) reply =
+-- the reply to a request is the responder's. The last one is a request after which the connection does not persist, or
+-- one to which the responder made no reply: then the reply is `unavailable`
+abbrev pub IsReplyOf : Replies → Request → List ℕ → Type 0
+IsReplyOf replies (Persistent head) reply = replies (print_request head) true (Some reply)
+IsReplyOf replies (Last head) reply =
     ((persists head ≡ false) × replies (print_request head) false (Some reply))
     ⊎ (HasNoReply replies (print_request head) × (reply ≡ unavailable))
-IsRepliedTo replies (Invalid text) reply = replies text false (Some reply) ⊎ (HasNoReply replies text × (reply ≡ unavailable))
+IsReplyOf replies (Invalid text) reply = replies text false (Some reply) ⊎ (HasNoReply replies text × (reply ≡ unavailable))
+
+-- the connection persists after the request
+abbrev pub is_persistent : Request → Bool
+is_persistent (Persistent head) = true
+is_persistent (Last head) = false
+is_persistent (Invalid text) = false
+
+-- a request has this reply, which says `Connection: close` exactly if the connection does not persist after it
+-- (RFC 9112, section 9.6)
+pub record IsRepliedTo (replies : Replies) (request : Request) (reply : List ℕ) : Type 0 where
+  pub reply_of : IsReplyOf replies request reply
+  pub says : SaysWhetherItKeeps (is_persistent request) reply
 
 -- the connection persists
 abbrev pub persists_in : AfterReply → Bool
 persists_in Persist = true
 persists_in Linger = false
-persists_in Close = false
 
 -- the bytes begin with a head of this length, after whose reply this follows
 pub record IsHeadIn (bytes : List ℕ) (size : ℕ) (after : AfterReply) : Type 0 where

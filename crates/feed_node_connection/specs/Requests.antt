@@ -22,6 +22,12 @@ is_post head = bytes_eq head.method (codes "POST")
 abbrev pub persists : RequestHead → Bool
 persists head = (head.minor == 1) && (not (is_post head) && (lacks_close head.fields && lacks_body head))
 
+-- the bytes begin with the head of a request after which the connection persists
+pub record IsPersistent (bytes : List ℕ) : Type 0 where
+  pub head : RequestHead
+  pub begins : BeginsWithHead head_limit field_limit bytes head
+  pub keeps : persists head ≡ true
+
 -- a request: the connection persists after it; it is the last; or the bytes are not a request, whatever follows
 pub data Request : Type 0 where
   Persistent Last : RequestHead → Request

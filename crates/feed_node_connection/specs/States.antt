@@ -1,6 +1,7 @@
 -- The state of a connection, as determined by its events.
 use Rattle.std.specs.Prelude.{◌≡◌, ◌==◌, ◌&&◌, ◌||◌, nat_lt, ◌≤◌, ◌<◌, ◌-◌, ◌⊎◌, ℕ, Bool, true, false, List, [], ◌∷◌, ◌++◌, length, take, drop, Some}
 use Rattle.feed_http_heads.specs.Limits.{head_limit}
+use Rattle.feed_http_heads.specs.Options.{SaysWhetherItKeeps}
 use Rattle.feed_http_heads.specs.RequestHeads.{IsUnfinished}
 use Rattle.feed_node_connection.specs.declared.connection.Connection.{Connection}
 use Rattle.feed_node_connection.specs.declared.connection.Phase.{Phase}
@@ -9,8 +10,8 @@ use Rattle.feed_node_connection.specs.declared.connection.TimeLimits.{TimeLimits
 use Rattle.feed_node_connection.specs.declared.connection.Wants.{Wants}
 use Rattle.feed_node_connection.specs.declared.connection.Wants.TheVariants as wants
 use Rattle.feed_node_connection.specs.declared.head_state.AfterReply.{AfterReply}
-use Rattle.feed_node_connection.specs.declared.head_state.AfterReply.TheVariants.{Persist, Linger, Close}
-use Rattle.feed_node_connection.specs.Events.{Event, Received, Replied, Resumed, received_bytes, reply_bytes, requests_in, sent_bytes, sent_since, elapsed, is_idle}
+use Rattle.feed_node_connection.specs.declared.head_state.AfterReply.TheVariants.{Persist, Linger}
+use Rattle.feed_node_connection.specs.Events.{Event, Received, Replied, Resumed, received_bytes, reply_bytes, requests_in, sent_bytes, sent_len, sent_since, elapsed, is_idle}
 use Rattle.feed_node_connection.specs.Requests.{Request, AreRequestsIn, all_persist}
 use Rattle.feed_node_connection.specs.Replies.{Replies, HasNoReply, IsRepliedTo, persists_in, unavailable}
 
@@ -71,13 +72,13 @@ pub record IsReceiving (connection : Connection) (history : List Event) : Type 0
 abbrev pub IsAfterReply : AfterReply → Connection → List Event → Type 0
 IsAfterReply Persist connection history = IsServedUpTo history (rest_of connection)
 IsAfterReply Linger connection history = HasEnded history
-IsAfterReply Close connection history = HasEnded history
 
 -- a part of the last reply remains to be sent
 pub record IsSending (connection : Connection) (history : List Event) : Type 0 where
   pub after : IsAfterReply connection.after connection history
   pub sent : reply_bytes history ≡ sent_bytes history ++ drop connection.sent connection.reply.items
   pub more : connection.sent < length connection.reply.items
+  pub sent_is : connection.sent ≡ sent_len history
   pub in_time : IsInTime false connection history
 
 -- all replies were sent, the last one is freed, and another request may be answered
@@ -108,9 +109,9 @@ HasStateIn Lingering connection history = IsLingering connection history
 HasStateIn Complete connection history = IsComplete connection history
 HasStateIn Aborted connection history = AreFirst history × IsFrontSent history
 
--- the connection has the state that this history determines
+-- the connection has the state that this history determines, and knows how much of the current reply was sent
 abbrev pub HasState : Connection → List Event → Type 0
-HasState connection history = HasStateIn connection.phase connection history
+HasState connection history = HasStateIn connection.phase connection history × (connection.sent_len ≡ sent_len history)
 
 -- a reply to the next request was made; or the responder made none, and memory ran out for the one that says so
 abbrev pub HasReplied : Replies → Connection → List Event → Type 0
@@ -127,7 +128,6 @@ HasParsed replies true connection history = HasReplied replies connection histor
 abbrev pub phase_after : AfterReply → Phase
 phase_after Persist = Answered
 phase_after Linger = Lingering
-phase_after Close = Complete
 
 -- the phase in which a reply begins
 abbrev pub first_phase : List ℕ → AfterReply → Phase
@@ -138,6 +138,7 @@ first_phase (byte ∷ bytes) after = Sending
 pub record HasBegunReply (reply : List ℕ) (size : ℕ) (after : AfterReply) (old new : Connection) : Type 0 where
   pub text : new.reply.items ≡ reply
   pub sent : new.sent ≡ 0
+  pub sent_len : new.sent_len ≡ 0
   pub request_len : new.request_len ≡ size
   pub after_is : new.after ≡ after
   pub received : new.received.items ≡ old.received.items
@@ -147,12 +148,13 @@ pub record HasBegunReply (reply : List ℕ) (size : ℕ) (after : AfterReply) (o
 
 -- the responder made no reply to the first bytes: the connection says so, or memory ran out for that too
 abbrev pub HasRefused : ℕ → Connection → Connection → Type 0
-HasRefused size old new = HasBegunReply unavailable size Linger old new ⊎ (new.phase ≡ Aborted)
+HasRefused size old new = HasBegunReply unavailable size Linger old new ⊎ ((new.phase ≡ Aborted) × (new.sent_len ≡ old.sent_len))
 
 -- the reply to the first bytes begins, or the responder made none
 abbrev pub HasResponded : Replies → ℕ → AfterReply → Connection → Connection → Type 0
 HasResponded replies size after old new =
-    ((reply : List ℕ) × replies (take size old.received.items) (persists_in after) (Some reply) × HasBegunReply reply size after old new)
+    ((reply : List ℕ) × replies (take size old.received.items) (persists_in after) (Some reply) × SaysWhetherItKeeps (persists_in after) reply
+    × HasBegunReply reply size after old new)
     ⊎ (HasNoReply replies (take size old.received.items) × HasRefused size old new)
 
 -- the number of bytes that may be received at once

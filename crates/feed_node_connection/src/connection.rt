@@ -1,6 +1,6 @@
 //! The state machine of one connection of a node, without its socket.
-ghost use Rattle.std.specs.Prelude.{◌≡◌, ◌==◌, ◌+◌, ◌<◌, ◌≤◌, List, ◌∷◌, [], length, take, drop, vec_len};
-ghost use Rattle.feed_node_connection.specs.Events.{Event, Received, Sent, Resumed, Elapsed};
+ghost use Rattle.std.specs.Prelude.{◌≡◌, ◌≢◌, true, ◌==◌, ◌+◌, ◌<◌, ◌≤◌, List, ◌∷◌, [], length, take, drop, vec_len};
+ghost use Rattle.feed_node_connection.specs.Events.{Event, Received, Sent, Resumed, Elapsed, sent_len};
 
 use crate::head_state::{AfterReply, HeadState, head_state};
 use crate::respond::{Reply, ReplySummary, Respond, RespondFault, unavailable};
@@ -51,7 +51,7 @@ pub enum Phase {
     Answered,
     /// The last reply was sent. Further bytes from the peer are dropped until it closes its side.
     Lingering,
-    /// The last reply was sent, and the connection waits for nothing.
+    /// The last reply was sent, and the peer closed its side or the time limit passed.
     Complete,
     /// The time limit passed, the peer closed its side, or memory ran out.
     Aborted,
@@ -65,8 +65,6 @@ pub struct Connection {
     received: Vec<u8>,
     /// The length of that request, or 0.
     request_len: usize,
-    /// Whether the last read filled its room, so that bytes may be left unread.
-    more_may_come: bool,
     reply: Vec<u8>,
     sent: usize,
     after: AfterReply,
@@ -76,6 +74,8 @@ pub struct Connection {
     elapsed: u64,
     limits: TimeLimits,
     summary: Option<ReplySummary>,
+    /// The bytes of the current reply that were sent, also after it was freed.
+    sent_len: usize,
     ghost bounded: { vec_len received ≤ 8192 },
     ghost inside: { request_len ≤ vec_len received },
     ghost within: { sent ≤ vec_len reply },
@@ -83,6 +83,7 @@ pub struct Connection {
 }
 
 impl Connection {
+    ghost use Rattle.feed_node_connection.specs.Requests.{IsPersistent};
     ghost use Rattle.feed_node_connection.specs.Replies.{persists_in};
     ghost use Rattle.feed_node_connection.specs.States.{HasState, HasParsed, HasBegunReply, HasRefused, HasResponded};
     ghost use Rattle.feed_node_connection.specs.States.{is_idle_in, is_lingering_in, is_reply_sent_in, limit_in};
@@ -98,7 +99,6 @@ impl Connection {
             phase: Phase::Receiving,
             received: Vec::new(alloc),
             request_len: 0,
-            more_may_come: false,
             reply: Vec::new(alloc),
             sent: 0,
             after: AfterReply::Persist,
@@ -106,6 +106,7 @@ impl Connection {
             elapsed: 0,
             limits,
             summary: None,
+            sent_len: 0,
         }
     }
 
@@ -170,9 +171,8 @@ impl Connection {
         }
     }
 
-    /// Adds received bytes to the bytes held, and drops them once no other request is answered. `more_may_come` says
-    /// whether the peer may have sent more.
-    pub fn receive(&mut self, bytes: &[u8], more_may_come: bool)
+    /// Adds received bytes to the bytes held, and drops them once no other request is answered.
+    pub fn receive(&mut self, bytes: &[u8])
         requires waiting { wants_in self.old.phase ≡ Wants.Bytes }
         requires room { length bytes.now ≤ room_of self.old }
         ensures state { (history : List Event) → HasState self.old history
@@ -185,7 +185,6 @@ impl Connection {
         if self.is_idle() {
             self.elapsed = 0;
         }
-        self.more_may_come = more_may_come;
         self.phase = match self.received.extend_from_slice(bytes) {
             Ok(()) => Phase::Parsing,
             Err(_) => Phase::Aborted,
@@ -197,10 +196,11 @@ impl Connection {
         requires { self.old.phase ≡ Phase.Parsing }
         ensures state { (history : List Event) → HasState self.old history
             → HasParsed (R.replies responder.now) result self.new history }
+        ensures lingers { self.new.phase ≢ Phase.Complete }
         ensures limits { self.new.limits ≡ self.old.limits }
     {
         let held = self.received.len();
-        match head_state(&self.received, self.more_may_come) {
+        match head_state(&self.received) {
             HeadState::Incomplete => {
                 self.phase = Phase::Receiving;
                 false
@@ -218,6 +218,7 @@ impl Connection {
 
     fn respond<R: Respond>(&mut self, alloc: Global, responder: &R, size: usize, after: AfterReply)
         requires within { size ≤ vec_len self.old.received }
+        requires allowed { persists_in after ≡ true → IsPersistent (take size self.old.received.items) }
         ensures responded { HasResponded (R.replies responder.now) size after self.old self.new }
         ensures limits { self.new.limits ≡ self.old.limits }
     {
@@ -246,6 +247,7 @@ impl Connection {
         self.summary = Some(reply.summary);
         self.reply = reply.bytes;
         self.sent = 0;
+        self.sent_len = 0;
         self.request_len = size;
         self.after = after;
         self.sent_since = 0;
@@ -264,7 +266,6 @@ impl Connection {
         match self.after {
             AfterReply::Persist => Phase::Answered,
             AfterReply::Linger => Phase::Lingering,
-            AfterReply::Close => Phase::Complete,
         }
     }
 
@@ -280,6 +281,13 @@ impl Connection {
         ensures { result ≡ self.now.summary }
     {
         self.summary
+    }
+
+    /// Returns how many bytes of the reply the peer accepted, from when it is made until `resume`, and otherwise 0.
+    pub fn sent_len(&self) -> usize
+        ensures { (history : List Event) → HasState self.now history → result ≡ sent_len history }
+    {
+        self.sent_len
     }
 
     /// Returns the milliseconds since the timer was last restarted.
@@ -327,6 +335,7 @@ impl Connection {
         requires within { count ≤ length (pending_of self.old) }
         ensures state { (history : List Event) → HasState self.old history
             → HasState self.new (Sent (take count (pending_of self.old)) ∷ history) }
+        ensures lingers { self.new.phase ≢ Phase.Complete }
         ensures limits { self.new.limits ≡ self.old.limits }
     {
         if count >= MIN_PROGRESS - self.sent_since {
@@ -335,6 +344,7 @@ impl Connection {
         } else {
             self.sent_since += count;
         }
+        self.sent_len = self.sent + count;
         if count == self.reply.len() - self.sent {
             self.sent = 0;
             self.reply = Vec::new(alloc);
@@ -355,6 +365,7 @@ impl Connection {
         self.received.drain(..self.request_len);
         self.request_len = 0;
         self.summary = None;
+        self.sent_len = 0;
         self.sent_since = 0;
         self.elapsed = 0;
         self.phase = if self.received.is_empty() {

@@ -13,11 +13,9 @@ use httparse::spans::EMPTY_HEADER_SPAN;
 pub enum AfterReply {
     /// The next request.
     Persist,
-    /// Further bytes from the peer are dropped until it closes its side, because closing a connection with unread bytes
-    /// may lose the reply (RFC 9112, section 9.6).
+    /// Further bytes from the peer are dropped until it closes its side: a connection that is closed before bytes of the
+    /// peer arrive may lose the reply (RFC 9112, section 9.6).
     Linger,
-    /// The connection is closed: the peer has nothing more to send.
-    Close,
 }
 
 impl AfterReply {
@@ -28,7 +26,6 @@ impl AfterReply {
         match self {
             AfterReply::Persist => true,
             AfterReply::Linger => false,
-            AfterReply::Close => false,
         }
     }
 }
@@ -69,22 +66,19 @@ fn persists(request: &Request<'_>) -> bool
         && lacks_body(request)
 }
 
-// The peer may have more to send if it already has, or if the head announces a body.
-fn after_reply(request: &Request<'_>, more_may_come: bool) -> AfterReply
+fn after_reply(request: &Request<'_>) -> AfterReply
     requires { IsInBuffer request.now }
     ensures { (head : RequestHead) → HasHead request.now head → persists_in result ≡ persists head }
 {
     if persists(request) {
         AfterReply::Persist
-    } else if more_may_come || !lacks_body(request) {
-        AfterReply::Linger
     } else {
-        AfterReply::Close
+        AfterReply::Linger
     }
 }
 
-/// Parses the bytes held. More may come if the last read left bytes unread.
-pub(crate) fn head_state(bytes: &[u8], more_may_come: bool) -> HeadState
+/// Parses the bytes held.
+pub(crate) fn head_state(bytes: &[u8]) -> HeadState
     requires { length bytes.now ≤ HEAD_LIMIT }
     ensures { IsHeadState bytes.now result }
 {
@@ -92,8 +86,7 @@ pub(crate) fn head_state(bytes: &[u8], more_may_come: bool) -> HeadState
     match find_head(bytes, &mut headers) {
         HeadFound::Whole(spans) => {
             let request = Request::new(bytes, &headers, spans);
-            let more_may_come = more_may_come || spans.len < bytes.len();
-            HeadState::Whole(spans.len, after_reply(&request, more_may_come))
+            HeadState::Whole(spans.len, after_reply(&request))
         }
         HeadFound::Unfinished => HeadState::Incomplete,
         HeadFound::Never => HeadState::Invalid,

@@ -63,15 +63,20 @@ impl Reply {
 
 /// Makes the replies of a node.
 pub trait Respond {
-    ghost use Rattle.std.specs.Prelude.{List, ℕ, Bool, Option, Some, None, IfOk, IfErr};
+    ghost use Rattle.std.specs.Prelude.{◌≡◌, List, ℕ, Bool, true, Option, Some, None, IfOk, IfErr};
+    ghost use Rattle.feed_http_heads.specs.Options.{SaysWhetherItKeeps};
+    ghost use Rattle.feed_node_connection.specs.Requests.{IsPersistent};
 
     /// These bytes of a request have this reply if the connection persists after it, or does not. Without a reply the
     /// responder made none.
     ghost replies: { Self → List ℕ → Bool → Option (List ℕ) → Type 0 };
 
-    /// Returns the reply to the head of a request, or to bytes that are not the head of a request, whatever follows.
+    /// Returns the reply to the head of a request, or to bytes that are not the head of a request, whatever follows. The
+    /// reply says `Connection: close` exactly if the connection does not persist (RFC 9112, section 9.6).
     fn respond(&self, alloc: Global, bytes: &[u8], persists: bool) -> Result<Reply, RespondFault>
+        requires allowed { persists ≡ true → IsPersistent bytes.now }
         ensures reply { IfOk result (λ reply. replies self.now bytes.now persists (Some reply.bytes.items)) }
+        ensures says { IfOk result (λ reply. SaysWhetherItKeeps persists reply.bytes.items) }
         ensures none { IfErr result (λ fault. replies self.now bytes.now persists None) };
 }
 

@@ -129,7 +129,7 @@ fn receive_once<R: Read>(
         }
         Ok(count) => {
             let (bytes, _) = space.split_at(count);
-            connection.receive(bytes, count == room);
+            connection.receive(bytes);
             share.bytes -= count;
             Progress::Moved
         }

@@ -5,11 +5,14 @@ use Rattle.feed_node_connection.proofs.States.{nothing_yet}
 use Rattle.feed_node_connection.proofs.connection.Connection.new.Goals as goal
 
 pub returns-clause-state : goal.returns-clause-state
-returns-clause-state c = record {
-  current = record {
-    served = record { in_order = sym c.new.ensures.items; persists = refl };
-    sent = refl;
-    in_time = record { idleness = refl; counted_time = refl; counted_bytes = refl; left = c.args.limits.step_some };
-  };
-  unfinished = subst (IsUnfinished head_limit) (sym c.new.ensures.items) nothing_yet;
-}
+returns-clause-state c = (
+  record {
+    current = record {
+      served = record { in_order = sym c.new.ensures.items; persists = refl };
+      sent = refl;
+      in_time = record { idleness = refl; counted_time = refl; counted_bytes = refl; left = c.args.limits.step_some };
+    };
+    unfinished = subst (IsUnfinished head_limit) (sym c.new.ensures.items) nothing_yet;
+  },
+  refl,
+)

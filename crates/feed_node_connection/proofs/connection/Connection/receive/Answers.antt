@@ -5,18 +5,22 @@ use Rattle.feed_node_connection.proofs.connection.Connection.receive.Goals.{in-O
 use Rattle.feed_node_connection.proofs.connection.Connection.receive.Goals as goal
 
 pub returns-then-is_lingering-clause-state : goal.returns-then-is_lingering-clause-state
-returns-then-is_lingering-clause-state c = λ history state.
-    received_late c.args.self.now history c.args.bytes.now (lingering_is c.args.self.now.phase (sym c.is_lingering.ensures ∙ c.if-is_lingering.true)) state
+returns-then-is_lingering-clause-state c = λ history state. (
+  received_late c.args.self.now history c.args.bytes.now (lingering_is c.args.self.now.phase (sym c.is_lingering.ensures ∙ c.if-is_lingering.true)) state.0,
+  state.1,
+)
 
 pub returns-clause-state : goal.returns-clause-state
 returns-clause-state c = λ history state.
-    let current = current_in c.args.self.now.phase c.args.self.now history c.requires.waiting (sym c.is_lingering.ensures ∙ c.if-is_lingering.false) state in
-    elim c.match-extend_from_slice.branch [
-      | in-Ok w ↦ received_whole (is_idle_in c.args.self.now.phase) c.args.self.now _ history c.args.bytes.now current w.self-is w.in-Ok.ensures.items refl refl
-          c.args.self.now.limits.step_some
-          (elim c.if-is_idle.branch [
-            | then-is_idle v ↦ rw (sym c.is_idle.ensures ∙ v.if-is_idle.true) (ap (λ s. s.1.1.1.1.1.1.1.1.1.0) v.self-is)
-            | else-is_idle v ↦ rw (sym c.is_idle.ensures ∙ v.if-is_idle.false) (ap (λ s. s.1.1.1.1.1.1.1.1.1.0) v.self-is)
-          ])
-      | in-Err w ↦ received_aborted (is_idle_in c.args.self.now.phase) c.args.self.now _ history c.args.bytes.now current w.self-is
-    ]
+    let current = current_in c.args.self.now.phase c.args.self.now history c.requires.waiting (sym c.is_lingering.ensures ∙ c.if-is_lingering.false) state.0 in (
+      elim c.match-extend_from_slice.branch [
+        | in-Ok w ↦ received_whole (is_idle_in c.args.self.now.phase) c.args.self.now _ history c.args.bytes.now current w.self-is w.in-Ok.ensures.items refl refl
+            c.args.self.now.limits.step_some
+            (elim c.if-is_idle.branch [
+              | then-is_idle v ↦ rw (sym c.is_idle.ensures ∙ v.if-is_idle.true) (ap (λ s. s.1.1.1.1.1.1.1.1.0) v.self-is)
+              | else-is_idle v ↦ rw (sym c.is_idle.ensures ∙ v.if-is_idle.false) (ap (λ s. s.1.1.1.1.1.1.1.1.0) v.self-is)
+            ])
+        | in-Err w ↦ received_aborted (is_idle_in c.args.self.now.phase) c.args.self.now _ history c.args.bytes.now current w.self-is
+      ],
+      state.1,
+    )
