@@ -1,7 +1,7 @@
 //! The access log of a node: a line in the common log format for each request.
 use feed_dates::write_date;
 use feed_node_connection::{Connection, ReplySummary};
-use feed_node_server::Log;
+use feed_node_server::{CloseCause, Log};
 use std::io;
 use std::io::Write;
 use std::net::SocketAddr;
@@ -50,11 +50,19 @@ impl<'o, O: Write> AccessLog<'o, O> {
 }
 
 impl<'o, O: Write> Log for AccessLog<'o, O> {
-    fn on_reply(&mut self, addr: SocketAddr, connection: &Connection) {
+    fn on_accept(&mut self, _addr: SocketAddr) {}
+
+    fn on_reply(&mut self, addr: SocketAddr, connection: &Connection, _micros: u64) {
         self.put_reply(addr, connection);
     }
 
-    fn on_close(&mut self, addr: SocketAddr, connection: &Connection) {
+    fn on_close(
+        &mut self,
+        addr: SocketAddr,
+        connection: &Connection,
+        _cause: CloseCause,
+        _micros: u64,
+    ) {
         self.put_reply(addr, connection);
     }
 }

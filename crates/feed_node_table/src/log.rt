@@ -1,0 +1,45 @@
+//! The trait `Log`, which records the connections of a node, and why a connection is closed.
+use feed_node_connection::Connection;
+use std::net::SocketAddr;
+
+/// Why a connection is closed.
+#[derive(Clone, Copy, Debug, PartialEq, Eq)]
+pub enum CloseCause {
+    /// Its last reply was sent whole.
+    Complete,
+    /// The peer closed its side before that, or a read, a write or an allocation failed.
+    PeerClosed,
+    /// Its time limit passed before that.
+    TimedOut,
+    /// Another connection needs its place.
+    Evicted,
+    /// The head of its streamed reply was sent. The body is sent without the connection.
+    Streamed,
+}
+
+/// A log of the connections. Times are in microseconds, from the last byte of a request's head to the last byte of its
+/// reply, or up to now while the reply is under way.
+pub trait Log {
+    ghost use Rattle.feed_node_table.specs.Logs.{Entry, Accepted, Replied, Closed};
+
+    /// A call that records this entry may change the log from this value to that one.
+    ghost records: { Self → Entry → Self → Type 0 } = { λ _ _ _. Unit {0} };
+
+    /// Records that a connection is accepted.
+    fn on_accept(&mut self, addr: SocketAddr)
+        ensures { records self.old (Accepted addr) self.new };
+
+    /// Records that a reply was sent whole and its connection persists. The connection still has its request.
+    fn on_reply(&mut self, addr: SocketAddr, connection: &Connection, micros: u64)
+        ensures { records self.old (Replied addr connection.now micros) self.new };
+
+    /// Records that a connection is removed. Called once for each connection.
+    fn on_close(
+        &mut self,
+        addr: SocketAddr,
+        connection: &Connection,
+        cause: CloseCause,
+        micros: u64,
+    )
+        ensures { records self.old (Closed addr connection.now cause micros) self.new };
+}
