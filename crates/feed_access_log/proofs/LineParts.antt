@@ -146,15 +146,26 @@ pub line_parts : (e : EntryValue) → IsEntry e → slice_split (λ b. b == 34) 
 unfolding line_text
 line_parts e is = parted (before_request e) (escaped e.line ∷ reply_part e ∷ or_dash e.referrer ∷ codes " " ∷ or_dash e.user_agent ∷ after_agent e ∷ [])
     (joined_unquoted (escaped e.client ∷ codes " - - [" ∷ time_text e.seconds ∷ codes " +0000] " ∷ [])
-      (escaped_unquoted e.client is.client, ((refl, (refl, (refl, (refl, (refl, (refl, tt)))))), (time_unquoted e.seconds, ((refl, (refl, (refl, (refl, (refl, (refl, (refl, (refl, tt)))))))), tt)))))
-    (escaped_unquoted e.line is.line,
-    (joined_unquoted (codes " " ∷ decimal e.status ∷ codes " " ∷ decimal e.sent ∷ codes " " ∷ [])
-      ((refl, tt), (number_unquoted e.status is.status, ((refl, tt), (number_unquoted e.sent is.sent, ((refl, tt), tt))))),
-    (dash_unquoted e.referrer is.referrer,
-    ((refl, tt),
-    (dash_unquoted e.user_agent is.user_agent,
-    (joined_unquoted (codes " " ∷ decimal e.millis ∷ codes "\n" ∷ []) ((refl, tt), (number_unquoted e.millis is.millis, ((refl, tt), tt))),
-    tt))))))
+    (escaped_unquoted e.client is.client, ((refl, (refl, (refl, (refl, (refl, (refl, tt)))))), (time_unquoted e.seconds, ((refl, (refl, (refl, (refl, (refl, (refl, (refl, (refl, tt)))))))), tt))))) (
+      escaped_unquoted e.line is.line,
+      (
+        joined_unquoted (codes " " ∷ decimal e.status ∷ codes " " ∷ decimal e.sent ∷ codes " " ∷ [])
+            ((refl, tt), (number_unquoted e.status is.status, ((refl, tt), (number_unquoted e.sent is.sent, ((refl, tt), tt))))),
+        (
+          dash_unquoted e.referrer is.referrer,
+          (
+            (refl, tt),
+            (
+              dash_unquoted e.user_agent is.user_agent,
+              (
+                joined_unquoted (codes " " ∷ decimal e.millis ∷ codes "\n" ∷ []) ((refl, tt), (number_unquoted e.millis is.millis, ((refl, tt), tt))),
+                tt,
+              ),
+            ),
+          ),
+        ),
+      ),
+    )
 
 -- the pieces of a line make the line
 pub pieces_line : (client : List ℕ) (seconds : ℕ) (front version : List ℕ) (status sent : ℕ) (referrer agent : List ℕ) (millis n : ℕ) → n ≡ status
