@@ -1,0 +1,4 @@
+pub mod EscapedTexts
+pub mod LineParts
+pub mod CutLines
+pub mod LastParts

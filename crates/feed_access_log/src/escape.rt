@@ -1,0 +1,52 @@
+//! Writes bytes, and texts of clients escaped for a pair of quotes.
+ghost use Rattle.std.specs.Prelude.{◌≡◌, ◌<◌, ◌++◌, OnOk};
+ghost use Rattle.feed_access_log.specs.Escapes.{escape_byte, escaped, hex_digit, is_plain};
+
+use std::alloc::AllocError;
+
+/// Writes the bytes of a text.
+pub(crate) fn put(out: &mut Vec<u8>, text: &[u8]) -> Result<(), AllocError>
+    ensures { OnOk result (out.new.items ≡ out.old.items ++ text.now) }
+{
+    Ok(out.extend_from_slice(text)?)
+}
+
+fn hex_digit(number: u8) -> u8
+    requires { number < 16 }
+    ensures { result ≡ hex_digit number }
+{
+    if number < 10 {
+        48 + number
+    } else {
+        55 + number
+    }
+}
+
+fn is_plain(byte: u8) -> bool
+    ensures { result ≡ is_plain byte }
+{
+    32 <= byte && byte <= 126 && byte != 34 && byte != 92
+}
+
+fn put_escaped_byte(out: &mut Vec<u8>, byte: u8) -> Result<(), AllocError>
+    ensures { OnOk result (out.new.items ≡ out.old.items ++ escape_byte byte) }
+{
+    if is_plain(byte) {
+        Ok(out.push(byte)?)
+    } else {
+        put(
+            out,
+            &[b'\\', b'x', hex_digit(byte / 16), hex_digit(byte % 16)],
+        )
+    }
+}
+
+/// Writes a text in which `"`, `\` and each byte that is not visible ASCII or a space is `\xHH`.
+pub(crate) fn put_escaped(out: &mut Vec<u8>, text: &[u8]) -> Result<(), AllocError>
+    ensures { OnOk result (out.new.items ≡ out.old.items ++ escaped text.now) }
+{
+    for byte in text {
+        put_escaped_byte(out, *byte)?;
+    }
+    Ok(())
+}

@@ -1,0 +1,66 @@
+//! Writes a line piece by piece.
+ghost use Rattle.std.specs.Prelude.{◌≡◌, ◌++◌, OnOk};
+ghost use Rattle.feed_access_log.specs.Pieces.{or_dash, piece_text, pieces_text};
+
+use crate::escape::{put, put_escaped};
+use crate::time::put_time;
+use std::alloc::AllocError;
+use std::io::Write;
+
+/// A piece of a line.
+#[derive(Clone, Copy)]
+pub(crate) enum Piece<'a> {
+    /// These bytes.
+    Plain(&'a [u8]),
+    /// A text of a client, escaped.
+    Escaped(&'a [u8]),
+    /// A text of a client, escaped, or a dash if it is empty.
+    OrDash(&'a [u8]),
+    /// A number in decimal digits.
+    Number(u64),
+    /// A time in seconds since 1970-01-01, in UTC.
+    Time(u64),
+}
+
+fn put_number(out: &mut Vec<u8>, number: u64) -> Result<(), AllocError>
+    ensures { OnOk result (out.new.items ≡ out.old.items ++ piece_text (Piece.Number number)) }
+{
+    match write!(out, "{number}") {
+        Ok(()) => Ok(()),
+        Err(_) => Err(AllocError),
+    }
+}
+
+fn put_or_dash(out: &mut Vec<u8>, text: &[u8]) -> Result<(), AllocError>
+    ensures { OnOk result (out.new.items ≡ out.old.items ++ or_dash text.now) }
+{
+    if text.is_empty() {
+        put(out, b"-")
+    } else {
+        put_escaped(out, text)
+    }
+}
+
+impl Piece<'_> {
+    fn put(&self, out: &mut Vec<u8>) -> Result<(), AllocError>
+        ensures { OnOk result (out.new.items ≡ out.old.items ++ piece_text self.now) }
+    {
+        match self {
+            Piece::Plain(text) => put(out, text),
+            Piece::Escaped(text) => put_escaped(out, text),
+            Piece::OrDash(text) => put_or_dash(out, text),
+            Piece::Number(number) => put_number(out, *number),
+            Piece::Time(seconds) => put_time(out, *seconds),
+        }
+    }
+}
+
+/// Writes the pieces, one after another.
+pub(crate) fn put_all(out: &mut Vec<u8>, pieces: &[Piece<'_>]) -> Result<(), AllocError>
+    ensures { OnOk result (out.new.items ≡ out.old.items ++ pieces_text pieces.now) }
+{
+    for piece in pieces {
+        piece.put(out)?;
+    }
+    Ok(())
+}

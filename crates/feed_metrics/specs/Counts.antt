@@ -1,0 +1,74 @@
+-- What the counters have counted.
+use Rattle.std.specs.Prelude.{◌≡◌, ◌<◌, ◌+◌, ◌-◌, ◌*◌, ◌^◌, ◌==◌, ℕ, min, nat_lt, List, length, sum_by, slice_index, if◌then◌else◌}
+use Rattle.feed_metrics.specs.declared.counter.Counter.{Counter}
+use Rattle.feed_metrics.specs.declared.counter.Counter.TheVariants as counter
+use Rattle.feed_metrics.specs.declared.request_kind.Target.{Target}
+use Rattle.feed_metrics.specs.declared.request_kind.Target.TheVariants as target
+use Rattle.feed_metrics.specs.declared.request_kind.StatusClass.{StatusClass}
+use Rattle.feed_metrics.specs.declared.request_kind.StatusClass.TheVariants as class
+
+-- an amount that was added to the counter at a place
+pub record Added : Type 0 where
+  pub place : ℕ
+  pub amount : ℕ
+
+-- what was added to the counter at a place
+abbrev pub amount_at : ℕ → Added → ℕ
+amount_at k added = if added.place == k then added.amount else 0
+
+-- the sum of what was added to the counter at a place, each amount once
+abbrev pub total_at : ℕ → List Added → ℕ
+total_at k history = sum_by (amount_at k) history
+
+-- a counter stops at the greatest number of 64 bits
+abbrev pub capped : ℕ → ℕ
+capped n = min n (2 ^ 64 - 1)
+
+-- each counter has the sum of what was added to it
+abbrev pub HasCounted : List ℕ → List Added → Type 0
+HasCounted counts history = (k : ℕ) → k < length counts → slice_index counts k ≡ capped (total_at k history)
+
+-- the place of a counter
+abbrev pub place_of : Counter → ℕ
+place_of counter.Opened = 0
+place_of counter.Complete = 1
+place_of counter.PeerClosed = 2
+place_of counter.TimedOut = 3
+place_of counter.Evicted = 4
+place_of counter.Streamed = 5
+place_of counter.RequestBytes = 6
+place_of counter.ReplyBytes = 7
+place_of counter.FetchDone = 8
+place_of counter.FetchRefused = 9
+place_of counter.FetchFailed = 10
+place_of counter.RefusedToken = 11
+
+-- the place of a target
+abbrev pub target_place : Target → ℕ
+target_place target.Home = 0
+target_place target.Status = 1
+target_place target.Resolve = 2
+target_place target.Go = 3
+target_place target.Feed = 4
+target_place target.Metrics = 5
+target_place target.Health = 6
+target_place target.Other = 7
+
+-- the class of a status
+abbrev pub class_of : ℕ → StatusClass
+class_of status =
+    if nat_lt status 300 then class.Successful
+    else (if nat_lt status 400 then class.Redirection
+    else (if nat_lt status 500 then class.ClientError
+    else class.ServerError))
+
+-- the place of a class
+abbrev pub class_place : StatusClass → ℕ
+class_place class.Successful = 0
+class_place class.Redirection = 1
+class_place class.ClientError = 2
+class_place class.ServerError = 3
+
+-- the place of the counter of a target and a class
+abbrev pub request_place : Target → StatusClass → ℕ
+request_place name code = target_place name * 4 + class_place code

@@ -1,0 +1,128 @@
+//! The counters of a node other than those of its requests, and the text in front of each.
+ghost use Rattle.std.specs.Prelude.{◌≡◌, ◌<◌};
+ghost use Rattle.feed_metrics.specs.Counts.{place_of};
+ghost use Rattle.feed_metrics.specs.Texts.{counter_front};
+
+/// A counter.
+#[derive(Clone, Copy, Debug, PartialEq, Eq)]
+pub enum Counter {
+    /// Connections that were accepted.
+    Opened,
+    /// Connections that were closed, by cause.
+    Complete,
+    PeerClosed,
+    TimedOut,
+    Evicted,
+    Streamed,
+    /// Bytes of the requests that were replied to.
+    RequestBytes,
+    /// Bytes of replies that were sent.
+    ReplyBytes,
+    /// Fetches that ended, by outcome.
+    FetchDone,
+    FetchRefused,
+    FetchFailed,
+    /// Requests without the token that they need.
+    RefusedToken,
+}
+
+/// All counters, as they are printed.
+pub(crate) const COUNTERS: [Counter; 12] = [
+    Counter::Opened,
+    Counter::Complete,
+    Counter::PeerClosed,
+    Counter::TimedOut,
+    Counter::Evicted,
+    Counter::Streamed,
+    Counter::RequestBytes,
+    Counter::ReplyBytes,
+    Counter::FetchDone,
+    Counter::FetchRefused,
+    Counter::FetchFailed,
+    Counter::RefusedToken,
+];
+
+pub(crate) const OPENED: &[u8] = b"# HELP kbfeed_connections_opened_total Connections accepted.\n\
+    # TYPE kbfeed_connections_opened_total counter\n\
+    kbfeed_connections_opened_total ";
+
+pub(crate) const COMPLETE: &[u8] =
+    b"# HELP kbfeed_connections_closed_total Connections closed, by cause.\n\
+    # TYPE kbfeed_connections_closed_total counter\n\
+    kbfeed_connections_closed_total{cause=\"complete\"} ";
+
+pub(crate) const PEER_CLOSED: &[u8] = b"kbfeed_connections_closed_total{cause=\"peer\"} ";
+
+pub(crate) const TIMED_OUT: &[u8] = b"kbfeed_connections_closed_total{cause=\"timeout\"} ";
+
+pub(crate) const EVICTED: &[u8] = b"kbfeed_connections_closed_total{cause=\"evicted\"} ";
+
+pub(crate) const STREAMED: &[u8] = b"kbfeed_connections_closed_total{cause=\"streamed\"} ";
+
+pub(crate) const REQUEST_BYTES: &[u8] =
+    b"# HELP kbfeed_request_bytes_total Bytes of the heads of requests that were replied to.\n\
+    # TYPE kbfeed_request_bytes_total counter\n\
+    kbfeed_request_bytes_total ";
+
+pub(crate) const REPLY_BYTES: &[u8] =
+    b"# HELP kbfeed_reply_bytes_total Bytes of replies that were sent, heads included.\n\
+    # TYPE kbfeed_reply_bytes_total counter\n\
+    kbfeed_reply_bytes_total ";
+
+pub(crate) const FETCH_DONE: &[u8] =
+    b"# HELP kbfeed_fetches_total Fetches of releases that ended, by outcome.\n\
+    # TYPE kbfeed_fetches_total counter\n\
+    kbfeed_fetches_total{outcome=\"done\"} ";
+
+pub(crate) const FETCH_REFUSED: &[u8] = b"kbfeed_fetches_total{outcome=\"refused\"} ";
+
+pub(crate) const FETCH_FAILED: &[u8] = b"kbfeed_fetches_total{outcome=\"failed\"} ";
+
+pub(crate) const REFUSED_TOKEN: &[u8] =
+    b"# HELP kbfeed_refused_tokens_total Requests without the token that they need.\n\
+    # TYPE kbfeed_refused_tokens_total counter\n\
+    kbfeed_refused_tokens_total ";
+
+impl Counter {
+    /// Returns the place of the counter among all.
+    pub(crate) fn place(self) -> usize
+        ensures value { result ≡ place_of self }
+        ensures below { result < 12 }
+    {
+        match self {
+            Counter::Opened => 0,
+            Counter::Complete => 1,
+            Counter::PeerClosed => 2,
+            Counter::TimedOut => 3,
+            Counter::Evicted => 4,
+            Counter::Streamed => 5,
+            Counter::RequestBytes => 6,
+            Counter::ReplyBytes => 7,
+            Counter::FetchDone => 8,
+            Counter::FetchRefused => 9,
+            Counter::FetchFailed => 10,
+            Counter::RefusedToken => 11,
+        }
+    }
+
+    /// Returns the text in front of the counter's value: its name and label, and before the first of a family the help
+    /// and the type.
+    pub(crate) fn front(self) -> &'static [u8]
+        ensures { result.now ≡ counter_front self }
+    {
+        match self {
+            Counter::Opened => OPENED,
+            Counter::Complete => COMPLETE,
+            Counter::PeerClosed => PEER_CLOSED,
+            Counter::TimedOut => TIMED_OUT,
+            Counter::Evicted => EVICTED,
+            Counter::Streamed => STREAMED,
+            Counter::RequestBytes => REQUEST_BYTES,
+            Counter::ReplyBytes => REPLY_BYTES,
+            Counter::FetchDone => FETCH_DONE,
+            Counter::FetchRefused => FETCH_REFUSED,
+            Counter::FetchFailed => FETCH_FAILED,
+            Counter::RefusedToken => REFUSED_TOKEN,
+        }
+    }
+}

@@ -1,0 +1,109 @@
+//! Writes the text of metrics piece by piece.
+ghost use Rattle.std.specs.Prelude.{◌≡◌, ◌++◌, OnOk};
+ghost use Rattle.feed_metrics.specs.Labels.{label_byte, label_text};
+ghost use Rattle.feed_metrics.specs.Pieces.{digit, piece_text, pieces_text, seconds_text, six_digits};
+
+use std::alloc::AllocError;
+use std::io::Write;
+
+/// A piece of the text.
+#[derive(Clone, Copy)]
+pub(crate) enum Piece<'a> {
+    /// These bytes.
+    Plain(&'a [u8]),
+    /// The value of a label, between its quotes.
+    Label(&'a [u8]),
+    /// A number in decimal digits.
+    Number(u64),
+    /// A time of microseconds, as seconds.
+    Seconds(u64),
+}
+
+pub(crate) fn put(out: &mut Vec<u8>, text: &[u8]) -> Result<(), AllocError>
+    ensures { OnOk result (out.new.items ≡ out.old.items ++ text.now) }
+{
+    Ok(out.extend_from_slice(text)?)
+}
+
+fn put_label_byte(out: &mut Vec<u8>, byte: u8) -> Result<(), AllocError>
+    ensures { OnOk result (out.new.items ≡ out.old.items ++ label_byte byte) }
+{
+    match byte {
+        b'\\' => put(out, b"\\\\"),
+        b'"' => put(out, b"\\\""),
+        b'\n' => put(out, b"\\n"),
+        _ => Ok(out.push(byte)?),
+    }
+}
+
+// Writes the value of a label: `\`, `"` and the end of a line are escaped.
+fn put_label(out: &mut Vec<u8>, text: &[u8]) -> Result<(), AllocError>
+    ensures { OnOk result (out.new.items ≡ out.old.items ++ label_text text.now) }
+{
+    for byte in text {
+        put_label_byte(out, *byte)?;
+    }
+    Ok(())
+}
+
+fn put_number(out: &mut Vec<u8>, number: u64) -> Result<(), AllocError>
+    ensures { OnOk result (out.new.items ≡ out.old.items ++ piece_text (Piece.Number number)) }
+{
+    match write!(out, "{number}") {
+        Ok(()) => Ok(()),
+        Err(_) => Err(AllocError),
+    }
+}
+
+fn digit(number: u64) -> u8
+    ensures { result ≡ digit number }
+{
+    b'0' + (number % 10) as u8
+}
+
+fn put_six_digits(out: &mut Vec<u8>, number: u64) -> Result<(), AllocError>
+    ensures { OnOk result (out.new.items ≡ out.old.items ++ six_digits number) }
+{
+    put(
+        out,
+        &[
+            digit(number / 100_000),
+            digit(number / 10_000),
+            digit(number / 1_000),
+            digit(number / 100),
+            digit(number / 10),
+            digit(number),
+        ],
+    )
+}
+
+fn put_seconds(out: &mut Vec<u8>, micros: u64) -> Result<(), AllocError>
+    ensures { OnOk result (out.new.items ≡ out.old.items ++ seconds_text micros) }
+{
+    put_number(out, micros / 1_000_000)?;
+    put(out, b".")?;
+    put_six_digits(out, micros)
+}
+
+impl Piece<'_> {
+    fn put(&self, out: &mut Vec<u8>) -> Result<(), AllocError>
+        ensures { OnOk result (out.new.items ≡ out.old.items ++ piece_text self.now) }
+    {
+        match self {
+            Piece::Plain(text) => put(out, text),
+            Piece::Label(text) => put_label(out, text),
+            Piece::Number(number) => put_number(out, *number),
+            Piece::Seconds(micros) => put_seconds(out, *micros),
+        }
+    }
+}
+
+/// Writes the pieces, one after another.
+pub(crate) fn put_all(out: &mut Vec<u8>, pieces: &[Piece<'_>]) -> Result<(), AllocError>
+    ensures { OnOk result (out.new.items ≡ out.old.items ++ pieces_text pieces.now) }
+{
+    for piece in pieces {
+        piece.put(out)?;
+    }
+    Ok(())
+}
