@@ -667,103 +667,65 @@ has_room : (is_continued : Bool) (bytes : List ℕ) → IsIncomplete is_continue
 has_room is_continued bytes (inl is) = omega (arith, is.short)
 has_room is_continued bytes (inr is) = omega (arith, is.missing, is.small, is.begins.short)
 
+-- past its time a connection waits for nothing
+late_is_out : (idle : Bool) (connection : Connection) (history : List Event) → IsInTime idle connection history → limit_in (is_idle history) connection.limits ≤ elapsed history → ⊥
+late_is_out idle connection history time late =
+    let over : limit_in idle connection.limits ≤ elapsed history = subst (λ b. limit_in b connection.limits ≤ elapsed history) time.idleness late in
+    omega (arith, over, time.counted_time, time.left)
+
+closes_in : (phase : Phase) (connection : Connection) (history : List Event) → HasStateIn phase connection history
+    → limit_in (is_idle history) connection.limits ≤ elapsed history → wants_in phase ≡ wants.Close
+closes_in Idle connection history state late = absurd (late_is_out true connection history state.current.in_time late)
+closes_in Receiving connection history state late = absurd (late_is_out false connection history state.current.in_time late)
+closes_in Parsing connection history state late = absurd (late_is_out false connection history state.in_time late)
+closes_in Sending connection history state late = absurd (late_is_out false connection history state.in_time late)
+closes_in Answered connection history state late = absurd (late_is_out false connection history state.in_time late)
+closes_in Lingering connection history state late = absurd (late_is_out false connection history state.in_time late)
+closes_in Complete connection history state late = refl
+closes_in Aborted connection history state late = refl
+
+whole_in : (phase : Phase) (connection : Connection) (history : List Event) → HasStateIn phase connection history → is_reply_sent_in phase ≡ true
+    → AreSent history × (connection.reply.items ≡ [])
+whole_in Answered connection history state is = (state.sent, state.freed)
+whole_in Lingering connection history state is = (state.complete.sent, state.complete.freed)
+whole_in Complete connection history state is = (state.sent, state.freed)
+whole_in phase connection history state is = absurd (cc)
+
+persists_in : (phase : Phase) (connection : Connection) (history : List Event) → HasStateIn phase connection history → phase ≡ Answered → all_persist (requests_in history) ≡ true
+persists_in Answered connection history state is = state.served.persists
+persists_in phase connection history state is = absurd (cc)
+
+ends_in : (phase : Phase) (connection : Connection) (history : List Event) → HasStateIn phase connection history → (phase ≡ Lingering) ⊎ (phase ≡ Complete)
+    → all_persist (requests_in history) ≡ false
+ends_in Lingering connection history state over = state.complete.ended.1
+ends_in Complete connection history state over = state.ended.1
+ends_in phase connection history state (inl is) = absurd (cc)
+ends_in phase connection history state (inr is) = absurd (cc)
+
+waits_in : (phase : Phase) (connection : Connection) (history : List Event) → HasStateIn phase connection history → phase ≡ Receiving
+    → AreSent history × IsServedUpTo history connection.received.items × IsIncomplete connection.is_continued connection.received.items
+waits_in Receiving connection history state is = (state.current.sent, state.current.served, state.incomplete)
+waits_in phase connection history state is = absurd (cc)
+
+idles_in : (phase : Phase) (connection : Connection) (history : List Event) → HasStateIn phase connection history → phase ≡ Idle → AreSent history × IsServedUpTo history []
+idles_in Idle connection history state is = (state.current.sent, subst (IsServedUpTo history) state.none state.current.served)
+idles_in phase connection history state is = absurd (cc)
+
+reads_in : (phase : Phase) (connection : Connection) (history : List Event) → HasStateIn phase connection history → wants_in phase ≡ wants.Bytes → 0 < room_in phase connection
+reads_in Idle connection history state is = omega (arith, ap length state.none)
+reads_in Receiving connection history state is = has_room connection.is_continued connection.received.items state.incomplete
+reads_in Lingering connection history state is = omega arith
+reads_in phase connection history state is = absurd (cc)
+
 pub state_right : StateIsRight
-state_right connection history state = by connection.phase refl state.0
-  where
-    late_is_out : (idle : Bool) (time : IsInTime idle connection history) → limit_in (is_idle history) connection.limits ≤ elapsed history → ⊥
-    late_is_out idle time late =
-        let over : limit_in idle connection.limits ≤ elapsed history = subst (λ b. limit_in b connection.limits ≤ elapsed history) time.idleness late in
-        omega (arith, over, time.counted_time, time.left)
-
-    unsent : {phase : Phase} → connection.phase ≡ phase → is_reply_sent_in phase ≡ false → is_reply_sent_in connection.phase ≡ true → ⊥
-    unsent is none some = false≢true (sym none ∙ ap is_reply_sent_in (sym is) ∙ some)
-
-    by : (phase : Phase) → connection.phase ≡ phase → HasStateIn phase connection history → IsRightAfter connection history
-    by Idle is now = record {
-      first = first_in Idle connection history now;
-      front = front_in Idle connection history now;
-      whole = λ e. absurd (unsent is refl e);
-      persists = λ e. absurd (cc);
-      ends = λ over. elim over [ inl e ↦ absurd (cc) | inr e ↦ absurd (cc) ];
-      waits = λ e. absurd (cc);
-      idles = λ e. (now.current.sent, subst (IsServedUpTo history) now.none now.current.served);
-      reads = λ e. subst (λ (p : Phase). 0 < room_in p connection) (sym is) (omega (arith, ap length now.none));
-      closes = λ late. absurd (late_is_out true now.current.in_time late);
-    }
-    by Receiving is now = record {
-      first = first_in Receiving connection history now;
-      front = front_in Receiving connection history now;
-      whole = λ e. absurd (unsent is refl e);
-      persists = λ e. absurd (cc);
-      ends = λ over. elim over [ inl e ↦ absurd (cc) | inr e ↦ absurd (cc) ];
-      waits = λ e. (now.current.sent, now.current.served, now.incomplete);
-      idles = λ e. absurd (cc);
-      reads = λ e. subst (λ (p : Phase). 0 < room_in p connection) (sym is) (has_room connection.is_continued connection.received.items now.incomplete);
-      closes = λ late. absurd (late_is_out false now.current.in_time late);
-    }
-    by Parsing is now = record {
-      first = first_in Parsing connection history now;
-      front = front_in Parsing connection history now;
-      whole = λ e. absurd (unsent is refl e);
-      persists = λ e. absurd (cc);
-      ends = λ over. elim over [ inl e ↦ absurd (cc) | inr e ↦ absurd (cc) ];
-      waits = λ e. absurd (cc);
-      idles = λ e. absurd (cc);
-      reads = λ e. absurd (cc);
-      closes = λ late. absurd (late_is_out false now.in_time late);
-    }
-    by Sending is now = record {
-      first = first_in Sending connection history now;
-      front = front_in Sending connection history now;
-      whole = λ e. absurd (unsent is refl e);
-      persists = λ e. absurd (cc);
-      ends = λ over. elim over [ inl e ↦ absurd (cc) | inr e ↦ absurd (cc) ];
-      waits = λ e. absurd (cc);
-      idles = λ e. absurd (cc);
-      reads = λ e. absurd (cc);
-      closes = λ late. absurd (late_is_out false now.in_time late);
-    }
-    by Answered is now = record {
-      first = first_in Answered connection history now;
-      front = front_in Answered connection history now;
-      whole = λ e. (now.sent, now.freed);
-      persists = λ e. now.served.persists;
-      ends = λ over. elim over [ inl e ↦ absurd (cc) | inr e ↦ absurd (cc) ];
-      waits = λ e. absurd (cc);
-      idles = λ e. absurd (cc);
-      reads = λ e. absurd (cc);
-      closes = λ late. absurd (late_is_out false now.in_time late);
-    }
-    by Lingering is now = record {
-      first = first_in Lingering connection history now;
-      front = front_in Lingering connection history now;
-      whole = λ e. (now.complete.sent, now.complete.freed);
-      persists = λ e. absurd (cc);
-      ends = λ over. now.complete.ended.1;
-      waits = λ e. absurd (cc);
-      idles = λ e. absurd (cc);
-      reads = λ e. subst (λ (p : Phase). 0 < room_in p connection) (sym is) (omega arith);
-      closes = λ late. absurd (late_is_out false now.in_time late);
-    }
-    by Complete is now = record {
-      first = first_in Complete connection history now;
-      front = front_in Complete connection history now;
-      whole = λ e. (now.sent, now.freed);
-      persists = λ e. absurd (cc);
-      ends = λ over. now.ended.1;
-      waits = λ e. absurd (cc);
-      idles = λ e. absurd (cc);
-      reads = λ e. absurd (cc);
-      closes = λ late. rw is refl;
-    }
-    by Aborted is now = record {
-      first = first_in Aborted connection history now;
-      front = front_in Aborted connection history now;
-      whole = λ e. absurd (unsent is refl e);
-      persists = λ e. absurd (cc);
-      ends = λ over. elim over [ inl e ↦ absurd (cc) | inr e ↦ absurd (cc) ];
-      waits = λ e. absurd (cc);
-      idles = λ e. absurd (cc);
-      reads = λ e. absurd (cc);
-      closes = λ late. rw is refl;
-    }
+state_right connection history state = record {
+  first = first_in connection.phase connection history state.0;
+  front = front_in connection.phase connection history state.0;
+  whole = whole_in connection.phase connection history state.0;
+  persists = persists_in connection.phase connection history state.0;
+  ends = ends_in connection.phase connection history state.0;
+  waits = waits_in connection.phase connection history state.0;
+  idles = idles_in connection.phase connection history state.0;
+  reads = reads_in connection.phase connection history state.0;
+  closes = closes_in connection.phase connection history state.0;
+}
