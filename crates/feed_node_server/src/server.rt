@@ -1,13 +1,12 @@
 //! The server: the poll, the listener, the connections of clients, and the request to another server.
 use crate::descriptors::available_clients;
 use crate::outgoing::{Destination, OutgoingRequest};
-use crate::peer::{Outcome, Peer};
-use crate::room::{RoomResponder, UNSENT_LIMIT};
+use crate::socket::Socket;
 use crate::streamed_reply::StreamedReply;
-use feed_node_connection::{Connection, Respond, TimeLimits};
+use feed_node_connection::{Respond, TURN_SHARE, TimeLimits};
+use feed_node_table::{CloseCause, Log, Outcome, Table};
 use mio::net::{TcpListener, TcpStream};
 use mio::{Events, Interest, Poll, Token};
-use slab::Slab;
 use std::alloc::Global;
 use std::io;
 use std::io::ErrorKind;
@@ -42,32 +41,19 @@ pub struct Settings {
     pub limits: TimeLimits,
 }
 
-/// A log of the connections.
-pub trait Log {
-    /// Called when a reply was sent whole and its connection persists. The connection still has its request.
-    fn on_reply(&mut self, addr: SocketAddr, connection: &Connection);
-
-    /// Called once for each connection: when it closes, or when the head of its streamed reply was sent.
-    fn on_close(&mut self, addr: SocketAddr, connection: &Connection);
-}
-
 /// A server over its sockets, which `turn` advances.
 #[derive(Drop)]
 pub struct Server {
     alloc: Global,
     poll: Poll,
     listener: TcpListener,
-    peers: Slab<Peer>,
-    /// The keys of the peers that the next turn serves.
-    ready: Vec<usize>,
-    /// An empty list, whose memory the next turn uses.
-    serving: Vec<usize>,
-    /// The bytes of the replies of all peers that are not yet sent.
-    unsent: usize,
+    table: Table<Socket>,
     outgoing: Option<OutgoingRequest>,
     streams: Vec<StreamedReply>,
     buffer: Vec<u8>,
-    settings: Settings,
+    limits: TimeLimits,
+    /// The moment from which the table's times count.
+    start: Instant,
     last_tick: Instant,
     /// Whether connections may wait to be accepted that no event will report.
     may_accept: bool,
@@ -83,28 +69,21 @@ impl Server {
         settings: Settings,
     ) -> io::Result<Server> {
         let alloc = rt.alloc();
-        let last_tick = Instant::now(rt)?;
+        let start = Instant::now(rt)?;
         let buffer = Vec::from_elem(alloc, 0, READ_BYTES)?;
         let (poll, listener) = listen(rt, addr)?;
-        let clients = available_clients(rt, settings.clients);
-        let peers = Slab::with_capacity(alloc, clients)?;
-        let settings = Settings {
-            clients,
-            limits: settings.limits,
-        };
+        let table = Table::new(alloc, available_clients(rt, settings.clients))?;
         Ok(Server {
             alloc,
             poll,
             listener,
-            peers,
-            ready: Vec::new(alloc),
-            serving: Vec::new(alloc),
-            unsent: 0,
+            table,
             outgoing: None,
             streams: Vec::new(alloc),
             buffer,
-            settings,
-            last_tick,
+            limits: settings.limits,
+            start,
+            last_tick: start,
             may_accept: false,
             has_more_work: false,
         })
@@ -112,7 +91,17 @@ impl Server {
 
     /// Returns the most connections at a time.
     pub fn clients(&self) -> usize {
-        self.settings.clients
+        self.table.clients()
+    }
+
+    /// Returns the number of connections.
+    pub fn connections(&self) -> usize {
+        self.table.len()
+    }
+
+    /// Returns the bytes of the replies of all connections that are not yet sent.
+    pub fn bytes_held(&self) -> usize {
+        self.table.bytes_held()
     }
 
     /// Returns the address that the server listens on.
@@ -175,6 +164,13 @@ impl Server {
         });
     }
 
+    // Returns the microseconds since the start.
+    fn micros(&self, now: Instant) -> u64 {
+        now.saturating_duration_since(self.start)
+            .as_micros()
+            .min(u64::MAX as u128) as u64
+    }
+
     /// Waits at most 250 ms for the sockets, gives each connection that is ready its share of the turn, and closes each
     /// one that is over.
     pub fn turn<S: Respond, L: Log>(
@@ -184,91 +180,76 @@ impl Server {
         events: &mut Events,
         log: &mut L,
     ) -> io::Result<()> {
-        let may_block = self.ready.is_empty() && !self.has_more_work;
+        let may_block = self.table.ready_len() == 0 && !self.has_more_work;
         let wait = if may_block { TICK } else { 0 };
         self.poll.poll(events, Some(Duration::from_millis(wait)))?;
-        for event in events.iter() {
-            self.on_event(event.token(), log);
-        }
         let now = Instant::now(rt)?;
-        self.serve_ready(now, responder, log);
-        let has_more_work = self.accept_waiting(now, responder, log);
+        for event in events.iter() {
+            self.on_event(event.token(), now, log);
+        }
+        self.serve_ready(rt, responder, log)?;
+        let has_more_work = self.accept_waiting(rt, responder, log)?;
         self.has_more_work = self.advance_outgoing() || has_more_work;
         self.advance_streams();
-        let passed = now
-            .saturating_duration_since(self.last_tick)
-            .as_millis()
-            .min(u64::MAX as u128) as u64;
-        if passed >= TICK {
-            self.last_tick = now;
-            self.advance_clock(now, passed, log);
+        self.advance_clock(now, log);
+        Ok(())
+    }
+
+    fn on_event<L: Log>(&mut self, token: Token, now: Instant, log: &mut L) {
+        if token == LISTENER {
+            self.may_accept = true;
+        } else if self.table.mark_ready(token.0).is_err() {
+            let now = self.micros(now);
+            let _ = self.table.remove(token.0, CloseCause::PeerClosed, now, log);
+        }
+    }
+
+    // Gives each connection that is ready one share of the turn, the last one first: one that has more to do is added at
+    // the end, for the next turn.
+    fn serve_ready<S: Respond, L: Log>(
+        &mut self,
+        rt: &impl Clock,
+        responder: &S,
+        log: &mut L,
+    ) -> io::Result<()> {
+        for place in (0..self.table.ready_len()).rev() {
+            if let Some(key) = self.table.ready_at(place) {
+                self.serve(rt, key, responder, log)?;
+            }
         }
         Ok(())
     }
 
-    fn on_event<L: Log>(&mut self, token: Token, log: &mut L) {
-        if token == LISTENER {
-            self.may_accept = true;
-        } else {
-            self.mark_ready(token.0, log);
-        }
-    }
-
-    // Has the next turn serve a peer.
-    fn mark_ready<L: Log>(&mut self, key: usize, log: &mut L) {
-        let Some(peer) = self.peers.get_mut(key) else {
-            return;
-        };
-        if peer.is_ready {
-            return;
-        }
-        peer.is_ready = true;
-        if self.ready.push(key).is_err() {
-            self.close(key, log);
-        }
-    }
-
-    // Gives each peer that is ready one share of the turn.
-    fn serve_ready<S: Respond, L: Log>(&mut self, now: Instant, responder: &S, log: &mut L) {
-        let mut serving = std::mem::replace(&mut self.serving, Vec::new(self.alloc));
-        std::mem::swap(&mut serving, &mut self.ready);
-        for key in &serving {
-            self.serve(*key, now, responder, log);
-        }
-        serving.clear();
-        self.serving = serving;
-    }
-
-    fn serve<S: Respond, L: Log>(&mut self, key: usize, now: Instant, responder: &S, log: &mut L) {
-        let Some(peer) = self.peers.get_mut(key) else {
-            return;
-        };
-        peer.is_ready = false;
-        let before = peer.connection.pending_reply().len();
-        let responder = RoomResponder {
-            responder,
-            has_room: self.unsent < UNSENT_LIMIT,
-        };
-        let outcome = peer.take_turn(self.alloc, &responder, &mut self.buffer, now, log);
-        let after = peer.connection.pending_reply().len();
-        self.unsent = self.unsent.saturating_sub(before).saturating_add(after);
-        match outcome {
-            Outcome::Waits => {}
-            Outcome::Ready => self.mark_ready(key, log),
-            Outcome::Streams => {
-                if let Some(peer) = self.remove(key) {
-                    self.stream_to(peer, log);
-                }
+    // Gives a connection one share of the turn. Returns whether it is still open.
+    fn serve<S: Respond, L: Log>(
+        &mut self,
+        rt: &impl Clock,
+        key: usize,
+        responder: &S,
+        log: &mut L,
+    ) -> io::Result<bool> {
+        let mut share = TURN_SHARE;
+        let mut outcome = Outcome::Waits;
+        let mut now = self.micros(Instant::now(rt)?);
+        for _ in 0..2 {
+            let progress = self.table.advance(
+                key,
+                self.alloc,
+                responder,
+                &mut self.buffer,
+                now,
+                &mut share,
+            );
+            now = self.micros(Instant::now(rt)?);
+            outcome = self.table.settle(key, progress, now, log);
+            if outcome != Outcome::Resumed {
+                break;
             }
-            Outcome::Over => self.close(key, log),
         }
-    }
-
-    fn remove(&mut self, key: usize) -> Option<Peer> {
-        let peer = self.peers.try_remove(key)?;
-        let unsent = peer.connection.pending_reply().len();
-        self.unsent = self.unsent.saturating_sub(unsent);
-        Some(peer)
+        if outcome == Outcome::Streams {
+            self.stream_to(key, now, log);
+        }
+        Ok(outcome != Outcome::Streams && outcome != Outcome::Over)
     }
 
     // Advances the request to another server. Returns whether it used all of its share of the turn.
@@ -279,137 +260,89 @@ impl Server {
         }
     }
 
-    // Keeps a client that has the head of its streamed reply, to send the body.
-    fn stream_to<L: Log>(&mut self, peer: Peer, log: &mut L) {
-        log.on_close(peer.addr, &peer.connection);
-        let mut stream = peer.stream;
+    // Keeps the socket of a client that has the head of its streamed reply, to send the body.
+    fn stream_to<L: Log>(&mut self, key: usize, now: u64, log: &mut L) {
+        let Some(socket) = self.table.remove(key, CloseCause::Streamed, now, log) else {
+            return;
+        };
+        let mut stream = socket.stream;
         let both = Interest::READABLE | Interest::WRITABLE;
         let registry = self.poll.registry();
         let known = registry.reregister(&mut stream, STREAM, both);
         if known.is_err() && registry.register(&mut stream, STREAM, both).is_err() {
             return;
         }
-        let stream = StreamedReply::new(self.alloc, stream, self.settings.limits.step);
+        let stream = StreamedReply::new(self.alloc, stream, self.limits.step);
         let _ = self.streams.push(stream);
-    }
-
-    fn close<L: Log>(&mut self, key: usize, log: &mut L) {
-        if let Some(peer) = self.remove(key) {
-            log.on_close(peer.addr, &peer.connection);
-        }
     }
 
     // Accepts connections until none waits or the system refuses one. If it has no descriptor left, a connection is
     // closed for the next one. A flood gets a bounded share of a turn. Returns whether it used all of it.
     fn accept_waiting<S: Respond, L: Log>(
         &mut self,
-        now: Instant,
+        rt: &impl Clock,
         responder: &S,
         log: &mut L,
-    ) -> bool {
+    ) -> io::Result<bool> {
         for _ in 0..ACCEPTS {
             if !self.may_accept {
-                return false;
+                return Ok(false);
             }
             match self.listener.accept() {
-                Ok((stream, addr)) => self.admit(stream, addr, now, responder, log),
+                Ok((stream, addr)) => self.admit(rt, stream, addr, responder, log)?,
                 Err(fault) => match fault.kind() {
                     ErrorKind::WouldBlock => self.may_accept = false,
                     ErrorKind::Interrupted => {}
                     ErrorKind::ConnectionAborted => {}
                     _ => {
-                        self.close_one(log);
-                        return false;
+                        let now = self.micros(Instant::now(rt)?);
+                        self.table.make_room(now, log);
+                        return Ok(false);
                     }
                 },
             }
         }
-        true
+        Ok(true)
     }
 
-    // Begins a new connection, and serves it at once: its client may have sent a request already.
+    // Begins a new connection, and serves it at once: its client may have sent a request already. If it remains open, its
+    // socket is registered with the poll.
     fn admit<S: Respond, L: Log>(
         &mut self,
+        rt: &impl Clock,
         stream: TcpStream,
         addr: SocketAddr,
-        now: Instant,
         responder: &S,
         log: &mut L,
-    ) {
-        if self.peers.len() >= self.settings.clients {
-            self.close_one(log);
+    ) -> io::Result<()> {
+        let now = self.micros(Instant::now(rt)?);
+        if self.table.is_full() {
+            self.table.make_room(now, log);
         }
-        let connection = Connection::new(self.alloc, self.settings.limits);
-        let mut peer = Peer::new(stream, addr, connection, now);
-        let responder = RoomResponder {
-            responder,
-            has_room: self.unsent < UNSENT_LIMIT,
-        };
-        match peer.take_turn(self.alloc, &responder, &mut self.buffer, now, log) {
-            Outcome::Waits => {
-                self.register(peer, log);
-            }
-            Outcome::Ready => {
-                if let Some(key) = self.register(peer, log) {
-                    self.mark_ready(key, log);
-                }
-            }
-            Outcome::Streams => self.stream_to(peer, log),
-            Outcome::Over => log.on_close(peer.addr, &peer.connection),
+        if self.table.is_full() {
+            return Ok(());
         }
+        let socket = Socket { stream };
+        let key = self
+            .table
+            .insert(self.alloc, socket, addr, self.limits, now, log);
+        let is_open = self.serve(rt, key, responder, log)?;
+        if is_open && !self.table.register(key, self.poll.registry()) {
+            let _ = self.table.remove(key, CloseCause::PeerClosed, now, log);
+        }
+        Ok(())
     }
 
-    // Registers a connection with the poll. Returns its key.
-    fn register<L: Log>(&mut self, mut peer: Peer, log: &mut L) -> Option<usize> {
-        let key = self.peers.vacant_key();
-        let both = Interest::READABLE | Interest::WRITABLE;
-        let registry = self.poll.registry();
-        if registry
-            .register(&mut peer.stream, Token(key), both)
-            .is_err()
-        {
-            log.on_close(peer.addr, &peer.connection);
-            return None;
+    // Advances the clocks, at most once in 250 ms.
+    fn advance_clock<L: Log>(&mut self, now: Instant, log: &mut L) {
+        let millis = now
+            .saturating_duration_since(self.last_tick)
+            .as_millis()
+            .min(u64::MAX as u128) as u64;
+        if millis < TICK {
+            return;
         }
-        let unsent = peer.connection.pending_reply().len();
-        match self.peers.insert(peer) {
-            Ok(key) => {
-                self.unsent = self.unsent.saturating_add(unsent);
-                Some(key)
-            }
-            Err(failed) => {
-                log.on_close(failed.value.addr, &failed.value.connection);
-                None
-            }
-        }
-    }
-
-    // Closes a connection to make room for another: the one that is idle longest, otherwise the slowest reader,
-    // otherwise the quietest.
-    fn close_one<L: Log>(&mut self, log: &mut L) {
-        if let Some(key) = self.first_to_close() {
-            self.close(key, log);
-        }
-    }
-
-    fn first_to_close(&self) -> Option<usize> {
-        let mut chosen: Option<(usize, &Peer)> = None;
-        for (key, peer) in self.peers.iter() {
-            let is_first = match chosen {
-                Some((_, first)) => peer.connection.is_closed_before(&first.connection),
-                None => true,
-            };
-            if is_first {
-                chosen = Some((key, peer));
-            }
-        }
-        match chosen {
-            Some((key, _)) => Some(key),
-            None => None,
-        }
-    }
-
-    fn advance_clock<L: Log>(&mut self, now: Instant, millis: u64, log: &mut L) {
+        self.last_tick = now;
         if let Some(outgoing) = &mut self.outgoing {
             outgoing.advance_clock(millis);
         }
@@ -417,16 +350,8 @@ impl Server {
             stream.advance_clock(millis);
         }
         self.advance_streams();
-        let unsent = &mut self.unsent;
-        self.peers.retain(|_, peer| {
-            let before = peer.connection.pending_reply().len();
-            let is_over = peer.advance_clock(now);
-            if is_over {
-                *unsent = unsent.saturating_sub(before);
-                log.on_close(peer.addr, &peer.connection);
-            }
-            !is_over
-        });
+        let now = self.micros(now);
+        self.table.advance_clock(now, log);
     }
 }
 
