@@ -1,3 +1,4 @@
+pub mod AnswersWritten
 pub mod Connections
 pub mod Locations
 pub mod Requests
@@ -5,3 +6,4 @@ pub mod Resources
 pub mod SameBytes
 pub mod StatusTexts
 pub mod Written
+pub mod WholeTexts

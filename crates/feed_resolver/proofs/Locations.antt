@@ -24,6 +24,7 @@ use Rattle.feed_resolver_reply.specs.Messages.{IsLocation}
 use Rattle.feed_resolver_reply.specs.declared.status.Status.TheVariants as status
 use Rattle.feed_resolver_hits.specs.Links.{is_link, link_limit, is_visible, begins_with}
 use Rattle.feed_resolver_hits.specs.Hits.{best_link}
+use Rattle.feed_resolver_hits.specs.Tallies.{counted}
 use Rattle.feed_resolver_hits.proofs.Redirects.{best_is}
 use Rattle.feed_resolver.specs.Answers.{is_of, hits_among}
 use Rattle.feed_resolver.specs.Replies.{query_reply, hits_reply, resolve_reply, resolve_reply_at, package_reply, redirect_reply, resource_reply, target_reply, has_coded_body, reply_to}
@@ -67,7 +68,7 @@ redirect_located (Some url) other links located = link_location url (links url r
 
 go_located : (representation : Representation) (actives : List ActiveValue) (query : QueryValue) → IsLocated (redirect_reply representation actives query)
 go_located representation actives query =
-    redirect_located (best_link (hits_among query actives)) (hits_reply status.NotFound representation actives query) (best_is (hits_among query actives)) nowhere
+    redirect_located (best_link (counted (hits_among query actives))) (hits_reply status.NotFound representation actives query) (best_is (counted (hits_among query actives))) nowhere
 
 resource_located : (r : Resource) (head : RequestHead) (target : List ℕ) (actives : List ActiveValue) → IsLocated (resource_reply r head target actives)
 resource_located resource.Home head target actives = nowhere

@@ -27,6 +27,7 @@ use Rattle.feed_resolver_reply.proofs.HeadsRead.{head_of, sent_as}
 use Rattle.feed_resolver_hits.specs.Hits.{ReleaseHitValue, best_link}
 use Rattle.feed_resolver_hits.specs.Ranks.{IsBestLink}
 use Rattle.feed_resolver_hits.specs.Links.{is_link}
+use Rattle.feed_resolver_hits.specs.Tallies.{counted}
 use Rattle.feed_resolver_hits.proofs.BestLinks as links
 use Rattle.feed_resolver.specs.Answers.{hits_among}
 use Rattle.feed_resolver.specs.Replies.{resource_reply, redirect_reply, hits_reply, query_reply, target_reply, has_coded_body, reply_to, response_to, IsResponse}
@@ -131,7 +132,7 @@ goes keeps alone hits (Some url) other best is = (refl, redirected keeps alone u
 
 pub goes_to_best : GoesToBest
 goes_to_best keeps actives bytes head query response begins asks is =
-    let hits = hits_among query actives in
+    let hits = counted (hits_among query actives) in
     let other : ReplyValue = hits_reply status.NotFound (accepted_representation head) actives query in
     let best : IsBestLink hits (best_link hits) = links.best_is hits in
     let same : response ≡ response_of keeps (is_head head) (option_map_or redirect_to (best_link hits) other) =

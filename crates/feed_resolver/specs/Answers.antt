@@ -1,16 +1,17 @@
 -- The hits of a query in active releases, and the body that lists them.
-use Rattle.std.specs.Prelude.{ℕ, Bool, List, map}
+use Rattle.std.specs.Prelude.{ℕ, Bool, List, [], ◌∷◌, ◌++◌, map}
 use Rattle.std.specs.List.{flat_map}
 use Rattle.std.specs.Str.{bytes_eq}
-use Rattle.feed_names.specs.ReleaseName.{text_of}
 use Rattle.feed_answer.specs.QueryValue.{QueryValue}
-use Rattle.feed_answer.specs.Answers.{answer_of, answer_text}
+use Rattle.feed_answer.specs.Answers.{answer_of}
 use Rattle.feed_releases.specs.Actives.{ActiveValue}
 use Rattle.feed_resolver_request.specs.declared.representation.Representation.{Representation}
 use Rattle.feed_resolver_request.specs.declared.representation.Representation.TheVariants.{Text, Json, Html}
 use Rattle.feed_resolver_hits.specs.Hits.{ReleaseHitValue, release_hit}
 use Rattle.feed_resolver_hits.specs.HitsJson.{hits_json}
 use Rattle.feed_resolver_hits.specs.HitsPage.{hits_page}
+use Rattle.feed_resolver_hits.specs.HitsText.{release_text}
+use Rattle.feed_resolver_hits.specs.Tallies.{TallyValue, tally_of}
 
 -- the hits of a query in a release
 abbrev pub release_hits : QueryValue → ActiveValue → List ReleaseHitValue
@@ -24,16 +25,19 @@ hits_among query actives = flat_map (release_hits query) actives
 abbrev pub is_of : List ℕ → ActiveValue → Bool
 is_of stem active = bytes_eq active.name.stem stem
 
--- the answer of a release, as `Answer::write` prints it
-unfoldable pub release_text : QueryValue → ActiveValue → List ℕ
-release_text query active = answer_text (text_of active.name) (answer_of active.holdings query)
+-- the tally of the hits in all the releases
+abbrev pub tally_among : QueryValue → List ActiveValue → TallyValue
+tally_among query actives = tally_of (hits_among query actives)
 
--- the answers of all releases
-abbrev pub answers_text : QueryValue → List ActiveValue → List ℕ
-answers_text query actives = flat_map (release_text query) actives
+-- the answers of releases as text, behind releases with these hits: the limits are on the hits of all
+abbrev pub texts_behind : QueryValue → List ReleaseHitValue → List ActiveValue → List ℕ
+texts_behind query earlier [] = []
+texts_behind query earlier (active ∷ actives) =
+    release_text (tally_of earlier) (tally_of (earlier ++ release_hits query active)) active.name
+    ++ texts_behind query (earlier ++ release_hits query active) actives
 
 -- the body of an answer from these releases
 unfoldable pub answers_body : Representation → QueryValue → List ActiveValue → List ℕ
-answers_body Text query actives = answers_text query actives
-answers_body Json query actives = hits_json (hits_among query actives)
-answers_body Html query actives = hits_page (hits_among query actives)
+answers_body Text query actives = texts_behind query [] actives
+answers_body Json query actives = hits_json (tally_among query actives)
+answers_body Html query actives = hits_page (tally_among query actives)

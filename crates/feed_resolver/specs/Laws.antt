@@ -1,12 +1,16 @@
 -- The laws of replies.
 use Rattle.std.specs.Prelude.{◌≡◌, ℕ, Bool, List, Some, map}
+use Rattle.std.specs.List.{flat_map}
 use Rattle.json.specs.Json.{document, array}
 use Rattle.json.specs.Value.{items_of}
-use Rattle.feed_names.specs.ReleaseName.{Name}
+use Rattle.feed_names.specs.ReleaseName.{Name, text_of}
+use Rattle.feed_answer.specs.Answers.{answer_of, answer_text}
+use Rattle.feed_answer.specs.QueryValue.{QueryValue}
 use Rattle.feed_model.specs.History.{History, IsFile}
 use Rattle.feed_releases.specs.Actives.{ActiveValue, ReportAlike}
-use Rattle.feed_resolver_request.specs.declared.representation.Representation.TheVariants.{Json}
+use Rattle.feed_resolver_request.specs.declared.representation.Representation.TheVariants.{Text, Json}
 use Rattle.feed_resolver_reply.specs.Replies.{ResponseValue}
+use Rattle.feed_resolver.specs.Answers.{hits_among, tally_among, answers_body}
 use Rattle.feed_resolver.specs.Status.{status_body, active_value}
 use Rattle.feed_resolver.specs.Replies.{IsResponseAt}
 use Rattle.feed_resolver.specs.NodeReplies.{IsNodeReplyAt, AsksForNoFetch}
@@ -35,3 +39,13 @@ SameReleasesSameNodeBytes =
 -- the active releases in JSON are, by its grammar (RFC 8259), an array with one object for each, in their order
 abbrev pub StatusIsJson : Type 0
 StatusIsJson = (actives : List ActiveValue) → document (status_body Json actives) ≡ Some (array (items_of (map active_value actives)))
+
+-- the answer of a release, as `Answer::write` prints it
+abbrev pub written_answer : QueryValue → ActiveValue → List ℕ
+written_answer query active = answer_text (text_of active.name) (answer_of active.holdings query)
+
+-- a reply that shows all hits has, as text, the answers that `Answer::write` prints
+abbrev pub WholeTextIsWritten : Type 0
+WholeTextIsWritten =
+    (query : QueryValue) (actives : List ActiveValue) → (tally_among query actives).shown ≡ hits_among query actives
+    → answers_body Text query actives ≡ flat_map (written_answer query) actives

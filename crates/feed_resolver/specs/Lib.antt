@@ -1,4 +1,5 @@
 pub mod Answers
+pub mod AnswerTexts
 pub mod Status
 pub mod Replies
 pub mod Messages

@@ -13,6 +13,7 @@ use Rattle.feed_resolver_request.specs.declared.target.Resource.TheVariants.{Go}
 use Rattle.feed_resolver_reply.specs.Replies.{ResponseValue}
 use Rattle.feed_resolver_reply.specs.Messages.{IsMessage, IsMessageFor, BeginsStream}
 use Rattle.feed_resolver_hits.specs.Ranks.{IsBestLink}
+use Rattle.feed_resolver_hits.specs.Tallies.{counted}
 use Rattle.feed_resolver.specs.Answers.{hits_among}
 use Rattle.feed_resolver.specs.Replies.{IsResponse, has_coded_body}
 
@@ -61,9 +62,9 @@ GoesTo None response = response.status ≡ 404
 GoesTo (Some url) response =
     (response.status ≡ 302) × ((head : ResponseHead) × IsMessage response head [] × (values_named (codes "location") head.fields ≡ url ∷ []))
 
--- `/go` redirects to a hit above which no hit ranks that may be linked to
+-- `/go` redirects to a hit above which no hit ranks, of those that are counted, that may be linked to
 abbrev pub GoesToBest : Type 0
 GoesToBest =
     (keeps : Bool) (actives : List ActiveValue) (bytes : List ℕ) (head : RequestHead) (query : QueryValue) (response : ResponseValue)
     → BeginsWith bytes head → AsksToGo head query → IsResponse bytes keeps actives response
-    → (best : Option (List ℕ)) × IsBestLink (hits_among query actives) best × GoesTo best response
+    → (best : Option (List ℕ)) × IsBestLink (counted (hits_among query actives)) best × GoesTo best response

@@ -20,9 +20,8 @@ use Rattle.feed_resolver_request.specs.declared.target.Resource.TheVariants as r
 use Rattle.feed_resolver_reply.specs.Replies.{ReplyValue, ResponseValue, reply_with, redirect_to, refusal, response_of, bad_head_response}
 use Rattle.feed_resolver_reply.specs.declared.status.Status.{Status}
 use Rattle.feed_resolver_reply.specs.declared.status.Status.TheVariants as status
-use Rattle.feed_resolver_hits.specs.Hits.{best_link}
 use Rattle.feed_resolver_hits.specs.QueryRefusals.{query_refusal}
-use Rattle.feed_resolver.specs.Answers.{is_of, hits_among, answers_body}
+use Rattle.feed_resolver.specs.Answers.{is_of, tally_among, answers_body}
 use Rattle.feed_resolver.specs.Status.{status_body, home_page}
 
 -- the reply to a query, or the error if it is rejected
@@ -47,10 +46,10 @@ abbrev pub package_reply : Representation → List ℕ → List ℕ → List Act
 package_reply representation stem text actives = option_map_or (resolve_reply_at representation text actives)
     (position (is_of stem) actives) (refusal status.NotFound representation (codes "NoRelease"))
 
--- a redirect to the best hit, or the answer if no hit has a link
+-- a redirect to the best hit of those that are counted, or the answer if none has a link
 abbrev pub redirect_reply : Representation → List ActiveValue → QueryValue → ReplyValue
 redirect_reply representation actives query = option_map_or redirect_to
-    (best_link (hits_among query actives)) (hits_reply status.NotFound representation actives query)
+    (tally_among query actives).best (hits_reply status.NotFound representation actives query)
 
 -- the reply by the kind of path
 abbrev pub resource_reply : Resource → RequestHead → List ℕ → List ActiveValue → ReplyValue

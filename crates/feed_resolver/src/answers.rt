@@ -1,72 +1,97 @@
-//! Finds the hits of a query in the active releases, and writes the body that lists them.
+//! Counts the hits of a query in the active releases, and writes the body that lists them.
 ghost use Rattle.std.specs.Prelude.{◌≡◌, ◌++◌, IfOk, OnOk};
-ghost use Rattle.feed_resolver.specs.Answers.{release_hits, hits_among, release_text, answers_text, answers_body};
+ghost use Rattle.feed_resolver_hits.specs.Tallying.{no_hits, with_hits};
+ghost use Rattle.feed_resolver.specs.Answers.{release_hits, hits_among, answers_body};
+ghost use Rattle.feed_resolver.specs.AnswerTexts.{texts_from};
 
-use feed_answer::{Query, answer};
+use feed_answer::Query;
 use feed_releases::ActiveRelease;
-use feed_resolver_hits::{ReleaseHit, add_hits, put_hits_json, put_hits_page};
+use feed_resolver_hits::{Tally, put_hits_json, put_hits_page, put_release};
 use feed_resolver_request::Representation;
 use std::alloc::{AllocError, Global};
 
 fn add_release<'a>(
     alloc: Global,
-    found: &mut Vec<ReleaseHit<'a>>,
+    tally: &mut Tally<'a>,
     active: &ActiveRelease<'a>,
     query: &Query,
 ) -> Result<(), AllocError>
-    ensures { OnOk result (found.new.items ≡ found.old.items ++ release_hits query.now active.now) }
+    ensures { OnOk result (tally.new ≡ with_hits tally.old (release_hits query.now active.now)) }
 {
-    let answer = answer(alloc, active.holdings(), query)?;
-    add_hits(found, active.name(), answer.hits())
+    tally.add_release(alloc, active.name(), active.holdings(), query)
 }
 
-/// Returns the hits of a query in the releases, in their order.
-pub(crate) fn hits_among<'a>(
+/// Returns the tally of the hits of a query in the releases, in their order.
+pub(crate) fn tally_among<'a>(
     alloc: Global,
     actives: &[ActiveRelease<'a>],
     query: &Query,
-) -> Result<Vec<ReleaseHit<'a>>, AllocError>
-    ensures { IfOk result (λ found. found.items ≡ hits_among query.now actives.now) }
+) -> Result<Tally<'a>, AllocError>
+    ensures { IfOk result (λ tally. tally ≡ with_hits no_hits (hits_among query.now actives.now)) }
 {
-    let mut found = Vec::new(alloc);
+    let mut tally = Tally::new(alloc);
     for active in actives {
-        add_release(alloc, &mut found, active, query)?;
+        add_release(alloc, &mut tally, active, query)?;
     }
-    Ok(found)
+    Ok(tally)
 }
 
-#[tactic(auto, unfolding(crate::specs::Answers::release_text))]
-fn put_release(
-    alloc: Global,
-    out: &mut Vec<u8>,
-    active: &ActiveRelease<'_>,
-    query: &Query,
-) -> Result<(), AllocError>
-    ensures { OnOk result (out.new.items ≡ out.old.items ++ release_text query.now active.now) }
-{
-    let answer = answer(alloc, active.holdings(), query)?;
-    match answer.write(out, active.name()) {
-        Ok(()) => Ok(()),
-        Err(_) => Err(AllocError),
-    }
-}
-
-fn put_answers(
+fn put_texts(
     alloc: Global,
     out: &mut Vec<u8>,
     actives: &[ActiveRelease<'_>],
     query: &Query,
 ) -> Result<(), AllocError>
-    ensures { OnOk result (out.new.items ≡ out.old.items ++ answers_text query.now actives.now) }
+    ensures { OnOk result (out.new.items ≡ out.old.items ++ texts_from query.now no_hits actives.now) }
 {
+    let mut tally = Tally::new(alloc);
     for active in actives {
-        put_release(alloc, out, active, query)?;
+        put_release(
+            alloc,
+            out,
+            &mut tally,
+            active.name(),
+            active.holdings(),
+            query,
+        )?;
     }
     Ok(())
 }
 
+fn put_text(
+    alloc: Global,
+    out: &mut Vec<u8>,
+    actives: &[ActiveRelease<'_>],
+    query: &Query,
+) -> Result<(), AllocError>
+    ensures { OnOk result (out.new.items ≡ out.old.items ++ answers_body Representation.Text query.now actives.now) }
+{
+    put_texts(alloc, out, actives, query)
+}
+
+fn put_json(
+    alloc: Global,
+    out: &mut Vec<u8>,
+    actives: &[ActiveRelease<'_>],
+    query: &Query,
+) -> Result<(), AllocError>
+    ensures { OnOk result (out.new.items ≡ out.old.items ++ answers_body Representation.Json query.now actives.now) }
+{
+    put_hits_json(out, &tally_among(alloc, actives, query)?)
+}
+
+fn put_page(
+    alloc: Global,
+    out: &mut Vec<u8>,
+    actives: &[ActiveRelease<'_>],
+    query: &Query,
+) -> Result<(), AllocError>
+    ensures { OnOk result (out.new.items ≡ out.old.items ++ answers_body Representation.Html query.now actives.now) }
+{
+    put_hits_page(out, &tally_among(alloc, actives, query)?)
+}
+
 /// Writes the answer of the given releases to a query.
-#[tactic(auto, unfolding(crate::specs::Answers::answers_body))]
 pub(crate) fn put_answer(
     alloc: Global,
     out: &mut Vec<u8>,
@@ -77,8 +102,8 @@ pub(crate) fn put_answer(
     ensures { OnOk result (out.new.items ≡ out.old.items ++ answers_body representation query.now actives.now) }
 {
     match representation {
-        Representation::Text => put_answers(alloc, out, actives, query),
-        Representation::Json => put_hits_json(out, &hits_among(alloc, actives, query)?),
-        Representation::Html => put_hits_page(out, &hits_among(alloc, actives, query)?),
+        Representation::Text => put_text(alloc, out, actives, query),
+        Representation::Json => put_json(alloc, out, actives, query),
+        Representation::Html => put_page(alloc, out, actives, query),
     }
 }

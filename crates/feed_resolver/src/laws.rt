@@ -1,5 +1,6 @@
 //! Laws of all replies, each stated as the contract of a function with an empty body.
 ghost use Rattle.feed_resolver.specs.Laws.{SameReleasesSameBytes, SameReleasesSameNodeBytes, StatusIsJson};
+ghost use Rattle.feed_resolver.specs.Laws.{WholeTextIsWritten};
 ghost use Rattle.feed_resolver.specs.Messages.{GoesToBest, HeadIsHeadOfGet};
 
 /// Two nodes that report the same releases, and have stored their published files, give each request the same bytes.
@@ -17,7 +18,7 @@ pub fn head_is_head_of_get()
     ensures { HeadIsHeadOfGet }
 {}
 
-/// `/go` redirects to a hit above which no hit ranks that may be linked to.
+/// `/go` redirects to a hit above which no hit ranks, of the first 1,000,000, that may be linked to.
 pub fn goes_to_best()
     ensures { GoesToBest }
 {}
@@ -25,4 +26,9 @@ pub fn goes_to_best()
 /// The active releases in JSON are, by its grammar (RFC 8259), an array with one object for each, in their order.
 pub fn status_is_json()
     ensures { StatusIsJson }
+{}
+
+/// A reply that shows all hits has, as text, the answers that `Answer::write` prints.
+pub fn whole_text_is_written()
+    ensures { WholeTextIsWritten }
 {}

@@ -1,5 +1,5 @@
 //! Computes the reply to the head of a request.
-ghost use Rattle.std.specs.Prelude.{◌≡◌, IfOk, position};
+ghost use Rattle.std.specs.Prelude.{◌≡◌, IfOk, option_copied, position};
 ghost use Rattle.httparse.specs.Grammar.{RequestHead};
 ghost use Rattle.feed_http_heads.specs.Options.{SaysWhetherItKeeps};
 ghost use Rattle.feed_http_heads.specs.Requests.{IsInBuffer, HasHead, is_head};
@@ -12,20 +12,20 @@ ghost use Rattle.feed_resolver_request.specs.Targets.{resource_of, path_in};
 ghost use Rattle.feed_resolver_reply.specs.Replies.{reply_with};
 ghost use Rattle.feed_resolver_reply.specs.Messages.{IsMessageFor};
 ghost use Rattle.feed_resolver_reply.specs.declared.status.Status.TheVariants as status;
-ghost use Rattle.feed_resolver.specs.Answers.{is_of};
+ghost use Rattle.feed_resolver.specs.Answers.{is_of, tally_among};
 ghost use Rattle.feed_resolver.specs.Replies.{IsResponse, IsResponseAt, hits_reply, query_reply, resolve_reply};
 ghost use Rattle.feed_resolver.specs.Replies.{package_reply, redirect_reply, resource_reply, target_reply};
 ghost use Rattle.feed_resolver.specs.Replies.{reply_to, response_to};
 ghost use Rattle.feed_resolver.specs.Messages.{IsMessageTo};
 ghost use Rattle.feed_resolver.specs.Status.{home_page, status_body};
 
-use crate::answers::{hits_among, put_answer};
+use crate::answers::{put_answer, tally_among};
 use crate::status::{put_home_page, put_status};
 use feed_answer::{Query, QueryFault};
 use feed_http_heads::{FIELD_LIMIT, Request, origin_form};
 use feed_keep::Keep;
 use feed_releases::{ActiveRelease, Feed};
-use feed_resolver_hits::{best_link, query_refusal};
+use feed_resolver_hits::query_refusal;
 use feed_resolver_reply::{Reply, Response, Status, bad_head_response, refusal};
 use feed_resolver_request::{
     Representation, Resource, accepted_representation, find_request, is_unsupported_method,
@@ -86,6 +86,17 @@ fn package_reply(
     }
 }
 
+fn best_link<'a>(
+    alloc: Global,
+    actives: &[ActiveRelease<'a>],
+    query: &Query,
+) -> Result<Option<&'a [u8]>, AllocError>
+    ensures { IfOk result (λ best. option_copied best ≡ (tally_among query.now actives.now).best) }
+{
+    let tally = tally_among(alloc, actives, query)?;
+    Ok(tally.best_link())
+}
+
 fn redirect_reply<'a>(
     alloc: Global,
     representation: Representation,
@@ -94,8 +105,7 @@ fn redirect_reply<'a>(
 ) -> Result<Reply<'a>, AllocError>
     ensures { IfOk result (λ reply. reply ≡ redirect_reply representation actives.now query.now) }
 {
-    let hits = hits_among(alloc, actives, query)?;
-    match best_link(&hits) {
+    match best_link(alloc, actives, query)? {
         Some(url) => Ok(Reply::redirect(alloc, url)),
         None => hits_reply(alloc, Status::NotFound, representation, actives, query),
     }

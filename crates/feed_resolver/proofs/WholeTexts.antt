@@ -1,0 +1,138 @@
+-- A reply that shows all hits has the answers of the releases as they are.
+use Rattle.std.proofs.Common.{◌≡◌, ◌≤◌, ◌<◌, ◌-◌, ◌+◌, ℕ, zero, suc, List, [], ◌∷◌, ◌++◌, Bool, true, false, inl, inr, refl, sym, ap, ◌∙◌, arith, length, take, drop, map, append_assoc}
+use Rattle.std.specs.Prelude.{if◌then◌else◌, nat_lt, nat_le, ◌&&◌}
+use Rattle.std.specs.List.{flat_map}
+use Rattle.std.proofs.lemmas.List.{append-nil, length-take}
+use Rattle.std.proofs.lemmas.Bool.Decides.{leb_tells}
+use Rattle.feed_names.specs.ReleaseName.{Name, text_of}
+use Rattle.feed_answer.specs.HitValue.{HitValue}
+use Rattle.feed_answer.specs.Answers.{answer_of, answer_text, hit_line}
+use Rattle.feed_answer.specs.QueryValue.{QueryValue}
+use Rattle.feed_releases.specs.Actives.{ActiveValue}
+use Rattle.feed_resolver_request.specs.declared.representation.Representation.TheVariants.{Text}
+use Rattle.feed_resolver_hits.specs.Hits.{ReleaseHitValue, release_hit}
+use Rattle.feed_resolver_hits.specs.HitsText.{release_hit_line, release_head_line, release_text}
+use Rattle.feed_resolver_hits.specs.Tallies.{text_size, first_within, count_limit, shown_limit, text_limit, counted, tally_of}
+use Rattle.feed_resolver.specs.Answers.{release_hits, hits_among, texts_behind, answers_body}
+use Rattle.feed_resolver.specs.Laws.{written_answer, WholeTextIsWritten}
+
+-- all of these are shown
+abbrev AllShown : ℕ → ℕ → List ReleaseHitValue → Type 0
+AllShown places bytes hits = first_within places bytes hits ≡ hits
+
+tails_same : {A : Type 0} → (x y : A) (xs ys : List A) → x ∷ xs ≡ y ∷ ys → xs ≡ ys
+tails_same {A} x y xs ys e = ap (drop 1) e
+
+shown_cases : {A : Type 0} → (b : Bool) (x : A) (xs ys : List A) → (if b then x ∷ xs else []) ≡ x ∷ ys → (b ≡ true) × (xs ≡ ys)
+shown_cases {A} true x xs ys e = (refl, tails_same x x xs ys e)
+shown_cases {A} false x xs ys e = absurd (cc)
+
+-- of hits that are all shown the first ones are
+prefix_shown : (places bytes : ℕ) (hits more : List ReleaseHitValue) → AllShown places bytes (hits ++ more) → AllShown places bytes hits
+prefix_shown places bytes [] more all = refl
+prefix_shown places bytes (found ∷ hits) more all =
+    let parts = shown_cases (nat_lt 0 places && nat_lt 0 (bytes - text_size found)) found
+    (first_within (places - 1) (bytes - text_size found) (hits ++ more)) (hits ++ more) all in
+    rw (parts.0) (ap (λ l. found ∷ l) (prefix_shown (places - 1) (bytes - text_size found) hits more parts.1))
+
+fewer_shown : (places bytes : ℕ) (hits : List ReleaseHitValue) → length (first_within places bytes hits) ≤ length hits
+fewer_shown places bytes [] = omega arith
+fewer_shown places bytes (found ∷ more) = cases (nat_lt 0 places && nat_lt 0 (bytes - text_size found)) (fewer_shown (places - 1) (bytes - text_size found) more)
+  where
+    cases : (b : Bool) → length (first_within (places - 1) (bytes - text_size found) more) ≤ length more
+        → length (if b then found ∷ first_within (places - 1) (bytes - text_size found) more else []) ≤ length (found ∷ more)
+    cases true less = omega (arith, less)
+    cases false less = omega arith
+
+take_all : {A : Type 0} → (n : ℕ) (xs : List A) → length xs ≤ n → take n xs ≡ xs
+take_all {A} zero [] few = refl
+take_all {A} (suc n) [] few = refl
+take_all {A} zero (x ∷ xs) few = absurd (omega (arith, few))
+take_all {A} (suc n) (x ∷ xs) few = ap (λ l. x ∷ l) (take_all n xs (omega (arith, few)))
+
+-- so few that all are counted
+all_counted : (limit places bytes : ℕ) (hits : List ReleaseHitValue) → first_within places bytes (take limit hits) ≡ hits → length hits ≤ limit
+all_counted limit places bytes hits all =
+    let few : length (first_within places bytes (take limit hits)) ≤ length (take limit hits) = fewer_shown places bytes (take limit hits) in
+    let same : length (first_within places bytes (take limit hits)) ≡ length hits = ap length all in
+    let taken = length-take limit hits in
+    omega (arith, few, same, taken)
+
+-- all hits of a list are counted and shown
+record IsWhole (hits : List ReleaseHitValue) : Type 0 where
+  counts : counted hits ≡ hits
+  shows : first_within shown_limit text_limit (counted hits) ≡ hits
+  test : nat_le (length hits) count_limit ≡ true
+
+whole_of : (hits : List ReleaseHitValue) → length hits ≤ count_limit → AllShown shown_limit text_limit hits → IsWhole hits
+whole_of hits few all =
+    let same : counted hits ≡ hits = take_all count_limit hits few in
+    record {
+      counts = same;
+      shows = ap (first_within shown_limit text_limit) same ∙ all;
+      test = elim (leb_tells (length hits) count_limit) [ inl (e, le) ↦ e | inr (e, less) ↦ absurd (omega (arith, few, less)) ];
+    }
+
+-- the lines of a release
+lines_are : (name : Name) (hits : List HitValue) → flat_map release_hit_line (map (release_hit name) hits) ≡ flat_map hit_line hits
+lines_are name [] = refl
+lines_are name (hit ∷ hits) = ap (λ t. hit_line hit ++ t) (lines_are name hits)
+
+length_map : (name : Name) (hits : List HitValue) → length (map (release_hit name) hits) ≡ length hits
+length_map name [] = refl
+length_map name (hit ∷ hits) = ap suc (length_map name hits)
+
+drop_front : {A : Type 0} → (xs ys : List A) → drop (length xs) (xs ++ ys) ≡ ys
+drop_front {A} [] ys = refl
+drop_front {A} (x ∷ xs) ys = drop_front xs ys
+
+length_append : {A : Type 0} → (xs ys : List A) → length (xs ++ ys) - length xs ≡ length ys
+length_append {A} [] ys = omega arith
+length_append {A} (x ∷ xs) ys = let less = length_append xs ys in omega (arith, less)
+
+release_is : (earlier : List ReleaseHitValue) (name : Name) (hits : List HitValue) → IsWhole earlier → IsWhole (earlier ++ map (release_hit name) hits)
+    → release_text (tally_of earlier) (tally_of (earlier ++ map (release_hit name) hits)) name ≡ answer_text (text_of name) hits
+unfolding release_text answer_text
+release_is earlier name hits before after =
+    let own = map (release_hit name) hits in
+    let head = text_of name in
+    let lines = flat_map release_hit_line (drop (length (tally_of earlier).shown) (tally_of (earlier ++ own)).shown) in
+    ap (λ b. release_head_line head (length (counted (earlier ++ own)) - length (counted earlier)) b ++ lines) after.test
+    ∙ ap (λ l. release_head_line head (length l - length (counted earlier)) true ++ lines) after.counts
+    ∙ ap (λ l. release_head_line head (length (earlier ++ own) - length l) true ++ lines) before.counts
+    ∙ ap (λ n. release_head_line head n true ++ lines) (length_append earlier own ∙ length_map name hits)
+    ∙ ap (λ l. release_head_line head (length hits) true ++ flat_map release_hit_line (drop (length l) (tally_of (earlier ++ own)).shown)) before.shows
+    ∙ ap (λ l. release_head_line head (length hits) true ++ flat_map release_hit_line (drop (length earlier) l)) after.shows
+    ∙ ap (λ l. release_head_line head (length hits) true ++ flat_map release_hit_line l) (drop_front earlier own)
+    ∙ ap (λ t. release_head_line head (length hits) true ++ t) (lines_are name hits)
+
+fewer : {A : Type 0} → (xs ys : List A) → length xs ≤ length (xs ++ ys)
+fewer {A} [] ys = omega arith
+fewer {A} (x ∷ xs) ys = let less : length xs ≤ length (xs ++ ys) = fewer xs ys in omega (arith, less)
+
+-- the first hits of some that are all counted and shown
+front_whole : (hits more : List ReleaseHitValue) → length (hits ++ more) ≤ count_limit → AllShown shown_limit text_limit (hits ++ more) → IsWhole hits
+front_whole hits more few all =
+    let less : length hits ≤ length (hits ++ more) = fewer hits more in
+    whole_of hits (omega (arith, few, less)) (prefix_shown shown_limit text_limit hits more all)
+
+texts_whole : (query : QueryValue) (earlier : List ReleaseHitValue) (actives : List ActiveValue) → length (earlier ++ hits_among query actives) ≤ count_limit
+    → AllShown shown_limit text_limit (earlier ++ hits_among query actives) → texts_behind query earlier actives ≡ flat_map (written_answer query) actives
+texts_whole query earlier [] few all = refl
+texts_whole query earlier (active ∷ actives) few all =
+    let own = release_hits query active in
+    let rest = hits_among query actives in
+    let joint : earlier ++ (own ++ rest) ≡ (earlier ++ own) ++ rest = sym (append_assoc earlier own rest) in
+    let count : length ((earlier ++ own) ++ rest) ≤ count_limit = rw (← joint) few in
+    let shown : AllShown shown_limit text_limit ((earlier ++ own) ++ rest) = rw (← joint) all in
+    ap (λ t. t ++ texts_behind query (earlier ++ own) actives)
+    (release_is earlier active.name (answer_of active.holdings query) (front_whole earlier (own ++ rest) few all) (front_whole (earlier ++ own) rest count shown))
+    ∙ ap (λ t. written_answer query active ++ t) (texts_whole query (earlier ++ own) actives count shown)
+
+pub whole_text : WholeTextIsWritten
+unfolding answers_body
+whole_text query actives all =
+    let hits = hits_among query actives in
+    let few : length hits ≤ count_limit = all_counted count_limit shown_limit text_limit hits all in
+    let same : counted hits ≡ hits = take_all count_limit hits few in
+    texts_whole query [] actives few (ap (first_within shown_limit text_limit) (sym same) ∙ all)

@@ -1,0 +1,14 @@
+-- How the answers of releases are written one after another.
+use Rattle.std.specs.Prelude.{ℕ, List, [], ◌∷◌, ◌++◌}
+use Rattle.feed_answer.specs.QueryValue.{QueryValue}
+use Rattle.feed_releases.specs.Actives.{ActiveValue}
+use Rattle.feed_resolver_hits.specs.HitsText.{release_text}
+use Rattle.feed_resolver_hits.specs.Tallying.{RunningValue, with_hits, tally_from}
+use Rattle.feed_resolver.specs.Answers.{release_hits}
+
+-- the answers of releases as text, behind those whose hits made this tally
+abbrev pub texts_from : QueryValue → RunningValue → List ActiveValue → List ℕ
+texts_from query running [] = []
+texts_from query running (active ∷ actives) =
+    release_text (tally_from running) (tally_from (with_hits running (release_hits query active))) active.name
+    ++ texts_from query (with_hits running (release_hits query active)) actives
