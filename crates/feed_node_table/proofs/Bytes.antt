@@ -52,11 +52,11 @@ closed_holds_none Aborted connection is = refl
 pub holds_no_more : (old new : Connection) (history after : List Event) → wants_in old.phase ≢ wants.Close → HasState old history → HasState new after
     → sent_bytes after ≡ sent_bytes history → reply_bytes after ≡ reply_bytes history → unsent_bytes new ≤ unsent_bytes old
 holds_no_more old new history after opened was is same_sent same_replies =
-    omega (arith, held_at_least old.phase old history opened was, held_at_most new.phase new after is, ap (λ bytes. length bytes) same_sent, ap (λ bytes. length bytes) same_replies)
+    omega (arith, held_at_least old.phase old history opened was.0, held_at_most new.phase new after is.0, ap (λ bytes. length bytes) same_sent, ap (λ bytes. length bytes) same_replies)
 
 -- a connection with no history holds none
 pub new_holds_none : (connection : Connection) → HasState connection [] → unsent_bytes connection ≡ 0
-new_holds_none connection state = omega (arith, held_at_most connection.phase connection [] state)
+new_holds_none connection state = omega (arith, held_at_most connection.phase connection [] state.0)
 
 -- a connection that waits for its next request is open
 pub next_is_open : (phase : Phase) → wants_in phase ≡ wants.Next → wants_in phase ≢ wants.Close
