@@ -9,7 +9,8 @@ use Rattle.httparse.proofs.GrammarLemmas.{ReadsRequest-append, request_unique}
 use Rattle.feed_http_heads.specs.Limits.{head_limit, field_limit}
 use Rattle.feed_http_heads.specs.RequestHeads.{BeginsWithHead}
 use Rattle.feed_http_heads.specs.Options.{lacks_close}
-use Rattle.feed_node_connection.specs.Requests.{Request, Persistent, Last, Invalid, AreRequestsIn, Begins, is_post, stated_len, states_len, persists, all_persist, heads_in, IsFrontOf, RequestsAreUnique}
+use Rattle.feed_node_connection.specs.Requests.{Request, Persistent, Last, Invalid, AreRequestsIn, Begins, is_post, stated_len, states_len, persists}
+use Rattle.feed_node_connection.specs.Requests.{all_persist, heads_in, IsFrontOf, RequestsAreUnique}
 use Rattle.feed_node_connection.specs.Events.{Event, Received, Replied, Sent, Continued, Resumed, Elapsed, received_bytes, reply_bytes, sent_bytes, requests_in, interim, continue_text}
 use Rattle.feed_node_connection.specs.Replies.{Replies, IsRepliedTo, AreRepliedTo, Exchange, requests_of, replies_of}
 use Rattle.feed_node_connection.specs.States.{AreInterims}

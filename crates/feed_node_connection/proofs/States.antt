@@ -18,10 +18,12 @@ use Rattle.feed_node_connection.specs.declared.head_state.AfterReply.{AfterReply
 use Rattle.feed_node_connection.specs.declared.head_state.FoundRequest.{FoundRequest}
 use Rattle.feed_node_connection.specs.declared.head_state.AfterReply.TheVariants.{Persist, Linger, Receive}
 use Rattle.feed_node_connection.specs.Requests.{Request, Persistent, Last, Invalid, AreRequestsIn, Begins, IsPersistent, persists, all_persist, states_len, body_len_of, expects_continue}
-use Rattle.feed_node_connection.specs.Events.{Event, Received, Replied, Continued, Resumed, Sent, interim, continue_text, received_bytes, reply_bytes, sent_bytes, requests_in, min_progress, is_idle, sent_len, sent_since, elapsed}
+use Rattle.feed_node_connection.specs.Events.{Event, Received, Replied, Continued, Resumed, Sent, interim, continue_text}
+use Rattle.feed_node_connection.specs.Events.{received_bytes, reply_bytes, sent_bytes, requests_in, min_progress, is_idle, sent_len, sent_since, elapsed}
 use Rattle.feed_node_connection.specs.Replies.{Replies, IsRepliedTo, IsFoundIn, IsInterim, IsPending, IsServed, HasNoReply, after_reply, unavailable}
 use Rattle.feed_node_connection.specs.States.{IsServedUpTo, AreFirst, HasEnded, AreSent, IsFrontSent, IsInTime, IsCurrent, IsAfterReply}
-use Rattle.feed_node_connection.specs.States.{HasStateIn, HasState, HasParsed, HasReplied, HasWaited, HasBegunWait, HasBegunInterim, IsSameButPhase, AreInterims, AreExpected, KnowsInterim, IsIncomplete, IsPartial, body_after, room_in, request_limit, rest_of, limit_in}
+use Rattle.feed_node_connection.specs.States.{HasStateIn, HasState, HasParsed, HasReplied, HasWaited, HasBegunWait, HasBegunInterim, IsSameButPhase}
+use Rattle.feed_node_connection.specs.States.{AreInterims, AreExpected, KnowsInterim, IsIncomplete, IsPartial, body_after, room_in, request_limit, rest_of, limit_in}
 use Rattle.feed_node_connection.specs.States.{HasBegunReply, HasResponded, HasRefused, phase_after, pending_in, wants_in, is_idle_in, is_lingering_in, is_reply_sent_in, IsRightAfter, StateIsRight}
 use Rattle.feed_node_connection.specs.Streams.{AreReplies, AllIsServed}
 use Rattle.feed_node_connection.proofs.Unavailable.{unavailable_says}

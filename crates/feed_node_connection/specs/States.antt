@@ -12,7 +12,8 @@ use Rattle.feed_node_connection.specs.declared.connection.Wants.{Wants}
 use Rattle.feed_node_connection.specs.declared.connection.Wants.TheVariants as wants
 use Rattle.feed_node_connection.specs.declared.head_state.AfterReply.{AfterReply}
 use Rattle.feed_node_connection.specs.declared.head_state.AfterReply.TheVariants.{Persist, Linger, Receive}
-use Rattle.feed_node_connection.specs.Events.{Event, Received, Sent, Replied, Continued, Resumed, Elapsed, interim, continue_text, received_bytes, reply_bytes, requests_in, sent_bytes, sent_len, sent_since, elapsed, is_idle}
+use Rattle.feed_node_connection.specs.Events.{Event, Received, Sent, Replied, Continued, Resumed, Elapsed, interim, continue_text}
+use Rattle.feed_node_connection.specs.Events.{received_bytes, reply_bytes, requests_in, sent_bytes, sent_len, sent_since, elapsed, is_idle}
 use Rattle.feed_node_connection.specs.Requests.{Request, AreRequestsIn, all_persist, states_len, body_limit, expects_continue}
 use Rattle.feed_node_connection.specs.Replies.{Replies, HasNoReply, IsRepliedTo, IsInterim, IsPending, after_reply, unavailable}
 

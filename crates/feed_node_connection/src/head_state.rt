@@ -16,8 +16,8 @@ use httparse::spans::EMPTY_HEADER_SPAN;
 pub enum AfterReply {
     /// The next request.
     Persist,
-    /// Further bytes from the peer are dropped until it closes its side: a connection that is closed before bytes of the
-    /// peer arrive may lose the reply (RFC 9112, section 9.6).
+    /// Further bytes from the peer are dropped until it closes its side: a connection that is closed before bytes of
+    /// the peer arrive may lose the reply (RFC 9112, section 9.6).
     Linger,
     /// The body of the same request: the reply was an interim one.
     Receive,

@@ -77,8 +77,8 @@ pub trait Respond {
     /// The length of the body that the responder wants after this head, or 0.
     ghost wanted: { Self → List ℕ → ℕ };
 
-    /// A head of a request, or bytes that are not one, and this body have this reply if the connection persists after it,
-    /// or does not. Without a reply the responder made none.
+    /// A head of a request, or bytes that are not one, and this body have this reply if the connection persists after
+    /// it, or does not. Without a reply the responder made none.
     ghost replies: { Self → List ℕ → List ℕ → Bool → Option (List ℕ) → Type 0 };
 
     /// Returns how many bytes of a body are received after this head of a request: at most 8,192, and 0 for none. They
@@ -87,9 +87,9 @@ pub trait Respond {
         ensures wanted { result ≡ wanted self.now head.now }
         ensures limit { result ≤ BODY_LIMIT };
 
-    /// Returns the reply to the head of a request and the body after it, or to bytes that are not the head of a request,
-    /// whatever follows. The body is whole, or empty if none was received. The reply says `Connection: close` exactly if
-    /// the connection does not persist (RFC 9112, section 9.6).
+    /// Returns the reply to the head of a request and the body after it, or to bytes that are not the head of a
+    /// request, whatever follows. The body is whole, or empty if none was received. The reply says `Connection: close`
+    /// exactly if the connection does not persist (RFC 9112, section 9.6).
     fn respond(
         &self,
         alloc: Global,

@@ -46,8 +46,8 @@ pub fn advance<S: Respond, R: Read, W: Write>(
     share: &mut Share,
 ) -> Progress
     ensures advanced { (history : List Event) → HasState connection.old history
-        → HasAdvanced (S.wanted responder.now, S.replies responder.now) share.old share.new connection.new history (R.remaining reader.old)
-        (R.remaining reader.new) (W.contents writer.old) (W.contents writer.new) }
+        → HasAdvanced (S.wanted responder.now, S.replies responder.now) share.old share.new connection.new history
+        (R.remaining reader.old) (R.remaining reader.new) (W.contents writer.old) (W.contents writer.new) }
     ensures still { result ≢ Progress.Moved }
     ensures stopped { IsStopped result share.new connection.new }
 {
@@ -71,8 +71,8 @@ fn step<S: Respond, R: Read, W: Write>(
     share: &mut Share,
 ) -> Progress
     ensures advanced { (history : List Event) → HasState connection.old history
-        → HasAdvanced (S.wanted responder.now, S.replies responder.now) share.old share.new connection.new history (R.remaining reader.old)
-        (R.remaining reader.new) (W.contents writer.old) (W.contents writer.new) }
+        → HasAdvanced (S.wanted responder.now, S.replies responder.now) share.old share.new connection.new history
+        (R.remaining reader.old) (R.remaining reader.new) (W.contents writer.old) (W.contents writer.new) }
     ensures stopped { IsStopped result share.new connection.new }
 {
     match connection.wants() {
@@ -92,8 +92,8 @@ fn parse_once<S: Respond>(
 ) -> Progress
     requires { wants_in connection.old.phase ≡ Wants.Parse }
     ensures advanced { (history : List Event) (unread unwritten : Option (List ℕ)) → HasState connection.old history
-        → HasAdvanced (S.wanted responder.now, S.replies responder.now) share.old share.new connection.new history unread unread
-        unwritten unwritten }
+        → HasAdvanced (S.wanted responder.now, S.replies responder.now) share.old share.new connection.new history
+        unread unread unwritten unwritten }
     ensures stopped { IsStopped result share.new connection.new }
 {
     if share.replies == 0 {

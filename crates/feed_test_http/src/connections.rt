@@ -53,6 +53,7 @@ impl Respond for Echo {
         self.wanted.min(BODY_LIMIT)
     }
 
+    #[tactic(auto, using(crate::proofs::EchoSays::echo_says))]
     fn respond(
         &self,
         alloc: Global,

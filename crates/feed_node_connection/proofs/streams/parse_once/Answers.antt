@@ -7,7 +7,8 @@ pub returns-then-parse_request-clause-advanced : goal.returns-then-parse_request
 returns-then-parse_request-clause-advanced g c = λ history unread unwritten state.
     after_parse (g.S.Respond.wanted c.args.responder.now, g.S.Respond.replies c.args.responder.now) c.args.share.now _ true c.parse_request.new.self history unread unwritten refl
     (λ e. absurd (cc)) (λ e. omega (arith, c.if-share-eq0.false))
-    (subst (λ b. HasParsed (g.S.Respond.wanted c.args.responder.now, g.S.Respond.replies c.args.responder.now) b c.parse_request.new.self history) c.if-parse_request.true (c.parse_request.ensures.state history state))
+    (subst (λ b. HasParsed (g.S.Respond.wanted c.args.responder.now, g.S.Respond.replies c.args.responder.now) b c.parse_request.new.self history) c.if-parse_request.true
+    (c.parse_request.ensures.state history state))
 
 pub returns-else-parse_request-clause-advanced : goal.returns-else-parse_request-clause-advanced
 returns-else-parse_request-clause-advanced g c = λ history unread unwritten state.
