@@ -1,5 +1,5 @@
 -- The result of one request to a server.
-use Rattle.std.proofs.Common.{◌≡◌, ◌<◌, ◌≤◌, ◌+◌, ◌-◌, ◌^◌, ◌⊎◌, ◌≤ℤ◌, ◌<ℤ◌, ℕ, Bool, true, false, List, ◌∷◌, ◌++◌, length, min, Option, Some}
+use Rattle.std.proofs.Common.{◌≡◌, ◌<◌, ◌≤◌, ◌+◌, ◌-◌, ◌^◌, ◌⊎◌, ◌≤ℤ◌, ◌<ℤ◌, ℕ, suc, Bool, true, false, List, ◌∷◌, ◌++◌, length, min, Option, Some}
 use Rattle.std.proofs.Common.{None, Result, Ok, Err, inl, inr, refl, sym, ◌∙◌, ap, subst, arith, lit<}
 use Rattle.std.specs.Prelude.{slice_range, nat_eq, IsTrue, MatchResult}
 use Rattle.std.proofs.lemmas.Bool.Decides.{nat_tests}
@@ -31,8 +31,10 @@ use Rattle.feed_dial.specs.Replies.{Replies, Unknown, Known, IfKnown}
 use Rattle.feed_fetch.specs.Servers.{IsReplied, IsReadOf}
 use Rattle.feed_fetch.specs.Answers.{HasRightAnswer, reply_or_stop, offer_result, piece_result, round_result, IsExcused}
 use Rattle.feed_fetch.specs.Effects.{IsExtension, IsTransition, IsFetchEvent, IsTakenFrom, ServesFile, IsFetchable, IsOpenTo, IsFilling, IsAskedNext, OrExcused, IsOpened, IsFilled, IsFilledAfter}
-use Rattle.feed_fetch.specs.Effects.{IsFetched, IsReported, IsAllFetched, IsContinued, missing_of}
-use Rattle.feed_fetch.proofs.Filling.{offer_fills, piece_fills, asked_next, nothing_next, missing_most_of, some_not_none, IsFilledWith, IsRefusedFor}
+use Rattle.feed_fetch.specs.Effects.{IsFetched, IsReported, IsAllFetched, missing_of}
+use Rattle.feed_fetch.specs.Gaps.{requests_of}
+use Rattle.feed_fetch.proofs.Gaps.{needed_same, needed_most, needed_fewer}
+use Rattle.feed_fetch.proofs.Filling.{offer_fills, piece_fills, IsFilledWith, IsRefusedFor}
 
 given_fault : (wanted : Got) (fault : HttpFault) → IsGiven wanted (Err fault) → IsExcused (stops.Request (Http fault))
 given_fault wanted http.Read g = tt
@@ -103,42 +105,40 @@ size_opens c d n size file r fit is answered h at ready =
     ((Offered n (length file), t.0) ∷ h, by t.0 (offer_fills h n file t.0 fit ready t.1) t.2, t.3)
   where
     by : (a : Answer) → (((a ≡ Ok replies.Noted) ⊎ (a ≡ Ok replies.Known)) × IsFilling n file ((Offered n (length file), a) ∷ h)) ⊎ IsRefusedFor a
-        → (r ≡ offer_result (reply_or_stop a)) ⊎ (r ≡ Err stops.Print) → OrExcused r (IsFilling n file ((Offered n (length file), a) ∷ h))
+        → (r ≡ offer_result (reply_or_stop a)) ⊎ (r ≡ Err stops.Print)
+        → OrExcused r (IsFilling n file ((Offered n (length file), a) ∷ h) × ((place : ℕ) → kept ((Offered n (length file), a) ∷ h) n place ≡ kept h n place))
     by a so (inr e) = rw e tt
-    by a (inl (inl e, f)) (inl same) = let done : r ≡ Ok tt = same ∙ ap (λ (x : Answer). offer_result (reply_or_stop x)) e in rw done f
-    by a (inl (inr e, f)) (inl same) = let done : r ≡ Ok tt = same ∙ ap (λ (x : Answer). offer_result (reply_or_stop x)) e in rw done f
+    by a (inl (inl e, f)) (inl same) = let done : r ≡ Ok tt = same ∙ ap (λ (x : Answer). offer_result (reply_or_stop x)) e in rw done (f, λ place. refl)
+    by a (inl (inr e, f)) (inl same) = let done : r ≡ Ok tt = same ∙ ap (λ (x : Answer). offer_result (reply_or_stop x)) e in rw done (f, λ place. refl)
     by a (inr (inl e)) (inl same) = let done : r ≡ Err (stops.Refused refusals.Memory) = same ∙ ap (λ (x : Answer). offer_result (reply_or_stop x)) e in rw done tt
     by a (inr (inr e)) (inl same) = let done : r ≡ Err (stops.Refused refusals.Device) = same ∙ ap (λ (x : Answer). offer_result (reply_or_stop x)) e in rw done tt
 
+-- the requested range is filled
+abbrev pub IsFilledBy : Name → List ℕ → ℕ → History → History → Type 0
+IsFilledBy n file piece h k = IsFilling n file k × (missing_of n file k < missing_of n file h) × (requests_of n file piece h ≡ suc (requests_of n file piece k))
+
 -- the next piece of the file
-pub piece_filled : (c d : Content) (n : Name) (first last : ℕ) (file : List ℕ) (taken : Result Bool Stop) → IsFetchable file
+pub piece_filled : (c d : Content) (n : Name) (piece first last : ℕ) (file : List ℕ) (taken : Result Bool Stop) → IsFetchable file
     → HasRightAnswer (λ answer. (taken ≡ piece_result (reply_or_stop answer)) ⊎ (taken ≡ Err stops.Print)) c (Piece n first (Some (length file)) (slice_range file first (last + 1))) d
-    → IsFilled n file first last (round_result taken) c d
-piece_filled c d n first last file taken fit answered h at asked =
+    → IsFilled n file piece first last (round_result taken) c d
+piece_filled c d n piece first last file taken fit answered h at asked =
     let t = answered h at in
-    ((event, t.0) ∷ h, by t.0 (piece_fills h n file first last (slice_range file first (last + 1)) t.0 fit asked refl t.1) t.2, t.3)
+    ((event, t.0) ∷ h, by t.0 (piece_fills h n file piece first last (slice_range file first (last + 1)) t.0 fit asked refl t.1) t.2, t.3)
   where
     event : Event
     event = Piece n first (Some (length file)) (slice_range file first (last + 1))
 
-    by : (a : Answer) → ((((missing : ℕ) × (a ≡ Ok (replies.Stored missing))) ⊎ (a ≡ Ok replies.Activated)) × IsFilledWith n file h ((event, a) ∷ h)) ⊎ IsRefusedFor a
+    filled : (a : Answer) → IsFilledWith n file first last h ((event, a) ∷ h) → IsFilledBy n file piece h ((event, a) ∷ h)
+    filled a f = (f.filling, f.fewer, needed_fewer piece (length file) first last (kept h n) (kept ((event, a) ∷ h) n) asked.least asked.next f.next)
+
+    by : (a : Answer) → ((((missing : ℕ) × (a ≡ Ok (replies.Stored missing))) ⊎ (a ≡ Ok replies.Activated)) × IsFilledWith n file first last h ((event, a) ∷ h)) ⊎ IsRefusedFor a
         → (taken ≡ piece_result (reply_or_stop a)) ⊎ (taken ≡ Err stops.Print)
-        → OrExcused (round_result taken) (IsFilling n file ((event, a) ∷ h) × (missing_of n file ((event, a) ∷ h) < missing_of n file h))
+        → OrExcused (round_result taken) (IsFilledBy n file piece h ((event, a) ∷ h))
     by a so (inr e) = rw e tt
-    by a (inl (inl (m, e), f)) (inl same) = let done : taken ≡ Ok true = same ∙ ap (λ (x : Answer). piece_result (reply_or_stop x)) e in rw done (f.filling, f.fewer)
-    by a (inl (inr e, f)) (inl same) = let done : taken ≡ Ok true = same ∙ ap (λ (x : Answer). piece_result (reply_or_stop x)) e in rw done (f.filling, f.fewer)
+    by a (inl (inl (m, e), f)) (inl same) = let done : taken ≡ Ok true = same ∙ ap (λ (x : Answer). piece_result (reply_or_stop x)) e in rw done (filled a f)
+    by a (inl (inr e, f)) (inl same) = let done : taken ≡ Ok true = same ∙ ap (λ (x : Answer). piece_result (reply_or_stop x)) e in rw done (filled a f)
     by a (inr (inl e)) (inl same) = let done : taken ≡ Err (stops.Refused refusals.Memory) = same ∙ ap (λ (x : Answer). piece_result (reply_or_stop x)) e in rw done tt
     by a (inr (inr e)) (inl same) = let done : taken ≡ Err (stops.Refused refusals.Device) = same ∙ ap (λ (x : Answer). piece_result (reply_or_stop x)) e in rw done tt
-
--- an excused stop, for any events of the feed
-pub excused_transition : (B : History → Type 0) (A : Event → Type 0) (c d : Content) (stop : Stop) (why : RequestFault) → IsExcused (stops.Request why)
-    → IsExtension A (λ k. (stop ≡ stops.Request why) ⊎ (stop ≡ stops.Print)) c d
-    → IsTransition B (λ h k. IsExcused stop) c d
-excused_transition B A c d stop why ok extends h is before = let x = extends h is in (x.0 ++ h, by x.2, x.3)
-  where
-    by : (stop ≡ stops.Request why) ⊎ (stop ≡ stops.Print) → IsExcused stop
-    by (inl e) = subst IsExcused (sym e) ok
-    by (inr e) = subst IsExcused (sym e) tt
 
 -- the events made from a reply are as it gave them
 pub pieces_are_events : (known : Replies) (host : List ℕ) (n : Name) (first last : ℕ) (given : Got)
@@ -149,89 +149,18 @@ pieces_are_events (Known IsReplyTo) host n first last given read (Piece m f t b)
 pieces_are_events known host n first last given read (Offered m s) of = absurd of
 pieces_are_events known host n first last given read (Lost m) of = absurd of
 
-pub round_fills : (known : Replies) (host : List ℕ) (n : Name) (file : List ℕ) (first last : ℕ) (given : Got) (c d : Content) (taken : Result Bool Stop) (r : Result (Unit {0}) Stop)
-    → ServesFile known n file → IsTrue (is_host host) → IsFetchable file
-    → IfKnown known (λ IsReplyTo. IsReadOf IsReplyTo Get (get_text host (text_of n) first last) (Ok given))
-    → ((f : ℕ) (t : Option ℕ) (b : List ℕ) → given ≡ got.Piece f t b → HasRightAnswer (λ answer. (taken ≡ piece_result (reply_or_stop answer)) ⊎ (taken ≡ Err stops.Print)) c (Piece n f t b) d)
-    → r ≡ round_result taken → IsFilled n file first last r c d
-round_fills known host n file first last given c d taken r serves hosted fit read answered require_progress h at asked =
-    let is = asked_places known host n file first last (Ok given) serves hosted fit asked.order asked.within asked.few read in
-    let P : Result (Unit {0}) Stop → Type 0 = λ x. IsFilled n file first last x c d in
-    (subst P (sym require_progress) (piece_filled c d n first last file taken fit (answered first (Some (length file)) (slice_range file first (last + 1)) is))) h at asked
-
-pub round_stops : (known : Replies) (host : List ℕ) (n : Name) (file : List ℕ) (first last : ℕ) (why : RequestFault) (c d : Content) (stop : Stop)
-    → ServesFile known n file → IsTrue (is_host host) → IsFetchable file
-    → IfKnown known (λ IsReplyTo. IsReadOf IsReplyTo Get (get_text host (text_of n) first last) (Err why))
-    → IsExtension (λ e. e ≡ Lost n) (λ k. (stop ≡ stops.Request why) ⊎ (stop ≡ stops.Print)) c d
-    → IsFilled n file first last (Err stop) c d
-round_stops known host n file first last why c d stop serves hosted fit read extends h at asked =
-    let ok = asked_places known host n file first last (Err why) serves hosted fit asked.order asked.within asked.few read in
-    excused_transition (IsAskedNext n file first last) (λ e. e ≡ Lost n) c d stop why ok extends h at asked
-
-pub offer_stops : (known : Replies) (host : List ℕ) (n : Name) (file : List ℕ) (why : RequestFault) (c d : Content) (stop : Stop)
-    → ServesFile known n file → IsTrue (is_host host) → IsFetchable file
-    → IfKnown known (λ IsReplyTo. IsReadOf IsReplyTo Head (head_request_text host (text_of n)) (Err why))
-    → IsExtension (λ e. e ≡ Lost n) (λ k. (stop ≡ stops.Request why) ⊎ (stop ≡ stops.Print)) c d
-    → IsOpened n file (Err stop) c d
-offer_stops known host n file why c d stop serves hosted fit read extends =
-    excused_transition (IsOpenTo n file) (λ e. e ≡ Lost n) c d stop why (asked_size known host n file (Err why) serves hosted fit read) extends
-
 -- the length that a reply gave is offered
 pub size_is_event : (known : Replies) (host : List ℕ) (n : Name) (given : Got) (size : ℕ) → given ≡ got.Size size
     → IfKnown known (λ IsReplyTo. IsReadOf IsReplyTo Head (head_request_text host (text_of n)) (Ok given)) → IsFetchEvent known host n (Offered n size)
 size_is_event Unknown host n given size is read = (refl, tt)
 size_is_event (Known IsReplyTo) host n given size is read = (refl, subst (λ (g : Got). IsReplied IsReplyTo Head (head_request_text host (text_of n)) (Ok g)) is read)
 
-pub offer_opens : (known : Replies) (host : List ℕ) (n : Name) (file : List ℕ) (given : Got) (size : ℕ) (c d : Content) (r : Result (Unit {0}) Stop)
-    → ServesFile known n file → IsTrue (is_host host) → IsFetchable file → given ≡ got.Size size
-    → IfKnown known (λ IsReplyTo. IsReadOf IsReplyTo Head (head_request_text host (text_of n)) (Ok given))
-    → HasRightAnswer (λ answer. (r ≡ offer_result (reply_or_stop answer)) ⊎ (r ≡ Err stops.Print)) c (Offered n size) d → IsOpened n file r c d
-offer_opens known host n file given size c d r serves hosted fit is read answered =
-    let e : given ≡ got.Size (length file) = asked_size known host n file (Ok given) serves hosted fit read in
-    size_opens c d n size file r fit (cc) answered
-
-pub unoffered : (known : Replies) (host : List ℕ) (n : Name) (file : List ℕ) (given : Got) (c : Content) (r : Result ℕ Stop) (stop : Stop)
-    → ServesFile known n file → IsTrue (is_host host) → IsFetchable file
-    → IfKnown known (λ IsReplyTo. IsReadOf IsReplyTo Head (head_request_text host (text_of n)) (Ok given))
-    → ((size : ℕ) → given ≡ got.Size size → (r ≡ Ok size) ⊎ (r ≡ Err stops.Print)) → r ≡ Err stop → IsOpened n file (Err stop) c c
-unoffered known host n file given c r stop serves hosted fit read printed is h at ready =
-    (h, by (printed (length file) (asked_size known host n file (Ok given) serves hosted fit read)), at)
-  where
-    by : (r ≡ Ok (length file)) ⊎ (r ≡ Err stops.Print) → IsExcused stop
-    by (inl e) = absurd (cc)
-    by (inr e) = (let f : stop ≡ stops.Print = cc in subst IsExcused (sym f) tt)
-
--- the rounds
-
-pub fill_start : (c d : Content) (n : Name) (file : List ℕ) → IsOpened n file (Ok tt) c d → IsFilledAfter n file 0 c d
-fill_start c d n file opened h at ready = let x = opened h at ready in (x.0, (x.1, (let m = missing_most_of n file x.0 in omega (arith, m))), x.2)
-
--- the result of the next request, for a range that is missing or none
-pub next_filled : (c d : Content) (n : Name) (file : List ℕ) (max first last : ℕ) (range : Option (ℕ × ℕ)) → range ≡ Some (first, last) → max ≤ max_piece
-    → ((h : History) → IsContent c h → IsNextRange h n max range) → IsFilled n file first last (Ok tt) c d → IsContinued n file (Ok true) c d
-next_filled c d n file max first last range is few next fills h at fill = fills h at (asked_next h n file max first last range is few fill (next h at))
-
-pub next_stops : (c d : Content) (n : Name) (file : List ℕ) (max first last : ℕ) (range : Option (ℕ × ℕ)) (stop : Stop) → range ≡ Some (first, last) → max ≤ max_piece
-    → ((h : History) → IsContent c h → IsNextRange h n max range) → IsFilled n file first last (Err stop) c d → IsContinued n file (Err stop) c d
-next_stops c d n file max first last range stop is few next fills h at fill = fills h at (asked_next h n file max first last range is few fill (next h at))
-
-pub next_none : (c : Content) (n : Name) (file : List ℕ) (max : ℕ) (range : Option (ℕ × ℕ)) → range ≡ None → 1 ≤ max
-    → ((h : History) → IsContent c h → IsNextRange h n max range) → IsContinued n file (Ok false) c c
-next_none c n file max range is least next h at fill = (h, (fill, nothing_next h n file max range is least fill (next h at)), at)
-
--- a missing range is not none
-pub range_not_none : (h : History) (n : Name) (max first last : ℕ) (range : Option (ℕ × ℕ)) → range ≡ Some (first, last) → 1 ≤ max → IsNextRange h n max range → IsNextRange h n max None → ⊥
-range_not_none h n max first last range is least next none = by (subst (IsNextRange h n max) is next) none
-  where
-    by : IsNextRange h n max (Some (first, last)) → IsNextRange h n max None → ⊥
-    by (inl (out, e)) other = cc
-    by (inr (held, size, of, at)) (inl (out, e)) = out held
-    by (inr (held, size, of, at)) (inr (held', size', of', inl zero)) = absurd (omega (arith, zero, least))
-    by (inr (held, size, of, at)) (inr (held', size', of', inr all)) =
-        let e : Some size ≡ Some size' = sym of ∙ of' in
-        let count : size ≡ size' = cc in
-        let order = at.order in let within = at.within in
-        some_not_none (kept h n first) (all first (omega (arith, order, within, count))) (at.missing first (omega arith) order)
+-- the requests
+pub fill_start : (c d : Content) (n : Name) (file : List ℕ) (piece : ℕ) → IsOpened n file (Ok tt) c d → IsFilledAfter n file piece 0 c d
+fill_start c d n file piece opened h at ready =
+    let x = opened h at ready in
+    let same = needed_same piece (kept x.0 n) (kept h n) (length file) 0 x.1.1 in
+    (x.0, (x.1.0, omega (arith, same)), x.2)
 
 -- what is complete by requests of some length is complete by those of any length
 pub all_fetched : (h : History) (n : Name) (max : ℕ) → 1 ≤ max → IsNextRange h n max None → IsAllFetched n h
@@ -239,25 +168,13 @@ all_fetched h n max least (inl x) = inl x
 all_fetched h n max least (inr (held, size, of, inl zero)) = absurd (omega (arith, zero, least))
 all_fetched h n max least (inr (held, size, of, inr all)) = inr (held, size, of, inr all)
 
-pub fill_more : (b c d : Content) (n : Name) (file : List ℕ) (rounds : ℕ) → IsFilledAfter n file rounds b c → IsContinued n file (Ok true) c d → IsFilledAfter n file (rounds + 1) b d
-fill_more b c d n file rounds filled continues h at ready =
+-- there are at most as many requests as places
+pub fill_counts : (b c : Content) (n : Name) (file : List ℕ) (piece count : ℕ) (result : Result (Unit {0}) Stop) → IsFetchable file → 1 ≤ piece → file_limit < count
+    → IsFilledAfter n file piece count b c → IsFetched n file result b c
+fill_counts b c n file piece count result fit least most filled h at ready =
     let x = filled h at ready in
-    let y = continues x.0 x.2 x.1.0 in
-    let less = y.1.1 in
-    (y.0, (y.1.0, omega (arith, less, x.1.1)), y.2)
-
-pub fill_stops : (b c d : Content) (n : Name) (file : List ℕ) (rounds : ℕ) (stop : Stop) → IsFilledAfter n file rounds b c → IsContinued n file (Err stop) c d → IsFetched n file (Err stop) b d
-fill_stops b c d n file rounds stop filled continues h at ready = let x = filled h at ready in continues x.0 x.2 x.1.0
-
-pub fill_ends : (b c d : Content) (n : Name) (file : List ℕ) (rounds : ℕ) → IsFilledAfter n file rounds b c → IsContinued n file (Ok false) c d → IsFetched n file (Ok tt) b d
-fill_ends b c d n file rounds filled continues h at ready = let x = filled h at ready in continues x.0 x.2 x.1.0
-
--- there are at most as many rounds as places
-pub fill_counts : (b c : Content) (n : Name) (file : List ℕ) (rounds : ℕ) (result : Result (Unit {0}) Stop) → IsFetchable file → file_limit < rounds
-    → IsFilledAfter n file rounds b c → IsFetched n file result b c
-fill_counts b c n file rounds result fit most filled h at ready =
-    let x = filled h at ready in
-    absurd (let small = fit.small in let count = x.1.1 in omega (arith, small, count, most))
+    let all = needed_most piece (kept h n) (length file) 0 least in
+    absurd (let small = fit.small in let all_of = x.1.1 in omega (arith, small, all_of, all, most))
 
 -- a good release that is not passed is the one that is reported
 pub reported_none : (h : History) (n : Name) → IsGood h n → Reports h n.stem None → ⊥

@@ -1,7 +1,7 @@
 -- A feed that is filled with the file that a server has.
 use Rattle.std.proofs.Common.{◌≡◌, ◌≢◌, ◌<◌, ◌≤◌, ◌+◌, ◌-◌, ◌⊎◌, ℕ, zero, suc, Bool, true, false, ◌<ℤ◌, ◌≤ℤ◌, cond, nat_le, List, [], ◌∷◌}
 use Rattle.std.proofs.Common.{length, take, drop, Option, Some, None, IsSome, Ok, Err, slice_get, inl, inr, refl, sym, ◌∙◌, ap, subst, arith}
-use Rattle.std.specs.Prelude.{slice_range, IfSome}
+use Rattle.std.specs.Prelude.{slice_range, IfSome, nat_lt}
 use Rattle.std.proofs.lemmas.Int.{ints}
 use Rattle.std.proofs.lemmas.Bool.Decides.{nat_tests}
 use Rattle.httparse.proofs.RunLemmas.{length-slice_range}
@@ -11,7 +11,8 @@ use Rattle.feed_model.specs.declared.reply.Refusal.TheVariants as refusals
 use Rattle.feed_model.specs.File.{fault_of}
 use Rattle.feed_model.specs.History.{Offered, Piece, History, Answer, is_noted, is_taken, or_else, byte_at, size_of, kept, IsFile, IsGood, IsPassed, IsHeld}
 use Rattle.feed_model.specs.Reply.{IsRight, HoldsNumber, kept_with, missing_below, max_piece, max_held}
-use Rattle.feed_releases.specs.NextRange.{IsNextRange}
+use Rattle.std.proofs.lemmas.Option.{slice_get_past}
+use Rattle.feed_releases.specs.NextRange.{IsNext, IsNextRange}
 use Rattle.feed_model.proofs.Names.{name_self, name_cases}
 use Rattle.feed_model.proofs.Faults.{empty_bad}
 use Rattle.feed_model.proofs.Tests.{same_at}
@@ -19,6 +20,7 @@ use Rattle.feed_model.proofs.Moves.{added_size}
 use Rattle.feed_model.proofs.Bytes.{some_none, byte_at-some, slice_some}
 use Rattle.feed_model.proofs.Growth.{kept_here, keeps_but}
 use Rattle.feed_model.proofs.Others.{SameBut, good_other, good_back}
+use Rattle.feed_fetch.proofs.Gaps.{IsFilledNext}
 use Rattle.feed_fetch.specs.Effects.{IsFetchable, IsOpenTo, IsFilling, IsAskedNext, missing_of}
 
 -- a step that touches the release alone makes it no passed one
@@ -139,10 +141,30 @@ or_else-either : (a b : Option ℕ) (y : ℕ) → or_else a b ≡ Some y → (a 
 or_else-either (Some x) b y e = inl e
 or_else-either None b y e = inr e
 
+or_else-none : (a : Option ℕ) → or_else a None ≡ a
+or_else-none (Some x) = refl
+or_else-none None = refl
+
+-- no byte behind a piece
+byte_at_past : (first : ℕ) (b : List ℕ) (place : ℕ) → first ≤ place → first + length b ≤ place → byte_at first b place ≡ None
+byte_at_past first b place from past = by (nat_le first place) refl
+  where
+    by : (x : Bool) → nat_le first place ≡ x → cond x (slice_get b (place - first)) None ≡ None
+    by true e = slice_get_past b (place - first) (omega (arith, past))
+    by false e = refl
+
+-- what is known of a range that is asked for
+pub few_places : (h : History) (n : Name) (file : List ℕ) (piece first last : ℕ) → IsAskedNext n file piece first last h → last < first + max_piece
+few_places h n file piece first last asked = let w = asked.next.few in let m = asked.most in omega (arith, w, m)
+
+first_missing : (h : History) (n : Name) (file : List ℕ) (piece first last : ℕ) → IsAskedNext n file piece first last h → kept h n first ≡ None
+first_missing h n file piece first last asked = asked.next.missing first (omega arith) asked.next.order
+
 -- the piece is that of the file, which is kept after it
-pub record IsFilledWith (n : Name) (file : List ℕ) (h k : History) : Type 0 where
+pub record IsFilledWith (n : Name) (file : List ℕ) (first last : ℕ) (h k : History) : Type 0 where
   pub filling : IsFilling n file k
   pub fewer : missing_of n file k < missing_of n file h
+  pub next : IsFilledNext (kept h n) (kept k n) first last
 
 with_piece : (h : History) (n : Name) (file : List ℕ) (first last : ℕ) (total : Option ℕ) (b : List ℕ) (place y : ℕ) → b ≡ slice_range file first (last + 1) → IsFilling n file h
     → kept_with h n first b place ≡ Some y → slice_get file place ≡ Some y
@@ -152,17 +174,18 @@ with_piece h n file first last total b place y is fill e = by (or_else-either (k
     by (inl had) = fill.bytes place y had
     by (inr new) = slice_at file first (last + 1) place y (subst (λ (x : List ℕ). byte_at first x place ≡ Some y) is new)
 
-filled_with : (h : History) (n : Name) (file : List ℕ) (first last : ℕ) (b : List ℕ) (a : Answer) → b ≡ slice_range file first (last + 1) → length b ≡ last + 1 - first
-    → IsAskedNext n file first last h → is_taken a ≡ true → IsFilledWith n file h ((Piece n first (Some (length file)) b, a) ∷ h)
-filled_with h n file first last b a is len asked taken = record {
+filled_with : (h : History) (n : Name) (file : List ℕ) (piece first last : ℕ) (b : List ℕ) (a : Answer) → b ≡ slice_range file first (last + 1) → length b ≡ last + 1 - first
+    → IsAskedNext n file piece first last h → is_taken a ≡ true → IsFilledWith n file first last h ((Piece n first (Some (length file)) b, a) ∷ h)
+filled_with h n file piece first last b a is len asked taken = record {
   filling = record {
     current = λ p. asked.filling.current (passed_back n h k (keeps_but h n first (Some (length file)) b a) p);
     size = asked.filling.size;
     bytes = λ place y e. with_piece h n file first last (Some (length file)) b place y is asked.filling (sym (here place) ∙ e);
   };
-  fewer = missing_less (kept h n) (kept k n) (λ p s. subst IsSome (sym (here p)) (or_else-more (kept h n p) (byte_at first b p) s)) (length file) first (omega (arith, asked.order, asked.within))
-      asked.missing
-      (subst IsSome (sym (here first)) (or_else-second (kept h n first) (byte_at first b first) asked.missing (byte_at-some first b first (omega arith) (omega (arith, len, asked.order)))));
+  fewer = missing_less (kept h n) (kept k n) (λ p s. subst IsSome (sym (here p)) (or_else-more (kept h n p) (byte_at first b p) s)) (length file) first (omega (arith, asked.next.order, asked.next.within))
+      (first_missing h n file piece first last asked)
+      (subst IsSome (sym (here first)) (or_else-second (kept h n first) (byte_at first b first) (first_missing h n file piece first last asked) (byte_at-some first b first (omega arith) (omega (arith, len, asked.next.order)))));
+  next = record { below = below; above = above };
 }
   where
     k : History
@@ -170,6 +193,20 @@ filled_with h n file first last b a is len asked taken = record {
 
     here : (place : ℕ) → kept k n place ≡ kept_with h n first b place
     here place = kept_here h n first (Some (length file)) b a taken place
+
+    -- the places of the range, and those before it, which no gap is left in
+    below : (place : ℕ) → place ≤ last → IsSome (kept k n place)
+    below place le = by (nat_lt place first) refl
+      where
+        by : (x : Bool) → nat_lt place first ≡ x → IsSome (kept k n place)
+        by true e = subst IsSome (sym (here place)) (or_else-more (kept h n place) (byte_at first b place) (asked.next.before place (grind (arith, nat_tests, e))))
+        by false e =
+            let from : first ≤ place = grind (arith, nat_tests, e) in
+            subst IsSome (sym (here place)) (or_else-second (kept h n place) (byte_at first b place) (asked.next.missing place from le)
+            (byte_at-some first b place from (omega (arith, len, le, asked.next.order))))
+
+    above : (place : ℕ) → last < place → kept h n place ≡ kept k n place
+    above place gt = sym (here place ∙ ap (or_else (kept h n place)) (byte_at_past first b place (omega (arith, gt, asked.next.order)) (omega (arith, len, gt, asked.next.order))) ∙ or_else-none (kept h n place))
 
 pub some_not_none : (o : Option ℕ) → IsSome o → o ≡ None → ⊥
 some_not_none o some none = some_none o some none
@@ -197,17 +234,16 @@ pub whole_file : (h : History) (n : Name) (file : List ℕ) → IsFilling n file
 whole_file h n file fill all = (fill.size, λ place lt. (let y = some_of (kept h n place) (all place lt) in y.1 ∙ sym (fill.bytes place y.0 y.1)))
 
 -- what is asked for next
-pub asked_next : (h : History) (n : Name) (file : List ℕ) (max first last : ℕ) (range : Option (ℕ × ℕ)) → range ≡ Some (first, last) → max ≤ max_piece → IsFilling n file h
-    → IsNextRange h n max range → IsAskedNext n file first last h
-asked_next h n file max first last range is few fill next = by (subst (IsNextRange h n max) is next)
+pub asked_next : (h : History) (n : Name) (file : List ℕ) (max first last : ℕ) (range : Option (ℕ × ℕ)) → range ≡ Some (first, last) → 1 ≤ max → max ≤ max_piece → IsFilling n file h
+    → IsNextRange h n max range → IsAskedNext n file max first last h
+asked_next h n file max first last range is least few fill next = by (subst (IsNextRange h n max) is next)
   where
-    by : IsNextRange h n max (Some (first, last)) → IsAskedNext n file first last h
+    by : IsNextRange h n max (Some (first, last)) → IsAskedNext n file max first last h
     by (inl (out, none)) = absurd (cc)
     by (inr (held, size, of, at)) =
         let e : Some size ≡ Some (length file) = sym of ∙ fill.size in
         let count : size ≡ length file = cc in
-        let t = at.within in let u = at.few in
-        record { filling = fill; order = at.order; within = omega (arith, t, count); few = omega (arith, u, few); missing = at.missing first (omega arith) at.order }
+        record { filling = fill; least = least; most = few; next = subst (λ (s : ℕ). IsNext (kept h n) s max first last) count at }
 
 pub nothing_next : (h : History) (n : Name) (file : List ℕ) (max : ℕ) (range : Option (ℕ × ℕ)) → range ≡ None → 1 ≤ max → IsFilling n file h → IsNextRange h n max range
     → IsFile h n file
@@ -222,35 +258,35 @@ nothing_next h n file max range is least fill next = by (subst (IsNextRange h n 
         whole_file h n file fill (λ place lt. all place (omega (arith, lt, count)))
 
 -- what the next piece of the file is answered
-pub piece_fills : (h : History) (n : Name) (file : List ℕ) (first last : ℕ) (b : List ℕ) (a : Answer) → IsFetchable file → IsAskedNext n file first last h
+pub piece_fills : (h : History) (n : Name) (file : List ℕ) (piece first last : ℕ) (b : List ℕ) (a : Answer) → IsFetchable file → IsAskedNext n file piece first last h
     → b ≡ slice_range file first (last + 1) → IsRight h (Piece n first (Some (length file)) b) a
-    → ((((missing : ℕ) × (a ≡ Ok (replies.Stored missing))) ⊎ (a ≡ Ok replies.Activated)) × IsFilledWith n file h ((Piece n first (Some (length file)) b, a) ∷ h)) ⊎ IsRefusedFor a
-piece_fills h n file first last b a fit asked is right = by right
+    → ((((missing : ℕ) × (a ≡ Ok (replies.Stored missing))) ⊎ (a ≡ Ok replies.Activated)) × IsFilledWith n file first last h ((Piece n first (Some (length file)) b, a) ∷ h)) ⊎ IsRefusedFor a
+piece_fills h n file piece first last b a fit asked is right = by right
   where
     len : length b ≡ last + 1 - first
-    len = ap length is ∙ length-slice_range file first (last + 1) (omega (arith, asked.order)) (omega (arith, asked.within))
+    len = ap length is ∙ length-slice_range file first (last + 1) (omega (arith, asked.next.order)) (omega (arith, asked.next.within))
 
-    by : IsRight h (Piece n first (Some (length file)) b) a → ((((missing : ℕ) × (a ≡ Ok (replies.Stored missing))) ⊎ (a ≡ Ok replies.Activated)) × IsFilledWith n file h
+    by : IsRight h (Piece n first (Some (length file)) b) a → ((((missing : ℕ) × (a ≡ Ok (replies.Stored missing))) ⊎ (a ≡ Ok replies.Activated)) × IsFilledWith n file first last h
         ((Piece n first (Some (length file)) b, a) ∷ h)) ⊎ IsRefusedFor a
-    by (inl (inl none, e)) = absurd (omega (arith, len, asked.order))
-    by (inl (inr many, e)) = absurd (omega (arith, len, asked.few))
+    by (inl (inl none, e)) = absurd (omega (arith, len, asked.next.order))
+    by (inl (inr many, e)) = absurd (omega (arith, len, few_places h n file piece first last asked))
     by (inr (x, inl y)) = absurd (asked.filling.current y.0)
     by (inr (x, inr (y, inl z))) = absurd (z.0 (subst IsSome (sym asked.filling.size) refl, y))
     by (inr (x, inr (y, inr (z, inl w)))) = absurd (w.0 asked.filling.size)
-    by (inr (x, inr (y, inr (z, inr (w, inl v))))) = absurd (let past = rw asked.filling.size at v.0 in omega (arith, past, len, asked.within, asked.order))
+    by (inr (x, inr (y, inr (z, inr (w, inl v))))) = absurd (let past = rw asked.filling.size at v.0 in omega (arith, past, len, asked.next.within, asked.next.order))
     by (inr (x, inr (y, inr (z, inr (w, inr (v, inl ((place, p, q, e, d, ne), u))))))) =
         absurd (ne (same_some (slice_get file place) None p q (asked.filling.bytes place p e) (slice_at file first (last + 1) place q (subst (λ (t : List ℕ). byte_at first t place ≡ Some q) is
         d))))
     by (inr (x, inr (y, inr (z, inr (w, inr (v, inr (u, inl t))))))) =
-        absurd (some_none (kept h n first) (t.0 first (byte_at-some first b first (omega arith) (omega (arith, len, asked.order)))) asked.missing)
+        absurd (some_none (kept h n first) (t.0 first (byte_at-some first b first (omega arith) (omega (arith, len, asked.next.order)))) (first_missing h n file piece first last asked))
     by (inr (x, inr (y, inr (z, inr (w, inr (v, inr (u, inr (t, inl (size, s, inl q))))))))) =
-        inl (inl (_, q.1), filled_with h n file first last b a is len asked (ap is_taken q.1))
+        inl (inl (_, q.1), filled_with h n file piece first last b a is len asked (ap is_taken q.1))
     by (inr (x, inr (y, inr (z, inr (w, inr (v, inr (u, inr (t, inl (size, s, inr (q, (text, long, at, e))))))))))) =
         let sizes : Some size ≡ Some (length file) = sym s ∙ asked.filling.size in
         let count : size ≡ length file = cc in
         let same : text ≡ file = same_at text file (long ∙ count) (λ place lt. bytes text place (at place (omega (arith, long, lt))) (slice_some text place lt)) in
         let active : a ≡ Ok replies.Activated = (let f : fault_of text ≡ None = ap fault_of same ∙ fit.good in rw f at e) in
-        inl (inr active, filled_with h n file first last b a is len asked (ap is_taken active))
+        inl (inr active, filled_with h n file piece first last b a is len asked (ap is_taken active))
       where
         bytes : (text : List ℕ) (place : ℕ) → kept_with h n first b place ≡ slice_get text place → IsSome (slice_get text place) → slice_get text place ≡ slice_get file place
         bytes text place e some = let y = some_of (slice_get text place) some in y.1 ∙ sym (with_piece h n file first last (Some (length file)) b place y.0 is asked.filling (e ∙ y.1))

@@ -19,11 +19,12 @@ use Rattle.feed_fetch.specs.declared.stop.RequestFault.{RequestFault}
 use Rattle.feed_fetch.specs.declared.stop.Stop.{Stop}
 use Rattle.feed_fetch.specs.declared.stop.Stop.TheVariants as stops
 use Rattle.feed_fetch.specs.Answers.{HasRightAnswer, offer_result, piece_result, round_result, reply_or_stop, IsExcused}
-use Rattle.feed_fetch.specs.Effects.{IsExtension, IsFetchEvent, IsTakenFrom, ServesFile, IsFetchable, IsOpened, IsFilled, IsFilledAfter, IsFetched, IsFilling, missing_of}
+use Rattle.feed_fetch.specs.Effects.{IsExtension, IsFetchEvent, IsTakenFrom, ServesFile, IsFetchable, IsOpened, IsFilled, IsFilledAfter, IsFetched, IsFilling, OrExcused}
+use Rattle.feed_fetch.specs.Exchanges.{Opens, Fills}
 use Rattle.feed_fetch.specs.Steps.{IsNextStep, IsReplyEvent, IsReplyOf, HasLength, HasRange}
 use Rattle.feed_fetch.specs.Effects.{IsAllFetched}
-use Rattle.feed_fetch.proofs.Fetches.{all_fetched, size_opens, piece_filled, asked_size, asked_places, pieces_are_events, size_is_event, fill_start, fill_counts}
-use Rattle.feed_fetch.proofs.Filling.{asked_next, nothing_next}
+use Rattle.feed_fetch.proofs.Fetches.{IsFilledBy, all_fetched, size_opens, piece_filled, asked_size, asked_places, pieces_are_events, size_is_event, fill_start, fill_counts}
+use Rattle.feed_fetch.proofs.Filling.{asked_next, few_places, nothing_next}
 
 -- a piece as the reply gave it is an event of the reply
 pub piece_event : (n : Name) (given : Got) (e : Event) → IsTakenFrom n given e → IsReplyEvent n phases.Offered (Ok given) e
@@ -36,20 +37,12 @@ pub length_opens : (c d : Content) (n : Name) (file : List ℕ) (given : Got) (s
     → HasRightAnswer (λ answer. (r ≡ offer_result (reply_or_stop answer)) ⊎ (r ≡ Err stops.Print)) c (Offered n size) d → IsOpened n file r c d
 length_opens c d n file given size r fit is has answered = let e : given ≡ got.Size (length file) = has in size_opens c d n size file r fit (cc) answered
 
--- the stated length is not printed
-pub length_unprinted : (c : Content) (n : Name) (file : List ℕ) (given : Got) (r : Result ℕ Stop) (stop : Stop) → HasLength file (Ok given)
-    → ((size : ℕ) → given ≡ got.Size size → (r ≡ Ok size) ⊎ (r ≡ Err stops.Print)) → r ≡ Err stop → IsOpened n file (Err stop) c c
-length_unprinted c n file given r stop has printed is h at ready = (h, by (printed (length file) has), at)
-  where
-    by : (r ≡ Ok (length file)) ⊎ (r ≡ Err stops.Print) → IsExcused stop
-    by (inl e) = absurd (cc)
-    by (inr e) = (let f : stop ≡ stops.Print = cc in subst IsExcused (sym f) tt)
-
 -- the next piece
-pub range_fills : (c d : Content) (n : Name) (file : List ℕ) (first last : ℕ) (given : Got) (taken : Result Bool Stop) → IsFetchable file → HasRange file first last (Ok given)
+pub range_fills : (c d : Content) (n : Name) (file : List ℕ) (piece first last : ℕ) (given : Got) (taken : Result Bool Stop) → IsFetchable file → HasRange file first last (Ok given)
     → ((f : ℕ) (t : Option ℕ) (b : List ℕ) → given ≡ got.Piece f t b → HasRightAnswer (λ answer. (taken ≡ piece_result (reply_or_stop answer)) ⊎ (taken ≡ Err stops.Print)) c (Piece n f t b) d)
-    → IsFilled n file first last (round_result taken) c d
-range_fills c d n file first last given taken fit has answered = piece_filled c d n first last file taken fit (answered first (Some (length file)) (slice_range file first (last + 1)) has)
+    → IsFilled n file piece first last (round_result taken) c d
+range_fills c d n file piece first last given taken fit has answered =
+    piece_filled c d n piece first last file taken fit (answered first (Some (length file)) (slice_range file first (last + 1)) has)
 
 -- the events of a reply are those of a fetch, if the reply is one to the request that was made
 pub reply_events : (known : Replies) (host : List ℕ) (n : Name) (piece : ℕ) (phase : Phase) (h : History) (request : Request) (reply : Result Got RequestFault)
@@ -72,85 +65,101 @@ reply_events known host n piece phases.Offered h (requests.Range first last) (Er
 reply_events known host n piece phases.Stopped h request reply next of e is = absurd (cc)
 
 -- a fetch of this file after so many replies
-abbrev pub IsRun : Name → List ℕ → Phase → ℕ → Content → Content → Type 0
-IsRun n file phases.New rounds b c = (rounds ≡ 0) × (c ≡ b)
-IsRun n file phases.Offered rounds b c = (m : ℕ) × (rounds ≡ m + 1) × IsFilledAfter n file m b c
-IsRun n file phases.Stopped rounds b c = ⊥
+abbrev pub IsRun : Name → List ℕ → ℕ → Phase → ℕ → Content → Content → Type 0
+IsRun n file piece phases.New count b c = (count ≡ 0) × (c ≡ b)
+IsRun n file piece phases.Offered count b c = (m : ℕ) × (count ≡ m + 1) × IsFilledAfter n file piece m b c
+IsRun n file piece phases.Stopped count b c = ⊥
 
--- after each reply of an honest server that does not stop the fetch, one more place is filled
-pub run_more : (known : Replies) (host : List ℕ) (n : Name) (file : List ℕ) (piece rounds : ℕ) (phase : Phase) (request : Request) (reply : Result Got RequestFault) (b c d : Content)
-    → ServesFile known n file → IsTrue (is_host host) → IsFetchable file → piece ≤ max_piece
-    → ((h : History) → IsContent c h → IsNextStep n piece phase h (Ask request)) → IsReplyOf known host n request reply
-    → (phase ≡ phases.New → HasLength file reply → IsOpened n file (Ok tt) c d)
-    → ((first last : ℕ) → phase ≡ phases.Offered → HasRange file first last reply → IsFilled n file first last (Ok tt) c d)
-    → IsRun n file phase rounds b c → IsRun n file phases.Offered (rounds + 1) b d
-run_more known host n file piece rounds phases.New request reply b c d serves hosted fit few next of opens fills (zero, same) = (0, omega (arith, zero), filled)
+-- the exchange of a fetch with an honest server
+pub record IsHonest (known : Replies) (host : List ℕ) (n : Name) (file : List ℕ) (piece : ℕ) : Type 0 where
+  pub serves : ServesFile known n file
+  pub hosted : IsTrue (is_host host)
+  pub fit : IsFetchable file
+  pub least : 1 ≤ piece
+  pub most : piece ≤ max_piece
+
+-- what `take` makes of a reply, for a file
+pub record IsTakenOf (n : Name) (file : List ℕ) (piece : ℕ) (phase : Phase) (reply : Result Got RequestFault) (result : Result (Unit {0}) Stop) (c d : Content) : Type 0 where
+  pub opens : phase ≡ phases.New → HasLength file reply → IsOpened n file result c d
+  pub fills : (first last : ℕ) → phase ≡ phases.Offered → HasRange file first last reply → IsFilled n file piece first last result c d
+
+pub taken_of : (n : Name) (file : List ℕ) (piece : ℕ) (phase : Phase) (reply : Result Got RequestFault) (result : Result (Unit {0}) Stop) (c d : Content) → IsFetchable file
+    → Opens n phase reply result c d → Fills n phase reply result c d → IsTakenOf n file piece phase reply result c d
+taken_of n file piece phase reply result c d fit opens fills = record {
+  opens = λ new has. opens file new has fit;
+  fills = λ first last offered has. fills file piece first last offered has fit;
+}
+
+-- the first reply of an honest server
+first_reply : (known : Replies) (host : List ℕ) (n : Name) (file : List ℕ) (piece : ℕ) (request : Request) (reply : Result Got RequestFault) (result : Result (Unit {0}) Stop) (b c d : Content)
+    → IsHonest known host n file piece → ((h : History) → IsContent c h → IsNextStep n piece phases.New h (Ask request)) → IsReplyOf known host n request reply
+    → IsTakenOf n file piece phases.New reply result c d → c ≡ b → (h : History) → IsContent b h → IsOpened n file result c d
+first_reply known host n file piece request reply result b c d honest next of taken same h at =
+    let e : Ask request ≡ Ask requests.Length = next h (subst (λ (x : Content). IsContent x h) (sym same) at) in
+    let is : request ≡ requests.Length = cc in
+    taken.opens refl (asked_size known host n file reply honest.serves honest.hosted honest.fit (subst (λ (r : Request). IsReplyOf known host n r reply) is of))
+
+-- each further one
+further_reply : (known : Replies) (host : List ℕ) (n : Name) (file : List ℕ) (piece : ℕ) (request : Request) (reply : Result Got RequestFault) (result : Result (Unit {0}) Stop) (c d : Content)
+    → IsHonest known host n file piece → ((h : History) → IsContent c h → IsNextStep n piece phases.Offered h (Ask request)) → IsReplyOf known host n request reply
+    → IsTakenOf n file piece phases.Offered reply result c d → (h : History) → IsContent c h → IsFilling n file h
+    → (k : History) × OrExcused result (IsFilledBy n file piece h k) × IsContent d k
+further_reply known host n file piece request reply result c d honest next of taken h at fill = by request (next h at) of
   where
-    filled : IsFilledAfter n file 0 b d
+    by : (r : Request) → IsNextStep n piece phases.Offered h (Ask r) → IsReplyOf known host n r reply → (k : History) × OrExcused result (IsFilledBy n file piece h k) × IsContent d k
+    by requests.Length ask of = absurd ask
+    by (requests.Range first last) ask of =
+        let asked = asked_next h n file piece first last (Some (first, last)) refl honest.least honest.most fill ask in
+        taken.fills first last refl (asked_places known host n file first last reply honest.serves honest.hosted honest.fit asked.next.order asked.next.within (few_places h n file piece first last asked) of) h at asked
+
+-- after each reply of an honest server that does not stop the fetch, one request fewer is needed
+pub run_more : (known : Replies) (host : List ℕ) (n : Name) (file : List ℕ) (piece count : ℕ) (phase : Phase) (request : Request) (reply : Result Got RequestFault) (b c d : Content)
+    → IsHonest known host n file piece → ((h : History) → IsContent c h → IsNextStep n piece phase h (Ask request)) → IsReplyOf known host n request reply
+    → IsTakenOf n file piece phase reply (Ok tt) c d → IsRun n file piece phase count b c → IsRun n file piece phases.Offered (count + 1) b d
+run_more known host n file piece count phases.New request reply b c d honest next of taken (zero, same) = (0, omega (arith, zero), filled)
+  where
+    filled : IsFilledAfter n file piece 0 b d
     filled h at ready =
-        let here : IsContent c h = subst (λ (x : Content). IsContent x h) (sym same) at in
-        let e : Ask request ≡ Ask requests.Length = next h here in
-        let is : request ≡ requests.Length = cc in
-        fill_start c d n file (opens refl (asked_size known host n file reply serves hosted fit (subst (λ (r : Request). IsReplyOf known host n r reply) is of))) h here ready
-run_more known host n file piece rounds phases.Offered request reply b c d serves hosted fit few next of opens fills (m, is, before) = (m + 1, omega (arith, is), filled)
+        fill_start c d n file piece (first_reply known host n file piece request reply (Ok tt) b c d honest next of taken same h at) h (subst (λ (x : Content). IsContent x h) (sym same) at) ready
+run_more known host n file piece count phases.Offered request reply b c d honest next of taken (m, is, before) = (m + 1, omega (arith, is), filled)
   where
-    step : (r : Request) (h : History) → IsNextStep n piece phases.Offered h (Ask r) → IsReplyOf known host n r reply → IsContent c h → IsFilling n file h
-        → (k : History) × (IsFilling n file k × (missing_of n file k < missing_of n file h)) × IsContent d k
-    step requests.Length h ask of at fill = absurd ask
-    step (requests.Range first last) h ask of at fill =
-        let asked = asked_next h n file piece first last (Some (first, last)) refl few fill ask in
-        fills first last refl (asked_places known host n file first last reply serves hosted fit asked.order asked.within asked.few of) h at asked
-
-    filled : IsFilledAfter n file (m + 1) b d
+    filled : IsFilledAfter n file piece (m + 1) b d
     filled h at ready =
         let x = before h at ready in
-        let y = step request x.0 (next x.0 x.2) of x.2 x.1.0 in
-        let less = y.1.1 in
-        (y.0, (y.1.0, omega (arith, less, x.1.1)), y.2)
-run_more known host n file piece rounds phases.Stopped request reply b c d serves hosted fit few next of opens fills run = absurd run
+        let y = further_reply known host n file piece request reply (Ok tt) c d honest next of taken x.0 x.2 x.1.0 in
+        let fewer = y.1.2 in
+        (y.0, (y.1.0, omega (arith, fewer, x.1.1)), y.2)
+run_more known host n file piece count phases.Stopped request reply b c d honest next of taken run = absurd run
 
 -- a stop, after any reply of an honest server, is excused
-pub run_stops : (known : Replies) (host : List ℕ) (n : Name) (file : List ℕ) (piece rounds : ℕ) (phase : Phase) (request : Request) (reply : Result Got RequestFault) (stop : Stop) (b c d : Content)
-    → ServesFile known n file → IsTrue (is_host host) → IsFetchable file → piece ≤ max_piece
-    → ((h : History) → IsContent c h → IsNextStep n piece phase h (Ask request)) → IsReplyOf known host n request reply
-    → (phase ≡ phases.New → HasLength file reply → IsOpened n file (Err stop) c d)
-    → ((first last : ℕ) → phase ≡ phases.Offered → HasRange file first last reply → IsFilled n file first last (Err stop) c d)
-    → IsRun n file phase rounds b c → IsFetched n file (Err stop) b d
-run_stops known host n file piece rounds phases.New request reply stop b c d serves hosted fit few next of opens fills (zero, same) h at ready =
-    let here : IsContent c h = subst (λ (x : Content). IsContent x h) (sym same) at in
-    let e : Ask request ≡ Ask requests.Length = next h here in
-    let is : request ≡ requests.Length = cc in
-    opens refl (asked_size known host n file reply serves hosted fit (subst (λ (r : Request). IsReplyOf known host n r reply) is of)) h here ready
-run_stops known host n file piece rounds phases.Offered request reply stop b c d serves hosted fit few next of opens fills (m, is, before) h at ready =
-    let x = before h at ready in step request x.0 (next x.0 x.2) of x.2 x.1.0
-  where
-    step : (r : Request) (h : History) → IsNextStep n piece phases.Offered h (Ask r) → IsReplyOf known host n r reply → IsContent c h → IsFilling n file h
-        → (k : History) × IsExcused stop × IsContent d k
-    step requests.Length h ask of at fill = absurd ask
-    step (requests.Range first last) h ask of at fill =
-        let asked = asked_next h n file piece first last (Some (first, last)) refl few fill ask in
-        fills first last refl (asked_places known host n file first last reply serves hosted fit asked.order asked.within asked.few of) h at asked
-run_stops known host n file piece rounds phases.Stopped request reply stop b c d serves hosted fit few next of opens fills run h at ready = absurd run
+pub run_stops : (known : Replies) (host : List ℕ) (n : Name) (file : List ℕ) (piece count : ℕ) (phase : Phase) (request : Request) (reply : Result Got RequestFault) (stop : Stop) (b c d : Content)
+    → IsHonest known host n file piece → ((h : History) → IsContent c h → IsNextStep n piece phase h (Ask request)) → IsReplyOf known host n request reply
+    → IsTakenOf n file piece phase reply (Err stop) c d → IsRun n file piece phase count b c → IsFetched n file (Err stop) b d
+run_stops known host n file piece count phases.New request reply stop b c d honest next of taken (zero, same) h at ready =
+    first_reply known host n file piece request reply (Err stop) b c d honest next of taken same h at h (subst (λ (x : Content). IsContent x h) (sym same) at) ready
+run_stops known host n file piece count phases.Offered request reply stop b c d honest next of taken (m, is, before) h at ready =
+    let x = before h at ready in further_reply known host n file piece request reply (Err stop) c d honest next of taken x.0 x.2 x.1.0
+run_stops known host n file piece count phases.Stopped request reply stop b c d honest next of taken run h at ready = absurd run
 
 -- a fetch that needs nothing more has the file
-pub run_ends : (n : Name) (file : List ℕ) (piece rounds : ℕ) (phase : Phase) (b c : Content) → 1 ≤ piece
-    → ((h : History) → IsContent c h → IsNextStep n piece phase h Done) → IsRun n file phase rounds b c → IsFetched n file (Ok tt) b c
-run_ends n file piece rounds phases.New b c least next (zero, same) h at ready =
+pub run_ends : (n : Name) (file : List ℕ) (piece count : ℕ) (phase : Phase) (b c : Content) → 1 ≤ piece
+    → ((h : History) → IsContent c h → IsNextStep n piece phase h Done) → IsRun n file piece phase count b c → IsFetched n file (Ok tt) b c
+run_ends n file piece count phases.New b c least next (zero, same) h at ready =
     let e : Done ≡ Ask requests.Length = next h (subst (λ (x : Content). IsContent x h) (sym same) at) in absurd (cc)
-run_ends n file piece rounds phases.Offered b c least next (m, is, before) h at ready =
+run_ends n file piece count phases.Offered b c least next (m, is, before) h at ready =
     let x = before h at ready in (x.0, (x.1.0, nothing_next x.0 n file piece None refl least x.1.0 (next x.0 x.2)), x.2)
-run_ends n file piece rounds phases.Stopped b c least next run h at ready = absurd run
+run_ends n file piece count phases.Stopped b c least next run h at ready = absurd run
 
 -- there are at most as many replies as places, and one
-pub run_counts : (n : Name) (file : List ℕ) (rounds : ℕ) (phase : Phase) (b c : Content) (result : Result (Unit {0}) Stop) → IsFetchable file → file_limit + 1 < rounds
-    → IsRun n file phase rounds b c → IsFetched n file result b c
-run_counts n file rounds phases.New b c result fit most (zero, same) = absurd (omega (arith, zero, most))
-run_counts n file rounds phases.Offered b c result fit most (m, is, before) = fill_counts b c n file m result fit (omega (arith, is, most)) before
-run_counts n file rounds phases.Stopped b c result fit most run = absurd run
+pub run_counts : (n : Name) (file : List ℕ) (piece count : ℕ) (phase : Phase) (b c : Content) (result : Result (Unit {0}) Stop) → IsFetchable file → 1 ≤ piece → file_limit + 1 < count
+    → IsRun n file piece phase count b c → IsFetched n file result b c
+run_counts n file piece count phases.New b c result fit least most (zero, same) = absurd (omega (arith, zero, most))
+run_counts n file piece count phases.Offered b c result fit least most (m, is, before) = fill_counts b c n file piece m result fit least (omega (arith, is, most)) before
+run_counts n file piece count phases.Stopped b c result fit least most run = absurd run
 
 -- a fetch begins without a reply
-pub run_start : (n : Name) (file : List ℕ) (phase : Phase) (b : Content) → phase ≡ phases.New → IsRun n file phase 0 b b
-run_start n file phase b is = subst (λ (p : Phase). IsRun n file p 0 b b) (sym is) (refl, refl)
+pub run_start : (n : Name) (file : List ℕ) (piece : ℕ) (phase : Phase) (b : Content) → phase ≡ phases.New → IsRun n file piece phase 0 b b
+run_start n file piece phase b is = subst (λ (p : Phase). IsRun n file piece p 0 b b) (sym is) (refl, refl)
 
 -- a fetch that needs nothing more, and has not stopped, has no range to request
 pub done_fetched : (h : History) (n : Name) (piece : ℕ) (phase : Phase) → 1 ≤ piece → (phase ≡ phases.Stopped → ⊥) → IsNextStep n piece phase h Done → IsAllFetched n h

@@ -1,5 +1,5 @@
 -- The effect of a fetch on a feed.
-use Rattle.std.specs.Prelude.{Bool, MatchBool, ◌≡◌, ◌<◌, ◌≤◌, ◌+◌, ◌⊎◌, ◌++◌, ℕ, List, length, slice_range, slice_get, All, Option, None, Some, Result, Ok, Err, IfSome, IfErr, MatchResult}
+use Rattle.std.specs.Prelude.{Bool, ◌≡◌, ◌<◌, ◌≤◌, ◌+◌, ◌⊎◌, ◌++◌, ℕ, suc, List, length, slice_range, slice_get, All, Option, None, Some, Result, Ok, Err, IfSome, IfErr, MatchResult}
 use Rattle.feed_names.specs.ReleaseName.{Name, IsName}
 use Rattle.feed_http.specs.RequestTexts.{get_text, head_request_text}
 use Rattle.feed_names.specs.ReleaseName.{text_of}
@@ -16,7 +16,8 @@ use Rattle.feed_model.specs.File.{fault_of}
 use Rattle.feed_model.specs.History.{Event, Offered, Piece, Lost, History, size_of, kept, IsFile, IsPassed, IsHeld, Reports}
 use Rattle.feed_model.specs.Reply.{HoldsNumber, missing_below, max_file, max_piece, max_held}
 use Rattle.feed_model.specs.Content.{Content, IsContent}
-use Rattle.feed_releases.specs.NextRange.{IsNextRange}
+use Rattle.feed_releases.specs.NextRange.{IsNext, IsNextRange}
+use Rattle.feed_fetch.specs.Gaps.{requests_of}
 
 -- exactly the piece that the reply gave, or some range of the complete file that it gave, with its length
 abbrev pub IsPieceOf : Got → ℕ → Option ℕ → List ℕ → Type 0
@@ -98,13 +99,12 @@ pub record IsFilling (n : Name) (file : List ℕ) (h : History) : Type 0 where
   pub size : size_of h n ≡ Some (length file)
   pub bytes : IsOfFile n file h
 
--- a range of it is requested, whose first place is missing
-pub record IsAskedNext (n : Name) (file : List ℕ) (first last : ℕ) (h : History) : Type 0 where
+-- the next missing range of it is requested, by requests of at most this many places
+pub record IsAskedNext (n : Name) (file : List ℕ) (piece first last : ℕ) (h : History) : Type 0 where
   pub filling : IsFilling n file h
-  pub order : first ≤ last
-  pub within : last < length file
-  pub few : last < first + max_piece
-  pub missing : kept h n first ≡ None
+  pub least : 1 ≤ piece
+  pub most : piece ≤ max_piece
+  pub next : IsNext (kept h n) (length file) piece first last
 
 -- the number of missing places of the file
 abbrev pub missing_of : Name → List ℕ → History → ℕ
@@ -114,20 +114,21 @@ missing_of n file h = missing_below (kept h n) (length file)
 abbrev pub OrExcused : Result (Unit {0}) Stop → Type 0 → Type 0
 OrExcused result stands = MatchResult result (λ done. stands) IsExcused
 
+-- the offer is recorded, and no byte is lost by it
 abbrev pub IsOpened : Name → List ℕ → Result (Unit {0}) Stop → Content → Content → Type 0
-IsOpened n file result = IsTransition (IsOpenTo n file) (λ h k. OrExcused result (IsFilling n file k))
+IsOpened n file result =
+    IsTransition (IsOpenTo n file) (λ h k. OrExcused result (IsFilling n file k × ((place : ℕ) → kept k n place ≡ kept h n place)))
 
-abbrev pub IsFilled : Name → List ℕ → ℕ → ℕ → Result (Unit {0}) Stop → Content → Content → Type 0
-IsFilled n file first last result = IsTransition (IsAskedNext n file first last) (λ h k. OrExcused result (IsFilling n file k × (missing_of n file k < missing_of n file h)))
-
--- either one more place is filled, or all are
-abbrev pub IsContinued : Name → List ℕ → Result Bool Stop → Content → Content → Type 0
-IsContinued n file result =
-    IsTransition (IsFilling n file) (λ h k. MatchResult result (λ more. IsFilling n file k × MatchBool more (missing_of n file k < missing_of n file h) (IsFile k n file)) IsExcused)
+-- the requested range is filled: fewer places are missing, and exactly one request fewer is needed
+abbrev pub IsFilled : Name → List ℕ → ℕ → ℕ → ℕ → Result (Unit {0}) Stop → Content → Content → Type 0
+IsFilled n file piece first last result =
+    IsTransition (IsAskedNext n file piece first last)
+    (λ h k. OrExcused result (IsFilling n file k × (missing_of n file k < missing_of n file h) × (requests_of n file piece h ≡ suc (requests_of n file piece k))))
 
 abbrev pub IsFetched : Name → List ℕ → Result (Unit {0}) Stop → Content → Content → Type 0
 IsFetched n file result = IsTransition (IsOpenTo n file) (λ h k. OrExcused result (IsFilling n file k × IsFile k n file))
 
--- after this many rounds, each with at least one new place
-abbrev pub IsFilledAfter : Name → List ℕ → ℕ → Content → Content → Type 0
-IsFilledAfter n file rounds = IsTransition (IsOpenTo n file) (λ h k. IsFilling n file k × (missing_of n file k + rounds ≤ length file))
+-- after this many requests, each for a whole range
+abbrev pub IsFilledAfter : Name → List ℕ → ℕ → ℕ → Content → Content → Type 0
+IsFilledAfter n file piece count =
+    IsTransition (IsOpenTo n file) (λ h k. IsFilling n file k × (count + requests_of n file piece k ≡ requests_of n file piece h))

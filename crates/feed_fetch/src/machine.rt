@@ -5,8 +5,9 @@ ghost use Rattle.feed_model.specs.History.{History, Piece};
 ghost use Rattle.feed_releases.specs.Feeds.{recorded};
 ghost use Rattle.feed_limits.specs.Limits.{piece_limit};
 ghost use Rattle.feed_fetch.specs.Answers.{HasCause, HasRightAnswer, IsStoppedAt, piece_result, reply_or_stop};
-ghost use Rattle.feed_fetch.specs.Effects.{IsExtension, IsTakenFrom, IsFetchable, IsOpened, IsFilled};
-ghost use Rattle.feed_fetch.specs.Steps.{IsNextStep, IsReplyEvent, IsArrivedPart, HasLength, HasRange};
+ghost use Rattle.feed_fetch.specs.Effects.{IsExtension, IsTakenFrom};
+ghost use Rattle.feed_fetch.specs.Exchanges.{Opens, Fills};
+ghost use Rattle.feed_fetch.specs.Steps.{IsNextStep, IsReplyEvent, IsArrivedPart};
 ghost use Rattle.feed_fetch.specs.Steps.{phase_after, phase_after_part};
 ghost use Rattle.feed_fetch.specs.Printing.{has_failed};
 
@@ -118,11 +119,8 @@ impl Fetch {
     ) -> Result<(), Stop>
         ensures extends { IsExtension (IsReplyEvent name.now self.phase reply.now)
             (λ k. IfErr result (λ stop. IsStoppedAt name.now stop k)) (recorded feed.old) (recorded feed.new) }
-        ensures opens { (file : List ℕ) → self.phase ≡ Phase.New → HasLength file reply.now → IsFetchable file
-            → IsOpened name.now file result (recorded feed.old) (recorded feed.new) }
-        ensures fills { (file : List ℕ) (first last : ℕ) → self.phase ≡ Phase.Offered
-            → HasRange file first last reply.now → IsFetchable file
-            → IsFilled name.now file first last result (recorded feed.old) (recorded feed.new) }
+        ensures opens { Opens name.now self.phase reply.now result (recorded feed.old) (recorded feed.new) }
+        ensures fills { Fills name.now self.phase reply.now result (recorded feed.old) (recorded feed.new) }
         ensures caused { (refused : Option DialFault)
             → ((fault : DialFault) → reply.now ≡ Err (RequestFault.Dial fault) → refused ≡ Some fault)
             → IfErr result (λ stop. HasCause (has_failed out.new) refused stop) }
@@ -145,11 +143,8 @@ impl Fetch {
     ) -> Result<(), Stop>
         ensures extends { IsExtension (IsReplyEvent name.now self.old.phase reply.now)
             (λ k. IfErr result (λ stop. IsStoppedAt name.now stop k)) (recorded feed.old) (recorded feed.new) }
-        ensures opens { (file : List ℕ) → self.old.phase ≡ Phase.New → HasLength file reply.now → IsFetchable file
-            → IsOpened name.now file result (recorded feed.old) (recorded feed.new) }
-        ensures fills { (file : List ℕ) (first last : ℕ) → self.old.phase ≡ Phase.Offered
-            → HasRange file first last reply.now → IsFetchable file
-            → IsFilled name.now file first last result (recorded feed.old) (recorded feed.new) }
+        ensures opens { Opens name.now self.old.phase reply.now result (recorded feed.old) (recorded feed.new) }
+        ensures fills { Fills name.now self.old.phase reply.now result (recorded feed.old) (recorded feed.new) }
         ensures caused { (refused : Option DialFault)
             → ((fault : DialFault) → reply.now ≡ Err (RequestFault.Dial fault) → refused ≡ Some fault)
             → IfErr result (λ stop. HasCause (has_failed out.new) refused stop) }

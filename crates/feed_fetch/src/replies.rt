@@ -267,8 +267,8 @@ pub fn take_range<K: Keep + Drop, O: Write>(
 ) -> Result<(), Stop>
     ensures extends { IsExtension (IsReplyEvent name.now Phase.Offered reply.now)
         (λ k. IfErr result (λ stop. IsStoppedAt name.now stop k)) (recorded feed.old) (recorded feed.new) }
-    ensures fills { (file : List ℕ) (first last : ℕ) → HasRange file first last reply.now → IsFetchable file
-        → IsFilled name.now file first last result (recorded feed.old) (recorded feed.new) }
+    ensures fills { (file : List ℕ) (piece first last : ℕ) → HasRange file first last reply.now → IsFetchable file
+        → IsFilled name.now file piece first last result (recorded feed.old) (recorded feed.new) }
     ensures caused { (refused : Option DialFault)
         → ((fault : DialFault) → reply.now ≡ Err (RequestFault.Dial fault) → refused ≡ Some fault)
         → IfErr result (λ stop. HasCause (has_failed out.new) refused stop) }

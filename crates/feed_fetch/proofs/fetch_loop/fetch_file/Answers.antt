@@ -1,17 +1,19 @@
-use Rattle.std.proofs.Common.{IfErr, ◌+◌, sym, subst}
+use Rattle.std.proofs.Common.{IfErr, ◌+◌, ℕ, Ok, Err, sym, subst, arith}
 use Rattle.feed_releases.specs.ReleaseValue.{content_of}
 use Rattle.feed_fetch.specs.declared.machine.Phase.{Phase}
+use Rattle.feed_fetch.specs.declared.machine.Phase.TheVariants.{Offered}
+use Rattle.feed_fetch.specs.declared.stop.Stop.TheVariants.{NoProgress}
 use Rattle.feed_fetch.specs.Answers.{IsStoppedAt}
 use Rattle.feed_fetch.specs.Effects.{IsFetchEvent}
 use Rattle.feed_fetch.proofs.Extensions.{extends_more, extends_any, extends_none}
-use Rattle.feed_fetch.proofs.Runs.{IsRun, run_start, run_more, run_stops, run_ends, run_extends, done_fetched}
+use Rattle.feed_fetch.proofs.Runs.{IsRun, taken_of, run_start, run_more, run_stops, run_ends, run_counts, run_extends, done_fetched}
 use Rattle.feed_fetch.proofs.fetch_loop.fetch_file.Goals as goal
 
 pub rounds-init : goal.rounds-init
 rounds-init g c = record {
   running = λ e. let new = c.new-fetch.ensures.phase in cc;
   extends = extends_none (IsFetchEvent g.D.Dial.replies c.args.host.now c.args.name.now) (λ k. Unit {0}) (content_of c.args.feed.now.releases.items) (λ h. tt);
-  fills = λ file serves fit. run_start c.args.name.now file c.new-fetch.result.phase (content_of c.args.feed.now.releases.items) c.new-fetch.ensures.phase;
+  fills = λ file serves fit. run_start c.args.name.now file c.new-fetch.result.piece c.new-fetch.result.phase (content_of c.args.feed.now.releases.items) c.new-fetch.ensures.phase;
 }
 
 pub returns-in_default-clause-gets : goal.returns-in_default-clause-gets
@@ -36,10 +38,17 @@ returns-in-Err-clause-extends g c =
 pub returns-in-Err-clause-gets : goal.returns-in-Err-clause-gets
 returns-in-Err-clause-gets g c file serves fit =
     run_stops g.D.Dial.replies c.args.host.now c.args.name.now file c.rounds.fetch.piece c.rounds.counter c.rounds.fetch.phase c.in-Ask.request c.send-reply.result c.in-Err.stop
-    (content_of c.args.feed.now.releases.items) (content_of c.rounds.feed.releases.items)
-    (content_of c.take.new.feed.releases.items) serves c.requires.host fit c.rounds.fetch.most c.in-Ask.ensures c.send-reply.ensures.reply
-    (λ new has. c.in-Err.ensures.opens file new has fit) (λ first last offered has. c.in-Err.ensures.fills file first last offered has fit)
+    (content_of c.args.feed.now.releases.items) (content_of c.rounds.feed.releases.items) (content_of c.take.new.feed.releases.items)
+    (record { serves = serves; hosted = c.requires.host; fit = fit; least = c.rounds.fetch.least; most = c.rounds.fetch.most }) c.in-Ask.ensures c.send-reply.ensures.reply
+    (taken_of c.args.name.now file c.rounds.fetch.piece c.rounds.fetch.phase c.send-reply.result (Err c.in-Err.stop) (content_of c.rounds.feed.releases.items)
+    (content_of c.take.new.feed.releases.items) fit c.in-Err.ensures.opens c.in-Err.ensures.fills)
     (c.rounds.invariant.fills file serves fit)
+
+pub returns-clause-gets : goal.returns-clause-gets
+returns-clause-gets g c file serves fit =
+    run_counts c.args.name.now file c.rounds.fetch.piece c.rounds.counter c.rounds.fetch.phase (content_of c.args.feed.now.releases.items) (content_of c.rounds.feed.releases.items)
+    (Err NoProgress) fit
+    c.rounds.fetch.least (omega arith) (c.rounds.invariant.fills file serves fit)
 
 pub rounds-preserved : goal.rounds-preserved
 rounds-preserved g c = record {
@@ -53,12 +62,16 @@ rounds-preserved g c = record {
       (run_extends g.D.Dial.replies c.args.host.now c.args.name.now c.rounds.fetch.piece c.rounds.fetch.phase c.in-Ask.request c.send-reply.result (λ k. IfErr c.take.result
       (λ stop. IsStoppedAt c.args.name.now stop k))
       (content_of c.rounds.feed.releases.items) (content_of c.take.new.feed.releases.items) c.in-Ask.ensures c.send-reply.ensures.reply c.take.ensures.extends));
-  fills = λ file serves fit. subst (λ (p : Phase). IsRun c.args.name.now file p (c.rounds.counter + 1) (content_of c.args.feed.now.releases.items) (content_of c.take.new.feed.releases.items))
+  fills = λ file serves fit.
+      subst (λ (p : Phase). IsRun c.args.name.now file c.take.new.self.piece p (c.rounds.counter + 1) (content_of c.args.feed.now.releases.items) (content_of c.take.new.feed.releases.items))
       (sym c.in_default-take.ensures.phase)
+      (subst (λ (piece : ℕ). IsRun c.args.name.now file piece Offered (c.rounds.counter + 1) (content_of c.args.feed.now.releases.items) (content_of c.take.new.feed.releases.items))
+      (sym c.in_default-take.ensures.piece)
       (run_more g.D.Dial.replies c.args.host.now c.args.name.now file c.rounds.fetch.piece c.rounds.counter c.rounds.fetch.phase c.in-Ask.request c.send-reply.result
       (content_of c.args.feed.now.releases.items)
-      (content_of c.rounds.feed.releases.items) (content_of c.take.new.feed.releases.items) serves c.requires.host fit c.rounds.fetch.most c.in-Ask.ensures c.send-reply.ensures.reply
-      (λ new has. c.in_default-take.ensures.opens file new has fit)
-      (λ first last offered has. c.in_default-take.ensures.fills file first last offered has fit)
-      (c.rounds.invariant.fills file serves fit));
+      (content_of c.rounds.feed.releases.items) (content_of c.take.new.feed.releases.items)
+      (record { serves = serves; hosted = c.requires.host; fit = fit; least = c.rounds.fetch.least; most = c.rounds.fetch.most }) c.in-Ask.ensures c.send-reply.ensures.reply
+      (taken_of c.args.name.now file c.rounds.fetch.piece c.rounds.fetch.phase c.send-reply.result (Ok tt) (content_of c.rounds.feed.releases.items) (content_of c.take.new.feed.releases.items) fit
+      c.in_default-take.ensures.opens c.in_default-take.ensures.fills)
+      (c.rounds.invariant.fills file serves fit)));
 }
