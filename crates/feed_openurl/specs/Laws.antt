@@ -1,12 +1,16 @@
 -- Laws of queries as they are understood.
-use Rattle.std.specs.Prelude.{◌≡◌, ◌≤◌, ℕ, List, Option, Some, None, Ok, IfSome}
+use Rattle.std.specs.Prelude.{◌≡◌, ◌<◌, ◌≤◌, ℕ, length, List, Option, Some, None, Ok, IfSome}
 use Rattle.feed_dates.specs.declared.day_range.DayRange.{DayRange}
 use Rattle.feed_dates.specs.DayRanges.{query_days_of}
 use Rattle.feed_kbart.specs.Volumes.{volume_of}
+use Rattle.std.specs.List.{All}
 use Rattle.std.specs.Option.{option_and_then}
+use Rattle.feed_answer.specs.Limits.{query_limit}
+use Rattle.feed_answer.specs.Pairs.{first_days, first_volume}
 use Rattle.feed_answer.specs.Queries.{query_of}
 use Rattle.feed_answer.specs.QueryValue.{QueryValue}
-use Rattle.feed_openurl.specs.Values.{IsUnderstood, UnderstandingValue, count, identifier_limit}
+use Rattle.feed_openurl.specs.Values.{IsUnderstood, IsWellFormed, UnderstandingValue, count, identifier_limit}
+use Rattle.feed_openurl.specs.Written.{pairs_for, written}
 
 -- a query that the core answers keeps its identifiers, its days and its volume
 pub record KeepsAnswer (q : QueryValue) (u : UnderstandingValue) : Type 0 where
@@ -20,3 +24,31 @@ pub record KeepsAnswer (q : QueryValue) (u : UnderstandingValue) : Type 0 where
 abbrev pub AnswersAreKept : Type 0
 AnswersAreKept = (text : List ℕ) (q : QueryValue) (u : UnderstandingValue)
     → query_of text ≡ Ok q → count q.issns q.isbns ≤ identifier_limit → IsUnderstood text u → KeepsAnswer q u
+
+-- the pairs of the query that is written
+abbrev pub written_pairs : UnderstandingValue → List (List ℕ × List ℕ)
+written_pairs u = pairs_for u.issns u.isbns u.date u.volume
+
+-- the texts of pairs are bytes
+abbrev pub AreBytes : List (List ℕ × List ℕ) → Type 0
+AreBytes pairs = All (λ pair. All (λ b. b < 256) pair.0 × All (λ b. b < 256) pair.1) pairs
+
+-- the core accepts what is written for a query that is not refused, and asks for exactly its identifiers, with the first
+-- date and the first volume of it; if it is within the limit of a query
+abbrev pub WrittenIsAccepted : Type 0
+WrittenIsAccepted =
+    (u : UnderstandingValue) → IsWellFormed u → u.refusal ≡ None → AreBytes (written_pairs u) → length (written u) ≤ query_limit
+    → query_of (written u)
+    ≡ Ok (record { issns = u.issns; isbns = u.isbns; days = first_days (written_pairs u); volume = first_volume (written_pairs u) })
+
+-- an understanding asks for the identifiers of another, and is not refused
+pub record IsAskedFor (u again : UnderstandingValue) : Type 0 where
+  pub refusal : again.refusal ≡ None
+  pub issns : again.issns ≡ u.issns
+  pub isbns : again.isbns ≡ u.isbns
+
+-- what is written for a query that is not refused is understood with the same identifiers
+abbrev pub WrittenIsUnderstood : Type 0
+WrittenIsUnderstood =
+    (u again : UnderstandingValue) → IsWellFormed u → u.refusal ≡ None → AreBytes (written_pairs u) → length (written u) ≤ query_limit
+    → IsUnderstood (written u) again → IsAskedFor u again

@@ -1,0 +1,163 @@
+-- The core accepts what is written for a query, and its identifiers are understood as they were.
+use Rattle.std.proofs.Common.{◌≡◌, ◌≤◌, ◌<◌, ℕ, Bool, true, false, ◌&&◌, ◌||◌, List, [], ◌∷◌, ◌++◌, length, Option, Some, None, Ok, Err, if◌then◌else◌, codes, refl, ap, ◌∙◌, map, arith}
+use Rattle.std.specs.Prelude.{nat_lt}
+use Rattle.std.specs.List.{All, cons_option, filter_map, list_any}
+use Rattle.std.proofs.lemmas.Bool.{le-ltb}
+use Rattle.std.proofs.lemmas.List.{append-nil}
+use Rattle.std.proofs.lemmas.List.Elements.{All-head, All-tail}
+use Rattle.form_urlencoded.specs.Form as form
+use Rattle.form_urlencoded.proofs.FormLemmas.{round_trip}
+use Rattle.feed_answer.specs.IdentifierSet.{identifier_set}
+use Rattle.feed_answer.specs.Limits.{query_limit}
+use Rattle.feed_answer.specs.Pairs.{book_format, first_days, first_volume, has_format, is_empty, is_other_format, is_other_version, isbn_of_pair, issn_of_pair, journal_format}
+use Rattle.feed_answer.specs.Queries.{has_book_format, has_journal_format, has_other_format, query_isbns, query_issns, query_of, query_of_pairs}
+use Rattle.feed_answer.specs.QueryValue.{QueryValue}
+use Rattle.feed_answer.specs.declared.fault.QueryFault.TheVariants.{NoIsbn, NoIssn, OtherFormat, TooLong, Version}
+use Rattle.feed_openurl.specs.Laws.{IsAskedFor, WrittenIsAccepted, WrittenIsUnderstood, written_pairs}
+use Rattle.feed_openurl.specs.Values.{AreIdentifiers, IsCounted, IsIsbnText, IsIssnText, count, identifier_limit}
+use Rattle.feed_openurl.specs.Written.{date_pairs, isbn_pairs, issn_pairs, pairs_for, version_pair, volume_pairs, with_key, written}
+use Rattle.feed_openurl.specs.declared.fault.Refusal.{Refusal}
+use Rattle.feed_openurl.proofs.Kept.{answers_kept}
+use Rattle.feed_openurl.proofs.Sets.{set_of_ascending}
+
+abbrev Pair : Type 0
+Pair = List ℕ × List ℕ
+
+-- no written pair passes a test that fails for each of the keys
+none_in : (p : Pair → Bool) (key : List ℕ) → ((text : List ℕ) → p (key, text) ≡ false) → (texts : List (List ℕ)) (rest : List Pair)
+    → list_any p (map (with_key key) texts ++ rest) ≡ list_any p rest
+none_in p key fails [] rest = refl
+none_in p key fails (text ∷ texts) rest = ap (λ b. b || list_any p (map (with_key key) texts ++ rest)) (fails text) ∙ none_in p key fails texts rest
+
+none_last : (p : Pair → Bool) → ((text : List ℕ) → p (codes "rft.date", text) ≡ false) → ((text : List ℕ) → p (codes "rft.volume", text) ≡ false)
+    → (date volume : Option (List ℕ)) → list_any p (date_pairs date ++ volume_pairs volume) ≡ false
+none_last p dates volumes None None = refl
+none_last p dates volumes None (Some volume) = ap (λ b. b || false) (volumes volume)
+none_last p dates volumes (Some date) None = ap (λ b. b || false) (dates date)
+none_last p dates volumes (Some date) (Some volume) = ap (λ b. b || (p (codes "rft.volume", volume) || false)) (dates date) ∙ ap (λ b. b || false) (volumes volume)
+
+none_written : (p : Pair → Bool) → p version_pair ≡ false → ((text : List ℕ) → p (codes "rft.issn", text) ≡ false)
+    → ((text : List ℕ) → p (codes "rft.isbn", text) ≡ false) → ((text : List ℕ) → p (codes "rft.date", text) ≡ false)
+    → ((text : List ℕ) → p (codes "rft.volume", text) ≡ false)
+    → (issns isbns : List (List ℕ)) (date volume : Option (List ℕ)) → list_any p (pairs_for issns isbns date volume) ≡ false
+none_written p version first second third fourth issns isbns date volume =
+    ap (λ b. b || list_any p (issn_pairs issns ++ (isbn_pairs isbns ++ (date_pairs date ++ volume_pairs volume)))) version
+    ∙ none_in p (codes "rft.issn") first issns (isbn_pairs isbns ++ (date_pairs date ++ volume_pairs volume))
+    ∙ none_in p (codes "rft.isbn") second isbns (date_pairs date ++ volume_pairs volume)
+    ∙ none_last p third fourth date volume
+
+-- the values of a key that are read, and those of a key that is not
+read_in : (P : List ℕ → Type 0) (read : Pair → Option (List ℕ)) (key : List ℕ) → ((text : List ℕ) → P text → read (key, text) ≡ Some text)
+    → (texts : List (List ℕ)) (rest : List Pair) → All P texts → filter_map read (map (with_key key) texts ++ rest) ≡ texts ++ filter_map read rest
+read_in P read key reads [] rest all = refl
+read_in P read key reads (text ∷ texts) rest all =
+    ap (λ o. cons_option o (filter_map read (map (with_key key) texts ++ rest))) (reads text (All-head P text texts all))
+    ∙ ap (λ l. text ∷ l) (read_in P read key reads texts rest (All-tail P text texts all))
+
+skipped_in : (read : Pair → Option (List ℕ)) (key : List ℕ) → ((text : List ℕ) → read (key, text) ≡ None)
+    → (texts : List (List ℕ)) (rest : List Pair) → filter_map read (map (with_key key) texts ++ rest) ≡ filter_map read rest
+skipped_in read key fails [] rest = refl
+skipped_in read key fails (text ∷ texts) rest =
+    ap (λ o. cons_option o (filter_map read (map (with_key key) texts ++ rest))) (fails text) ∙ skipped_in read key fails texts rest
+
+issns_last : (date volume : Option (List ℕ)) → filter_map issn_of_pair (date_pairs date ++ volume_pairs volume) ≡ []
+issns_last None None = refl
+issns_last None (Some volume) = refl
+issns_last (Some date) None = refl
+issns_last (Some date) (Some volume) = refl
+
+isbns_last : (date volume : Option (List ℕ)) → filter_map isbn_of_pair (date_pairs date ++ volume_pairs volume) ≡ []
+isbns_last None None = refl
+isbns_last None (Some volume) = refl
+isbns_last (Some date) None = refl
+isbns_last (Some date) (Some volume) = refl
+
+issns_written : (issns isbns : List (List ℕ)) (date volume : Option (List ℕ)) → All IsIssnText issns
+    → filter_map issn_of_pair (pairs_for issns isbns date volume) ≡ issns
+issns_written issns isbns date volume all =
+    read_in IsIssnText issn_of_pair (codes "rft.issn") (λ text is. is) issns (isbn_pairs isbns ++ (date_pairs date ++ volume_pairs volume)) all
+    ∙ ap (λ l. issns ++ l) (skipped_in issn_of_pair (codes "rft.isbn") (λ text. refl) isbns (date_pairs date ++ volume_pairs volume) ∙ issns_last date volume)
+    ∙ append-nil issns
+
+isbns_written : (issns isbns : List (List ℕ)) (date volume : Option (List ℕ)) → All IsIsbnText isbns
+    → filter_map isbn_of_pair (pairs_for issns isbns date volume) ≡ isbns
+isbns_written issns isbns date volume all =
+    skipped_in isbn_of_pair (codes "rft.issn") (λ text. refl) issns (isbn_pairs isbns ++ (date_pairs date ++ volume_pairs volume))
+    ∙ read_in IsIsbnText isbn_of_pair (codes "rft.isbn") (λ text is. is) isbns (date_pairs date ++ volume_pairs volume) all
+    ∙ ap (λ l. isbns ++ l) (isbns_last date volume)
+    ∙ append-nil isbns
+
+module _ (issns isbns : List (List ℕ)) (date volume : Option (List ℕ)) (are : AreIdentifiers issns isbns) where
+  abbrev all_pairs : List Pair
+  all_pairs = pairs_for issns isbns date volume
+
+  no_version : list_any is_other_version all_pairs ≡ false
+  no_version = none_written is_other_version refl (λ t. refl) (λ t. refl) (λ t. refl) (λ t. refl) issns isbns date volume
+
+  no_other : list_any is_other_format all_pairs ≡ false
+  no_other = none_written is_other_format refl (λ t. refl) (λ t. refl) (λ t. refl) (λ t. refl) issns isbns date volume
+
+  no_book : has_book_format all_pairs ≡ false
+  no_book = none_written (has_format book_format) refl (λ t. refl) (λ t. refl) (λ t. refl) (λ t. refl) issns isbns date volume
+
+  no_journal : has_journal_format all_pairs ≡ false
+  no_journal = none_written (has_format journal_format) refl (λ t. refl) (λ t. refl) (λ t. refl) (λ t. refl) issns isbns date volume
+
+  no_format : has_other_format all_pairs ≡ false
+  no_format = ap (λ b. b || (has_journal_format all_pairs && has_book_format all_pairs)) no_other ∙ ap (λ b. b && has_book_format all_pairs) no_journal
+
+  own_issns : query_issns all_pairs ≡ issns
+  own_issns =
+      ap (λ b. if b then [] else identifier_set (filter_map issn_of_pair all_pairs)) no_book
+      ∙ ap identifier_set (issns_written issns isbns date volume are.issns_parse) ∙ set_of_ascending issns are.issns_ascend
+
+  own_isbns : query_isbns all_pairs ≡ isbns
+  own_isbns =
+      ap (λ b. if b then [] else identifier_set (filter_map isbn_of_pair all_pairs)) no_journal
+      ∙ ap identifier_set (isbns_written issns isbns date volume are.isbns_parse) ∙ set_of_ascending isbns are.isbns_ascend
+
+some_are : (issns isbns : List (List ℕ)) → 0 < count issns isbns → (is_empty issns && is_empty isbns) ≡ false
+some_are [] [] e = absurd (omega (arith, e))
+some_are [] (isbn ∷ isbns) e = refl
+some_are (issn ∷ issns) isbns e = refl
+
+not_empty : (issns isbns : List (List ℕ)) (refusal : Option Refusal) → IsCounted issns isbns refusal → refusal ≡ None
+    → (0 < count issns isbns) × (count issns isbns ≤ identifier_limit)
+not_empty issns isbns None is none = is
+not_empty issns isbns (Some why) is none = absurd (cc)
+
+abbrev asked : List Pair → List (List ℕ) → List (List ℕ) → QueryValue
+asked pairs issns isbns = record { issns = issns; isbns = isbns; days = first_days pairs; volume = first_volume pairs }
+
+-- the core answers the pairs that are written
+pairs_accepted : (issns isbns : List (List ℕ)) (date volume : Option (List ℕ)) → AreIdentifiers issns isbns → 0 < count issns isbns
+    → query_of_pairs (pairs_for issns isbns date volume) ≡ Ok (asked (pairs_for issns isbns date volume) issns isbns)
+pairs_accepted issns isbns date volume are counted =
+    let pairs = pairs_for issns isbns date volume in
+    let some = some_are issns isbns counted in
+    let fault = if has_book_format pairs then NoIsbn else NoIssn in
+    let answer = λ (a : List (List ℕ)) (b : List (List ℕ)). if is_empty a && is_empty b then Err fault else Ok (asked pairs a b) in
+    ap (λ b. if b then Err Version else if has_other_format pairs then Err OtherFormat else answer (query_issns pairs) (query_isbns pairs)) (no_version issns isbns date volume are)
+    ∙ ap (λ b. if b then Err OtherFormat else answer (query_issns pairs) (query_isbns pairs)) (no_format issns isbns date volume are)
+    ∙ ap (λ l. answer l (query_isbns pairs)) (own_issns issns isbns date volume are)
+    ∙ ap (λ l. answer issns l) (own_isbns issns isbns date volume are)
+    ∙ ap (λ b. if b then Err fault else Ok (asked pairs issns isbns)) some
+
+-- the core accepts the text that is written
+text_accepted : (text : List ℕ) (pairs : List Pair) (q : QueryValue) → length text ≤ query_limit → form.parse text ≡ pairs → query_of_pairs pairs ≡ Ok q
+    → query_of text ≡ Ok q
+unfolding query_of
+text_accepted text pairs q short are is =
+    ap (λ b. if b then Err TooLong else query_of_pairs (form.parse text)) (le-ltb query_limit (length text) short) ∙ ap query_of_pairs are ∙ is
+
+pub written_accepted : WrittenIsAccepted
+written_accepted u is none bytes short =
+    let counted = not_empty u.issns u.isbns u.refusal is.counted none in
+    text_accepted (written u) (written_pairs u) (asked (written_pairs u) u.issns u.isbns) short (round_trip (written_pairs u) bytes)
+    (pairs_accepted u.issns u.isbns u.date u.volume is.identifiers counted.0)
+
+pub written_understood : WrittenIsUnderstood
+written_understood u again is none bytes short read =
+    let counted = not_empty u.issns u.isbns u.refusal is.counted none in
+    let kept = answers_kept (written u) (asked (written_pairs u) u.issns u.isbns) again (written_accepted u is none bytes short) counted.1 read in
+    record { refusal = kept.refusal; issns = kept.issns; isbns = kept.isbns }
