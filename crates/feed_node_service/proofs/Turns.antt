@@ -15,7 +15,7 @@ use Rattle.feed_resolver.specs.FeedReplies.{IsFeedResponse}
 use Rattle.feed_node_service.specs.Responders.{IsReplyBy}
 
 pub as_node : (policy : FetchPolicyValue) (bytes : List ℕ) (keeps : Bool) (actives : List ActiveValue) (response : ResponseValue) → IsFeedResponse policy bytes keeps None
-    → IsNodeReply policy bytes keeps actives response → IsReplyBy policy bytes keeps actives response
+    → IsNodeReply policy bytes [] keeps actives response → IsReplyBy policy bytes keeps actives response
 as_node policy bytes keeps actives response other is = inr (other, is)
 
 -- a response with these parts
