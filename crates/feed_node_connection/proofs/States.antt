@@ -226,8 +226,8 @@ invalid_after old history reply was never = (
 )
 
 -- the bytes of a persistent head allow its reply to say so
-pub allowed_head : (wanted : List ℕ → ℕ) (bytes : List ℕ) (found : FoundRequest) → IsFoundIn wanted bytes found → found.head_len + found.body_len ≤ length bytes
-    → found.persists ≡ true → IsPersistent (wanted (take found.head_len bytes)) (take found.head_len bytes) (body_after found.head_len found.body_len bytes)
+pub allowed_head : (wanted : RequestHead → ℕ) (bytes : List ℕ) (found : FoundRequest) → IsFoundIn wanted bytes found → found.head_len + found.body_len ≤ length bytes
+    → found.persists ≡ true → IsPersistent wanted (take found.head_len bytes) (body_after found.head_len found.body_len bytes)
 allowed_head wanted bytes found is within keeps =
     let taken : take found.head_len bytes ≡ print_request is.head = head_taken bytes is.head found.head_len is.begins is.found.head_len_is in
     let long : length (body_after found.head_len found.body_len bytes) ≡ found.body_len = body_long found.head_len found.body_len bytes within in
@@ -239,7 +239,7 @@ allowed_head wanted bytes found is within keeps =
         short = is.begins.short;
         few = is.begins.few;
       });
-      size = long ∙ is.found.body_is ∙ ap (λ t. body_len_of (wanted t) is.head) (sym taken);
+      size = long ∙ is.found.body_is;
       keeps = ap (persists is.head) long ∙ sym is.found.persists_is ∙ keeps;
     }
   where
@@ -265,7 +265,7 @@ replied_head replies found old new history parsing state limits is within respon
     long : length (body_after found.head_len found.body_len old.received.items) ≡ found.body_len
     long = length-take-le found.body_len (drop found.head_len old.received.items) (omega (arith, within, length-drop found.head_len old.received.items))
 
-    wanted : length (body_after found.head_len found.body_len old.received.items) ≡ body_len_of (replies.0 (print_request is.head)) is.head
+    wanted : length (body_after found.head_len found.body_len old.received.items) ≡ body_len_of (replies.0 is.head) is.head
     wanted = long ∙ is.found.body_is
 
     keeps : (p : Bool) → found.persists ≡ p → persists is.head (length (body_after found.head_len found.body_len old.received.items)) ≡ p
@@ -407,7 +407,7 @@ stated_is wanted size head is some = by (cases_Bool (states_len head wanted))
     by (inr lacks) = let zero : size ≡ 0 = is ∙ rw lacks refl in absurd (omega (arith, zero, some))
 
 -- the bytes held do not have the body
-pub waited : (wanted : List ℕ → ℕ) (found : FoundRequest) (old new : Connection) (history : List Event) → old.phase ≡ Parsing → HasState old history → new.limits ≡ old.limits
+pub waited : (wanted : RequestHead → ℕ) (found : FoundRequest) (old new : Connection) (history : List Event) → old.phase ≡ Parsing → HasState old history → new.limits ≡ old.limits
     → IsFoundIn wanted old.received.items found → length old.received.items < found.head_len + found.body_len
     → HasBegunWait (found.expects_continue && not old.is_continued) old new → HasWaited new history
 waited wanted found old new history parsing state limits is missing waits =
@@ -449,7 +449,7 @@ waited wanted found old new history parsing state limits is missing waits =
             head = is.head;
             begins = rw same.received is.begins;
             size = found.body_len;
-            states = stated_is (wanted (print_request is.head)) found.body_len is.head is.found.body_is (omega (arith, is.within, missing));
+            states = stated_is (wanted is.head) found.body_len is.head is.found.body_is (omega (arith, is.within, missing));
             small = is.small;
             missing = rw same.received (omega (arith, missing, is.found.head_len_is));
             told = λ expects. same.is_continued ∙ one_false found.expects_continue old.is_continued none (is.found.expects_is ∙ expects);

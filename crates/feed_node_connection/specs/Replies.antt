@@ -18,10 +18,10 @@ unavailable =
     codes "HTTP/1.1 503 Service Unavailable\r\nContent-Type: text/plain; charset=utf-8\r\n"
     ++ codes "Content-Length: 7\r\nRetry-After: 1\r\nConnection: close\r\n\r\nMemory\n"
 
--- the length of the body that a responder wants after the bytes of a head; and a relation between these bytes, a body,
+-- the length of the body that a responder wants after a head; and a relation between the bytes of a head, a body,
 -- whether the connection persists after the request, and its reply, which is `None` if the responder makes none
 abbrev pub Replies : Type 1
-Replies = (List ℕ → ℕ) × (List ℕ → List ℕ → Bool → Option (List ℕ) → Type 0)
+Replies = (RequestHead → ℕ) × (List ℕ → List ℕ → Bool → Option (List ℕ) → Type 0)
 
 -- the responder made no reply to these bytes
 abbrev pub HasNoReply : Replies → List ℕ → List ℕ → Type 0
@@ -29,7 +29,7 @@ HasNoReply replies bytes body = (keeps : Bool) × replies.1 bytes body keeps Non
 
 -- the body has the length that the responder wants, if the head states that length
 abbrev pub IsWanted : Replies → RequestHead → List ℕ → Type 0
-IsWanted replies head body = length body ≡ body_len_of (replies.0 (print_request head)) head
+IsWanted replies head body = length body ≡ body_len_of (replies.0 head) head
 
 -- the reply to a request is the responder's. The last one is a request after which the connection does not persist, or
 -- one to which the responder made no reply: then the reply is `unavailable`
@@ -73,15 +73,15 @@ pub record IsFound (head : RequestHead) (head_len wanted : ℕ) (found : FoundRe
   pub expects_is : found.expects_continue ≡ expects_continue head
 
 -- the bytes begin with the request
-pub record IsFoundIn (wanted : List ℕ → ℕ) (bytes : List ℕ) (request : FoundRequest) : Type 0 where
+pub record IsFoundIn (wanted : RequestHead → ℕ) (bytes : List ℕ) (request : FoundRequest) : Type 0 where
   pub head : RequestHead
   pub begins : BeginsWithHead head_limit field_limit bytes head
-  pub found : IsFound head (length (print_request head)) (wanted (print_request head)) request
+  pub found : IsFound head (length (print_request head)) (wanted head) request
   pub within : request.head_len ≤ length bytes
   pub small : request.body_len ≤ body_limit
 
 -- the state of the head is right for these bytes
-abbrev pub IsHeadState : (List ℕ → ℕ) → List ℕ → HeadState → Type 0
+abbrev pub IsHeadState : (RequestHead → ℕ) → List ℕ → HeadState → Type 0
 IsHeadState wanted bytes state.Incomplete = IsUnfinished head_limit bytes
 IsHeadState wanted bytes (state.Whole found) = IsFoundIn wanted bytes found
 IsHeadState wanted bytes state.Invalid = NeverBeginsWithHead head_limit field_limit bytes

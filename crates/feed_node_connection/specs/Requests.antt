@@ -46,10 +46,10 @@ persists head size =
     (head.minor == 1) && ((not (is_post head) || nat_lt 0 size) && (lacks_close head.fields && states_len head size))
 
 -- the connection persists after the request with these bytes of its head, and this body of the wanted length or none
-pub record IsPersistent (wanted : ℕ) (bytes body : List ℕ) : Type 0 where
+pub record IsPersistent (wanted : RequestHead → ℕ) (bytes body : List ℕ) : Type 0 where
   pub head : RequestHead
   pub begins : BeginsWithHead head_limit field_limit bytes head
-  pub size : length body ≡ body_len_of wanted head
+  pub size : length body ≡ body_len_of (wanted head) head
   pub keeps : persists head (length body) ≡ true
 
 -- a request, its head and its body: the connection persists after it; it is the last; or the bytes are not a request,

@@ -302,8 +302,8 @@ impl Connection {
     )
         requires within { head_len + body_len ≤ vec_len self.old.received }
         requires allowed { persists ≡ true
-            → IsPersistent (R.wanted responder.now (take head_len self.old.received.items))
-            (take head_len self.old.received.items) (body_after head_len body_len self.old.received.items) }
+            → IsPersistent (R.wanted responder.now) (take head_len self.old.received.items)
+            (body_after head_len body_len self.old.received.items) }
         ensures responded { HasResponded (R.wanted responder.now, R.replies responder.now)
             head_len body_len persists self.old self.new }
         ensures limits { self.new.limits ≡ self.old.limits }

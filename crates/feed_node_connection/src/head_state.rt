@@ -149,7 +149,7 @@ pub(crate) fn head_state<R: Respond>(bytes: &[u8], responder: &R) -> HeadState
     match find_head(bytes, &mut headers) {
         HeadFound::Whole(spans) => {
             let request = Request::new(bytes, &headers, spans);
-            let wanted = responder.body_len(&bytes[..spans.len]);
+            let wanted = responder.body_len(&request);
             HeadState::Whole(found(&request, spans.len, wanted))
         }
         HeadFound::Unfinished => HeadState::Incomplete,

@@ -3,6 +3,7 @@ ghost use Rattle.std.specs.Prelude.{◌≡◌, IfOk};
 ghost use Rattle.feed_node_connection.specs.Events.{continue_text};
 ghost use Rattle.feed_node_connection.specs.Replies.{unavailable};
 
+use feed_http_heads::Request;
 use std::alloc::{AllocError, Global};
 
 /// The reply if the responder makes none (RFC 9110, section 15.6.4).
@@ -71,20 +72,23 @@ impl Reply {
 /// Makes the replies of a node.
 pub trait Respond {
     ghost use Rattle.std.specs.Prelude.{◌≡◌, ◌≤◌, List, ℕ, Bool, true, Option, Some, None, IfOk, IfErr};
+    ghost use Rattle.httparse.specs.Grammar.{RequestHead};
     ghost use Rattle.feed_http_heads.specs.Options.{SaysWhetherItKeeps};
+    ghost use Rattle.feed_http_heads.specs.Requests.{IsInBuffer, HasHead};
     ghost use Rattle.feed_node_connection.specs.Requests.{IsPersistent};
 
     /// The length of the body that the responder wants after this head, or 0.
-    ghost wanted: { Self → List ℕ → ℕ };
+    ghost wanted: { Self → RequestHead → ℕ };
 
     /// A head of a request, or bytes that are not one, and this body have this reply if the connection persists after
     /// it, or does not. Without a reply the responder made none.
     ghost replies: { Self → List ℕ → List ℕ → Bool → Option (List ℕ) → Type 0 };
 
-    /// Returns how many bytes of a body are received after this head of a request: at most 8,192, and 0 for none. They
+    /// Returns how many bytes of a body are received after the head of a request: at most 8,192, and 0 for none. They
     /// are received only if the head states this length.
-    fn body_len(&self, head: &[u8]) -> usize
-        ensures wanted { result ≡ wanted self.now head.now }
+    fn body_len(&self, request: &Request<'_>) -> usize
+        requires { IsInBuffer request.now }
+        ensures wanted { (head : RequestHead) → HasHead request.now head → result ≡ wanted self.now head }
         ensures limit { result ≤ BODY_LIMIT };
 
     /// Returns the reply to the head of a request and the body after it, or to bytes that are not the head of a
@@ -97,7 +101,7 @@ pub trait Respond {
         body: &[u8],
         persists: bool,
     ) -> Result<Reply, RespondFault>
-        requires allowed { persists ≡ true → IsPersistent (wanted self.now head.now) head.now body.now }
+        requires allowed { persists ≡ true → IsPersistent (wanted self.now) head.now body.now }
         ensures reply { IfOk result (λ reply. replies self.now head.now body.now persists (Some reply.bytes.items)) }
         ensures says { IfOk result (λ reply. SaysWhetherItKeeps persists reply.bytes.items) }
         ensures none { IfErr result (λ fault. replies self.now head.now body.now persists None) };
