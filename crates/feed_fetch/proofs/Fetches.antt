@@ -1,5 +1,5 @@
 -- The result of one request to a server.
-use Rattle.std.proofs.Common.{◌≡◌, ◌<◌, ◌≤◌, ◌+◌, ◌-◌, ◌^◌, ◌⊎◌, ◌≤ℤ◌, ◌<ℤ◌, ℕ, suc, Bool, true, false, List, ◌∷◌, ◌++◌, length, min, Option, Some}
+use Rattle.std.proofs.Common.{◌≡◌, ◌<◌, ◌≤◌, ◌+◌, ◌-◌, ◌^◌, ◌⊎◌, ◌≤ℤ◌, ◌<ℤ◌, ℕ, suc, Bool, true, List, ◌∷◌, length, min, Some}
 use Rattle.std.proofs.Common.{None, Result, Ok, Err, inl, inr, refl, sym, ◌∙◌, ap, subst, arith, lit<}
 use Rattle.std.specs.Prelude.{slice_range, nat_eq, IsTrue, MatchResult}
 use Rattle.std.proofs.lemmas.Bool.Decides.{nat_tests}
@@ -30,7 +30,7 @@ use Rattle.feed_fetch.specs.declared.stop.Stop.TheVariants as stops
 use Rattle.feed_dial.specs.Replies.{Replies, Unknown, Known, IfKnown}
 use Rattle.feed_fetch.specs.Servers.{IsReplied, IsReadOf}
 use Rattle.feed_fetch.specs.Answers.{HasRightAnswer, reply_or_stop, offer_result, piece_result, round_result, IsExcused}
-use Rattle.feed_fetch.specs.Effects.{IsExtension, IsTransition, IsFetchEvent, IsTakenFrom, ServesFile, IsFetchable, IsOpenTo, IsFilling, IsAskedNext, OrExcused, IsOpened, IsFilled, IsFilledAfter}
+use Rattle.feed_fetch.specs.Effects.{IsFetchEvent, IsTakenFrom, ServesFile, IsFetchable, IsOpenTo, IsFilling, OrExcused, IsOpened, IsFilled, IsFilledAfter}
 use Rattle.feed_fetch.specs.Effects.{IsFetched, IsReported, IsAllFetched, missing_of}
 use Rattle.feed_fetch.specs.Gaps.{requests_of}
 use Rattle.feed_fetch.proofs.Gaps.{needed_same, needed_most, needed_fewer}

@@ -208,26 +208,12 @@ filled_with h n file piece first last b a is len asked taken = record {
     above : (place : ℕ) → last < place → kept h n place ≡ kept k n place
     above place gt = sym (here place ∙ ap (or_else (kept h n place)) (byte_at_past first b place (omega (arith, gt, asked.next.order)) (omega (arith, len, gt, asked.next.order))) ∙ or_else-none (kept h n place))
 
-pub some_not_none : (o : Option ℕ) → IsSome o → o ≡ None → ⊥
-some_not_none o some none = some_none o some none
-
 same_some : (a b : Option ℕ) (x y : ℕ) → a ≡ Some x → a ≡ Some y → x ≡ y
 same_some a b x y e d = cc
 
 some_of : (o : Option ℕ) → IsSome o → (y : ℕ) × (o ≡ Some y)
 some_of (Some y) s = (y, refl)
 some_of None s = absurd (let u : false ≡ true = s in cc)
-
-missing_all : (f : ℕ → Option ℕ) (n : ℕ) → missing_below f n ≤ n
-missing_all f zero = omega arith
-missing_all f (suc n) = by (f n) refl (missing_all f n)
-  where
-    by : (x : Option ℕ) → f n ≡ x → missing_below f n ≤ n → missing_below f (suc n) ≤ suc n
-    by (Some b) e rest = rw e (omega (arith, rest))
-    by None e rest = rw e (omega (arith, rest))
-
-pub missing_most_of : (n : Name) (file : List ℕ) (h : History) → missing_of n file h ≤ length file
-missing_most_of n file h = missing_all (kept h n) (length file)
 
 -- the file is whole where each place has a byte
 pub whole_file : (h : History) (n : Name) (file : List ℕ) → IsFilling n file h → ((place : ℕ) → place < length file → IsSome (kept h n place)) → IsFile h n file

@@ -1,6 +1,5 @@
 -- A fetch from an honest server, exchange by exchange.
-use Rattle.std.proofs.Common.{◌≡◌, ◌<◌, ◌≤◌, ◌+◌, ℕ, zero, suc, List, length, Option, Some, None, IsSome, Result, Ok, Err, refl, sym, ◌∙◌, ap, subst, arith}
-use Rattle.std.specs.Int.{div_ceil}
+use Rattle.std.proofs.Common.{◌≡◌, ◌<◌, ◌≤◌, ◌+◌, ℕ, zero, suc, List, length, Some, None, IsSome, Ok, Err, refl, sym, ◌∙◌, subst, arith}
 use Rattle.feed_names.specs.ReleaseName.{Name}
 use Rattle.feed_dial.specs.Replies.{Replies}
 use Rattle.feed_model.specs.History.{History, kept, IsFile}
@@ -12,9 +11,8 @@ use Rattle.feed_fetch.specs.declared.machine.Next.TheVariants.{Ask, Done}
 use Rattle.feed_fetch.specs.declared.machine.Phase.{Phase}
 use Rattle.feed_fetch.specs.declared.machine.Phase.TheVariants as phases
 use Rattle.feed_fetch.specs.declared.machine.Request.TheVariants as requests
-use Rattle.feed_fetch.specs.declared.stop.Stop.{Stop}
 use Rattle.feed_fetch.specs.Effects.{IsFetchable, IsOpenTo, IsFilling, IsReported}
-use Rattle.feed_fetch.specs.Exchanges.{IsExchange, AreExchanges, IsHonestFetch, IsBounded, IsEnding, IsExcusedAlone, NeedsWhole}
+use Rattle.feed_fetch.specs.Exchanges.{AreExchanges, IsHonestFetch, IsBounded, IsEnding, IsExcusedAlone, NeedsWhole}
 use Rattle.feed_fetch.specs.Gaps.{requests_of}
 use Rattle.feed_fetch.specs.Steps.{IsNextStep}
 use Rattle.feed_fetch.proofs.Gaps.{ceil_none, needed_before, needed_missing, needed_run}

@@ -1,5 +1,5 @@
 -- The replies that a fetch takes.
-use Rattle.std.proofs.Common.{◌≡◌, ◌≤◌, ◌<◌, ◌+◌, ◌⊎◌, ℕ, List, length, Bool, Option, Some, None, Result, Ok, Err, inl, inr, refl, sym, subst, get_or, arith}
+use Rattle.std.proofs.Common.{◌≡◌, ◌≤◌, ◌<◌, ◌+◌, ◌⊎◌, ℕ, List, length, Bool, Option, Some, None, Result, Ok, Err, refl, sym, subst, get_or, arith}
 use Rattle.std.specs.Prelude.{slice_range, IsTrue}
 use Rattle.feed_names.specs.ReleaseName.{Name}
 use Rattle.feed_dial.specs.Replies.{Replies}
@@ -18,7 +18,7 @@ use Rattle.feed_fetch.specs.declared.machine.Next.TheVariants.{Ask, Done}
 use Rattle.feed_fetch.specs.declared.stop.RequestFault.{RequestFault}
 use Rattle.feed_fetch.specs.declared.stop.Stop.{Stop}
 use Rattle.feed_fetch.specs.declared.stop.Stop.TheVariants as stops
-use Rattle.feed_fetch.specs.Answers.{HasRightAnswer, offer_result, piece_result, round_result, reply_or_stop, IsExcused}
+use Rattle.feed_fetch.specs.Answers.{HasRightAnswer, offer_result, piece_result, round_result, reply_or_stop}
 use Rattle.feed_fetch.specs.Effects.{IsExtension, IsFetchEvent, IsTakenFrom, ServesFile, IsFetchable, IsOpened, IsFilled, IsFilledAfter, IsFetched, IsFilling, OrExcused}
 use Rattle.feed_fetch.specs.Exchanges.{Opens, Fills}
 use Rattle.feed_fetch.specs.Steps.{IsNextStep, IsReplyEvent, IsReplyOf, HasLength, HasRange}

@@ -1,5 +1,5 @@
 -- The exchanges of a fetch with an honest server, whoever runs it.
-use Rattle.std.specs.Prelude.{◌≡◌, ◌≤◌, ◌+◌, ℕ, zero, suc, List, length, Option, None, IsTrue, Result, Ok, Err}
+use Rattle.std.specs.Prelude.{◌≡◌, ◌≤◌, ◌+◌, ℕ, zero, suc, List, length, None, IsTrue, Result, Ok, Err}
 use Rattle.std.specs.Int.{div_ceil}
 use Rattle.feed_names.specs.ReleaseName.{Name}
 use Rattle.feed_limits.specs.Limits.{piece_limit}
@@ -18,7 +18,7 @@ use Rattle.feed_fetch.specs.declared.stop.Stop.{Stop}
 use Rattle.feed_fetch.specs.Answers.{IsExcused}
 use Rattle.feed_fetch.specs.Effects.{ServesFile, IsFetchable, IsOpenTo, IsOpened, IsFilled, IsReported}
 use Rattle.feed_fetch.specs.Gaps.{requests_of}
-use Rattle.feed_fetch.specs.Steps.{IsNextStep, IsReplyOf, HasLength, HasRange, phase_after}
+use Rattle.feed_fetch.specs.Steps.{IsNextStep, IsReplyOf, HasLength, HasRange}
 
 -- the first reply opens the fetch of each file whose length it has
 abbrev pub Opens : Name → Phase → Result Got RequestFault → Result (Unit {0}) Stop → Content → Content → Type 0

@@ -130,7 +130,7 @@ impl<T: Stream> Peer<T> {
             return;
         }
         let passed = now.saturating_sub(self.clock) / 1_000;
-        self.clock = now;
+        self.clock = self.clock.max(now);
         self.connection.advance_clock(passed);
     }
 
