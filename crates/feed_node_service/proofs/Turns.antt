@@ -1,27 +1,102 @@
 -- The reply of a responder in a turn.
-use Rattle.std.proofs.Common.{◌≡◌, ◌⊎◌, ℕ, Bool, true, false, List, length, None, inl, inr, refl, sym, ap, ◌∙◌, subst}
-use Rattle.std.specs.Prelude.{◌==◌, ◌&&◌, ◌||◌, not, nat_lt, is_some, if◌then◌else◌}
+use Rattle.std.proofs.Common.{◌≡◌, ◌≤◌, ◌⊎◌, ℕ, Bool, true, false, List, length, take, drop, Some, None, inl, inr, refl, sym, ap, ◌∙◌, subst, arith}
+use Rattle.std.proofs.lemmas.Bool.{cases_Bool, false≢true}
+use Rattle.std.proofs.lemmas.Slice.Eq.{bytes_eq-Decides}
+use Rattle.std.proofs.lemmas.List.{take-take}
+use Rattle.std.specs.Prelude.{◌==◌, ◌&&◌, ◌||◌, not, nat_lt, is_some, if◌then◌else◌, codes, Result, Ok, Err}
 use Rattle.std.specs.Str.{bytes_eq}
-use Rattle.std.specs.Prelude.{codes}
 use Rattle.httparse.specs.Grammar.{RequestHead}
 use Rattle.httparse.proofs.GrammarLemmas.{request_unique}
 use Rattle.feed_http_heads.specs.Options.{lacks_close, SaysWhetherItKeeps}
 use Rattle.feed_node_connection.specs.Requests.{IsPersistent, is_post, persists, states_len, body_len_of}
 use Rattle.feed_releases.specs.Actives.{ActiveValue}
+use Rattle.feed_http_heads.specs.Fields.{values_named, has_any}
+use Rattle.feed_http_heads.specs.Requests.{lacks_host}
+use Rattle.feed_http_heads.specs.Targets.{origin_form}
+use Rattle.feed_resolver_request.specs.Targets.{path_in, resource_of, names_package}
 use Rattle.feed_resolver_request.specs.FetchRequests.{FetchPolicyValue, name_to_fetch}
+use Rattle.feed_resolver_request.specs.Forms.{form_limit, takes_form, is_form_post, has_form_type, stated_length, form_by, form_in, length_of_form, form_length}
+use Rattle.feed_resolver_request.specs.declared.target.Resource.TheVariants.{Home, Status, Resolve, Package, Go, Unknown}
+use Rattle.feed_resolver_request.specs.declared.form.FormFault.{FormFault}
+use Rattle.feed_resolver_request.specs.declared.form.FormFault.TheVariants.{Coding}
 use Rattle.feed_resolver_reply.specs.Replies.{ResponseValue}
 use Rattle.feed_resolver.specs.NodeReplies.{IsNodeReply, SaysOfConnection}
 use Rattle.feed_resolver.specs.FeedReplies.{IsFeedResponse}
 use Rattle.feed_node_service.specs.Responders.{IsReplyBy}
 
-pub as_node : (policy : FetchPolicyValue) (bytes : List ℕ) (keeps : Bool) (actives : List ActiveValue) (response : ResponseValue) → IsFeedResponse policy bytes keeps None
-    → IsNodeReply policy bytes [] keeps actives response → IsReplyBy policy bytes keeps actives response
-as_node policy bytes keeps actives response other is = inr (other, is)
+pub as_node : (policy : FetchPolicyValue) (bytes body : List ℕ) (keeps : Bool) (actives : List ActiveValue) (response : ResponseValue) → IsFeedResponse policy bytes keeps None
+    → IsNodeReply policy bytes body keeps actives response → IsReplyBy policy bytes body keeps actives response
+as_node policy bytes body keeps actives response other is = inr (other, is)
 
 -- a response with these parts
 pub same_response : (r : ResponseValue) (bytes : List ℕ) (status size : ℕ) → bytes ≡ r.bytes → status ≡ r.status → size ≡ r.body_length
     → r ≡ record { bytes = bytes; status = status; body_length = size }
 same_response r bytes status size b s l = rw (b, s, l) refl
+
+-- ---- a request to fetch has no form
+
+names_fetch : (is_post is_below : Bool) (rest : List ℕ) → is_some (if is_post then (if is_below then Some rest else None) else None) ≡ true → is_below ≡ true
+names_fetch true true rest is = refl
+names_fetch true false rest is = absurd (cc)
+names_fetch false is_below rest is = absurd (cc)
+
+-- a path that begins with `/feed/` is none that begins otherwise
+differs : (path other : List ℕ) → take 6 path ≡ codes "/feed/" → bytes_eq (take 6 other) (codes "/feed/") ≡ false → bytes_eq path other ≡ false
+differs path other feed not_feed = by (cases_Bool (bytes_eq path other))
+  where
+    by : (bytes_eq path other ≡ true) ⊎ (bytes_eq path other ≡ false) → bytes_eq path other ≡ false
+    by (inl same) =
+        let is : path ≡ other = (bytes_eq-Decides path other).0 same in
+        absurd (false≢true (sym not_feed ∙ (bytes_eq-Decides (take 6 other) (codes "/feed/")).1 (ap (take 6) (sym is) ∙ feed)))
+    by (inr other_is) = other_is
+
+no_form_by : (home status resolve go package : Bool) → resolve ≡ false → go ≡ false → package ≡ false
+    → takes_form (if home then Home else (if status then Status else (if resolve then Resolve else (if go then Go else (if package then Package else Unknown))))) ≡ false
+no_form_by true status resolve go package r g p = refl
+no_form_by false true resolve go package r g p = refl
+no_form_by false false true go package r g p = absurd (cc)
+no_form_by false false false true package r g p = absurd (cc)
+no_form_by false false false false true r g p = absurd (cc)
+no_form_by false false false false false r g p = refl
+
+no_form_below_feed : (path : List ℕ) → take 6 path ≡ codes "/feed/" → takes_form (resource_of path) ≡ false
+no_form_below_feed path feed =
+    no_form_by (bytes_eq path (codes "/")) (bytes_eq path (codes "/status")) (bytes_eq path (codes "/resolve")) (bytes_eq path (codes "/go"))
+    (names_package path) (differs path (codes "/resolve") feed refl) (differs path (codes "/go") feed refl)
+    (differs (take 9 path) (codes "/resolve/") (take-take 6 9 path (omega arith) ∙ feed) refl)
+
+no_form_post : (is_post has_host takes : Bool) (form : Result ℕ FormFault) → takes ≡ false
+    → length_of_form (if is_post && (has_host && takes) then Some form else None) ≡ 0
+no_form_post true true takes form none = rw none refl
+no_form_post true false takes form none = refl
+no_form_post false has_host takes form none = refl
+
+fetch_has_no_form : (head : RequestHead) → is_some (name_to_fetch head) ≡ true → form_length head ≡ 0
+fetch_has_no_form head named =
+    let path = path_in (origin_form head.target) in
+    let below = names_fetch (bytes_eq head.method (codes "POST")) (bytes_eq (take 6 path) (codes "/feed/")) (drop 6 path) named in
+    no_form_post (bytes_eq head.method (codes "POST")) (not (lacks_host head)) (takes_form (resource_of path)) (form_in head)
+    (no_form_below_feed path ((bytes_eq-Decides (take 6 path) (codes "/feed/")).0 below))
+
+-- ---- a form is short
+
+form_is_short : (typed : Bool) (stated : Result ℕ FormFault) → length_of_form (Some (form_by typed stated)) ≤ 8192
+form_is_short typed (Err fault) = omega arith
+form_is_short typed (Ok n) = by typed (cases_Bool (nat_lt form_limit n))
+  where
+    by : (t : Bool) → (nat_lt form_limit n ≡ true) ⊎ (nat_lt form_limit n ≡ false) → length_of_form (Some (form_by t (Ok n))) ≤ 8192
+    by t (inl long) = rw long (omega arith)
+    by true (inr short) = rw short (omega (arith, short))
+    by false (inr short) = rw short (omega arith)
+
+pub form_within : (head : RequestHead) → form_length head ≤ 8192
+form_within head = by (is_form_post head) (has_any (values_named (codes "transfer-encoding") head.fields))
+  where
+    by : (is_post has_coding : Bool)
+        → length_of_form (if is_post then Some (if has_coding then Err Coding else form_by (has_form_type head) (stated_length head)) else None) ≤ 8192
+    by false has_coding = omega arith
+    by true true = omega arith
+    by true false = form_is_short (has_form_type head) (stated_length head)
 
 -- ---- the reply says whether the connection persists
 
@@ -51,13 +126,14 @@ none_wanted false = refl
 fetch_is_post : (head : RequestHead) → is_some (name_to_fetch head) ≡ true → is_post head ≡ false → ⊥
 fetch_is_post head named none = absurd (cc)
 
-pub says_in_turn : (bytes body : List ℕ) (keeps : Bool) (response : ResponseValue) → (keeps ≡ true → IsPersistent 0 bytes body) → SaysOfConnection bytes keeps response
-    → SaysWhetherItKeeps keeps response.bytes
+pub says_in_turn : (bytes body : List ℕ) (keeps : Bool) (response : ResponseValue) → (keeps ≡ true → IsPersistent form_length bytes body)
+    → SaysOfConnection bytes keeps response → SaysWhetherItKeeps keeps response.bytes
 says_in_turn bytes body keeps response allowed (inl says) = says
 says_in_turn bytes body false response allowed (inr (asks, says)) = says
 says_in_turn bytes body true response allowed (inr ((head, begins, fetch), says)) =
     let is = allowed refl in
     let one = request_unique bytes is.head head is.begins.rest begins.rest is.begins.reads begins.reads in
-    let none : length body ≡ 0 = is.size ∙ none_wanted (states_len is.head 0) in
-    absurd (fetch_is_post head fetch.1
-    (subst (λ (h : RequestHead). is_post h ≡ false) one.0 (persists_not_post is.head (ap (λ n. persists is.head n) (sym none) ∙ is.keeps))))
+    let asks : is_some (name_to_fetch is.head) ≡ true = subst (λ (h : RequestHead). is_some (name_to_fetch h) ≡ true) (sym one.0) fetch.1 in
+    let none : length body ≡ 0 =
+        is.size ∙ ap (λ n. body_len_of n is.head) (fetch_has_no_form is.head asks) ∙ none_wanted (states_len is.head 0) in
+    absurd (fetch_is_post is.head asks (persists_not_post is.head (ap (λ n. persists is.head n) (sym none) ∙ is.keeps)))

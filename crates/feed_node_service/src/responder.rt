@@ -6,12 +6,13 @@ ghost use Rattle.feed_resolver.specs.NodeReplies.{SaysOfConnection};
 ghost use Rattle.feed_node_service.specs.Responders.{IsPolicyIn, IsReplyBy, IsTurnReply, response_in};
 
 use crate::node_state::NodeState;
+use feed_http_heads::Request;
 use feed_keep::Keep;
 use feed_node_connection::{Reply, ReplySummary, Respond, RespondFault};
 use feed_releases::Feed;
 use feed_resolver::{respond_about_feed, respond_as_node};
 use feed_resolver_reply::Response;
-use feed_resolver_request::{FetchPolicy, fetch_to_begin};
+use feed_resolver_request::{FetchPolicy, fetch_to_begin, form_length};
 use std::alloc::{AllocError, Global};
 
 /// A responder that replies from a feed.
@@ -45,32 +46,39 @@ impl<'a, K: Keep + Drop> FeedResponder<'a, K> {
         &self,
         alloc: Global,
         bytes: &[u8],
+        body: &[u8],
         persists: bool,
         policy: &FetchPolicy<'_>,
     ) -> Result<Response, AllocError>
-        ensures reply { IfOk result (λ response. IsReplyBy policy.now bytes.now persists
+        ensures reply { IfOk result (λ response. IsReplyBy policy.now bytes.now body.now persists
             (actives_of (releases_of self.now.feed.now)) response) }
         ensures says { IfOk result (λ response. SaysOfConnection bytes.now persists response) }
     {
         match respond_about_feed(alloc, bytes, persists, policy, self.feed)? {
             Some(response) => Ok(response),
             None => {
-                let response = respond_as_node(alloc, bytes, b"", persists, policy, self.feed)?;
+                let response = respond_as_node(alloc, bytes, body, persists, policy, self.feed)?;
                 Ok(response)
             }
         }
     }
 
     // Returns the reply. A reply is streamed exactly if the request makes the node begin to fetch.
-    fn reply(&self, alloc: Global, bytes: &[u8], persists: bool) -> Result<Reply, RespondFault>
-        ensures turn { IfOk result (λ reply. IsTurnReply self.now bytes.now persists (response_in reply)
+    fn reply(
+        &self,
+        alloc: Global,
+        bytes: &[u8],
+        body: &[u8],
+        persists: bool,
+    ) -> Result<Reply, RespondFault>
+        ensures turn { IfOk result (λ reply. IsTurnReply self.now bytes.now body.now persists (response_in reply)
             reply.summary.is_streamed) }
         ensures says { IfOk result (λ reply. SaysOfConnection bytes.now persists (response_in reply)) }
     {
         let policy = self.policy();
         let asked = fetch_to_begin(alloc, bytes, &policy);
         let is_streamed = asked.is_some();
-        let response = self.response(alloc, bytes, persists, &policy)?;
+        let response = self.response(alloc, bytes, body, persists, &policy)?;
         if let Some(name) = asked {
             if !self.state.request_fetch(name) {
                 return Err(RespondFault::Busy);
@@ -91,23 +99,24 @@ impl<'a, K: Keep + Drop> FeedResponder<'a, K> {
 
 impl<'a, K: Keep + Drop> Respond for FeedResponder<'a, K> {
     ghost use Rattle.std.specs.Prelude.{IfSome};
+    ghost use Rattle.feed_resolver_request.specs.Forms.{form_length};
     ghost use Rattle.feed_node_service.specs.Responders.{IsTurnText};
 
-    ghost wanted = { λ responder head. 0 };
+    ghost wanted = { λ responder head. form_length head };
 
-    ghost replies = { λ responder head body persists reply. IfSome reply (IsTurnText responder head persists) };
+    ghost replies = { λ responder head body persists reply. IfSome reply (IsTurnText responder head body persists) };
 
-    fn body_len(&self, _head: &[u8]) -> usize {
-        0
+    fn body_len(&self, request: &Request<'_>) -> usize {
+        form_length(request) as usize
     }
 
     fn respond(
         &self,
         alloc: Global,
         head: &[u8],
-        _body: &[u8],
+        body: &[u8],
         persists: bool,
     ) -> Result<Reply, RespondFault> {
-        self.reply(alloc, head, persists)
+        self.reply(alloc, head, body, persists)
     }
 }

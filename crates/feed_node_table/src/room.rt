@@ -1,4 +1,5 @@
 //! Replies only while there is room for them.
+use feed_http_heads::Request;
 use feed_node_connection::{Reply, Respond, RespondFault};
 use std::alloc::Global;
 
@@ -19,8 +20,8 @@ impl<'a, S: Respond> Respond for RoomResponder<'a, S> {
 
     ghost replies = { λ room. replies_in_room room.has_room (S.replies room.responder.now) };
 
-    fn body_len(&self, head: &[u8]) -> usize {
-        self.responder.body_len(head)
+    fn body_len(&self, request: &Request<'_>) -> usize {
+        self.responder.body_len(request)
     }
 
     fn respond(

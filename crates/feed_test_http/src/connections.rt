@@ -7,6 +7,7 @@ use crate::escapes::Escaped;
 use crate::fault::Fault;
 use crate::line::Line;
 use crate::node::Node;
+use feed_http_heads::Request;
 use feed_node_connection::{
     BODY_LIMIT, Connection, Reply, Respond, RespondFault, TURN_SHARE, TimeLimits, Wants, advance,
 };
@@ -49,7 +50,7 @@ impl Respond for Echo {
 
     ghost replies = { λ echo head body persists reply. ⊤ };
 
-    fn body_len(&self, _head: &[u8]) -> usize {
+    fn body_len(&self, _request: &Request<'_>) -> usize {
         self.wanted.min(BODY_LIMIT)
     }
 
