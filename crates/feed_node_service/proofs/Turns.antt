@@ -1,5 +1,5 @@
 -- The reply of a responder in a turn.
-use Rattle.std.proofs.Common.{◌≡◌, ℕ, Bool, List, None, inr, refl}
+use Rattle.std.proofs.Common.{◌≡◌, ℕ, Bool, List, [], None, inr, refl}
 use Rattle.feed_releases.specs.Actives.{ActiveValue}
 use Rattle.feed_resolver_request.specs.FetchRequests.{FetchPolicyValue}
 use Rattle.feed_resolver_reply.specs.Replies.{ResponseValue}
@@ -8,7 +8,7 @@ use Rattle.feed_resolver.specs.FeedReplies.{IsFeedResponse}
 use Rattle.feed_node_service.specs.Responders.{IsReplyBy}
 
 pub as_node : (policy : FetchPolicyValue) (bytes : List ℕ) (keeps : Bool) (actives : List ActiveValue) (response : ResponseValue) → IsFeedResponse policy bytes keeps None
-    → IsNodeReply policy bytes keeps actives response → IsReplyBy policy bytes keeps actives response
+    → IsNodeReply policy bytes [] keeps actives response → IsReplyBy policy bytes keeps actives response
 as_node policy bytes keeps actives response other is = inr (other, is)
 
 -- a response with these parts

@@ -1,5 +1,5 @@
 -- The parts of a responder and of its replies that the resolver's definitions speak of, and the reply in a turn.
-use Rattle.std.specs.Prelude.{◌≡◌, ◌⊎◌, ℕ, Bool, true, List, Some, None, option_copied}
+use Rattle.std.specs.Prelude.{◌≡◌, ◌⊎◌, ℕ, Bool, true, List, [], Some, None, option_copied}
 use Rattle.feed_keep.specs.declared.keep.Keep.{Ghosts}
 use Rattle.feed_releases.specs.Actives.{ActiveValue, actives_of}
 use Rattle.feed_releases.specs.Feeds.{releases_of}
@@ -22,11 +22,11 @@ busy_policy_of responder = record { token = option_copied responder.token; is_bu
 abbrev pub IsPolicyIn : {K : Type 0} {k : Ghosts K} → FeedResponder K k → FetchPolicyValue → Type 0
 IsPolicyIn responder policy = (policy ≡ policy_of responder) ⊎ (policy ≡ busy_policy_of responder)
 
--- the reply about the recorded releases, if the bytes ask for them, and otherwise that of a node
+-- the reply about the recorded releases, if the bytes ask for them, and otherwise that of a node, to no body
 abbrev pub IsReplyBy : FetchPolicyValue → List ℕ → Bool → List ActiveValue → ResponseValue → Type 0
 IsReplyBy policy bytes keeps actives response =
     IsFeedResponse policy bytes keeps (Some response)
-    ⊎ (IsFeedResponse policy bytes keeps None × IsNodeReply policy bytes keeps actives response)
+    ⊎ (IsFeedResponse policy bytes keeps None × IsNodeReply policy bytes [] keeps actives response)
 
 -- the reply of a responder by one of its policies; it is streamed exactly if the node begins to fetch by this policy
 abbrev pub IsTurnReply : {K : Type 0} {k : Ghosts K} → FeedResponder K k → List ℕ → Bool → ResponseValue → Bool → Type 0

@@ -53,7 +53,7 @@ impl<'a, K: Keep + Drop> FeedResponder<'a, K> {
         match respond_about_feed(alloc, bytes, persists, policy, self.feed)? {
             Some(response) => Ok(response),
             None => {
-                let response = respond_as_node(alloc, bytes, persists, policy, self.feed)?;
+                let response = respond_as_node(alloc, bytes, b"", persists, policy, self.feed)?;
                 Ok(response)
             }
         }

@@ -7,14 +7,16 @@ use Rattle.std.proofs.lemmas.Bool.Decides.{nat_tests}
 use Rattle.std.proofs.lemmas.List.Elements.{All-nil, All-weaker}
 use Rattle.std.proofs.lemmas.List.Sums.{AllPass-from_list_all}
 use Rattle.httparse.specs.Grammar.{RequestHead, is_uri_byte}
-use Rattle.feed_http_heads.specs.Targets.{origin_form}
 use Rattle.feed_http_heads.specs.Requests.{lacks_host, is_get, is_head}
 use Rattle.feed_answer.specs.QueryValue.{QueryValue}
 use Rattle.feed_answer.specs.Queries.{query_of}
 use Rattle.feed_answer.specs.declared.fault.QueryFault.{QueryFault}
 use Rattle.feed_releases.specs.Actives.{ActiveValue}
 use Rattle.feed_resolver_request.specs.Representations.{accepted_representation, representation_of}
-use Rattle.feed_resolver_request.specs.Targets.{path_in, query_in, resource_of, package_in, is_unsupported_method}
+use Rattle.feed_resolver_request.specs.Targets.{resource_of, package_in, is_unsupported_method}
+use Rattle.feed_resolver_request.specs.Forms.{form_of}
+use Rattle.feed_resolver_request.specs.declared.form.FormFault.{FormFault}
+use Rattle.feed_resolver_request.specs.declared.form.FormFault.TheVariants as fault
 use Rattle.feed_resolver_request.specs.declared.representation.Representation.{Representation}
 use Rattle.feed_resolver_request.specs.declared.representation.Representation.TheVariants.{Text}
 use Rattle.feed_resolver_request.specs.declared.target.Resource.{Resource}
@@ -27,7 +29,8 @@ use Rattle.feed_resolver_hits.specs.Hits.{best_link}
 use Rattle.feed_resolver_hits.specs.Tallies.{counted}
 use Rattle.feed_resolver_hits.proofs.Redirects.{best_is}
 use Rattle.feed_resolver.specs.Answers.{is_of, hits_among}
-use Rattle.feed_resolver.specs.Replies.{query_reply, hits_reply, resolve_reply, resolve_reply_at, package_reply, redirect_reply, resource_reply, target_reply, has_coded_body, reply_to}
+use Rattle.feed_resolver.specs.Replies.{query_reply, hits_reply, resolve_reply, resolve_reply_at, package_reply, redirect_reply, resource_reply, path_of, target_query, target_reply, has_coded_body}
+use Rattle.feed_resolver.specs.Replies.{plain_reply, form_refusal, reply_by_form, reply_to}
 
 pub nowhere : IsLocation []
 nowhere = All-nil (λ b. is_uri_byte b ≡ true)
@@ -70,28 +73,46 @@ go_located : (representation : Representation) (actives : List ActiveValue) (que
 go_located representation actives query =
     redirect_located (best_link (counted (hits_among query actives))) (hits_reply status.NotFound representation actives query) (best_is (counted (hits_among query actives))) nowhere
 
-resource_located : (r : Resource) (head : RequestHead) (target : List ℕ) (actives : List ActiveValue) → IsLocated (resource_reply r head target actives)
-resource_located resource.Home head target actives = nowhere
-resource_located resource.Status head target actives = nowhere
-resource_located resource.Resolve head target actives = resolve_located (representation_of (query_in target) head) (query_in target) actives
-resource_located resource.Package head target actives =
-    package_located (representation_of (query_in target) head) (query_in target) actives (refusal status.NotFound (representation_of (query_in target) head) (codes "NoRelease"))
-    (position (is_of (package_in (path_in target))) actives) nowhere
-resource_located resource.Go head target actives =
-    query_located (accepted_representation head) (redirect_reply (accepted_representation head) actives) (query_of (query_in target)) (go_located (accepted_representation head) actives)
-resource_located resource.Unknown head target actives = nowhere
+resource_located : (r : Resource) (head : RequestHead) (path query : List ℕ) (actives : List ActiveValue) → IsLocated (resource_reply r head path query actives)
+resource_located resource.Home head path query actives = nowhere
+resource_located resource.Status head path query actives = nowhere
+resource_located resource.Resolve head path query actives = resolve_located (representation_of query head) query actives
+resource_located resource.Package head path query actives =
+    package_located (representation_of query head) query actives (refusal status.NotFound (representation_of query head) (codes "NoRelease"))
+    (position (is_of (package_in path)) actives) nowhere
+resource_located resource.Go head path query actives =
+    query_located (accepted_representation head) (redirect_reply (accepted_representation head) actives) (query_of query) (go_located (accepted_representation head) actives)
+resource_located resource.Unknown head path query actives = nowhere
+
+target_located : (head : RequestHead) (query : List ℕ) (actives : List ActiveValue) → IsLocated (target_reply head query actives)
+target_located head query actives = resource_located (resource_of (path_of head)) head (path_of head) query actives
 
 either_located : (b : Bool) (one other : ReplyValue) → IsLocated one → IsLocated other → IsLocated (if b then one else other)
 either_located true one other first second = first
 either_located false one other first second = second
 
-pub reply_located : (head : RequestHead) (actives : List ActiveValue) → IsLocation (reply_to head actives).location
-reply_located head actives =
-    let coded : ReplyValue = if has_coded_body head then refusal status.NotImplemented Text (codes "Coding") else target_reply head actives in
+plain_located : (head : RequestHead) (actives : List ActiveValue) → IsLocated (plain_reply head actives)
+plain_located head actives =
+    let coded : ReplyValue = if has_coded_body head then refusal status.NotImplemented Text (codes "Coding") else target_reply head (target_query head) actives in
     let unknown : ReplyValue = if not (is_get head || is_head head) then refusal status.NotImplemented Text (codes "Method") else coded in
-    let unsupported : ReplyValue = if is_unsupported_method head.method then refusal status.MethodNotAllowed Text (codes "Method") else unknown in
-    either_located (lacks_host head) (refusal status.BadRequest Text (codes "NoHost")) unsupported nowhere
-    (either_located (is_unsupported_method head.method) (refusal status.MethodNotAllowed Text (codes "Method")) unknown nowhere
+    either_located (is_unsupported_method head.method) (refusal status.MethodNotAllowed Text (codes "Method")) unknown nowhere
     (either_located (not (is_get head || is_head head)) (refusal status.NotImplemented Text (codes "Method")) coded nowhere
-    (either_located (has_coded_body head) (refusal status.NotImplemented Text (codes "Coding")) (target_reply head actives) nowhere
-    (resource_located (resource_of (path_in (origin_form head.target))) head (origin_form head.target) actives))))
+    (either_located (has_coded_body head) (refusal status.NotImplemented Text (codes "Coding")) (target_reply head (target_query head) actives) nowhere
+    (target_located head (target_query head) actives)))
+
+refusal_located : (why : FormFault) → IsLocated (form_refusal why)
+refusal_located fault.Coding = nowhere
+refusal_located fault.NoLength = nowhere
+refusal_located fault.BadLength = nowhere
+refusal_located fault.TooLong = nowhere
+refusal_located fault.MediaType = nowhere
+
+form_located : (head : RequestHead) (body : List ℕ) (actives : List ActiveValue) (form : Option (Result ℕ FormFault)) → IsLocated (reply_by_form head body actives form)
+form_located head body actives None = plain_located head actives
+form_located head body actives (Some (Ok n)) = target_located head body actives
+form_located head body actives (Some (Err why)) = refusal_located why
+
+pub reply_located : (head : RequestHead) (body : List ℕ) (actives : List ActiveValue) → IsLocation (reply_to head body actives).location
+reply_located head body actives =
+    either_located (lacks_host head) (refusal status.BadRequest Text (codes "NoHost")) (reply_by_form head body actives (form_of head)) nowhere
+    (form_located head body actives (form_of head))

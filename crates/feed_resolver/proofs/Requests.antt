@@ -1,13 +1,13 @@
 -- The replies to requests of certain forms.
 use Rattle.std.proofs.Common.{◌≡◌, ◌<◌, ◌^◌, ◌⊎◌, ℕ, List, [], ◌∷◌, Bool, true, false, Option, Some, None, Ok}
 use Rattle.std.proofs.Common.{refl, sym, ap, ◌∙◌, inl, inr, subst, arith, length, codes, lit<}
-use Rattle.std.specs.Prelude.{if◌then◌else◌, ◌||◌, not}
+use Rattle.std.specs.Prelude.{if◌then◌else◌, ◌||◌, ◌&&◌, ◌==◌, is_none, not, Result, Err}
 use Rattle.std.specs.Option.{option_map_or}
 use Rattle.std.specs.Str.{bytes_eq}
 use Rattle.std.specs.Cmp.Lexicographic.{bytes_decides}
 use Rattle.std.proofs.lemmas.Bool.{cases_Bool}
 use Rattle.httparse.specs.Grammar.{RequestHead, ResponseHead}
-use Rattle.feed_http_heads.specs.Fields.{values_named}
+use Rattle.feed_http_heads.specs.Fields.{values_named, only, has_any}
 use Rattle.feed_http_heads.specs.Requests.{lacks_host, is_get, is_head}
 use Rattle.feed_http_heads.specs.Targets.{origin_form}
 use Rattle.feed_answer.specs.QueryValue.{QueryValue}
@@ -15,12 +15,18 @@ use Rattle.feed_releases.specs.Actives.{ActiveValue}
 use Rattle.feed_resolver_request.specs.FoundRequests.{BeginsWith}
 use Rattle.feed_resolver_request.specs.FetchRequests.{FetchPolicyValue, name_to_fetch, name_after_feed}
 use Rattle.feed_resolver_reply.specs.FetchReplies.{fetch_reply, IsFetchMessage}
-use Rattle.feed_resolver_request.specs.Representations.{accepted_representation}
-use Rattle.feed_resolver_request.specs.Targets.{path_in, resource_of, is_unsupported_method}
-use Rattle.feed_resolver_request.specs.declared.representation.Representation.TheVariants.{Text}
+use Rattle.feed_resolver_request.specs.Representations.{accepted_representation, representation_of, preferred_in, format_of}
+use Rattle.feed_resolver_request.specs.Forms.{form_of, form_in, form_by, is_form_post, takes_form, has_form_type, stated_length}
+use Rattle.feed_resolver_request.specs.declared.form.FormFault.{FormFault}
+use Rattle.feed_resolver_request.specs.declared.form.FormFault.TheVariants as fault
+use Rattle.feed_resolver_request.specs.declared.representation.Representation.{Representation}
+use Rattle.feed_resolver_request.specs.Targets.{path_in, resource_of, package_in, is_unsupported_method}
+use Rattle.feed_resolver.specs.Status.{home_page, status_body}
+use Rattle.feed_answer.specs.Queries.{query_of}
+use Rattle.feed_resolver_request.specs.declared.representation.Representation.TheVariants.{Text, Html}
 use Rattle.feed_resolver_request.specs.declared.target.Resource.{Resource}
 use Rattle.feed_resolver_request.specs.declared.target.Resource.TheVariants as resource
-use Rattle.feed_resolver_reply.specs.Replies.{ReplyValue, ResponseValue, refusal, redirect_to, response_of, status_code}
+use Rattle.feed_resolver_reply.specs.Replies.{ReplyValue, ResponseValue, reply_with, refusal, redirect_to, response_of, status_code}
 use Rattle.feed_resolver_reply.specs.Messages.{IsMessage, IsMessageFor, BeginsStream, IsSentAs, IsSendable}
 use Rattle.feed_resolver_reply.specs.declared.status.Status.TheVariants as status
 use Rattle.feed_resolver_reply.proofs.HeadsRead.{head_of, sent_as}
@@ -30,16 +36,16 @@ use Rattle.feed_resolver_hits.specs.Links.{is_link}
 use Rattle.feed_resolver_hits.specs.Tallies.{counted}
 use Rattle.feed_resolver_hits.proofs.BestLinks as links
 use Rattle.feed_resolver.specs.Answers.{hits_among}
-use Rattle.feed_resolver.specs.Replies.{resource_reply, redirect_reply, hits_reply, query_reply, target_reply, has_coded_body, reply_to, response_to, IsResponse}
+use Rattle.feed_resolver.specs.Replies.{resource_reply, resolve_reply, package_reply, redirect_reply, hits_reply, query_reply, target_reply, target_query, path_of, has_coded_body, reply_by_form, reply_to, response_to, IsResponse}
 use Rattle.feed_resolver.specs.NodeReplies.{node_reply, IsNodeReply, AsksForNoFetch}
-use Rattle.feed_resolver.specs.Messages.{as_get, IsHeadAlone, HeadIsHeadOfGet, AsksToGo, GoesTo, GoesToBest}
+use Rattle.feed_resolver.specs.Messages.{as_get, IsHeadAlone, HeadIsHeadOfGet, AsksToGo, GoesTo, GoesToBest, FormIsGet}
 use Rattle.feed_resolver.proofs.Locations.{reply_located, link_location}
 use Rattle.feed_resolver.proofs.SameBytes.{one_reply}
 
 -- the reply to a request with this head
-reply_at : (keeps : Bool) (bytes : List ℕ) (actives : List ActiveValue) (head : RequestHead) (response : ResponseValue) → BeginsWith bytes head → IsResponse bytes keeps actives response
-    → response ≡ response_to keeps head actives
-reply_at keeps bytes actives head response begins is = one_reply keeps bytes actives response (response_to keeps head actives) is (inl (head, begins, refl))
+reply_at : (keeps : Bool) (bytes body : List ℕ) (actives : List ActiveValue) (head : RequestHead) (response : ResponseValue) → BeginsWith bytes head → IsResponse bytes body keeps actives response
+    → response ≡ response_to keeps head body actives
+reply_at keeps bytes body actives head response begins is = one_reply keeps bytes body actives response (response_to keeps head body actives) is (inl (head, begins, refl))
 
 -- ---- the first case that holds
 
@@ -51,9 +57,9 @@ reply_by lacks unsupported unknown coded reply =
     else (if coded then refusal status.NotImplemented Text (codes "Coding")
     else reply)))
 
-reply_cases : (head : RequestHead) (actives : List ActiveValue)
-    → reply_to head actives ≡ reply_by (lacks_host head) (is_unsupported_method head.method) (not (is_get head || is_head head)) (has_coded_body head) (target_reply head actives)
-reply_cases head actives = refl
+-- the reply to a query in the target
+abbrev query_answer : RequestHead → List ActiveValue → ReplyValue
+query_answer head actives = target_reply head (target_query head) actives
 
 or_right : (a b : Bool) → a ≡ false → (a || b) ≡ true → b ≡ true
 or_right true b e either = absurd (cc)
@@ -70,37 +76,47 @@ or_true : (a b : Bool) → b ≡ true → (a || b) ≡ true
 or_true true b e = refl
 or_true false b e = e
 
+-- neither is a POST
+not_post : (head : RequestHead) → (is_get head || is_head head) ≡ true → bytes_eq head.method (codes "POST") ≡ false
+not_post head read = elim (cases_Bool (is_get head)) [
+  | inl e ↦ ap (λ m. bytes_eq m (codes "POST")) ((bytes_decides head.method (codes "GET")).0 e)
+  | inr e ↦ ap (λ m. bytes_eq m (codes "POST")) ((bytes_decides head.method (codes "HEAD")).0 (or_right (is_get head) (is_head head) e read))
+]
+
+formless : (head : RequestHead) → (is_get head || is_head head) ≡ true → form_of head ≡ None
+formless head read = ap (λ b. if b && (not (lacks_host head) && takes_form (resource_of (path_of head))) then Some (form_in head) else None) (not_post head read)
+
 -- the reply to a GET or a HEAD without a body
-read_reply : (head : RequestHead) (actives : List ActiveValue) → (is_get head || is_head head) ≡ true
-    → reply_to head actives ≡ reply_by (lacks_host head) false false (has_coded_body head) (target_reply head actives)
-read_reply head actives read =
-    reply_cases head actives
-    ∙ ap (λ u. reply_by (lacks_host head) u (not (is_get head || is_head head)) (has_coded_body head) (target_reply head actives)) (supported head read)
-    ∙ ap (λ r. reply_by (lacks_host head) false (not r) (has_coded_body head) (target_reply head actives)) read
+read_reply : (head : RequestHead) (body : List ℕ) (actives : List ActiveValue) → (is_get head || is_head head) ≡ true
+    → reply_to head body actives ≡ reply_by (lacks_host head) false false (has_coded_body head) (query_answer head actives)
+read_reply head body actives read =
+    ap (λ o. if lacks_host head then refusal status.BadRequest Text (codes "NoHost") else reply_by_form head body actives o) (formless head read)
+    ∙ ap (λ u. reply_by (lacks_host head) u (not (is_get head || is_head head)) (has_coded_body head) (query_answer head actives)) (supported head read)
+    ∙ ap (λ r. reply_by (lacks_host head) false (not r) (has_coded_body head) (query_answer head actives)) read
 
 -- ---- HEAD
 
-same_resource : (r : Resource) (head : RequestHead) (target : List ℕ) (actives : List ActiveValue) → resource_reply r (as_get head) target actives ≡ resource_reply r head target actives
-same_resource resource.Home head target actives = refl
-same_resource resource.Status head target actives = refl
-same_resource resource.Resolve head target actives = refl
-same_resource resource.Package head target actives = refl
-same_resource resource.Go head target actives = refl
-same_resource resource.Unknown head target actives = refl
+same_resource : (r : Resource) (head : RequestHead) (path query : List ℕ) (actives : List ActiveValue) → resource_reply r (as_get head) path query actives ≡ resource_reply r head path query actives
+same_resource resource.Home head path query actives = refl
+same_resource resource.Status head path query actives = refl
+same_resource resource.Resolve head path query actives = refl
+same_resource resource.Package head path query actives = refl
+same_resource resource.Go head path query actives = refl
+same_resource resource.Unknown head path query actives = refl
 
-same_reply : (head : RequestHead) (actives : List ActiveValue) → is_head head ≡ true → reply_to (as_get head) actives ≡ reply_to head actives
-same_reply head actives is =
-    read_reply (as_get head) actives refl
-    ∙ ap (λ t. reply_by (lacks_host head) false false (has_coded_body head) t) (same_resource (resource_of (path_in (origin_form head.target))) head (origin_form head.target) actives)
-    ∙ sym (read_reply head actives (or_true (is_get head) (is_head head) is))
+same_reply : (head : RequestHead) (body other : List ℕ) (actives : List ActiveValue) → is_head head ≡ true → reply_to (as_get head) other actives ≡ reply_to head body actives
+same_reply head body other actives is =
+    read_reply (as_get head) other actives refl
+    ∙ ap (λ t. reply_by (lacks_host head) false false (has_coded_body head) t) (same_resource (resource_of (path_of head)) head (path_of head) (target_query head) actives)
+    ∙ sym (read_reply head body actives (or_true (is_get head) (is_head head) is))
 
 pub head_alone : HeadIsHeadOfGet
-head_alone keeps actives bytes asked head response reply is begins also one other small =
-    let r : ReplyValue = reply_to head actives in
-    let short : response ≡ response_of keeps true r = reply_at keeps bytes actives head response begins one ∙ ap (λ b. response_of keeps b r) is in
-    let long : reply ≡ response_of keeps false r = reply_at keeps asked actives (as_get head) reply also other ∙ ap (response_of keeps false) (same_reply head actives is) in
+head_alone keeps actives bytes asked body form head response reply is begins also one other small =
+    let r : ReplyValue = reply_to head body actives in
+    let short : response ≡ response_of keeps true r = reply_at keeps bytes body actives head response begins one ∙ ap (λ b. response_of keeps b r) is in
+    let long : reply ≡ response_of keeps false r = reply_at keeps asked form actives (as_get head) reply also other ∙ ap (response_of keeps false) (same_reply head body form actives is) in
     let sized : length r.body < 2 ^ 64 = subst (λ (v : ResponseValue). v.body_length < 2 ^ 64) long small in
-    let sent : IsSentAs keeps r (head_of keeps r) = sent_as keeps r (record { location = reply_located head actives; size = sized }) in (
+    let sent : IsSentAs keeps r (head_of keeps r) = sent_as keeps r (record { location = reply_located head body actives; size = sized }) in (
       head_of keeps r,
       r.body,
       subst (λ (v : ResponseValue). IsMessage v (head_of keeps r) r.body) (sym long) sent.whole,
@@ -109,12 +125,13 @@ head_alone keeps actives bytes asked head response reply is begins also one othe
 
 -- ---- /go
 
-go_reply : (head : RequestHead) (query : QueryValue) (actives : List ActiveValue) → AsksToGo head query → reply_to head actives ≡ redirect_reply (accepted_representation head) actives query
-go_reply head query actives asks =
-    read_reply head actives asks.method
-    ∙ ap (λ l. reply_by l false false (has_coded_body head) (target_reply head actives)) asks.host
-    ∙ ap (λ c. reply_by false false false c (target_reply head actives)) asks.body
-    ∙ ap (λ r. resource_reply r head (origin_form head.target) actives) asks.resource
+go_reply : (head : RequestHead) (body : List ℕ) (query : QueryValue) (actives : List ActiveValue) → AsksToGo head query
+    → reply_to head body actives ≡ redirect_reply (accepted_representation head) actives query
+go_reply head body query actives asks =
+    read_reply head body actives asks.method
+    ∙ ap (λ l. reply_by l false false (has_coded_body head) (query_answer head actives)) asks.host
+    ∙ ap (λ c. reply_by false false false c (query_answer head actives)) asks.body
+    ∙ ap (λ r. resource_reply r head (path_of head) (target_query head) actives) asks.resource
     ∙ ap (λ q. query_reply (accepted_representation head) (redirect_reply (accepted_representation head) actives) q) asks.asked
 
 redirect_sent : (keeps : Bool) (url : List ℕ) → is_link url ≡ true → IsSentAs keeps (redirect_to url) (head_of keeps (redirect_to url))
@@ -131,13 +148,103 @@ goes keeps alone hits None other best is = ap status_code is
 goes keeps alone hits (Some url) other best is = (refl, redirected keeps alone url (ap is_link best.3 ∙ best.2.link))
 
 pub goes_to_best : GoesToBest
-goes_to_best keeps actives bytes head query response begins asks is =
+goes_to_best keeps actives bytes body head query response begins asks is =
     let hits = counted (hits_among query actives) in
     let other : ReplyValue = hits_reply status.NotFound (accepted_representation head) actives query in
     let best : IsBestLink hits (best_link hits) = links.best_is hits in
     let same : response ≡ response_of keeps (is_head head) (option_map_or redirect_to (best_link hits) other) =
-    reply_at keeps bytes actives head response begins is ∙ ap (response_of keeps (is_head head)) (go_reply head query actives asks) in
+    reply_at keeps bytes body actives head response begins is ∙ ap (response_of keeps (is_head head)) (go_reply head body query actives asks) in
     (best_link hits, best, subst (λ (v : ResponseValue). GoesTo (best_link hits) v) (sym same) (goes keeps (is_head head) hits (best_link hits) other best refl))
+
+-- ---- forms
+
+both : (a b : Bool) → (a && b) ≡ true → (a ≡ true) × (b ≡ true)
+both true b e = (refl, e)
+both false b e = absurd (cc)
+
+chosen_form : (b : Bool) (form : Result ℕ FormFault) (n : ℕ) → (if b then Some form else None) ≡ Some (Ok n) → (b ≡ true) × (form ≡ Ok n)
+chosen_form true form n e = (refl, cc)
+chosen_form false form n e = absurd (cc)
+
+not_coded : (b : Bool) (form : Result ℕ FormFault) (n : ℕ) → (if b then Err fault.Coding else form) ≡ Ok n → b ≡ false
+not_coded true form n e = absurd (cc)
+not_coded false form n e = refl
+
+not_true : (b : Bool) → not b ≡ true → b ≡ false
+not_true true e = absurd (cc)
+not_true false e = refl
+
+-- a form that is read is in a POST with a host, and has no transfer coding
+record IsReadForm (post : RequestHead) : Type 0 where
+  method : bytes_eq post.method (codes "POST") ≡ true
+  host : lacks_host post ≡ false
+  plain : has_coded_body post ≡ false
+
+read_form : (post : RequestHead) (n : ℕ) → form_of post ≡ Some (Ok n) → IsReadForm post
+read_form post n is =
+    let parts = chosen_form (is_form_post post) (form_in post) n is in
+    let posted = both (bytes_eq post.method (codes "POST")) (not (lacks_host post) && takes_form (resource_of (path_of post))) parts.0 in
+    let hosted = both (not (lacks_host post)) (takes_form (resource_of (path_of post))) posted.1 in
+    record {
+      method = posted.0;
+      host = not_true (lacks_host post) hosted.0;
+      plain = not_coded (has_coded_body post) (form_by (has_form_type post) (stated_length post)) n parts.1;
+    }
+
+-- the answer by the representations that a request names and accepts
+abbrev answer_by : Resource → Representation → Representation → List ℕ → List ℕ → List ActiveValue → ReplyValue
+answer_by resource.Home named accepted path query actives = reply_with status.Good Html (home_page actives)
+answer_by resource.Status named accepted path query actives = reply_with status.Good named (status_body named actives)
+answer_by resource.Resolve named accepted path query actives = resolve_reply named query actives
+answer_by resource.Package named accepted path query actives = package_reply named (package_in path) query actives
+answer_by resource.Go named accepted path query actives = query_reply accepted (redirect_reply accepted actives) (query_of query)
+answer_by resource.Unknown named accepted path query actives = refusal status.NotFound accepted (codes "NoTarget")
+
+answered_by : (r : Resource) (head : RequestHead) (path query : List ℕ) (actives : List ActiveValue)
+    → resource_reply r head path query actives ≡ answer_by r (representation_of query head) (accepted_representation head) path query actives
+answered_by resource.Home head path query actives = refl
+answered_by resource.Status head path query actives = refl
+answered_by resource.Resolve head path query actives = refl
+answered_by resource.Package head path query actives = refl
+answered_by resource.Go head path query actives = refl
+answered_by resource.Unknown head path query actives = refl
+
+-- a reply depends on no more of a head than its fields
+same_fields : (r : Resource) (get post : RequestHead) (path query : List ℕ) (actives : List ActiveValue) → get.fields ≡ post.fields
+    → resource_reply r get path query actives ≡ resource_reply r post path query actives
+same_fields r get post path query actives fields =
+    let accepts : accepted_representation get ≡ accepted_representation post = ap (λ fs. option_map_or preferred_in (only (values_named (codes "accept") fs)) Text) fields in
+    let names : representation_of query get ≡ representation_of query post = ap (λ a. option_map_or (λ named. named) (format_of query) a) accepts in
+    answered_by r get path query actives
+    ∙ ap (λ a. answer_by r a (accepted_representation get) path query actives) names
+    ∙ ap (λ a. answer_by r (representation_of query post) a path query actives) accepts
+    ∙ sym (answered_by r post path query actives)
+
+pub form_is_get : FormIsGet
+form_is_get keeps actives bytes asked body other post get n response reply form same begins also one two =
+    let read = read_form post n form in
+    let method : (is_get get || is_head get) ≡ true = ap (λ m. bytes_eq m (codes "GET") || bytes_eq m (codes "HEAD")) same.method in
+    let hosted : lacks_host get ≡ false =
+    ap (λ m. (m == 1) && is_none (only (values_named (codes "host") get.fields))) same.minor
+    ∙ ap (λ fs. (post.minor == 1) && is_none (only (values_named (codes "host") fs))) same.fields ∙ read.host in
+    let plain : has_coded_body get ≡ false = ap (λ fs. has_any (values_named (codes "transfer-encoding") fs)) same.fields ∙ read.plain in
+    let posted : reply_to post body actives ≡ target_reply post body actives =
+    ap (λ b. if b then refusal status.BadRequest Text (codes "NoHost") else reply_by_form post body actives (form_of post)) read.host
+    ∙ ap (λ o. reply_by_form post body actives o) form in
+    let got : reply_to get other actives ≡ target_reply get (target_query get) actives =
+    read_reply get other actives method
+    ∙ ap (λ l. reply_by l false false (has_coded_body get) (query_answer get actives)) hosted
+    ∙ ap (λ c. reply_by false false false c (query_answer get actives)) plain in
+    let alike : target_reply get (target_query get) actives ≡ target_reply post body actives =
+    ap (λ q. target_reply get q actives) same.query
+    ∙ ap (λ p. resource_reply (resource_of p) get p body actives) same.path
+    ∙ same_fields (resource_of (path_of post)) get post (path_of post) body actives same.fields in
+    let short : is_head post ≡ false = ap (λ m. bytes_eq m (codes "HEAD")) ((bytes_decides post.method (codes "POST")).0 read.method) in
+    let long : is_head get ≡ false = ap (λ m. bytes_eq m (codes "HEAD")) same.method in
+    reply_at keeps bytes body actives post response begins one
+    ∙ ap (λ b. response_of keeps b (reply_to post body actives)) short
+    ∙ ap (response_of keeps false) (posted ∙ sym (got ∙ alike))
+    ∙ sym (reply_at keeps asked other actives get reply also two ∙ ap (λ b. response_of keeps b (reply_to get other actives)) long)
 
 -- ---- nodes
 
@@ -148,15 +255,15 @@ plain_chosen false None fetch plain other = refl
 plain_chosen false (Some name) fetch plain (inl e) = absurd (cc)
 plain_chosen false (Some name) fetch plain (inr e) = absurd (cc)
 
-resolves : (policy : FetchPolicyValue) (keeps : Bool) (actives : List ActiveValue) (head : RequestHead) → (lacks_host head ≡ true) ⊎ (name_to_fetch head ≡ None)
-    → node_reply policy keeps actives head ≡ response_to keeps head actives
-resolves policy keeps actives head other = plain_chosen (lacks_host head) (name_to_fetch head) (fetch_reply policy keeps head) (response_to keeps head actives) other
+resolves : (policy : FetchPolicyValue) (keeps : Bool) (actives : List ActiveValue) (head : RequestHead) (body : List ℕ) → (lacks_host head ≡ true) ⊎ (name_to_fetch head ≡ None)
+    → node_reply policy keeps actives head body ≡ response_to keeps head body actives
+resolves policy keeps actives head body other = plain_chosen (lacks_host head) (name_to_fetch head) (fetch_reply policy keeps head) (response_to keeps head body actives) other
 
 -- a node replies as a resolver to a request that does not ask it to fetch
-pub as_resolver : (policy : FetchPolicyValue) (bytes : List ℕ) (keeps : Bool) (actives : List ActiveValue) (response : ResponseValue) → AsksForNoFetch bytes
-    → IsNodeReply policy bytes keeps actives response → IsResponse bytes keeps actives response
-as_resolver policy bytes keeps actives response plain (inl (head, begins, is)) = inl (head, begins, is ∙ resolves policy keeps actives head (plain head begins))
-as_resolver policy bytes keeps actives response plain (inr none) = inr none
+pub as_resolver : (policy : FetchPolicyValue) (bytes body : List ℕ) (keeps : Bool) (actives : List ActiveValue) (response : ResponseValue) → AsksForNoFetch bytes
+    → IsNodeReply policy bytes body keeps actives response → IsResponse bytes body keeps actives response
+as_resolver policy bytes body keeps actives response plain (inl (head, begins, is)) = inl (head, begins, is ∙ resolves policy keeps actives head body (plain head begins))
+as_resolver policy bytes body keeps actives response plain (inr none) = inr none
 
 only_then : (b : Bool) (o : Option (List ℕ)) (text : List ℕ) → (if b then o else None) ≡ Some text → b ≡ true
 only_then true o text e = refl

@@ -23,18 +23,18 @@ KeepsPublished file h = (n : Name) (text : List ℕ) → IsFile h n text → tex
 -- two nodes that report the same releases, and have stored their published files, give each request the same bytes
 abbrev pub SameReleasesSameBytes : Type 0
 SameReleasesSameBytes =
-    (file : Name → List ℕ) (h k : History) (bytes : List ℕ) (keeps : Bool) (response reply : ResponseValue)
+    (file : Name → List ℕ) (h k : History) (bytes body : List ℕ) (keeps : Bool) (response reply : ResponseValue)
     → KeepsPublished file h → KeepsPublished file k → ReportAlike h k
-    → IsResponseAt h bytes keeps response → IsResponseAt k bytes keeps reply → response ≡ reply
+    → IsResponseAt h bytes body keeps response → IsResponseAt k bytes body keeps reply → response ≡ reply
 
 -- two nodes that report the same releases, and have stored the published files, reply with the same bytes to each
 -- request that does not ask them to fetch, whatever their tokens are and whether they are fetching
 abbrev pub SameReleasesSameNodeBytes : Type 0
 SameReleasesSameNodeBytes =
-    (file : Name → List ℕ) (h k : History) (policy other : FetchPolicyValue) (bytes : List ℕ) (keeps : Bool)
+    (file : Name → List ℕ) (h k : History) (policy other : FetchPolicyValue) (bytes body : List ℕ) (keeps : Bool)
     (response reply : ResponseValue)
     → KeepsPublished file h → KeepsPublished file k → ReportAlike h k → AsksForNoFetch bytes
-    → IsNodeReplyAt policy h bytes keeps response → IsNodeReplyAt other k bytes keeps reply → response ≡ reply
+    → IsNodeReplyAt policy h bytes body keeps response → IsNodeReplyAt other k bytes body keeps reply → response ≡ reply
 
 -- the active releases in JSON are, by its grammar (RFC 8259), an array with one object for each, in their order
 abbrev pub StatusIsJson : Type 0

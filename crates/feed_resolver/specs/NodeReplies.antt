@@ -14,27 +14,27 @@ use Rattle.feed_resolver_reply.specs.Messages.{BeginsStream}
 use Rattle.feed_resolver.specs.Replies.{response_to, IsReplyToNone}
 use Rattle.feed_resolver.specs.Messages.{IsMessageTo}
 
--- the reply to a request with this head: that to a fetch request, or else that of the resolver
-abbrev pub node_reply : FetchPolicyValue → Bool → List ActiveValue → RequestHead → ResponseValue
-node_reply policy keeps actives head =
-    if lacks_host head then response_to keeps head actives
-    else option_map_or (λ name. fetch_reply policy keeps head) (name_to_fetch head) (response_to keeps head actives)
+-- the reply to a request with this head and body: that to a fetch request, or else that of the resolver
+abbrev pub node_reply : FetchPolicyValue → Bool → List ActiveValue → RequestHead → List ℕ → ResponseValue
+node_reply policy keeps actives head body =
+    if lacks_host head then response_to keeps head body actives
+    else option_map_or (λ name. fetch_reply policy keeps head) (name_to_fetch head) (response_to keeps head body actives)
 
--- the reply to the bytes of a request, after which the connection is kept or not
-abbrev pub IsNodeReply : FetchPolicyValue → List ℕ → Bool → List ActiveValue → ResponseValue → Type 0
-IsNodeReply policy bytes keeps actives response =
-    ((head : RequestHead) × BeginsWith bytes head × (response ≡ node_reply policy keeps actives head))
+-- the reply to the bytes of a request and to its body, after which the connection is kept or not
+abbrev pub IsNodeReply : FetchPolicyValue → List ℕ → List ℕ → Bool → List ActiveValue → ResponseValue → Type 0
+IsNodeReply policy bytes body keeps actives response =
+    ((head : RequestHead) × BeginsWith bytes head × (response ≡ node_reply policy keeps actives head body))
     ⊎ IsReplyToNone bytes keeps response
 
 -- the reply has these bytes
-abbrev pub IsNodeReplyText : FetchPolicyValue → List ℕ → Bool → List ActiveValue → List ℕ → Type 0
-IsNodeReplyText policy bytes keeps actives text =
-    (response : ResponseValue) × IsNodeReply policy bytes keeps actives response × (text ≡ response.bytes)
+abbrev pub IsNodeReplyText : FetchPolicyValue → List ℕ → List ℕ → Bool → List ActiveValue → List ℕ → Type 0
+IsNodeReplyText policy bytes body keeps actives text =
+    (response : ResponseValue) × IsNodeReply policy bytes body keeps actives response × (text ≡ response.bytes)
 
 -- the reply from exactly the releases that a feed with this history reports, with the holdings of their complete files
-abbrev pub IsNodeReplyAt : FetchPolicyValue → History → List ℕ → Bool → ResponseValue → Type 0
-IsNodeReplyAt policy h bytes keeps response =
-    (actives : List ActiveValue) × AreReported h actives × IsNodeReply policy bytes keeps actives response
+abbrev pub IsNodeReplyAt : FetchPolicyValue → History → List ℕ → List ℕ → Bool → ResponseValue → Type 0
+IsNodeReplyAt policy h bytes body keeps response =
+    (actives : List ActiveValue) × AreReported h actives × IsNodeReply policy bytes body keeps actives response
 
 -- the bytes do not ask the node to fetch: they begin with no head, or the head lacks a host, or is not a POST of `/feed/`
 abbrev pub AsksForNoFetch : List ℕ → Type 0

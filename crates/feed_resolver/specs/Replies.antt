@@ -1,5 +1,5 @@
 -- The reply to a request, as a function of its head and of the active releases.
-use Rattle.std.specs.Prelude.{◌≡◌, ◌⊎◌, ℕ, ◌||◌, not, Bool, if◌then◌else◌, List, codes, Result, Ok, Err, position, take, drop}
+use Rattle.std.specs.Prelude.{◌≡◌, ◌⊎◌, ℕ, ◌||◌, not, Bool, if◌then◌else◌, List, codes, Option, Some, None, Result, Ok, Err, position, take, drop}
 use Rattle.std.specs.Option.{option_map_or}
 use Rattle.httparse.specs.Grammar.{RequestHead}
 use Rattle.feed_http_heads.specs.Fields.{values_named, has_any}
@@ -11,6 +11,9 @@ use Rattle.feed_answer.specs.declared.fault.QueryFault.{QueryFault}
 use Rattle.feed_model.specs.History.{History}
 use Rattle.feed_releases.specs.Actives.{ActiveValue, AreReported}
 use Rattle.feed_resolver_request.specs.FoundRequests.{BeginsWith, HasNoHead}
+use Rattle.feed_resolver_request.specs.Forms.{form_of}
+use Rattle.feed_resolver_request.specs.declared.form.FormFault.{FormFault}
+use Rattle.feed_resolver_request.specs.declared.form.FormFault.TheVariants as fault
 use Rattle.feed_resolver_request.specs.Representations.{accepted_representation, representation_of}
 use Rattle.feed_resolver_request.specs.Targets.{path_in, query_in, resource_of, package_in, is_unsupported_method}
 use Rattle.feed_resolver_request.specs.declared.representation.Representation.{Representation}
@@ -51,51 +54,82 @@ abbrev pub redirect_reply : Representation → List ActiveValue → QueryValue �
 redirect_reply representation actives query = option_map_or redirect_to
     (tally_among query actives).best (hits_reply status.NotFound representation actives query)
 
--- the reply by the kind of path
-abbrev pub resource_reply : Resource → RequestHead → List ℕ → List ActiveValue → ReplyValue
-resource_reply resource.Home head target actives = reply_with status.Good Html (home_page actives)
-resource_reply resource.Status head target actives =
-    reply_with status.Good (representation_of (query_in target) head) (status_body (representation_of (query_in target) head) actives)
-resource_reply resource.Resolve head target actives = resolve_reply (representation_of (query_in target) head) (query_in target) actives
-resource_reply resource.Package head target actives =
-    package_reply (representation_of (query_in target) head) (package_in (path_in target)) (query_in target) actives
-resource_reply resource.Go head target actives = query_reply (accepted_representation head) (redirect_reply (accepted_representation head) actives) (query_of (query_in target))
-resource_reply resource.Unknown head target actives = refusal status.NotFound (accepted_representation head) (codes "NoTarget")
+-- the reply by the kind of path, to this query
+abbrev pub resource_reply : Resource → RequestHead → List ℕ → List ℕ → List ActiveValue → ReplyValue
+resource_reply resource.Home head path query actives = reply_with status.Good Html (home_page actives)
+resource_reply resource.Status head path query actives =
+    reply_with status.Good (representation_of query head) (status_body (representation_of query head) actives)
+resource_reply resource.Resolve head path query actives = resolve_reply (representation_of query head) query actives
+resource_reply resource.Package head path query actives = package_reply (representation_of query head) (package_in path) query actives
+resource_reply resource.Go head path query actives =
+    query_reply (accepted_representation head) (redirect_reply (accepted_representation head) actives) (query_of query)
+resource_reply resource.Unknown head path query actives = refusal status.NotFound (accepted_representation head) (codes "NoTarget")
 
--- the reply to a target
-abbrev pub target_reply : RequestHead → List ActiveValue → ReplyValue
-target_reply head actives = resource_reply (resource_of (path_in (origin_form head.target))) head (origin_form head.target) actives
+-- the path of a request's target, and the query in it
+abbrev pub path_of : RequestHead → List ℕ
+path_of head = path_in (origin_form head.target)
+
+abbrev pub target_query : RequestHead → List ℕ
+target_query head = query_in (origin_form head.target)
+
+-- the reply to a query of the target's path
+abbrev pub target_reply : RequestHead → List ℕ → List ActiveValue → ReplyValue
+target_reply head query actives = resource_reply (resource_of (path_of head)) head (path_of head) query actives
 
 -- a body of unknown length follows
 abbrev pub has_coded_body : RequestHead → Bool
 has_coded_body head = has_any (values_named (codes "transfer-encoding") head.fields)
 
--- the reply to a request: the first case that holds
-abbrev pub reply_to : RequestHead → List ActiveValue → ReplyValue
-reply_to head actives =
-    if lacks_host head then refusal status.BadRequest Text (codes "NoHost")
-    else (if is_unsupported_method head.method then refusal status.MethodNotAllowed Text (codes "Method")
+-- the reply to a request that submits no form: the first case that holds
+abbrev pub plain_reply : RequestHead → List ActiveValue → ReplyValue
+plain_reply head actives =
+    if is_unsupported_method head.method then refusal status.MethodNotAllowed Text (codes "Method")
     else (if not (is_get head || is_head head) then refusal status.NotImplemented Text (codes "Method")
     else (if has_coded_body head then refusal status.NotImplemented Text (codes "Coding")
-    else target_reply head actives)))
+    else target_reply head (target_query head) actives))
 
--- the reply to a request with this head, and its bytes, on a connection that is kept or not
-abbrev pub response_to : Bool → RequestHead → List ActiveValue → ResponseValue
-response_to keeps head actives = response_of keeps (is_head head) (reply_to head actives)
+-- the reply to a form that is not read
+abbrev pub form_refusal : FormFault → ReplyValue
+form_refusal fault.Coding = refusal status.NotImplemented Text (codes "Coding")
+form_refusal fault.NoLength = refusal status.LengthRequired Text (codes "Length")
+form_refusal fault.BadLength = refusal status.BadRequest Text (codes "Length")
+form_refusal fault.TooLong = refusal status.ContentTooLarge Text (codes "TooLong")
+form_refusal fault.MediaType = refusal status.UnsupportedMediaType Text (codes "Type")
+
+-- the reply to a form: the body is the query
+abbrev pub form_reply : RequestHead → List ℕ → List ActiveValue → Result ℕ FormFault → ReplyValue
+form_reply head body actives (Ok n) = target_reply head body actives
+form_reply head body actives (Err fault) = form_refusal fault
+
+-- the reply to a request that submits a form, or none
+abbrev pub reply_by_form : RequestHead → List ℕ → List ActiveValue → Option (Result ℕ FormFault) → ReplyValue
+reply_by_form head body actives None = plain_reply head actives
+reply_by_form head body actives (Some form) = form_reply head body actives form
+
+-- the reply to a request with this head and this body, which only a form has
+abbrev pub reply_to : RequestHead → List ℕ → List ActiveValue → ReplyValue
+reply_to head body actives =
+    if lacks_host head then refusal status.BadRequest Text (codes "NoHost") else reply_by_form head body actives (form_of head)
+
+-- the same with its bytes, on a connection that is kept or not
+abbrev pub response_to : Bool → RequestHead → List ℕ → List ActiveValue → ResponseValue
+response_to keeps head body actives = response_of keeps (is_head head) (reply_to head body actives)
 
 -- the reply to the head at the front of the bytes, within the limits
-abbrev pub IsReplyToHead : List ℕ → Bool → List ActiveValue → ResponseValue → Type 0
-IsReplyToHead bytes keeps actives response =
-    (head : RequestHead) × BeginsWith bytes head × (response ≡ response_to keeps head actives)
+abbrev pub IsReplyToHead : List ℕ → List ℕ → Bool → List ActiveValue → ResponseValue → Type 0
+IsReplyToHead bytes body keeps actives response =
+    (head : RequestHead) × BeginsWith bytes head × (response ≡ response_to keeps head body actives)
 
 -- the reply if the bytes have no such head
 abbrev pub IsReplyToNone : List ℕ → Bool → ResponseValue → Type 0
 IsReplyToNone bytes keeps response = HasNoHead bytes × (response ≡ bad_head_response keeps)
 
--- the reply to the bytes of a request, after which the connection is kept or not
-abbrev pub IsResponse : List ℕ → Bool → List ActiveValue → ResponseValue → Type 0
-IsResponse bytes keeps actives response = IsReplyToHead bytes keeps actives response ⊎ IsReplyToNone bytes keeps response
+-- the reply to the bytes of a request and to its body, after which the connection is kept or not
+abbrev pub IsResponse : List ℕ → List ℕ → Bool → List ActiveValue → ResponseValue → Type 0
+IsResponse bytes body keeps actives response =
+    IsReplyToHead bytes body keeps actives response ⊎ IsReplyToNone bytes keeps response
 
 -- the reply from exactly the releases that a feed with this history reports, with the holdings of their complete files
-abbrev pub IsResponseAt : History → List ℕ → Bool → ResponseValue → Type 0
-IsResponseAt h bytes keeps response = (actives : List ActiveValue) × AreReported h actives × IsResponse bytes keeps actives response
+abbrev pub IsResponseAt : History → List ℕ → List ℕ → Bool → ResponseValue → Type 0
+IsResponseAt h bytes body keeps response =
+    (actives : List ActiveValue) × AreReported h actives × IsResponse bytes body keeps actives response

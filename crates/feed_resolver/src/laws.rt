@@ -1,7 +1,7 @@
 //! Laws of all replies, each stated as the contract of a function with an empty body.
 ghost use Rattle.feed_resolver.specs.Laws.{SameReleasesSameBytes, SameReleasesSameNodeBytes, StatusIsJson};
 ghost use Rattle.feed_resolver.specs.Laws.{WholeTextIsWritten};
-ghost use Rattle.feed_resolver.specs.Messages.{GoesToBest, HeadIsHeadOfGet};
+ghost use Rattle.feed_resolver.specs.Messages.{FormIsGet, GoesToBest, HeadIsHeadOfGet};
 
 /// Two nodes that report the same releases, and have stored their published files, give each request the same bytes.
 pub fn same_releases_same_bytes()
@@ -31,4 +31,9 @@ pub fn status_is_json()
 /// A reply that shows all hits has, as text, the answers that `Answer::write` prints.
 pub fn whole_text_is_written()
     ensures { WholeTextIsWritten }
+{}
+
+/// The reply to a form is that to the GET whose query is the form.
+pub fn form_is_get()
+    ensures { FormIsGet }
 {}

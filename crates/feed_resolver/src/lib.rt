@@ -11,8 +11,8 @@ mod status;
 
 pub use feed_replies::{FeedTarget, respond_about_feed};
 pub use laws::{
-    goes_to_best, head_is_head_of_get, same_releases_same_bytes, same_releases_same_node_bytes,
-    status_is_json, whole_text_is_written,
+    form_is_get, goes_to_best, head_is_head_of_get, same_releases_same_bytes,
+    same_releases_same_node_bytes, status_is_json, whole_text_is_written,
 };
 pub use node::respond_as_node;
 pub use responses::{respond, respond_with};

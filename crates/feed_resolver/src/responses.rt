@@ -1,4 +1,4 @@
-//! Computes the reply to the head of a request.
+//! Computes the reply to the head of a request and to its body, which only a form has.
 ghost use Rattle.std.specs.Prelude.{◌≡◌, IfOk, option_copied, position};
 ghost use Rattle.httparse.specs.Grammar.{RequestHead};
 ghost use Rattle.feed_http_heads.specs.Options.{SaysWhetherItKeeps};
@@ -8,14 +8,14 @@ ghost use Rattle.feed_model.specs.History.{History};
 ghost use Rattle.feed_model.specs.Content.{IsContent};
 ghost use Rattle.feed_releases.specs.Feeds.{recorded, releases_of};
 ghost use Rattle.feed_answer.specs.Queries.{query_of};
-ghost use Rattle.feed_resolver_request.specs.Targets.{resource_of, path_in};
+ghost use Rattle.feed_resolver_request.specs.Targets.{resource_of};
 ghost use Rattle.feed_resolver_reply.specs.Replies.{reply_with};
 ghost use Rattle.feed_resolver_reply.specs.Messages.{IsMessageFor};
 ghost use Rattle.feed_resolver_reply.specs.declared.status.Status.TheVariants as status;
 ghost use Rattle.feed_resolver.specs.Answers.{is_of, tally_among};
 ghost use Rattle.feed_resolver.specs.Replies.{IsResponse, IsResponseAt, hits_reply, query_reply, resolve_reply};
 ghost use Rattle.feed_resolver.specs.Replies.{package_reply, redirect_reply, resource_reply, target_reply};
-ghost use Rattle.feed_resolver.specs.Replies.{reply_to, response_to};
+ghost use Rattle.feed_resolver.specs.Replies.{plain_reply, form_refusal, form_reply, reply_to, response_to};
 ghost use Rattle.feed_resolver.specs.Messages.{IsMessageTo};
 ghost use Rattle.feed_resolver.specs.Status.{home_page, status_body};
 
@@ -28,8 +28,8 @@ use feed_releases::{ActiveRelease, Feed};
 use feed_resolver_hits::query_refusal;
 use feed_resolver_reply::{Reply, Response, Status, bad_head_response, refusal};
 use feed_resolver_request::{
-    Representation, Resource, accepted_representation, find_request, is_unsupported_method,
-    package_in, path_in, query_in, representation_of, resource_of,
+    FormFault, Representation, Resource, accepted_representation, find_request, form_of,
+    is_unsupported_method, package_in, path_in, query_in, representation_of, resource_of,
 };
 use httparse::spans::EMPTY_HEADER_SPAN;
 use std::alloc::{AllocError, Global};
@@ -152,15 +152,14 @@ fn status_reply(
 fn resource_reply<'a>(
     alloc: Global,
     request: &Request<'_>,
-    target: &[u8],
+    path: &[u8],
+    query: &[u8],
     actives: &[ActiveRelease<'a>],
 ) -> Result<Reply<'a>, AllocError>
     requires { IsInBuffer request.now }
     ensures { IfOk result (λ reply. (head : RequestHead) → HasHead request.now head
-        → reply ≡ resource_reply (resource_of (path_in target.now)) head target.now actives.now) }
+        → reply ≡ resource_reply (resource_of path.now) head path.now query.now actives.now) }
 {
-    let query = query_in(target);
-    let path = path_in(target);
     let representation = representation_of(query, &request.fields());
     let accepted = accepted_representation(&request.fields());
     match resource_of(path) {
@@ -173,18 +172,29 @@ fn resource_reply<'a>(
     }
 }
 
-fn reply_to<'a>(
+fn target_reply<'a>(
+    alloc: Global,
+    request: &Request<'_>,
+    query: &[u8],
+    actives: &[ActiveRelease<'a>],
+) -> Result<Reply<'a>, AllocError>
+    requires { IsInBuffer request.now }
+    ensures { IfOk result (λ reply. (head : RequestHead) → HasHead request.now head
+        → reply ≡ target_reply head query.now actives.now) }
+{
+    let path = path_in(origin_form(request.target()));
+    resource_reply(alloc, request, path, query, actives)
+}
+
+fn plain_reply<'a>(
     alloc: Global,
     request: &Request<'_>,
     actives: &[ActiveRelease<'a>],
 ) -> Result<Reply<'a>, AllocError>
     requires { IsInBuffer request.now }
     ensures { IfOk result (λ reply. (head : RequestHead) → HasHead request.now head
-        → reply ≡ reply_to head actives.now) }
+        → reply ≡ plain_reply head actives.now) }
 {
-    if request.lacks_host() {
-        return refusal(alloc, Status::BadRequest, Representation::Text, b"NoHost");
-    }
     if is_unsupported_method(request.method()) {
         return refusal(
             alloc,
@@ -209,22 +219,73 @@ fn reply_to<'a>(
             b"Coding",
         );
     }
-    resource_reply(alloc, request, origin_form(request.target()), actives)
+    let query = query_in(origin_form(request.target()));
+    target_reply(alloc, request, query, actives)
+}
+
+fn form_refusal(alloc: Global, fault: FormFault) -> Result<Reply<'static>, AllocError>
+    ensures { IfOk result (λ reply. reply ≡ form_refusal fault) }
+{
+    let text = Representation::Text;
+    match fault {
+        FormFault::Coding => refusal(alloc, Status::NotImplemented, text, b"Coding"),
+        FormFault::NoLength => refusal(alloc, Status::LengthRequired, text, b"Length"),
+        FormFault::BadLength => refusal(alloc, Status::BadRequest, text, b"Length"),
+        FormFault::TooLong => refusal(alloc, Status::ContentTooLarge, text, b"TooLong"),
+        FormFault::MediaType => refusal(alloc, Status::UnsupportedMediaType, text, b"Type"),
+    }
+}
+
+fn form_reply<'a>(
+    alloc: Global,
+    request: &Request<'_>,
+    body: &[u8],
+    actives: &[ActiveRelease<'a>],
+    form: Result<u64, FormFault>,
+) -> Result<Reply<'a>, AllocError>
+    requires { IsInBuffer request.now }
+    ensures { IfOk result (λ reply. (head : RequestHead) → HasHead request.now head
+        → reply ≡ form_reply head body.now actives.now form) }
+{
+    match form {
+        Ok(_) => target_reply(alloc, request, body, actives),
+        Err(fault) => form_refusal(alloc, fault),
+    }
+}
+
+fn reply_to<'a>(
+    alloc: Global,
+    request: &Request<'_>,
+    body: &[u8],
+    actives: &[ActiveRelease<'a>],
+) -> Result<Reply<'a>, AllocError>
+    requires { IsInBuffer request.now }
+    ensures { IfOk result (λ reply. (head : RequestHead) → HasHead request.now head
+        → reply ≡ reply_to head body.now actives.now) }
+{
+    if request.lacks_host() {
+        return refusal(alloc, Status::BadRequest, Representation::Text, b"NoHost");
+    }
+    match form_of(request) {
+        Some(form) => form_reply(alloc, request, body, actives, form),
+        None => plain_reply(alloc, request, actives),
+    }
 }
 
 pub(crate) fn response_to(
     alloc: Global,
     request: &Request<'_>,
+    body: &[u8],
     keeps: bool,
     actives: &[ActiveRelease<'_>],
 ) -> Result<Response, AllocError>
     requires { IsInBuffer request.now }
     ensures value { IfOk result (λ response. (head : RequestHead) → HasHead request.now head
-        → response ≡ response_to keeps head actives.now) }
+        → response ≡ response_to keeps head body.now actives.now) }
     ensures message { IfOk result (λ response. (head : RequestHead) → HasHead request.now head
         → IsMessageFor keeps (is_head head) response) }
 {
-    let reply = reply_to(alloc, request, actives)?;
+    let reply = reply_to(alloc, request, body, actives)?;
     reply.response(alloc, keeps, request.is_head())
 }
 
@@ -233,22 +294,24 @@ pub(crate) fn response_to(
 pub fn respond_with(
     alloc: Global,
     bytes: &[u8],
+    body: &[u8],
     keeps: bool,
     actives: &[ActiveRelease<'_>],
 ) -> Result<Response, AllocError>
-    ensures value { IfOk result (λ response. IsResponse bytes.now keeps actives.now response) }
+    ensures value { IfOk result (λ response. IsResponse bytes.now body.now keeps actives.now response) }
     ensures message { IfOk result (λ response. IsMessageTo bytes.now keeps response) }
     ensures says { IfOk result (λ response. SaysWhetherItKeeps keeps response.bytes) }
 {
     let mut headers = [EMPTY_HEADER_SPAN; FIELD_LIMIT];
     match find_request(bytes, &mut headers) {
-        Some(request) => response_to(alloc, &request, keeps, actives),
+        Some(request) => response_to(alloc, &request, body, keeps, actives),
         None => bad_head_response(alloc, keeps),
     }
 }
 
-/// Returns the whole reply to a request, whose head is at the front of the bytes. Ignores what follows the head, and
-/// uses only the active releases of the feed. Reads and writes nothing, and stores nothing. The reply says
+/// Returns the whole reply to a request, whose head is at the front of the bytes. Ignores what follows the head. The
+/// body is that of a form, whose length `form_length` returns, and is ignored for any other request. Uses only the
+/// active releases of the feed. Reads and writes nothing, and stores nothing. The reply says
 /// `Connection: close` exactly if the connection is not kept for another request (RFC 9112, section 9.6).
 ///
 /// # Errors
@@ -257,15 +320,16 @@ pub fn respond_with(
 pub fn respond<K: Keep + Drop>(
     alloc: Global,
     bytes: &[u8],
+    body: &[u8],
     keeps: bool,
     feed: &Feed<K>,
 ) -> Result<Response, AllocError>
-    ensures value { IfOk result (λ response. IsResponse bytes.now keeps (actives_of (releases_of feed.now)) response) }
+    ensures value { IfOk result (λ response. IsResponse bytes.now body.now keeps (actives_of (releases_of feed.now)) response) }
 
     // For every history that the feed may have: from the releases that it reports, with the holdings of their complete
     // files.
     ensures reported { IfOk result (λ response. (h : History) → IsContent (recorded feed.now) h
-        → IsResponseAt h bytes.now keeps response) }
+        → IsResponseAt h bytes.now body.now keeps response) }
 
     // A client parses it as one head, and the body of the length that this states; the reply to a HEAD has no body. The
     // head has one Connection field, `close`, or none if the connection is kept.
@@ -273,5 +337,5 @@ pub fn respond<K: Keep + Drop>(
     ensures says { IfOk result (λ response. SaysWhetherItKeeps keeps response.bytes) }
 {
     let actives = feed.actives()?;
-    respond_with(alloc, bytes, keeps, &actives)
+    respond_with(alloc, bytes, body, keeps, &actives)
 }

@@ -67,6 +67,7 @@ abbrev status_pairs : Status → List ℕ → Pairs
 status_pairs status.Found location = (codes "Location", location) ∷ []
 status_pairs status.MethodNotAllowed location = (codes "Allow", codes "GET, HEAD") ∷ []
 status_pairs status.PostOnly location = (codes "Allow", codes "POST") ∷ []
+status_pairs status.GetOrPost location = (codes "Allow", codes "GET, HEAD, POST") ∷ []
 status_pairs status.Unauthorized location = (codes "WWW-Authenticate", codes "Bearer") ∷ []
 status_pairs code location = []
 
@@ -102,8 +103,12 @@ status_written status.Unauthorized location rest = refl
 status_written status.NotFound location rest = refl
 status_written status.MethodNotAllowed location rest = refl
 status_written status.PostOnly location rest = refl
+status_written status.GetOrPost location rest = refl
 status_written status.Conflict location rest = refl
 status_written status.UriTooLong location rest = refl
+status_written status.LengthRequired location rest = refl
+status_written status.ContentTooLarge location rest = refl
+status_written status.UnsupportedMediaType location rest = refl
 status_written status.NotImplemented location rest = refl
 
 -- the status line, and then lines
@@ -153,8 +158,12 @@ status_digits status.Unauthorized = (refl, refl, refl, refl)
 status_digits status.NotFound = (refl, refl, refl, refl)
 status_digits status.MethodNotAllowed = (refl, refl, refl, refl)
 status_digits status.PostOnly = (refl, refl, refl, refl)
+status_digits status.GetOrPost = (refl, refl, refl, refl)
 status_digits status.Conflict = (refl, refl, refl, refl)
 status_digits status.UriTooLong = (refl, refl, refl, refl)
+status_digits status.LengthRequired = (refl, refl, refl, refl)
+status_digits status.ContentTooLarge = (refl, refl, refl, refl)
+status_digits status.UnsupportedMediaType = (refl, refl, refl, refl)
 status_digits status.NotImplemented = (refl, refl, refl, refl)
 
 literal_field : (name value : List ℕ) → 0 < length name → list_all is_token_byte name ≡ true → list_all is_value_byte (32 ∷ value) ≡ true → IsField (field name value)
@@ -179,8 +188,13 @@ status_valid status.MethodNotAllowed location passes =
     All-from_recursion IsField (field (codes "Allow") (codes "GET, HEAD") ∷ []) (literal_field (codes "Allow") (codes "GET, HEAD") (omega arith) refl refl, tt)
 status_valid status.PostOnly location passes =
     All-from_recursion IsField (field (codes "Allow") (codes "POST") ∷ []) (literal_field (codes "Allow") (codes "POST") (omega arith) refl refl, tt)
+status_valid status.GetOrPost location passes =
+    All-from_recursion IsField (field (codes "Allow") (codes "GET, HEAD, POST") ∷ []) (literal_field (codes "Allow") (codes "GET, HEAD, POST") (omega arith) refl refl, tt)
 status_valid status.Conflict location passes = All-from_recursion IsField [] tt
 status_valid status.UriTooLong location passes = All-from_recursion IsField [] tt
+status_valid status.LengthRequired location passes = All-from_recursion IsField [] tt
+status_valid status.ContentTooLarge location passes = All-from_recursion IsField [] tt
+status_valid status.UnsupportedMediaType location passes = All-from_recursion IsField [] tt
 status_valid status.NotImplemented location passes = All-from_recursion IsField [] tt
 
 media_passes : (representation : Representation) → list_all is_value_byte (32 ∷ type_text representation) ≡ true
@@ -289,8 +303,12 @@ stated true status.Unauthorized reply = (refl, refl, refl, refl)
 stated true status.NotFound reply = (refl, refl, refl, refl)
 stated true status.MethodNotAllowed reply = (refl, refl, refl, refl)
 stated true status.PostOnly reply = (refl, refl, refl, refl)
+stated true status.GetOrPost reply = (refl, refl, refl, refl)
 stated true status.Conflict reply = (refl, refl, refl, refl)
 stated true status.UriTooLong reply = (refl, refl, refl, refl)
+stated true status.LengthRequired reply = (refl, refl, refl, refl)
+stated true status.ContentTooLarge reply = (refl, refl, refl, refl)
+stated true status.UnsupportedMediaType reply = (refl, refl, refl, refl)
 stated true status.NotImplemented reply = (refl, refl, refl, refl)
 stated false status.Good reply = (refl, refl, refl, refl)
 stated false status.Found reply = (refl, refl, refl, refl)
@@ -299,8 +317,12 @@ stated false status.Unauthorized reply = (refl, refl, refl, refl)
 stated false status.NotFound reply = (refl, refl, refl, refl)
 stated false status.MethodNotAllowed reply = (refl, refl, refl, refl)
 stated false status.PostOnly reply = (refl, refl, refl, refl)
+stated false status.GetOrPost reply = (refl, refl, refl, refl)
 stated false status.Conflict reply = (refl, refl, refl, refl)
 stated false status.UriTooLong reply = (refl, refl, refl, refl)
+stated false status.LengthRequired reply = (refl, refl, refl, refl)
+stated false status.ContentTooLarge reply = (refl, refl, refl, refl)
+stated false status.UnsupportedMediaType reply = (refl, refl, refl, refl)
 stated false status.NotImplemented reply = (refl, refl, refl, refl)
 
 head_states : (keeps : Bool) (reply : ReplyValue) → IsSendable reply → IsHeadOf keeps reply (head_of keeps reply)

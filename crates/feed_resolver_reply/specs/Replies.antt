@@ -43,8 +43,12 @@ status_code status.Unauthorized = 401
 status_code status.NotFound = 404
 status_code status.MethodNotAllowed = 405
 status_code status.PostOnly = 405
+status_code status.GetOrPost = 405
 status_code status.Conflict = 409
+status_code status.LengthRequired = 411
+status_code status.ContentTooLarge = 413
 status_code status.UriTooLong = 414
+status_code status.UnsupportedMediaType = 415
 status_code status.NotImplemented = 501
 
 -- its reason
@@ -56,8 +60,12 @@ reason_text status.Unauthorized = codes "Unauthorized"
 reason_text status.NotFound = codes "Not Found"
 reason_text status.MethodNotAllowed = codes "Method Not Allowed"
 reason_text status.PostOnly = codes "Method Not Allowed"
+reason_text status.GetOrPost = codes "Method Not Allowed"
 reason_text status.Conflict = codes "Conflict"
+reason_text status.LengthRequired = codes "Length Required"
+reason_text status.ContentTooLarge = codes "Content Too Large"
 reason_text status.UriTooLong = codes "URI Too Long"
+reason_text status.UnsupportedMediaType = codes "Unsupported Media Type"
 reason_text status.NotImplemented = codes "Not Implemented"
 
 -- the status line, without its end (RFC 9112, section 4)
@@ -75,6 +83,7 @@ abbrev pub status_field : Status → List ℕ → List ℕ
 status_field status.Found location = joined (codes "\r\nLocation: " ∷ location ∷ [])
 status_field status.MethodNotAllowed location = joined (codes "\r\nAllow: GET, HEAD" ∷ [])
 status_field status.PostOnly location = joined (codes "\r\nAllow: POST" ∷ [])
+status_field status.GetOrPost location = joined (codes "\r\nAllow: GET, HEAD, POST" ∷ [])
 status_field status.Unauthorized location = joined (codes "\r\nWWW-Authenticate: Bearer" ∷ [])
 status_field code location = []
 

@@ -84,6 +84,7 @@ fn put_status_field(out: &mut Vec<u8>, status: Status, location: &[u8]) -> Resul
         ),
         Status::MethodNotAllowed => put_all(out, &[Piece::Plain(b"\r\nAllow: GET, HEAD")]),
         Status::PostOnly => put_all(out, &[Piece::Plain(b"\r\nAllow: POST")]),
+        Status::GetOrPost => put_all(out, &[Piece::Plain(b"\r\nAllow: GET, HEAD, POST")]),
         Status::Unauthorized => put_all(out, &[Piece::Plain(b"\r\nWWW-Authenticate: Bearer")]),
         _ => Ok(()),
     }

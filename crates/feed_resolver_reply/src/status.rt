@@ -19,10 +19,18 @@ pub enum Status {
     MethodNotAllowed,
     /// 405, of a target that only a POST may have
     PostOnly,
+    /// 405, of a target that takes a POST too
+    GetOrPost,
     /// 409
     Conflict,
+    /// 411
+    LengthRequired,
+    /// 413
+    ContentTooLarge,
     /// 414
     UriTooLong,
+    /// 415
+    UnsupportedMediaType,
     /// 501
     NotImplemented,
 }
@@ -37,9 +45,12 @@ pub(crate) fn status_code(status: Status) -> u16
         Status::BadRequest => 400,
         Status::Unauthorized => 401,
         Status::NotFound => 404,
-        Status::MethodNotAllowed | Status::PostOnly => 405,
+        Status::MethodNotAllowed | Status::PostOnly | Status::GetOrPost => 405,
         Status::Conflict => 409,
+        Status::LengthRequired => 411,
+        Status::ContentTooLarge => 413,
         Status::UriTooLong => 414,
+        Status::UnsupportedMediaType => 415,
         Status::NotImplemented => 501,
     }
 }
@@ -54,9 +65,12 @@ pub(crate) fn reason_text(status: Status) -> &'static [u8]
         Status::BadRequest => b"Bad Request",
         Status::Unauthorized => b"Unauthorized",
         Status::NotFound => b"Not Found",
-        Status::MethodNotAllowed | Status::PostOnly => b"Method Not Allowed",
+        Status::MethodNotAllowed | Status::PostOnly | Status::GetOrPost => b"Method Not Allowed",
         Status::Conflict => b"Conflict",
+        Status::LengthRequired => b"Length Required",
+        Status::ContentTooLarge => b"Content Too Large",
         Status::UriTooLong => b"URI Too Long",
+        Status::UnsupportedMediaType => b"Unsupported Media Type",
         Status::NotImplemented => b"Not Implemented",
     }
 }

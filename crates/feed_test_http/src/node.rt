@@ -2,14 +2,15 @@
 use crate::escapes::Escaped;
 use crate::fault::Fault;
 use crate::line::Line;
-use feed_http_heads::head_end;
+use feed_http_heads::{FIELD_LIMIT, head_end};
 use feed_keep::ListKeep;
 use feed_model::{Refusal, Reply};
 use feed_names::ReleaseName;
 use feed_node_connection::{Connection, TimeLimits};
 use feed_releases::{Event, Feed};
 use feed_resolver::{respond, respond_as_node};
-use feed_resolver_request::{FetchPolicy, fetch_request};
+use feed_resolver_request::{FetchPolicy, fetch_request, find_request, form_length};
+use httparse::spans::EMPTY_HEADER_SPAN;
 
 /// The feed of a node over a keeper in memory, and one connection to it.
 #[derive(Drop)]
@@ -38,6 +39,7 @@ impl<'a> Node<'a> {
         match command {
             "release" => self.release(line),
             "respond" => self.respond(line),
+            "respond-to-form" => self.respond_to_form(line),
             "respond-as-node" => self.respond_as_node(line),
             "fetch-asked" => self.fetch_request(line),
             "head-end" => self.head_end(line),
@@ -60,7 +62,17 @@ impl<'a> Node<'a> {
     fn respond(&self, mut line: Line<'_>) -> Result<(), Fault> {
         let keeps = line.flag("keep", "close")?;
         let request = line.text(self.rt.alloc())?;
-        let reply = respond(self.rt.alloc(), &request, keeps, &self.feed)?;
+        let reply = respond(self.rt.alloc(), &request, b"", keeps, &self.feed)?;
+        println!(self.rt; "{}", Escaped(reply.bytes()))?;
+        Ok(())
+    }
+
+    fn respond_to_form(&self, mut line: Line<'_>) -> Result<(), Fault> {
+        let keeps = line.flag("keep", "close")?;
+        let body = line.word()?.as_bytes();
+        let request = line.text(self.rt.alloc())?;
+        println!(self.rt; "length {}", form_length_of(&request))?;
+        let reply = respond(self.rt.alloc(), &request, body, keeps, &self.feed)?;
         println!(self.rt; "{}", Escaped(reply.bytes()))?;
         Ok(())
     }
@@ -74,7 +86,7 @@ impl<'a> Node<'a> {
         let keeps = line.flag("keep", "close")?;
         let request = line.text(self.rt.alloc())?;
         let policy = FetchPolicy { token, is_busy };
-        let reply = respond_as_node(self.rt.alloc(), &request, keeps, &policy, &self.feed)?;
+        let reply = respond_as_node(self.rt.alloc(), &request, b"", keeps, &policy, &self.feed)?;
         println!(self.rt; "{}", Escaped(reply.bytes()))?;
         Ok(())
     }
@@ -94,6 +106,14 @@ impl<'a> Node<'a> {
         let bytes = line.text(self.rt.alloc())?;
         println!(self.rt; "{:?}", head_end(&bytes))?;
         Ok(())
+    }
+}
+
+fn form_length_of(bytes: &[u8]) -> u64 {
+    let mut headers = [EMPTY_HEADER_SPAN; FIELD_LIMIT];
+    match find_request(bytes, &mut headers) {
+        Some(request) => form_length(&request),
+        None => 0,
     }
 }
 
