@@ -11,8 +11,8 @@ pub fn escaped_reads_back()
     ensures { EscapedReadsBack }
 {}
 
-/// A line that is split at its quotes has seven parts. The second is the escaped request line, the fourth the referrer and
-/// the sixth the user agent.
+/// A line that is split at its quotes has seven parts. The second is the escaped request line, the fourth the referrer
+/// and the sixth the user agent.
 pub fn line_splits()
     ensures { LineSplits }
 {}

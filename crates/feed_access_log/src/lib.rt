@@ -1,5 +1,5 @@
-//! The lines of an access log: the fields of nginx's combined format, and then the milliseconds of the request. A text of
-//! a client is escaped, so that no line has more fields than it states.
+//! The lines of an access log: the fields of nginx's combined format, and then the milliseconds of the request. A text
+//! of a client is escaped, so that no line has more fields than it states.
 #![tactic(auto)]
 
 mod entry;

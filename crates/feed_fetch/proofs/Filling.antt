@@ -182,9 +182,11 @@ filled_with h n file piece first last b a is len asked taken = record {
     size = asked.filling.size;
     bytes = λ place y e. with_piece h n file first last (Some (length file)) b place y is asked.filling (sym (here place) ∙ e);
   };
-  fewer = missing_less (kept h n) (kept k n) (λ p s. subst IsSome (sym (here p)) (or_else-more (kept h n p) (byte_at first b p) s)) (length file) first (omega (arith, asked.next.order, asked.next.within))
+  fewer = missing_less (kept h n) (kept k n) (λ p s. subst IsSome (sym (here p)) (or_else-more (kept h n p) (byte_at first b p) s))
+      (length file) first (omega (arith, asked.next.order, asked.next.within))
       (first_missing h n file piece first last asked)
-      (subst IsSome (sym (here first)) (or_else-second (kept h n first) (byte_at first b first) (first_missing h n file piece first last asked) (byte_at-some first b first (omega arith) (omega (arith, len, asked.next.order)))));
+      (subst IsSome (sym (here first)) (or_else-second (kept h n first) (byte_at first b first) (first_missing h n file piece first last asked)
+      (byte_at-some first b first (omega arith) (omega (arith, len, asked.next.order)))));
   next = record { below = below; above = above };
 }
   where
@@ -206,7 +208,8 @@ filled_with h n file piece first last b a is len asked taken = record {
             (byte_at-some first b place from (omega (arith, len, le, asked.next.order))))
 
     above : (place : ℕ) → last < place → kept h n place ≡ kept k n place
-    above place gt = sym (here place ∙ ap (or_else (kept h n place)) (byte_at_past first b place (omega (arith, gt, asked.next.order)) (omega (arith, len, gt, asked.next.order))) ∙ or_else-none (kept h n place))
+    above place gt = sym (here place ∙ ap (or_else (kept h n place)) (byte_at_past first b place (omega (arith, gt, asked.next.order)) (omega (arith, len, gt, asked.next.order)))
+        ∙ or_else-none (kept h n place))
 
 same_some : (a b : Option ℕ) (x y : ℕ) → a ≡ Some x → a ≡ Some y → x ≡ y
 same_some a b x y e d = cc

@@ -110,7 +110,8 @@ further_reply known host n file piece request reply result c d honest next of ta
     by requests.Length ask of = absurd ask
     by (requests.Range first last) ask of =
         let asked = asked_next h n file piece first last (Some (first, last)) refl honest.least honest.most fill ask in
-        taken.fills first last refl (asked_places known host n file first last reply honest.serves honest.hosted honest.fit asked.next.order asked.next.within (few_places h n file piece first last asked) of) h at asked
+        taken.fills first last refl (asked_places known host n file first last reply honest.serves honest.hosted honest.fit asked.next.order asked.next.within
+        (few_places h n file piece first last asked) of) h at asked
 
 -- after each reply of an honest server that does not stop the fetch, one request fewer is needed
 pub run_more : (known : Replies) (host : List ℕ) (n : Name) (file : List ℕ) (piece count : ℕ) (phase : Phase) (request : Request) (reply : Result Got RequestFault) (b c d : Content)

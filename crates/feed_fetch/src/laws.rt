@@ -11,8 +11,8 @@ pub fn header_is_fetchable()
 {}
 
 /// A fetch ends, whoever calls `Fetch::next` and `Fetch::take`. If each exchange brings the reply of a server that has
-/// the file (`D` states what the peer replies), `next` returns `Done` after one exchange for the length and one for each
-/// piece of each gap, and the release is then reported. Only an excused stop ends the fetch before.
+/// the file (`D` states what the peer replies), `next` returns `Done` after one exchange for the length and one for
+/// each piece of each gap, and the release is then reported. Only an excused stop ends the fetch before.
 pub fn fetch_ends<D: Dial>()
     ensures bounded { IsBounded D.replies }
     ensures ending { IsEnding D.replies }

@@ -147,7 +147,8 @@ chunk_found text content count size e some (line, rest, before, count_is, size_i
     )
 
 -- the bytes of a chunk that are not there yet, or that something else follows
-holds_behind : (Holds : ℕ → List ℕ → Type 0) (text content : List ℕ) (count size : ℕ) → content ≡ drop count text → IsLineFound text (lines.Complete count size) → Holds size content → BeginsWithLine Holds text
+holds_behind : (Holds : ℕ → List ℕ → Type 0) (text content : List ℕ) (count size : ℕ) → content ≡ drop count text → IsLineFound text (lines.Complete count size)
+    → Holds size content → BeginsWithLine Holds text
 holds_behind Holds text content count size e (line, rest, before, count_is, size_is) is =
     let same : content ≡ rest = e ∙ behind_line text rest line count before count_is in
     (line, rest, before, subst (λ (n : ℕ). Holds n rest) size_is (subst (Holds size) same is))

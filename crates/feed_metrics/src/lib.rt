@@ -1,5 +1,5 @@
-//! The metrics of a node: its counters, the histogram of the time that a request takes, and their text in the Prometheus
-//! exposition format, version 0.0.4.
+//! The metrics of a node: its counters, the histogram of the time that a request takes, and their text in the
+//! Prometheus exposition format, version 0.0.4.
 #![tactic(auto)]
 
 mod counter;

@@ -3,7 +3,8 @@ ghost use Rattle.std.specs.Prelude.{◌≡◌, ◌<◌, ◌++◌, OnOk};
 ghost use Rattle.std.specs.List.{flat_map};
 ghost use Rattle.feed_metrics.specs.Texts.{bucket_at, bucket_line, buckets_text, counter_line, request_line};
 ghost use Rattle.feed_metrics.specs.Texts.{class_lines, gauges_text, metrics_text, release_line, releases_text};
-ghost use Rattle.feed_metrics.specs.Texts.{counted_text, release_lines, requests_text, state_text, switch_text, times_text, totals_text};
+ghost use Rattle.feed_metrics.specs.Texts.{counted_text, release_lines, requests_text, state_text, switch_text};
+ghost use Rattle.feed_metrics.specs.Texts.{times_text, totals_text};
 
 use crate::counter::{COUNTERS, Counter};
 use crate::histogram::BOUNDS;

@@ -204,8 +204,8 @@ impl Server {
         }
     }
 
-    // Gives each connection that is ready one share of the turn, the last one first: one that has more to do is added at
-    // the end, for the next turn.
+    // Gives each connection that is ready one share of the turn, the last one first: one that has more to do is added
+    // at the end, for the next turn.
     fn serve_ready<S: Respond, L: Log>(
         &mut self,
         rt: &impl Clock,
@@ -305,8 +305,8 @@ impl Server {
         Ok(true)
     }
 
-    // Begins a new connection, and serves it at once: its client may have sent a request already. If it remains open, its
-    // socket is registered with the poll.
+    // Begins a new connection, and serves it at once: its client may have sent a request already. If it remains open,
+    // its socket is registered with the poll.
     fn admit<S: Respond, L: Log>(
         &mut self,
         rt: &impl Clock,

@@ -56,7 +56,8 @@ impl KeySet {
     pub(crate) fn insert(&mut self, key: usize) -> Result<(), AllocError>
         requires { key < vec_len self.old.places }
         ensures added { OnOk result (IsListed self.new.keys.items key) }
-        ensures listed { (other : ℕ) → IsListed self.new.keys.items other → other ≢ key → IsListed self.old.keys.items other }
+        ensures listed { (other : ℕ) → IsListed self.new.keys.items other
+            → other ≢ key → IsListed self.old.keys.items other }
         ensures before { KeepsBefore key self.old.keys.items self.new.keys.items }
         ensures kept { (other : ℕ) → IsListed self.old.keys.items other → IsListed self.new.keys.items other }
         ensures unchanged { OnErr result (self.new.keys.items ≡ self.old.keys.items) }
@@ -75,7 +76,8 @@ impl KeySet {
     pub(crate) fn remove(&mut self, key: usize)
         ensures gone { ¬ (IsListed self.new.keys.items key) }
         ensures listed { (other : ℕ) → IsListed self.new.keys.items other → IsListed self.old.keys.items other }
-        ensures others { (other : ℕ) → IsListed self.old.keys.items other → other ≢ key → IsListed self.new.keys.items other }
+        ensures others { (other : ℕ) → IsListed self.old.keys.items other
+            → other ≢ key → IsListed self.new.keys.items other }
         ensures before { KeepsBefore key self.old.keys.items self.new.keys.items }
         ensures places { vec_len self.new.places ≡ vec_len self.old.places }
     {

@@ -86,8 +86,8 @@ impl<T: Stream> Peer<T> {
         }
     }
 
-    /// Returns the sum of this number and the bytes that are not yet sent. If the sum has no number, ends the connection,
-    /// so that it holds none.
+    /// Returns the sum of this number and the bytes that are not yet sent. If the sum has no number, ends the
+    /// connection, so that it holds none.
     pub(crate) fn add_unsent(&mut self, rest: usize) -> usize
         ensures sum { result ≡ rest + unsent_bytes self.new.connection }
         ensures less { unsent_bytes self.new.connection ≤ unsent_bytes self.old.connection }

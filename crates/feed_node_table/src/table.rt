@@ -1,5 +1,6 @@
 //! The connections of a node as a value.
-ghost use Rattle.std.specs.Prelude.{◌≡◌, ◌≢◌, ◌≤◌, ◌<◌, ◌+◌, ◌⊎◌, ℕ, true, [], sum_by, vec_len, nat_le, nat_lt, length, slice_index, Some, None, IfOk, IfSome, IfNone, OnOk, OnErr, IsSome, IsSomeAnd};
+ghost use Rattle.std.specs.Prelude.{◌≡◌, ◌≢◌, ◌≤◌, ◌<◌, ◌+◌, ◌⊎◌, ℕ, true, [], sum_by, vec_len, nat_le, nat_lt, length};
+ghost use Rattle.std.specs.Prelude.{slice_index, Some, None, IfOk, IfSome, IfNone, OnOk, OnErr, IsSome, IsSomeAnd};
 ghost use Rattle.slab.specs.Slab.{ContainsKey, slab_len};
 ghost use Rattle.feed_node_table.specs.Lists.{IsListed};
 ghost use Rattle.feed_node_table.specs.Peers.{unsent_in};
@@ -34,10 +35,12 @@ pub struct Table<T> {
 impl<T: Stream> Table<T> {
     ghost use Rattle.feed_node_connection.specs.States.{is_closed_before};
     ghost use Rattle.feed_node_table.specs.Logs.{Accepted, HasRecorded};
-    ghost use Rattle.feed_node_table.specs.Tables.{peer_at, size_of, bytes_held, ready_keys, IsReady, KeepsOthers, KeepsReady};
+    ghost use Rattle.feed_node_table.specs.Tables.{peer_at, size_of, bytes_held, ready_keys, IsReady, KeepsOthers};
+    ghost use Rattle.feed_node_table.specs.Tables.{KeepsReady};
     ghost use Rattle.feed_node_table.specs.declared.peer.Peer.{Peer};
     ghost use Rattle.feed_node_table.specs.Peers.{cause_of};
-    ghost use Rattle.feed_node_table.specs.Tables.{IsFirstToClose, IsFirstBelow, IsRemoved, HasClosed, IsSettled, has_more};
+    ghost use Rattle.feed_node_table.specs.Tables.{IsFirstToClose, IsFirstBelow, IsRemoved, HasClosed, IsSettled};
+    ghost use Rattle.feed_node_table.specs.Tables.{has_more};
 
     /// Returns an empty table for at most this many connections, with the memory for all of them.
     pub fn new(alloc: Global, clients: usize) -> Result<Table<T>, AllocError>
@@ -169,8 +172,8 @@ impl<T: Stream> Table<T> {
         Some(key)
     }
 
-    /// Returns the key of the connection that is closed to make room: the one that is idle longest, otherwise the slowest
-    /// reader, otherwise the quietest.
+    /// Returns the key of the connection that is closed to make room: the one that is idle longest, otherwise the
+    /// slowest reader, otherwise the quietest.
     pub fn first_to_close(&self) -> Option<usize>
         ensures first { IfSome result (λ key. IsFirstToClose self.now key) }
         ensures none { IfNone result (size_of self.now ≡ 0) }
@@ -307,8 +310,8 @@ impl<T: Stream> Table<T> {
         }
     }
 
-    /// Does what follows `advance`, by how that ended: records a reply that was sent, marks the connection as ready if it
-    /// has more to do, and removes it if it is over. A reply that was sent ended now.
+    /// Does what follows `advance`, by how that ended: records a reply that was sent, marks the connection as ready if
+    /// it has more to do, and removes it if it is over. A reply that was sent ended now.
     pub fn settle<L: Log>(
         &mut self,
         key: usize,

@@ -18,8 +18,8 @@ pub fn tally_tells_of_hits()
     ensures { TallyTellsOfHits }
 {}
 
-/// The hits in JSON are, by its grammar (RFC 8259), an array with one object for each hit that is shown, in their order,
-/// and one more if others are left out.
+/// The hits in JSON are, by its grammar (RFC 8259), an array with one object for each hit that is shown, in their
+/// order, and one more if others are left out.
 pub fn hits_are_json()
     ensures { HitsAreJson }
 {}

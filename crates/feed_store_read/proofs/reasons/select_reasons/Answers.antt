@@ -46,10 +46,12 @@ pub returns-in_default-clause-leaves : goal.returns-in_default-clause-leaves
 returns-in_default-clause-leaves g c = ended_leaves c.rows.invariant.way c.next.follows.holds-at-none c.in_ok-rows.ensures.same_reference c.conn-in_default-1.given c.drop-rows-in_default.ensures
 
 pub returns-in_err-take_reason-clause-leaves : goal.returns-in_err-take_reason-clause-leaves
-returns-in_err-take_reason-clause-leaves g c = ended_leaves c.rows.invariant.way c.next.follows.holds-at-none c.in_ok-rows.ensures.same_reference c.conn-in_err-take_reason-1.given c.drop-rows-in_err-take_reason.ensures
+returns-in_err-take_reason-clause-leaves g c =
+    ended_leaves c.rows.invariant.way c.next.follows.holds-at-none c.in_ok-rows.ensures.same_reference c.conn-in_err-take_reason-1.given c.drop-rows-in_err-take_reason.ensures
 
 pub returns-then-not-branch-clause-leaves : goal.returns-then-not-branch-clause-leaves
-returns-then-not-branch-clause-leaves g c = ended_leaves c.rows.invariant.way c.next.follows.holds-at-none c.in_ok-rows.ensures.same_reference c.conn-then-not-branch-1.given c.drop-rows-then-not-branch.ensures
+returns-then-not-branch-clause-leaves g c =
+    ended_leaves c.rows.invariant.way c.next.follows.holds-at-none c.in_ok-rows.ensures.same_reference c.conn-then-not-branch-1.given c.drop-rows-then-not-branch.ensures
 
 pub returns-clause-leaves : goal.returns-clause-leaves
 returns-clause-leaves g c = way_leaves c.rows.invariant.way c.in_ok-rows.ensures.same_reference c.conn-2-1.given c.drop-rows-2.ensures

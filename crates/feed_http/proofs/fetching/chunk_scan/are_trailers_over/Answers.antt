@@ -9,7 +9,8 @@ returns-in-Ok-Complete c =
 
 pub returns-in-Ok-Partial : goal.returns-in-Ok-Partial
 returns-in-Ok-Partial c =
-    section_partial c.args.rest.now _ c.min.result refl c.min.ensures (rw c.in-Ok-Partial.field-0-is at c.in-Ok-Partial.ensures.partial) (rw c.in-Ok-Partial.field-0-is at c.in-Ok-Partial.ensures.unfinished)
+    section_partial c.args.rest.now _ c.min.result refl c.min.ensures (rw c.in-Ok-Partial.field-0-is at c.in-Ok-Partial.ensures.partial)
+    (rw c.in-Ok-Partial.field-0-is at c.in-Ok-Partial.ensures.unfinished)
 
 pub returns-in-Err : goal.returns-in-Err
 returns-in-Err c = section_never c.args.rest.now _ c.min.result refl c.in-Err.ensures.no_room

@@ -43,7 +43,8 @@ returns-in-Ready g c =
 
 pub returns-in-Resumed : goal.returns-in-Resumed
 returns-in-Resumed g c =
-    settled_after g.L.Log.records c.args.key _ c.args.self.now c.settle_peer-outcome.new.self c.keep_ready-in-Resumed.new.self c.args.log.now c.settle_peer-outcome.new.log c.keep_ready-in-Resumed.new.log
+    settled_after g.L.Log.records c.args.key _ c.args.self.now c.settle_peer-outcome.new.self c.keep_ready-in-Resumed.new.self c.args.log.now c.settle_peer-outcome.new.log
+    c.keep_ready-in-Resumed.new.log
     c.settle_peer-outcome.ensures.others (ap (λ set. set.keys.items) c.settle_peer-outcome.ensures.ready)
     (closed_none g.L.Log.records c.args.self.now c.settle_peer-outcome.new.self c.args.log.now c.settle_peer-outcome.new.log c.settle_peer-outcome.ensures.recorded
     c.settle_peer-outcome.ensures.size c.settle_peer-outcome.ensures.clients)
