@@ -1,1 +1,5 @@
+pub mod Lists
+pub mod Connections
 pub mod Logs
+pub mod Peers
+pub mod Tables

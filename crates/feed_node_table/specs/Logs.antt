@@ -1,5 +1,5 @@
 -- What a log of connections records.
-use Rattle.std.specs.Prelude.{◌≡◌, ℕ, List, [], ◌∷◌}
+use Rattle.std.specs.Prelude.{◌≡◌, ◌+◌, ℕ, List, [], ◌∷◌}
 use Rattle.std.specs.declared.net.socket_addr.SocketAddr.{SocketAddr}
 use Rattle.feed_node_connection.specs.declared.connection.Connection.{Connection}
 use Rattle.feed_node_table.specs.declared.log.CloseCause.{CloseCause}
@@ -13,5 +13,18 @@ pub data Entry : Type 0 where
 
 -- calls that recorded these entries, the newest first, and no other call, changed the log from the one value to the other
 abbrev pub AreRecorded : {L : Type 0} → (L → Entry → L → Type 0) → L → List Entry → L → Type 0
-AreRecorded records old [] new = new ≡ old
-AreRecorded records old (entry ∷ earlier) new = (before : _) × AreRecorded records old earlier before × records before entry new
+AreRecorded {L} records old [] new = new ≡ old
+AreRecorded {L} records old (entry ∷ earlier) new = (before : L) × AreRecorded records old earlier before × records before entry new
+
+-- the number of connections that are removed
+abbrev pub closings : List Entry → ℕ
+closings [] = 0
+closings (Accepted addr ∷ earlier) = closings earlier
+closings (Replied addr connection micros ∷ earlier) = closings earlier
+closings (Closed addr connection cause micros ∷ earlier) = closings earlier + 1
+
+-- so many removals were recorded, and perhaps replies
+pub record HasRecorded {L : Type 0} (records : L → Entry → L → Type 0) (count : ℕ) (old new : L) : Type 0 where
+  pub entries : List Entry
+  pub recorded : AreRecorded records old entries new
+  pub counted : closings entries ≡ count

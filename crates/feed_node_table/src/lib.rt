@@ -2,6 +2,15 @@
 //! many bytes they hold, and which one is closed to make room for another.
 #![tactic(auto)]
 
+mod key_set;
 mod log;
+mod peer;
+mod room;
+mod stream;
+mod table;
 
 pub use log::{CloseCause, Log};
+pub use peer::Outcome;
+pub use room::UNSENT_LIMIT;
+pub use stream::Stream;
+pub use table::Table;

@@ -2,8 +2,8 @@
 use feed_node_connection::{Reply, Respond, RespondFault};
 use std::alloc::Global;
 
-/// The bytes of replies that are not yet sent, past which no other reply is made.
-pub(crate) const UNSENT_LIMIT: usize = 33_554_432;
+/// The bytes of replies that are not yet sent, from which on no other reply is made.
+pub const UNSENT_LIMIT: usize = 33_554_432;
 
 /// A responder that makes replies while there is room for them.
 #[derive(Drop)]
@@ -13,10 +13,9 @@ pub(crate) struct RoomResponder<'a, S: Respond> {
 }
 
 impl<'a, S: Respond> Respond for RoomResponder<'a, S> {
-    ghost use Rattle.std.specs.Prelude.{◌≡◌, ◌⊎◌, false, None};
+    ghost use Rattle.feed_node_table.specs.Connections.{replies_in_room};
 
-    ghost replies = { λ room bytes persists reply. S.replies room.responder.now bytes persists reply
-        ⊎ ((room.has_room ≡ false) × (reply ≡ None)) };
+    ghost replies = { λ room. replies_in_room room.has_room (S.replies room.responder.now) };
 
     fn respond(&self, alloc: Global, bytes: &[u8], persists: bool) -> Result<Reply, RespondFault> {
         if self.has_room {

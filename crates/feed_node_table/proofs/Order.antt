@@ -1,0 +1,35 @@
+-- The order in which connections are closed to make room.
+use Rattle.std.proofs.Common.{◌≡◌, ◌<◌, ◌⊎◌, ℕ, Bool, true, false, ◌==◌, ◌&&◌, ◌||◌, ◌∙◌, arith, inl, inr}
+use Rattle.std.specs.Prelude.{nat_lt}
+use Rattle.std.proofs.lemmas.Bool.{or_cases, and_parts, or_left, or_right, or_from, and_from, and_right, ltb-true, lt-ltb, le-ltb, eqb-true, eq-eqb, both_ways, false_from_ne_true}
+
+-- a class and a time come before others
+abbrev pub comes_before : ℕ → ℕ → ℕ → ℕ → Bool
+comes_before class time other_class other_time = nat_lt other_class class || ((class == other_class) && nat_lt other_time time)
+
+abbrev pub ComesBefore : ℕ → ℕ → ℕ → ℕ → Type 0
+ComesBefore class time other_class other_time = (other_class < class) ⊎ ((class ≡ other_class) × (other_time < time))
+
+before_is : (c t d u : ℕ) → comes_before c t d u ≡ true → ComesBefore c t d u
+before_is c t d u is = elim (or_cases (nat_lt d c) ((c == d) && nat_lt u t) is) [
+  | inl lower ↦ inl (ltb-true d c lower)
+  | inr both ↦ let parts = and_parts (c == d) (nat_lt u t) both in inr (eqb-true c d parts.0, ltb-true u t parts.1)
+]
+
+is_before : (c t d u : ℕ) → ComesBefore c t d u → comes_before c t d u ≡ true
+is_before c t d u (inl lower) = or_left (nat_lt d c) ((c == d) && nat_lt u t) (lt-ltb d c lower)
+is_before c t d u (inr both) = or_right (nat_lt d c) ((c == d) && nat_lt u t) (and_from (c == d) (nat_lt u t) (eq-eqb c d both.0) (lt-ltb u t both.1))
+
+before_both : (c t d u e v : ℕ) → ComesBefore c t d u → ComesBefore d u e v → ComesBefore c t e v
+before_both c t d u e v (inl first) (inl second) = inl (omega arith)
+before_both c t d u e v (inl first) (inr second) = inl (omega (arith, second.0))
+before_both c t d u e v (inr first) (inl second) = inl (omega (arith, first.0))
+before_both c t d u e v (inr first) (inr second) = inr (first.0 ∙ second.0, omega (arith, first.1, second.1))
+
+-- what does not come before the one does not come before another that does
+pub not_before : (c t d u e v : ℕ) → comes_before c t d u ≡ true → comes_before e v d u ≡ false → comes_before e v c t ≡ false
+not_before c t d u e v is not =
+    false_from_ne_true (comes_before e v c t) (λ first. both_ways (comes_before e v d u) not (is_before e v d u (before_both e v c t d u (before_is e v c t first) (before_is c t d u is))))
+
+pub not_before_itself : (c t : ℕ) → comes_before c t c t ≡ false
+not_before_itself c t = or_from (nat_lt c c) ((c == c) && nat_lt t t) (le-ltb c c (omega arith)) (and_right (c == c) (nat_lt t t) (le-ltb t t (omega arith)))

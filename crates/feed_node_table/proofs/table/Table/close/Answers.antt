@@ -1,0 +1,23 @@
+use Rattle.std.proofs.Common.{refl, sym, subst, ◌∙◌, ap, IsSome, ◌≡◌}
+use Rattle.std.specs.Option.{option_copied}
+use Rattle.feed_node_table.specs.Peers.{cause_of}
+use Rattle.feed_node_table.specs.Tables.{peer_at, IsRemoved}
+use Rattle.feed_node_table.proofs.Firsts.{same_peer}
+use Rattle.feed_node_table.proofs.Records.{settled_none, settled_removed}
+use Rattle.feed_node_table.proofs.table.Table.close.Goals as goal
+
+pub returns-in_default-clause-settled : goal.returns-in_default-clause-settled
+returns-in_default-clause-settled g c =
+    settled_none g.L.Log.records c.args.key _ c.args.self.now c.args.log.now refl (λ is. sym c.get.ensures ∙ ap (λ slot. option_copied slot) c.in_default.is)
+
+pub returns-clause-removed : goal.returns-clause-removed
+returns-clause-removed g c = λ peer is.
+    let same : c.in-Some.peer.now ≡ peer = same_peer peer c.in-Some.peer.now (peer_at c.args.self.now c.args.key) is (sym c.in-Some.ensures) in
+    let cause : c.close_cause-cause.result ≡ cause_of peer c.args.cause = c.close_cause-cause.ensures ∙ ap (λ p. cause_of p c.args.cause) same in
+    subst (λ why. IsRemoved g.L.Log.records c.args.key why c.args.now c.args.self.now c.remove.new.self c.args.log.now c.remove.new.log) cause
+    (c.remove.ensures.removed (subst (λ slot. IsSome slot) c.in-Some.ensures refl))
+
+pub returns-clause-settled : goal.returns-clause-settled
+returns-clause-settled g c =
+    settled_removed g.L.Log.records c.args.key c.close_cause-cause.result c.args.now c.args.self.now c.remove.new.self c.args.log.now c.remove.new.log
+    (c.remove.ensures.removed (subst (λ slot. IsSome slot) c.in-Some.ensures refl))

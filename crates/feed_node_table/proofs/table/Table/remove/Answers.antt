@@ -1,0 +1,28 @@
+use Rattle.std.proofs.Common.{refl, sym, subst}
+use Rattle.feed_node_table.specs.Logs.{Closed}
+use Rattle.feed_node_table.proofs.Invariants.{counted_after_removal, known_after_removal}
+use Rattle.feed_node_table.proofs.table.Table.remove.Goals as goal
+
+pub invariant_of-self-2-clause-counted : goal.invariant_of-self-2-clause-counted
+invariant_of-self-2-clause-counted g c =
+    counted_after_removal _ _ _ _ _ _ (sym c.in-Some.ensures.value) c.in-Some.ensures.slots c.args.self.now.counted c.unsent.ensures
+
+pub invariant_of-self-2-clause-known : goal.invariant_of-self-2-clause-known
+invariant_of-self-2-clause-known g c =
+    known_after_removal _ _ _ _ _ c.in-Some.ensures.updates c.args.self.now.known c.remove.ensures.gone c.remove.ensures.listed
+
+pub returns-clause-removed : goal.returns-clause-removed
+returns-clause-removed g c = λ there. record {
+  peer = c.in-Some.peer;
+  was = sym c.in-Some.ensures.value;
+  recorded = subst (λ n. g.L.Log.records c.args.log.now (Closed c.in-Some.peer.addr c.in-Some.peer.connection c.args.cause n) c.on_close.new.self) c.micros.ensures c.on_close.ensures;
+  gone = c.in-Some.ensures.updates.changed;
+  others = c.in-Some.ensures.updates.others;
+  size = c.in-Some.ensures.len;
+  ready = record {
+    kept = λ other differs is. c.remove.ensures.others other is differs;
+    none_added = λ other differs is. c.remove.ensures.listed other is;
+    before = c.remove.ensures.before;
+  };
+  clients = refl;
+}

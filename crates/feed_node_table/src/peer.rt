@@ -1,0 +1,252 @@
+//! A connection with its stream and its times.
+ghost use Rattle.std.specs.Prelude.{◌≡◌, ◌≢◌, ◌≤◌, ◌+◌, ◌⊎◌, ℕ, true, false};
+ghost use Rattle.feed_node_connection.specs.States.{wants_in};
+ghost use Rattle.feed_node_table.specs.Connections.{IsConnection, unsent_bytes};
+ghost use Rattle.feed_node_table.specs.Logs.{HasRecorded};
+
+use crate::log::{CloseCause, Log};
+use crate::room::RoomResponder;
+use crate::stream::Stream;
+use feed_node_connection::{Connection, Progress, Respond, Share, TimeLimits, Wants};
+use std::alloc::Global;
+use std::net::SocketAddr;
+
+/// What is left to do for a connection after a turn.
+#[derive(Clone, Copy, Debug, PartialEq, Eq)]
+pub enum Outcome {
+    /// It waits for its stream.
+    Waits,
+    /// It has more to do in the next turn.
+    Ready,
+    /// It turned to its next request, so that it may be advanced again in this turn.
+    Resumed,
+    /// The head of its streamed reply was sent, so that the body may follow.
+    Streams,
+    /// It is over.
+    Over,
+}
+
+/// A connection with its stream. Times are in microseconds since a moment that the caller chooses.
+#[derive(Drop)]
+pub(crate) struct Peer<T> {
+    pub(crate) stream: T,
+    pub(crate) addr: SocketAddr,
+    pub(crate) connection: Connection,
+    /// The time up to which the connection's clock was advanced.
+    clock: u64,
+    /// When the reply that is under way began.
+    began: Option<u64>,
+    /// The microseconds that the last reply took that was sent whole.
+    micros: u64,
+    /// Whether the sending side of the stream was shut down.
+    is_shut_down: bool,
+    ghost stateful: { IsConnection connection },
+}
+
+impl<T: Stream> Peer<T> {
+    ghost use Rattle.feed_node_table.specs.Peers.{cause_of, micros_of};
+
+    /// Returns a connection that was accepted now.
+    pub(crate) fn new(
+        alloc: Global,
+        stream: T,
+        addr: SocketAddr,
+        limits: TimeLimits,
+        now: u64,
+    ) -> Peer<T>
+        ensures addr { result.addr ≡ addr }
+        ensures stream { result.stream ≡ stream }
+        ensures unsent { unsent_bytes result.connection ≡ 0 }
+    {
+        Peer {
+            stream,
+            addr,
+            connection: Connection::new(alloc, limits),
+            clock: now,
+            began: None,
+            micros: 0,
+            is_shut_down: false,
+        }
+    }
+
+    /// Returns how many bytes of its reply are not yet sent.
+    pub(crate) fn unsent(&self) -> usize
+        ensures { result ≡ unsent_bytes self.now.connection }
+    {
+        self.connection.pending_reply().len()
+    }
+
+    /// Returns the microseconds that its reply took up to now, or its last one if that was sent whole.
+    pub(crate) fn micros(&self, now: u64) -> u64
+        ensures { result ≡ micros_of self.now now }
+    {
+        match self.began {
+            Some(began) => now.saturating_sub(began),
+            None => self.micros,
+        }
+    }
+
+    /// Returns the sum of this number and the bytes that are not yet sent. If the sum has no number, ends the connection,
+    /// so that it holds none.
+    pub(crate) fn add_unsent(&mut self, rest: usize) -> usize
+        ensures sum { result ≡ rest + unsent_bytes self.new.connection }
+        ensures less { unsent_bytes self.new.connection ≤ unsent_bytes self.old.connection }
+        ensures addr { self.new.addr ≡ self.old.addr }
+    {
+        match rest.checked_add(self.unsent()) {
+            Some(total) => total,
+            None => {
+                self.connection.end();
+                rest
+            }
+        }
+    }
+
+    /// Returns whether the connection is over.
+    pub(crate) fn is_over(&self) -> bool
+        ensures over { result ≡ true → wants_in self.now.connection.phase ≡ Wants.Close }
+        ensures opened { result ≡ false → wants_in self.now.connection.phase ≢ Wants.Close }
+    {
+        self.connection.wants() == Wants::Close
+    }
+
+    /// Returns why the connection is closed, if this is why unless its last reply was sent whole.
+    pub(crate) fn close_cause(&self, cause: CloseCause) -> CloseCause
+        ensures { result ≡ cause_of self.now cause }
+    {
+        if self.connection.is_reply_sent() {
+            CloseCause::Complete
+        } else {
+            cause
+        }
+    }
+
+    /// Advances the connection's clock.
+    pub(crate) fn advance_clock(&mut self, now: u64)
+        ensures addr { self.new.addr ≡ self.old.addr }
+        ensures less { unsent_bytes self.new.connection ≤ unsent_bytes self.old.connection }
+    {
+        if self.is_over() {
+            return;
+        }
+        let passed = now.saturating_sub(self.clock) / 1_000;
+        self.clock = now;
+        self.connection.advance_clock(passed);
+    }
+
+    fn begins_stream(&self) -> bool {
+        match self.connection.summary() {
+            Some(summary) => summary.is_streamed && self.connection.is_reply_sent(),
+            None => false,
+        }
+    }
+
+    // Turns to the next request, once a reply was sent and the connection persists. Records the reply.
+    fn resume<L: Log>(&mut self, now: u64, log: &mut L) -> Outcome
+        requires { wants_in self.old.connection.phase ≡ Wants.Next }
+        ensures addr { self.new.addr ≡ self.old.addr }
+        ensures less { unsent_bytes self.new.connection ≤ unsent_bytes self.old.connection }
+        ensures recorded { HasRecorded L.records 0 log.old log.new }
+        ensures outcome { result ≡ Outcome.Resumed }
+    {
+        log.on_reply(self.addr, &self.connection, self.micros);
+        self.connection.resume();
+        self.clock = now;
+        Outcome::Resumed
+    }
+
+    // Takes the time of the reply once it was sent whole.
+    fn end_timing(&mut self, now: u64)
+        ensures addr { self.new.addr ≡ self.old.addr }
+        ensures connection { self.new.connection ≡ self.old.connection }
+    {
+        if let Some(began) = self.began {
+            if self.connection.is_reply_sent() {
+                self.micros = now.saturating_sub(began);
+                self.began = None;
+            }
+        }
+    }
+
+    // Shuts down the sending side once the last reply was sent.
+    fn linger(&mut self)
+        ensures addr { self.new.addr ≡ self.old.addr }
+        ensures connection { self.new.connection ≡ self.old.connection }
+    {
+        if self.connection.is_lingering() && !self.is_shut_down {
+            self.is_shut_down = true;
+            self.stream.shut_down();
+        }
+    }
+
+    /// Does what follows `advance`, by how that ended. A reply that was sent ended now.
+    pub(crate) fn settle<L: Log>(&mut self, progress: Progress, now: u64, log: &mut L) -> Outcome
+        ensures addr { self.new.addr ≡ self.old.addr }
+        ensures less { unsent_bytes self.new.connection ≤ unsent_bytes self.old.connection }
+        ensures recorded { HasRecorded L.records 0 log.old log.new }
+    {
+        self.end_timing(now);
+        if self.begins_stream() {
+            return Outcome::Streams;
+        }
+        self.linger();
+        match self.connection.wants() {
+            Wants::Next => self.resume(now, log),
+            Wants::Close => Outcome::Over,
+            _ if progress == Progress::Blocked => Outcome::Waits,
+            _ => Outcome::Ready,
+        }
+    }
+
+    // Returns what is left of a share for this connection: no reply if there is no room for one, and a part of the last
+    // one remains to be sent.
+    fn share(&self, has_room: bool, share: Share) -> Share
+        ensures replies { result.replies ≤ share.replies }
+        ensures none { has_room ≡ false → result.replies ≡ 0 ⊎ unsent_bytes self.now.connection ≡ 0 }
+    {
+        Share {
+            bytes: share.bytes,
+            replies: if has_room || self.unsent() == 0 {
+                share.replies
+            } else {
+                0
+            },
+        }
+    }
+
+    /// Receives, replies and sends until the stream would block, a reply was sent, or the share is used.
+    pub(crate) fn advance<S: Respond>(
+        &mut self,
+        alloc: Global,
+        responder: &S,
+        has_room: bool,
+        buffer: &mut [u8],
+        now: u64,
+        share: &mut Share,
+    ) -> Progress
+        ensures addr { self.new.addr ≡ self.old.addr }
+    {
+        if self.is_over() {
+            return Progress::Blocked;
+        }
+        let elapsed = self.connection.elapsed();
+        let given = self.share(has_room, *share);
+        let mut left = given;
+        let responder = RoomResponder {
+            responder,
+            has_room,
+        };
+        let progress = self
+            .stream
+            .advance(&mut self.connection, alloc, &responder, buffer, &mut left);
+        share.bytes = left.bytes;
+        if left.replies < given.replies {
+            share.replies = left.replies;
+            self.began = Some(now);
+            self.clock = now;
+        } else if self.connection.elapsed() < elapsed {
+            self.clock = now;
+        }
+        progress
+    }
+}

@@ -1,0 +1,368 @@
+//! The connections of a node as a value.
+ghost use Rattle.std.specs.Prelude.{◌≡◌, ◌≢◌, ◌≤◌, ◌<◌, ◌+◌, ◌⊎◌, ℕ, true, [], sum_by, vec_len, nat_le, nat_lt, length, slice_index, Some, None, IfOk, IfSome, IfNone, OnOk, OnErr, IsSome, IsSomeAnd};
+ghost use Rattle.slab.specs.Slab.{ContainsKey, slab_len};
+ghost use Rattle.feed_node_table.specs.Lists.{IsListed};
+ghost use Rattle.feed_node_table.specs.Peers.{unsent_in};
+
+use crate::key_set::KeySet;
+use crate::log::{CloseCause, Log};
+use crate::peer::{Outcome, Peer};
+use crate::room::UNSENT_LIMIT;
+use crate::stream::Stream;
+use feed_node_connection::{Progress, Respond, Share, TimeLimits};
+use slab::Slab;
+use std::alloc::{AllocError, Global};
+use std::net::SocketAddr;
+
+/// The connections of a node, each under a key. Times are in microseconds since a moment that the caller chooses.
+#[derive(Drop)]
+pub struct Table<T> {
+    peers: Slab<Peer<T>>,
+    /// The keys of the connections that the next turn serves.
+    ready: KeySet,
+    /// The bytes of the replies of all connections that are not yet sent.
+    unsent: usize,
+    /// The most connections at a time.
+    clients: usize,
+    ghost few: { slab_len peers ≤ clients },
+    ghost reserved: { clients ≤ peers.capacity },
+    ghost covered: { peers.capacity ≤ vec_len ready.places },
+    ghost known: { (key : ℕ) → IsListed ready.keys.items key → ContainsKey peers key },
+    ghost counted: { unsent ≡ sum_by unsent_in peers.slots },
+}
+
+impl<T: Stream> Table<T> {
+    ghost use Rattle.feed_node_connection.specs.States.{is_closed_before};
+    ghost use Rattle.feed_node_table.specs.Logs.{Accepted, HasRecorded};
+    ghost use Rattle.feed_node_table.specs.Tables.{peer_at, size_of, bytes_held, ready_keys, IsReady, KeepsOthers, KeepsReady};
+    ghost use Rattle.feed_node_table.specs.declared.peer.Peer.{Peer};
+    ghost use Rattle.feed_node_table.specs.Peers.{cause_of};
+    ghost use Rattle.feed_node_table.specs.Tables.{IsFirstToClose, IsFirstBelow, IsRemoved, HasClosed, IsSettled, has_more};
+
+    /// Returns an empty table for at most this many connections, with the memory for all of them.
+    pub fn new(alloc: Global, clients: usize) -> Result<Table<T>, AllocError>
+        ensures empty { IfOk result (λ table. size_of table ≡ 0) }
+        ensures clients { IfOk result (λ table. table.clients ≡ clients) }
+        ensures none_ready { IfOk result (λ table. ready_keys table ≡ []) }
+    {
+        let peers = Slab::with_capacity(alloc, clients)?;
+        let ready = KeySet::new(alloc, peers.capacity())?;
+        Ok(Table {
+            peers,
+            ready,
+            unsent: 0,
+            clients,
+        })
+    }
+
+    /// Returns the most connections at a time.
+    pub fn clients(&self) -> usize
+        ensures { result ≡ self.now.clients }
+    {
+        self.clients
+    }
+
+    /// Returns the number of connections.
+    pub fn len(&self) -> usize
+        ensures size { result ≡ size_of self.now }
+        ensures most { result ≤ self.now.clients }
+    {
+        self.peers.len()
+    }
+
+    /// Returns whether there are as many connections as there may be.
+    pub fn is_full(&self) -> bool
+        ensures { result ≡ nat_le self.now.clients (size_of self.now) }
+    {
+        self.clients <= self.peers.len()
+    }
+
+    /// Returns the bytes of the replies of all connections that are not yet sent.
+    pub fn bytes_held(&self) -> usize
+        ensures { result ≡ bytes_held self.now }
+    {
+        self.unsent
+    }
+
+    /// Returns whether another reply may be made: the bytes held are below 33,554,432.
+    pub fn has_room(&self) -> bool
+        ensures { result ≡ nat_lt (bytes_held self.now) 33554432 }
+    {
+        self.unsent < UNSENT_LIMIT
+    }
+
+    /// Adds a connection that was accepted now, and returns its key.
+    pub fn insert<L: Log>(
+        &mut self,
+        alloc: Global,
+        stream: T,
+        addr: SocketAddr,
+        limits: TimeLimits,
+        now: u64,
+        log: &mut L,
+    ) -> usize
+        requires { size_of self.old < self.old.clients }
+        ensures vacant { peer_at self.old result ≡ None }
+        ensures added { IsSomeAnd (peer_at self.new result) (λ peer. peer.addr ≡ addr) }
+        ensures others { KeepsOthers result self.old self.new }
+        ensures size { size_of self.new ≡ size_of self.old + 1 }
+        ensures held { bytes_held self.new ≡ bytes_held self.old }
+        ensures ready { self.new.ready ≡ self.old.ready }
+        ensures clients { self.new.clients ≡ self.old.clients }
+        ensures recorded { L.records log.old (Accepted addr) log.new }
+    {
+        log.on_accept(addr);
+        let peer = Peer::new(alloc, stream, addr, limits, now);
+        self.peers.insert_reserved(peer)
+    }
+
+    /// Registers the stream of a connection for events under its key. Returns whether that succeeded.
+    pub fn register(&mut self, key: usize, registry: &T::Registry) -> bool
+        ensures others { KeepsOthers key self.old self.new }
+        ensures size { size_of self.new ≡ size_of self.old }
+        ensures held { bytes_held self.new ≡ bytes_held self.old }
+        ensures ready { self.new.ready ≡ self.old.ready }
+        ensures clients { self.new.clients ≡ self.old.clients }
+    {
+        match self.peers.get_mut(key) {
+            Some(peer) => peer.stream.register(registry, key),
+            None => false,
+        }
+    }
+
+    /// Removes a connection for a cause, and records that. Returns its stream.
+    pub fn remove<L: Log>(
+        &mut self,
+        key: usize,
+        cause: CloseCause,
+        now: u64,
+        log: &mut L,
+    ) -> Option<T>
+        ensures removed { IsSome (peer_at self.old key)
+            → IsRemoved L.records key cause now self.old self.new log.old log.new }
+        ensures absent { peer_at self.old key ≡ None → (self.new ≡ self.old) × (log.new ≡ log.old) }
+    {
+        let Some(peer) = self.peers.try_remove(key) else {
+            return None;
+        };
+        self.ready.remove(key);
+        self.unsent -= peer.unsent();
+        log.on_close(peer.addr, &peer.connection, cause, peer.micros(now));
+        Some(peer.stream)
+    }
+
+    // Returns the one of two connections that is closed before the other.
+    fn closed_first(&self, first: Option<usize>, key: usize) -> Option<usize>
+        requires { IsFirstBelow self.now key first }
+        ensures { IsFirstBelow self.now (key + 1) result }
+    {
+        let Some(peer) = self.peers.get(key) else {
+            return first;
+        };
+        if let Some(other) = first {
+            if let Some(rival) = self.peers.get(other) {
+                if !peer.connection.is_closed_before(&rival.connection) {
+                    return first;
+                }
+            }
+        }
+        Some(key)
+    }
+
+    /// Returns the key of the connection that is closed to make room: the one that is idle longest, otherwise the slowest
+    /// reader, otherwise the quietest.
+    pub fn first_to_close(&self) -> Option<usize>
+        ensures first { IfSome result (λ key. IsFirstToClose self.now key) }
+        ensures none { IfNone result (size_of self.now ≡ 0) }
+    {
+        let mut first = None;
+        for key in 0..self.peers.capacity() {
+            first = self.closed_first(first, key);
+        }
+        first
+    }
+
+    /// Closes the connection that is closed to make room, if there is any.
+    pub fn make_room<L: Log>(&mut self, now: u64, log: &mut L)
+        ensures removed { 0 < size_of self.old → (key : ℕ) × IsFirstToClose self.old key
+            × IsRemoved L.records key CloseCause.Evicted now self.old self.new log.old log.new }
+        ensures empty { size_of self.old ≡ 0 → (self.new ≡ self.old) × (log.new ≡ log.old) }
+    {
+        let Some(key) = self.first_to_close() else {
+            return;
+        };
+        let _ = self.remove(key, CloseCause::Evicted, now, log);
+    }
+
+    /// Returns how many connections are ready: the next turn serves them.
+    pub fn ready_len(&self) -> usize
+        ensures { result ≡ length (ready_keys self.now) }
+    {
+        self.ready.len()
+    }
+
+    /// Returns the key of the connection at a place among those that are ready.
+    pub fn ready_at(&self, place: usize) -> Option<usize>
+        ensures found { IfSome result (λ key. slice_index (ready_keys self.now) place ≡ key) }
+        ensures known { IfSome result (λ key. IsSome (peer_at self.now key)) }
+        ensures past { IfNone result (length (ready_keys self.now) ≤ place) }
+    {
+        self.ready.key_at(place)
+    }
+
+    /// Has the next turn serve a connection.
+    pub fn mark_ready(&mut self, key: usize) -> Result<(), AllocError>
+        ensures marked { OnOk result (IsSome (peer_at self.old key) → IsReady self.new key) }
+        ensures ready { KeepsReady key self.old self.new }
+        ensures peers { self.new.peers ≡ self.old.peers }
+        ensures clients { self.new.clients ≡ self.old.clients }
+        ensures unchanged { OnErr result (ready_keys self.new ≡ ready_keys self.old) }
+    {
+        if key < self.peers.capacity() && self.peers.contains(key) {
+            self.ready.insert(key)
+        } else {
+            Ok(())
+        }
+    }
+
+    /// Gives a connection a share of the turn: it receives, replies and sends until its stream would block, a reply was
+    /// sent, or the share is used. If the bytes held are too many, it gets no reply other than that it gets none. The
+    /// connection is no longer ready.
+    pub fn advance<S: Respond>(
+        &mut self,
+        key: usize,
+        alloc: Global,
+        responder: &S,
+        buffer: &mut [u8],
+        now: u64,
+        share: &mut Share,
+    ) -> Progress
+        ensures others { KeepsOthers key self.old self.new }
+        ensures kept { IsSome (peer_at self.old key) → IsSome (peer_at self.new key) }
+        ensures size { size_of self.new ≡ size_of self.old }
+        ensures clients { self.new.clients ≡ self.old.clients }
+        ensures ready { KeepsReady key self.old self.new }
+        ensures served { ¬ (IsReady self.new key) }
+    {
+        let has_room = self.has_room();
+        self.ready.remove(key);
+        let Some(peer) = self.peers.get_mut(key) else {
+            return Progress::Blocked;
+        };
+        let rest = self.unsent - peer.unsent();
+        let progress = peer.advance(alloc, responder, has_room, buffer, now, share);
+        self.unsent = peer.add_unsent(rest);
+        progress
+    }
+
+    // Does what follows `advance`, except for the list of those that are ready.
+    fn settle_peer<L: Log>(
+        &mut self,
+        key: usize,
+        progress: Progress,
+        now: u64,
+        log: &mut L,
+    ) -> Outcome
+        ensures others { KeepsOthers key self.old self.new }
+        ensures kept { IsSome (peer_at self.old key) → IsSome (peer_at self.new key) }
+        ensures size { size_of self.new ≡ size_of self.old }
+        ensures clients { self.new.clients ≡ self.old.clients }
+        ensures ready { self.new.ready ≡ self.old.ready }
+        ensures recorded { HasRecorded L.records 0 log.old log.new }
+    {
+        let Some(peer) = self.peers.get_mut(key) else {
+            return Outcome::Over;
+        };
+        let rest = self.unsent - peer.unsent();
+        let outcome = peer.settle(progress, now, log);
+        self.unsent = peer.add_unsent(rest);
+        outcome
+    }
+
+    // Removes a connection because its last reply was sent, or else for this cause.
+    fn close<L: Log>(&mut self, key: usize, cause: CloseCause, now: u64, log: &mut L)
+        ensures removed { (peer : Peer T) → peer_at self.old key ≡ Some peer
+            → IsRemoved L.records key (cause_of peer cause) now self.old self.new log.old log.new }
+        ensures absent { peer_at self.old key ≡ None → (self.new ≡ self.old) × (log.new ≡ log.old) }
+        ensures settled { IsSettled L.records key Outcome.Over self.old self.new log.old log.new }
+    {
+        let Some(peer) = self.peers.get(key) else {
+            return;
+        };
+        let cause = peer.close_cause(cause);
+        let _ = self.remove(key, cause, now, log);
+    }
+
+    // Marks a connection that has more to do as ready, or closes it if there is no memory for that.
+    fn keep_ready<L: Log>(&mut self, key: usize, outcome: Outcome, now: u64, log: &mut L) -> Outcome
+        requires { has_more outcome ≡ true }
+        ensures { IsSettled L.records key result self.old self.new log.old log.new }
+    {
+        match self.mark_ready(key) {
+            Ok(()) => outcome,
+            Err(_) => {
+                self.close(key, CloseCause::PeerClosed, now, log);
+                Outcome::Over
+            }
+        }
+    }
+
+    /// Does what follows `advance`, by how that ended: records a reply that was sent, marks the connection as ready if it
+    /// has more to do, and removes it if it is over. A reply that was sent ended now.
+    pub fn settle<L: Log>(
+        &mut self,
+        key: usize,
+        progress: Progress,
+        now: u64,
+        log: &mut L,
+    ) -> Outcome
+        ensures { IsSettled L.records key result self.old self.new log.old log.new }
+    {
+        let outcome = self.settle_peer(key, progress, now, log);
+        match outcome {
+            Outcome::Waits => Outcome::Waits,
+            Outcome::Streams => Outcome::Streams,
+            Outcome::Ready => self.keep_ready(key, Outcome::Ready, now, log),
+            Outcome::Resumed => self.keep_ready(key, Outcome::Resumed, now, log),
+            Outcome::Over => {
+                self.close(key, CloseCause::PeerClosed, now, log);
+                Outcome::Over
+            }
+        }
+    }
+
+    // Advances the clock of a connection.
+    fn advance_clock_of(&mut self, key: usize, now: u64) -> bool
+        ensures others { KeepsOthers key self.old self.new }
+        ensures size { size_of self.new ≡ size_of self.old }
+        ensures clients { self.new.clients ≡ self.old.clients }
+        ensures ready { self.new.ready ≡ self.old.ready }
+    {
+        let Some(peer) = self.peers.get_mut(key) else {
+            return false;
+        };
+        let rest = self.unsent - peer.unsent();
+        peer.advance_clock(now);
+        self.unsent = peer.add_unsent(rest);
+        peer.is_over()
+    }
+
+    // Advances the clock of a connection, and removes it if it is out of time.
+    fn expire<L: Log>(&mut self, key: usize, now: u64, log: &mut L)
+        ensures { HasClosed L.records self.old self.new log.old log.new }
+    {
+        if !self.advance_clock_of(key, now) {
+            return;
+        }
+        self.close(key, CloseCause::TimedOut, now, log);
+    }
+
+    /// Advances the clocks of all connections, and removes those that are out of time.
+    pub fn advance_clock<L: Log>(&mut self, now: u64, log: &mut L)
+        ensures { HasClosed L.records self.old self.new log.old log.new }
+    {
+        for key in 0..self.peers.capacity() {
+            self.expire(key, now, log);
+        }
+    }
+}
