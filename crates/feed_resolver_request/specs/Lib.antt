@@ -2,3 +2,4 @@ pub mod Representations
 pub mod Targets
 pub mod FoundRequests
 pub mod FetchRequests
+pub mod Conditions

@@ -3,13 +3,16 @@
 #![tactic(auto)]
 
 mod authorization;
+mod condition;
 mod fetch_target;
 mod found_request;
 mod method;
 mod representation;
+mod same_secret;
 mod target;
 
 pub use authorization::{FetchPolicy, is_authorized};
+pub use condition::has_tag;
 pub use fetch_target::{fetch_request, fetch_to_begin, name_to_fetch};
 pub use found_request::find_request;
 pub use method::is_unsupported_method;
