@@ -1,5 +1,5 @@
 -- The location of a reply can be stated in its head.
-use Rattle.std.proofs.Common.{◌≡◌, ℕ, List, [], Bool, true, false, Option, Some, None, Result, Ok, Err, All, refl, arith}
+use Rattle.std.proofs.Common.{◌≡◌, ℕ, zero, List, [], Bool, true, false, Option, Some, None, Result, Ok, Err, All, refl, arith}
 use Rattle.std.specs.Prelude.{if◌then◌else◌, ◌&&◌, ◌||◌, not, position, codes, nat_le, length}
 use Rattle.std.specs.List.{list_all}
 use Rattle.std.specs.Option.{option_map_or}
@@ -45,16 +45,23 @@ link_location url link = All-weaker (λ b. is_visible b ≡ true) (λ b. is_uri_
     (second (begins_with (codes "http://") url || begins_with (codes "https://") url) (list_all is_visible url)
     (second (nat_le (length url) link_limit) ((begins_with (codes "http://") url || begins_with (codes "https://") url) && list_all is_visible url) link)))
 
-abbrev IsLocated : ReplyValue → Type 0
-IsLocated reply = IsLocation reply.location
+-- a reply with a location that can be stated, and without a tag
+abbrev pub IsLocated : ReplyValue → Type 0
+IsLocated reply = IsLocation reply.location × (reply.tag ≡ []) × (reply.max_age ≡ 0)
+
+abbrev no_bytes : List ℕ
+no_bytes = []
+
+plain : IsLocation no_bytes × (no_bytes ≡ no_bytes) × (zero ≡ zero)
+plain = (nowhere, refl, refl)
 
 query_located : (representation : Representation) (reply : QueryValue → ReplyValue) (o : Result QueryValue QueryFault) → ((query : QueryValue) → IsLocated (reply query))
     → IsLocated (query_reply representation reply o)
 query_located representation reply (Ok query) located = located query
-query_located representation reply (Err fault) located = nowhere
+query_located representation reply (Err fault) located = plain
 
 resolve_located : (representation : Representation) (text : List ℕ) (actives : List ActiveValue) → IsLocated (resolve_reply representation text actives)
-resolve_located representation text actives = query_located representation (hits_reply status.Good representation actives) (query_of text) (λ query. nowhere)
+resolve_located representation text actives = query_located representation (hits_reply status.Good representation actives) (query_of text) (λ query. plain)
 
 package_located : (representation : Representation) (text : List ℕ) (actives : List ActiveValue) (other : ReplyValue) (o : Option ℕ) → IsLocated other
     → IsLocated (option_map_or (resolve_reply_at representation text actives) o other)
@@ -64,34 +71,34 @@ package_located representation text actives other (Some place) located = resolve
 redirect_located : (hits_link : Option (List ℕ)) (other : ReplyValue) → ((url : List ℕ) → hits_link ≡ Some url → is_link url ≡ true) → IsLocated other
     → IsLocated (option_map_or redirect_to hits_link other)
 redirect_located None other links located = located
-redirect_located (Some url) other links located = link_location url (links url refl)
+redirect_located (Some url) other links located = (link_location url (links url refl), refl, refl)
 
 go_located : (representation : Representation) (actives : List ActiveValue) (query : QueryValue) → IsLocated (redirect_reply representation actives query)
 go_located representation actives query =
-    redirect_located (best_link (counted (hits_among query actives))) (hits_reply status.NotFound representation actives query) (best_is (counted (hits_among query actives))) nowhere
+    redirect_located (best_link (counted (hits_among query actives))) (hits_reply status.NotFound representation actives query) (best_is (counted (hits_among query actives))) plain
 
 resource_located : (r : Resource) (head : RequestHead) (target : List ℕ) (actives : List ActiveValue) → IsLocated (resource_reply r head target actives)
-resource_located resource.Home head target actives = nowhere
-resource_located resource.Status head target actives = nowhere
+resource_located resource.Home head target actives = plain
+resource_located resource.Status head target actives = plain
 resource_located resource.Resolve head target actives = resolve_located (representation_of (query_in target) head) (query_in target) actives
 resource_located resource.Package head target actives =
     package_located (representation_of (query_in target) head) (query_in target) actives (refusal status.NotFound (representation_of (query_in target) head) (codes "NoRelease"))
-    (position (is_of (package_in (path_in target))) actives) nowhere
+    (position (is_of (package_in (path_in target))) actives) plain
 resource_located resource.Go head target actives =
     query_located (accepted_representation head) (redirect_reply (accepted_representation head) actives) (query_of (query_in target)) (go_located (accepted_representation head) actives)
-resource_located resource.Unknown head target actives = nowhere
+resource_located resource.Unknown head target actives = plain
 
 either_located : (b : Bool) (one other : ReplyValue) → IsLocated one → IsLocated other → IsLocated (if b then one else other)
 either_located true one other first second = first
 either_located false one other first second = second
 
-pub reply_located : (head : RequestHead) (actives : List ActiveValue) → IsLocation (reply_to head actives).location
+pub reply_located : (head : RequestHead) (actives : List ActiveValue) → IsLocated (reply_to head actives)
 reply_located head actives =
     let coded : ReplyValue = if has_coded_body head then refusal status.NotImplemented Text (codes "Coding") else target_reply head actives in
     let unknown : ReplyValue = if not (is_get head || is_head head) then refusal status.NotImplemented Text (codes "Method") else coded in
     let unsupported : ReplyValue = if is_unsupported_method head.method then refusal status.MethodNotAllowed Text (codes "Method") else unknown in
-    either_located (lacks_host head) (refusal status.BadRequest Text (codes "NoHost")) unsupported nowhere
-    (either_located (is_unsupported_method head.method) (refusal status.MethodNotAllowed Text (codes "Method")) unknown nowhere
-    (either_located (not (is_get head || is_head head)) (refusal status.NotImplemented Text (codes "Method")) coded nowhere
-    (either_located (has_coded_body head) (refusal status.NotImplemented Text (codes "Coding")) (target_reply head actives) nowhere
+    either_located (lacks_host head) (refusal status.BadRequest Text (codes "NoHost")) unsupported plain
+    (either_located (is_unsupported_method head.method) (refusal status.MethodNotAllowed Text (codes "Method")) unknown plain
+    (either_located (not (is_get head || is_head head)) (refusal status.NotImplemented Text (codes "Method")) coded plain
+    (either_located (has_coded_body head) (refusal status.NotImplemented Text (codes "Coding")) (target_reply head actives) plain
     (resource_located (resource_of (path_in (origin_form head.target))) head (origin_form head.target) actives))))

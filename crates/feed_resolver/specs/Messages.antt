@@ -14,6 +14,7 @@ use Rattle.feed_resolver_reply.specs.Replies.{ResponseValue}
 use Rattle.feed_resolver_reply.specs.Messages.{IsMessage, IsMessageFor, BeginsStream}
 use Rattle.feed_resolver_hits.specs.Ranks.{IsBestLink}
 use Rattle.feed_resolver_hits.specs.Tallies.{counted}
+use Rattle.feed_resolver_tag.specs.Tags.{SiteValue}
 use Rattle.feed_resolver.specs.Answers.{hits_among}
 use Rattle.feed_resolver.specs.Replies.{IsResponse, has_coded_body}
 
@@ -43,9 +44,10 @@ IsHeadAlone response other = (head : ResponseHead) × (body : List ℕ) × IsMes
 -- the reply to a HEAD is the head of the reply to the same request with the method GET
 abbrev pub HeadIsHeadOfGet : Type 0
 HeadIsHeadOfGet =
-    (keeps : Bool) (actives : List ActiveValue) (bytes asked : List ℕ) (head : RequestHead) (response reply : ResponseValue)
+    (site : SiteValue) (keeps : Bool) (actives : List ActiveValue) (bytes asked : List ℕ) (head : RequestHead) (response reply : ResponseValue)
     → is_head head ≡ true → BeginsWith bytes head → BeginsWith asked (as_get head)
-    → IsResponse bytes keeps actives response → IsResponse asked keeps actives reply → reply.body_length < 2 ^ 64
+    → IsResponse site bytes keeps actives response → IsResponse site asked keeps actives reply
+    → reply.body_length < 2 ^ 64 → site.max_age < 2 ^ 64
     → IsHeadAlone response reply
 
 -- the request is one of `/go` with this query
@@ -65,6 +67,6 @@ GoesTo (Some url) response =
 -- `/go` redirects to a hit above which no hit ranks, of those that are counted, that may be linked to
 abbrev pub GoesToBest : Type 0
 GoesToBest =
-    (keeps : Bool) (actives : List ActiveValue) (bytes : List ℕ) (head : RequestHead) (query : QueryValue) (response : ResponseValue)
-    → BeginsWith bytes head → AsksToGo head query → IsResponse bytes keeps actives response
+    (site : SiteValue) (keeps : Bool) (actives : List ActiveValue) (bytes : List ℕ) (head : RequestHead) (query : QueryValue) (response : ResponseValue)
+    → BeginsWith bytes head → AsksToGo head query → IsResponse site bytes keeps actives response
     → (best : Option (List ℕ)) × IsBestLink (counted (hits_among query actives)) best × GoesTo best response

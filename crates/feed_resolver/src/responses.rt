@@ -16,11 +16,13 @@ ghost use Rattle.feed_resolver.specs.Answers.{is_of, tally_among};
 ghost use Rattle.feed_resolver.specs.Replies.{IsResponse, IsResponseAt, hits_reply, query_reply, resolve_reply};
 ghost use Rattle.feed_resolver.specs.Replies.{package_reply, redirect_reply, resource_reply, target_reply};
 ghost use Rattle.feed_resolver.specs.Replies.{reply_to, response_to};
+ghost use Rattle.feed_resolver.specs.Validators.{final_reply};
 ghost use Rattle.feed_resolver.specs.Messages.{IsMessageTo};
 ghost use Rattle.feed_resolver.specs.Status.{home_page, status_body};
 
 use crate::answers::{put_answer, tally_among};
 use crate::status::{put_home_page, put_status};
+use crate::validators::{preflight_status, tag_to, validated_reply};
 use feed_answer::{Query, QueryFault};
 use feed_http_heads::{FIELD_LIMIT, Request, origin_form};
 use feed_keep::Keep;
@@ -31,6 +33,7 @@ use feed_resolver_request::{
     Representation, Resource, accepted_representation, find_request, is_unsupported_method,
     package_in, path_in, query_in, representation_of, resource_of,
 };
+use feed_resolver_tag::Site;
 use httparse::spans::EMPTY_HEADER_SPAN;
 use std::alloc::{AllocError, Global};
 
@@ -63,7 +66,7 @@ fn resolve_reply(
     }
 }
 
-fn position_of(actives: &[ActiveRelease<'_>], package: &[u8]) -> Option<usize>
+pub(crate) fn position_of(actives: &[ActiveRelease<'_>], package: &[u8]) -> Option<usize>
     ensures { result ≡ position (is_of «package».now) actives.now }
 {
     actives
@@ -173,7 +176,7 @@ fn resource_reply<'a>(
     }
 }
 
-fn reply_to<'a>(
+pub(crate) fn reply_to<'a>(
     alloc: Global,
     request: &Request<'_>,
     actives: &[ActiveRelease<'a>],
@@ -212,19 +215,38 @@ fn reply_to<'a>(
     resource_reply(alloc, request, origin_form(request.target()), actives)
 }
 
+fn final_reply<'a>(
+    alloc: Global,
+    request: &Request<'_>,
+    tag: Vec<u8>,
+    max_age: u32,
+    actives: &[ActiveRelease<'a>],
+) -> Result<Reply<'a>, AllocError>
+    requires { IsInBuffer request.now }
+    ensures { IfOk result (λ reply. (head : RequestHead) → HasHead request.now head
+        → reply ≡ final_reply head tag.items max_age (reply_to head actives.now)) }
+{
+    match preflight_status(request) {
+        Some(status) => Ok(Reply::new(status, Representation::Text, Vec::new(alloc))),
+        None => validated_reply(alloc, request, tag, max_age, actives),
+    }
+}
+
 pub(crate) fn response_to(
     alloc: Global,
     request: &Request<'_>,
     keeps: bool,
+    site: &Site,
     actives: &[ActiveRelease<'_>],
 ) -> Result<Response, AllocError>
     requires { IsInBuffer request.now }
     ensures value { IfOk result (λ response. (head : RequestHead) → HasHead request.now head
-        → response ≡ response_to keeps head actives.now) }
+        → response ≡ response_to site.now keeps head actives.now) }
     ensures message { IfOk result (λ response. (head : RequestHead) → HasHead request.now head
         → IsMessageFor keeps (is_head head) response) }
 {
-    let reply = reply_to(alloc, request, actives)?;
+    let tag = tag_to(alloc, request, site, actives)?;
+    let reply = final_reply(alloc, request, tag, site.max_age(), actives)?;
     reply.response(alloc, keeps, request.is_head())
 }
 
@@ -234,15 +256,16 @@ pub fn respond_with(
     alloc: Global,
     bytes: &[u8],
     keeps: bool,
+    site: &Site,
     actives: &[ActiveRelease<'_>],
 ) -> Result<Response, AllocError>
-    ensures value { IfOk result (λ response. IsResponse bytes.now keeps actives.now response) }
+    ensures value { IfOk result (λ response. IsResponse site.now bytes.now keeps actives.now response) }
     ensures message { IfOk result (λ response. IsMessageTo bytes.now keeps response) }
     ensures says { IfOk result (λ response. SaysWhetherItKeeps keeps response.bytes) }
 {
     let mut headers = [EMPTY_HEADER_SPAN; FIELD_LIMIT];
     match find_request(bytes, &mut headers) {
-        Some(request) => response_to(alloc, &request, keeps, actives),
+        Some(request) => response_to(alloc, &request, keeps, site, actives),
         None => bad_head_response(alloc, keeps),
     }
 }
@@ -258,14 +281,15 @@ pub fn respond<K: Keep + Drop>(
     alloc: Global,
     bytes: &[u8],
     keeps: bool,
+    site: &Site,
     feed: &Feed<K>,
 ) -> Result<Response, AllocError>
-    ensures value { IfOk result (λ response. IsResponse bytes.now keeps (actives_of (releases_of feed.now)) response) }
+    ensures value { IfOk result (λ response. IsResponse site.now bytes.now keeps (actives_of (releases_of feed.now)) response) }
 
     // For every history that the feed may have: from the releases that it reports, with the holdings of their complete
     // files.
     ensures reported { IfOk result (λ response. (h : History) → IsContent (recorded feed.now) h
-        → IsResponseAt h bytes.now keeps response) }
+        → IsResponseAt site.now h bytes.now keeps response) }
 
     // A client parses it as one head, and the body of the length that this states; the reply to a HEAD has no body. The
     // head has one Connection field, `close`, or none if the connection is kept.
@@ -273,5 +297,5 @@ pub fn respond<K: Keep + Drop>(
     ensures says { IfOk result (λ response. SaysWhetherItKeeps keeps response.bytes) }
 {
     let actives = feed.actives()?;
-    respond_with(alloc, bytes, keeps, &actives)
+    respond_with(alloc, bytes, keeps, site, &actives)
 }
