@@ -21,12 +21,13 @@ use Rattle.feed_resolver_request.specs.declared.form.FormFault.{FormFault}
 use Rattle.feed_resolver_request.specs.declared.form.FormFault.TheVariants.{Coding}
 use Rattle.feed_resolver_reply.specs.Replies.{ResponseValue}
 use Rattle.feed_resolver.specs.NodeReplies.{IsNodeReply, SaysOfConnection}
+use Rattle.feed_resolver_tag.specs.Tags.{SiteValue}
 use Rattle.feed_resolver.specs.FeedReplies.{IsFeedResponse}
 use Rattle.feed_node_service.specs.Responders.{IsReplyBy}
 
-pub as_node : (policy : FetchPolicyValue) (bytes body : List ℕ) (keeps : Bool) (actives : List ActiveValue) (response : ResponseValue) → IsFeedResponse policy bytes keeps None
-    → IsNodeReply policy bytes body keeps actives response → IsReplyBy policy bytes body keeps actives response
-as_node policy bytes body keeps actives response other is = inr (other, is)
+pub as_node : (site : SiteValue) (policy : FetchPolicyValue) (bytes body : List ℕ) (keeps : Bool) (actives : List ActiveValue) (response : ResponseValue) → IsFeedResponse policy bytes keeps None
+    → IsNodeReply site policy bytes body keeps actives response → IsReplyBy site policy bytes body keeps actives response
+as_node site policy bytes body keeps actives response other is = inr (other, is)
 
 -- a response with these parts
 pub same_response : (r : ResponseValue) (bytes : List ℕ) (status size : ℕ) → bytes ≡ r.bytes → status ≡ r.status → size ≡ r.body_length
