@@ -39,7 +39,8 @@ use Rattle.feed_resolver_hits.specs.Tallies.{counted}
 use Rattle.feed_resolver_hits.proofs.BestLinks as links
 use Rattle.feed_resolver_tag.specs.Tags.{SiteValue}
 use Rattle.feed_resolver.specs.Answers.{is_of, hits_among}
-use Rattle.feed_resolver.specs.Replies.{resource_reply, resolve_reply, package_reply, redirect_reply, hits_reply, query_reply, target_reply, target_query, path_of, has_coded_body, resolve_reply_at, reply_by_form, reply_to, tagged_reply, response_to, IsResponse}
+use Rattle.feed_resolver.specs.Replies.{resource_reply, resolve_reply, package_reply, redirect_reply, hits_reply, query_reply, target_reply, target_query, path_of}
+use Rattle.feed_resolver.specs.Replies.{has_coded_body, resolve_reply_at, reply_by_form, reply_to, tagged_reply, response_to, IsResponse}
 use Rattle.feed_resolver.specs.Answered.{IsGoodIn, IsAnswered, IsAnsweredTo}
 use Rattle.feed_resolver.specs.Validators.{is_tagged, has_validator, resource_in}
 use Rattle.feed_resolver.specs.NodeReplies.{node_reply, IsNodeReply, AsksForNoFetch}
@@ -49,8 +50,8 @@ use Rattle.feed_resolver.proofs.Tagged.{final_by, tag_asked, tagged_cases, no_pr
 use Rattle.feed_resolver.proofs.SameBytes.{one_reply}
 
 -- the reply to a request with this head
-reply_at : (site : SiteValue) (keeps : Bool) (bytes body : List ℕ) (actives : List ActiveValue) (head : RequestHead) (response : ResponseValue) → BeginsWith bytes head → IsResponse site bytes body keeps actives response
-    → response ≡ response_to site keeps head body actives
+reply_at : (site : SiteValue) (keeps : Bool) (bytes body : List ℕ) (actives : List ActiveValue) (head : RequestHead) (response : ResponseValue) → BeginsWith bytes head
+    → IsResponse site bytes body keeps actives response → response ≡ response_to site keeps head body actives
 reply_at site keeps bytes body actives head response begins is = one_reply site keeps bytes body actives response (response_to site keeps head body actives) is (inl (head, begins, refl))
 
 -- ---- the first case that holds
@@ -180,7 +181,8 @@ read_tagged site head body actives read =
     ∙ ap (λ p. final_by (is_tagged head) p head (tag_asked site actives head) site.max_age (reply_to head body actives)) (no_preflight head (not_options head read))
     ∙ ap (λ r. final_by (r && has_validator (resource_in head)) None head (tag_asked site actives head) site.max_age (reply_to head body actives)) read
 
-same_tagged : (site : SiteValue) (head : RequestHead) (body other : List ℕ) (actives : List ActiveValue) → is_head head ≡ true → tagged_reply site (as_get head) other actives ≡ tagged_reply site head body actives
+same_tagged : (site : SiteValue) (head : RequestHead) (body other : List ℕ) (actives : List ActiveValue) → is_head head ≡ true
+    → tagged_reply site (as_get head) other actives ≡ tagged_reply site head body actives
 same_tagged site head body other actives is =
     read_tagged site (as_get head) other actives refl
     ∙ ap (λ (r : ReplyValue). final_by (has_validator (resource_in head)) None head (tag_asked site actives head) site.max_age r) (same_reply head body other actives is)
@@ -337,8 +339,8 @@ form_is_get site keeps actives bytes body other post get n response form same be
     let asks : bytes_eq post.method (codes "OPTIONS") ≡ false = ap (λ m. bytes_eq m (codes "OPTIONS")) ((bytes_decides post.method (codes "POST")).0 read.method) in
     let plainly : tagged_reply site post body actives ≡ reply_to post body actives = untagged_post site post body actives unread short asks in (
       reply_at site keeps bytes body actives post response begins is
-      ∙ ap (λ b. response_of keeps b (tagged_reply site post body actives)) short
-      ∙ ap (response_of keeps false) (plainly ∙ posted ∙ sym (got ∙ alike)),
+          ∙ ap (λ b. response_of keeps b (tagged_reply site post body actives)) short
+          ∙ ap (response_of keeps false) (plainly ∙ posted ∙ sym (got ∙ alike)),
       (reply_located get other actives).1.0,
     )
 

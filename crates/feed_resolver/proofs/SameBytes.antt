@@ -53,8 +53,8 @@ same_actives file h k one other first second here there names =
     given_by_names file one (recursion_from_All _ one (published file h one first here)) ∙ ap (from_names file) names
     ∙ sym (given_by_names file other (recursion_from_All _ other (published file k other second there)))
 
-pub same_bytes : (file : Name → List ℕ) (site : SiteValue) (h k : History) (bytes body : List ℕ) (keeps : Bool) (response reply : ResponseValue) → KeepsPublished file h → KeepsPublished file k → ReportAlike h k
-    → IsResponseAt site h bytes body keeps response → IsResponseAt site k bytes body keeps reply → response ≡ reply
+pub same_bytes : (file : Name → List ℕ) (site : SiteValue) (h k : History) (bytes body : List ℕ) (keeps : Bool) (response reply : ResponseValue) → KeepsPublished file h → KeepsPublished file k
+    → ReportAlike h k → IsResponseAt site h bytes body keeps response → IsResponseAt site k bytes body keeps reply → response ≡ reply
 same_bytes file site h k bytes body keeps response reply first second alike (one, here, is) (other, there, also) =
     let names : names_of one ≡ names_of other = listed_alike h k one other alike here there in
     let same : one ≡ other = same_actives file h k one other first second here.each there.each names in

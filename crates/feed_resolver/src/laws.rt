@@ -44,8 +44,8 @@ pub fn same_releases_same_tag()
     ensures { SameReleasesSameTag }
 {}
 
-/// What an entity tag is made of determines the reply: its bytes are the same where the version, the settings and the names
-/// of the releases are, if these are published files.
+/// What an entity tag is made of determines the reply: its bytes are the same where the version, the settings and the
+/// names of the releases are, if these are published files.
 pub fn same_inputs_same_bytes()
     ensures { SameInputsSameBytes }
 {}

@@ -52,8 +52,10 @@ fn node_reply_with(
     site: &Site,
     actives: &[ActiveRelease<'_>],
 ) -> Result<Response, AllocError>
-    ensures value { IfOk result (λ response. IsNodeReply site.now policy.now bytes.now body.now keeps actives.now response) }
-    ensures text { IfOk result (λ response. IsNodeReplyText site.now policy.now bytes.now body.now keeps actives.now response.bytes) }
+    ensures value { IfOk result (λ response.
+        IsNodeReply site.now policy.now bytes.now body.now keeps actives.now response) }
+    ensures text { IfOk result (λ response.
+        IsNodeReplyText site.now policy.now bytes.now body.now keeps actives.now response.bytes) }
     ensures message { IfOk result (λ response. IsNodeMessage bytes.now keeps response) }
     ensures says { IfOk result (λ response. SaysOfConnection bytes.now keeps response) }
 {
@@ -82,7 +84,8 @@ pub fn respond_as_node<K: Keep + Drop>(
     ensures value { IfOk result (λ response.
         IsNodeReply site.now policy.now bytes.now body.now keeps (actives_of (releases_of feed.now)) response) }
     ensures text { IfOk result (λ response.
-        IsNodeReplyText site.now policy.now bytes.now body.now keeps (actives_of (releases_of feed.now)) response.bytes) }
+        IsNodeReplyText site.now policy.now bytes.now body.now keeps (actives_of (releases_of feed.now))
+        response.bytes) }
 
     // For every history that the feed may have: from the releases that it reports, with the holdings of their complete
     // files.

@@ -349,7 +349,8 @@ pub fn respond<K: Keep + Drop>(
     site: &Site,
     feed: &Feed<K>,
 ) -> Result<Response, AllocError>
-    ensures value { IfOk result (λ response. IsResponse site.now bytes.now body.now keeps (actives_of (releases_of feed.now)) response) }
+    ensures value { IfOk result (λ response.
+        IsResponse site.now bytes.now body.now keeps (actives_of (releases_of feed.now)) response) }
 
     // For every history that the feed may have: from the releases that it reports, with the holdings of their complete
     // files.

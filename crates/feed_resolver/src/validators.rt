@@ -1,5 +1,5 @@
-//! Entity tags, replies to clients that have the representation, and preflights (RFC 9110, sections 8.8.3 and 13.1.2; Fetch
-//! standard, section 3.3).
+//! Entity tags, replies to clients that have the representation, and preflights (RFC 9110, sections 8.8.3 and 13.1.2;
+//! Fetch standard, section 3.3).
 ghost use Rattle.std.specs.Prelude.{◌≡◌, IfOk, true, Ok};
 ghost use Rattle.std.specs.List.{flat_map};
 ghost use Rattle.httparse.specs.Grammar.{RequestHead};

@@ -87,7 +87,14 @@ impl<'a> Node<'a> {
     fn respond(&self, mut line: Line<'_>) -> Result<(), Fault> {
         let keeps = line.flag("keep", "close")?;
         let request = line.text(self.rt.alloc())?;
-        let reply = respond(self.rt.alloc(), &request, b"", keeps, &self.site, &self.feed)?;
+        let reply = respond(
+            self.rt.alloc(),
+            &request,
+            b"",
+            keeps,
+            &self.site,
+            &self.feed,
+        )?;
         println!(self.rt; "{}", Escaped(reply.bytes()))?;
         Ok(())
     }
@@ -97,7 +104,14 @@ impl<'a> Node<'a> {
         let body = line.word()?.as_bytes();
         let request = line.text(self.rt.alloc())?;
         println!(self.rt; "length {}", form_length_of(&request))?;
-        let reply = respond(self.rt.alloc(), &request, body, keeps, &self.site, &self.feed)?;
+        let reply = respond(
+            self.rt.alloc(),
+            &request,
+            body,
+            keeps,
+            &self.site,
+            &self.feed,
+        )?;
         println!(self.rt; "{}", Escaped(reply.bytes()))?;
         Ok(())
     }

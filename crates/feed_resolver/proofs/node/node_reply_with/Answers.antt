@@ -24,11 +24,13 @@ returns-in-Some-clause-message c = let found = c.in-Some.ensures.found in
     (λ response is. elim (is found.head found.has) [ inl message ↦ inl (inl (found.head, found.begins, message)) | inr begins ↦ inr begins.0 ]) c.node_reply.ensures.message
 
 pub returns-in-None-clause-text : goal.returns-in-None-clause-text
-returns-in-None-clause-text c = IfOk-weaker c.bad_head_response.result _ (λ response. IsNodeReplyText c.args.site.now c.args.policy.now c.args.bytes.now c.args.body.now c.args.keeps c.args.actives.now response.bytes)
+returns-in-None-clause-text c = IfOk-weaker c.bad_head_response.result _
+    (λ response. IsNodeReplyText c.args.site.now c.args.policy.now c.args.bytes.now c.args.body.now c.args.keeps c.args.actives.now response.bytes)
     (λ response is. (response, inr (c.in-None.ensures.found, is), refl)) c.bad_head_response.ensures.value
 
 pub returns-in-None-clause-value : goal.returns-in-None-clause-value
-returns-in-None-clause-value c = IfOk-weaker c.bad_head_response.result _ (λ response. IsNodeReply c.args.site.now c.args.policy.now c.args.bytes.now c.args.body.now c.args.keeps c.args.actives.now response)
+returns-in-None-clause-value c = IfOk-weaker c.bad_head_response.result _
+    (λ response. IsNodeReply c.args.site.now c.args.policy.now c.args.bytes.now c.args.body.now c.args.keeps c.args.actives.now response)
     (λ response is. inr (c.in-None.ensures.found, is)) c.bad_head_response.ensures.value
 
 pub returns-in-None-clause-message : goal.returns-in-None-clause-message

@@ -23,6 +23,7 @@ returns-clause-message c = IfOk-weaker c.response.result _ (λ response. (head :
     (λ response is head has.
     let fits = subst IsStatable (sym (c.in_ok-reply.ensures head has
     ∙ ap (λ t. final_reply head t c.max_age.result (reply_to head c.args.body.now c.args.actives.now)) (c.in_ok-tag.ensures head has)
-    ∙ ap (λ n. final_reply head (tag_to c.args.site.now c.args.actives.now head) n (reply_to head c.args.body.now c.args.actives.now)) c.max_age.ensures)) (tagged_statable c.args.site.now head c.args.body.now c.args.actives.now) in
+    ∙ ap (λ n. final_reply head (tag_to c.args.site.now c.args.actives.now head) n (reply_to head c.args.body.now c.args.actives.now)) c.max_age.ensures))
+    (tagged_statable c.args.site.now head c.args.body.now c.args.actives.now) in
     subst (λ (b : Bool). IsMessageFor c.args.keeps b response) (c.is_head.ensures head has) (is fits.0 fits.1))
     c.response.ensures.message
