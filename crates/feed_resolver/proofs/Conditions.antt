@@ -1,5 +1,5 @@
 -- The reply to a client that has the representation, from the reply to one without a condition.
-use Rattle.std.proofs.Common.{◌≡◌, ℕ, List, [], ◌∷◌, Bool, true, false, Option, None, refl, sym, ap, ◌∙◌, inl, inr, codes, map}
+use Rattle.std.proofs.Common.{◌≡◌, ℕ, List, [], ◌∷◌, Bool, true, false, None, refl, sym, ap, ◌∙◌, inl, inr, codes, map}
 use Rattle.std.specs.Prelude.{if◌then◌else◌, ◌==◌, ◌&&◌, ◌||◌, not}
 use Rattle.std.specs.List.{filter}
 use Rattle.std.specs.Option.{option_map_or, is_none}
@@ -13,14 +13,11 @@ use Rattle.feed_http_heads.specs.Targets.{origin_form}
 use Rattle.feed_releases.specs.Actives.{ActiveValue}
 use Rattle.feed_resolver_request.specs.Conditions.{has_tag, names_tag}
 use Rattle.feed_resolver_request.specs.Representations.{accepted_representation, representation_of, preferred_in, format_of}
-use Rattle.feed_resolver_request.specs.Targets.{path_in, query_in, resource_of}
-use Rattle.feed_resolver_request.specs.declared.representation.Representation.{Representation}
+use Rattle.feed_resolver_request.specs.Targets.{query_in, resource_of}
 use Rattle.feed_resolver_request.specs.declared.representation.Representation.TheVariants.{Text}
-use Rattle.feed_resolver_request.specs.declared.target.Resource.{Resource}
-use Rattle.feed_resolver_request.specs.declared.target.Resource.TheVariants as resource
 use Rattle.feed_resolver_reply.specs.Replies.{ReplyValue, with_tag, not_modified, is_good}
 use Rattle.feed_resolver_tag.specs.Tags.{SiteValue}
-use Rattle.feed_resolver.specs.Replies.{resource_reply, target_reply, target_query, path_of, has_coded_body, plain_reply, reply_by_form, reply_to, tagged_reply}
+use Rattle.feed_resolver.specs.Replies.{target_query, path_of, has_coded_body, reply_to, tagged_reply}
 use Rattle.feed_resolver.specs.Validators.{is_tagged, tag_of, has_validator, resource_in, validated_by, tag_to}
 use Rattle.feed_resolver.specs.TagLaws.{without_condition, conditional, NotModifiedHasTagOfGood}
 use Rattle.feed_resolver.proofs.Requests.{reply_by, query_answer, read_reply, read_tagged, same_parts}

@@ -1,5 +1,5 @@
 -- The location of a reply can be stated in its head.
-use Rattle.std.proofs.Common.{◌≡◌, ℕ, zero, List, [], Bool, true, false, Option, Some, None, Result, Ok, Err, All, refl, arith}
+use Rattle.std.proofs.Common.{◌≡◌, ℕ, zero, List, [], Bool, true, false, Option, Some, None, Result, Ok, Err, refl, arith}
 use Rattle.std.specs.Prelude.{if◌then◌else◌, ◌&&◌, ◌||◌, not, position, codes, nat_le, length}
 use Rattle.std.specs.List.{list_all}
 use Rattle.std.specs.Option.{option_map_or}
@@ -29,7 +29,7 @@ use Rattle.feed_resolver_hits.specs.Hits.{best_link}
 use Rattle.feed_resolver_hits.specs.Tallies.{counted}
 use Rattle.feed_resolver_hits.proofs.Redirects.{best_is}
 use Rattle.feed_resolver.specs.Answers.{is_of, hits_among}
-use Rattle.feed_resolver.specs.Replies.{query_reply, hits_reply, resolve_reply, resolve_reply_at, package_reply, redirect_reply, resource_reply, path_of, target_query, target_reply, has_coded_body}
+use Rattle.feed_resolver.specs.Replies.{query_reply, hits_reply, resolve_reply, resolve_reply_at, redirect_reply, resource_reply, path_of, target_query, target_reply, has_coded_body}
 use Rattle.feed_resolver.specs.Replies.{plain_reply, form_refusal, reply_by_form, reply_to}
 
 pub nowhere : IsLocation []

@@ -1,6 +1,6 @@
 -- The replies to requests of certain forms.
 use Rattle.std.proofs.Common.{◌≡◌, ◌<◌, ◌^◌, ◌⊎◌, ℕ, List, [], ◌∷◌, Bool, true, false, Option, Some, None, Result, Ok, Err}
-use Rattle.std.proofs.Common.{refl, sym, ap, ◌∙◌, inl, inr, subst, arith, length, codes, lit<}
+use Rattle.std.proofs.Common.{refl, sym, ap, ◌∙◌, inl, inr, subst, length, codes, lit<}
 use Rattle.std.specs.Prelude.{if◌then◌else◌, ◌||◌, ◌&&◌, ◌==◌, is_none, not, position}
 use Rattle.std.specs.Option.{option_map_or, is_some}
 use Rattle.std.specs.Str.{bytes_eq}
@@ -44,7 +44,7 @@ use Rattle.feed_resolver.specs.Replies.{has_coded_body, resolve_reply_at, reply_
 use Rattle.feed_resolver.specs.Answered.{IsGoodIn, IsAnswered, IsAnsweredTo}
 use Rattle.feed_resolver.specs.Validators.{is_tagged, has_validator, resource_in}
 use Rattle.feed_resolver.specs.NodeReplies.{node_reply, IsNodeReply, AsksForNoFetch}
-use Rattle.feed_resolver.specs.Messages.{as_get, IsHeadAlone, HeadIsHeadOfGet, AsksToGo, GoesTo, GoesToBest, FormIsGet}
+use Rattle.feed_resolver.specs.Messages.{as_get, HeadIsHeadOfGet, AsksToGo, GoesTo, GoesToBest, FormIsGet}
 use Rattle.feed_resolver.proofs.Locations.{link_location, reply_located}
 use Rattle.feed_resolver.proofs.Tagged.{final_by, tag_asked, tagged_cases, no_preflight, tagged_statable, tagged_young}
 use Rattle.feed_resolver.proofs.SameBytes.{one_reply}
@@ -341,7 +341,7 @@ form_is_get site keeps actives bytes body other post get n response form same be
       reply_at site keeps bytes body actives post response begins is
           ∙ ap (λ b. response_of keeps b (tagged_reply site post body actives)) short
           ∙ ap (response_of keeps false) (plainly ∙ posted ∙ sym (got ∙ alike)),
-      (reply_located get other actives).1.0,
+      (reply_located get other actives).1,
     )
 
 -- ---- nodes

@@ -1,5 +1,5 @@
 -- The same releases have the same tags, and the same inputs of a tag the same replies.
-use Rattle.std.proofs.Common.{◌≡◌, ℕ, List, [], ◌∷◌, ◌++◌, map, refl, ap, sym, ◌∙◌, codes, subst}
+use Rattle.std.proofs.Common.{◌≡◌, ℕ, List, [], ◌∷◌, ◌++◌, refl, ap, sym, ◌∙◌, codes, subst}
 use Rattle.std.specs.List.{flat_map}
 use Rattle.feed_names.specs.ReleaseName.{Name}
 use Rattle.feed_releases.specs.Actives.{ActiveValue, names_of}

@@ -1,12 +1,12 @@
 -- The reply with its tag, from the reply that disregards the tag.
-use Rattle.std.proofs.Common.{◌≡◌, ◌<◌, ◌^◌, lit<, ℕ, List, [], Bool, true, false, Option, Some, None, All, refl, sym, ap, ◌∙◌, subst}
-use Rattle.std.specs.Prelude.{if◌then◌else◌, ◌&&◌, ◌||◌, not, codes}
+use Rattle.std.proofs.Common.{◌≡◌, ◌<◌, ◌^◌, lit<, ℕ, List, [], Bool, true, false, Option, Some, None, refl, sym, ap, ◌∙◌, subst}
+use Rattle.std.specs.Prelude.{if◌then◌else◌, ◌||◌, codes}
 use Rattle.std.specs.Option.{option_map_or}
 use Rattle.std.specs.Str.{bytes_eq}
 use Rattle.std.proofs.lemmas.List.Elements.{All-nil}
 use Rattle.httparse.specs.Grammar.{RequestHead, AllPass, is_uri_byte}
 use Rattle.feed_http_heads.specs.Targets.{origin_form}
-use Rattle.feed_http_heads.specs.Requests.{lacks_host, is_get, is_head}
+use Rattle.feed_http_heads.specs.Requests.{lacks_host}
 use Rattle.feed_releases.specs.Actives.{ActiveValue}
 use Rattle.feed_resolver_request.specs.Conditions.{has_tag}
 use Rattle.feed_resolver_request.specs.Representations.{representation_of}
@@ -16,12 +16,11 @@ use Rattle.feed_resolver_request.specs.declared.representation.Representation.Th
 use Rattle.feed_resolver_reply.specs.Replies.{ReplyValue, reply_with, with_tag, not_modified, is_good}
 use Rattle.feed_resolver_reply.specs.Messages.{IsLocation}
 use Rattle.feed_resolver_reply.specs.declared.status.Status.{Status}
-use Rattle.feed_resolver_reply.specs.declared.status.Status.TheVariants as status
-use Rattle.feed_resolver_tag.specs.Tags.{SiteValue, entity_tag, inputs_of}
+use Rattle.feed_resolver_tag.specs.Tags.{SiteValue}
 use Rattle.feed_resolver_tag.proofs.Visible.{tag_visible}
-use Rattle.feed_resolver.specs.Answered.{IsGoodIn}
+use Rattle.feed_resolver.specs.Answered.{IsGoodIn, IsAnsweredTo}
 use Rattle.feed_resolver.specs.Replies.{reply_to, tagged_reply}
-use Rattle.feed_resolver.specs.Validators.{is_tagged, has_validator, resource_in, tag_of, tag_to, validated_by, preflight_status}
+use Rattle.feed_resolver.specs.Validators.{is_tagged, tag_of, validated_by, validated, preflight_status}
 use Rattle.feed_resolver.proofs.Locations.{IsLocated, nowhere, reply_located}
 
 -- the tag of what a request asks for, whether it has one or not
@@ -103,3 +102,14 @@ known_reply true true tag max_age representation reply is names good =
     ∙ sym (ap (λ (code : Status). if is_good code then not_modified tag max_age reply.representation else reply) good.0)
 known_reply true false tag max_age representation reply is names good = absurd (cc)
 known_reply false has tag max_age representation reply is names good = absurd (cc)
+
+-- the same for a request with a tag, from what the code looks at
+pub known_validated : (head : RequestHead) (tag : List ℕ) (max_age : ℕ) (body : List ℕ) (actives : List ActiveValue) (reply : ReplyValue) (representation : Representation) (is has : Bool)
+    → is ≡ true → is ≡ is_tagged head → has ≡ true → has ≡ has_tag tag head → representation ≡ representation_of (query_in (origin_form head.target)) head
+    → (is_tagged head ≡ true → IsAnsweredTo head actives) → reply ≡ not_modified tag max_age representation
+    → reply ≡ validated head tag max_age (reply_to head body actives)
+known_validated head tag max_age body actives reply representation is has tags tagged holds named wants answered given =
+    let true_tag : is_tagged head ≡ true = sym tagged ∙ tags in
+    given ∙ ap (not_modified tag max_age) wants
+    ∙ known_reply (is_tagged head) (has_tag tag head) tag max_age (representation_of (query_in (origin_form head.target)) head) (reply_to head body actives) true_tag (sym named ∙ holds)
+    (answered true_tag body)

@@ -11,7 +11,7 @@ use Rattle.feed_resolver_request.specs.FoundRequests.{BeginsWith, HasNoHead}
 use Rattle.feed_resolver_request.specs.Targets.{resource_of, path_in, query_in}
 use Rattle.feed_resolver_request.specs.declared.target.Resource.TheVariants.{Go}
 use Rattle.feed_resolver_reply.specs.Replies.{ResponseValue, response_of}
-use Rattle.feed_resolver_reply.specs.Messages.{IsMessage, IsMessageFor, BeginsStream}
+use Rattle.feed_resolver_reply.specs.Messages.{IsMessage, IsMessageFor}
 use Rattle.feed_resolver_hits.specs.Ranks.{IsBestLink}
 use Rattle.feed_resolver_hits.specs.Tallies.{counted}
 use Rattle.feed_resolver_tag.specs.Tags.{SiteValue}

@@ -1,8 +1,8 @@
-use Rattle.std.proofs.Common.{◌≡◌, Bool, sym, subst, ◌∙◌, ap, ℕ, List}
+use Rattle.std.proofs.Common.{◌≡◌, Bool, sym, subst, ◌∙◌, ap}
 use Rattle.std.proofs.lemmas.Result.{IfOk-weaker}
 use Rattle.httparse.specs.Grammar.{RequestHead}
 use Rattle.feed_http_heads.specs.Requests.{HasHead, is_head}
-use Rattle.feed_resolver_reply.specs.Replies.{ReplyValue, ResponseValue, response_of}
+use Rattle.feed_resolver_reply.specs.Replies.{response_of}
 use Rattle.feed_resolver_reply.specs.Messages.{IsMessageFor}
 use Rattle.feed_resolver.specs.Replies.{reply_to, response_to}
 use Rattle.feed_resolver.specs.Validators.{final_reply, tag_to}
