@@ -14,7 +14,7 @@ function __kbfeed_place
             switch $word
                 case --
                     set has_options no
-                case --name --count --timeout --idle --piece --clients --from --token
+                case --name --count --timeout --idle --max-age --piece --clients --from --token
                     set is_value yes
                 case '-?*'
                 case '*'
@@ -69,4 +69,5 @@ complete -c kbfeed -n '__kbfeed_at "node/*"' -r -F -l token -d 'The file with th
 complete -c kbfeed -n '__kbfeed_at "node/*"' -x -l clients -d 'The most connections at a time'
 complete -c kbfeed -n '__kbfeed_at "node/*" "fetch/*"' -x -l piece -d 'The most bytes in one request'
 complete -c kbfeed -n '__kbfeed_at "node/*"' -x -l idle -d 'Seconds that a connection may wait between two requests'
+complete -c kbfeed -n '__kbfeed_at "node/*"' -x -l max-age -d 'Seconds that a cache may use an answer without asking again'
 complete -c kbfeed -n '__kbfeed_at "serve/*" "node/*" "fetch/*"' -x -l timeout -d 'Seconds that a connection may take'

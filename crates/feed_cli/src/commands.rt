@@ -11,6 +11,11 @@ use std::alloc::{AllocError, Global};
 // toolchain that have the same logic accept the same proofs.
 const VERSION: &str = "0.1.0\nlogic dac8208d650f15bf\nproved";
 
+/// Returns the version of the program, as `--version` prints it.
+pub fn version() -> &'static str {
+    VERSION
+}
+
 /// A command of the program.
 #[derive(Clone, Copy)]
 enum Subcommand {
@@ -56,6 +61,11 @@ enum Kind {
         value: &'static str,
         limit: u64,
         default: &'static str,
+    },
+    /// As an option with a number from 1 to a limit, without a default.
+    OptionalNumber {
+        value: &'static str,
+        limit: u64,
     },
 }
 
@@ -184,7 +194,7 @@ static SERVE: [Argument; 4] = [
     CLIENT_TIMEOUT,
 ];
 
-static NODE: [Argument; 9] = [
+static NODE: [Argument; 10] = [
     DATABASE,
     LISTENING_ADDRESS,
     Argument {
@@ -227,6 +237,14 @@ static NODE: [Argument; 9] = [
             default: "15",
         },
         help: "How long a connection may wait between two requests, 1 to 3600",
+    },
+    Argument {
+        id: "max-age",
+        kind: Kind::OptionalNumber {
+            value: "SECONDS",
+            limit: 31_536_000,
+        },
+        help: "How long a cache may use an answer without asking again, 1 to 31536000",
     },
 ];
 
@@ -374,6 +392,7 @@ fn arg_of<'a>(alloc: Global, argument: &'static Argument) -> Result<Arg<'a>, All
             limit,
             default,
         } => Ok(number(arg.long(id), value, limit, default)),
+        Kind::OptionalNumber { value, limit } => Ok(optional_number(arg.long(id), value, limit)),
     }
 }
 
@@ -391,6 +410,11 @@ fn text<'a>(
     needs: &[&'static str],
 ) -> Result<Arg<'a>, AllocError> {
     arg.value_name(value).requires_all(needs)
+}
+
+fn optional_number<'a>(arg: Arg<'a>, value: &'static str, limit: u64) -> Arg<'a> {
+    arg.value_name(value)
+        .value_parser(ValueParser::unsigned(1, limit))
 }
 
 fn number<'a>(arg: Arg<'a>, value: &'static str, limit: u64, default: &'static str) -> Arg<'a> {

@@ -9,12 +9,16 @@ use std::time::Duration;
 #[derive(Clone, Copy)]
 pub enum Command<'a> {
     /// Answer `clients` readers at a time. `time` is the limit of each step of a connection, and `idle` of the time
-    /// between two requests. A check only opens all that the node needs.
+    /// between two requests. A cache may use an answer for `max_age` seconds without asking again. A check only opens all
+    /// that the node needs.
     Node {
         addr: &'a str,
         clients: usize,
         time: Duration,
         idle: Duration,
+        max_age: u32,
+        /// The version of the program.
+        version: &'a str,
         is_check: bool,
         upstream: Option<Upstream<'a>>,
     },
@@ -46,6 +50,8 @@ pub fn run_command<D: Database, O: Write, F: Write + Drop>(
             clients,
             time,
             idle,
+            max_age,
+            version,
             is_check,
             upstream,
         } => {
@@ -54,6 +60,8 @@ pub fn run_command<D: Database, O: Write, F: Write + Drop>(
                 clients,
                 limit: millis_of(time),
                 idle: millis_of(idle),
+                max_age,
+                version,
                 is_check,
             };
             run_node(rt, database, hosting, upstream, out, faults)

@@ -7,6 +7,7 @@ use feed_http::is_host;
 use feed_node_server::{Server, Settings, TimeLimits};
 use feed_node_service::{End, Source, SourceAddrs, run};
 use feed_range::read_number;
+use feed_resolver_tag::Site;
 use std::io;
 use std::io::Write;
 use std::net::ToSocketAddrs;
@@ -15,13 +16,17 @@ use std::net::ToSocketAddrs;
 const MIN_CLIENTS: usize = 16;
 
 /// Where a node listens, how many clients it answers at a time, and how many milliseconds each step of a connection and
-/// the time between two requests may take. A check ends once all is open.
+/// the time between two requests may take; and for how many seconds a cache may use an answer without asking again, or 0.
+/// A check ends once all is open.
 #[derive(Clone, Copy)]
 pub struct Hosting<'a> {
     pub addr: &'a str,
     pub clients: usize,
     pub limit: u64,
     pub idle: u64,
+    pub max_age: u32,
+    /// The version of the program.
+    pub version: &'a str,
     pub is_check: bool,
 }
 
@@ -107,6 +112,10 @@ fn run_server<D: Database, O: Write, F: Write + Drop>(
     out: &mut O,
     faults: &mut Faults<F>,
 ) -> u8 {
+    let site = match Site::new(rt.alloc(), hosting.version.as_bytes(), hosting.max_age) {
+        Ok(site) => site,
+        Err(_) => return faults.report("Memory", FAILED),
+    };
     let mut feed = match open_feed(rt.alloc(), database, faults) {
         Ok(feed) => feed,
         Err(status) => return status,
@@ -125,7 +134,7 @@ fn run_server<D: Database, O: Write, F: Write + Drop>(
     let end = match announce(out, hosting.is_check) {
         Err(error) => Some(End::Print(error)),
         Ok(()) if hosting.is_check => None,
-        Ok(()) => Some(run(rt, &mut feed, &mut server, source, addrs, out)),
+        Ok(()) => Some(run(rt, &mut feed, &mut server, source, addrs, site, out)),
     };
     close_keeper(database, feed.restart(), faults);
     match end {

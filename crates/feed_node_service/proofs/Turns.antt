@@ -21,12 +21,13 @@ use Rattle.feed_resolver_request.specs.declared.form.FormFault.{FormFault}
 use Rattle.feed_resolver_request.specs.declared.form.FormFault.TheVariants.{Coding}
 use Rattle.feed_resolver_reply.specs.Replies.{ResponseValue}
 use Rattle.feed_resolver.specs.NodeReplies.{IsNodeReply, SaysOfConnection}
+use Rattle.feed_resolver_tag.specs.Tags.{SiteValue}
 use Rattle.feed_resolver.specs.FeedReplies.{IsFeedResponse}
 use Rattle.feed_node_service.specs.Responders.{IsReplyBy}
 
-pub as_node : (policy : FetchPolicyValue) (bytes body : List ℕ) (keeps : Bool) (actives : List ActiveValue) (response : ResponseValue) → IsFeedResponse policy bytes keeps None
-    → IsNodeReply policy bytes body keeps actives response → IsReplyBy policy bytes body keeps actives response
-as_node policy bytes body keeps actives response other is = inr (other, is)
+pub as_node : (site : SiteValue) (policy : FetchPolicyValue) (bytes body : List ℕ) (keeps : Bool) (actives : List ActiveValue) (response : ResponseValue) → IsFeedResponse policy bytes keeps None
+    → IsNodeReply site policy bytes body keeps actives response → IsReplyBy site policy bytes body keeps actives response
+as_node site policy bytes body keeps actives response other is = inr (other, is)
 
 -- a response with these parts
 pub same_response : (r : ResponseValue) (bytes : List ℕ) (status size : ℕ) → bytes ≡ r.bytes → status ≡ r.status → size ≡ r.body_length
@@ -50,12 +51,12 @@ differs path other feed not_feed = by (cases_Bool (bytes_eq path other))
         absurd (false≢true (sym not_feed ∙ (bytes_eq-Decides (take 6 other) (codes "/feed/")).1 (ap (take 6) (sym is) ∙ feed)))
     by (inr other_is) = other_is
 
-no_form_by : (home status resolve go package : Bool) → resolve ≡ false → go ≡ false → package ≡ false
-    → takes_form (if home then Home else (if status then Status else (if resolve then Resolve else (if go then Go else (if package then Package else Unknown))))) ≡ false
-no_form_by true status resolve go package r g p = refl
-no_form_by false true resolve go package r g p = refl
-no_form_by false false true go package r g p = absurd (cc)
-no_form_by false false false true package r g p = absurd (cc)
+no_form_by : (home status resolve go packaged : Bool) → resolve ≡ false → go ≡ false → packaged ≡ false
+    → takes_form (if home then Home else (if status then Status else (if resolve then Resolve else (if go then Go else (if packaged then Package else Unknown))))) ≡ false
+no_form_by true status resolve go packaged r g p = refl
+no_form_by false true resolve go packaged r g p = refl
+no_form_by false false true go packaged r g p = absurd (cc)
+no_form_by false false false true packaged r g p = absurd (cc)
 no_form_by false false false false true r g p = absurd (cc)
 no_form_by false false false false false r g p = refl
 
@@ -135,5 +136,5 @@ says_in_turn bytes body true response allowed (inr ((head, begins, fetch), says)
     let one = request_unique bytes is.head head is.begins.rest begins.rest is.begins.reads begins.reads in
     let asks : is_some (name_to_fetch is.head) ≡ true = subst (λ (h : RequestHead). is_some (name_to_fetch h) ≡ true) (sym one.0) fetch.1 in
     let none : length body ≡ 0 =
-        is.size ∙ ap (λ n. body_len_of n is.head) (fetch_has_no_form is.head asks) ∙ none_wanted (states_len is.head 0) in
+    is.size ∙ ap (λ n. body_len_of n is.head) (fetch_has_no_form is.head asks) ∙ none_wanted (states_len is.head 0) in
     absurd (fetch_is_post is.head asks (persists_not_post is.head (ap (λ n. persists is.head n) (sym none) ∙ is.keeps)))

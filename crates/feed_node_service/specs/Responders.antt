@@ -6,6 +6,7 @@ use Rattle.feed_releases.specs.Feeds.{releases_of}
 use Rattle.feed_node_connection.specs.declared.respond.Reply.{Reply}
 use Rattle.feed_resolver_request.specs.FetchRequests.{FetchPolicyValue, IsWhetherToBegin}
 use Rattle.feed_resolver_reply.specs.Replies.{ResponseValue}
+use Rattle.feed_resolver_tag.specs.Tags.{SiteValue}
 use Rattle.feed_resolver.specs.NodeReplies.{IsNodeReply}
 use Rattle.feed_resolver.specs.FeedReplies.{IsFeedResponse}
 use Rattle.feed_node_service.specs.declared.responder.FeedResponder.{FeedResponder}
@@ -24,16 +25,16 @@ IsPolicyIn responder policy = (policy ≡ policy_of responder) ⊎ (policy ≡ b
 
 -- the reply about the recorded releases, if the bytes ask for them, and otherwise that of a node to these bytes and this
 -- body
-abbrev pub IsReplyBy : FetchPolicyValue → List ℕ → List ℕ → Bool → List ActiveValue → ResponseValue → Type 0
-IsReplyBy policy bytes body keeps actives response =
+abbrev pub IsReplyBy : SiteValue → FetchPolicyValue → List ℕ → List ℕ → Bool → List ActiveValue → ResponseValue → Type 0
+IsReplyBy site policy bytes body keeps actives response =
     IsFeedResponse policy bytes keeps (Some response)
-    ⊎ (IsFeedResponse policy bytes keeps None × IsNodeReply policy bytes body keeps actives response)
+    ⊎ (IsFeedResponse policy bytes keeps None × IsNodeReply site policy bytes body keeps actives response)
 
 -- the reply of a responder by one of its policies; it is streamed exactly if the node begins to fetch by this policy
 abbrev pub IsTurnReply : {K : Type 0} {k : Ghosts K} → FeedResponder K k → List ℕ → List ℕ → Bool → ResponseValue → Bool → Type 0
 IsTurnReply responder bytes body keeps response is_streamed =
     (policy : FetchPolicyValue) × IsPolicyIn responder policy
-    × IsReplyBy policy bytes body keeps (actives_of (releases_of responder.feed.now)) response
+    × IsReplyBy responder.site.now policy bytes body keeps (actives_of (releases_of responder.feed.now)) response
     × IsWhetherToBegin policy bytes is_streamed
 
 -- the bytes of such a reply

@@ -7,6 +7,8 @@ use crate::source_addrs::SourceAddrs;
 use feed_keep::Keep;
 use feed_node_server::Server;
 use feed_releases::Feed;
+use feed_resolver::keep_releases;
+use feed_resolver_tag::Site;
 use std::io;
 use std::io::Write;
 
@@ -21,19 +23,22 @@ pub enum End {
 }
 
 /// Answers readers from a feed, until the poll or a print fails. If there is a source, a client that has the token can
-/// have a release fetched from there. Prints a line for each request, at once.
+/// have a release fetched from there. Prints a line for each request, at once. Replies have tags by the site.
 pub fn run<K: Keep + Drop, O: Write>(
     rt: &HostRuntime,
     feed: &mut Feed<K>,
     server: &mut Server,
     source: Option<Source<'_>>,
     addrs: SourceAddrs,
+    site: Site,
     out: &mut O,
 ) -> End {
     let mut events = match server.events() {
         Ok(events) => events,
         Err(_) => return End::Memory,
     };
+    let mut site = site;
+    let _ = keep_releases(rt.alloc(), &mut site, feed);
     let state = NodeState::new();
     let mut fetcher = Fetcher::new(rt, source, addrs);
     let mut log = AccessLog::new(rt, out);
@@ -43,6 +48,7 @@ pub fn run<K: Keep + Drop, O: Write>(
             token: fetcher.token(),
             is_busy: fetcher.is_busy(),
             state: &state,
+            site: &site,
         };
         if let Err(fault) = server.turn(rt, &responder, &mut events, &mut log) {
             return End::Sockets(fault);
@@ -50,7 +56,11 @@ pub fn run<K: Keep + Drop, O: Write>(
         if let Err(fault) = log.flush() {
             return End::Print(fault);
         }
+        let was_busy = fetcher.is_busy();
         fetcher.advance(server, feed);
+        if was_busy && !fetcher.is_busy() {
+            let _ = keep_releases(rt.alloc(), &mut site, feed);
+        }
         if let Some(name) = state.take_fetch() {
             fetcher.begin(server, feed, name);
         }

@@ -13,6 +13,7 @@ use feed_releases::Feed;
 use feed_resolver::{respond_about_feed, respond_as_node};
 use feed_resolver_reply::Response;
 use feed_resolver_request::{FetchPolicy, fetch_to_begin, form_length};
+use feed_resolver_tag::Site;
 use std::alloc::{AllocError, Global};
 
 /// A responder that replies from a feed.
@@ -23,6 +24,8 @@ pub struct FeedResponder<'a, K: Keep + Drop> {
     /// Whether a release is being fetched.
     pub is_busy: bool,
     pub state: &'a NodeState,
+    /// What the replies depend on beside the releases.
+    pub site: &'a Site,
 }
 
 impl<'a, K: Keep + Drop> FeedResponder<'a, K> {
@@ -50,14 +53,16 @@ impl<'a, K: Keep + Drop> FeedResponder<'a, K> {
         persists: bool,
         policy: &FetchPolicy<'_>,
     ) -> Result<Response, AllocError>
-        ensures reply { IfOk result (λ response. IsReplyBy policy.now bytes.now body.now persists
+        ensures reply { IfOk result (λ response. IsReplyBy self.now.site.now policy.now bytes.now body.now persists
             (actives_of (releases_of self.now.feed.now)) response) }
         ensures says { IfOk result (λ response. SaysOfConnection bytes.now persists response) }
     {
         match respond_about_feed(alloc, bytes, persists, policy, self.feed)? {
             Some(response) => Ok(response),
             None => {
-                let response = respond_as_node(alloc, bytes, body, persists, policy, self.feed)?;
+                let response = respond_as_node(
+                    alloc, bytes, body, persists, policy, self.site, self.feed,
+                )?;
                 Ok(response)
             }
         }

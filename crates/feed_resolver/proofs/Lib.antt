@@ -7,3 +7,6 @@ pub mod SameBytes
 pub mod StatusTexts
 pub mod Written
 pub mod WholeTexts
+pub mod Tagged
+pub mod Conditions
+pub mod SameTags

@@ -1,5 +1,5 @@
 -- The location of a reply can be stated in its head.
-use Rattle.std.proofs.Common.{◌≡◌, ℕ, List, [], Bool, true, false, Option, Some, None, Result, Ok, Err, All, refl, arith}
+use Rattle.std.proofs.Common.{◌≡◌, ℕ, zero, List, [], Bool, true, false, Option, Some, None, Result, Ok, Err, refl, arith}
 use Rattle.std.specs.Prelude.{if◌then◌else◌, ◌&&◌, ◌||◌, not, position, codes, nat_le, length}
 use Rattle.std.specs.List.{list_all}
 use Rattle.std.specs.Option.{option_map_or}
@@ -29,7 +29,7 @@ use Rattle.feed_resolver_hits.specs.Hits.{best_link}
 use Rattle.feed_resolver_hits.specs.Tallies.{counted}
 use Rattle.feed_resolver_hits.proofs.Redirects.{best_is}
 use Rattle.feed_resolver.specs.Answers.{is_of, hits_among}
-use Rattle.feed_resolver.specs.Replies.{query_reply, hits_reply, resolve_reply, resolve_reply_at, package_reply, redirect_reply, resource_reply, path_of, target_query, target_reply, has_coded_body}
+use Rattle.feed_resolver.specs.Replies.{query_reply, hits_reply, resolve_reply, resolve_reply_at, redirect_reply, resource_reply, path_of, target_query, target_reply, has_coded_body}
 use Rattle.feed_resolver.specs.Replies.{plain_reply, form_refusal, reply_by_form, reply_to}
 
 pub nowhere : IsLocation []
@@ -48,16 +48,23 @@ link_location url link = All-weaker (λ b. is_visible b ≡ true) (λ b. is_uri_
     (second (begins_with (codes "http://") url || begins_with (codes "https://") url) (list_all is_visible url)
     (second (nat_le (length url) link_limit) ((begins_with (codes "http://") url || begins_with (codes "https://") url) && list_all is_visible url) link)))
 
-abbrev IsLocated : ReplyValue → Type 0
-IsLocated reply = IsLocation reply.location
+-- a reply with a location that can be stated, and without a tag
+abbrev pub IsLocated : ReplyValue → Type 0
+IsLocated reply = IsLocation reply.location × (reply.tag ≡ []) × (reply.max_age ≡ 0)
+
+abbrev no_bytes : List ℕ
+no_bytes = []
+
+plain : IsLocation no_bytes × (no_bytes ≡ no_bytes) × (zero ≡ zero)
+plain = (nowhere, refl, refl)
 
 query_located : (representation : Representation) (reply : QueryValue → ReplyValue) (o : Result QueryValue QueryFault) → ((query : QueryValue) → IsLocated (reply query))
     → IsLocated (query_reply representation reply o)
 query_located representation reply (Ok query) located = located query
-query_located representation reply (Err fault) located = nowhere
+query_located representation reply (Err fault) located = plain
 
 resolve_located : (representation : Representation) (text : List ℕ) (actives : List ActiveValue) → IsLocated (resolve_reply representation text actives)
-resolve_located representation text actives = query_located representation (hits_reply status.Good representation actives) (query_of text) (λ query. nowhere)
+resolve_located representation text actives = query_located representation (hits_reply status.Good representation actives) (query_of text) (λ query. plain)
 
 package_located : (representation : Representation) (text : List ℕ) (actives : List ActiveValue) (other : ReplyValue) (o : Option ℕ) → IsLocated other
     → IsLocated (option_map_or (resolve_reply_at representation text actives) o other)
@@ -67,22 +74,22 @@ package_located representation text actives other (Some place) located = resolve
 redirect_located : (hits_link : Option (List ℕ)) (other : ReplyValue) → ((url : List ℕ) → hits_link ≡ Some url → is_link url ≡ true) → IsLocated other
     → IsLocated (option_map_or redirect_to hits_link other)
 redirect_located None other links located = located
-redirect_located (Some url) other links located = link_location url (links url refl)
+redirect_located (Some url) other links located = (link_location url (links url refl), refl, refl)
 
 go_located : (representation : Representation) (actives : List ActiveValue) (query : QueryValue) → IsLocated (redirect_reply representation actives query)
 go_located representation actives query =
-    redirect_located (best_link (counted (hits_among query actives))) (hits_reply status.NotFound representation actives query) (best_is (counted (hits_among query actives))) nowhere
+    redirect_located (best_link (counted (hits_among query actives))) (hits_reply status.NotFound representation actives query) (best_is (counted (hits_among query actives))) plain
 
 resource_located : (r : Resource) (head : RequestHead) (path query : List ℕ) (actives : List ActiveValue) → IsLocated (resource_reply r head path query actives)
-resource_located resource.Home head path query actives = nowhere
-resource_located resource.Status head path query actives = nowhere
+resource_located resource.Home head path query actives = plain
+resource_located resource.Status head path query actives = plain
 resource_located resource.Resolve head path query actives = resolve_located (representation_of query head) query actives
 resource_located resource.Package head path query actives =
     package_located (representation_of query head) query actives (refusal status.NotFound (representation_of query head) (codes "NoRelease"))
-    (position (is_of (package_in path)) actives) nowhere
+    (position (is_of (package_in path)) actives) plain
 resource_located resource.Go head path query actives =
     query_located (accepted_representation head) (redirect_reply (accepted_representation head) actives) (query_of query) (go_located (accepted_representation head) actives)
-resource_located resource.Unknown head path query actives = nowhere
+resource_located resource.Unknown head path query actives = plain
 
 target_located : (head : RequestHead) (query : List ℕ) (actives : List ActiveValue) → IsLocated (target_reply head query actives)
 target_located head query actives = resource_located (resource_of (path_of head)) head (path_of head) query actives
@@ -95,24 +102,24 @@ plain_located : (head : RequestHead) (actives : List ActiveValue) → IsLocated 
 plain_located head actives =
     let coded : ReplyValue = if has_coded_body head then refusal status.NotImplemented Text (codes "Coding") else target_reply head (target_query head) actives in
     let unknown : ReplyValue = if not (is_get head || is_head head) then refusal status.NotImplemented Text (codes "Method") else coded in
-    either_located (is_unsupported_method head.method) (refusal status.MethodNotAllowed Text (codes "Method")) unknown nowhere
-    (either_located (not (is_get head || is_head head)) (refusal status.NotImplemented Text (codes "Method")) coded nowhere
-    (either_located (has_coded_body head) (refusal status.NotImplemented Text (codes "Coding")) (target_reply head (target_query head) actives) nowhere
+    either_located (is_unsupported_method head.method) (refusal status.MethodNotAllowed Text (codes "Method")) unknown plain
+    (either_located (not (is_get head || is_head head)) (refusal status.NotImplemented Text (codes "Method")) coded plain
+    (either_located (has_coded_body head) (refusal status.NotImplemented Text (codes "Coding")) (target_reply head (target_query head) actives) plain
     (target_located head (target_query head) actives)))
 
 refusal_located : (why : FormFault) → IsLocated (form_refusal why)
-refusal_located fault.Coding = nowhere
-refusal_located fault.NoLength = nowhere
-refusal_located fault.BadLength = nowhere
-refusal_located fault.TooLong = nowhere
-refusal_located fault.MediaType = nowhere
+refusal_located fault.Coding = plain
+refusal_located fault.NoLength = plain
+refusal_located fault.BadLength = plain
+refusal_located fault.TooLong = plain
+refusal_located fault.MediaType = plain
 
 form_located : (head : RequestHead) (body : List ℕ) (actives : List ActiveValue) (form : Option (Result ℕ FormFault)) → IsLocated (reply_by_form head body actives form)
 form_located head body actives None = plain_located head actives
 form_located head body actives (Some (Ok n)) = target_located head body actives
 form_located head body actives (Some (Err why)) = refusal_located why
 
-pub reply_located : (head : RequestHead) (body : List ℕ) (actives : List ActiveValue) → IsLocation (reply_to head body actives).location
+pub reply_located : (head : RequestHead) (body : List ℕ) (actives : List ActiveValue) → IsLocated (reply_to head body actives)
 reply_located head body actives =
-    either_located (lacks_host head) (refusal status.BadRequest Text (codes "NoHost")) (reply_by_form head body actives (form_of head)) nowhere
+    either_located (lacks_host head) (refusal status.BadRequest Text (codes "NoHost")) (reply_by_form head body actives (form_of head)) plain
     (form_located head body actives (form_of head))

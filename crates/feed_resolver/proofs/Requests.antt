@@ -1,16 +1,19 @@
 -- The replies to requests of certain forms.
-use Rattle.std.proofs.Common.{◌≡◌, ◌<◌, ◌^◌, ◌⊎◌, ℕ, List, [], ◌∷◌, Bool, true, false, Option, Some, None, Ok}
-use Rattle.std.proofs.Common.{refl, sym, ap, ◌∙◌, inl, inr, subst, arith, length, codes, lit<}
-use Rattle.std.specs.Prelude.{if◌then◌else◌, ◌||◌, ◌&&◌, ◌==◌, is_none, not, Result, Err}
-use Rattle.std.specs.Option.{option_map_or}
+use Rattle.std.proofs.Common.{◌≡◌, ◌<◌, ◌^◌, ◌⊎◌, ℕ, List, [], ◌∷◌, Bool, true, false, Option, Some, None, Result, Ok, Err}
+use Rattle.std.proofs.Common.{refl, sym, ap, ◌∙◌, inl, inr, subst, length, codes, lit<}
+use Rattle.std.specs.Prelude.{if◌then◌else◌, ◌||◌, ◌&&◌, ◌==◌, is_none, not, position}
+use Rattle.std.specs.Option.{option_map_or, is_some}
 use Rattle.std.specs.Str.{bytes_eq}
 use Rattle.std.specs.Cmp.Lexicographic.{bytes_decides}
 use Rattle.std.proofs.lemmas.Bool.{cases_Bool}
-use Rattle.httparse.specs.Grammar.{RequestHead, ResponseHead}
+use Rattle.std.proofs.lemmas.List.Elements.{All-nil}
+use Rattle.httparse.specs.Grammar.{RequestHead, ResponseHead, is_uri_byte}
 use Rattle.feed_http_heads.specs.Fields.{values_named, only, has_any}
 use Rattle.feed_http_heads.specs.Requests.{lacks_host, is_get, is_head}
 use Rattle.feed_http_heads.specs.Targets.{origin_form}
 use Rattle.feed_answer.specs.QueryValue.{QueryValue}
+use Rattle.feed_answer.specs.Queries.{query_of}
+use Rattle.feed_answer.specs.declared.fault.QueryFault.{QueryFault}
 use Rattle.feed_releases.specs.Actives.{ActiveValue}
 use Rattle.feed_resolver_request.specs.FoundRequests.{BeginsWith}
 use Rattle.feed_resolver_request.specs.FetchRequests.{FetchPolicyValue, name_to_fetch, name_after_feed}
@@ -20,14 +23,13 @@ use Rattle.feed_resolver_request.specs.Forms.{form_of, form_in, form_by, is_form
 use Rattle.feed_resolver_request.specs.declared.form.FormFault.{FormFault}
 use Rattle.feed_resolver_request.specs.declared.form.FormFault.TheVariants as fault
 use Rattle.feed_resolver_request.specs.declared.representation.Representation.{Representation}
-use Rattle.feed_resolver_request.specs.Targets.{path_in, resource_of, package_in, is_unsupported_method}
+use Rattle.feed_resolver_request.specs.Targets.{path_in, query_in, resource_of, package_in, is_unsupported_method}
 use Rattle.feed_resolver.specs.Status.{home_page, status_body}
-use Rattle.feed_answer.specs.Queries.{query_of}
 use Rattle.feed_resolver_request.specs.declared.representation.Representation.TheVariants.{Text, Html}
 use Rattle.feed_resolver_request.specs.declared.target.Resource.{Resource}
 use Rattle.feed_resolver_request.specs.declared.target.Resource.TheVariants as resource
-use Rattle.feed_resolver_reply.specs.Replies.{ReplyValue, ResponseValue, reply_with, refusal, redirect_to, response_of, status_code}
-use Rattle.feed_resolver_reply.specs.Messages.{IsMessage, IsMessageFor, BeginsStream, IsSentAs, IsSendable}
+use Rattle.feed_resolver_reply.specs.Replies.{ReplyValue, ResponseValue, reply_with, refusal, redirect_to, response_of, reply_body, status_code}
+use Rattle.feed_resolver_reply.specs.Messages.{IsMessage, IsMessageFor, BeginsStream, IsSentAs}
 use Rattle.feed_resolver_reply.specs.declared.status.Status.TheVariants as status
 use Rattle.feed_resolver_reply.proofs.HeadsRead.{head_of, sent_as}
 use Rattle.feed_resolver_hits.specs.Hits.{ReleaseHitValue, best_link}
@@ -35,21 +37,26 @@ use Rattle.feed_resolver_hits.specs.Ranks.{IsBestLink}
 use Rattle.feed_resolver_hits.specs.Links.{is_link}
 use Rattle.feed_resolver_hits.specs.Tallies.{counted}
 use Rattle.feed_resolver_hits.proofs.BestLinks as links
-use Rattle.feed_resolver.specs.Answers.{hits_among}
-use Rattle.feed_resolver.specs.Replies.{resource_reply, resolve_reply, package_reply, redirect_reply, hits_reply, query_reply, target_reply, target_query, path_of, has_coded_body, reply_by_form, reply_to, response_to, IsResponse}
+use Rattle.feed_resolver_tag.specs.Tags.{SiteValue}
+use Rattle.feed_resolver.specs.Answers.{is_of, hits_among}
+use Rattle.feed_resolver.specs.Replies.{resource_reply, resolve_reply, package_reply, redirect_reply, hits_reply, query_reply, target_reply, target_query, path_of}
+use Rattle.feed_resolver.specs.Replies.{has_coded_body, resolve_reply_at, reply_by_form, reply_to, tagged_reply, response_to, IsResponse}
+use Rattle.feed_resolver.specs.Answered.{IsGoodIn, IsAnswered, IsAnsweredTo}
+use Rattle.feed_resolver.specs.Validators.{is_tagged, has_validator, resource_in}
 use Rattle.feed_resolver.specs.NodeReplies.{node_reply, IsNodeReply, AsksForNoFetch}
-use Rattle.feed_resolver.specs.Messages.{as_get, IsHeadAlone, HeadIsHeadOfGet, AsksToGo, GoesTo, GoesToBest, FormIsGet}
-use Rattle.feed_resolver.proofs.Locations.{reply_located, link_location}
+use Rattle.feed_resolver.specs.Messages.{as_get, HeadIsHeadOfGet, AsksToGo, GoesTo, GoesToBest, FormIsGet}
+use Rattle.feed_resolver.proofs.Locations.{link_location, reply_located}
+use Rattle.feed_resolver.proofs.Tagged.{final_by, tag_asked, tagged_cases, no_preflight, tagged_statable, tagged_young}
 use Rattle.feed_resolver.proofs.SameBytes.{one_reply}
 
 -- the reply to a request with this head
-reply_at : (keeps : Bool) (bytes body : List ℕ) (actives : List ActiveValue) (head : RequestHead) (response : ResponseValue) → BeginsWith bytes head → IsResponse bytes body keeps actives response
-    → response ≡ response_to keeps head body actives
-reply_at keeps bytes body actives head response begins is = one_reply keeps bytes body actives response (response_to keeps head body actives) is (inl (head, begins, refl))
+reply_at : (site : SiteValue) (keeps : Bool) (bytes body : List ℕ) (actives : List ActiveValue) (head : RequestHead) (response : ResponseValue) → BeginsWith bytes head
+    → IsResponse site bytes body keeps actives response → response ≡ response_to site keeps head body actives
+reply_at site keeps bytes body actives head response begins is = one_reply site keeps bytes body actives response (response_to site keeps head body actives) is (inl (head, begins, refl))
 
 -- ---- the first case that holds
 
-abbrev reply_by : Bool → Bool → Bool → Bool → ReplyValue → ReplyValue
+abbrev pub reply_by : Bool → Bool → Bool → Bool → ReplyValue → ReplyValue
 reply_by lacks unsupported unknown coded reply =
     if lacks then refusal status.BadRequest Text (codes "NoHost")
     else (if unsupported then refusal status.MethodNotAllowed Text (codes "Method")
@@ -58,7 +65,7 @@ reply_by lacks unsupported unknown coded reply =
     else reply)))
 
 -- the reply to a query in the target
-abbrev query_answer : RequestHead → List ActiveValue → ReplyValue
+abbrev pub query_answer : RequestHead → List ActiveValue → ReplyValue
 query_answer head actives = target_reply head (target_query head) actives
 
 or_right : (a b : Bool) → a ≡ false → (a || b) ≡ true → b ≡ true
@@ -87,22 +94,71 @@ formless : (head : RequestHead) → (is_get head || is_head head) ≡ true → f
 formless head read = ap (λ b. if b && (not (lacks_host head) && takes_form (resource_of (path_of head))) then Some (form_in head) else None) (not_post head read)
 
 -- the reply to a GET or a HEAD without a body
-read_reply : (head : RequestHead) (body : List ℕ) (actives : List ActiveValue) → (is_get head || is_head head) ≡ true
+pub read_reply : (head : RequestHead) (body : List ℕ) (actives : List ActiveValue) → (is_get head || is_head head) ≡ true
     → reply_to head body actives ≡ reply_by (lacks_host head) false false (has_coded_body head) (query_answer head actives)
 read_reply head body actives read =
     ap (λ o. if lacks_host head then refusal status.BadRequest Text (codes "NoHost") else reply_by_form head body actives o) (formless head read)
     ∙ ap (λ u. reply_by (lacks_host head) u (not (is_get head || is_head head)) (has_coded_body head) (query_answer head actives)) (supported head read)
     ∙ ap (λ r. reply_by (lacks_host head) false (not r) (has_coded_body head) (query_answer head actives)) read
 
+-- ---- a target with a tag
+
+-- the reply to such a request is that to its target
+pub answered_to : (head : RequestHead) (actives : List ActiveValue) → lacks_host head ≡ false → has_coded_body head ≡ false → is_tagged head ≡ true
+    → IsAnswered (origin_form head.target) actives → IsAnsweredTo head actives
+answered_to head actives host plain tagged answered body =
+    subst (IsGoodIn (representation_of (query_in (origin_form head.target)) head))
+    (sym (read_reply head body actives (and_left (is_get head || is_head head) (has_validator (resource_in head)) tagged)
+    ∙ ap (λ l. reply_by l false false (has_coded_body head) (query_answer head actives)) host
+    ∙ ap (λ c. reply_by false false false c (query_answer head actives)) plain))
+    (answered head)
+  where
+    and_left : (a b : Bool) → (a && b) ≡ true → a ≡ true
+    and_left true b e = refl
+    and_left false b e = absurd (cc)
+
+-- the reply to each request of a target whose query is valid
+pub status_answered : (target : List ℕ) (actives : List ActiveValue) → resource_of (path_in target) ≡ resource.Status → IsAnswered target actives
+status_answered target actives is head =
+    subst (λ r. IsGoodIn (representation_of (query_in target) head) (resource_reply r head (path_in target) (query_in target) actives)) (sym is) (refl, refl)
+
+query_answered : (representation : Representation) (actives : List ActiveValue) (o : Result QueryValue QueryFault) (query : QueryValue) → o ≡ Ok query
+    → IsGoodIn representation (query_reply representation (hits_reply status.Good representation actives) o)
+query_answered representation actives (Ok other) query is = (refl, refl)
+query_answered representation actives (Err fault) query is = absurd (cc)
+
+pub resolve_answered : (target : List ℕ) (actives : List ActiveValue) (query : QueryValue) → resource_of (path_in target) ≡ resource.Resolve → query_of (query_in target) ≡ Ok query
+    → IsAnswered target actives
+resolve_answered target actives query is valid head =
+    subst (λ r. IsGoodIn (representation_of (query_in target) head) (resource_reply r head (path_in target) (query_in target) actives)) (sym is)
+    (query_answered (representation_of (query_in target) head) actives (query_of (query_in target)) query valid)
+
+placed_answered : (representation : Representation) (text : List ℕ) (actives : List ActiveValue) (query : QueryValue) (o : Option ℕ) (other : ReplyValue) → is_some o ≡ true
+    → query_of text ≡ Ok query → IsGoodIn representation (option_map_or (resolve_reply_at representation text actives) o other)
+placed_answered representation text actives query (Some place) other some valid = query_answered representation _ (query_of text) query valid
+placed_answered representation text actives query None other some valid = absurd (cc)
+
+pub package_answered : (target : List ℕ) (actives : List ActiveValue) (query : QueryValue) → resource_of (path_in target) ≡ resource.Package
+    → is_some (position (is_of (package_in (path_in target))) actives) ≡ true → query_of (query_in target) ≡ Ok query → IsAnswered target actives
+package_answered target actives query is some valid head =
+    subst (λ r. IsGoodIn (representation_of (query_in target) head) (resource_reply r head (path_in target) (query_in target) actives)) (sym is)
+    (placed_answered (representation_of (query_in target) head) (query_in target) actives query (position (is_of (package_in (path_in target))) actives) _ some valid)
+
 -- ---- HEAD
 
+-- a reply depends on the fields only by the representation that they prefer
+pub same_parts : (r : Resource) (head other : RequestHead) (path query : List ℕ) (actives : List ActiveValue)
+    → representation_of query head ≡ representation_of query other → accepted_representation head ≡ accepted_representation other
+    → resource_reply r head path query actives ≡ resource_reply r other path query actives
+same_parts resource.Home head other path query actives wants accepts = refl
+same_parts resource.Status head other path query actives wants accepts = rw wants refl
+same_parts resource.Resolve head other path query actives wants accepts = rw wants refl
+same_parts resource.Package head other path query actives wants accepts = rw wants refl
+same_parts resource.Go head other path query actives wants accepts = rw accepts refl
+same_parts resource.Unknown head other path query actives wants accepts = rw accepts refl
+
 same_resource : (r : Resource) (head : RequestHead) (path query : List ℕ) (actives : List ActiveValue) → resource_reply r (as_get head) path query actives ≡ resource_reply r head path query actives
-same_resource resource.Home head path query actives = refl
-same_resource resource.Status head path query actives = refl
-same_resource resource.Resolve head path query actives = refl
-same_resource resource.Package head path query actives = refl
-same_resource resource.Go head path query actives = refl
-same_resource resource.Unknown head path query actives = refl
+same_resource r head path query actives = same_parts r (as_get head) head path query actives refl refl
 
 same_reply : (head : RequestHead) (body other : List ℕ) (actives : List ActiveValue) → is_head head ≡ true → reply_to (as_get head) other actives ≡ reply_to head body actives
 same_reply head body other actives is =
@@ -110,16 +166,40 @@ same_reply head body other actives is =
     ∙ ap (λ t. reply_by (lacks_host head) false false (has_coded_body head) t) (same_resource (resource_of (path_of head)) head (path_of head) (target_query head) actives)
     ∙ sym (read_reply head body actives (or_true (is_get head) (is_head head) is))
 
+-- neither a GET nor a HEAD is a preflight
+not_options : (head : RequestHead) → (is_get head || is_head head) ≡ true → bytes_eq head.method (codes "OPTIONS") ≡ false
+not_options head read = elim (cases_Bool (is_get head)) [
+  | inl e ↦ ap (λ m. bytes_eq m (codes "OPTIONS")) ((bytes_decides head.method (codes "GET")).0 e)
+  | inr e ↦ ap (λ m. bytes_eq m (codes "OPTIONS")) ((bytes_decides head.method (codes "HEAD")).0 (or_right (is_get head) (is_head head) e read))
+]
+
+-- the reply to a GET or a HEAD, with its tag
+pub read_tagged : (site : SiteValue) (head : RequestHead) (body : List ℕ) (actives : List ActiveValue) → (is_get head || is_head head) ≡ true
+    → tagged_reply site head body actives ≡ final_by (has_validator (resource_in head)) None head (tag_asked site actives head) site.max_age (reply_to head body actives)
+read_tagged site head body actives read =
+    tagged_cases site head body actives
+    ∙ ap (λ p. final_by (is_tagged head) p head (tag_asked site actives head) site.max_age (reply_to head body actives)) (no_preflight head (not_options head read))
+    ∙ ap (λ r. final_by (r && has_validator (resource_in head)) None head (tag_asked site actives head) site.max_age (reply_to head body actives)) read
+
+same_tagged : (site : SiteValue) (head : RequestHead) (body other : List ℕ) (actives : List ActiveValue) → is_head head ≡ true
+    → tagged_reply site (as_get head) other actives ≡ tagged_reply site head body actives
+same_tagged site head body other actives is =
+    read_tagged site (as_get head) other actives refl
+    ∙ ap (λ (r : ReplyValue). final_by (has_validator (resource_in head)) None head (tag_asked site actives head) site.max_age r) (same_reply head body other actives is)
+    ∙ sym (read_tagged site head body actives (or_true (is_get head) (is_head head) is))
+
 pub head_alone : HeadIsHeadOfGet
-head_alone keeps actives bytes asked body form head response reply is begins also one other small =
-    let r : ReplyValue = reply_to head body actives in
-    let short : response ≡ response_of keeps true r = reply_at keeps bytes body actives head response begins one ∙ ap (λ b. response_of keeps b r) is in
-    let long : reply ≡ response_of keeps false r = reply_at keeps asked form actives (as_get head) reply also other ∙ ap (response_of keeps false) (same_reply head body form actives is) in
-    let sized : length r.body < 2 ^ 64 = subst (λ (v : ResponseValue). v.body_length < 2 ^ 64) long small in
-    let sent : IsSentAs keeps r (head_of keeps r) = sent_as keeps r (record { location = reply_located head body actives; size = sized }) in (
+head_alone site keeps actives bytes asked body form head response reply is begins also one other small young =
+    let r : ReplyValue = tagged_reply site head body actives in
+    let short : response ≡ response_of keeps true r = reply_at site keeps bytes body actives head response begins one ∙ ap (λ b. response_of keeps b r) is in
+    let long : reply ≡ response_of keeps false r = reply_at site keeps asked form actives (as_get head) reply also other ∙ ap (response_of keeps false) (same_tagged site head body form actives is) in
+    let sized : length (reply_body false r) < 2 ^ 64 = subst (λ (v : ResponseValue). v.body_length < 2 ^ 64) long small in
+    let fits = tagged_statable site head body actives in
+    let sent : IsSentAs keeps r (head_of keeps r) =
+    sent_as keeps r (record { location = fits.0; size = sized; tag = fits.1; age = tagged_young site head body actives young }) in (
       head_of keeps r,
-      r.body,
-      subst (λ (v : ResponseValue). IsMessage v (head_of keeps r) r.body) (sym long) sent.whole,
+      reply_body false r,
+      subst (λ (v : ResponseValue). IsMessage v (head_of keeps r) (reply_body false r)) (sym long) sent.whole,
       subst (λ (v : ResponseValue). IsMessage v (head_of keeps r) []) (sym short) sent.alone,
     )
 
@@ -134,8 +214,13 @@ go_reply head body query actives asks =
     ∙ ap (λ r. resource_reply r head (path_of head) (target_query head) actives) asks.resource
     ∙ ap (λ q. query_reply (accepted_representation head) (redirect_reply (accepted_representation head) actives) q) asks.asked
 
+-- `/go` has no tag
+untagged_go : (site : SiteValue) (head : RequestHead) (body : List ℕ) (actives : List ActiveValue) → resource_in head ≡ resource.Go
+    → final_by (has_validator (resource_in head)) None head (tag_asked site actives head) site.max_age (reply_to head body actives) ≡ reply_to head body actives
+untagged_go site head body actives is = ap (λ r. final_by (has_validator r) None head (tag_asked site actives head) site.max_age (reply_to head body actives)) is
+
 redirect_sent : (keeps : Bool) (url : List ℕ) → is_link url ≡ true → IsSentAs keeps (redirect_to url) (head_of keeps (redirect_to url))
-redirect_sent keeps url link = sent_as keeps (redirect_to url) (record { location = link_location url link; size = lit< tt })
+redirect_sent keeps url link = sent_as keeps (redirect_to url) (record { location = link_location url link; size = lit< tt; tag = All-nil (λ b. is_uri_byte b ≡ true); age = lit< tt })
 
 redirected : (keeps alone : Bool) (url : List ℕ) → is_link url ≡ true
     → (head : ResponseHead) × IsMessage (response_of keeps alone (redirect_to url)) head [] × (values_named (codes "location") head.fields ≡ url ∷ [])
@@ -148,12 +233,13 @@ goes keeps alone hits None other best is = ap status_code is
 goes keeps alone hits (Some url) other best is = (refl, redirected keeps alone url (ap is_link best.3 ∙ best.2.link))
 
 pub goes_to_best : GoesToBest
-goes_to_best keeps actives bytes body head query response begins asks is =
+goes_to_best site keeps actives bytes body head query response begins asks is =
     let hits = counted (hits_among query actives) in
     let other : ReplyValue = hits_reply status.NotFound (accepted_representation head) actives query in
     let best : IsBestLink hits (best_link hits) = links.best_is hits in
     let same : response ≡ response_of keeps (is_head head) (option_map_or redirect_to (best_link hits) other) =
-    reply_at keeps bytes body actives head response begins is ∙ ap (response_of keeps (is_head head)) (go_reply head body query actives asks) in
+    reply_at site keeps bytes body actives head response begins is
+    ∙ ap (response_of keeps (is_head head)) (read_tagged site head body actives asks.method ∙ untagged_go site head body actives asks.resource ∙ go_reply head body query actives asks) in
     (best_link hits, best, subst (λ (v : ResponseValue). GoesTo (best_link hits) v) (sym same) (goes keeps (is_head head) hits (best_link hits) other best refl))
 
 -- ---- forms
@@ -220,8 +306,17 @@ same_fields r get post path query actives fields =
     ∙ ap (λ a. answer_by r (representation_of query post) a path query actives) accepts
     ∙ sym (answered_by r post path query actives)
 
+-- a POST has no tag, and is no preflight
+untagged_post : (site : SiteValue) (head : RequestHead) (body : List ℕ) (actives : List ActiveValue) → is_get head ≡ false → is_head head ≡ false
+    → bytes_eq head.method (codes "OPTIONS") ≡ false → tagged_reply site head body actives ≡ reply_to head body actives
+untagged_post site head body actives get alone other =
+    tagged_cases site head body actives
+    ∙ ap (λ p. final_by (is_tagged head) p head (tag_asked site actives head) site.max_age (reply_to head body actives)) (no_preflight head other)
+    ∙ ap (λ g. final_by ((g || is_head head) && has_validator (resource_in head)) None head (tag_asked site actives head) site.max_age (reply_to head body actives)) get
+    ∙ ap (λ a. final_by (a && has_validator (resource_in head)) None head (tag_asked site actives head) site.max_age (reply_to head body actives)) alone
+
 pub form_is_get : FormIsGet
-form_is_get keeps actives bytes asked body other post get n response reply form same begins also one two =
+form_is_get site keeps actives bytes body other post get n response form same begins is =
     let read = read_form post n form in
     let method : (is_get get || is_head get) ≡ true = ap (λ m. bytes_eq m (codes "GET") || bytes_eq m (codes "HEAD")) same.method in
     let hosted : lacks_host get ≡ false =
@@ -240,11 +335,14 @@ form_is_get keeps actives bytes asked body other post get n response reply form 
     ∙ ap (λ p. resource_reply (resource_of p) get p body actives) same.path
     ∙ same_fields (resource_of (path_of post)) get post (path_of post) body actives same.fields in
     let short : is_head post ≡ false = ap (λ m. bytes_eq m (codes "HEAD")) ((bytes_decides post.method (codes "POST")).0 read.method) in
-    let long : is_head get ≡ false = ap (λ m. bytes_eq m (codes "HEAD")) same.method in
-    reply_at keeps bytes body actives post response begins one
-    ∙ ap (λ b. response_of keeps b (reply_to post body actives)) short
-    ∙ ap (response_of keeps false) (posted ∙ sym (got ∙ alike))
-    ∙ sym (reply_at keeps asked other actives get reply also two ∙ ap (λ b. response_of keeps b (reply_to get other actives)) long)
+    let unread : is_get post ≡ false = ap (λ m. bytes_eq m (codes "GET")) ((bytes_decides post.method (codes "POST")).0 read.method) in
+    let asks : bytes_eq post.method (codes "OPTIONS") ≡ false = ap (λ m. bytes_eq m (codes "OPTIONS")) ((bytes_decides post.method (codes "POST")).0 read.method) in
+    let plainly : tagged_reply site post body actives ≡ reply_to post body actives = untagged_post site post body actives unread short asks in (
+      reply_at site keeps bytes body actives post response begins is
+          ∙ ap (λ b. response_of keeps b (tagged_reply site post body actives)) short
+          ∙ ap (response_of keeps false) (plainly ∙ posted ∙ sym (got ∙ alike)),
+      (reply_located get other actives).1,
+    )
 
 -- ---- nodes
 
@@ -255,15 +353,15 @@ plain_chosen false None fetch plain other = refl
 plain_chosen false (Some name) fetch plain (inl e) = absurd (cc)
 plain_chosen false (Some name) fetch plain (inr e) = absurd (cc)
 
-resolves : (policy : FetchPolicyValue) (keeps : Bool) (actives : List ActiveValue) (head : RequestHead) (body : List ℕ) → (lacks_host head ≡ true) ⊎ (name_to_fetch head ≡ None)
-    → node_reply policy keeps actives head body ≡ response_to keeps head body actives
-resolves policy keeps actives head body other = plain_chosen (lacks_host head) (name_to_fetch head) (fetch_reply policy keeps head) (response_to keeps head body actives) other
+resolves : (site : SiteValue) (policy : FetchPolicyValue) (keeps : Bool) (actives : List ActiveValue) (head : RequestHead) (body : List ℕ) → (lacks_host head ≡ true) ⊎ (name_to_fetch head ≡ None)
+    → node_reply site policy keeps actives head body ≡ response_to site keeps head body actives
+resolves site policy keeps actives head body other = plain_chosen (lacks_host head) (name_to_fetch head) (fetch_reply policy keeps head) (response_to site keeps head body actives) other
 
 -- a node replies as a resolver to a request that does not ask it to fetch
-pub as_resolver : (policy : FetchPolicyValue) (bytes body : List ℕ) (keeps : Bool) (actives : List ActiveValue) (response : ResponseValue) → AsksForNoFetch bytes
-    → IsNodeReply policy bytes body keeps actives response → IsResponse bytes body keeps actives response
-as_resolver policy bytes body keeps actives response plain (inl (head, begins, is)) = inl (head, begins, is ∙ resolves policy keeps actives head body (plain head begins))
-as_resolver policy bytes body keeps actives response plain (inr none) = inr none
+pub as_resolver : (site : SiteValue) (policy : FetchPolicyValue) (bytes body : List ℕ) (keeps : Bool) (actives : List ActiveValue) (response : ResponseValue) → AsksForNoFetch bytes
+    → IsNodeReply site policy bytes body keeps actives response → IsResponse site bytes body keeps actives response
+as_resolver site policy bytes body keeps actives response plain (inl (head, begins, is)) = inl (head, begins, is ∙ resolves site policy keeps actives head body (plain head begins))
+as_resolver site policy bytes body keeps actives response plain (inr none) = inr none
 
 only_then : (b : Bool) (o : Option (List ℕ)) (text : List ℕ) → (if b then o else None) ≡ Some text → b ≡ true
 only_then true o text e = refl

@@ -13,17 +13,18 @@ use Rattle.feed_releases.specs.Actives.{ActiveValue, IsReported, names_of, Repor
 use Rattle.feed_releases.proofs.ByPackage.{listed_alike}
 use Rattle.feed_resolver_reply.specs.Replies.{ResponseValue}
 use Rattle.feed_resolver.specs.Replies.{IsResponse, IsResponseAt, response_to}
+use Rattle.feed_resolver_tag.specs.Tags.{SiteValue}
 use Rattle.feed_resolver.specs.Laws.{KeepsPublished}
 
 -- two replies to the same bytes
-pub one_reply : (keeps : Bool) (bytes body : List ℕ) (actives : List ActiveValue) (response reply : ResponseValue) → IsResponse bytes body keeps actives response
-    → IsResponse bytes body keeps actives reply → response ≡ reply
-one_reply keeps bytes body actives response reply (inl (head, begins, is)) (inl (other, also, same)) =
+pub one_reply : (site : SiteValue) (keeps : Bool) (bytes body : List ℕ) (actives : List ActiveValue) (response reply : ResponseValue) → IsResponse site bytes body keeps actives response
+    → IsResponse site bytes body keeps actives reply → response ≡ reply
+one_reply site keeps bytes body actives response reply (inl (head, begins, is)) (inl (other, also, same)) =
     let heads : head ≡ other = (request_unique bytes head other begins.rest also.rest begins.reads also.reads).0 in
-    is ∙ ap (λ (h : RequestHead). response_to keeps h body actives) heads ∙ sym same
-one_reply keeps bytes body actives response reply (inl (head, begins, is)) (inr (none, same)) = absurd (none head begins)
-one_reply keeps bytes body actives response reply (inr (none, is)) (inl (head, begins, same)) = absurd (none head begins)
-one_reply keeps bytes body actives response reply (inr (none, is)) (inr (nor, same)) = is ∙ sym same
+    is ∙ ap (λ (h : RequestHead). response_to site keeps h body actives) heads ∙ sym same
+one_reply site keeps bytes body actives response reply (inl (head, begins, is)) (inr (none, same)) = absurd (none head begins)
+one_reply site keeps bytes body actives response reply (inr (none, is)) (inl (head, begins, same)) = absurd (none head begins)
+one_reply site keeps bytes body actives response reply (inr (none, is)) (inr (nor, same)) = is ∙ sym same
 
 abbrev of_name : Name → HoldingsValue → ActiveValue
 of_name name holdings = record { name = name; holdings = holdings }
@@ -45,10 +46,16 @@ published : (file : Name → List ℕ) (h : History) (actives : List ActiveValue
 published file h actives keeps reported = λ i d within.
     let is = reported i d within in is.holdings ∙ ap holdings_of (keeps _ is.text is.file)
 
-pub same_bytes : (file : Name → List ℕ) (h k : History) (bytes body : List ℕ) (keeps : Bool) (response reply : ResponseValue) → KeepsPublished file h → KeepsPublished file k → ReportAlike h k
-    → IsResponseAt h bytes body keeps response → IsResponseAt k bytes body keeps reply → response ≡ reply
-same_bytes file h k bytes body keeps response reply first second alike (one, here, is) (other, there, also) =
+-- the names of published files determine what they hold
+pub same_actives : (file : Name → List ℕ) (h k : History) (one other : List ActiveValue) → KeepsPublished file h → KeepsPublished file k → All (IsReported h) one → All (IsReported k) other
+    → names_of one ≡ names_of other → one ≡ other
+same_actives file h k one other first second here there names =
+    given_by_names file one (recursion_from_All _ one (published file h one first here)) ∙ ap (from_names file) names
+    ∙ sym (given_by_names file other (recursion_from_All _ other (published file k other second there)))
+
+pub same_bytes : (file : Name → List ℕ) (site : SiteValue) (h k : History) (bytes body : List ℕ) (keeps : Bool) (response reply : ResponseValue) → KeepsPublished file h → KeepsPublished file k
+    → ReportAlike h k → IsResponseAt site h bytes body keeps response → IsResponseAt site k bytes body keeps reply → response ≡ reply
+same_bytes file site h k bytes body keeps response reply first second alike (one, here, is) (other, there, also) =
     let names : names_of one ≡ names_of other = listed_alike h k one other alike here there in
-    let same : one ≡ other = given_by_names file one (recursion_from_All _ one (published file h one first here.each)) ∙ ap (from_names file) names
-    ∙ sym (given_by_names file other (recursion_from_All _ other (published file k other second there.each))) in
-    one_reply keeps bytes body other response reply (subst (λ (actives : List ActiveValue). IsResponse bytes body keeps actives response) same is) also
+    let same : one ≡ other = same_actives file h k one other first second here.each there.each names in
+    one_reply site keeps bytes body other response reply (subst (λ (actives : List ActiveValue). IsResponse site bytes body keeps actives response) same is) also

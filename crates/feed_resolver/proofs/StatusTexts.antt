@@ -1,11 +1,10 @@
 -- The object of an active release parses to its value.
-use Rattle.std.proofs.Common.{◌≡◌, ◌≤◌, ℕ, List, [], ◌∷◌, ◌++◌, refl, codes, lit≤}
+use Rattle.std.proofs.Common.{◌≤◌, List, [], ◌∷◌, ◌++◌, refl, codes, lit≤}
 use Rattle.std.specs.List.{AllByRecursion}
 use Rattle.json.specs.Token.{Token}
-use Rattle.json.specs.Lex.{Lexeme, token, lex, between, punctuate, fresh, after_value, after_comma, after_key}
+use Rattle.json.specs.Lex.{Lexeme, token, lex, punctuate, fresh, after_value, after_comma, after_key}
 use Rattle.json.specs.Tree.{depth}
 use Rattle.feed_releases.specs.Actives.{ActiveValue}
-use Rattle.feed_resolver_request.specs.declared.representation.Representation.TheVariants.{Json}
 use Rattle.feed_resolver_reply.proofs.JsonTexts.{Lexes, lexes_then, IsText, AreOf, text_of_lexemes, list_read}
 use Rattle.feed_resolver_hits.specs.HitsJson.{release_members}
 use Rattle.feed_resolver_hits.proofs.HitTexts.{release_lexemes, lexes_release}

@@ -12,6 +12,7 @@ use Rattle.feed_resolver_request.specs.declared.representation.Representation.Th
 use Rattle.feed_resolver_reply.specs.Replies.{ResponseValue}
 use Rattle.feed_resolver.specs.Answers.{hits_among, tally_among, answers_body}
 use Rattle.feed_resolver.specs.Status.{status_body, active_value}
+use Rattle.feed_resolver_tag.specs.Tags.{SiteValue}
 use Rattle.feed_resolver.specs.Replies.{IsResponseAt}
 use Rattle.feed_resolver.specs.NodeReplies.{IsNodeReplyAt, AsksForNoFetch}
 use Rattle.feed_resolver_request.specs.FetchRequests.{FetchPolicyValue}
@@ -20,21 +21,22 @@ use Rattle.feed_resolver_request.specs.FetchRequests.{FetchPolicyValue}
 abbrev pub KeepsPublished : (Name → List ℕ) → History → Type 0
 KeepsPublished file h = (n : Name) (text : List ℕ) → IsFile h n text → text ≡ file n
 
--- two nodes that report the same releases, and have stored their published files, give each request the same bytes
+-- two nodes of the same version and settings that report the same releases, and have stored their published files, give
+-- each request the same bytes
 abbrev pub SameReleasesSameBytes : Type 0
 SameReleasesSameBytes =
-    (file : Name → List ℕ) (h k : History) (bytes body : List ℕ) (keeps : Bool) (response reply : ResponseValue)
+    (file : Name → List ℕ) (site : SiteValue) (h k : History) (bytes body : List ℕ) (keeps : Bool) (response reply : ResponseValue)
     → KeepsPublished file h → KeepsPublished file k → ReportAlike h k
-    → IsResponseAt h bytes body keeps response → IsResponseAt k bytes body keeps reply → response ≡ reply
+    → IsResponseAt site h bytes body keeps response → IsResponseAt site k bytes body keeps reply → response ≡ reply
 
--- two nodes that report the same releases, and have stored the published files, reply with the same bytes to each
--- request that does not ask them to fetch, whatever their tokens are and whether they are fetching
+-- two nodes of the same version and settings that report the same releases, and have stored the published files, reply with
+-- the same bytes to each request that does not ask them to fetch, whatever their tokens are and whether they are fetching
 abbrev pub SameReleasesSameNodeBytes : Type 0
 SameReleasesSameNodeBytes =
-    (file : Name → List ℕ) (h k : History) (policy other : FetchPolicyValue) (bytes body : List ℕ) (keeps : Bool)
+    (file : Name → List ℕ) (site : SiteValue) (h k : History) (policy other : FetchPolicyValue) (bytes body : List ℕ) (keeps : Bool)
     (response reply : ResponseValue)
     → KeepsPublished file h → KeepsPublished file k → ReportAlike h k → AsksForNoFetch bytes
-    → IsNodeReplyAt policy h bytes body keeps response → IsNodeReplyAt other k bytes body keeps reply → response ≡ reply
+    → IsNodeReplyAt site policy h bytes body keeps response → IsNodeReplyAt site other k bytes body keeps reply → response ≡ reply
 
 -- the active releases in JSON are, by its grammar (RFC 8259), an array with one object for each, in their order
 abbrev pub StatusIsJson : Type 0

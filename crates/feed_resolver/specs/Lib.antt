@@ -1,8 +1,11 @@
 pub mod Answers
 pub mod AnswerTexts
 pub mod Status
+pub mod Validators
 pub mod Replies
+pub mod Answered
 pub mod Messages
 pub mod NodeReplies
 pub mod FeedReplies
 pub mod Laws
+pub mod TagLaws

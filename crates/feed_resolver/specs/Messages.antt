@@ -10,13 +10,14 @@ use Rattle.feed_releases.specs.Actives.{ActiveValue}
 use Rattle.feed_resolver_request.specs.FoundRequests.{BeginsWith, HasNoHead}
 use Rattle.feed_resolver_request.specs.Targets.{resource_of, path_in, query_in}
 use Rattle.feed_resolver_request.specs.declared.target.Resource.TheVariants.{Go}
-use Rattle.feed_resolver_reply.specs.Replies.{ResponseValue}
-use Rattle.feed_resolver_reply.specs.Messages.{IsMessage, IsMessageFor, BeginsStream}
+use Rattle.feed_resolver_reply.specs.Replies.{ResponseValue, response_of}
+use Rattle.feed_resolver_reply.specs.Messages.{IsMessage, IsMessageFor}
 use Rattle.feed_resolver_hits.specs.Ranks.{IsBestLink}
 use Rattle.feed_resolver_hits.specs.Tallies.{counted}
+use Rattle.feed_resolver_tag.specs.Tags.{SiteValue}
 use Rattle.feed_resolver.specs.Answers.{hits_among}
 use Rattle.feed_resolver_request.specs.Forms.{form_of}
-use Rattle.feed_resolver.specs.Replies.{IsResponse, has_coded_body, path_of, target_query}
+use Rattle.feed_resolver.specs.Replies.{IsResponse, reply_to, has_coded_body, path_of, target_query}
 
 -- the response to these bytes is one head and a body whose length the head states, or the head alone if the bytes begin
 -- with a HEAD; the head announces that the connection is closed exactly if it is not kept
@@ -44,9 +45,10 @@ IsHeadAlone response other = (head : ResponseHead) × (body : List ℕ) × IsMes
 -- the reply to a HEAD is the head of the reply to the same request with the method GET
 abbrev pub HeadIsHeadOfGet : Type 0
 HeadIsHeadOfGet =
-    (keeps : Bool) (actives : List ActiveValue) (bytes asked body other : List ℕ) (head : RequestHead) (response reply : ResponseValue)
+    (site : SiteValue) (keeps : Bool) (actives : List ActiveValue) (bytes asked body other : List ℕ) (head : RequestHead) (response reply : ResponseValue)
     → is_head head ≡ true → BeginsWith bytes head → BeginsWith asked (as_get head)
-    → IsResponse bytes body keeps actives response → IsResponse asked other keeps actives reply → reply.body_length < 2 ^ 64
+    → IsResponse site bytes body keeps actives response → IsResponse site asked other keeps actives reply
+    → reply.body_length < 2 ^ 64 → site.max_age < 2 ^ 64
     → IsHeadAlone response reply
 
 -- the request is one of `/go` with this query
@@ -66,8 +68,8 @@ GoesTo (Some url) response =
 -- `/go` redirects to a hit above which no hit ranks, of those that are counted, that may be linked to
 abbrev pub GoesToBest : Type 0
 GoesToBest =
-    (keeps : Bool) (actives : List ActiveValue) (bytes body : List ℕ) (head : RequestHead) (query : QueryValue) (response : ResponseValue)
-    → BeginsWith bytes head → AsksToGo head query → IsResponse bytes body keeps actives response
+    (site : SiteValue) (keeps : Bool) (actives : List ActiveValue) (bytes body : List ℕ) (head : RequestHead) (query : QueryValue) (response : ResponseValue)
+    → BeginsWith bytes head → AsksToGo head query → IsResponse site bytes body keeps actives response
     → (best : Option (List ℕ)) × IsBestLink (counted (hits_among query actives)) best × GoesTo best response
 
 -- a GET that asks what a form asks: the same fields and path, and the form as its query
@@ -78,9 +80,13 @@ pub record IsGetOfForm (post get : RequestHead) (body : List ℕ) : Type 0 where
   pub path : path_of get ≡ path_of post
   pub query : target_query get ≡ body
 
--- the reply to a form that is read is that to the GET whose query is the form; whatever follows a GET changes nothing
+-- the reply to a form that is read is that to the GET whose query is the form, before any condition: it has the same status,
+-- media type, body and location, whatever follows the GET, and no entity tag, since If-None-Match speaks of GET and HEAD
+-- alone (RFC 9110, section 13.1.2)
 abbrev pub FormIsGet : Type 0
 FormIsGet =
-    (keeps : Bool) (actives : List ActiveValue) (bytes asked body other : List ℕ) (post get : RequestHead) (n : ℕ) (response reply : ResponseValue)
-    → form_of post ≡ Some (Ok n) → IsGetOfForm post get body → BeginsWith bytes post → BeginsWith asked get
-    → IsResponse bytes body keeps actives response → IsResponse asked other keeps actives reply → response ≡ reply
+    (site : SiteValue) (keeps : Bool) (actives : List ActiveValue) (bytes body other : List ℕ) (post get : RequestHead) (n : ℕ)
+    (response : ResponseValue)
+    → form_of post ≡ Some (Ok n) → IsGetOfForm post get body → BeginsWith bytes post
+    → IsResponse site bytes body keeps actives response
+    → (response ≡ response_of keeps false (reply_to get other actives)) × ((reply_to get other actives).tag ≡ [])

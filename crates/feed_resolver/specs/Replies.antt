@@ -25,7 +25,9 @@ use Rattle.feed_resolver_reply.specs.declared.status.Status.{Status}
 use Rattle.feed_resolver_reply.specs.declared.status.Status.TheVariants as status
 use Rattle.feed_resolver_hits.specs.QueryRefusals.{query_refusal}
 use Rattle.feed_resolver.specs.Answers.{is_of, tally_among, answers_body}
+use Rattle.feed_resolver_tag.specs.Tags.{SiteValue}
 use Rattle.feed_resolver.specs.Status.{status_body, home_page}
+use Rattle.feed_resolver.specs.Validators.{final_reply, tag_to}
 
 -- the reply to a query, or the error if it is rejected
 abbrev pub query_reply : Representation → (QueryValue → ReplyValue) → Result QueryValue QueryFault → ReplyValue
@@ -111,25 +113,29 @@ abbrev pub reply_to : RequestHead → List ℕ → List ActiveValue → ReplyVal
 reply_to head body actives =
     if lacks_host head then refusal status.BadRequest Text (codes "NoHost") else reply_by_form head body actives (form_of head)
 
+-- the reply with its tag: a preflight has its own, and a client that has the representation gets no body
+abbrev pub tagged_reply : SiteValue → RequestHead → List ℕ → List ActiveValue → ReplyValue
+tagged_reply site head body actives = final_reply head (tag_to site actives head) site.max_age (reply_to head body actives)
+
 -- the same with its bytes, on a connection that is kept or not
-abbrev pub response_to : Bool → RequestHead → List ℕ → List ActiveValue → ResponseValue
-response_to keeps head body actives = response_of keeps (is_head head) (reply_to head body actives)
+abbrev pub response_to : SiteValue → Bool → RequestHead → List ℕ → List ActiveValue → ResponseValue
+response_to site keeps head body actives = response_of keeps (is_head head) (tagged_reply site head body actives)
 
 -- the reply to the head at the front of the bytes, within the limits
-abbrev pub IsReplyToHead : List ℕ → List ℕ → Bool → List ActiveValue → ResponseValue → Type 0
-IsReplyToHead bytes body keeps actives response =
-    (head : RequestHead) × BeginsWith bytes head × (response ≡ response_to keeps head body actives)
+abbrev pub IsReplyToHead : SiteValue → List ℕ → List ℕ → Bool → List ActiveValue → ResponseValue → Type 0
+IsReplyToHead site bytes body keeps actives response =
+    (head : RequestHead) × BeginsWith bytes head × (response ≡ response_to site keeps head body actives)
 
 -- the reply if the bytes have no such head
 abbrev pub IsReplyToNone : List ℕ → Bool → ResponseValue → Type 0
 IsReplyToNone bytes keeps response = HasNoHead bytes × (response ≡ bad_head_response keeps)
 
 -- the reply to the bytes of a request and to its body, after which the connection is kept or not
-abbrev pub IsResponse : List ℕ → List ℕ → Bool → List ActiveValue → ResponseValue → Type 0
-IsResponse bytes body keeps actives response =
-    IsReplyToHead bytes body keeps actives response ⊎ IsReplyToNone bytes keeps response
+abbrev pub IsResponse : SiteValue → List ℕ → List ℕ → Bool → List ActiveValue → ResponseValue → Type 0
+IsResponse site bytes body keeps actives response =
+    IsReplyToHead site bytes body keeps actives response ⊎ IsReplyToNone bytes keeps response
 
 -- the reply from exactly the releases that a feed with this history reports, with the holdings of their complete files
-abbrev pub IsResponseAt : History → List ℕ → List ℕ → Bool → ResponseValue → Type 0
-IsResponseAt h bytes body keeps response =
-    (actives : List ActiveValue) × AreReported h actives × IsResponse bytes body keeps actives response
+abbrev pub IsResponseAt : SiteValue → History → List ℕ → List ℕ → Bool → ResponseValue → Type 0
+IsResponseAt site h bytes body keeps response =
+    (actives : List ActiveValue) × AreReported h actives × IsResponse site bytes body keeps actives response

@@ -2,6 +2,7 @@
 ghost use Rattle.feed_resolver.specs.Laws.{SameReleasesSameBytes, SameReleasesSameNodeBytes, StatusIsJson};
 ghost use Rattle.feed_resolver.specs.Laws.{WholeTextIsWritten};
 ghost use Rattle.feed_resolver.specs.Messages.{FormIsGet, GoesToBest, HeadIsHeadOfGet};
+ghost use Rattle.feed_resolver.specs.TagLaws.{SameReleasesSameTag, SameInputsSameBytes, NotModifiedHasTagOfGood};
 
 /// Two nodes that report the same releases, and have stored their published files, give each request the same bytes.
 pub fn same_releases_same_bytes()
@@ -33,7 +34,23 @@ pub fn whole_text_is_written()
     ensures { WholeTextIsWritten }
 {}
 
-/// The reply to a form is that to the GET whose query is the form.
+/// The reply to a form is that to the GET whose query is the form, without a tag.
 pub fn form_is_get()
     ensures { FormIsGet }
+{}
+
+/// Two nodes of the same version and settings that report the same releases have the same entity tags.
+pub fn same_releases_same_tag()
+    ensures { SameReleasesSameTag }
+{}
+
+/// What an entity tag is made of determines the reply: its bytes are the same where the version, the settings and the
+/// names of the releases are, if these are published files.
+pub fn same_inputs_same_bytes()
+    ensures { SameInputsSameBytes }
+{}
+
+/// A 304 replaces a 200 alone, and has the entity tag that the 200 would have had.
+pub fn not_modified_has_tag_of_good()
+    ensures { NotModifiedHasTagOfGood }
 {}

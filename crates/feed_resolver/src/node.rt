@@ -15,12 +15,14 @@ use feed_keep::Keep;
 use feed_releases::{ActiveRelease, Feed};
 use feed_resolver_reply::{Response, bad_head_response, fetch_reply};
 use feed_resolver_request::{FetchPolicy, find_request, name_to_fetch};
+use feed_resolver_tag::Site;
 use httparse::spans::EMPTY_HEADER_SPAN;
 use std::alloc::{AllocError, Global};
 
 fn node_reply(
     alloc: Global,
     policy: &FetchPolicy<'_>,
+    site: &Site,
     request: &Request<'_>,
     body: &[u8],
     keeps: bool,
@@ -28,16 +30,16 @@ fn node_reply(
 ) -> Result<Response, AllocError>
     requires { IsInBuffer request.now }
     ensures value { IfOk result (λ response. (head : RequestHead) → HasHead request.now head
-        → response ≡ node_reply policy.now keeps actives.now head body.now) }
+        → response ≡ node_reply site.now policy.now keeps actives.now head body.now) }
     ensures message { IfOk result (λ response. (head : RequestHead) → HasHead request.now head
         → IsNodeMessageFor keeps head response) }
 {
     if request.lacks_host() {
-        return response_to(alloc, request, body, keeps, actives);
+        return response_to(alloc, request, body, keeps, site, actives);
     }
     match name_to_fetch(request) {
         Some(_) => fetch_reply(alloc, policy, keeps, request),
-        None => response_to(alloc, request, body, keeps, actives),
+        None => response_to(alloc, request, body, keeps, site, actives),
     }
 }
 
@@ -47,16 +49,19 @@ fn node_reply_with(
     body: &[u8],
     keeps: bool,
     policy: &FetchPolicy<'_>,
+    site: &Site,
     actives: &[ActiveRelease<'_>],
 ) -> Result<Response, AllocError>
-    ensures value { IfOk result (λ response. IsNodeReply policy.now bytes.now body.now keeps actives.now response) }
-    ensures text { IfOk result (λ response. IsNodeReplyText policy.now bytes.now body.now keeps actives.now response.bytes) }
+    ensures value { IfOk result (λ response.
+        IsNodeReply site.now policy.now bytes.now body.now keeps actives.now response) }
+    ensures text { IfOk result (λ response.
+        IsNodeReplyText site.now policy.now bytes.now body.now keeps actives.now response.bytes) }
     ensures message { IfOk result (λ response. IsNodeMessage bytes.now keeps response) }
     ensures says { IfOk result (λ response. SaysOfConnection bytes.now keeps response) }
 {
     let mut headers = [EMPTY_HEADER_SPAN; FIELD_LIMIT];
     match find_request(bytes, &mut headers) {
-        Some(request) => node_reply(alloc, policy, &request, body, keeps, actives),
+        Some(request) => node_reply(alloc, policy, site, &request, body, keeps, actives),
         None => bad_head_response(alloc, keeps),
     }
 }
@@ -73,20 +78,22 @@ pub fn respond_as_node<K: Keep + Drop>(
     body: &[u8],
     keeps: bool,
     policy: &FetchPolicy<'_>,
+    site: &Site,
     feed: &Feed<K>,
 ) -> Result<Response, AllocError>
     ensures value { IfOk result (λ response.
-        IsNodeReply policy.now bytes.now body.now keeps (actives_of (releases_of feed.now)) response) }
+        IsNodeReply site.now policy.now bytes.now body.now keeps (actives_of (releases_of feed.now)) response) }
     ensures text { IfOk result (λ response.
-        IsNodeReplyText policy.now bytes.now body.now keeps (actives_of (releases_of feed.now)) response.bytes) }
+        IsNodeReplyText site.now policy.now bytes.now body.now keeps (actives_of (releases_of feed.now))
+        response.bytes) }
 
     // For every history that the feed may have: from the releases that it reports, with the holdings of their complete
     // files.
     ensures reported { IfOk result (λ response. (h : History) → IsContent (recorded feed.now) h
-        → IsNodeReplyAt policy.now h bytes.now body.now keeps response) }
+        → IsNodeReplyAt site.now policy.now h bytes.now body.now keeps response) }
     ensures message { IfOk result (λ response. IsNodeMessage bytes.now keeps response) }
     ensures says { IfOk result (λ response. SaysOfConnection bytes.now keeps response) }
 {
     let actives = feed.actives()?;
-    node_reply_with(alloc, bytes, body, keeps, policy, &actives)
+    node_reply_with(alloc, bytes, body, keeps, policy, site, &actives)
 }

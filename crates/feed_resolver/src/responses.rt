@@ -16,11 +16,13 @@ ghost use Rattle.feed_resolver.specs.Answers.{is_of, tally_among};
 ghost use Rattle.feed_resolver.specs.Replies.{IsResponse, IsResponseAt, hits_reply, query_reply, resolve_reply};
 ghost use Rattle.feed_resolver.specs.Replies.{package_reply, redirect_reply, resource_reply, target_reply};
 ghost use Rattle.feed_resolver.specs.Replies.{plain_reply, form_refusal, form_reply, reply_to, response_to};
+ghost use Rattle.feed_resolver.specs.Validators.{final_reply};
 ghost use Rattle.feed_resolver.specs.Messages.{IsMessageTo};
 ghost use Rattle.feed_resolver.specs.Status.{home_page, status_body};
 
 use crate::answers::{put_answer, tally_among};
 use crate::status::{put_home_page, put_status};
+use crate::validators::{preflight_status, tag_to, validated_reply};
 use feed_answer::{Query, QueryFault};
 use feed_http_heads::{FIELD_LIMIT, Request, origin_form};
 use feed_keep::Keep;
@@ -31,6 +33,7 @@ use feed_resolver_request::{
     FormFault, Representation, Resource, accepted_representation, find_request, form_of,
     is_unsupported_method, package_in, path_in, query_in, representation_of, resource_of,
 };
+use feed_resolver_tag::Site;
 use httparse::spans::EMPTY_HEADER_SPAN;
 use std::alloc::{AllocError, Global};
 
@@ -63,7 +66,7 @@ fn resolve_reply(
     }
 }
 
-fn position_of(actives: &[ActiveRelease<'_>], package: &[u8]) -> Option<usize>
+pub(crate) fn position_of(actives: &[ActiveRelease<'_>], package: &[u8]) -> Option<usize>
     ensures { result ≡ position (is_of «package».now) actives.now }
 {
     actives
@@ -253,7 +256,7 @@ fn form_reply<'a>(
     }
 }
 
-fn reply_to<'a>(
+pub(crate) fn reply_to<'a>(
     alloc: Global,
     request: &Request<'_>,
     body: &[u8],
@@ -272,20 +275,40 @@ fn reply_to<'a>(
     }
 }
 
+fn final_reply<'a>(
+    alloc: Global,
+    request: &Request<'_>,
+    body: &[u8],
+    tag: Vec<u8>,
+    max_age: u32,
+    actives: &[ActiveRelease<'a>],
+) -> Result<Reply<'a>, AllocError>
+    requires { IsInBuffer request.now }
+    ensures { IfOk result (λ reply. (head : RequestHead) → HasHead request.now head
+        → reply ≡ final_reply head tag.items max_age (reply_to head body.now actives.now)) }
+{
+    match preflight_status(request) {
+        Some(status) => Ok(Reply::new(status, Representation::Text, Vec::new(alloc))),
+        None => validated_reply(alloc, request, body, tag, max_age, actives),
+    }
+}
+
 pub(crate) fn response_to(
     alloc: Global,
     request: &Request<'_>,
     body: &[u8],
     keeps: bool,
+    site: &Site,
     actives: &[ActiveRelease<'_>],
 ) -> Result<Response, AllocError>
     requires { IsInBuffer request.now }
     ensures value { IfOk result (λ response. (head : RequestHead) → HasHead request.now head
-        → response ≡ response_to keeps head body.now actives.now) }
+        → response ≡ response_to site.now keeps head body.now actives.now) }
     ensures message { IfOk result (λ response. (head : RequestHead) → HasHead request.now head
         → IsMessageFor keeps (is_head head) response) }
 {
-    let reply = reply_to(alloc, request, body, actives)?;
+    let tag = tag_to(alloc, request, site, actives)?;
+    let reply = final_reply(alloc, request, body, tag, site.max_age(), actives)?;
     reply.response(alloc, keeps, request.is_head())
 }
 
@@ -296,15 +319,16 @@ pub fn respond_with(
     bytes: &[u8],
     body: &[u8],
     keeps: bool,
+    site: &Site,
     actives: &[ActiveRelease<'_>],
 ) -> Result<Response, AllocError>
-    ensures value { IfOk result (λ response. IsResponse bytes.now body.now keeps actives.now response) }
+    ensures value { IfOk result (λ response. IsResponse site.now bytes.now body.now keeps actives.now response) }
     ensures message { IfOk result (λ response. IsMessageTo bytes.now keeps response) }
     ensures says { IfOk result (λ response. SaysWhetherItKeeps keeps response.bytes) }
 {
     let mut headers = [EMPTY_HEADER_SPAN; FIELD_LIMIT];
     match find_request(bytes, &mut headers) {
-        Some(request) => response_to(alloc, &request, body, keeps, actives),
+        Some(request) => response_to(alloc, &request, body, keeps, site, actives),
         None => bad_head_response(alloc, keeps),
     }
 }
@@ -322,14 +346,16 @@ pub fn respond<K: Keep + Drop>(
     bytes: &[u8],
     body: &[u8],
     keeps: bool,
+    site: &Site,
     feed: &Feed<K>,
 ) -> Result<Response, AllocError>
-    ensures value { IfOk result (λ response. IsResponse bytes.now body.now keeps (actives_of (releases_of feed.now)) response) }
+    ensures value { IfOk result (λ response.
+        IsResponse site.now bytes.now body.now keeps (actives_of (releases_of feed.now)) response) }
 
     // For every history that the feed may have: from the releases that it reports, with the holdings of their complete
     // files.
     ensures reported { IfOk result (λ response. (h : History) → IsContent (recorded feed.now) h
-        → IsResponseAt h bytes.now body.now keeps response) }
+        → IsResponseAt site.now h bytes.now body.now keeps response) }
 
     // A client parses it as one head, and the body of the length that this states; the reply to a HEAD has no body. The
     // head has one Connection field, `close`, or none if the connection is kept.
@@ -337,5 +363,5 @@ pub fn respond<K: Keep + Drop>(
     ensures says { IfOk result (λ response. SaysWhetherItKeeps keeps response.bytes) }
 {
     let actives = feed.actives()?;
-    respond_with(alloc, bytes, body, keeps, &actives)
+    respond_with(alloc, bytes, body, keeps, site, &actives)
 }

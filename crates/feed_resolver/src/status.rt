@@ -60,7 +60,8 @@ fn put_line(out: &mut Vec<u8>, active: &ActiveRelease<'_>) -> Result<(), AllocEr
     put(out, b"\n")
 }
 
-fn put_lines(out: &mut Vec<u8>, actives: &[ActiveRelease<'_>]) -> Result<(), AllocError>
+/// Writes the active releases, a line for the name of each.
+pub(crate) fn put_lines(out: &mut Vec<u8>, actives: &[ActiveRelease<'_>]) -> Result<(), AllocError>
     ensures { OnOk result (out.new.items ≡ out.old.items ++ flat_map active_line actives.now) }
 {
     for active in actives {

@@ -1,16 +1,18 @@
 -- The head of a reply, as the grammar reads it.
-use Rattle.std.proofs.Common.{◌≡◌, ◌<◌, ◌^◌, ℕ, List, [], ◌∷◌, ◌++◌, length, codes, Some, Bool, true, false, refl, sym, ap, arith, ◌∙◌, append_assoc, reverse, All}
-use Rattle.std.specs.Prelude.{IsTrue, nat_lt, nat_le, if◌then◌else◌, ◌==◌, ◌&&◌, ◌||◌, not}
-use Rattle.std.specs.List.{list_all, flat_map, AllByRecursion}
+use Rattle.std.proofs.Common.{◌≡◌, ◌<◌, ◌^◌, lit<, ℕ, List, [], ◌∷◌, ◌++◌, length, codes, Some, Bool, true, false, refl, sym, ap, arith, ◌∙◌, append_assoc, reverse, All, inl, inr, map}
+use Rattle.std.specs.Prelude.{IsTrue, MatchBool, nat_lt, nat_le, if◌then◌else◌, ◌==◌, ◌&&◌, ◌||◌, not}
+use Rattle.std.specs.List.{list_all, flat_map, filter, AllByRecursion}
 use Rattle.std.specs.Char.{is_ascii_digit}
 use Rattle.std.specs.Fmt.{decimal, digits}
 use Rattle.std.specs.Str.Parse.{digits_value, AllDigits}
 use Rattle.std.proofs.lemmas.Fmt.{decimal_is_IsNumeral}
-use Rattle.std.proofs.lemmas.List.{append-nil, length-append, reverse-append, length-reverse}
-use Rattle.std.proofs.lemmas.List.Elements.{All-append, All-weaker, All-from_recursion, recursion_from_All}
+use Rattle.std.specs.Str.{str_eq_ignore_ascii_case}
+use Rattle.std.proofs.lemmas.List.{append-nil, length-append, reverse-append, length-reverse, map-append}
+use Rattle.std.proofs.lemmas.List.Elements.{All-nil, All-append, All-weaker, All-from_recursion, recursion_from_All, filter-append}
 use Rattle.std.proofs.lemmas.List.Sums.{AllPass-from_list_all}
+use Rattle.std.proofs.lemmas.Bool.{cases_Bool}
 use Rattle.std.proofs.lemmas.Bool.Decides.{nat_tests}
-use Rattle.httparse.specs.Grammar.{AllPass, ResponseHead, IsResponseHead, print_response, Field, IsField, crlf, print_field, trim_ows, skip_ows, is_ows, is_value_byte, is_token_byte, is_uri_byte}
+use Rattle.httparse.specs.Grammar.{AllPass, ResponseHead, IsResponseHead, print_response, Field, IsField, field_value, crlf, print_field, trim_ows, skip_ows, is_ows, is_value_byte, is_token_byte, is_uri_byte}
 use Rattle.httparse.specs.Grammar as grammar
 use Rattle.httparse.proofs.OnLiterals.{httparse_on_literals}
 use Rattle.httparse.proofs.TrimLemmas.{trim_ows_space, AllPass-reverse}
@@ -19,11 +21,12 @@ use Rattle.feed_http_heads.specs.Fields.{values_named, only}
 use Rattle.feed_http_heads.specs.Options.{lists, lacks_close, SaysWhetherItKeeps}
 use Rattle.feed_resolver_request.specs.declared.representation.Representation.{Representation}
 use Rattle.feed_resolver_request.specs.declared.representation.Representation.TheVariants.{Text, Json, Html}
-use Rattle.feed_resolver_reply.specs.Replies.{ReplyValue, ResponseValue, status_code, reason_text, status_line, status_field, type_text, connection_field, reply_head, reply_body, response_of}
-use Rattle.feed_resolver_reply.specs.Messages.{EndsInCrlf, IsSentHead, IsMessage, IsHeadOf, IsSentAs, IsSendable, StatesLength, IsMessageFor, BeginsStream, value_in, locations}
+use Rattle.feed_resolver_reply.specs.Replies.{ReplyValue, ResponseValue, status_code, reason_text, status_line, status_field, type_text, is_bodiless, connection_field, reply_head, reply_body, response_of}
+use Rattle.feed_resolver_reply.specs.Laws.{NotModifiedIsHeadOfGood}
+use Rattle.feed_resolver_reply.specs.Replies.{with_tag, not_modified, content_fields, tag_field, cache_field, policy_field, last_fields}
+use Rattle.feed_resolver_reply.specs.Messages.{EndsInCrlf, IsSentHead, IsMessage, IsHeadOf, IsSentAs, IsSendable, StatesLength, StatesBody, IsMessageFor, BeginsStream, locations, unless_bodiless, tags, cache_text}
 use Rattle.feed_resolver_reply.specs.Messages.{StatesConnection, connection_values}
 use Rattle.feed_resolver_reply.specs.Pieces.{joined}
-use Rattle.feed_resolver_reply.specs.declared.reply.TheConstants.{LAST_FIELDS}
 use Rattle.feed_resolver_reply.specs.FetchReplies.{progress_head, progress_response}
 use Rattle.feed_resolver_reply.specs.declared.status.Status.{Status}
 use Rattle.feed_resolver_reply.specs.declared.status.Status.TheVariants as status
@@ -62,8 +65,16 @@ lines_printed (p ∷ ps) rest =
     ap (λ t. 13 ∷ 10 ∷ t) (append_assoc (print_field (field p.0 p.1)) (flat_map print_field (fields_of ps)) rest ∙ field_then p.0 p.1 (flat_map print_field (fields_of ps) ++ rest))
     ∙ ap (λ t. 13 ∷ 10 ∷ (p.0 ++ (58 ∷ 32 ∷ (p.1 ++ t)))) (lines_printed ps rest)
 
--- the field that a status asks for
+-- the fields of a preflight
+abbrev preflight_pairs : List ℕ → Pairs
+preflight_pairs methods =
+    (codes "Allow", methods) ∷ (codes "Access-Control-Allow-Methods", methods) ∷ (codes "Access-Control-Allow-Headers", codes "If-None-Match") ∷
+    (codes "Access-Control-Max-Age", codes "86400") ∷ []
+
+-- the fields that a status asks for
 abbrev status_pairs : Status → List ℕ → Pairs
+status_pairs status.Preflight location = preflight_pairs (codes "GET, HEAD")
+status_pairs status.QueryPreflight location = preflight_pairs (codes "GET, HEAD, POST")
 status_pairs status.Found location = (codes "Location", location) ∷ []
 status_pairs status.MethodNotAllowed location = (codes "Allow", codes "GET, HEAD") ∷ []
 status_pairs status.PostOnly location = (codes "Allow", codes "POST") ∷ []
@@ -76,13 +87,33 @@ abbrev connection_pairs : Bool → Pairs
 connection_pairs true = []
 connection_pairs false = (codes "Connection", codes "close") ∷ []
 
-abbrev common_pairs : Bool → List ℕ → List ℕ → Pairs
-common_pairs keeps media count =
-    (codes "Content-Type", media) ∷ (codes "Content-Length", count) ∷ (codes "Vary", codes "Accept") ∷ (codes "X-Content-Type-Options", codes "nosniff") ∷
-    connection_pairs keeps
+abbrev content_pairs : Bool → List ℕ → List ℕ → Pairs
+content_pairs true media count = []
+content_pairs false media count = (codes "Content-Type", media) ∷ (codes "Content-Length", count) ∷ []
+
+abbrev tag_pairs : List ℕ → Pairs
+tag_pairs [] = []
+tag_pairs (b ∷ tag) = (codes "ETag", b ∷ tag) ∷ []
+
+abbrev cache_pairs : ℕ → Pairs
+cache_pairs max_age = (codes "Cache-Control", cache_text max_age) ∷ []
+
+abbrev policy_pairs : Representation → Pairs
+policy_pairs Text = (codes "Access-Control-Allow-Origin", codes "*") ∷ []
+policy_pairs Json = (codes "Access-Control-Allow-Origin", codes "*") ∷ []
+policy_pairs Html = (codes "Content-Security-Policy", codes "default-src 'none'; style-src 'unsafe-inline'; form-action 'self'; base-uri 'none'") ∷ []
+
+abbrev last_pairs : Bool → Representation → Pairs
+last_pairs keeps representation =
+    (codes "Vary", codes "Accept") ∷ (codes "X-Content-Type-Options", codes "nosniff") ∷ (codes "Referrer-Policy", codes "no-referrer") ∷
+    (policy_pairs representation ++ connection_pairs keeps)
+
+abbrev content_of : ReplyValue → Pairs
+content_of reply = content_pairs (is_bodiless (status_code reply.status)) (type_text reply.representation) (decimal (length reply.body))
 
 abbrev pairs_of : Bool → ReplyValue → Pairs
-pairs_of keeps reply = status_pairs reply.status reply.location ++ common_pairs keeps (type_text reply.representation) (decimal (length reply.body))
+pairs_of keeps reply =
+    status_pairs reply.status reply.location ++ (content_of reply ++ (tag_pairs reply.tag ++ (cache_pairs reply.max_age ++ last_pairs keeps reply.representation)))
 
 abbrev pub head_of : Bool → ReplyValue → ResponseHead
 head_of keeps reply = record {
@@ -97,7 +128,10 @@ head_of keeps reply = record {
 
 status_written : (code : Status) (location rest : List ℕ) → status_field code location ++ rest ≡ lines (status_pairs code location) rest
 status_written status.Good location rest = refl
+status_written status.Preflight location rest = refl
+status_written status.QueryPreflight location rest = refl
 status_written status.Found location rest = simp append-nil refl
+status_written status.NotModified location rest = refl
 status_written status.BadRequest location rest = refl
 status_written status.Unauthorized location rest = refl
 status_written status.NotFound location rest = refl
@@ -105,9 +139,9 @@ status_written status.MethodNotAllowed location rest = refl
 status_written status.PostOnly location rest = refl
 status_written status.GetOrPost location rest = refl
 status_written status.Conflict location rest = refl
-status_written status.UriTooLong location rest = refl
 status_written status.LengthRequired location rest = refl
 status_written status.ContentTooLarge location rest = refl
+status_written status.UriTooLong location rest = refl
 status_written status.UnsupportedMediaType location rest = refl
 status_written status.NotImplemented location rest = refl
 
@@ -115,22 +149,52 @@ status_written status.NotImplemented location rest = refl
 start_printed : (keeps : Bool) (reply : ReplyValue)
     → print_response (head_of keeps reply) ≡ status_line reply.status ++ (13 ∷ 10 ∷ (flat_map print_field (fields_of (pairs_of keeps reply)) ++ (13 ∷ 10 ∷ [])))
 unfolding print_response
-start_printed keeps reply = simp (append_assoc, append-nil) refl
+start_printed keeps reply = simp append_assoc refl
 
--- the fields that each head has
-common_written : (keeps : Bool) (media count : List ℕ) → lines (common_pairs keeps media count) (13 ∷ 10 ∷ 13 ∷ 10 ∷ [])
-    ≡ joined (codes "\r\nContent-Type: " ∷ media ∷ codes "\r\nContent-Length: " ∷ count ∷ LAST_FIELDS.now ∷ connection_field keeps ∷ codes "\r\n\r\n" ∷ [])
-common_written true media count = refl
-common_written false media count = refl
+content_written : (bodiless : Bool) (representation : Representation) (size : ℕ) (rest : List ℕ)
+    → content_fields bodiless representation size ++ rest ≡ lines (content_pairs bodiless (type_text representation) (decimal size)) rest
+content_written true representation size rest = refl
+content_written false representation size rest = simp (append_assoc, append-nil) refl
+
+tag_written : (tag rest : List ℕ) → tag_field tag ++ rest ≡ lines (tag_pairs tag) rest
+tag_written [] rest = refl
+tag_written (b ∷ tag) rest = ap (λ t. codes "\r\nETag: " ++ (b ∷ (t ++ rest))) (append-nil tag)
+
+cache_written : (max_age : ℕ) (rest : List ℕ) → cache_field max_age ++ rest ≡ lines (cache_pairs max_age) rest
+cache_written max_age rest = elim (cases_Bool (max_age == 0)) [
+  | inl e ↦ rw e refl
+  | inr e ↦ rw e (simp append-nil refl)
+]
+
+last_written : (keeps : Bool) (representation : Representation) → last_fields keeps representation ≡ lines (last_pairs keeps representation) (13 ∷ 10 ∷ 13 ∷ 10 ∷ [])
+last_written true Text = refl
+last_written true Json = refl
+last_written true Html = refl
+last_written false Text = refl
+last_written false Json = refl
+last_written false Html = refl
+
+-- lines in five steps
+five_lines : (a b c d e : Pairs) (rest : List ℕ) → lines (a ++ (b ++ (c ++ (d ++ e)))) rest ≡ lines a (lines b (lines c (lines d (lines e rest))))
+five_lines a b c d e rest = lines-append a (b ++ (c ++ (d ++ e))) rest
+    ∙ ap (lines a) (lines-append b (c ++ (d ++ e)) rest ∙ ap (lines b) (lines-append c (d ++ e) rest ∙ ap (lines c) (lines-append d e rest)))
 
 pub head_printed : (keeps : Bool) (reply : ReplyValue) → print_response (head_of keeps reply) ≡ reply_head keeps reply
 unfolding reply_head
 head_printed keeps reply =
-    let common = common_pairs keeps (type_text reply.representation) (decimal (length reply.body)) in
+    let end : List ℕ = 13 ∷ 10 ∷ 13 ∷ 10 ∷ [] in
+    let last : last_fields keeps reply.representation ≡ lines (last_pairs keeps reply.representation) end = last_written keeps reply.representation in
+    let cached = cache_written reply.max_age (lines (last_pairs keeps reply.representation) end) in
+    let tagged = tag_written reply.tag (lines (cache_pairs reply.max_age) (lines (last_pairs keeps reply.representation) end)) in
+    let content = content_written (is_bodiless (status_code reply.status)) reply.representation (length reply.body)
+    (lines (tag_pairs reply.tag) (lines (cache_pairs reply.max_age) (lines (last_pairs keeps reply.representation) end))) in
     start_printed keeps reply
-    ∙ ap (λ t. status_line reply.status ++ t) (lines_printed (pairs_of keeps reply) (13 ∷ 10 ∷ []) ∙ lines-append (status_pairs reply.status reply.location) common (13 ∷ 10 ∷ 13 ∷ 10 ∷ [])
-    ∙ sym (status_written reply.status reply.location (lines common (13 ∷ 10 ∷ 13 ∷ 10 ∷ [])))
-    ∙ ap (λ t. status_field reply.status reply.location ++ t) (common_written keeps (type_text reply.representation) (decimal (length reply.body))))
+    ∙ ap (λ t. status_line reply.status ++ t) (lines_printed (pairs_of keeps reply) (13 ∷ 10 ∷ [])
+    ∙ five_lines (status_pairs reply.status reply.location) (content_of reply) (tag_pairs reply.tag) (cache_pairs reply.max_age) (last_pairs keeps reply.representation) end
+    ∙ sym (status_written reply.status reply.location (lines (content_of reply) (lines (tag_pairs reply.tag) (lines (cache_pairs reply.max_age) (lines (last_pairs keeps reply.representation) end)))))
+    ∙ ap (λ t. status_field reply.status reply.location ++ t) (sym content
+    ∙ ap (λ t. content_fields (is_bodiless (status_code reply.status)) reply.representation (length reply.body) ++ t) (sym tagged
+    ∙ ap (λ t. tag_field reply.tag ++ t) (sym cached ∙ ap (λ t. cache_field reply.max_age ++ t) (sym last)))))
 
 -- ---- each part is of its class
 
@@ -152,7 +216,10 @@ status_digits : (code : Status) → (length (decimal (status_code code)) ≡ 3) 
     × (digits_value 10 (decimal (status_code code)) ≡ status_code code) × (list_all is_value_byte (reason_text code) ≡ true)
 unfolding digits httparse_on_literals
 status_digits status.Good = (refl, refl, refl, refl)
+status_digits status.Preflight = (refl, refl, refl, refl)
+status_digits status.QueryPreflight = (refl, refl, refl, refl)
 status_digits status.Found = (refl, refl, refl, refl)
+status_digits status.NotModified = (refl, refl, refl, refl)
 status_digits status.BadRequest = (refl, refl, refl, refl)
 status_digits status.Unauthorized = (refl, refl, refl, refl)
 status_digits status.NotFound = (refl, refl, refl, refl)
@@ -160,9 +227,9 @@ status_digits status.MethodNotAllowed = (refl, refl, refl, refl)
 status_digits status.PostOnly = (refl, refl, refl, refl)
 status_digits status.GetOrPost = (refl, refl, refl, refl)
 status_digits status.Conflict = (refl, refl, refl, refl)
-status_digits status.UriTooLong = (refl, refl, refl, refl)
 status_digits status.LengthRequired = (refl, refl, refl, refl)
 status_digits status.ContentTooLarge = (refl, refl, refl, refl)
+status_digits status.UriTooLong = (refl, refl, refl, refl)
 status_digits status.UnsupportedMediaType = (refl, refl, refl, refl)
 status_digits status.NotImplemented = (refl, refl, refl, refl)
 
@@ -176,61 +243,50 @@ visible_field name value some token passes = record {
       (All-weaker (λ b. is_uri_byte b ≡ true) (λ b. is_value_byte b ≡ true) visible_passes value passes);
 }
 
+-- names and values that are literals
+abbrev are_literals : Pairs → Bool
+are_literals [] = true
+are_literals (p ∷ ps) = nat_lt 0 (length p.0) && (list_all is_token_byte p.0 && (list_all is_value_byte (32 ∷ p.1) && are_literals ps))
+
+literals_valid : (ps : Pairs) → are_literals ps ≡ true → All IsField (fields_of ps)
+literals_valid ps are = All-from_recursion IsField (fields_of ps) (each ps are)
+  where
+    and_true : (a b : Bool) → (a && b) ≡ true → (a ≡ true) × (b ≡ true)
+    and_true true b e = (refl, e)
+    and_true false b e = absurd (cc)
+
+    each : (ps : Pairs) → are_literals ps ≡ true → AllByRecursion IsField (fields_of ps)
+    each [] are = tt
+    each (p ∷ ps) are =
+        let one = and_true (nat_lt 0 (length p.0)) _ are in
+        let two = and_true (list_all is_token_byte p.0) _ one.1 in
+        let three = and_true (list_all is_value_byte (32 ∷ p.1)) _ two.1 in
+        (literal_field p.0 p.1 (grind (arith, nat_tests)) two.0 three.0, each ps three.1)
+
 status_valid : (code : Status) (location : List ℕ) → AllPass is_uri_byte location → All IsField (fields_of (status_pairs code location))
 unfolding httparse_on_literals
-status_valid status.Good location passes = All-from_recursion IsField [] tt
+status_valid status.Good location passes = literals_valid (status_pairs status.Good location) refl
+status_valid status.Preflight location passes = literals_valid (status_pairs status.Preflight location) refl
+status_valid status.QueryPreflight location passes = literals_valid (status_pairs status.QueryPreflight location) refl
 status_valid status.Found location passes = All-from_recursion IsField (field (codes "Location") location ∷ []) (visible_field (codes "Location") location (omega arith) refl passes, tt)
-status_valid status.BadRequest location passes = All-from_recursion IsField [] tt
-status_valid status.Unauthorized location passes =
-    All-from_recursion IsField (field (codes "WWW-Authenticate") (codes "Bearer") ∷ []) (literal_field (codes "WWW-Authenticate") (codes "Bearer") (omega arith) refl refl, tt)
-status_valid status.NotFound location passes = All-from_recursion IsField [] tt
-status_valid status.MethodNotAllowed location passes =
-    All-from_recursion IsField (field (codes "Allow") (codes "GET, HEAD") ∷ []) (literal_field (codes "Allow") (codes "GET, HEAD") (omega arith) refl refl, tt)
-status_valid status.PostOnly location passes =
-    All-from_recursion IsField (field (codes "Allow") (codes "POST") ∷ []) (literal_field (codes "Allow") (codes "POST") (omega arith) refl refl, tt)
-status_valid status.GetOrPost location passes =
-    All-from_recursion IsField (field (codes "Allow") (codes "GET, HEAD, POST") ∷ []) (literal_field (codes "Allow") (codes "GET, HEAD, POST") (omega arith) refl refl, tt)
-status_valid status.Conflict location passes = All-from_recursion IsField [] tt
-status_valid status.UriTooLong location passes = All-from_recursion IsField [] tt
-status_valid status.LengthRequired location passes = All-from_recursion IsField [] tt
-status_valid status.ContentTooLarge location passes = All-from_recursion IsField [] tt
-status_valid status.UnsupportedMediaType location passes = All-from_recursion IsField [] tt
-status_valid status.NotImplemented location passes = All-from_recursion IsField [] tt
+status_valid status.NotModified location passes = literals_valid (status_pairs status.NotModified location) refl
+status_valid status.BadRequest location passes = literals_valid (status_pairs status.BadRequest location) refl
+status_valid status.Unauthorized location passes = literals_valid (status_pairs status.Unauthorized location) refl
+status_valid status.NotFound location passes = literals_valid (status_pairs status.NotFound location) refl
+status_valid status.MethodNotAllowed location passes = literals_valid (status_pairs status.MethodNotAllowed location) refl
+status_valid status.PostOnly location passes = literals_valid (status_pairs status.PostOnly location) refl
+status_valid status.GetOrPost location passes = literals_valid (status_pairs status.GetOrPost location) refl
+status_valid status.Conflict location passes = literals_valid (status_pairs status.Conflict location) refl
+status_valid status.LengthRequired location passes = literals_valid (status_pairs status.LengthRequired location) refl
+status_valid status.ContentTooLarge location passes = literals_valid (status_pairs status.ContentTooLarge location) refl
+status_valid status.UriTooLong location passes = literals_valid (status_pairs status.UriTooLong location) refl
+status_valid status.UnsupportedMediaType location passes = literals_valid (status_pairs status.UnsupportedMediaType location) refl
+status_valid status.NotImplemented location passes = literals_valid (status_pairs status.NotImplemented location) refl
 
 media_passes : (representation : Representation) → list_all is_value_byte (32 ∷ type_text representation) ≡ true
 media_passes Text = refl
 media_passes Json = refl
 media_passes Html = refl
-
-connection_valid : (keeps : Bool) → AllByRecursion IsField (fields_of (connection_pairs keeps))
-unfolding httparse_on_literals
-connection_valid true = tt
-connection_valid false = (literal_field (codes "Connection") (codes "close") (omega arith) refl refl, tt)
-
-common_valid : (keeps : Bool) (representation : Representation) (count : List ℕ) → AllPass is_uri_byte count
-    → All IsField (fields_of (common_pairs keeps (type_text representation) count))
-unfolding httparse_on_literals
-common_valid keeps representation count passes = All-from_recursion IsField (fields_of (common_pairs keeps (type_text representation) count)) (
-  literal_field (codes "Content-Type") (type_text representation) (omega arith) refl (media_passes representation),
-  (
-    visible_field (codes "Content-Length") count (omega arith) refl passes,
-    (
-      literal_field (codes "Vary") (codes "Accept") (omega arith) refl refl,
-      (
-        literal_field (codes "X-Content-Type-Options") (codes "nosniff") (omega arith) refl refl,
-        connection_valid keeps,
-      ),
-    ),
-  ),
-)
-
-fields_valid : (keeps : Bool) (reply : ReplyValue) → AllPass is_uri_byte reply.location → AllPass is_uri_byte (decimal (length reply.body))
-    → All IsField (fields_of (pairs_of keeps reply))
-fields_valid keeps reply location count =
-    let common = common_pairs keeps (type_text reply.representation) (decimal (length reply.body)) in
-    rw (fields_of-append (status_pairs reply.status reply.location) common)
-    (All-append IsField (fields_of (status_pairs reply.status reply.location)) (fields_of common) (status_valid reply.status reply.location location) (common_valid keeps reply.representation
-    (decimal (length reply.body)) count))
 
 -- the digits of a length
 digits_pass : (n : ℕ) → n < 2 ^ 64 → AllPass is_uri_byte (decimal n)
@@ -239,13 +295,64 @@ digits_pass n small = All-weaker IsDigit (λ b. is_uri_byte b ≡ true) digit_vi
     all_digits : (n : ℕ) → n < 2 ^ 64 → AllPass is_ascii_digit (decimal n)
     all_digits n small = AllPass-from_list_all is_ascii_digit (decimal n) (numerals.from (decimal n) (decimal_is_IsNumeral n small).0.1)
 
+content_valid : (bodiless : Bool) (representation : Representation) (body : List ℕ) → length (if bodiless then [] else body) < 2 ^ 64
+    → All IsField (fields_of (content_pairs bodiless (type_text representation) (decimal (length body))))
+unfolding httparse_on_literals
+content_valid true representation body small = All-from_recursion IsField [] tt
+content_valid false representation body small = All-from_recursion IsField (fields_of (content_pairs false (type_text representation) (decimal (length body)))) (
+  literal_field (codes "Content-Type") (type_text representation) (omega arith) refl (media_passes representation),
+  (visible_field (codes "Content-Length") (decimal (length body)) (omega arith) refl (digits_pass (length body) small), tt),
+)
+
+tag_valid : (tag : List ℕ) → AllPass is_uri_byte tag → All IsField (fields_of (tag_pairs tag))
+unfolding httparse_on_literals
+tag_valid [] passes = All-from_recursion IsField [] tt
+tag_valid (b ∷ tag) passes = All-from_recursion IsField (fields_of (tag_pairs (b ∷ tag))) (visible_field (codes "ETag") (b ∷ tag) (omega arith) refl passes, tt)
+
+-- what a reply tells a cache is visible
+cache_passes : (max_age : ℕ) → max_age < 2 ^ 64 → AllPass is_uri_byte (cache_text max_age)
+cache_passes max_age small = elim (cases_Bool (max_age == 0)) [
+  | inl e ↦ rw e (AllPass-from_list_all is_uri_byte (codes "no-cache") refl)
+  | inr e ↦ rw e (All-append (λ b. is_uri_byte b ≡ true) (codes "max-age=") (decimal max_age ++ []) (AllPass-from_list_all is_uri_byte (codes "max-age=") refl)
+      (rw (append-nil (decimal max_age)) (digits_pass max_age small)))
+]
+
+cache_valid : (max_age : ℕ) → max_age < 2 ^ 64 → All IsField (fields_of (cache_pairs max_age))
+unfolding httparse_on_literals
+cache_valid max_age small = All-from_recursion IsField (fields_of (cache_pairs max_age))
+    (visible_field (codes "Cache-Control") (cache_text max_age) (omega arith) refl (cache_passes max_age small), tt)
+
+last_valid : (keeps : Bool) (representation : Representation) → All IsField (fields_of (last_pairs keeps representation))
+unfolding httparse_on_literals
+last_valid true Text = literals_valid (last_pairs true Text) refl
+last_valid true Json = literals_valid (last_pairs true Json) refl
+last_valid true Html = literals_valid (last_pairs true Html) refl
+last_valid false Text = literals_valid (last_pairs false Text) refl
+last_valid false Json = literals_valid (last_pairs false Json) refl
+last_valid false Html = literals_valid (last_pairs false Html) refl
+
+-- two lists of valid fields
+both_valid : (ps qs : Pairs) → All IsField (fields_of ps) → All IsField (fields_of qs) → All IsField (fields_of (ps ++ qs))
+both_valid ps qs one other = rw (fields_of-append ps qs) (All-append IsField (fields_of ps) (fields_of qs) one other)
+
+fields_valid : (keeps : Bool) (reply : ReplyValue) → IsSendable reply → All IsField (fields_of (pairs_of keeps reply))
+fields_valid keeps reply sendable =
+    let last = last_pairs keeps reply.representation in
+    let cached = cache_pairs reply.max_age ++ last in
+    let tagged = tag_pairs reply.tag ++ cached in
+    both_valid (status_pairs reply.status reply.location) (content_of reply ++ tagged) (status_valid reply.status reply.location sendable.location)
+    (both_valid (content_of reply) tagged
+    (content_valid (is_bodiless (status_code reply.status)) reply.representation reply.body sendable.size)
+    (both_valid (tag_pairs reply.tag) cached (tag_valid reply.tag sendable.tag)
+    (both_valid (cache_pairs reply.max_age) last (cache_valid reply.max_age sendable.age) (last_valid keeps reply.representation))))
+
 head_valid : (keeps : Bool) (reply : ReplyValue) → IsSendable reply → IsResponseHead (head_of keeps reply)
 head_valid keeps reply sendable = let right = status_digits reply.status in
     record {
       minor = omega arith;
       digits = (right.0, AllPass-from_list_all is_ascii_digit (decimal (status_code reply.status)) right.1);
       reason = AllPass-from_list_all is_value_byte (reason_text reply.status) right.3;
-      fields = fields_valid keeps reply sendable.location (digits_pass (length reply.body) sendable.size);
+      fields = fields_valid keeps reply sendable;
     }
 
 in_crlf : (ps : Pairs) → All EndsInCrlf (fields_of ps)
@@ -280,59 +387,115 @@ close_trimmed : trim_ows (32 ∷ codes "close") ≡ codes "close"
 unfolding httparse_on_literals
 close_trimmed = refl
 
+-- the values of the fields of a name
+abbrev values : List ℕ → Pairs → List (List ℕ)
+values name ps = values_named name (fields_of ps)
+
+values-append : (name : List ℕ) (ps qs : Pairs) → values name (ps ++ qs) ≡ values name ps ++ values name qs
+values-append name ps qs =
+    ap (values_named name) (fields_of-append ps qs)
+    ∙ ap (λ fs. map field_value fs) (filter-append (λ (f : Field). str_eq_ignore_ascii_case f.name name) (fields_of ps) (fields_of qs))
+    ∙ map-append field_value (filter (λ (f : Field). str_eq_ignore_ascii_case f.name name) (fields_of ps)) (filter (λ (f : Field). str_eq_ignore_ascii_case f.name name) (fields_of qs))
+
 -- one text, or none if the connection is kept
 abbrev unless_kept : Bool → List ℕ → List (List ℕ)
 unless_kept keeps text = if keeps then [] else text ∷ []
 
--- the fields of the head, by name
-abbrev AreStated : Bool → ReplyValue → List (List ℕ) → Type 0
-AreStated keeps reply locations =
-    (value_in (head_of keeps reply) (codes "content-length") ≡ Some (trim_ows (32 ∷ decimal (length reply.body))))
-    × (value_in (head_of keeps reply) (codes "content-type") ≡ Some (trim_ows (32 ∷ type_text reply.representation)))
-    × (values_named (codes "location") (head_of keeps reply).fields ≡ locations)
-    × (values_named (codes "connection") (head_of keeps reply).fields ≡ unless_kept keeps (trim_ows (32 ∷ codes "close")))
+-- the values of the fields that a head states: the length, the media type, the tag, what a cache may do, what the reply
+-- depends on, the location and the connection
+abbrev AreValues : Pairs → List (List ℕ) → List (List ℕ) → List (List ℕ) → List (List ℕ) → List (List ℕ) → List (List ℕ) → List (List ℕ) → Type 0
+AreValues ps sizes media tagged caching varies located connections =
+    (values (codes "content-length") ps ≡ sizes) × (values (codes "content-type") ps ≡ media) × (values (codes "etag") ps ≡ tagged)
+    × (values (codes "cache-control") ps ≡ caching) × (values (codes "vary") ps ≡ varies) × (values (codes "location") ps ≡ located)
+    × (values (codes "connection") ps ≡ connections)
 
-abbrev with_status : Status → ReplyValue → ReplyValue
-with_status code reply = record { status = code; location = reply.location; representation = reply.representation; body = reply.body }
+status_values : (code : Status) (location : List ℕ) → AreValues (status_pairs code location) [] [] [] [] [] (locations code (trim_ows (32 ∷ location))) []
+status_values status.Good location = (refl, refl, refl, refl, refl, refl, refl)
+status_values status.Preflight location = (refl, refl, refl, refl, refl, refl, refl)
+status_values status.QueryPreflight location = (refl, refl, refl, refl, refl, refl, refl)
+status_values status.Found location = (refl, refl, refl, refl, refl, refl, refl)
+status_values status.NotModified location = (refl, refl, refl, refl, refl, refl, refl)
+status_values status.BadRequest location = (refl, refl, refl, refl, refl, refl, refl)
+status_values status.Unauthorized location = (refl, refl, refl, refl, refl, refl, refl)
+status_values status.NotFound location = (refl, refl, refl, refl, refl, refl, refl)
+status_values status.MethodNotAllowed location = (refl, refl, refl, refl, refl, refl, refl)
+status_values status.PostOnly location = (refl, refl, refl, refl, refl, refl, refl)
+status_values status.GetOrPost location = (refl, refl, refl, refl, refl, refl, refl)
+status_values status.Conflict location = (refl, refl, refl, refl, refl, refl, refl)
+status_values status.LengthRequired location = (refl, refl, refl, refl, refl, refl, refl)
+status_values status.ContentTooLarge location = (refl, refl, refl, refl, refl, refl, refl)
+status_values status.UriTooLong location = (refl, refl, refl, refl, refl, refl, refl)
+status_values status.UnsupportedMediaType location = (refl, refl, refl, refl, refl, refl, refl)
+status_values status.NotImplemented location = (refl, refl, refl, refl, refl, refl, refl)
 
-stated : (keeps : Bool) (code : Status) (reply : ReplyValue) → AreStated keeps (with_status code reply) (locations code (trim_ows (32 ∷ reply.location)))
-stated true status.Good reply = (refl, refl, refl, refl)
-stated true status.Found reply = (refl, refl, refl, refl)
-stated true status.BadRequest reply = (refl, refl, refl, refl)
-stated true status.Unauthorized reply = (refl, refl, refl, refl)
-stated true status.NotFound reply = (refl, refl, refl, refl)
-stated true status.MethodNotAllowed reply = (refl, refl, refl, refl)
-stated true status.PostOnly reply = (refl, refl, refl, refl)
-stated true status.GetOrPost reply = (refl, refl, refl, refl)
-stated true status.Conflict reply = (refl, refl, refl, refl)
-stated true status.UriTooLong reply = (refl, refl, refl, refl)
-stated true status.LengthRequired reply = (refl, refl, refl, refl)
-stated true status.ContentTooLarge reply = (refl, refl, refl, refl)
-stated true status.UnsupportedMediaType reply = (refl, refl, refl, refl)
-stated true status.NotImplemented reply = (refl, refl, refl, refl)
-stated false status.Good reply = (refl, refl, refl, refl)
-stated false status.Found reply = (refl, refl, refl, refl)
-stated false status.BadRequest reply = (refl, refl, refl, refl)
-stated false status.Unauthorized reply = (refl, refl, refl, refl)
-stated false status.NotFound reply = (refl, refl, refl, refl)
-stated false status.MethodNotAllowed reply = (refl, refl, refl, refl)
-stated false status.PostOnly reply = (refl, refl, refl, refl)
-stated false status.GetOrPost reply = (refl, refl, refl, refl)
-stated false status.Conflict reply = (refl, refl, refl, refl)
-stated false status.UriTooLong reply = (refl, refl, refl, refl)
-stated false status.LengthRequired reply = (refl, refl, refl, refl)
-stated false status.ContentTooLarge reply = (refl, refl, refl, refl)
-stated false status.UnsupportedMediaType reply = (refl, refl, refl, refl)
-stated false status.NotImplemented reply = (refl, refl, refl, refl)
+-- one value, or none
+abbrev unless : Bool → List ℕ → List (List ℕ)
+unless b text = if b then [] else text ∷ []
+
+content_values : (bodiless : Bool) (media count : List ℕ)
+    → AreValues (content_pairs bodiless media count) (unless bodiless (trim_ows (32 ∷ count))) (unless bodiless (trim_ows (32 ∷ media))) [] [] [] [] []
+content_values true media count = (refl, refl, refl, refl, refl, refl, refl)
+content_values false media count = (refl, refl, refl, refl, refl, refl, refl)
+
+-- the stated length
+length_trimmed : (bodiless : Bool) (body : List ℕ) → length (if bodiless then [] else body) < 2 ^ 64
+    → unless bodiless (trim_ows (32 ∷ decimal (length body))) ≡ unless bodiless (decimal (length body))
+length_trimmed true body small = refl
+length_trimmed false body small = ap (unless false) (trimmed (decimal (length body)) (digits_pass (length body) small))
+
+tag_values : (tag : List ℕ) → AllPass is_uri_byte tag → AreValues (tag_pairs tag) [] [] (tags tag) [] [] [] []
+tag_values [] passes = (refl, refl, refl, refl, refl, refl, refl)
+tag_values (b ∷ tag) passes = (refl, refl, ap (λ (t : List ℕ). t ∷ []) (trimmed (b ∷ tag) passes), refl, refl, refl, refl)
+
+cache_values : (max_age : ℕ) → max_age < 2 ^ 64 → AreValues (cache_pairs max_age) [] [] [] (cache_text max_age ∷ []) [] [] []
+cache_values max_age small = (refl, refl, refl, ap (λ (t : List ℕ). t ∷ []) (trimmed (cache_text max_age) (cache_passes max_age small)), refl, refl, refl)
+
+accept_trimmed : trim_ows (32 ∷ codes "Accept") ≡ codes "Accept"
+unfolding httparse_on_literals
+accept_trimmed = refl
+
+last_values : (keeps : Bool) (representation : Representation)
+    → AreValues (last_pairs keeps representation) [] [] [] [] (codes "Accept" ∷ []) [] (unless_kept keeps (trim_ows (32 ∷ codes "close")))
+last_values true Text = (refl, refl, refl, refl, ap (λ (t : List ℕ). t ∷ []) accept_trimmed, refl, refl)
+last_values true Json = (refl, refl, refl, refl, ap (λ (t : List ℕ). t ∷ []) accept_trimmed, refl, refl)
+last_values true Html = (refl, refl, refl, refl, ap (λ (t : List ℕ). t ∷ []) accept_trimmed, refl, refl)
+last_values false Text = (refl, refl, refl, refl, ap (λ (t : List ℕ). t ∷ []) accept_trimmed, refl, refl)
+last_values false Json = (refl, refl, refl, refl, ap (λ (t : List ℕ). t ∷ []) accept_trimmed, refl, refl)
+last_values false Html = (refl, refl, refl, refl, ap (λ (t : List ℕ). t ∷ []) accept_trimmed, refl, refl)
+
+-- the values of the five parts of a head
+parts_values : (name : List ℕ) (a b c d e : Pairs) (va vb vc vd ve : List (List ℕ))
+    → values name a ≡ va → values name b ≡ vb → values name c ≡ vc → values name d ≡ vd → values name e ≡ ve
+    → values name (a ++ (b ++ (c ++ (d ++ e)))) ≡ va ++ (vb ++ (vc ++ (vd ++ ve)))
+parts_values name a b c d e va vb vc vd ve one two three four five =
+    values-append name a (b ++ (c ++ (d ++ e)))
+    ∙ ap (λ t. values name a ++ t) (values-append name b (c ++ (d ++ e))
+    ∙ ap (λ t. values name b ++ t) (values-append name c (d ++ e) ∙ ap (λ t. values name c ++ t) (values-append name d e)))
+    ∙ rw (one, two, three, four, five) refl
 
 head_states : (keeps : Bool) (reply : ReplyValue) → IsSendable reply → IsHeadOf keeps reply (head_of keeps reply)
-head_states keeps reply sendable = let facts = stated keeps reply.status reply in
+head_states keeps reply sendable =
+    let bodiless : Bool = is_bodiless (status_code reply.status) in
+    let a : Pairs = status_pairs reply.status reply.location in
+    let b : Pairs = content_of reply in
+    let c : Pairs = tag_pairs reply.tag in
+    let d : Pairs = cache_pairs reply.max_age in
+    let e : Pairs = last_pairs keeps reply.representation in
+    let va = status_values reply.status reply.location in
+    let vb = content_values bodiless (type_text reply.representation) (decimal (length reply.body)) in
+    let vc = tag_values reply.tag sendable.tag in
+    let vd = cache_values reply.max_age sendable.age in
+    let ve = last_values keeps reply.representation in
     record {
       status = (status_digits reply.status).2;
-      size = facts.0 ∙ ap (λ t. Some t) (trimmed (decimal (length reply.body)) (digits_pass (length reply.body) sendable.size));
-      media = facts.1 ∙ ap (λ t. Some t) (media_trimmed reply.representation);
-      location = facts.2 ∙ ap (locations reply.status) (trimmed reply.location sendable.location);
-      connection = facts.3 ∙ ap (unless_kept keeps) close_trimmed;
+      size = parts_values (codes "content-length") a b c d e _ _ _ _ _ va.0 vb.0 vc.0 vd.0 ve.0 ∙ append-nil _
+          ∙ length_trimmed bodiless reply.body sendable.size;
+      media = parts_values (codes "content-type") a b c d e _ _ _ _ _ va.1 vb.1 vc.1 vd.1 ve.1 ∙ append-nil _ ∙ ap (unless bodiless) (media_trimmed reply.representation);
+      tag = parts_values (codes "etag") a b c d e _ _ _ _ _ va.2 vb.2 vc.2 vd.2 ve.2 ∙ append-nil _;
+      caching = parts_values (codes "cache-control") a b c d e _ _ _ _ _ va.3 vb.3 vc.3 vd.3 ve.3;
+      varies = parts_values (codes "vary") a b c d e _ _ _ _ _ va.4 vb.4 vc.4 vd.4 ve.4;
+      location = parts_values (codes "location") a b c d e _ _ _ _ _ va.5 vb.5 vc.5 vd.5 ve.5 ∙ append-nil _ ∙ ap (locations reply.status) (trimmed reply.location sendable.location);
+      connection = parts_values (codes "connection") a b c d e _ _ _ _ _ va.6 vb.6 vc.6 vd.6 ve.6 ∙ ap (unless_kept keeps) close_trimmed;
     }
 
 pub sent_as : (keeps : Bool) (reply : ReplyValue) → IsSendable reply → IsSentAs keeps reply (head_of keeps reply)
@@ -341,18 +504,25 @@ sent_as keeps reply sendable = let states = head_states keeps reply sendable in
     let printed = sym (head_printed keeps reply) in
     record {
       states = states;
-      whole = record { reads = (valid, ap (λ t. t ++ reply.body) printed); sent = head_sent keeps reply; status = states.status; body_length = refl };
+      whole = record { reads = (valid, ap (λ t. t ++ reply_body false reply) printed); sent = head_sent keeps reply; status = states.status; body_length = refl };
       alone = record { reads = (valid, ap (λ t. t ++ []) printed); sent = head_sent keeps reply; status = states.status; body_length = refl };
     }
+
+-- the length that a head states is that of its body
+states_body : (bodiless : Bool) (head : ResponseHead) (body : List ℕ)
+    → values_named (codes "content-length") head.fields ≡ unless bodiless (decimal (length body))
+    → MatchBool bodiless ((if bodiless then [] else body) ≡ []) (StatesLength head (length (if bodiless then [] else body)))
+states_body true head body states = refl
+states_body false head body states = ap only states
 
 -- the same for one of the two ways in which it is sent
 pub message_for : (keeps head_alone : Bool) (reply : ReplyValue) → IsSendable reply → IsMessageFor keeps head_alone (response_of keeps head_alone reply)
 message_for keeps false reply sendable = let sent = sent_as keeps reply sendable in
     record {
       head = head_of keeps reply;
-      body = reply.body;
+      body = reply_body false reply;
       message = sent.whole;
-      whole = λ whole. sent.states.size;
+      whole = λ whole. states_body (is_bodiless (status_code reply.status)) (head_of keeps reply) reply.body sent.states.size;
       alone = λ e. absurd (cc);
       connection = sent.states.connection;
     }
@@ -366,10 +536,37 @@ message_for keeps true reply sendable = let sent = sent_as keeps reply sendable 
       connection = sent.states.connection;
     }
 
+-- the body that is sent is no longer
+pub sent_size : (bodiless : Bool) (body : List ℕ) → length body < 2 ^ 64 → length (if bodiless then [] else body) < 2 ^ 64
+sent_size true body small = lit< tt
+sent_size false body small = small
+
 -- the same for the parts of a response
 pub message_of : (keeps head_alone : Bool) (reply : ReplyValue) (bytes : List ℕ) (code size : ℕ) → IsSendable reply → bytes ≡ reply_head keeps reply ++ reply_body head_alone reply
     → code ≡ status_code reply.status → size ≡ length (reply_body head_alone reply) → IsMessageFor keeps head_alone (record { bytes = bytes; status = code; body_length = size })
 message_of keeps head_alone reply bytes code size sendable made coded sized = rw (made, coded, sized) (message_for keeps head_alone reply sendable)
+
+-- ---- the reply to a client that has the representation
+
+sent_alone : (keeps alone : Bool) (tag : List ℕ) (max_age : ℕ) (representation : Representation) → IsSendable (not_modified tag max_age representation)
+    → IsMessage (response_of keeps alone (not_modified tag max_age representation)) (head_of keeps (not_modified tag max_age representation)) []
+sent_alone keeps true tag max_age representation sendable = (sent_as keeps (not_modified tag max_age representation) sendable).alone
+sent_alone keeps false tag max_age representation sendable = (sent_as keeps (not_modified tag max_age representation) sendable).whole
+
+pub not_modified_stated : NotModifiedIsHeadOfGood
+not_modified_stated keeps alone tag max_age good sendable =
+    let brief : ReplyValue = not_modified tag max_age good.representation in
+    let fits : IsSendable brief = record { location = All-nil (λ b. is_uri_byte b ≡ true); size = lit< tt; tag = sendable.tag; age = sendable.age } in
+    let one = head_states keeps brief fits in
+    let other = head_states keeps (with_tag tag max_age good) sendable in (
+      head_of keeps brief,
+      head_of keeps (with_tag tag max_age good),
+      sent_alone keeps alone tag max_age good.representation fits,
+      other,
+      one.tag ∙ sym other.tag,
+      one.caching ∙ sym other.caching,
+      one.varies ∙ sym other.varies,
+    )
 
 -- ---- the reply that reports progress
 

@@ -1,11 +1,6 @@
 -- Writing in steps writes the whole.
-use Rattle.std.proofs.Common.{◌≡◌, ℕ, Bool, List, [], ◌∷◌, ◌++◌, length, codes, ap, ◌∙◌, append_assoc}
-use Rattle.std.specs.Fmt.{decimal}
-use Rattle.feed_resolver_request.specs.declared.representation.Representation.{Representation}
-use Rattle.feed_resolver_reply.specs.Pieces.{joined}
-use Rattle.feed_resolver_reply.specs.Replies.{status_line, status_field, type_text, connection_field, reply_head}
-use Rattle.feed_resolver_reply.specs.declared.reply.TheConstants.{LAST_FIELDS}
-use Rattle.feed_resolver_reply.specs.declared.status.Status.{Status}
+use Rattle.std.proofs.Common.{◌≡◌, ℕ, Bool, List, ◌++◌, length, ap, ◌∙◌, append_assoc}
+use Rattle.feed_resolver_reply.specs.Replies.{ReplyValue, status_line, status_field, status_code, is_bodiless, content_fields, tag_field, cache_field, last_fields, reply_head}
 
 -- in three steps
 pub in_three : (old one two new a b c : List ℕ) → one ≡ old ++ a → two ≡ one ++ b → new ≡ two ++ c → new ≡ old ++ (a ++ (b ++ c))
@@ -18,18 +13,25 @@ pub in_four : (old one two three new a b c d : List ℕ) → one ≡ old ++ a �
 in_four old one two three new a b c d first second third fourth =
     in_three old one two new a b (c ++ d) first second (fourth ∙ ap (λ t. t ++ d) third ∙ append_assoc two c d)
 
+-- in six steps
+pub in_six : (old one two three four five new a b c d e f : List ℕ) → one ≡ old ++ a → two ≡ one ++ b → three ≡ two ++ c → four ≡ three ++ d → five ≡ four ++ e → new ≡ five ++ f
+    → new ≡ old ++ (a ++ (b ++ (c ++ (d ++ (e ++ f)))))
+in_six old one two three four five new a b c d e f first second third fourth fifth sixth =
+    in_four old one two three new a b c (d ++ (e ++ f)) first second third (in_three three four five new d e f fourth fifth sixth)
+
 -- the head of a reply
-pub head_written : (keeps : Bool) (old one two new media body location closing : List ℕ) (code : Status) (representation : Representation) (n : ℕ)
-    → media ≡ type_text representation → n ≡ length body → closing ≡ connection_field keeps
-    → one ≡ old ++ status_line code
-    → two ≡ one ++ status_field code location
-    → new ≡ two ++ joined (codes "\r\nContent-Type: " ∷ media ∷ codes "\r\nContent-Length: " ∷ decimal n
-    ∷ LAST_FIELDS.now ∷ closing ∷ codes "\r\n\r\n" ∷ [])
-    → new ≡ old ++ reply_head keeps (record { status = code; location = location; representation = representation; body = body })
+pub head_written : (keeps : Bool) (old one two three four five new : List ℕ) (reply : ReplyValue) (size age : ℕ) → size ≡ length reply.body → age ≡ reply.max_age
+    → one ≡ old ++ status_line reply.status
+    → two ≡ one ++ status_field reply.status reply.location
+    → three ≡ two ++ content_fields (is_bodiless (status_code reply.status)) reply.representation size
+    → four ≡ three ++ tag_field reply.tag
+    → five ≡ four ++ cache_field age
+    → new ≡ five ++ last_fields keeps reply.representation
+    → new ≡ old ++ reply_head keeps reply
 unfolding reply_head
-head_written keeps old one two new media body location closing code representation n kind count closed first second third =
-    in_three old one two new
-    (status_line code) (status_field code location)
-    (joined (codes "\r\nContent-Type: " ∷ type_text representation ∷ codes "\r\nContent-Length: " ∷ decimal (length body)
-    ∷ LAST_FIELDS.now ∷ connection_field keeps ∷ codes "\r\n\r\n" ∷ []))
-    first second (rw (← kind, ← count, ← closed) third)
+head_written keeps old one two three four five new reply size age sized aged first second third fourth fifth sixth =
+    in_six old one two three four five new
+    (status_line reply.status) (status_field reply.status reply.location)
+    (content_fields (is_bodiless (status_code reply.status)) reply.representation (length reply.body))
+    (tag_field reply.tag) (cache_field reply.max_age) (last_fields keeps reply.representation)
+    first second (rw (← sized) third) fourth (rw (← aged) fifth) sixth

@@ -1,13 +1,14 @@
 -- Laws of replies and of escaped texts.
-use Rattle.std.specs.Prelude.{◌≡◌, ℕ, Bool, List, Some, false, All, codes}
+use Rattle.std.specs.Prelude.{◌≡◌, ℕ, Bool, List, [], Some, false, All, codes}
 use Rattle.feed_resolver_reply.specs.Escapes.{escaped, is_markup, unescaped}
 use Rattle.json.specs.Json.{document, string, object, member, no_members}
 use Rattle.feed_resolver_request.specs.declared.representation.Representation.TheVariants.{Json}
 use Rattle.feed_resolver_reply.specs.JsonStrings.{json_string}
 use Rattle.feed_resolver_reply.specs.Pages.{fault_body}
 use Rattle.httparse.specs.Grammar.{ResponseHead}
-use Rattle.feed_resolver_reply.specs.Replies.{ReplyValue}
-use Rattle.feed_resolver_reply.specs.Messages.{IsSentAs, IsSendable}
+use Rattle.feed_http_heads.specs.Fields.{values_named}
+use Rattle.feed_resolver_reply.specs.Replies.{ReplyValue, with_tag, not_modified, response_of}
+use Rattle.feed_resolver_reply.specs.Messages.{IsSentAs, IsSendable, IsHeadOf, IsMessage}
 
 -- an escaped text has no `<`, `>`, `"` and `'`
 abbrev pub EscapedHasNoMarkup : Type 0
@@ -29,3 +30,16 @@ FaultIsJson = (name : List ℕ) → document (fault_body Json name) ≡ Some (ob
 -- then the body; the reply to a HEAD is the same head alone
 abbrev pub ReplyReadsBack : Type 0
 ReplyReadsBack = (keeps : Bool) (reply : ReplyValue) → IsSendable reply → (head : ResponseHead) × IsSentAs keeps reply head
+
+-- the heads have the same fields of this name
+abbrev pub HaveSame : List ℕ → ResponseHead → ResponseHead → Type 0
+HaveSame name head other = values_named name head.fields ≡ values_named name other.fields
+
+-- the reply to a client that has the representation is a head without a body, and states the entity tag, how long a cache
+-- may keep it and what it depends on as the head of the whole reply does (RFC 9110, section 15.4.5)
+abbrev pub NotModifiedIsHeadOfGood : Type 0
+NotModifiedIsHeadOfGood =
+    (keeps alone : Bool) (tag : List ℕ) (max_age : ℕ) (good : ReplyValue) → IsSendable (with_tag tag max_age good)
+    → (head other : ResponseHead)
+    × IsMessage (response_of keeps alone (not_modified tag max_age good.representation)) head [] × IsHeadOf keeps (with_tag tag max_age good) other
+    × HaveSame (codes "etag") head other × HaveSame (codes "cache-control") head other × HaveSame (codes "vary") head other

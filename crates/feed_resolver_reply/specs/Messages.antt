@@ -1,10 +1,11 @@
 -- Replies as the grammar of HTTP reads them (RFC 9112, sections 2.2, 4 and 6).
-use Rattle.std.specs.Prelude.{◌≡◌, ◌<◌, ◌^◌, ℕ, Bool, false, true, if◌then◌else◌, List, [], ◌∷◌, length, All, codes, Option, Some}
+use Rattle.std.specs.Prelude.{◌≡◌, ◌<◌, ◌^◌, ◌==◌, ℕ, Bool, false, true, MatchBool, if◌then◌else◌, List, [], ◌∷◌, length, All, codes, Option, Some}
 use Rattle.std.specs.Fmt.{decimal}
 use Rattle.httparse.specs.Grammar.{AllPass, is_uri_byte, Field, crlf, ResponseHead, ReadsResponse}
 use Rattle.httparse.specs.Grammar as grammar
 use Rattle.feed_http_heads.specs.Fields.{values_named, only}
-use Rattle.feed_resolver_reply.specs.Replies.{ReplyValue, ResponseValue, status_code, type_text, response_of}
+use Rattle.feed_resolver_reply.specs.Replies.{ReplyValue, ResponseValue, status_code, type_text, is_bodiless, reply_body, response_of}
+use Rattle.feed_resolver_reply.specs.Pieces.{joined}
 use Rattle.feed_resolver_reply.specs.declared.status.Status.{Status}
 use Rattle.feed_resolver_reply.specs.declared.status.Status.TheVariants as status
 
@@ -28,6 +29,10 @@ value_in head name = only (values_named name head.fields)
 abbrev pub StatesLength : ResponseHead → ℕ → Type 0
 StatesLength head size = value_in head (codes "content-length") ≡ Some (decimal size)
 
+-- the head states the length of this body; that of a status without a body states none, and the body is empty
+abbrev pub StatesBody : ℕ → ResponseHead → List ℕ → Type 0
+StatesBody code head body = MatchBool (is_bodiless code) (body ≡ []) (StatesLength head (length body))
+
 -- the values of the Connection fields in the head of a reply: `close` alone, or none if the connection is kept
 -- (RFC 9112, section 9.6)
 abbrev pub connection_values : Bool → List (List ℕ)
@@ -49,37 +54,55 @@ abbrev pub locations : Status → List ℕ → List (List ℕ)
 locations status.Found location = location ∷ []
 locations code location = []
 
--- the head states the status of the reply, its media type, the length of its body, whether the connection is closed
--- and, in a redirect, the location
+-- one value, or none if the status excludes a body
+abbrev pub unless_bodiless : Status → List ℕ → List (List ℕ)
+unless_bodiless code value = if is_bodiless (status_code code) then [] else value ∷ []
+
+-- the entity tags that a reply states
+abbrev pub tags : List ℕ → List (List ℕ)
+tags [] = []
+tags (b ∷ tag) = (b ∷ tag) ∷ []
+
+-- what a reply tells a cache
+abbrev pub cache_text : ℕ → List ℕ
+cache_text max_age = if max_age == 0 then codes "no-cache" else joined (codes "max-age=" ∷ decimal max_age ∷ [])
+
+-- the head states the status of the reply, its media type and the length of its body, if it has one, its entity tag, how
+-- long a cache may keep it, whether the connection is closed and, in a redirect, the location
 pub record IsHeadOf (keeps : Bool) (reply : ReplyValue) (head : ResponseHead) : Type 0 where
   pub status : grammar.status_code head ≡ status_code reply.status
-  pub size : StatesLength head (length reply.body)
-  pub media : value_in head (codes "content-type") ≡ Some (type_text reply.representation)
+  pub size : values_named (codes "content-length") head.fields ≡ unless_bodiless reply.status (decimal (length reply.body))
+  pub media : values_named (codes "content-type") head.fields ≡ unless_bodiless reply.status (type_text reply.representation)
+  pub tag : values_named (codes "etag") head.fields ≡ tags reply.tag
+  pub caching : values_named (codes "cache-control") head.fields ≡ cache_text reply.max_age ∷ []
+  pub varies : values_named (codes "vary") head.fields ≡ codes "Accept" ∷ []
   pub location : values_named (codes "location") head.fields ≡ locations reply.status reply.location
   pub connection : StatesConnection head keeps
 
 -- the reply is sent as this head and its body, and to a HEAD as this head and nothing after it
 pub record IsSentAs (keeps : Bool) (reply : ReplyValue) (head : ResponseHead) : Type 0 where
   pub states : IsHeadOf keeps reply head
-  pub whole : IsMessage (response_of keeps false reply) head reply.body
+  pub whole : IsMessage (response_of keeps false reply) head (reply_body false reply)
   pub alone : IsMessage (response_of keeps true reply) head []
 
 -- a location has no space and no control byte
 abbrev pub IsLocation : List ℕ → Type 0
 IsLocation location = AllPass is_uri_byte location
 
--- a reply whose length and location can be stated
+-- a reply whose length, location and tag can be stated
 pub record IsSendable (reply : ReplyValue) : Type 0 where
   pub location : IsLocation reply.location
-  pub size : length reply.body < 2 ^ 64
+  pub size : length (reply_body false reply) < 2 ^ 64
+  pub tag : AllPass is_uri_byte reply.tag
+  pub age : reply.max_age < 2 ^ 64
 
--- the response is one head and a body whose length the head states, or the head alone; the head announces that the
--- connection is closed exactly if it is not kept
+-- the response is one head and a body whose length the head states, or the head alone; a status without a body has neither
+-- of them; the head announces that the connection is closed exactly if it is not kept
 pub record IsMessageFor (keeps : Bool) (head_alone : Bool) (response : ResponseValue) : Type 0 where
   pub head : ResponseHead
   pub body : List ℕ
   pub message : IsMessage response head body
-  pub whole : head_alone ≡ false → StatesLength head (length body)
+  pub whole : head_alone ≡ false → StatesBody response.status head body
   pub alone : head_alone ≡ true → body ≡ []
   pub connection : StatesConnection head keeps
 

@@ -1,20 +1,23 @@
 -- Replies, and their bytes.
-use Rattle.std.specs.Prelude.{ℕ, Bool, false, if◌then◌else◌, List, [], ◌∷◌, ◌++◌, length, codes}
+use Rattle.std.specs.Prelude.{ℕ, ◌==◌, ◌||◌, Bool, true, false, if◌then◌else◌, List, [], ◌∷◌, ◌++◌, length, codes}
 use Rattle.std.specs.Fmt.{decimal}
 use Rattle.feed_resolver_request.specs.declared.representation.Representation.{Representation}
 use Rattle.feed_resolver_request.specs.declared.representation.Representation.TheVariants.{Text, Json, Html}
 use Rattle.feed_resolver_reply.specs.Pieces.{joined}
 use Rattle.feed_resolver_reply.specs.Pages.{fault_body}
-use Rattle.feed_resolver_reply.specs.declared.reply.TheConstants.{LAST_FIELDS}
+use Rattle.feed_resolver_reply.specs.declared.reply.TheConstants.{LAST_FIELDS, PAGE_FIELDS, SHARED_FIELDS, PREFLIGHT_FIELDS, QUERY_PREFLIGHT_FIELDS}
 use Rattle.feed_resolver_reply.specs.declared.status.Status.{Status}
 use Rattle.feed_resolver_reply.specs.declared.status.Status.TheVariants as status
 
--- a reply: its status, the location of a redirect, if any, its representation, and its body
+-- a reply: its status, the location of a redirect, if any, its representation, its body, its entity tag, which is empty if
+-- there is none, and for how many seconds a cache may use it without asking again
 pub record ReplyValue : Type 0 where
   pub status : Status
   pub location : List ℕ
   pub representation : Representation
   pub body : List ℕ
+  pub tag : List ℕ
+  pub max_age : ℕ
 
 -- the bytes of a reply, its status code, and the length of the body in them
 pub record ResponseValue : Type 0 where
@@ -24,11 +27,28 @@ pub record ResponseValue : Type 0 where
 
 -- a reply that is not a redirect
 abbrev pub reply_with : Status → Representation → List ℕ → ReplyValue
-reply_with code representation body = record { status = code; location = []; representation = representation; body = body }
+reply_with code representation body =
+    record { status = code; location = []; representation = representation; body = body; tag = []; max_age = 0 }
 
 -- a redirect
 abbrev pub redirect_to : List ℕ → ReplyValue
-redirect_to url = record { status = status.Found; location = url; representation = Text; body = [] }
+redirect_to url =
+    record { status = status.Found; location = url; representation = Text; body = []; tag = []; max_age = 0 }
+
+-- the same reply with an entity tag, and fresh for this many seconds
+abbrev pub with_tag : List ℕ → ℕ → ReplyValue → ReplyValue
+with_tag tag max_age reply = record {
+  status = reply.status;
+  location = reply.location;
+  representation = reply.representation;
+  body = reply.body;
+  tag = tag;
+  max_age = max_age;
+}
+
+-- the reply to a client that has what such a reply would send (RFC 9110, section 15.4.5)
+abbrev pub not_modified : List ℕ → ℕ → Representation → ReplyValue
+not_modified tag max_age representation = with_tag tag max_age (reply_with status.NotModified representation [])
 
 -- an error reply
 abbrev pub refusal : Status → Representation → List ℕ → ReplyValue
@@ -37,7 +57,10 @@ refusal code representation name = reply_with code representation (fault_body re
 -- the number of a status (RFC 9110, section 15)
 abbrev pub status_code : Status → ℕ
 status_code status.Good = 200
+status_code status.Preflight = 204
+status_code status.QueryPreflight = 204
 status_code status.Found = 302
+status_code status.NotModified = 304
 status_code status.BadRequest = 400
 status_code status.Unauthorized = 401
 status_code status.NotFound = 404
@@ -51,10 +74,22 @@ status_code status.UriTooLong = 414
 status_code status.UnsupportedMediaType = 415
 status_code status.NotImplemented = 501
 
+-- whether a reply with this status code has no body (RFC 9110, sections 15.3.5 and 15.4.5)
+abbrev pub is_bodiless : ℕ → Bool
+is_bodiless code = code == 204 || code == 304
+
+-- whether it is 200
+abbrev pub is_good : Status → Bool
+is_good status.Good = true
+is_good code = false
+
 -- its reason
 abbrev pub reason_text : Status → List ℕ
 reason_text status.Good = codes "OK"
+reason_text status.Preflight = codes "No Content"
+reason_text status.QueryPreflight = codes "No Content"
 reason_text status.Found = codes "Found"
+reason_text status.NotModified = codes "Not Modified"
 reason_text status.BadRequest = codes "Bad Request"
 reason_text status.Unauthorized = codes "Unauthorized"
 reason_text status.NotFound = codes "Not Found"
@@ -78,8 +113,11 @@ type_text Text = codes "text/plain; charset=utf-8"
 type_text Json = codes "application/json"
 type_text Html = codes "text/html; charset=utf-8"
 
--- the field that a status asks for (RFC 9110, sections 10.2.1, 10.2.2 and 11.6.1)
+-- the fields that a status asks for (RFC 9110, sections 10.2.1, 10.2.2 and 11.6.1); those of a preflight are of the Fetch
+-- standard
 abbrev pub status_field : Status → List ℕ → List ℕ
+status_field status.Preflight location = joined (PREFLIGHT_FIELDS.now ∷ [])
+status_field status.QueryPreflight location = joined (QUERY_PREFLIGHT_FIELDS.now ∷ [])
 status_field status.Found location = joined (codes "\r\nLocation: " ∷ location ∷ [])
 status_field status.MethodNotAllowed location = joined (codes "\r\nAllow: GET, HEAD" ∷ [])
 status_field status.PostOnly location = joined (codes "\r\nAllow: POST" ∷ [])
@@ -91,19 +129,48 @@ status_field code location = []
 abbrev pub connection_field : Bool → List ℕ
 connection_field keeps = if keeps then [] else codes "\r\nConnection: close"
 
+-- the fields that describe a body of this length, if the status has one
+abbrev pub content_fields : Bool → Representation → ℕ → List ℕ
+content_fields bodiless representation size =
+    if bodiless then [] else joined (
+    codes "\r\nContent-Type: " ∷ type_text representation ∷ codes "\r\nContent-Length: " ∷ decimal size ∷ [])
+
+-- the entity tag, if there is one (RFC 9110, section 8.8.3)
+abbrev pub tag_field : List ℕ → List ℕ
+tag_field [] = []
+tag_field (b ∷ tag) = joined (codes "\r\nETag: " ∷ (b ∷ tag) ∷ [])
+
+-- whether a cache asks again, or for how many seconds it need not (RFC 9111, section 5.2.2)
+abbrev pub cache_field : ℕ → List ℕ
+cache_field max_age =
+    if max_age == 0 then codes "\r\nCache-Control: no-cache"
+    else joined (codes "\r\nCache-Control: max-age=" ∷ decimal max_age ∷ [])
+
+-- what a browser may do with the reply: a page runs no script, has its own styles and sends forms to its own site; the
+-- scripts of any site may read a text
+abbrev pub policy_field : Representation → List ℕ
+policy_field Text = SHARED_FIELDS.now
+policy_field Json = SHARED_FIELDS.now
+policy_field Html = PAGE_FIELDS.now
+
+-- the last fields, and the end of the head
+abbrev pub last_fields : Bool → Representation → List ℕ
+last_fields keeps representation =
+    joined (LAST_FIELDS.now ∷ policy_field representation ∷ connection_field keeps ∷ codes "\r\n\r\n" ∷ [])
+
 -- the head of a reply, on a connection that is kept or not
 unfoldable pub reply_head : Bool → ReplyValue → List ℕ
 reply_head keeps reply =
     status_line reply.status
     ++ (status_field reply.status reply.location
-    ++ joined (
-    codes "\r\nContent-Type: " ∷ type_text reply.representation
-    ∷ codes "\r\nContent-Length: " ∷ decimal (length reply.body)
-    ∷ LAST_FIELDS.now ∷ connection_field keeps ∷ codes "\r\n\r\n" ∷ []))
+    ++ (content_fields (is_bodiless (status_code reply.status)) reply.representation (length reply.body)
+    ++ (tag_field reply.tag
+    ++ (cache_field reply.max_age
+    ++ last_fields keeps reply.representation))))
 
--- the body that is sent; the reply to a HEAD has none
+-- the body that is sent; the reply to a HEAD has none, and nor has one whose status excludes it
 abbrev pub reply_body : Bool → ReplyValue → List ℕ
-reply_body head_alone reply = if head_alone then [] else reply.body
+reply_body head_alone reply = if head_alone || is_bodiless (status_code reply.status) then [] else reply.body
 
 -- the bytes of a reply, with its status code and the length of the body that is sent
 abbrev pub response_of : Bool → Bool → ReplyValue → ResponseValue

@@ -1,6 +1,6 @@
 //! Laws of replies and of escaped texts, each stated as the contract of a function with an empty body.
 ghost use Rattle.feed_resolver_reply.specs.Laws.{EscapedHasNoMarkup, EscapedReadsBack, JsonReadsBack};
-ghost use Rattle.feed_resolver_reply.specs.Laws.{FaultIsJson, ReplyReadsBack};
+ghost use Rattle.feed_resolver_reply.specs.Laws.{FaultIsJson, ReplyReadsBack, NotModifiedIsHeadOfGood};
 
 /// A text escaped for a page has no `<`, `>`, `"` and `'`.
 pub fn escaped_has_no_markup()
@@ -25,4 +25,10 @@ pub fn fault_is_json()
 /// A reply reads as one head and its body by the grammar of HTTP, and the reply to a HEAD as that head alone.
 pub fn reply_reads_back()
     ensures { ReplyReadsBack }
+{}
+
+/// A 304 has no body, and states the entity tag, how long a cache may keep it and what it depends on as the whole reply
+/// does (RFC 9110, section 15.4.5).
+pub fn not_modified_is_head_of_good()
+    ensures { NotModifiedIsHeadOfGood }
 {}

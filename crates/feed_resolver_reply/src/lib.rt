@@ -20,7 +20,8 @@ pub use fetch_replies::fetch_reply;
 pub use form::put_form;
 pub use json_text::{put_comma, put_list_end, put_list_start};
 pub use laws::{
-    escaped_has_no_markup, escaped_reads_back, fault_is_json, json_reads_back, reply_reads_back,
+    escaped_has_no_markup, escaped_reads_back, fault_is_json, json_reads_back,
+    not_modified_is_head_of_good, reply_reads_back,
 };
 pub use page::{put_page_end, put_page_start};
 pub use piece::{Piece, put_all};

@@ -1,14 +1,20 @@
 //! Status codes (RFC 9110, section 15).
 ghost use Rattle.std.specs.Prelude.{◌≡◌};
-ghost use Rattle.feed_resolver_reply.specs.Replies.{status_code, reason_text};
+ghost use Rattle.feed_resolver_reply.specs.Replies.{status_code, reason_text, is_bodiless};
 
 /// A status code, with its reason.
 #[derive(Clone, Copy, Debug, PartialEq, Eq)]
 pub enum Status {
     /// 200
     Good,
+    /// 204, to a preflight of a target that takes a GET
+    Preflight,
+    /// 204, to a preflight of a target that takes a GET or a POST
+    QueryPreflight,
     /// 302
     Found,
+    /// 304
+    NotModified,
     /// 400
     BadRequest,
     /// 401
@@ -41,7 +47,9 @@ pub(crate) fn status_code(status: Status) -> u16
 {
     match status {
         Status::Good => 200,
+        Status::Preflight | Status::QueryPreflight => 204,
         Status::Found => 302,
+        Status::NotModified => 304,
         Status::BadRequest => 400,
         Status::Unauthorized => 401,
         Status::NotFound => 404,
@@ -61,7 +69,9 @@ pub(crate) fn reason_text(status: Status) -> &'static [u8]
 {
     match status {
         Status::Good => b"OK",
+        Status::Preflight | Status::QueryPreflight => b"No Content",
         Status::Found => b"Found",
+        Status::NotModified => b"Not Modified",
         Status::BadRequest => b"Bad Request",
         Status::Unauthorized => b"Unauthorized",
         Status::NotFound => b"Not Found",
@@ -73,4 +83,14 @@ pub(crate) fn reason_text(status: Status) -> &'static [u8]
         Status::UnsupportedMediaType => b"Unsupported Media Type",
         Status::NotImplemented => b"Not Implemented",
     }
+}
+
+/// Returns whether a reply of this status has no body (RFC 9110, sections 15.3.5 and 15.4.5).
+pub(crate) fn is_bodiless(status: Status) -> bool
+    ensures { result ≡ is_bodiless (status_code status) }
+{
+    matches!(
+        status,
+        Status::Preflight | Status::QueryPreflight | Status::NotModified
+    )
 }

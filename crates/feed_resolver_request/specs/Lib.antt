@@ -3,3 +3,4 @@ pub mod Targets
 pub mod FoundRequests
 pub mod FetchRequests
 pub mod Forms
+pub mod Conditions

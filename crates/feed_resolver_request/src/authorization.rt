@@ -4,6 +4,7 @@ ghost use Rattle.httparse.specs.Grammar.{RequestHead};
 ghost use Rattle.feed_http_heads.specs.Requests.{IsInBuffer, HasHead};
 ghost use Rattle.feed_resolver_request.specs.FetchRequests.{has_token, is_authorized};
 
+use crate::same_secret::same_secret;
 use feed_http_heads::Request;
 use feed_identifiers::trim_spaces;
 use feed_range::strip_prefix;
@@ -31,7 +32,7 @@ fn has_token(token: &[u8], value: &[u8]) -> bool
     ensures { result ≡ has_token token.now value.now }
 {
     match strip_prefix(value, b"Bearer ") {
-        Some(rest) => trim_spaces(rest) == token,
+        Some(rest) => same_secret(trim_spaces(rest), token),
         None => false,
     }
 }

@@ -3,14 +3,17 @@
 #![tactic(auto)]
 
 mod authorization;
+mod condition;
 mod fetch_target;
 mod form;
 mod found_request;
 mod method;
 mod representation;
+mod same_secret;
 mod target;
 
 pub use authorization::{FetchPolicy, is_authorized};
+pub use condition::has_tag;
 pub use fetch_target::{fetch_request, fetch_to_begin, name_to_fetch};
 pub use form::{FormFault, form_length, form_of};
 pub use found_request::find_request;

@@ -39,6 +39,8 @@
 //! A node, with the releases that it received:
 //!
 //!     release NAME TEXT               offers a release to the node, and sends its whole file
+//!     site VERSION MAX-AGE            the version and the seconds that tags and replies are made of; prints nothing
+//!     keep-releases                   keeps the digest of the active releases, as a node does; prints nothing
 //!     respond keep|close TEXT         the resolver's reply to a request, on a connection that is kept or closed
 //!     respond-to-form keep|close BODY TEXT    the length of the form that a request submits, and the reply to this body
 //!     respond-as-node TOKEN free|busy keep|close TEXT    the node's reply, if TOKEN authorizes a fetch; `-` for none

@@ -8,8 +8,9 @@ use feed_model::{Refusal, Reply};
 use feed_names::ReleaseName;
 use feed_node_connection::{Connection, TimeLimits};
 use feed_releases::{Event, Feed};
-use feed_resolver::{respond, respond_as_node};
+use feed_resolver::{keep_releases, respond, respond_as_node};
 use feed_resolver_request::{FetchPolicy, fetch_request, find_request, form_length};
+use feed_resolver_tag::Site;
 use httparse::spans::EMPTY_HEADER_SPAN;
 
 /// The feed of a node over a keeper in memory, and one connection to it.
@@ -21,10 +22,12 @@ pub struct Node<'a> {
     /// The length of the bodies that the connection's responder wants.
     pub wanted: usize,
     feed: Feed<ListKeep>,
+    site: Site,
 }
 
 impl<'a> Node<'a> {
     pub fn new(rt: &'a HostRuntime, step: usize) -> Result<Node<'a>, Fault> {
+        let site = Site::new(rt.alloc(), b"1.0", 0)?;
         match Feed::open(rt.alloc(), ListKeep::new(rt.alloc())) {
             Ok(feed) => Ok(Node {
                 rt,
@@ -32,6 +35,7 @@ impl<'a> Node<'a> {
                 connection: Connection::new(rt.alloc(), TimeLimits { step: 1, idle: 1 }),
                 wanted: 0,
                 feed,
+                site,
             }),
             Err(_) => Err(Fault::Memory),
         }
@@ -41,6 +45,8 @@ impl<'a> Node<'a> {
     pub fn take(&mut self, command: &str, line: Line<'_>) -> Result<(), Fault> {
         match command {
             "release" => self.release(line),
+            "site" => self.take_site(line),
+            "keep-releases" => self.keep_releases(),
             "respond" => self.respond(line),
             "respond-to-form" => self.respond_to_form(line),
             "respond-as-node" => self.respond_as_node(line),
@@ -62,10 +68,33 @@ impl<'a> Node<'a> {
         Ok(())
     }
 
+    fn take_site(&mut self, mut line: Line<'_>) -> Result<(), Fault> {
+        let version = line.word()?.as_bytes();
+        let max_age = line.number()?;
+        self.site = Site::new(
+            self.rt.alloc(),
+            version,
+            max_age.min(u64::from(u32::MAX)) as u32,
+        )?;
+        Ok(())
+    }
+
+    fn keep_releases(&mut self) -> Result<(), Fault> {
+        keep_releases(self.rt.alloc(), &mut self.site, &self.feed)?;
+        Ok(())
+    }
+
     fn respond(&self, mut line: Line<'_>) -> Result<(), Fault> {
         let keeps = line.flag("keep", "close")?;
         let request = line.text(self.rt.alloc())?;
-        let reply = respond(self.rt.alloc(), &request, b"", keeps, &self.feed)?;
+        let reply = respond(
+            self.rt.alloc(),
+            &request,
+            b"",
+            keeps,
+            &self.site,
+            &self.feed,
+        )?;
         println!(self.rt; "{}", Escaped(reply.bytes()))?;
         Ok(())
     }
@@ -75,7 +104,14 @@ impl<'a> Node<'a> {
         let body = line.word()?.as_bytes();
         let request = line.text(self.rt.alloc())?;
         println!(self.rt; "length {}", form_length_of(&request))?;
-        let reply = respond(self.rt.alloc(), &request, body, keeps, &self.feed)?;
+        let reply = respond(
+            self.rt.alloc(),
+            &request,
+            body,
+            keeps,
+            &self.site,
+            &self.feed,
+        )?;
         println!(self.rt; "{}", Escaped(reply.bytes()))?;
         Ok(())
     }
@@ -89,7 +125,15 @@ impl<'a> Node<'a> {
         let keeps = line.flag("keep", "close")?;
         let request = line.text(self.rt.alloc())?;
         let policy = FetchPolicy { token, is_busy };
-        let reply = respond_as_node(self.rt.alloc(), &request, b"", keeps, &policy, &self.feed)?;
+        let reply = respond_as_node(
+            self.rt.alloc(),
+            &request,
+            b"",
+            keeps,
+            &policy,
+            &self.site,
+            &self.feed,
+        )?;
         println!(self.rt; "{}", Escaped(reply.bytes()))?;
         Ok(())
     }

@@ -1,7 +1,7 @@
 //! kbfeed: a feed of holdings lists of serials and books (KBART files) for a fleet of OpenURL link resolvers.
 #![tactic(auto)]
 
-use feed_cli::{Request, Source, parse};
+use feed_cli::{Request, Source, parse, version};
 use feed_command::{FAILED, Faults, MISUSED, take_stack};
 use feed_database::run_at;
 use feed_database_commands::DatabaseCommand;
@@ -94,6 +94,8 @@ fn run_request<O: Write, F: Write + Drop>(
                 clients: options.clients,
                 time: options.time,
                 idle: options.idle,
+                max_age: options.max_age,
+                version: version(),
                 is_check: options.is_check,
                 upstream: upstream_of(source),
             };

@@ -11,7 +11,7 @@ pub returns-clause-turn : goal.returns-clause-turn
 returns-clause-turn g c = (
   c.policy-policy.result,
   c.policy-policy.ensures,
-  subst (λ (r : ResponseValue). IsReplyBy c.policy-policy.result c.args.bytes.now c.args.body.now c.args.persists (actives_of (releases_of c.args.self.now.feed.now)) r)
+  subst (λ (r : ResponseValue). IsReplyBy c.args.self.now.site.now c.policy-policy.result c.args.bytes.now c.args.body.now c.args.persists (actives_of (releases_of c.args.self.now.feed.now)) r)
       (same_response c.in_ok-response.response c.into_bytes.result.items c.status.result c.body_length.result c.into_bytes.ensures c.status.ensures c.body_length.ensures)
       c.in_ok-response.ensures.reply,
   (c.fetch_to_begin-asked.result, c.fetch_to_begin-asked.ensures, search rules),

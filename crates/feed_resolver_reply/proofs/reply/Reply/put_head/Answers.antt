@@ -1,18 +1,25 @@
-use Rattle.std.proofs.Common.{◌<◌, ◌^◌, ℕ, ap, ◌∙◌, ◌++◌, length, subst}
+use Rattle.std.proofs.Common.{◌<◌, ◌^◌, ℕ, sym, ap, ◌∙◌, ◌++◌, length, subst}
 use Rattle.std.proofs.lemmas.Result.{on_ok_weaker}
-use Rattle.feed_resolver_reply.specs.Replies.{ReplyValue, reply_head}
+use Rattle.feed_resolver_reply.specs.Replies.{ReplyValue, status_line, status_field, status_code, is_bodiless, content_fields, tag_field, last_fields}
 use Rattle.feed_resolver_reply.proofs.Written.{head_written}
 use Rattle.feed_resolver_reply.proofs.reply.Reply.put_head.Goals as goal
 
 pub returns-clause-text : goal.returns-clause-text
-returns-clause-text c = on_ok_weaker c.put_all.result
-    (λ third. head_written c.args.keeps c.args.out.now.items c.put_status_line.new.out.items c.put_status_field.new.out.items c.put_all.new.out.items
-    c.type_text.result.now c.self.inside.body.items c.self.inside.location.now c.connection_field.result.now c.self.inside.status c.self.inside.representation c.length_of.result
-    c.type_text.ensures (c.length_of.ensures ∙ ap length c.deref.ensures.value) c.connection_field.ensures c.in_ok-put_status_line.ensures c.in_ok-put_status_field.ensures third
-    ∙ ap (λ (r : ReplyValue). c.args.out.now.items ++ reply_head c.args.keeps r) c.self.view_is)
-    c.put_all.ensures
+returns-clause-text c = on_ok_weaker c.put_last.result
+    (λ sixth. head_written c.args.keeps c.args.out.now.items c.put_status_line.new.out.items c.put_status_field.new.out.items c.put_content.new.out.items
+    c.put_tag.new.out.items c.put_cache.new.out.items c.put_last.new.out.items c.args.self.now c.size-size.result c.age-age.result
+    c.size-size.ensures c.age-age.ensures
+    (c.in_ok-put_status_line.ensures ∙ ap (λ (r : ReplyValue). c.args.out.now.items ++ status_line r.status) c.self.view_is)
+    (c.in_ok-put_status_field.ensures ∙ ap (λ (r : ReplyValue). c.put_status_line.new.out.items ++ status_field r.status r.location) c.self.view_is)
+    (c.in_ok-put_content.ensures
+    ∙ ap (λ (r : ReplyValue). c.put_status_field.new.out.items ++ content_fields (is_bodiless (status_code r.status)) r.representation c.size-size.result) c.self.view_is)
+    (c.in_ok-put_tag.ensures ∙ ap (λ t. c.put_content.new.out.items ++ tag_field t) c.tag-tag.ensures)
+    c.in_ok-put_cache.ensures
+    (sixth ∙ ap (λ (r : ReplyValue). c.put_cache.new.out.items ++ last_fields c.args.keeps r.representation) c.self.view_is))
+    c.put_last.ensures
 
 pub returns-clause-size : goal.returns-clause-size
-returns-clause-size c = on_ok_weaker c.put_all.result
-    (λ third. subst (λ (n : ℕ). n < 2 ^ 64) (c.length_of.ensures ∙ ap length c.deref.ensures.value ∙ ap (λ (r : ReplyValue). length r.body) c.self.view_is) c.length_of.type_inv)
-    c.put_all.ensures
+returns-clause-size c = on_ok_weaker c.put_last.result (λ sixth. subst (λ (n : ℕ). n < 2 ^ 64) c.size-size.ensures c.size-size.type_inv) c.put_last.ensures
+
+pub returns-clause-age : goal.returns-clause-age
+returns-clause-age c = on_ok_weaker c.put_last.result (λ sixth. subst (λ (n : ℕ). n < 2 ^ 64) c.age-age.ensures c.age-age.type_inv) c.put_last.ensures

@@ -1,0 +1,81 @@
+-- Entity tags and conditional requests (RFC 9110, sections 8.8.3, 13.1.2 and 13.2.1), and preflights (Fetch standard,
+-- section 3.3).
+use Rattle.std.specs.Prelude.{ℕ, ◌&&◌, ◌||◌, not, Bool, true, false, if◌then◌else◌, List, [], codes, Option, Some, None}
+use Rattle.std.specs.List.{flat_map}
+use Rattle.std.specs.Option.{option_map_or}
+use Rattle.std.specs.Str.{bytes_eq}
+use Rattle.httparse.specs.Grammar.{RequestHead}
+use Rattle.feed_http_heads.specs.Targets.{origin_form}
+use Rattle.feed_http_heads.specs.Requests.{lacks_host, is_get, is_head}
+use Rattle.feed_releases.specs.Actives.{ActiveValue}
+use Rattle.feed_resolver_request.specs.Conditions.{has_tag}
+use Rattle.feed_resolver_request.specs.Representations.{representation_of}
+use Rattle.feed_resolver_request.specs.Targets.{path_in, query_in, resource_of}
+use Rattle.feed_resolver_request.specs.declared.representation.Representation.{Representation}
+use Rattle.feed_resolver_request.specs.declared.representation.Representation.TheVariants.{Text}
+use Rattle.feed_resolver_request.specs.declared.target.Resource.{Resource}
+use Rattle.feed_resolver_request.specs.declared.target.Resource.TheVariants as resource
+use Rattle.feed_resolver_reply.specs.Replies.{ReplyValue, reply_with, with_tag, not_modified, is_good}
+use Rattle.feed_resolver_reply.specs.declared.status.Status.{Status}
+use Rattle.feed_resolver_reply.specs.declared.status.Status.TheVariants as status
+use Rattle.feed_resolver_tag.specs.Tags.{SiteValue, entity_tag, inputs_of}
+use Rattle.feed_resolver.specs.Status.{active_line}
+
+-- the resource has entity tags
+abbrev pub has_validator : Resource → Bool
+has_validator resource.Status = true
+has_validator resource.Resolve = true
+has_validator resource.Package = true
+has_validator other = false
+
+-- the resource that a request names
+abbrev pub resource_in : RequestHead → Resource
+resource_in head = resource_of (path_in (origin_form head.target))
+
+-- a GET or a HEAD of a resource that has entity tags
+abbrev pub is_tagged : RequestHead → Bool
+is_tagged head = (is_get head || is_head head) && has_validator (resource_in head)
+
+-- the tag of a representation of all resources that have one: the names of the active releases, a line for each, stand for
+-- what their files hold
+abbrev pub tag_of : SiteValue → List ActiveValue → Representation → List ℕ
+tag_of site actives representation = entity_tag (inputs_of site (flat_map active_line actives) representation)
+
+-- the tag of what a request asks for, if it has one
+abbrev pub tag_to : SiteValue → List ActiveValue → RequestHead → List ℕ
+tag_to site actives head =
+    if is_tagged head then tag_of site actives (representation_of (query_in (origin_form head.target)) head) else []
+
+-- the reply to a client that has the tag or not: a 200 has the tag, and becomes a 304 for a client that has it; any other
+-- reply stays as it is
+abbrev pub validated_by : Bool → List ℕ → ℕ → ReplyValue → ReplyValue
+validated_by has tag max_age reply =
+    if is_good reply.status
+    then (if has then not_modified tag max_age reply.representation else with_tag tag max_age reply)
+    else reply
+
+-- the reply to a request, if its target has a tag
+abbrev pub validated : RequestHead → List ℕ → ℕ → ReplyValue → ReplyValue
+validated head tag max_age reply = if is_tagged head then validated_by (has_tag tag head) tag max_age reply else reply
+
+-- the reply to a preflight of a resource
+abbrev pub preflight_of : Resource → Option Status
+preflight_of resource.Home = Some status.Preflight
+preflight_of resource.Status = Some status.Preflight
+preflight_of resource.Resolve = Some status.QueryPreflight
+preflight_of resource.Package = Some status.QueryPreflight
+preflight_of resource.Go = Some status.QueryPreflight
+preflight_of resource.Unknown = None
+
+-- the status of the reply to a preflight; a request without a host is none, and nor is one of `/feed`
+abbrev pub preflight_status : RequestHead → Option Status
+preflight_status head =
+    if lacks_host head || not (bytes_eq head.method (codes "OPTIONS")) then None else preflight_of (resource_in head)
+
+-- the reply to a preflight, or else the one to the request
+abbrev pub unless_preflight : RequestHead → ReplyValue → ReplyValue
+unless_preflight head reply = option_map_or (λ code. reply_with code Text []) (preflight_status head) reply
+
+-- the reply to a request with this tag, from the reply that disregards the tag
+abbrev pub final_reply : RequestHead → List ℕ → ℕ → ReplyValue → ReplyValue
+final_reply head tag max_age reply = unless_preflight head (validated head tag max_age reply)

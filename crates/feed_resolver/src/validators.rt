@@ -1,0 +1,238 @@
+//! Entity tags, replies to clients that have the representation, and preflights (RFC 9110, sections 8.8.3 and 13.1.2;
+//! Fetch standard, section 3.3).
+ghost use Rattle.std.specs.Prelude.{◌≡◌, IfOk, true, Ok};
+ghost use Rattle.std.specs.List.{flat_map};
+ghost use Rattle.httparse.specs.Grammar.{RequestHead};
+ghost use Rattle.feed_http_heads.specs.Requests.{IsInBuffer, HasHead};
+ghost use Rattle.feed_answer.specs.QueryValue.{QueryValue};
+ghost use Rattle.feed_answer.specs.Queries.{query_of};
+ghost use Rattle.feed_resolver_tag.specs.Tags.{entity_tag, inputs_of};
+ghost use Rattle.feed_resolver.specs.Status.{active_line};
+ghost use Rattle.feed_resolver.specs.Validators.{has_validator, is_tagged, tag_of, tag_to, validated_by, validated};
+ghost use Rattle.feed_resolver.specs.Validators.{preflight_of, preflight_status};
+ghost use Rattle.feed_resolver.specs.Answered.{IsAnswered, IsAnsweredTo};
+ghost use Rattle.feed_resolver.specs.Replies.{reply_to};
+
+use crate::responses::{position_of, reply_to};
+use crate::status::put_lines;
+use feed_answer::{Query, QueryFault};
+use feed_http_heads::{Request, origin_form};
+use feed_keep::Keep;
+use feed_releases::{ActiveRelease, Feed};
+use feed_resolver_reply::{Reply, Status};
+use feed_resolver_request::{
+    Representation, Resource, has_tag, package_in, path_in, query_in, representation_of,
+    resource_of,
+};
+use feed_resolver_tag::{Digested, Site};
+use std::alloc::{AllocError, Global};
+
+fn has_validator(resource: Resource) -> bool
+    ensures { result ≡ has_validator resource }
+{
+    matches!(
+        resource,
+        Resource::Status | Resource::Resolve | Resource::Package
+    )
+}
+
+fn is_tagged(request: &Request<'_>) -> bool
+    requires { IsInBuffer request.now }
+    ensures { (head : RequestHead) → HasHead request.now head → result ≡ is_tagged head }
+{
+    (request.is_get() || request.is_head())
+        && has_validator(resource_of(path_in(origin_form(request.target()))))
+}
+
+fn lines_of(alloc: Global, actives: &[ActiveRelease<'_>]) -> Result<Vec<u8>, AllocError>
+    ensures { IfOk result (λ text. text.items ≡ flat_map active_line actives.now) }
+{
+    let mut text = Vec::new(alloc);
+    put_lines(&mut text, actives)?;
+    Ok(text)
+}
+
+// Returns the tag by a text about the releases. Computes its digest only if the site keeps that of another text.
+fn tag_by(
+    alloc: Global,
+    site: &Site,
+    text: Vec<u8>,
+    representation: Representation,
+) -> Result<Vec<u8>, AllocError>
+    ensures { IfOk result (λ tag. tag.items ≡ entity_tag (inputs_of site.now text.items representation)) }
+{
+    let kept = site.releases();
+    if kept.text() == text.as_slice() {
+        return site.tag(alloc, kept, representation);
+    }
+    site.tag(alloc, &Digested::new(text), representation)
+}
+
+fn tag_of(
+    alloc: Global,
+    site: &Site,
+    actives: &[ActiveRelease<'_>],
+    representation: Representation,
+) -> Result<Vec<u8>, AllocError>
+    ensures { IfOk result (λ tag. tag.items ≡ tag_of site.now actives.now representation) }
+{
+    tag_by(alloc, site, lines_of(alloc, actives)?, representation)
+}
+
+/// Returns the entity tag of what a request asks for. It is empty if there is none. Computes the digest of the active
+/// releases only if the site keeps that of others.
+pub(crate) fn tag_to(
+    alloc: Global,
+    request: &Request<'_>,
+    site: &Site,
+    actives: &[ActiveRelease<'_>],
+) -> Result<Vec<u8>, AllocError>
+    requires { IsInBuffer request.now }
+    ensures { IfOk result (λ tag. (head : RequestHead) → HasHead request.now head
+        → tag.items ≡ tag_to site.now actives.now head) }
+{
+    if is_tagged(request) {
+        let query = query_in(origin_form(request.target()));
+        let representation = representation_of(query, &request.fields());
+        tag_of(alloc, site, actives, representation)
+    } else {
+        Ok(Vec::new(alloc))
+    }
+}
+
+fn is_query(alloc: Global, text: &[u8]) -> Result<bool, AllocError>
+    ensures { IfOk result (λ is. is ≡ true → (query : QueryValue) × (query_of text.now ≡ Ok query)) }
+{
+    match Query::read(alloc, text) {
+        Ok(_) => Ok(true),
+        Err(QueryFault::Memory) => Err(AllocError),
+        Err(_) => Ok(false),
+    }
+}
+
+// Returns whether the reply to a target is a 200, without looking at any holdings. A target without a tag is left to
+// `reply_to`.
+fn is_answered(
+    alloc: Global,
+    target: &[u8],
+    actives: &[ActiveRelease<'_>],
+) -> Result<bool, AllocError>
+    ensures { IfOk result (λ is. is ≡ true → IsAnswered target.now actives.now) }
+{
+    let path = path_in(target);
+    match resource_of(path) {
+        Resource::Status => Ok(true),
+        Resource::Resolve => is_query(alloc, query_in(target)),
+        Resource::Package => {
+            if position_of(actives, package_in(path)).is_some() {
+                is_query(alloc, query_in(target))
+            } else {
+                Ok(false)
+            }
+        }
+        _ => Ok(false),
+    }
+}
+
+// The same for a request with a tag.
+fn is_answered_to(
+    alloc: Global,
+    request: &Request<'_>,
+    actives: &[ActiveRelease<'_>],
+) -> Result<bool, AllocError>
+    requires { IsInBuffer request.now }
+    ensures { IfOk result (λ is. is ≡ true → (head : RequestHead) → HasHead request.now head
+        → is_tagged head ≡ true → IsAnsweredTo head actives.now) }
+{
+    if request.lacks_host() || request.fields().has_field(b"transfer-encoding") {
+        return Ok(false);
+    }
+    is_answered(alloc, origin_form(request.target()), actives)
+}
+
+fn validated_by<'a>(
+    alloc: Global,
+    reply: Reply<'a>,
+    has: bool,
+    tag: Vec<u8>,
+    max_age: u32,
+) -> Reply<'a>
+    ensures { result ≡ validated_by has tag.items max_age reply.entry }
+{
+    if !reply.is_good() {
+        return reply;
+    }
+    if has {
+        Reply::not_modified(alloc, tag, max_age, reply.representation())
+    } else {
+        reply.with_tag(tag, max_age)
+    }
+}
+
+/// Returns the reply to a request, with its tag. A client that has the tag gets a 304 where it would get a 200.
+pub(crate) fn validated_reply<'a>(
+    alloc: Global,
+    request: &Request<'_>,
+    body: &[u8],
+    tag: Vec<u8>,
+    max_age: u32,
+    actives: &[ActiveRelease<'a>],
+) -> Result<Reply<'a>, AllocError>
+    requires { IsInBuffer request.now }
+    ensures { IfOk result (λ reply. (head : RequestHead) → HasHead request.now head
+        → reply ≡ validated head tag.items max_age (reply_to head body.now actives.now)) }
+{
+    if !is_tagged(request) {
+        return reply_to(alloc, request, body, actives);
+    }
+    let has = has_tag(&tag, &request.fields());
+    if has && is_answered_to(alloc, request, actives)? {
+        let query = query_in(origin_form(request.target()));
+        let representation = representation_of(query, &request.fields());
+        return Ok(Reply::not_modified(alloc, tag, max_age, representation));
+    }
+    let reply = reply_to(alloc, request, body, actives)?;
+    Ok(validated_by(alloc, reply, has, tag, max_age))
+}
+
+fn preflight_of(resource: Resource) -> Option<Status>
+    ensures { result ≡ preflight_of resource }
+{
+    match resource {
+        Resource::Home | Resource::Status => Some(Status::Preflight),
+        Resource::Resolve | Resource::Package | Resource::Go => Some(Status::QueryPreflight),
+        Resource::Unknown => None,
+    }
+}
+
+/// Returns the status of the reply to a preflight. Returns none for any other request, and for a target that no script
+/// of another site may request.
+pub(crate) fn preflight_status(request: &Request<'_>) -> Option<Status>
+    requires { IsInBuffer request.now }
+    ensures { (head : RequestHead) → HasHead request.now head → result ≡ preflight_status head }
+{
+    if request.lacks_host() || request.method() != b"OPTIONS".as_slice() {
+        return None;
+    }
+    preflight_of(resource_of(path_in(origin_form(request.target()))))
+}
+
+/// Keeps the digest of the active releases, if the site keeps that of others.
+///
+/// # Errors
+///
+/// Running out of memory, after which each reply computes the digest itself.
+pub fn keep_releases<K: Keep + Drop>(
+    alloc: Global,
+    site: &mut Site,
+    feed: &Feed<K>,
+) -> Result<(), AllocError>
+    ensures { site.new ≡ site.old }
+{
+    let actives = feed.actives()?;
+    let text = lines_of(alloc, &actives)?;
+    if site.releases().text() != text.as_slice() {
+        site.keep_releases(text);
+    }
+    Ok(())
+}

@@ -1,0 +1,135 @@
+//! What the replies of a node depend on beside its releases, and the tags that follow from it.
+ghost use Rattle.std.specs.Prelude.{◌≡◌, IfOk};
+ghost use Rattle.std.specs.Fmt.{decimal};
+ghost use Rattle.feed_resolver_tag.specs.Tags.{entity_tag, inputs_of, kind_of, tag_message, quoted_hex};
+ghost use Rattle.sha2.specs.Sha256.{sha256};
+
+use crate::digested::Digested;
+use feed_resolver_request::Representation;
+use sha2::{Digest, Sha256};
+use std::alloc::{AllocError, Global};
+use std::io::Write;
+use std::marker::Model;
+
+/// What the replies of a node depend on beside its releases: the version of the program and the settings.
+#[derive(Drop)]
+pub struct Site {
+    version: Digested,
+    /// The settings as a text.
+    settings: Digested,
+    /// The text about the releases whose digest was computed last.
+    releases: Digested,
+    /// For how many seconds a cache may use a reply without asking again; 0 if it always has to ask.
+    max_age: u32,
+}
+
+impl Model for Site {
+    ghost use Rattle.std.specs.Prelude.{◌≡◌};
+    ghost use Rattle.std.specs.Fmt.{decimal};
+    ghost use Rattle.feed_resolver_tag.specs.Tags.{SiteValue};
+
+    ghost Value = { SiteValue };
+
+    ghost view = { λ s. record { version = s.version; max_age = s.max_age } };
+
+    ghost invariant = { λ s. s.settings ≡ decimal s.max_age };
+}
+
+fn kind_of(representation: Representation) -> u8
+    ensures { result ≡ kind_of representation }
+{
+    match representation {
+        Representation::Text => b't',
+        Representation::Json => b'j',
+        Representation::Html => b'h',
+    }
+}
+
+fn decimal(alloc: Global, number: u32) -> Result<Vec<u8>, AllocError>
+    ensures { IfOk result (λ text. text.items ≡ decimal number) }
+{
+    let mut text = Vec::new(alloc);
+    match write!(&mut text, "{number}") {
+        Ok(()) => Ok(text),
+        Err(_) => Err(AllocError),
+    }
+}
+
+fn digest_of(
+    version: &Digested,
+    settings: &Digested,
+    releases: &Digested,
+    representation: Representation,
+) -> [u8; 32]
+    ensures { result ≡ sha256 (tag_message version.now settings.now releases.now representation) }
+{
+    let mut hasher = Sha256::new();
+    hasher.update(version.digest().as_slice());
+    hasher.update(settings.digest().as_slice());
+    hasher.update(releases.digest().as_slice());
+    hasher.update([kind_of(representation)].as_slice());
+    hasher.finalize()
+}
+
+fn quoted_hex(alloc: Global, digest: &[u8]) -> Result<Vec<u8>, AllocError>
+    ensures { IfOk result (λ text. text.items ≡ quoted_hex digest.now) }
+{
+    let digits = hex::encode(alloc, digest)?;
+    let mut text = Vec::new(alloc);
+    text.push(b'"')?;
+    text.extend_from_slice(digits.as_bytes())?;
+    text.push(b'"')?;
+    Ok(text)
+}
+
+impl Site {
+    /// Begins with the version of the program, and for how many seconds a cache may use a reply without asking again.
+    pub fn new(alloc: Global, version: &[u8], max_age: u32) -> Result<Site, AllocError>
+        ensures { IfOk result (λ site. (site.version ≡ version.now) × (site.max_age ≡ max_age)) }
+    {
+        let settings = Digested::new(decimal(alloc, max_age)?);
+        let version = Digested::new(Vec::from_slice(alloc, version)?);
+        Ok(Site {
+            version,
+            settings,
+            releases: Digested::new(Vec::new(alloc)),
+            max_age,
+        })
+    }
+
+    /// Returns the text about the releases whose digest is kept.
+    pub fn releases(&self) -> &Digested {
+        &self.releases
+    }
+
+    /// Keeps the digest of a text about the releases. Changes no tag.
+    pub fn keep_releases(&mut self, text: Vec<u8>)
+        ensures { self.new ≡ self.old }
+    {
+        self.releases = Digested::new(text);
+    }
+
+    /// Returns for how many seconds a cache may use a reply without asking again.
+    pub fn max_age(&self) -> u32
+        ensures { result ≡ self.now.max_age }
+    {
+        self.max_age
+    }
+
+    /// Returns the entity tag of a representation that this text about the active releases determines.
+    ///
+    /// # Errors
+    ///
+    /// Running out of memory.
+    pub fn tag(
+        &self,
+        alloc: Global,
+        releases: &Digested,
+        representation: Representation,
+    ) -> Result<Vec<u8>, AllocError>
+        ensures { IfOk result (λ tag. tag.items ≡ entity_tag (inputs_of self.now releases.now representation)) }
+    {
+        let digest = digest_of(&self.version, &self.settings, releases, representation);
+        quoted_hex(alloc, &digest)
+    }
+}
