@@ -9,8 +9,8 @@ use std::time::Duration;
 #[derive(Clone, Copy)]
 pub enum Command<'a> {
     /// Answer `clients` readers at a time. `time` is the limit of each step of a connection, and `idle` of the time
-    /// between two requests. A cache may use an answer for `max_age` seconds without asking again. A check only opens all
-    /// that the node needs.
+    /// between two requests. A cache may use an answer for `max_age` seconds without asking again. A check only opens
+    /// all that the node needs.
     Node {
         addr: &'a str,
         clients: usize,

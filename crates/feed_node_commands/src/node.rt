@@ -16,8 +16,8 @@ use std::net::ToSocketAddrs;
 const MIN_CLIENTS: usize = 16;
 
 /// Where a node listens, how many clients it answers at a time, and how many milliseconds each step of a connection and
-/// the time between two requests may take; and for how many seconds a cache may use an answer without asking again, or 0.
-/// A check ends once all is open.
+/// the time between two requests may take; and for how many seconds a cache may use an answer without asking again, or
+/// 0. A check ends once all is open.
 #[derive(Clone, Copy)]
 pub struct Hosting<'a> {
     pub addr: &'a str,

@@ -12,7 +12,8 @@ use Rattle.std.proofs.lemmas.List.Elements.{All-nil, All-append, All-weaker, All
 use Rattle.std.proofs.lemmas.List.Sums.{AllPass-from_list_all}
 use Rattle.std.proofs.lemmas.Bool.{cases_Bool}
 use Rattle.std.proofs.lemmas.Bool.Decides.{nat_tests}
-use Rattle.httparse.specs.Grammar.{AllPass, ResponseHead, IsResponseHead, print_response, Field, IsField, field_value, crlf, print_field, trim_ows, skip_ows, is_ows, is_value_byte, is_token_byte, is_uri_byte}
+use Rattle.httparse.specs.Grammar.{AllPass, ResponseHead, IsResponseHead, print_response, Field, IsField, field_value}
+use Rattle.httparse.specs.Grammar.{crlf, print_field, trim_ows, skip_ows, is_ows, is_value_byte, is_token_byte, is_uri_byte}
 use Rattle.httparse.specs.Grammar as grammar
 use Rattle.httparse.proofs.OnLiterals.{httparse_on_literals}
 use Rattle.httparse.proofs.TrimLemmas.{trim_ows_space, AllPass-reverse}
@@ -21,10 +22,12 @@ use Rattle.feed_http_heads.specs.Fields.{values_named, only}
 use Rattle.feed_http_heads.specs.Options.{lists, lacks_close, SaysWhetherItKeeps}
 use Rattle.feed_resolver_request.specs.declared.representation.Representation.{Representation}
 use Rattle.feed_resolver_request.specs.declared.representation.Representation.TheVariants.{Text, Json, Html}
-use Rattle.feed_resolver_reply.specs.Replies.{ReplyValue, ResponseValue, status_code, reason_text, status_line, status_field, type_text, is_bodiless, connection_field, reply_head, reply_body, response_of}
+use Rattle.feed_resolver_reply.specs.Replies.{ReplyValue, ResponseValue, status_code, reason_text, status_line, status_field}
+use Rattle.feed_resolver_reply.specs.Replies.{type_text, is_bodiless, connection_field, reply_head, reply_body, response_of}
 use Rattle.feed_resolver_reply.specs.Laws.{NotModifiedIsHeadOfGood}
 use Rattle.feed_resolver_reply.specs.Replies.{with_tag, not_modified, content_fields, tag_field, cache_field, policy_field, last_fields}
-use Rattle.feed_resolver_reply.specs.Messages.{EndsInCrlf, IsSentHead, IsMessage, IsHeadOf, IsSentAs, IsSendable, StatesLength, StatesBody, IsMessageFor, BeginsStream, locations, unless_bodiless, tags, cache_text}
+use Rattle.feed_resolver_reply.specs.Messages.{EndsInCrlf, IsSentHead, IsMessage, IsHeadOf, IsSentAs, IsSendable, StatesLength}
+use Rattle.feed_resolver_reply.specs.Messages.{StatesBody, IsMessageFor, BeginsStream, locations, unless_bodiless, tags, cache_text}
 use Rattle.feed_resolver_reply.specs.Messages.{StatesConnection, connection_values}
 use Rattle.feed_resolver_reply.specs.Pieces.{joined}
 use Rattle.feed_resolver_reply.specs.FetchReplies.{progress_head, progress_response}

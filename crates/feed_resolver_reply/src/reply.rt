@@ -19,7 +19,8 @@ use std::marker::Model;
 const LAST_FIELDS: &[u8] =
     b"\r\nVary: Accept\r\nX-Content-Type-Options: nosniff\r\nReferrer-Policy: no-referrer";
 
-// A page runs no script, has its own styles alone, and sends its form to its own site (Content Security Policy Level 3).
+// A page runs no script, has its own styles alone, and sends its form to its own site (Content Security Policy Level
+// 3).
 const PAGE_FIELDS: &[u8] =
     b"\r\nContent-Security-Policy: default-src 'none'; style-src 'unsafe-inline'; \
     form-action 'self'; base-uri 'none'";

@@ -48,8 +48,8 @@ fn names_tag(tag: &[u8], value: &[u8]) -> bool
     value == b"*".as_slice() || lists_tag(tag, value)
 }
 
-/// Returns whether the If-None-Match field is `*`, or lists the entity tag by the weak comparison. It is false if there is
-/// no such field, or several.
+/// Returns whether the If-None-Match field is `*`, or lists the entity tag by the weak comparison. It is false if there
+/// is no such field, or several.
 pub fn has_tag(tag: &[u8], fields: &Fields<'_>) -> bool
     requires { AreWithin fields.now }
     ensures { (head : RequestHead) → AreFieldsOf fields.now head.fields → result ≡ has_tag tag.now head }

@@ -1,5 +1,5 @@
-//! The entity tag of a link resolver's reply (RFC 9110, section 8.8.3): a digest of all that the reply depends on beside its
-//! request.
+//! The entity tag of a link resolver's reply (RFC 9110, section 8.8.3): a digest of all that the reply depends on
+//! beside its request.
 #![tactic(auto)]
 
 mod digested;

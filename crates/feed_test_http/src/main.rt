@@ -42,7 +42,7 @@
 //!     site VERSION MAX-AGE            the version and the seconds that tags and replies are made of; prints nothing
 //!     keep-releases                   keeps the digest of the active releases, as a node does; prints nothing
 //!     respond keep|close TEXT         the resolver's reply to a request, on a connection that is kept or closed
-//!     respond-to-form keep|close BODY TEXT    the length of the form that a request submits, and the reply to this body
+//!     respond-to-form keep|close BODY TEXT    the length of a request's form, and the reply to this body
 //!     respond-as-node TOKEN free|busy keep|close TEXT    the node's reply, if TOKEN authorizes a fetch; `-` for none
 //!     fetch-asked TOKEN TEXT          the release that a request asks the node to fetch, `no name`, or `none`
 //!     head-end TEXT                   whether a text begins with the head of a request, and where the head ends
