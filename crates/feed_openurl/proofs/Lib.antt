@@ -1,4 +1,4 @@
-pub mod Sets
-pub mod Tiers
 pub mod Sizes
 pub mod Kept
+pub mod Valid
+pub mod Written

@@ -6,10 +6,8 @@
 #![tactic(auto)]
 
 mod citation;
-mod collect;
 mod date;
 mod dates;
-mod decode;
 mod digits;
 mod dropped;
 mod fault;
@@ -19,17 +17,20 @@ mod kind;
 mod laws;
 mod lenient_date;
 mod links;
+mod number;
 mod numbers;
-mod pair;
 mod plain;
+mod sets;
 mod tokens;
 mod understanding;
+mod value;
 mod volume;
 mod volumes;
+mod words;
 mod writing;
 
 pub use crate::citation::Citation;
 pub use crate::dropped::{Dropped, dropped_keys};
 pub use crate::fault::{ReadFault, Refusal};
-pub use crate::laws::answers_are_kept;
+pub use crate::laws::{answers_are_kept, identifiers_stay, written_is_accepted};
 pub use crate::understanding::{IDENTIFIER_LIMIT, Understanding};

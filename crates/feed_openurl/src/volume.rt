@@ -1,7 +1,9 @@
 //! The volume of a query as the core reads it, and the leading number of a value that has more.
-ghost use Rattle.std.specs.Prelude.{◌≡◌, IfOk};
+ghost use Rattle.std.specs.Prelude.{◌≡◌, IfOk, not};
+ghost use Rattle.feed_openurl.specs.Volumes.{is_no_filler, is_volume_word, leading_volume, number_at_front, without_fillers};
 
 use crate::digits::{is_letter, split_digits, split_letters};
+use crate::key::is_name;
 use feed_kbart::read_volume;
 use std::alloc::{AllocError, Global};
 use std::marker::Model;
@@ -48,49 +50,57 @@ impl VolumeText {
     }
 }
 
-// Words that may come before the number of a volume.
-const WORDS: [&str; 9] = [
-    "volume", "vol", "v", "band", "bd", "tome", "tomo", "t", "vols",
-];
-
-fn is_word(word: &[u8]) -> bool {
-    WORDS
-        .iter()
-        .any(|known| word.eq_ignore_ascii_case(known.as_bytes()))
+// Whether a word may come before the number of a volume; also none.
+fn is_volume_word(word: &[u8]) -> bool
+    ensures { result ≡ is_volume_word word.now }
+{
+    word.is_empty()
+        || is_name(word, "volume")
+        || is_name(word, "vol")
+        || is_name(word, "v")
+        || is_name(word, "vols")
+        || is_name(word, "band")
+        || is_name(word, "bd")
+        || is_name(word, "tome")
+        || is_name(word, "tomo")
+        || is_name(word, "t")
 }
 
-fn is_filler(byte: u8) -> bool {
-    matches!(byte, b' ' | b'.' | b':' | b'[' | b'(')
+fn is_filler(byte: u8) -> bool
+    ensures { result ≡ not (is_no_filler byte) }
+{
+    byte == b' ' || byte == b'.' || byte == b':' || byte == b'[' || byte == b'('
 }
 
-fn skip_fillers(text: &[u8]) -> &[u8] {
+// The text from its first word or number on.
+fn without_fillers(text: &[u8]) -> &[u8]
+    ensures { result.now ≡ without_fillers text.now }
+{
     match text.iter().position(|byte| !is_filler(*byte)) {
         Some(start) => &text[start..],
         None => &[],
     }
 }
 
-// The digits at the front of a value, behind a word for a volume, with no letter beside them.
-fn leading_digits(value: &[u8]) -> Option<&[u8]> {
-    let (word, rest) = split_letters(skip_fillers(value));
-    if !word.is_empty() && !is_word(word) {
-        return None;
-    }
-    let (number, tail) = split_digits(skip_fillers(rest));
+// The number of one to nine digits at the front of a text, with no letter behind it.
+fn number_at_front(alloc: Global, text: &[u8]) -> Result<Option<VolumeText>, AllocError>
+    ensures { IfOk result (λ volume. volume ≡ number_at_front text.now) }
+{
+    let (number, tail) = split_digits(text);
     match tail.first() {
-        Some(next) if is_letter(*next) => None,
-        _ => Some(number),
+        Some(next) if is_letter(*next) => Ok(None),
+        _ => VolumeText::of_query(alloc, number),
     }
 }
 
 /// Returns the leading number of one to nine digits in a value in ASCII, with no letter beside it. Before it may be a
 /// word for a volume.
-pub(crate) fn leading_volume(
-    alloc: Global,
-    value: &[u8],
-) -> Result<Option<VolumeText>, AllocError> {
-    match leading_digits(value) {
-        Some(digits) => VolumeText::of_query(alloc, digits),
-        None => Ok(None),
+pub(crate) fn leading_volume(alloc: Global, value: &[u8]) -> Result<Option<VolumeText>, AllocError>
+    ensures { IfOk result (λ volume. volume ≡ leading_volume value.now) }
+{
+    let (word, rest) = split_letters(without_fillers(value));
+    if !is_volume_word(word) {
+        return Ok(None);
     }
+    number_at_front(alloc, without_fillers(rest))
 }

@@ -1,0 +1,197 @@
+-- What is written for a query: the core accepts it, and its identifiers are understood as they were.
+use Rattle.std.proofs.Common.{◌≡◌, ◌≤◌, ◌<◌, ℕ, Bool, true, false, ◌&&◌, ◌||◌, List, [], ◌∷◌, ◌++◌, length, Option, Some, None, Ok, Err, if◌then◌else◌, codes, refl, sym, ap, subst, ◌∙◌, map, append_assoc, arith}
+use Rattle.std.specs.Prelude.{fold, nat_lt}
+use Rattle.std.specs.declared.cmp.Ordering.TheVariants.{Less, Equal, Greater}
+use Rattle.std.specs.Ordering.{match_ordering, ordering_reverse}
+use Rattle.std.specs.BTreeSet.{insert_key}
+use Rattle.std.specs.List.{All, AllByRecursion, cons_option, filter_map, list_any}
+use Rattle.std.specs.List.Sorted.{IsStrictlySortedBy}
+use Rattle.std.proofs.lemmas.Bool.{le-ltb}
+use Rattle.std.proofs.lemmas.Cmp.{nat_list_cmp_total}
+use Rattle.std.proofs.lemmas.List.{append-nil}
+use Rattle.std.proofs.lemmas.List.Elements.{All-head, All-tail}
+use Rattle.feed_answer.specs.IdentifierSet.{bytes_cmp, IsAscending, identifier_set}
+use Rattle.feed_answer.specs.Pairs.{book_format, first_days, first_volume, has_format, is_empty, is_other_format, is_other_version, isbn_of_pair, issn_of_pair, journal_format}
+use Rattle.feed_answer.specs.Queries.{has_book_format, has_journal_format, has_other_format, query_isbns, query_issns, query_of_pairs}
+use Rattle.feed_answer.specs.QueryValue.{QueryValue}
+use Rattle.feed_answer.specs.declared.fault.QueryFault.TheVariants.{NoIsbn, NoIssn, OtherFormat, Version}
+use Rattle.feed_openurl.specs.Core.{core_isbns, core_issns, is_refused}
+use Rattle.feed_openurl.specs.Identifiers.{are_none, core_identifiers, count, identifier_limit, looked_up_of_others, within_limit}
+use Rattle.feed_openurl.specs.Keys.{keyed}
+use Rattle.feed_openurl.specs.Laws.{IdentifiersStay, WrittenIsAccepted}
+use Rattle.feed_openurl.specs.Values.{AreIdentifiers, IsCounted, IsIsbnText, IsIssnText, IsWellFormed, UnderstandingValue}
+use Rattle.feed_openurl.specs.Written.{date_pairs, isbn_pairs, issn_pairs, pairs_for, version_pair, volume_pairs, with_key}
+use Rattle.feed_openurl.specs.declared.fault.Refusal.{Refusal}
+use Rattle.feed_openurl.proofs.Kept.{found_kept}
+
+-- an identifier above all others is inserted last
+at_last : (P : List ℕ → Type 0) (front : List (List ℕ)) (one : List ℕ) (rest : List (List ℕ)) → AllByRecursion P (front ++ one ∷ rest) → P one
+at_last P [] one rest all = all.0
+at_last P (other ∷ others) one rest all = at_last P others one rest all.1
+
+insert_last : (front : List (List ℕ)) (one : List ℕ) (rest : List (List ℕ)) → IsAscending (front ++ one ∷ rest)
+    → insert_key bytes_cmp front one ≡ front ++ one ∷ []
+unfolding IsStrictlySortedBy
+insert_last [] one rest up = refl
+insert_last (other ∷ others) one rest up =
+    let below = at_last (λ y. bytes_cmp other y ≡ Less) others one rest up.0 in
+    let above : bytes_cmp one other ≡ Greater = nat_list_cmp_total.antisymm one other ∙ ap ordering_reverse below in
+    let later = insert_last others one rest up.1 in
+    ap (λ o. match_ordering o (one ∷ other ∷ others) (other ∷ others) (other ∷ insert_key bytes_cmp others one)) above
+    ∙ ap (λ l. other ∷ l) later
+
+fold_ascending : (rest front : List (List ℕ)) → IsAscending (front ++ rest) → fold (insert_key bytes_cmp) front rest ≡ front ++ rest
+fold_ascending [] front up = sym (append-nil front)
+fold_ascending (one ∷ rest) front up =
+    let same = append_assoc front (one ∷ []) rest in
+    ap (λ s. fold (insert_key bytes_cmp) s rest) (insert_last front one rest up)
+    ∙ fold_ascending rest (front ++ one ∷ []) (subst IsAscending (sym same) up)
+    ∙ same
+
+-- an ascending list is the set of its elements
+pub set_of_ascending : (ones : List (List ℕ)) → IsAscending ones → identifier_set ones ≡ ones
+set_of_ascending ones up = fold_ascending ones [] up
+
+
+abbrev Pair : Type 0
+Pair = List ℕ × List ℕ
+
+-- no written pair passes a test that fails for each of the keys
+none_in : (p : Pair → Bool) (key : List ℕ) → ((text : List ℕ) → p (key, text) ≡ false) → (texts : List (List ℕ)) (rest : List Pair)
+    → list_any p (map (with_key key) texts ++ rest) ≡ list_any p rest
+none_in p key no [] rest = refl
+none_in p key no (text ∷ texts) rest = ap (λ b. b || list_any p (map (with_key key) texts ++ rest)) (no text) ∙ none_in p key no texts rest
+
+none_last : (p : Pair → Bool) → ((text : List ℕ) → p (codes "rft.date", text) ≡ false) → ((text : List ℕ) → p (codes "rft.volume", text) ≡ false)
+    → (date volume : Option (List ℕ)) → list_any p (date_pairs date ++ volume_pairs volume) ≡ false
+none_last p dates volumes None None = refl
+none_last p dates volumes None (Some volume) = ap (λ b. b || false) (volumes volume)
+none_last p dates volumes (Some date) None = ap (λ b. b || false) (dates date)
+none_last p dates volumes (Some date) (Some volume) = ap (λ b. b || (p (codes "rft.volume", volume) || false)) (dates date) ∙ ap (λ b. b || false) (volumes volume)
+
+none_written : (p : Pair → Bool) → p version_pair ≡ false → ((text : List ℕ) → p (codes "rft.issn", text) ≡ false)
+    → ((text : List ℕ) → p (codes "rft.isbn", text) ≡ false) → ((text : List ℕ) → p (codes "rft.date", text) ≡ false)
+    → ((text : List ℕ) → p (codes "rft.volume", text) ≡ false)
+    → (issns isbns : List (List ℕ)) (date volume : Option (List ℕ)) → list_any p (pairs_for issns isbns date volume) ≡ false
+none_written p version first second third fourth issns isbns date volume =
+    ap (λ b. b || list_any p (issn_pairs issns ++ (isbn_pairs isbns ++ (date_pairs date ++ volume_pairs volume)))) version
+    ∙ none_in p (codes "rft.issn") first issns (isbn_pairs isbns ++ (date_pairs date ++ volume_pairs volume))
+    ∙ none_in p (codes "rft.isbn") second isbns (date_pairs date ++ volume_pairs volume)
+    ∙ none_last p third fourth date volume
+
+-- the values of a key that are read, and those of a key that is not
+read_in : (P : List ℕ → Type 0) (read : Pair → Option (List ℕ)) (key : List ℕ) → ((text : List ℕ) → P text → read (key, text) ≡ Some text)
+    → (texts : List (List ℕ)) (rest : List Pair) → All P texts → filter_map read (map (with_key key) texts ++ rest) ≡ texts ++ filter_map read rest
+read_in P read key yes [] rest all = refl
+read_in P read key yes (text ∷ texts) rest all =
+    ap (λ o. cons_option o (filter_map read (map (with_key key) texts ++ rest))) (yes text (All-head P text texts all))
+    ∙ ap (λ l. text ∷ l) (read_in P read key yes texts rest (All-tail P text texts all))
+
+skipped_in : (read : Pair → Option (List ℕ)) (key : List ℕ) → ((text : List ℕ) → read (key, text) ≡ None)
+    → (texts : List (List ℕ)) (rest : List Pair) → filter_map read (map (with_key key) texts ++ rest) ≡ filter_map read rest
+skipped_in read key no [] rest = refl
+skipped_in read key no (text ∷ texts) rest =
+    ap (λ o. cons_option o (filter_map read (map (with_key key) texts ++ rest))) (no text) ∙ skipped_in read key no texts rest
+
+issns_last : (date volume : Option (List ℕ)) → filter_map issn_of_pair (date_pairs date ++ volume_pairs volume) ≡ []
+issns_last None None = refl
+issns_last None (Some volume) = refl
+issns_last (Some date) None = refl
+issns_last (Some date) (Some volume) = refl
+
+isbns_last : (date volume : Option (List ℕ)) → filter_map isbn_of_pair (date_pairs date ++ volume_pairs volume) ≡ []
+isbns_last None None = refl
+isbns_last None (Some volume) = refl
+isbns_last (Some date) None = refl
+isbns_last (Some date) (Some volume) = refl
+
+issns_written : (issns isbns : List (List ℕ)) (date volume : Option (List ℕ)) → All IsIssnText issns
+    → filter_map issn_of_pair (pairs_for issns isbns date volume) ≡ issns
+issns_written issns isbns date volume all =
+    read_in IsIssnText issn_of_pair (codes "rft.issn") (λ text is. is) issns (isbn_pairs isbns ++ (date_pairs date ++ volume_pairs volume)) all
+    ∙ ap (λ l. issns ++ l) (skipped_in issn_of_pair (codes "rft.isbn") (λ text. refl) isbns (date_pairs date ++ volume_pairs volume) ∙ issns_last date volume)
+    ∙ append-nil issns
+
+isbns_written : (issns isbns : List (List ℕ)) (date volume : Option (List ℕ)) → All IsIsbnText isbns
+    → filter_map isbn_of_pair (pairs_for issns isbns date volume) ≡ isbns
+isbns_written issns isbns date volume all =
+    skipped_in isbn_of_pair (codes "rft.issn") (λ text. refl) issns (isbn_pairs isbns ++ (date_pairs date ++ volume_pairs volume))
+    ∙ read_in IsIsbnText isbn_of_pair (codes "rft.isbn") (λ text is. is) isbns (date_pairs date ++ volume_pairs volume) all
+    ∙ ap (λ l. isbns ++ l) (isbns_last date volume)
+    ∙ append-nil isbns
+
+module _ (issns isbns : List (List ℕ)) (date volume : Option (List ℕ)) (are : AreIdentifiers issns isbns) where
+  abbrev all_pairs : List Pair
+  all_pairs = pairs_for issns isbns date volume
+
+  no_version : list_any is_other_version all_pairs ≡ false
+  no_version = none_written is_other_version refl (λ t. refl) (λ t. refl) (λ t. refl) (λ t. refl) issns isbns date volume
+
+  no_other : list_any is_other_format all_pairs ≡ false
+  no_other = none_written is_other_format refl (λ t. refl) (λ t. refl) (λ t. refl) (λ t. refl) issns isbns date volume
+
+  no_book : has_book_format all_pairs ≡ false
+  no_book = none_written (has_format book_format) refl (λ t. refl) (λ t. refl) (λ t. refl) (λ t. refl) issns isbns date volume
+
+  no_journal : has_journal_format all_pairs ≡ false
+  no_journal = none_written (has_format journal_format) refl (λ t. refl) (λ t. refl) (λ t. refl) (λ t. refl) issns isbns date volume
+
+  no_format : has_other_format all_pairs ≡ false
+  no_format = ap (λ b. b || (has_journal_format all_pairs && has_book_format all_pairs)) no_other ∙ ap (λ b. b && has_book_format all_pairs) no_journal
+
+  own_issns : query_issns all_pairs ≡ issns
+  own_issns =
+      ap (λ b. if b then [] else identifier_set (filter_map issn_of_pair all_pairs)) no_book
+      ∙ ap identifier_set (issns_written issns isbns date volume are.issns_parse) ∙ set_of_ascending issns are.issns_ascend
+
+  own_isbns : query_isbns all_pairs ≡ isbns
+  own_isbns =
+      ap (λ b. if b then [] else identifier_set (filter_map isbn_of_pair all_pairs)) no_journal
+      ∙ ap identifier_set (isbns_written issns isbns date volume are.isbns_parse) ∙ set_of_ascending isbns are.isbns_ascend
+
+  accepted : is_refused all_pairs ≡ false
+  accepted = ap (λ b. b || has_other_format all_pairs) no_version ∙ no_format
+
+some_are : (issns isbns : List (List ℕ)) → 0 < count issns isbns → (is_empty issns && is_empty isbns) ≡ false
+some_are [] [] e = absurd (omega (arith, e))
+some_are [] (isbn ∷ isbns) e = refl
+some_are (issn ∷ issns) isbns e = refl
+
+not_empty : (issns isbns : List (List ℕ)) (refusal : Option Refusal) → IsCounted issns isbns refusal → refusal ≡ None
+    → (0 < count issns isbns) × (count issns isbns ≤ identifier_limit)
+not_empty issns isbns None is none = is
+not_empty issns isbns (Some why) is none = absurd (cc)
+
+abbrev asked : List Pair → List (List ℕ) → List (List ℕ) → QueryValue
+asked pairs issns isbns = record { issns = issns; isbns = isbns; days = first_days pairs; volume = first_volume pairs }
+
+-- the core answers the pairs that are written
+pub written_accepted : WrittenIsAccepted
+written_accepted u is none =
+    let issns = u.issns in
+    let isbns = u.isbns in
+    let pairs = pairs_for issns isbns u.date u.volume in
+    let some = some_are issns isbns (not_empty issns isbns u.refusal is.counted none).0 in
+    let fault = if has_book_format pairs then NoIsbn else NoIssn in
+    let answer = λ (a : List (List ℕ)) (b : List (List ℕ)). if is_empty a && is_empty b then Err fault else Ok (asked pairs a b) in
+    ap (λ b. if b then Err Version else if has_other_format pairs then Err OtherFormat else answer (query_issns pairs) (query_isbns pairs)) (no_version issns isbns u.date u.volume is.identifiers)
+    ∙ ap (λ b. if b then Err OtherFormat else answer (query_issns pairs) (query_isbns pairs)) (no_format issns isbns u.date u.volume is.identifiers)
+    ∙ ap (λ l. answer l (query_isbns pairs)) (own_issns issns isbns u.date u.volume is.identifiers)
+    ∙ ap (λ l. answer issns l) (own_isbns issns isbns u.date u.volume is.identifiers)
+    ∙ ap (λ b. if b then Err fault else Ok (asked pairs issns isbns)) some
+
+-- the identifiers of the pairs that are written are understood as they were
+pub identifiers_stay : IdentifiersStay
+identifiers_stay u is none =
+    let issns = u.issns in
+    let isbns = u.isbns in
+    let pairs = pairs_for issns isbns u.date u.volume in
+    let counted = not_empty issns isbns u.refusal is.counted none in
+    let some = some_are issns isbns counted.0 in
+    let accept = accepted issns isbns u.date u.volume is.identifiers in
+    let first : core_issns pairs ≡ issns = ap (λ b. if b then [] else query_issns pairs) accept ∙ own_issns issns isbns u.date u.volume is.identifiers in
+    let second : core_isbns pairs ≡ isbns = ap (λ b. if b then [] else query_isbns pairs) accept ∙ own_isbns issns isbns u.date u.volume is.identifiers in
+    let same : core_identifiers pairs ≡ record { issns = issns; isbns = isbns } =
+      ap (λ l. record { issns = l; isbns = core_isbns pairs }) first ∙ ap (λ l. record { issns = issns; isbns = l }) second in
+    ap (λ found. if are_none found then looked_up_of_others (map keyed pairs) else within_limit found) same
+    ∙ found_kept (record { issns = issns; isbns = isbns }) (looked_up_of_others (map keyed pairs)) some (le-ltb identifier_limit (count issns isbns) counted.1)
