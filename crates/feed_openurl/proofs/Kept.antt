@@ -140,7 +140,7 @@ keeps pairs q a few =
     let issns : core_issns pairs ≡ q.issns = own_issns ∙ ap (λ v. v.issns) a.same in
     let isbns : core_isbns pairs ≡ q.isbns = own_isbns ∙ ap (λ v. v.isbns) a.same in
     let some : are_none (core_identifiers pairs) ≡ false =
-      ap (λ l. is_empty l && is_empty (core_isbns pairs)) own_issns ∙ ap (λ l. is_empty (query_issns pairs) && is_empty l) own_isbns ∙ a.nonempty in
+    ap (λ l. is_empty l && is_empty (core_isbns pairs)) own_issns ∙ ap (λ l. is_empty (query_issns pairs) && is_empty l) own_isbns ∙ a.nonempty in
     let first_count = ap length issns in
     let second_count = ap length isbns in
     let size : count (core_issns pairs) (core_isbns pairs) ≤ identifier_limit = omega (arith, few, first_count, second_count) in

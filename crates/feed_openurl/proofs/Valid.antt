@@ -171,9 +171,9 @@ module _ (ascend : SetsAscend) (issn_law : PrintedFormParses issn_of) (isbn_law 
   for_valid : (is_journal is_book : Bool) (found : List Number) → All IsValid found → AreValid (identifiers_for is_journal is_book found)
   for_valid is_journal is_book found all = (
     if_set IsIssnText is_book [] (identifier_set (filter_map as_issn found)) (no_set IsIssnText)
-      (ascend (filter_map as_issn found), set_parses IsIssnText (filter_map as_issn found) [] (issns_parse issn_law isbn_law found all) (All-nil IsIssnText)),
+        (ascend (filter_map as_issn found), set_parses IsIssnText (filter_map as_issn found) [] (issns_parse issn_law isbn_law found all) (All-nil IsIssnText)),
     if_set IsIsbnText is_journal [] (identifier_set (filter_map as_isbn found)) (no_set IsIsbnText)
-      (ascend (filter_map as_isbn found), set_parses IsIsbnText (filter_map as_isbn found) [] (isbns_parse issn_law isbn_law found all) (All-nil IsIsbnText)),
+        (ascend (filter_map as_isbn found), set_parses IsIsbnText (filter_map as_isbn found) [] (isbns_parse issn_law isbn_law found all) (All-nil IsIsbnText)),
   )
 
   tier_valid : (is_journal is_book : Bool) (values : List (Key × List ℕ)) → AreValid (first_tier is_journal is_book values)
@@ -220,11 +220,11 @@ module _ (ascend : SetsAscend) (issn_law : PrintedFormParses issn_of) (isbn_law 
   core_valid : (pairs : List (List ℕ × List ℕ)) → AreValid (core_identifiers pairs)
   core_valid pairs = (
     if_set IsIssnText (is_refused pairs) [] _ (no_set IsIssnText)
-      (if_set IsIssnText (has_book_format pairs) [] (identifier_set (filter_map issn_of_pair pairs)) (no_set IsIssnText)
-      (ascend (filter_map issn_of_pair pairs), set_parses IsIssnText (filter_map issn_of_pair pairs) [] (some_parse IsIssnText issn_of_pair pair_issn pairs) (All-nil IsIssnText))),
+        (if_set IsIssnText (has_book_format pairs) [] (identifier_set (filter_map issn_of_pair pairs)) (no_set IsIssnText)
+        (ascend (filter_map issn_of_pair pairs), set_parses IsIssnText (filter_map issn_of_pair pairs) [] (some_parse IsIssnText issn_of_pair pair_issn pairs) (All-nil IsIssnText))),
     if_set IsIsbnText (is_refused pairs) [] _ (no_set IsIsbnText)
-      (if_set IsIsbnText (has_journal_format pairs) [] (identifier_set (filter_map isbn_of_pair pairs)) (no_set IsIsbnText)
-      (ascend (filter_map isbn_of_pair pairs), set_parses IsIsbnText (filter_map isbn_of_pair pairs) [] (some_parse IsIsbnText isbn_of_pair pair_isbn pairs) (All-nil IsIsbnText))),
+        (if_set IsIsbnText (has_journal_format pairs) [] (identifier_set (filter_map isbn_of_pair pairs)) (no_set IsIsbnText)
+        (ascend (filter_map isbn_of_pair pairs), set_parses IsIsbnText (filter_map isbn_of_pair pairs) [] (some_parse IsIsbnText isbn_of_pair pair_isbn pairs) (All-nil IsIsbnText))),
   )
 
   looked_by : (pairs : List (List ℕ × List ℕ)) (b : Bool) → are_none (core_identifiers pairs) ≡ b

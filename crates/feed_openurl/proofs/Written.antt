@@ -52,7 +52,6 @@ fold_ascending (one ∷ rest) front up =
 pub set_of_ascending : (ones : List (List ℕ)) → IsAscending ones → identifier_set ones ≡ ones
 set_of_ascending ones up = fold_ascending ones [] up
 
-
 abbrev Pair : Type 0
 Pair = List ℕ × List ℕ
 
@@ -192,6 +191,6 @@ identifiers_stay u is none =
     let first : core_issns pairs ≡ issns = ap (λ b. if b then [] else query_issns pairs) accept ∙ own_issns issns isbns u.date u.volume is.identifiers in
     let second : core_isbns pairs ≡ isbns = ap (λ b. if b then [] else query_isbns pairs) accept ∙ own_isbns issns isbns u.date u.volume is.identifiers in
     let same : core_identifiers pairs ≡ record { issns = issns; isbns = isbns } =
-      ap (λ l. record { issns = l; isbns = core_isbns pairs }) first ∙ ap (λ l. record { issns = issns; isbns = l }) second in
+    ap (λ l. record { issns = l; isbns = core_isbns pairs }) first ∙ ap (λ l. record { issns = issns; isbns = l }) second in
     ap (λ found. if are_none found then looked_up_of_others (map keyed pairs) else within_limit found) same
     ∙ found_kept (record { issns = issns; isbns = isbns }) (looked_up_of_others (map keyed pairs)) some (le-ltb identifier_limit (count issns isbns) counted.1)

@@ -1,7 +1,8 @@
 -- The first date in a value that is no date of the core, as `20 Oct 2005`, `Oct-Nov 2005`, `1996-1997` and `Spring 2004`.
-use Rattle.std.specs.Prelude.{ℕ, Bool, true, false, ◌+◌, ◌-◌, ◌*◌, ◌/◌, ◌%◌, ◌||◌, ◌&&◌, ◌==◌, nat_lt, min, List, [], ◌∷◌, ◌++◌, length, filter, Option, Some, None, if◌then◌else◌, codes}
+use Rattle.std.specs.Prelude.{ℕ, Bool, true, false, ◌+◌, ◌-◌, ◌*◌, ◌/◌, ◌%◌, ◌||◌, ◌&&◌, ◌==◌, not, nat_lt, min, List, [], ◌∷◌, ◌++◌, length, take, drop, filter, Option, Some, None, if◌then◌else◌, codes}
 use Rattle.std.specs.Char.{is_ascii_digit}
-use Rattle.std.specs.List.{after_first, before_first, cons_option}
+use Rattle.std.specs.List.{cons_option}
+use Rattle.feed_openurl.specs.Fronts.{front_len}
 use Rattle.feed_openurl.specs.Identifiers.{or_text}
 use Rattle.feed_openurl.specs.Keys.{is_name}
 use Rattle.feed_openurl.specs.Texts.{date_text_of}
@@ -153,11 +154,17 @@ year_last (Small first ∷ Mark mark ∷ Small second ∷ Mark other ∷ last �
     if is_between mark && (mark == other) then year_last_of (year_of last) first mark second else None
 year_last _ = None
 
+-- the small number behind the same mark, or 0
+abbrev pub day_behind : ℕ → List Token → ℕ
+day_behind mark (Mark other ∷ Small day ∷ tokens) = if mark == other then day else 0
+day_behind mark _ = 0
+
+abbrev pub numbered : List ℕ → ℕ → ℕ → ℕ → Option (List ℕ)
+numbered year mark month day = if is_between mark then date_of_parts year month day else date_of_parts year 0 0
+
 -- the date of a year and of the numbers behind it
 abbrev pub date_after_year : List ℕ → List Token → Option (List ℕ)
-date_after_year year (Mark mark ∷ Small month ∷ Mark other ∷ Small day ∷ tokens) =
-    if is_between mark then date_of_parts year month (if mark == other then day else 0) else date_of_parts year 0 0
-date_after_year year (Mark mark ∷ Small month ∷ tokens) = if is_between mark then date_of_parts year month 0 else date_of_parts year 0 0
+date_after_year year (Mark mark ∷ Small month ∷ tokens) = numbered year mark month (day_behind mark tokens)
 date_after_year year _ = date_of_parts year 0 0
 
 abbrev pub year_first_of : Option (List ℕ) → Token → List Token → Option (List ℕ)
@@ -187,9 +194,15 @@ date_among tokens = date_with_year tokens (first_year tokens)
 abbrev pub date_of_part : List ℕ → Option (List ℕ)
 date_of_part text = date_among (tokens_from [] text)
 
-abbrev pub is_semicolon : ℕ → Bool
-is_semicolon b = b == 59
+abbrev pub is_no_semicolon : ℕ → Bool
+is_no_semicolon b = not (b == 59)
+
+abbrev pub before_semicolon : List ℕ → List ℕ
+before_semicolon value = take (front_len is_no_semicolon value) value
+
+abbrev pub from_semicolon : List ℕ → List ℕ
+from_semicolon value = drop (front_len is_no_semicolon value) value
 
 -- the date before a semicolon, or else behind it
 abbrev pub lenient_date : List ℕ → Option (List ℕ)
-lenient_date value = or_text (date_of_part (before_first is_semicolon value)) (date_of_part (after_first is_semicolon value))
+lenient_date value = or_text (date_of_part (before_semicolon value)) (date_of_part (from_semicolon value))

@@ -1,3 +1,4 @@
+pub mod Fronts
 pub mod Texts
 pub mod Keys
 pub mod Core

@@ -61,8 +61,11 @@ spaced_issn (front ∷ back ∷ words) = if (length front == 4) && (length back 
 spaced_issn _ = None
 
 -- the ISBN of the first words together, as spaces stand for its hyphens; none of them is a number by itself
+abbrev pub isbn_of_words : List (List ℕ) → Option (List ℕ)
+isbn_of_words words = if list_any is_number words then None else isbn_of (concat words)
+
 abbrev pub spaced_isbn : ℕ → List (List ℕ) → Option (List ℕ)
-spaced_isbn count words = if list_any is_number (take count words) then None else isbn_of (concat (take count words))
+spaced_isbn count words = isbn_of_words (take count words)
 
 -- a number at the front of some words, and how many words after the first it takes
 abbrev pub found_or : Option Number → ℕ → Option (Number × ℕ) → Option (Number × ℕ)

@@ -1,8 +1,8 @@
 -- The leading number of a volume that has more than a number, as `Vol. 9`, `365 (9453)` and `12-13`.
-use Rattle.std.specs.Prelude.{ℕ, Bool, false, ◌||◌, ◌==◌, not, List, [], ◌∷◌, Option, None, if◌then◌else◌, take, drop, codes}
+use Rattle.std.specs.Prelude.{ℕ, Bool, false, ◌||◌, ◌==◌, List, [], ◌∷◌, Option, None, if◌then◌else◌, take, drop, codes}
 use Rattle.std.specs.Char.{is_ascii_alphabetic, is_ascii_digit}
-use Rattle.std.specs.List.{position_or_len}
 use Rattle.feed_answer.specs.Pairs.{is_empty}
+use Rattle.feed_openurl.specs.Fronts.{front_len}
 use Rattle.feed_openurl.specs.Keys.{is_name}
 use Rattle.feed_openurl.specs.Texts.{volume_text_of}
 
@@ -10,39 +10,39 @@ use Rattle.feed_openurl.specs.Texts.{volume_text_of}
 abbrev pub is_letter : ℕ → Bool
 is_letter b = is_ascii_alphabetic b || (b == 95)
 
-abbrev pub is_no_letter : ℕ → Bool
-is_no_letter b = not (is_letter b)
-
-abbrev pub is_no_digit : ℕ → Bool
-is_no_digit b = not (is_ascii_digit b)
-
 -- a sign that may come before a word or a number: a space, a dot, a colon, an opening bracket
-abbrev pub is_no_filler : ℕ → Bool
-is_no_filler b = not ((b == 32) || (b == 46) || (b == 58) || (b == 91) || (b == 40))
+abbrev pub is_filler : ℕ → Bool
+is_filler b = (b == 32) || (b == 46) || (b == 58) || (b == 91) || (b == 40)
 
 -- a text from its first word or number on
 abbrev pub without_fillers : List ℕ → List ℕ
-without_fillers text = drop (position_or_len is_no_filler text) text
+without_fillers text = drop (front_len is_filler text) text
 
 -- the letters at the front of a text, and what follows them
 abbrev pub letters : List ℕ → List ℕ
-letters text = take (position_or_len is_no_letter text) text
+letters text = take (front_len is_letter text) text
 
 abbrev pub after_letters : List ℕ → List ℕ
-after_letters text = drop (position_or_len is_no_letter text) text
+after_letters text = drop (front_len is_letter text) text
 
 -- the digits at the front of a text, and what follows them
 abbrev pub digits : List ℕ → List ℕ
-digits text = take (position_or_len is_no_digit text) text
+digits text = take (front_len is_ascii_digit text) text
 
 abbrev pub after_digits : List ℕ → List ℕ
-after_digits text = drop (position_or_len is_no_digit text) text
+after_digits text = drop (front_len is_ascii_digit text) text
 
--- a word for a volume, in English, German, French, Italian or Portuguese, or none
+-- a word for a volume, in English, and in German, French, Italian or Portuguese
+abbrev pub is_english_word : List ℕ → Bool
+is_english_word word = is_name word (codes "volume") || is_name word (codes "vol") || is_name word (codes "v") || is_name word (codes "vols")
+
+abbrev pub is_other_word : List ℕ → Bool
+is_other_word word =
+    is_name word (codes "band") || is_name word (codes "bd") || is_name word (codes "tome") || is_name word (codes "tomo") || is_name word (codes "t")
+
+-- a word for a volume, or none
 abbrev pub is_volume_word : List ℕ → Bool
-is_volume_word word =
-    is_empty word || is_name word (codes "volume") || is_name word (codes "vol") || is_name word (codes "v") || is_name word (codes "vols")
-    || is_name word (codes "band") || is_name word (codes "bd") || is_name word (codes "tome") || is_name word (codes "tomo") || is_name word (codes "t")
+is_volume_word word = is_empty word || is_english_word word || is_other_word word
 
 abbrev pub begins_with_letter : List ℕ → Bool
 begins_with_letter [] = false

@@ -1,8 +1,9 @@
 //! The first date in a value that is no date of the core.
-ghost use Rattle.std.specs.Prelude.{◌≡◌, IfOk, filter, length};
-ghost use Rattle.std.specs.List.{after_first, before_first};
+ghost use Rattle.std.specs.Prelude.{◌≡◌, ◌≤◌, IfOk, filter, length};
+ghost use Rattle.feed_openurl.specs.Fronts.{front_len};
 ghost use Rattle.feed_openurl.specs.Dates.{date_after_year, date_among, date_of_part, date_with_year_last, day_after};
-ghost use Rattle.feed_openurl.specs.Dates.{first_year, is_between, is_month, is_semicolon, is_single, is_small, lenient_date};
+ghost use Rattle.feed_openurl.specs.Dates.{day_behind, numbered};
+ghost use Rattle.feed_openurl.specs.Dates.{first_year, is_between, is_month, is_no_semicolon, is_single, is_small, lenient_date};
 ghost use Rattle.feed_openurl.specs.Dates.{named_date, named_month, numeric_date, plausible, year_first_of, year_last, year_of};
 
 use crate::date::DateText;
@@ -119,11 +120,18 @@ fn count_of_months(tokens: &[Token]) -> usize
     count
 }
 
+// Whether there is one small number, and one name of a month.
+fn is_single(tokens: &[Token]) -> bool
+    ensures { result ≡ is_single tokens.now }
+{
+    count_of_small(tokens) == 1 && count_of_months(tokens) == 1
+}
+
 // The date of a year and a month that is named. The only small number beside the only month is the day.
 fn named_date(tokens: &[Token], year: [u8; 4], month: u8, day: u8) -> Option<DateText>
     ensures { result ≡ named_date tokens.now year (month, day) }
 {
-    if count_of_small(tokens) == 1 && count_of_months(tokens) == 1 {
+    if is_single(tokens) {
         DateText::of_parts(year, month, day)
     } else {
         DateText::of_parts(year, month, 0)
@@ -167,32 +175,33 @@ fn year_last(tokens: &[Token]) -> Option<DateText>
     }
 }
 
+// The small number behind the same mark, or 0.
+fn day_behind(mark: u8, tokens: &[Token]) -> u8
+    ensures { result ≡ day_behind mark tokens.now }
+{
+    match tokens {
+        [Token::Mark(other), Token::Small(day), ..] => { if mark == *other { *day } else { 0 } }
+        _ => 0,
+    }
+}
+
+fn numbered(year: [u8; 4], mark: u8, month: u8, day: u8) -> Option<DateText>
+    ensures { result ≡ numbered year mark month day }
+{
+    if is_between(mark) {
+        DateText::of_parts(year, month, day)
+    } else {
+        DateText::of_parts(year, 0, 0)
+    }
+}
+
 // The date of a year and of the numbers behind it.
 fn date_after_year(year: [u8; 4], tokens: &[Token]) -> Option<DateText>
     ensures { result ≡ date_after_year year tokens.now }
 {
     match tokens {
-        [
-            Token::Mark(mark),
-            Token::Small(month),
-            Token::Mark(other),
-            Token::Small(day),
-            ..
-        ] => {
-            if !is_between(*mark) {
-                DateText::of_parts(year, 0, 0)
-            } else if *mark == *other {
-                DateText::of_parts(year, *month, *day)
-            } else {
-                DateText::of_parts(year, *month, 0)
-            }
-        }
-        [Token::Mark(mark), Token::Small(month), ..] => {
-            if is_between(*mark) {
-                DateText::of_parts(year, *month, 0)
-            } else {
-                DateText::of_parts(year, 0, 0)
-            }
+        [Token::Mark(mark), Token::Small(month), rest @ ..] => {
+            numbered(year, *mark, *month, day_behind(*mark, rest))
         }
         _ => DateText::of_parts(year, 0, 0),
     }
@@ -242,22 +251,24 @@ fn date_of_part(alloc: Global, text: &[u8]) -> Result<Option<DateText>, AllocErr
     Ok(date_among(&tokens))
 }
 
-// The part of a value before a semicolon, and the part behind it.
-fn parts(value: &[u8]) -> (&[u8], &[u8])
-    ensures before { result.0.now ≡ before_first is_semicolon value.now }
-    ensures behind { result.1.now ≡ after_first is_semicolon value.now }
+// How many bytes are before a semicolon.
+fn part_length(text: &[u8]) -> usize
+    ensures value { result ≡ front_len is_no_semicolon text.now }
+    ensures bound { result ≤ length text.now }
 {
-    match value.iter().position(|byte| *byte == b';') {
-        Some(place) => (&value[..place], &value[place + 1..]),
-        None => (value, &[]),
+    for place in 0..text.len() {
+        if text[place] == b';' {
+            return place;
+        }
     }
+    text.len()
 }
 
 /// Returns the first date in a value in ASCII: before a semicolon, or else behind it.
 pub(crate) fn lenient_date(alloc: Global, value: &[u8]) -> Result<Option<DateText>, AllocError>
     ensures { IfOk result (λ date. date ≡ lenient_date value.now) }
 {
-    let (front, rest) = parts(value);
+    let (front, rest) = value.split_at(part_length(value));
     match date_of_part(alloc, front)? {
         Some(date) => Ok(Some(date)),
         None => date_of_part(alloc, rest),

@@ -1,7 +1,7 @@
 //! An ISSN or an ISBN at the front of some words.
 ghost use Rattle.std.specs.Prelude.{◌≡◌, ◌∷◌, [], IfOk};
 ghost use Rattle.std.specs.List.{concat};
-ghost use Rattle.feed_openurl.specs.Numbers.{first_number, first_spaced_isbn, is_number, number_of_word, spaced_isbn, spaced_issn};
+ghost use Rattle.feed_openurl.specs.Numbers.{first_number, first_spaced_isbn, is_number, isbn_of_words, number_of_word, spaced_isbn, spaced_issn};
 
 use crate::words::Word;
 use feed_identifiers::{Isbn, Issn};
@@ -27,14 +27,14 @@ fn number_of_word(word: &[u8]) -> Option<Number>
     }
 }
 
-fn is_number(word: &Word<'_>) -> bool
+fn is_number(word: &Word) -> bool
     ensures { result ≡ is_number word.now }
 {
     number_of_word(word.text()).is_some()
 }
 
 // The ISSN of the first two words, as a space stands for its hyphen.
-fn spaced_issn(words: &[Word<'_>]) -> Option<Issn>
+fn spaced_issn(words: &[Word]) -> Option<Issn>
     ensures { result ≡ spaced_issn words.now }
 {
     match words {
@@ -56,7 +56,7 @@ fn spaced_issn_of(front: &[u8], back: &[u8]) -> Option<Issn>
 }
 
 // The text of some words together.
-fn joined(alloc: Global, words: &[Word<'_>]) -> Result<Vec<u8>, AllocError>
+fn joined(alloc: Global, words: &[Word]) -> Result<Vec<u8>, AllocError>
     ensures { IfOk result (λ text. text.items ≡ concat words.now) }
 {
     let mut text = Vec::new(alloc);
@@ -66,23 +66,30 @@ fn joined(alloc: Global, words: &[Word<'_>]) -> Result<Vec<u8>, AllocError>
     Ok(text)
 }
 
-// The ISBN of the first words together, as spaces stand for its hyphens.
-fn spaced_isbn(alloc: Global, words: &[Word<'_>], count: usize) -> Result<Option<Isbn>, AllocError>
-    ensures { IfOk result (λ isbn. isbn ≡ spaced_isbn count words.now) }
+// The ISBN of words together, none of which is a number by itself.
+fn isbn_of_words(alloc: Global, words: &[Word]) -> Result<Option<Isbn>, AllocError>
+    ensures { IfOk result (λ isbn. isbn ≡ isbn_of_words words.now) }
 {
-    let front = &words[..count.min(words.len())];
-    if front.iter().any(|word| is_number(word)) {
+    if words.iter().any(|word| is_number(word)) {
         return Ok(None);
     }
-    let text = joined(alloc, front)?;
+    let text = joined(alloc, words)?;
     Ok(Isbn::parse(&text))
 }
 
+// The ISBN of the first words together, as spaces stand for its hyphens.
+fn spaced_isbn(alloc: Global, words: &[Word], count: usize) -> Result<Option<Isbn>, AllocError>
+    ensures { IfOk result (λ isbn. isbn ≡ spaced_isbn count words.now) }
+{
+    let front = match words.split_at_checked(count) {
+        Some((front, _)) => front,
+        None => words,
+    };
+    isbn_of_words(alloc, front)
+}
+
 // The ISBN of two to five words, with the number of words after the first. The longest one counts.
-fn first_spaced_isbn(
-    alloc: Global,
-    words: &[Word<'_>],
-) -> Result<Option<(Number, usize)>, AllocError>
+fn first_spaced_isbn(alloc: Global, words: &[Word]) -> Result<Option<(Number, usize)>, AllocError>
     ensures { IfOk result (λ found. found ≡ first_spaced_isbn words.now) }
 {
     if let Some(isbn) = spaced_isbn(alloc, words, 5)? {
@@ -103,7 +110,7 @@ fn first_spaced_isbn(
 /// Returns the number at the front of some words, and how many words after the first it takes.
 pub(crate) fn first_number(
     alloc: Global,
-    words: &[Word<'_>],
+    words: &[Word],
 ) -> Result<Option<(Number, usize)>, AllocError>
     ensures { IfOk result (λ found. found ≡ first_number words.now) }
 {

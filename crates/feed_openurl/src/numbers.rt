@@ -11,11 +11,7 @@ use crate::words::{Word, words};
 use std::alloc::{AllocError, Global};
 
 // Appends the numbers of some words.
-fn push_numbers(
-    alloc: Global,
-    words: &[Word<'_>],
-    numbers: &mut Vec<Number>,
-) -> Result<(), AllocError>
+fn push_numbers(alloc: Global, words: &[Word], numbers: &mut Vec<Number>) -> Result<(), AllocError>
     ensures { OnOk result (numbers.new.items ≡ numbers.old.items ++ numbers_after 0 words.now) }
 {
     let mut skipped = 0;

@@ -162,13 +162,14 @@ pub(crate) fn tokens(alloc: Global, text: &[u8]) -> Result<Vec<Token>, AllocErro
     ensures { IfOk result (λ tokens. tokens.items ≡ tokens_from [] text.now) }
 {
     let mut tokens = Vec::new(alloc);
-    let mut start = 0;
-    for place in 0..text.len() {
-        if !joins(&text[start..place], text[place]) {
-            push_token(&mut tokens, &text[start..place])?;
-            start = place;
+    let mut run = Vec::new(alloc);
+    for byte in text {
+        if !joins(&run, *byte) {
+            push_token(&mut tokens, &run)?;
+            run.clear();
         }
+        run.push(*byte)?;
     }
-    push_token(&mut tokens, &text[start..])?;
+    push_token(&mut tokens, &run)?;
     Ok(tokens)
 }

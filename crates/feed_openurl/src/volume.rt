@@ -1,6 +1,8 @@
 //! The volume of a query as the core reads it, and the leading number of a value that has more.
-ghost use Rattle.std.specs.Prelude.{◌≡◌, IfOk, not};
-ghost use Rattle.feed_openurl.specs.Volumes.{is_no_filler, is_volume_word, leading_volume, number_at_front, without_fillers};
+ghost use Rattle.std.specs.Prelude.{◌≡◌, ◌≤◌, IfOk, length};
+ghost use Rattle.feed_openurl.specs.Fronts.{front_len};
+ghost use Rattle.feed_openurl.specs.Volumes.{is_english_word, is_filler, is_other_word, is_volume_word};
+ghost use Rattle.feed_openurl.specs.Volumes.{leading_volume, number_at_front, without_fillers};
 
 use crate::digits::{is_letter, split_digits, split_letters};
 use crate::key::is_name;
@@ -50,36 +52,53 @@ impl VolumeText {
     }
 }
 
-// Whether a word may come before the number of a volume; also none.
-fn is_volume_word(word: &[u8]) -> bool
-    ensures { result ≡ is_volume_word word.now }
+fn is_english_word(word: &[u8]) -> bool
+    ensures { result ≡ is_english_word word.now }
 {
-    word.is_empty()
-        || is_name(word, "volume")
-        || is_name(word, "vol")
-        || is_name(word, "v")
-        || is_name(word, "vols")
-        || is_name(word, "band")
+    is_name(word, "volume") || is_name(word, "vol") || is_name(word, "v") || is_name(word, "vols")
+}
+
+fn is_other_word(word: &[u8]) -> bool
+    ensures { result ≡ is_other_word word.now }
+{
+    is_name(word, "band")
         || is_name(word, "bd")
         || is_name(word, "tome")
         || is_name(word, "tomo")
         || is_name(word, "t")
 }
 
+// Whether a word may come before the number of a volume; also none.
+fn is_volume_word(word: &[u8]) -> bool
+    ensures { result ≡ is_volume_word word.now }
+{
+    word.is_empty() || is_english_word(word) || is_other_word(word)
+}
+
 fn is_filler(byte: u8) -> bool
-    ensures { result ≡ not (is_no_filler byte) }
+    ensures { result ≡ is_filler byte }
 {
     byte == b' ' || byte == b'.' || byte == b':' || byte == b'[' || byte == b'('
+}
+
+// How many signs other than words and numbers are at the front of a text.
+fn filler_count(text: &[u8]) -> usize
+    ensures value { result ≡ front_len is_filler text.now }
+    ensures bound { result ≤ length text.now }
+{
+    for place in 0..text.len() {
+        if !is_filler(text[place]) {
+            return place;
+        }
+    }
+    text.len()
 }
 
 // The text from its first word or number on.
 fn without_fillers(text: &[u8]) -> &[u8]
     ensures { result.now ≡ without_fillers text.now }
 {
-    match text.iter().position(|byte| !is_filler(*byte)) {
-        Some(start) => &text[start..],
-        None => &[],
-    }
+    &text[filler_count(text)..]
 }
 
 // The number of one to nine digits at the front of a text, with no letter behind it.

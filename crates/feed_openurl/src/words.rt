@@ -8,24 +8,24 @@ use std::marker::Model;
 
 /// A word, or a sign between words.
 #[derive(Drop)]
-pub(crate) struct Word<'a> {
-    text: &'a [u8],
+pub(crate) struct Word {
+    text: Vec<u8>,
 }
 
-impl<'a> Model for Word<'a> {
+impl Model for Word {
     ghost use Rattle.std.specs.Prelude.{ℕ, List};
 
     ghost Value = { List ℕ };
 
-    ghost view = { λ word. word.text.now };
+    ghost view = { λ word. word.text.items };
 }
 
-impl<'a> Word<'a> {
+impl Word {
     /// Returns the bytes.
     pub(crate) fn text(&self) -> &[u8]
         ensures { result.now ≡ self.now }
     {
-        self.text
+        &self.text
     }
 }
 
@@ -54,43 +54,52 @@ fn unlabelled(word: &[u8]) -> &[u8]
 }
 
 // Appends a word, unless nothing is left of it.
-fn push_word<'a>(words: &mut Vec<Word<'a>>, word: &'a [u8]) -> Result<(), AllocError>
+fn push_word(alloc: Global, words: &mut Vec<Word>, word: &[u8]) -> Result<(), AllocError>
     ensures { OnOk result (words.new.items ≡ words.old.items ++ onto (unlabelled word.now) []) }
 {
     let text = unlabelled(word);
     if !text.is_empty() {
+        let text = Vec::from_slice(alloc, text)?;
         words.push(Word { text })?;
     }
     Ok(())
 }
 
 // Appends a sign that ends a word, unless it is a space.
-fn push_sign<'a>(words: &mut Vec<Word<'a>>, text: &'a [u8], byte: u8) -> Result<(), AllocError>
-    requires { text.now ≡ byte ∷ [] }
+fn push_sign(alloc: Global, words: &mut Vec<Word>, byte: u8) -> Result<(), AllocError>
     ensures { OnOk result (words.new.items ≡ words.old.items ++ sign_onto byte []) }
 {
     if byte != b' ' {
+        let text = Vec::from_slice(alloc, &[byte])?;
         words.push(Word { text })?;
     }
     Ok(())
 }
 
+// Appends a word and the sign that ends it.
+fn push_both(alloc: Global, words: &mut Vec<Word>, word: &[u8], byte: u8) -> Result<(), AllocError>
+    ensures { OnOk result (words.new.items ≡ words.old.items ++ onto (unlabelled word.now) (sign_onto byte [])) }
+{
+    push_word(alloc, words, word)?;
+    push_sign(alloc, words, byte)
+}
+
 /// Returns the words of a value in ASCII, and the signs other than spaces between them.
-pub(crate) fn words(alloc: Global, value: &[u8]) -> Result<Vec<Word<'_>>, AllocError>
+pub(crate) fn words(alloc: Global, value: &[u8]) -> Result<Vec<Word>, AllocError>
     ensures { IfOk result (λ words. words.items ≡ words_from [] value.now) }
 {
     let mut words = Vec::new(alloc);
-    let mut start = 0;
-    for place in 0..value.len() {
-        let byte = value[place];
-        if byte == b'-' && start == place {
-            start = place + 1;
-        } else if !is_word_byte(byte) {
-            push_word(&mut words, &value[start..place])?;
-            push_sign(&mut words, &value[place..place + 1], byte)?;
-            start = place + 1;
+    let mut begun = Vec::new(alloc);
+    for byte in value {
+        if is_word_byte(*byte) {
+            if *byte != b'-' || !begun.is_empty() {
+                begun.push(*byte)?;
+            }
+        } else {
+            push_both(alloc, &mut words, &begun, *byte)?;
+            begun.clear();
         }
     }
-    push_word(&mut words, &value[start..])?;
+    push_word(alloc, &mut words, &begun)?;
     Ok(words)
 }
