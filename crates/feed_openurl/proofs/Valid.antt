@@ -1,5 +1,5 @@
 -- What is looked up for a query: identifiers that parse, ascending, and within the limit.
-use Rattle.std.proofs.Common.{◌≡◌, ◌≤◌, ◌<◌, ℕ, Bool, true, false, ◌&&◌, not, List, [], ◌∷◌, ◌++◌, length, take, Option, Some, None, if◌then◌else◌, codes, refl, ap, map, arith}
+use Rattle.std.proofs.Common.{◌≡◌, ◌≤◌, ◌<◌, ℕ, Bool, true, false, ◌&&◌, ◌||◌, not, List, [], ◌∷◌, ◌++◌, length, take, drop, Option, Some, None, if◌then◌else◌, codes, refl, ap, map, arith}
 use Rattle.std.specs.Prelude.{IfSome, fold, nat_lt}
 use Rattle.std.specs.BTreeSet.{insert_key}
 use Rattle.std.specs.List.{All, concat, cons_option, filter_map, flat_map, list_any}
@@ -211,11 +211,13 @@ module _ (ascend : SetsAscend) (issn_law : PrintedFormParses issn_of) (isbn_law 
 
   pair_issn : (pair : List ℕ × List ℕ) → IfSome (issn_of_pair pair) IsIssnText
   pair_issn pair =
-      if_valid IsIssnText _ (issn_of pair.1) _ (issn_valid issn_law isbn_law pair.1)
-      (if_valid IsIssnText _ (issn_of_urn pair.1) None (if_valid IsIssnText _ _ None (issn_valid issn_law isbn_law _) tt) tt)
+      if_valid IsIssnText (has_key (codes "rft.issn") pair || has_key (codes "rft.eissn") pair) (issn_of pair.1)
+      (if has_key (codes "rft_id") pair then issn_of_urn pair.1 else None) (issn_valid issn_law isbn_law pair.1)
+      (if_valid IsIssnText (has_key (codes "rft_id") pair) (issn_of_urn pair.1) None
+      (if_valid IsIssnText (has_prefix (codes "urn:ISSN:") pair.1) (issn_of (drop 9 pair.1)) None (issn_valid issn_law isbn_law (drop 9 pair.1)) tt) tt)
 
   pair_isbn : (pair : List ℕ × List ℕ) → IfSome (isbn_of_pair pair) IsIsbnText
-  pair_isbn pair = if_valid IsIsbnText _ (isbn_of pair.1) None (isbn_valid issn_law isbn_law pair.1) tt
+  pair_isbn pair = if_valid IsIsbnText (has_key (codes "rft.isbn") pair) (isbn_of pair.1) None (isbn_valid issn_law isbn_law pair.1) tt
 
   core_valid : (pairs : List (List ℕ × List ℕ)) → AreValid (core_identifiers pairs)
   core_valid pairs = (

@@ -58,8 +58,8 @@ Pair = List ℕ × List ℕ
 -- no written pair passes a test that fails for each of the keys
 none_in : (p : Pair → Bool) (key : List ℕ) → ((text : List ℕ) → p (key, text) ≡ false) → (texts : List (List ℕ)) (rest : List Pair)
     → list_any p (map (with_key key) texts ++ rest) ≡ list_any p rest
-none_in p key no [] rest = refl
-none_in p key no (text ∷ texts) rest = ap (λ b. b || list_any p (map (with_key key) texts ++ rest)) (no text) ∙ none_in p key no texts rest
+none_in p key fails [] rest = refl
+none_in p key fails (text ∷ texts) rest = ap (λ b. b || list_any p (map (with_key key) texts ++ rest)) (fails text) ∙ none_in p key fails texts rest
 
 none_last : (p : Pair → Bool) → ((text : List ℕ) → p (codes "rft.date", text) ≡ false) → ((text : List ℕ) → p (codes "rft.volume", text) ≡ false)
     → (date volume : Option (List ℕ)) → list_any p (date_pairs date ++ volume_pairs volume) ≡ false
@@ -81,16 +81,16 @@ none_written p version first second third fourth issns isbns date volume =
 -- the values of a key that are read, and those of a key that is not
 read_in : (P : List ℕ → Type 0) (read : Pair → Option (List ℕ)) (key : List ℕ) → ((text : List ℕ) → P text → read (key, text) ≡ Some text)
     → (texts : List (List ℕ)) (rest : List Pair) → All P texts → filter_map read (map (with_key key) texts ++ rest) ≡ texts ++ filter_map read rest
-read_in P read key yes [] rest all = refl
-read_in P read key yes (text ∷ texts) rest all =
-    ap (λ o. cons_option o (filter_map read (map (with_key key) texts ++ rest))) (yes text (All-head P text texts all))
-    ∙ ap (λ l. text ∷ l) (read_in P read key yes texts rest (All-tail P text texts all))
+read_in P read key reads [] rest all = refl
+read_in P read key reads (text ∷ texts) rest all =
+    ap (λ o. cons_option o (filter_map read (map (with_key key) texts ++ rest))) (reads text (All-head P text texts all))
+    ∙ ap (λ l. text ∷ l) (read_in P read key reads texts rest (All-tail P text texts all))
 
 skipped_in : (read : Pair → Option (List ℕ)) (key : List ℕ) → ((text : List ℕ) → read (key, text) ≡ None)
     → (texts : List (List ℕ)) (rest : List Pair) → filter_map read (map (with_key key) texts ++ rest) ≡ filter_map read rest
-skipped_in read key no [] rest = refl
-skipped_in read key no (text ∷ texts) rest =
-    ap (λ o. cons_option o (filter_map read (map (with_key key) texts ++ rest))) (no text) ∙ skipped_in read key no texts rest
+skipped_in read key fails [] rest = refl
+skipped_in read key fails (text ∷ texts) rest =
+    ap (λ o. cons_option o (filter_map read (map (with_key key) texts ++ rest))) (fails text) ∙ skipped_in read key fails texts rest
 
 issns_last : (date volume : Option (List ℕ)) → filter_map issn_of_pair (date_pairs date ++ volume_pairs volume) ≡ []
 issns_last None None = refl
