@@ -1,4 +1,4 @@
--- What is written for a query: the core accepts it, and its identifiers are understood as they were.
+-- The core accepts what is written for a query, and its identifiers are understood as they were.
 use Rattle.std.proofs.Common.{◌≡◌, ◌≤◌, ◌<◌, ℕ, Bool, true, false, ◌&&◌, ◌||◌, List, [], ◌∷◌, ◌++◌, length, Option, Some, None, Ok, Err, if◌then◌else◌, codes, refl, sym, ap, subst, ◌∙◌, map, append_assoc, arith}
 use Rattle.std.specs.Prelude.{fold, nat_lt}
 use Rattle.std.specs.declared.cmp.Ordering.TheVariants.{Less, Equal, Greater}
@@ -10,19 +10,20 @@ use Rattle.std.proofs.lemmas.Bool.{le-ltb}
 use Rattle.std.proofs.lemmas.Cmp.{nat_list_cmp_total}
 use Rattle.std.proofs.lemmas.List.{append-nil}
 use Rattle.std.proofs.lemmas.List.Elements.{All-head, All-tail}
+use Rattle.form_urlencoded.specs.Form as form
+use Rattle.form_urlencoded.proofs.FormLemmas.{round_trip}
 use Rattle.feed_answer.specs.IdentifierSet.{bytes_cmp, IsAscending, identifier_set}
+use Rattle.feed_answer.specs.Limits.{query_limit}
 use Rattle.feed_answer.specs.Pairs.{book_format, first_days, first_volume, has_format, is_empty, is_other_format, is_other_version, isbn_of_pair, issn_of_pair, journal_format}
-use Rattle.feed_answer.specs.Queries.{has_book_format, has_journal_format, has_other_format, query_isbns, query_issns, query_of_pairs}
+use Rattle.feed_answer.specs.Queries.{has_book_format, has_journal_format, has_other_format, query_isbns, query_issns, query_of, query_of_pairs}
 use Rattle.feed_answer.specs.QueryValue.{QueryValue}
-use Rattle.feed_answer.specs.declared.fault.QueryFault.TheVariants.{NoIsbn, NoIssn, OtherFormat, Version}
-use Rattle.feed_openurl.specs.Core.{core_isbns, core_issns, is_refused}
-use Rattle.feed_openurl.specs.Identifiers.{are_none, core_identifiers, count, identifier_limit, looked_up_of_others, within_limit}
-use Rattle.feed_openurl.specs.Keys.{keyed}
-use Rattle.feed_openurl.specs.Laws.{IdentifiersStay, WrittenIsAccepted}
-use Rattle.feed_openurl.specs.Values.{AreIdentifiers, IsCounted, IsIsbnText, IsIssnText, IsWellFormed, UnderstandingValue}
-use Rattle.feed_openurl.specs.Written.{date_pairs, isbn_pairs, issn_pairs, pairs_for, version_pair, volume_pairs, with_key}
+use Rattle.feed_answer.specs.declared.fault.QueryFault.TheVariants.{NoIsbn, NoIssn, OtherFormat, TooLong, Version}
+use Rattle.feed_openurl.specs.Identifiers.{count, identifier_limit}
+use Rattle.feed_openurl.specs.Laws.{WrittenIsAccepted, WrittenIsUnderstood, written_pairs}
+use Rattle.feed_openurl.specs.Values.{AreIdentifiers, IsCounted, IsIsbnText, IsIssnText}
+use Rattle.feed_openurl.specs.Written.{date_pairs, isbn_pairs, issn_pairs, pairs_for, version_pair, volume_pairs, with_key, written}
 use Rattle.feed_openurl.specs.declared.fault.Refusal.{Refusal}
-use Rattle.feed_openurl.proofs.Kept.{found_kept}
+use Rattle.feed_openurl.proofs.Kept.{answers_kept}
 
 -- an identifier above all others is inserted last
 at_last : (P : List ℕ → Type 0) (front : List (List ℕ)) (one : List ℕ) (rest : List (List ℕ)) → AllByRecursion P (front ++ one ∷ rest) → P one
@@ -148,9 +149,6 @@ module _ (issns isbns : List (List ℕ)) (date volume : Option (List ℕ)) (are 
       ap (λ b. if b then [] else identifier_set (filter_map isbn_of_pair all_pairs)) no_journal
       ∙ ap identifier_set (isbns_written issns isbns date volume are.isbns_parse) ∙ set_of_ascending isbns are.isbns_ascend
 
-  accepted : is_refused all_pairs ≡ false
-  accepted = ap (λ b. b || has_other_format all_pairs) no_version ∙ no_format
-
 some_are : (issns isbns : List (List ℕ)) → 0 < count issns isbns → (is_empty issns && is_empty isbns) ≡ false
 some_are [] [] e = absurd (omega (arith, e))
 some_are [] (isbn ∷ isbns) e = refl
@@ -165,32 +163,34 @@ abbrev asked : List Pair → List (List ℕ) → List (List ℕ) → QueryValue
 asked pairs issns isbns = record { issns = issns; isbns = isbns; days = first_days pairs; volume = first_volume pairs }
 
 -- the core answers the pairs that are written
-pub written_accepted : WrittenIsAccepted
-written_accepted u is none =
-    let issns = u.issns in
-    let isbns = u.isbns in
-    let pairs = pairs_for issns isbns u.date u.volume in
-    let some = some_are issns isbns (not_empty issns isbns u.refusal is.counted none).0 in
+pairs_accepted : (issns isbns : List (List ℕ)) (date volume : Option (List ℕ)) → AreIdentifiers issns isbns → 0 < count issns isbns
+    → query_of_pairs (pairs_for issns isbns date volume) ≡ Ok (asked (pairs_for issns isbns date volume) issns isbns)
+pairs_accepted issns isbns date volume are counted =
+    let pairs = pairs_for issns isbns date volume in
+    let some = some_are issns isbns counted in
     let fault = if has_book_format pairs then NoIsbn else NoIssn in
     let answer = λ (a : List (List ℕ)) (b : List (List ℕ)). if is_empty a && is_empty b then Err fault else Ok (asked pairs a b) in
-    ap (λ b. if b then Err Version else if has_other_format pairs then Err OtherFormat else answer (query_issns pairs) (query_isbns pairs)) (no_version issns isbns u.date u.volume is.identifiers)
-    ∙ ap (λ b. if b then Err OtherFormat else answer (query_issns pairs) (query_isbns pairs)) (no_format issns isbns u.date u.volume is.identifiers)
-    ∙ ap (λ l. answer l (query_isbns pairs)) (own_issns issns isbns u.date u.volume is.identifiers)
-    ∙ ap (λ l. answer issns l) (own_isbns issns isbns u.date u.volume is.identifiers)
+    ap (λ b. if b then Err Version else if has_other_format pairs then Err OtherFormat else answer (query_issns pairs) (query_isbns pairs)) (no_version issns isbns date volume are)
+    ∙ ap (λ b. if b then Err OtherFormat else answer (query_issns pairs) (query_isbns pairs)) (no_format issns isbns date volume are)
+    ∙ ap (λ l. answer l (query_isbns pairs)) (own_issns issns isbns date volume are)
+    ∙ ap (λ l. answer issns l) (own_isbns issns isbns date volume are)
     ∙ ap (λ b. if b then Err fault else Ok (asked pairs issns isbns)) some
 
--- the identifiers of the pairs that are written are understood as they were
-pub identifiers_stay : IdentifiersStay
-identifiers_stay u is none =
-    let issns = u.issns in
-    let isbns = u.isbns in
-    let pairs = pairs_for issns isbns u.date u.volume in
-    let counted = not_empty issns isbns u.refusal is.counted none in
-    let some = some_are issns isbns counted.0 in
-    let accept = accepted issns isbns u.date u.volume is.identifiers in
-    let first : core_issns pairs ≡ issns = ap (λ b. if b then [] else query_issns pairs) accept ∙ own_issns issns isbns u.date u.volume is.identifiers in
-    let second : core_isbns pairs ≡ isbns = ap (λ b. if b then [] else query_isbns pairs) accept ∙ own_isbns issns isbns u.date u.volume is.identifiers in
-    let same : core_identifiers pairs ≡ record { issns = issns; isbns = isbns } =
-    ap (λ l. record { issns = l; isbns = core_isbns pairs }) first ∙ ap (λ l. record { issns = issns; isbns = l }) second in
-    ap (λ found. if are_none found then looked_up_of_others (map keyed pairs) else within_limit found) same
-    ∙ found_kept (record { issns = issns; isbns = isbns }) (looked_up_of_others (map keyed pairs)) some (le-ltb identifier_limit (count issns isbns) counted.1)
+-- the core accepts the text that is written
+text_accepted : (text : List ℕ) (pairs : List Pair) (q : QueryValue) → length text ≤ query_limit → form.parse text ≡ pairs → query_of_pairs pairs ≡ Ok q
+    → query_of text ≡ Ok q
+unfolding query_of
+text_accepted text pairs q short are is =
+    ap (λ b. if b then Err TooLong else query_of_pairs (form.parse text)) (le-ltb query_limit (length text) short) ∙ ap query_of_pairs are ∙ is
+
+pub written_accepted : WrittenIsAccepted
+written_accepted u is none bytes short =
+    let counted = not_empty u.issns u.isbns u.refusal is.counted none in
+    text_accepted (written u) (written_pairs u) (asked (written_pairs u) u.issns u.isbns) short (round_trip (written_pairs u) bytes)
+    (pairs_accepted u.issns u.isbns u.date u.volume is.identifiers counted.0)
+
+pub written_understood : WrittenIsUnderstood
+written_understood u is none bytes short =
+    let counted = not_empty u.issns u.isbns u.refusal is.counted none in
+    let kept = answers_kept (written u) (asked (written_pairs u) u.issns u.isbns) (written_accepted u is none bytes short) counted.1 in
+    record { refusal = kept.refusal; issns = kept.issns; isbns = kept.isbns }

@@ -1,14 +1,16 @@
 -- Laws of queries as they are understood.
-use Rattle.std.specs.Prelude.{◌≡◌, ◌≤◌, ℕ, List, Option, Some, None, Ok, IfSome}
+use Rattle.std.specs.Prelude.{◌≡◌, ◌<◌, ◌≤◌, ℕ, length, List, Option, Some, None, Ok, IfSome}
+use Rattle.std.specs.List.{All}
 use Rattle.std.specs.Option.{option_and_then}
 use Rattle.feed_dates.specs.DayRanges.{query_days_of}
 use Rattle.feed_kbart.specs.Volumes.{volume_of}
+use Rattle.feed_answer.specs.Limits.{query_limit}
 use Rattle.feed_answer.specs.Pairs.{first_days, first_volume}
-use Rattle.feed_answer.specs.Queries.{query_of, query_of_pairs}
+use Rattle.feed_answer.specs.Queries.{query_of}
 use Rattle.feed_answer.specs.QueryValue.{QueryValue}
-use Rattle.feed_openurl.specs.Identifiers.{count, identifier_limit, looked_up}
+use Rattle.feed_openurl.specs.Identifiers.{count, identifier_limit}
 use Rattle.feed_openurl.specs.Values.{IsWellFormed, UnderstandingValue, understood}
-use Rattle.feed_openurl.specs.Written.{pairs_for}
+use Rattle.feed_openurl.specs.Written.{pairs_for, written}
 
 -- a query that the core answers keeps its identifiers, its days and its volume
 pub record KeepsAnswer (q : QueryValue) (u : UnderstandingValue) : Type 0 where
@@ -27,15 +29,26 @@ AnswersAreKept = (text : List ℕ) (q : QueryValue)
 abbrev pub written_pairs : UnderstandingValue → List (List ℕ × List ℕ)
 written_pairs u = pairs_for u.issns u.isbns u.date u.volume
 
--- the core accepts the pairs that are written for a query that is not refused, and asks for its identifiers
+-- the texts of pairs are bytes
+abbrev pub AreBytes : List (List ℕ × List ℕ) → Type 0
+AreBytes pairs = All (λ pair. All (λ b. b < 256) pair.0 × All (λ b. b < 256) pair.1) pairs
+
+-- the core accepts what is written for a query that is not refused, and asks for exactly its identifiers, with the first
+-- date and the first volume of it; if it is within the limit of a query
 abbrev pub WrittenIsAccepted : Type 0
 WrittenIsAccepted =
-    (u : UnderstandingValue) → IsWellFormed u → u.refusal ≡ None
-    → query_of_pairs (written_pairs u)
+    (u : UnderstandingValue) → IsWellFormed u → u.refusal ≡ None → AreBytes (written_pairs u) → length (written u) ≤ query_limit
+    → query_of (written u)
     ≡ Ok (record { issns = u.issns; isbns = u.isbns; days = first_days (written_pairs u); volume = first_volume (written_pairs u) })
 
--- the identifiers of the pairs that are written for a query that is not refused are understood as they were
-abbrev pub IdentifiersStay : Type 0
-IdentifiersStay =
-    (u : UnderstandingValue) → IsWellFormed u → u.refusal ≡ None
-    → looked_up (written_pairs u) ≡ record { issns = u.issns; isbns = u.isbns; refusal = None }
+-- an understanding asks for the identifiers of another, and is not refused
+pub record IsAskedFor (u again : UnderstandingValue) : Type 0 where
+  pub refusal : again.refusal ≡ None
+  pub issns : again.issns ≡ u.issns
+  pub isbns : again.isbns ≡ u.isbns
+
+-- what is written for a query that is not refused is understood with the same identifiers
+abbrev pub WrittenIsUnderstood : Type 0
+WrittenIsUnderstood =
+    (u : UnderstandingValue) → IsWellFormed u → u.refusal ≡ None → AreBytes (written_pairs u) → length (written u) ≤ query_limit
+    → IsAskedFor u (understood (written u))

@@ -1,6 +1,6 @@
 //! An ISSN or an ISBN at the front of some words.
 ghost use Rattle.std.specs.Prelude.{◌≡◌, ◌∷◌, [], IfOk};
-ghost use Rattle.std.specs.List.{concat};
+ghost use Rattle.std.specs.List.{concat, list_any};
 ghost use Rattle.feed_openurl.specs.Numbers.{first_number, first_spaced_isbn, is_number, isbn_of_words, number_of_word, spaced_isbn, spaced_issn};
 
 use crate::words::Word;
@@ -31,6 +31,18 @@ fn is_number(word: &Word) -> bool
     ensures { result ≡ is_number word.now }
 {
     number_of_word(word.text()).is_some()
+}
+
+// Whether one of some words is a number by itself.
+fn has_number(words: &[Word]) -> bool
+    ensures { result ≡ list_any is_number words.now }
+{
+    for word in words {
+        if is_number(word) {
+            return true;
+        }
+    }
+    false
 }
 
 // The ISSN of the first two words, as a space stands for its hyphen.
@@ -70,7 +82,7 @@ fn joined(alloc: Global, words: &[Word]) -> Result<Vec<u8>, AllocError>
 fn isbn_of_words(alloc: Global, words: &[Word]) -> Result<Option<Isbn>, AllocError>
     ensures { IfOk result (λ isbn. isbn ≡ isbn_of_words words.now) }
 {
-    if words.iter().any(|word| is_number(word)) {
+    if has_number(words) {
         return Ok(None);
     }
     let text = joined(alloc, words)?;

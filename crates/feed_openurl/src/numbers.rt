@@ -1,6 +1,6 @@
 //! The ISSNs and the ISBNs in values that have several, or words and spaces around them.
-ghost use Rattle.std.specs.Prelude.{◌≡◌, ◌++◌, IfOk, OnOk};
-ghost use Rattle.feed_openurl.specs.Numbers.{numbers_after, numbers_in};
+ghost use Rattle.std.specs.Prelude.{◌≡◌, ◌++◌, [], IfOk, OnOk};
+ghost use Rattle.feed_openurl.specs.Numbers.{first_number, number_onto, numbers_after, numbers_in, taken};
 ghost use Rattle.feed_openurl.specs.Identifiers.{numbers_of};
 
 use crate::key::Tier;
@@ -10,6 +10,20 @@ use crate::value::Value;
 use crate::words::{Word, words};
 use std::alloc::{AllocError, Global};
 
+// Appends the number at the front of some words, and returns how many words after the first it takes.
+fn push_first(alloc: Global, words: &[Word], numbers: &mut Vec<Number>) -> Result<usize, AllocError>
+    ensures number { OnOk result (numbers.new.items ≡ numbers.old.items ++ number_onto (first_number words.now) []) }
+    ensures more { IfOk result (λ more. more ≡ taken (first_number words.now)) }
+{
+    match first_number(alloc, words)? {
+        Some((number, more)) => {
+            numbers.push(number)?;
+            Ok(more)
+        }
+        None => Ok(0),
+    }
+}
+
 // Appends the numbers of some words.
 fn push_numbers(alloc: Global, words: &[Word], numbers: &mut Vec<Number>) -> Result<(), AllocError>
     ensures { OnOk result (numbers.new.items ≡ numbers.old.items ++ numbers_after 0 words.now) }
@@ -18,10 +32,9 @@ fn push_numbers(alloc: Global, words: &[Word], numbers: &mut Vec<Number>) -> Res
     for place in 0..words.len() {
         if skipped > 0 {
             skipped -= 1;
-        } else if let Some((number, more)) = first_number(alloc, &words[place..])? {
-            numbers.push(number)?;
-            skipped = more;
+            continue;
         }
+        skipped = push_first(alloc, &words[place..], numbers)?;
     }
     Ok(())
 }

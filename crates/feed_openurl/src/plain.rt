@@ -1,9 +1,9 @@
 //! The characters of a value: UTF-8, or Windows-1252 as older sources send it.
 ghost use Rattle.std.specs.Prelude.{◌≡◌, IfOk};
 ghost use Rattle.std.specs.Cow.{cow_slice_items};
-ghost use Rattle.std.specs.List.{filter_map};
+ghost use Rattle.std.specs.List.{filter_map, list_all};
 ghost use Rattle.std.specs.Str.{chars};
-ghost use Rattle.feed_openurl.specs.Plain.{has_no_width, is_dash, is_space, plain, plain_byte, plain_windows};
+ghost use Rattle.feed_openurl.specs.Plain.{has_no_width, is_ascii_byte, is_dash, is_space, plain, plain_byte, plain_windows};
 
 use std::alloc::{AllocError, Global};
 use std::borrow::CowSlice;
@@ -78,6 +78,12 @@ fn plain_windows(byte: u8) -> Option<u8>
     }
 }
 
+fn is_ascii(value: &[u8]) -> bool
+    ensures { result ≡ list_all is_ascii_byte value.now }
+{
+    value.iter().all(|byte| *byte < 128)
+}
+
 fn plain_text(alloc: Global, text: &str) -> Result<Vec<u8>, AllocError>
     ensures { IfOk result (λ bytes. bytes.items ≡ filter_map plain_byte (chars text.now)) }
 {
@@ -107,7 +113,7 @@ fn plain_bytes(alloc: Global, value: &[u8]) -> Result<Vec<u8>, AllocError>
 pub(crate) fn plain(alloc: Global, value: &[u8]) -> Result<CowSlice<'_, u8, Global>, AllocError>
     ensures { IfOk result (λ text. cow_slice_items text ≡ plain value.now) }
 {
-    if value.iter().all(|byte| *byte < 128) {
+    if is_ascii(value) {
         return Ok(CowSlice::Borrowed(value));
     }
     match str::from_utf8(value) {

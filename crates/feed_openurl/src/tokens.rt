@@ -1,5 +1,5 @@
 //! The tokens of a date as it is written: numbers, names of months, words and marks.
-ghost use Rattle.std.specs.Prelude.{◌≡◌, ◌++◌, [], IfOk, OnOk};
+ghost use Rattle.std.specs.Prelude.{◌≡◌, ◌++◌, ◌∷◌, ℕ, List, [], IfOk, OnOk};
 ghost use Rattle.std.specs.List.{cons_option};
 ghost use Rattle.feed_openurl.specs.Dates.{is_one, is_ordinal, joins, late_month_of, month_of, month_token, number_of_two};
 ghost use Rattle.feed_openurl.specs.Dates.{number_token, token_of, tokens_from};
@@ -157,6 +157,21 @@ fn push_token(tokens: &mut Vec<Token>, run: &[u8]) -> Result<(), AllocError>
     Ok(())
 }
 
+// Takes a byte: onto the run, or as the first of another run, after the token of the run.
+fn take_byte(tokens: &mut Vec<Token>, run: &mut Vec<u8>, byte: u8) -> Result<(), AllocError>
+    ensures { OnOk result ((rest : List ℕ) →
+        tokens.new.items ++ tokens_from run.new.items rest ≡ tokens.old.items ++ tokens_from run.old.items (byte ∷ rest)) }
+{
+    if joins(run, byte) {
+        run.push(byte)?;
+        return Ok(());
+    }
+    push_token(tokens, run)?;
+    run.clear();
+    run.push(byte)?;
+    Ok(())
+}
+
 /// Returns the tokens of a text in ASCII.
 pub(crate) fn tokens(alloc: Global, text: &[u8]) -> Result<Vec<Token>, AllocError>
     ensures { IfOk result (λ tokens. tokens.items ≡ tokens_from [] text.now) }
@@ -164,11 +179,7 @@ pub(crate) fn tokens(alloc: Global, text: &[u8]) -> Result<Vec<Token>, AllocErro
     let mut tokens = Vec::new(alloc);
     let mut run = Vec::new(alloc);
     for byte in text {
-        if !joins(&run, *byte) {
-            push_token(&mut tokens, &run)?;
-            run.clear();
-        }
-        run.push(*byte)?;
+        take_byte(&mut tokens, &mut run, *byte)?;
     }
     push_token(&mut tokens, &run)?;
     Ok(tokens)

@@ -1,5 +1,6 @@
 //! The words of a value, among which ISSNs and ISBNs are found.
-ghost use Rattle.std.specs.Prelude.{◌≡◌, ◌++◌, ◌∷◌, [], IfOk, OnOk};
+ghost use Rattle.std.specs.Prelude.{◌≡◌, ◌==◌, ◌&&◌, ◌++◌, ◌∷◌, ℕ, List, [], IfOk, OnOk};
+ghost use Rattle.feed_answer.specs.Pairs.{is_empty};
 ghost use Rattle.feed_openurl.specs.Numbers.{is_word_byte, onto, sign_onto, unlabelled, without, words_from};
 
 use crate::key::after;
@@ -84,6 +85,35 @@ fn push_both(alloc: Global, words: &mut Vec<Word>, word: &[u8], byte: u8) -> Res
     push_sign(alloc, words, byte)
 }
 
+// Whether a byte is a hyphen that would begin a word.
+fn is_skipped(begun: &[u8], byte: u8) -> bool
+    ensures { result ≡ (is_empty begun.now && (byte == 45)) }
+{
+    begun.is_empty() && byte == b'-'
+}
+
+// Takes a byte: onto the word, or as the sign that ends it.
+fn take_byte(
+    alloc: Global,
+    words: &mut Vec<Word>,
+    begun: &mut Vec<u8>,
+    byte: u8,
+) -> Result<(), AllocError>
+    ensures { OnOk result ((rest : List ℕ) →
+        words.new.items ++ words_from begun.new.items rest ≡ words.old.items ++ words_from begun.old.items (byte ∷ rest)) }
+{
+    if is_skipped(begun, byte) {
+        return Ok(());
+    }
+    if is_word_byte(byte) {
+        begun.push(byte)?;
+        return Ok(());
+    }
+    push_both(alloc, words, begun, byte)?;
+    begun.clear();
+    Ok(())
+}
+
 /// Returns the words of a value in ASCII, and the signs other than spaces between them.
 pub(crate) fn words(alloc: Global, value: &[u8]) -> Result<Vec<Word>, AllocError>
     ensures { IfOk result (λ words. words.items ≡ words_from [] value.now) }
@@ -91,14 +121,7 @@ pub(crate) fn words(alloc: Global, value: &[u8]) -> Result<Vec<Word>, AllocError
     let mut words = Vec::new(alloc);
     let mut begun = Vec::new(alloc);
     for byte in value {
-        if is_word_byte(*byte) {
-            if *byte != b'-' || !begun.is_empty() {
-                begun.push(*byte)?;
-            }
-        } else {
-            push_both(alloc, &mut words, &begun, *byte)?;
-            begun.clear();
-        }
+        take_byte(alloc, &mut words, &mut begun, *byte)?;
     }
     push_word(alloc, &mut words, &begun)?;
     Ok(words)

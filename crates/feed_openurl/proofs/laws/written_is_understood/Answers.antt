@@ -1,0 +1,5 @@
+use Rattle.feed_openurl.proofs.Written.{written_understood}
+use Rattle.feed_openurl.proofs.laws.written_is_understood.Goals as goal
+
+pub returns : goal.returns
+returns c = written_understood
