@@ -1,9 +1,9 @@
 -- What is read of a text in steps is what is read of it whole.
-use Rattle.std.proofs.Common.{◌≡◌, ◌<◌, ◌≤◌, ◌+◌, ◌-◌, ◌==◌, ℕ, Bool, true, false, ◌&&◌, List, [], ◌∷◌, ◌++◌, length, drop, get_or, Option, Some, None, if◌then◌else◌, refl, sym, ap, ◌∙◌, append_assoc, arith}
+use Rattle.std.proofs.Common.{◌≡◌, ◌<◌, ◌≤◌, ◌+◌, ◌-◌, ◌==◌, ℕ, Bool, true, false, ◌&&◌, List, [], ◌∷◌, ◌++◌, length, take, drop, get_or, Option, Some, None, if◌then◌else◌, refl, sym, ap, ◌∙◌, append_assoc, arith}
 use Rattle.std.specs.Prelude.{nat_lt}
 use Rattle.std.specs.List.{cons_option}
 use Rattle.std.proofs.lemmas.Bool.{lt-ltb}
-use Rattle.std.proofs.lemmas.List.{append-nil, drop_more}
+use Rattle.std.proofs.lemmas.List.{append-nil, drop_more, length-drop, take_all}
 use Rattle.feed_answer.specs.Pairs.{is_empty}
 use Rattle.feed_openurl.specs.Dates.{joins, token_of, tokens_from}
 use Rattle.feed_openurl.specs.Numbers.{first_number, is_word_byte, number_onto, numbers_after, onto, sign_onto, taken, unlabelled, words_from}
@@ -111,13 +111,19 @@ pub word_passed : (words : List (List ℕ)) (place skipped : ℕ) → place < le
 word_passed words place skipped within some =
     rw (drop_more words place [] within) (ap (λ t. if t then numbers_after (skipped - 1) (drop (place + 1) words) else number_onto (first_number (get_or words place [] ∷ drop (place + 1) words)) (numbers_after (taken (first_number (get_or words place [] ∷ drop (place + 1) words))) (drop (place + 1) words))) (sym (lt-ltb 0 skipped some)))
 
+-- all that is left of a list
+rest_whole : (words : List (List ℕ)) (place : ℕ) → take (length words - place) (drop place words) ≡ drop place words
+rest_whole words place = take_all (length words - place) (drop place words) (omega (arith, length-drop place words))
+
 pub number_found_by : (numbers new : List Number) (words : List (List ℕ)) (place skipped more : ℕ) (all : List Number) → place < length words → skipped ≤ 0
-    → new ≡ numbers ++ number_onto (first_number (drop place words)) [] → more ≡ taken (first_number (drop place words))
+    → new ≡ numbers ++ number_onto (first_number (take (length words - place) (drop place words))) []
+    → more ≡ taken (first_number (take (length words - place) (drop place words)))
     → numbers ++ numbers_after skipped (drop place words) ≡ all → new ++ numbers_after more (drop (place + 1) words) ≡ all
-number_found_by numbers new words place skipped more all within none pushed taken is =
+number_found_by numbers new words place skipped more all within none pushed after is =
     let zero : 0 ≡ skipped = omega (arith, none) in
-    ap (λ l. l ++ numbers_after more (drop (place + 1) words)) pushed
-    ∙ ap (λ n. numbers ++ number_onto (first_number (drop place words)) [] ++ numbers_after n (drop (place + 1) words)) taken
+    let whole = rest_whole words place in
+    ap (λ l. l ++ numbers_after more (drop (place + 1) words)) (pushed ∙ ap (λ ws. numbers ++ number_onto (first_number ws) []) whole)
+    ∙ ap (λ n. numbers ++ number_onto (first_number (drop place words)) [] ++ numbers_after n (drop (place + 1) words)) (after ∙ ap (λ ws. taken (first_number ws)) whole)
     ∙ number_found numbers words place within
     ∙ ap (λ n. numbers ++ numbers_after n (drop place words)) zero
     ∙ is
