@@ -1,5 +1,5 @@
 -- A query that the core answers is understood as the core reads it.
-use Rattle.std.proofs.Common.{◌≡◌, ◌≤◌, ◌<◌, ℕ, Bool, true, false, ◌&&◌, ◌||◌, List, [], ◌∷◌, length}
+use Rattle.std.proofs.Common.{◌≡◌, ◌≤◌, ℕ, Bool, true, false, ◌&&◌, ◌||◌, List, [], ◌∷◌, length}
 use Rattle.std.proofs.Common.{Option, Some, None, Ok, Err, if◌then◌else◌, is_some, codes, refl, ap, ◌∙◌, arith}
 use Rattle.std.specs.Prelude.{IfSome, map, nat_lt}
 use Rattle.std.proofs.lemmas.Bool.{le-ltb}
@@ -18,7 +18,7 @@ use Rattle.feed_answer.specs.QueryValue.{QueryValue}
 use Rattle.feed_answer.specs.declared.fault.QueryFault.{QueryFault}
 use Rattle.feed_answer.specs.declared.fault.QueryFault.TheVariants.{NoIsbn, NoIssn, OtherFormat, TooLong, Version}
 use Rattle.feed_openurl.specs.Core.{core_date, core_isbns, core_issns, core_volume, date_of_pair, is_refused, volume_of_pair}
-use Rattle.feed_openurl.specs.Identifiers.{IdentifiersValue, LookedUp, are_none, core_identifiers, count, identifier_limit, looked_up, looked_up_of_others, or_text, refused, within_limit}
+use Rattle.feed_openurl.specs.Identifiers.{IdentifiersValue, LookedUp, are_none, core_identifiers, count, identifier_limit, looked_up_of_others, or_text, refused, within_limit}
 use Rattle.feed_openurl.specs.Keys.{keyed}
 use Rattle.feed_openurl.specs.Laws.{AnswersAreKept, KeepsAnswer}
 use Rattle.feed_openurl.specs.Texts.{date_text_of, volume_text_of}

@@ -1,5 +1,5 @@
 -- What is looked up for a query: identifiers that parse, ascending, and within the limit.
-use Rattle.std.proofs.Common.{◌≡◌, ◌≤◌, ◌<◌, ℕ, Bool, true, false, ◌&&◌, ◌||◌, not, List, [], ◌∷◌, ◌++◌, length, take, drop, Option, Some, None, if◌then◌else◌, codes, refl, ap, map, arith}
+use Rattle.std.proofs.Common.{◌≡◌, ◌<◌, ℕ, Bool, true, false, ◌&&◌, ◌||◌, List, [], ◌∷◌, ◌++◌, take, drop, Option, Some, None, if◌then◌else◌, codes, refl, map, arith}
 use Rattle.std.specs.Prelude.{IfSome, fold, nat_lt}
 use Rattle.std.specs.BTreeSet.{insert_key}
 use Rattle.std.specs.List.{All, concat, cons_option, filter_map, flat_map, list_any}
@@ -13,13 +13,13 @@ use Rattle.feed_answer.specs.IdentifierSet.{IsAscending, bytes_cmp, identifier_s
 use Rattle.feed_answer.specs.Laws.{SetsAscend}
 use Rattle.feed_answer.specs.Pairs.{has_key, has_prefix, is_empty, isbn_of_pair, issn_of_pair, issn_of_urn}
 use Rattle.feed_answer.specs.Queries.{has_book_format, has_journal_format}
-use Rattle.feed_openurl.specs.Core.{core_isbns, core_issns, is_refused}
+use Rattle.feed_openurl.specs.Core.{is_refused}
 use Rattle.feed_openurl.specs.Identifiers.{IdentifiersValue, LookedUp, are_none, as_isbn, as_issn, core_identifiers, count, first_tier, identifier_limit}
-use Rattle.feed_openurl.specs.Identifiers.{identifiers_for, looked_up, looked_up_of_others, number_text, numbers_of, or_others, other_identifiers}
-use Rattle.feed_openurl.specs.Identifiers.{reason_without, refused, within_limit, within_or}
+use Rattle.feed_openurl.specs.Identifiers.{identifiers_for, looked_up, looked_up_of_others, number_text, numbers_of, other_identifiers}
+use Rattle.feed_openurl.specs.Identifiers.{reason_without, refused, within_limit}
 use Rattle.feed_openurl.specs.Keys.{keyed}
 use Rattle.feed_openurl.specs.Kinds.{formats_of, names_other_format, names_other_version}
-use Rattle.feed_openurl.specs.Numbers.{first_number, first_spaced_isbn, found_or, isbn_number, is_number, number_of_word, number_onto, number_or}
+use Rattle.feed_openurl.specs.Numbers.{first_number, found_or, isbn_number, is_number, number_of_word, number_onto, number_or}
 use Rattle.feed_openurl.specs.Numbers.{numbers_after, numbers_in, spaced_isbn, spaced_issn, taken, words_from}
 use Rattle.feed_openurl.specs.Plain.{plain}
 use Rattle.feed_openurl.specs.Values.{AreIdentifiers, IsCounted, IsIsbnText, IsIssnText}

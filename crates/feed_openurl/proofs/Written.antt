@@ -1,7 +1,7 @@
 -- The core accepts what is written for a query, and its identifiers are understood as they were.
-use Rattle.std.proofs.Common.{◌≡◌, ◌≤◌, ◌<◌, ℕ, Bool, true, false, ◌&&◌, ◌||◌, List, [], ◌∷◌, ◌++◌, length, Option, Some, None, Ok, Err, if◌then◌else◌, codes, refl, sym, ap, subst, ◌∙◌, map, append_assoc, arith}
-use Rattle.std.specs.Prelude.{fold, nat_lt}
-use Rattle.std.specs.declared.cmp.Ordering.TheVariants.{Less, Equal, Greater}
+use Rattle.std.proofs.Common.{◌≡◌, ◌≤◌, ◌<◌, ℕ, Bool, false, ◌&&◌, ◌||◌, List, [], ◌∷◌, ◌++◌, length, Option, Some, None, Ok, Err, if◌then◌else◌, codes, refl, sym, ap, subst, ◌∙◌, map, append_assoc, arith}
+use Rattle.std.specs.Prelude.{fold}
+use Rattle.std.specs.declared.cmp.Ordering.TheVariants.{Less, Greater}
 use Rattle.std.specs.Ordering.{match_ordering, ordering_reverse}
 use Rattle.std.specs.BTreeSet.{insert_key}
 use Rattle.std.specs.List.{All, AllByRecursion, cons_option, filter_map, list_any}
