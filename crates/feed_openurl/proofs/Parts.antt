@@ -1,5 +1,6 @@
 -- What is read of a text in steps is what is read of it whole.
-use Rattle.std.proofs.Common.{◌≡◌, ◌<◌, ◌≤◌, ◌+◌, ◌-◌, ◌==◌, ℕ, Bool, true, false, ◌&&◌, List, [], ◌∷◌, ◌++◌, length, take, drop, get_or, Option, Some, None, if◌then◌else◌, refl, sym, ap, ◌∙◌, append_assoc, arith}
+use Rattle.std.proofs.Common.{◌≡◌, ◌<◌, ◌≤◌, ◌+◌, ◌-◌, ◌==◌, ℕ, Bool, true, false, ◌&&◌, List, [], ◌∷◌}
+use Rattle.std.proofs.Common.{◌++◌, length, take, drop, get_or, Option, Some, None, if◌then◌else◌, refl, sym, ap, ◌∙◌, append_assoc, arith}
 use Rattle.std.specs.List.{cons_option}
 use Rattle.std.proofs.lemmas.Bool.{lt-ltb}
 use Rattle.std.proofs.lemmas.List.{append-nil, drop_more, length-drop, take_all}
@@ -108,7 +109,9 @@ number_found numbers words place within =
 pub word_passed : (words : List (List ℕ)) (place skipped : ℕ) → place < length words → 0 < skipped
     → numbers_after (skipped - 1) (drop (place + 1) words) ≡ numbers_after skipped (drop place words)
 word_passed words place skipped within some =
-    rw (drop_more words place [] within) (ap (λ t. if t then numbers_after (skipped - 1) (drop (place + 1) words) else number_onto (first_number (get_or words place [] ∷ drop (place + 1) words)) (numbers_after (taken (first_number (get_or words place [] ∷ drop (place + 1) words))) (drop (place + 1) words))) (sym (lt-ltb 0 skipped some)))
+    rw (drop_more words place [] within)
+    (ap (λ t. if t then numbers_after (skipped - 1) (drop (place + 1) words) else number_onto (first_number (get_or words place [] ∷ drop (place + 1) words))
+    (numbers_after (taken (first_number (get_or words place [] ∷ drop (place + 1) words))) (drop (place + 1) words))) (sym (lt-ltb 0 skipped some)))
 
 -- all that is left of a list
 rest_whole : (words : List (List ℕ)) (place : ℕ) → take (length words - place) (drop place words) ≡ drop place words

@@ -3,8 +3,10 @@ ghost use Rattle.std.specs.Prelude.{◌≡◌, ◌≤◌, IfOk, filter, length};
 ghost use Rattle.feed_openurl.specs.Fronts.{front_len};
 ghost use Rattle.feed_openurl.specs.Dates.{date_after_year, date_among, date_of_part, date_with_year_last, day_after};
 ghost use Rattle.feed_openurl.specs.Dates.{day_behind, numbered};
-ghost use Rattle.feed_openurl.specs.Dates.{first_year, is_between, is_month, is_no_semicolon, is_single, is_small, lenient_date};
-ghost use Rattle.feed_openurl.specs.Dates.{named_date, named_month, numeric_date, plausible, year_first_of, year_last, year_of};
+ghost use Rattle.feed_openurl.specs.Dates.{first_year, is_between, is_month};
+ghost use Rattle.feed_openurl.specs.Dates.{is_no_semicolon, is_single, is_small, lenient_date};
+ghost use Rattle.feed_openurl.specs.Dates.{named_date, named_month, numeric_date};
+ghost use Rattle.feed_openurl.specs.Dates.{plausible, year_first_of, year_last, year_of};
 
 use crate::date::DateText;
 use crate::tokens::{Token, tokens};

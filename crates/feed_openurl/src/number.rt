@@ -1,7 +1,8 @@
 //! An ISSN or an ISBN at the front of some words.
 ghost use Rattle.std.specs.Prelude.{◌≡◌, ◌∷◌, [], IfOk};
 ghost use Rattle.std.specs.List.{concat, list_any};
-ghost use Rattle.feed_openurl.specs.Numbers.{first_number, first_spaced_isbn, is_number, isbn_of_words, number_of_word, spaced_isbn, spaced_issn};
+ghost use Rattle.feed_openurl.specs.Numbers.{first_number, first_spaced_isbn, is_number};
+ghost use Rattle.feed_openurl.specs.Numbers.{isbn_of_words, number_of_word, spaced_isbn, spaced_issn};
 
 use crate::words::Word;
 use feed_identifiers::{Isbn, Issn};

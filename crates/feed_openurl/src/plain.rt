@@ -3,7 +3,8 @@ ghost use Rattle.std.specs.Prelude.{◌≡◌, IfOk};
 ghost use Rattle.std.specs.Cow.{cow_slice_items};
 ghost use Rattle.std.specs.List.{filter_map, list_all};
 ghost use Rattle.std.specs.Str.{chars};
-ghost use Rattle.feed_openurl.specs.Plain.{has_no_width, is_ascii_byte, is_dash, is_space, plain, plain_byte, plain_windows};
+ghost use Rattle.feed_openurl.specs.Plain.{has_no_width, is_ascii_byte, is_dash};
+ghost use Rattle.feed_openurl.specs.Plain.{is_space, plain, plain_byte, plain_windows};
 
 use std::alloc::{AllocError, Global};
 use std::borrow::CowSlice;

@@ -1,7 +1,8 @@
 //! The tokens of a date as it is written: numbers, names of months, words and marks.
 ghost use Rattle.std.specs.Prelude.{◌≡◌, ◌++◌, ◌∷◌, ℕ, List, [], IfOk, OnOk};
 ghost use Rattle.std.specs.List.{cons_option};
-ghost use Rattle.feed_openurl.specs.Dates.{is_one, is_ordinal, joins, late_month_of, month_of, month_token, number_of_two};
+ghost use Rattle.feed_openurl.specs.Dates.{is_one, is_ordinal, joins};
+ghost use Rattle.feed_openurl.specs.Dates.{late_month_of, month_of, month_token, number_of_two};
 ghost use Rattle.feed_openurl.specs.Dates.{number_token, token_of, tokens_from};
 
 use crate::digits::is_letter;
@@ -160,7 +161,8 @@ fn push_token(tokens: &mut Vec<Token>, run: &[u8]) -> Result<(), AllocError>
 // Takes a byte: onto the run, or as the first of another run, after the token of the run.
 fn take_byte(tokens: &mut Vec<Token>, run: &mut Vec<u8>, byte: u8) -> Result<(), AllocError>
     ensures { OnOk result ((rest : List ℕ) →
-        tokens.new.items ++ tokens_from run.new.items rest ≡ tokens.old.items ++ tokens_from run.old.items (byte ∷ rest)) }
+        tokens.new.items ++ tokens_from run.new.items rest
+        ≡ tokens.old.items ++ tokens_from run.old.items (byte ∷ rest)) }
 {
     if joins(run, byte) {
         run.push(byte)?;

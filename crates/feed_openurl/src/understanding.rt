@@ -38,7 +38,8 @@ impl Model for Understanding {
       refusal = u.refusal;
     } };
 
-    ghost invariant = { λ u. AreIdentifiers u.issns.items u.isbns.items × IsCounted u.issns.items u.isbns.items u.refusal };
+    ghost invariant = { λ u.
+        AreIdentifiers u.issns.items u.isbns.items × IsCounted u.issns.items u.isbns.items u.refusal };
 }
 
 impl Understanding {

@@ -100,7 +100,8 @@ fn take_byte(
     byte: u8,
 ) -> Result<(), AllocError>
     ensures { OnOk result ((rest : List ℕ) →
-        words.new.items ++ words_from begun.new.items rest ≡ words.old.items ++ words_from begun.old.items (byte ∷ rest)) }
+        words.new.items ++ words_from begun.new.items rest
+        ≡ words.old.items ++ words_from begun.old.items (byte ∷ rest)) }
 {
     if is_skipped(begun, byte) {
         return Ok(());
