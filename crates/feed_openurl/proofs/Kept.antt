@@ -1,7 +1,8 @@
 -- A query that the core answers is understood as the core reads it.
-use Rattle.std.proofs.Common.{◌≡◌, ◌≤◌, ◌<◌, ℕ, Bool, true, false, ◌&&◌, ◌||◌, List, [], ◌∷◌, length}
+use Rattle.std.proofs.Common.{◌≡◌, ◌≤◌, ℕ, Bool, true, false, ◌&&◌, ◌||◌, List, [], ◌∷◌, length}
 use Rattle.std.proofs.Common.{Option, Some, None, Ok, Err, if◌then◌else◌, is_some, codes, refl, ap, ◌∙◌, arith}
-use Rattle.std.specs.Prelude.{IfSome, nat_lt}
+use Rattle.std.specs.Prelude.{IfSome, map, nat_lt}
+use Rattle.std.proofs.lemmas.Bool.{le-ltb}
 use Rattle.std.specs.Option.{option_and_then}
 use Rattle.std.specs.List.{cons_option, filter_map, list_any}
 use Rattle.form_urlencoded.specs.Form as form
@@ -17,10 +18,14 @@ use Rattle.feed_answer.specs.QueryValue.{QueryValue}
 use Rattle.feed_answer.specs.declared.fault.QueryFault.{QueryFault}
 use Rattle.feed_answer.specs.declared.fault.QueryFault.TheVariants.{NoIsbn, NoIssn, OtherFormat, TooLong, Version}
 use Rattle.feed_openurl.specs.Core.{core_date, core_isbns, core_issns, core_volume, date_of_pair, is_refused, volume_of_pair}
+use Rattle.feed_openurl.specs.Identifiers.{IdentifiersValue, LookedUp, are_none, core_identifiers, count, identifier_limit, looked_up_of_others, or_text, refused, within_limit}
+use Rattle.feed_openurl.specs.Keys.{keyed}
 use Rattle.feed_openurl.specs.Laws.{AnswersAreKept, KeepsAnswer}
 use Rattle.feed_openurl.specs.Texts.{date_text_of, volume_text_of}
-use Rattle.feed_openurl.specs.Tiers.{IsChosen}
-use Rattle.feed_openurl.specs.Values.{AreUnderstood, UnderstandingValue, count, identifier_limit}
+use Rattle.feed_openurl.specs.Tiers.{date_of}
+use Rattle.feed_openurl.specs.Tiers as tiers
+use Rattle.feed_openurl.specs.Values.{understood_pairs}
+use Rattle.feed_openurl.specs.declared.fault.Refusal.TheVariants as reason
 
 -- what the core answers is kept
 
@@ -101,15 +106,17 @@ answered_by text q read =
     answered (nat_lt query_limit (length text)) (list_any is_other_version (form.parse text)) (has_other_format (form.parse text)) (without (form.parse text))
     (if has_book_format (form.parse text) then NoIsbn else NoIssn) (value_of (form.parse text)) q read
 
-some_of : (issns isbns : List (List ℕ)) → (is_empty issns && is_empty isbns) ≡ false → 0 < count issns isbns
-some_of [] [] e = absurd (cc)
-some_of [] (isbn ∷ isbns) e = omega arith
-some_of (issn ∷ issns) isbns e = omega arith
+-- identifiers that are some, and within the limit, are looked up
+pub found_kept : (found : IdentifiersValue) (others : LookedUp) → are_none found ≡ false → nat_lt identifier_limit (count found.issns found.isbns) ≡ false
+    → (if are_none found then others else within_limit found) ≡ record { issns = found.issns; isbns = found.isbns; refusal = None }
+found_kept found others some few =
+    ap (λ b. if b then others else within_limit found) some
+    ∙ ap (λ b. if b then refused reason.TooMany else record { issns = found.issns; isbns = found.isbns; refusal = None }) few
 
--- a value that is chosen has what the core reads
-chosen_core : (core rft old value : Option (List ℕ)) (has_rft has_old : Bool) → IsChosen core rft has_rft old has_old value → is_some core ≡ true → value ≡ core
-chosen_core None rft old value has_rft has_old is some = absurd (cc)
-chosen_core (Some text) rft old value has_rft has_old is some = is.of_core refl
+-- a text that is there is chosen
+chosen_core : (core other : Option (List ℕ)) → is_some core ≡ true → or_text core other ≡ core
+chosen_core None other some = absurd (cc)
+chosen_core (Some text) other some = refl
 
 kept_days : (core value : Option (List ℕ)) (days : Option DayRange) → option_and_then query_days_of core ≡ days → (is_some core ≡ true → value ≡ core)
     → IfSome days (λ d. option_and_then query_days_of value ≡ Some d)
@@ -123,28 +130,28 @@ kept_number core value None read is = tt
 kept_number None value (Some number) read is = absurd (cc)
 kept_number (Some text) value (Some number) read is = ap (option_and_then volume_of) (is refl) ∙ read
 
-keeps : (pairs : List (List ℕ × List ℕ)) (q : QueryValue) (u : UnderstandingValue)
+keeps : (pairs : List (List ℕ × List ℕ)) (q : QueryValue)
     → Answered (list_any is_other_version pairs) (has_other_format pairs) (without pairs) (value_of pairs) q
-    → count q.issns q.isbns ≤ identifier_limit → AreUnderstood pairs u → KeepsAnswer q u
-keeps pairs q u a few is =
+    → count q.issns q.isbns ≤ identifier_limit → KeepsAnswer q (understood_pairs pairs)
+keeps pairs q a few =
     let accepted : is_refused pairs ≡ false = ap (λ b. b || has_other_format pairs) a.version_is ∙ a.format_is in
-    let issns : core_issns pairs ≡ q.issns = ap (λ b. if b then [] else query_issns pairs) accepted ∙ ap (λ v. v.issns) a.same in
-    let isbns : core_isbns pairs ≡ q.isbns = ap (λ b. if b then [] else query_isbns pairs) accepted ∙ ap (λ v. v.isbns) a.same in
-    let days : first_days pairs ≡ q.days = ap (λ v. v.days) a.same in
-    let number : first_volume pairs ≡ q.volume = ap (λ v. v.volume) a.same in
-    let some = some_of (query_issns pairs) (query_isbns pairs) a.nonempty in
+    let own_issns : core_issns pairs ≡ query_issns pairs = ap (λ b. if b then [] else query_issns pairs) accepted in
+    let own_isbns : core_isbns pairs ≡ query_isbns pairs = ap (λ b. if b then [] else query_isbns pairs) accepted in
+    let issns : core_issns pairs ≡ q.issns = own_issns ∙ ap (λ v. v.issns) a.same in
+    let isbns : core_isbns pairs ≡ q.isbns = own_isbns ∙ ap (λ v. v.isbns) a.same in
+    let some : are_none (core_identifiers pairs) ≡ false =
+    ap (λ l. is_empty l && is_empty (core_isbns pairs)) own_issns ∙ ap (λ l. is_empty (query_issns pairs) && is_empty l) own_isbns ∙ a.nonempty in
     let first_count = ap length issns in
     let second_count = ap length isbns in
-    let third_count = ap (λ v. length v.issns) a.same in
-    let fourth_count = ap (λ v. length v.isbns) a.same in
-    let kept = is.identifiers.kept (omega (arith, some, first_count, second_count, third_count, fourth_count)) (omega (arith, few, first_count, second_count)) in
+    let size : count (core_issns pairs) (core_isbns pairs) ≤ identifier_limit = omega (arith, few, first_count, second_count) in
+    let found = found_kept (core_identifiers pairs) (looked_up_of_others (map keyed pairs)) some (le-ltb identifier_limit (count (core_issns pairs) (core_isbns pairs)) size) in
     record {
-      refusal = kept.2;
-      issns = kept.0 ∙ issns;
-      isbns = kept.1 ∙ isbns;
-      days = kept_days (core_date pairs) u.date q.days (core_days pairs ∙ days) (chosen_core _ _ _ u.date _ _ is.date);
-      volume = kept_number (core_volume pairs) u.volume q.volume (core_number pairs ∙ number) (chosen_core _ _ _ u.volume _ _ is.volume);
+      refusal = ap (λ l. l.refusal) found;
+      issns = ap (λ l. l.issns) found ∙ issns;
+      isbns = ap (λ l. l.isbns) found ∙ isbns;
+      days = kept_days (core_date pairs) (date_of pairs) q.days (core_days pairs ∙ ap (λ v. v.days) a.same) (chosen_core (core_date pairs) _);
+      volume = kept_number (core_volume pairs) (tiers.volume_of pairs) q.volume (core_number pairs ∙ ap (λ v. v.volume) a.same) (chosen_core (core_volume pairs) _);
     }
 
 pub answers_kept : AnswersAreKept
-answers_kept text q u read few is = keeps (form.parse text) q u (answered_by text q read) few is
+answers_kept text q read few = keeps (form.parse text) q (answered_by text q read) few

@@ -1,5 +1,6 @@
-pub mod Sets
-pub mod Tiers
 pub mod Sizes
 pub mod Kept
+pub mod Valid
 pub mod Written
+pub mod Parts
+pub mod Plains

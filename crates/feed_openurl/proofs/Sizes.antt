@@ -1,6 +1,5 @@
 -- The pairs of a query may be written in parts.
 use Rattle.std.proofs.Common.{◌≡◌, ◌∙◌, ℕ, List, [], ◌++◌, Option, codes}
-use Rattle.std.specs.Prelude.{fold}
 use Rattle.std.proofs.lemmas.List.Sums.{fold-append}
 use Rattle.form_urlencoded.specs.Form.{append_pair, extend_pairs}
 use Rattle.feed_openurl.specs.Written.{date_pairs, isbn_pairs, issn_pairs, volume_pairs, written_of}

@@ -1,24 +1,58 @@
 -- The core accepts what is written for a query, and its identifiers are understood as they were.
-use Rattle.std.proofs.Common.{◌≡◌, ◌≤◌, ◌<◌, ℕ, Bool, true, false, ◌&&◌, ◌||◌, List, [], ◌∷◌, ◌++◌, length, Option, Some, None, Ok, Err, if◌then◌else◌, codes, refl, ap, ◌∙◌, map, arith}
-use Rattle.std.specs.Prelude.{nat_lt}
-use Rattle.std.specs.List.{All, cons_option, filter_map, list_any}
+use Rattle.std.proofs.Common.{◌≡◌, ◌≤◌, ◌<◌, ℕ, Bool, false, ◌&&◌, ◌||◌, List, [], ◌∷◌, ◌++◌, length, Option}
+use Rattle.std.proofs.Common.{Some, None, Ok, Err, if◌then◌else◌, codes, refl, sym, ap, subst, ◌∙◌, map, append_assoc, arith}
+use Rattle.std.specs.Prelude.{fold}
+use Rattle.std.specs.declared.cmp.Ordering.TheVariants.{Less, Greater}
+use Rattle.std.specs.Ordering.{match_ordering, ordering_reverse}
+use Rattle.std.specs.BTreeSet.{insert_key}
+use Rattle.std.specs.List.{All, AllByRecursion, cons_option, filter_map, list_any}
+use Rattle.std.specs.List.Sorted.{IsStrictlySortedBy}
 use Rattle.std.proofs.lemmas.Bool.{le-ltb}
+use Rattle.std.proofs.lemmas.Cmp.{nat_list_cmp_total}
 use Rattle.std.proofs.lemmas.List.{append-nil}
 use Rattle.std.proofs.lemmas.List.Elements.{All-head, All-tail}
 use Rattle.form_urlencoded.specs.Form as form
 use Rattle.form_urlencoded.proofs.FormLemmas.{round_trip}
-use Rattle.feed_answer.specs.IdentifierSet.{identifier_set}
+use Rattle.feed_answer.specs.IdentifierSet.{bytes_cmp, IsAscending, identifier_set}
 use Rattle.feed_answer.specs.Limits.{query_limit}
 use Rattle.feed_answer.specs.Pairs.{book_format, first_days, first_volume, has_format, is_empty, is_other_format, is_other_version, isbn_of_pair, issn_of_pair, journal_format}
 use Rattle.feed_answer.specs.Queries.{has_book_format, has_journal_format, has_other_format, query_isbns, query_issns, query_of, query_of_pairs}
 use Rattle.feed_answer.specs.QueryValue.{QueryValue}
 use Rattle.feed_answer.specs.declared.fault.QueryFault.TheVariants.{NoIsbn, NoIssn, OtherFormat, TooLong, Version}
-use Rattle.feed_openurl.specs.Laws.{IsAskedFor, WrittenIsAccepted, WrittenIsUnderstood, written_pairs}
-use Rattle.feed_openurl.specs.Values.{AreIdentifiers, IsCounted, IsIsbnText, IsIssnText, count, identifier_limit}
+use Rattle.feed_openurl.specs.Identifiers.{count, identifier_limit}
+use Rattle.feed_openurl.specs.Laws.{WrittenIsAccepted, WrittenIsUnderstood, written_pairs}
+use Rattle.feed_openurl.specs.Values.{AreIdentifiers, IsCounted, IsIsbnText, IsIssnText}
 use Rattle.feed_openurl.specs.Written.{date_pairs, isbn_pairs, issn_pairs, pairs_for, version_pair, volume_pairs, with_key, written}
 use Rattle.feed_openurl.specs.declared.fault.Refusal.{Refusal}
 use Rattle.feed_openurl.proofs.Kept.{answers_kept}
-use Rattle.feed_openurl.proofs.Sets.{set_of_ascending}
+
+-- an identifier above all others is inserted last
+at_last : (P : List ℕ → Type 0) (front : List (List ℕ)) (one : List ℕ) (rest : List (List ℕ)) → AllByRecursion P (front ++ one ∷ rest) → P one
+at_last P [] one rest all = all.0
+at_last P (other ∷ others) one rest all = at_last P others one rest all.1
+
+insert_last : (front : List (List ℕ)) (one : List ℕ) (rest : List (List ℕ)) → IsAscending (front ++ one ∷ rest)
+    → insert_key bytes_cmp front one ≡ front ++ one ∷ []
+unfolding IsStrictlySortedBy
+insert_last [] one rest up = refl
+insert_last (other ∷ others) one rest up =
+    let below = at_last (λ y. bytes_cmp other y ≡ Less) others one rest up.0 in
+    let above : bytes_cmp one other ≡ Greater = nat_list_cmp_total.antisymm one other ∙ ap ordering_reverse below in
+    let later = insert_last others one rest up.1 in
+    ap (λ o. match_ordering o (one ∷ other ∷ others) (other ∷ others) (other ∷ insert_key bytes_cmp others one)) above
+    ∙ ap (λ l. other ∷ l) later
+
+fold_ascending : (rest front : List (List ℕ)) → IsAscending (front ++ rest) → fold (insert_key bytes_cmp) front rest ≡ front ++ rest
+fold_ascending [] front up = sym (append-nil front)
+fold_ascending (one ∷ rest) front up =
+    let same = append_assoc front (one ∷ []) rest in
+    ap (λ s. fold (insert_key bytes_cmp) s rest) (insert_last front one rest up)
+    ∙ fold_ascending rest (front ++ one ∷ []) (subst IsAscending (sym same) up)
+    ∙ same
+
+-- an ascending list is the set of its elements
+pub set_of_ascending : (ones : List (List ℕ)) → IsAscending ones → identifier_set ones ≡ ones
+set_of_ascending ones up = fold_ascending ones [] up
 
 abbrev Pair : Type 0
 Pair = List ℕ × List ℕ
@@ -157,7 +191,7 @@ written_accepted u is none bytes short =
     (pairs_accepted u.issns u.isbns u.date u.volume is.identifiers counted.0)
 
 pub written_understood : WrittenIsUnderstood
-written_understood u again is none bytes short read =
+written_understood u is none bytes short =
     let counted = not_empty u.issns u.isbns u.refusal is.counted none in
-    let kept = answers_kept (written u) (asked (written_pairs u) u.issns u.isbns) again (written_accepted u is none bytes short) counted.1 read in
+    let kept = answers_kept (written u) (asked (written_pairs u) u.issns u.isbns) (written_accepted u is none bytes short) counted.1 in
     record { refusal = kept.refusal; issns = kept.issns; isbns = kept.isbns }

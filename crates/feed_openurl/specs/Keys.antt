@@ -1,8 +1,7 @@
 -- The keys of a query by which something is looked up: those of OpenURL 1.0 (Z39.88-2004, the matrices of journals and
 -- books), and those of OpenURL 0.1.
-use Rattle.std.specs.Prelude.{◌||◌, ℕ, Bool, true, false, List, Option, Some, None, if◌then◌else◌, drop, length, codes}
+use Rattle.std.specs.Prelude.{◌||◌, ◌&&◌, nat_le, ℕ, Bool, true, false, List, Option, Some, None, if◌then◌else◌, take, drop, length, codes}
 use Rattle.std.specs.Str.{str_eq_ignore_ascii_case}
-use Rattle.feed_answer.specs.Pairs.{has_prefix}
 use Rattle.feed_openurl.specs.declared.key.Key.{Key}
 use Rattle.feed_openurl.specs.declared.key.Key.TheVariants.{Version, Format, Number, Name, Date, Volume, Other}
 use Rattle.feed_openurl.specs.declared.key.Tier.{Tier}
@@ -15,11 +14,16 @@ same_tier Rft Old = false
 same_tier Old Rft = false
 same_tier Old Old = true
 
+-- a key is this name, in any case of letters (practice: discovery services send `ISBN`)
+abbrev pub is_name : List ℕ → List ℕ → Bool
+is_name key name = str_eq_ignore_ascii_case key name
+
 -- what follows a prefix, in any case of letters
 abbrev pub after_prefix : List ℕ → List ℕ → Option (List ℕ)
-after_prefix front key = if has_prefix front key then Some (drop (length front) key) else None
+after_prefix front key =
+    if nat_le (length front) (length key) && is_name (take (length front) key) front then Some (drop (length front) key) else None
 
--- a value, or another one if there is none
+-- a text, or another one if there is none
 abbrev pub or_else : Option (List ℕ) → List ℕ → List ℕ
 or_else (Some text) other = text
 or_else None other = other
@@ -27,10 +31,6 @@ or_else None other = other
 -- a key without the `?` or the `amp;` that a page or a proxy leaves before it (practice)
 abbrev pub mended : List ℕ → List ℕ
 mended key = or_else (after_prefix (codes "?") key) (or_else (after_prefix (codes "amp;") key) key)
-
--- a key is this name, in any case of letters (practice: discovery services send `ISBN`)
-abbrev pub is_name : List ℕ → List ℕ → Bool
-is_name key name = str_eq_ignore_ascii_case key name
 
 -- a key after `rft.` (Z39.88-2004, the matrices), or one of OpenURL 0.1
 abbrev pub referent_key : Tier → List ℕ → Key
@@ -58,6 +58,10 @@ key_with None name = envelope_key name
 -- what a key asks for
 abbrev pub key_of : List ℕ → Key
 key_of key = key_with (after_prefix (codes "rft.") (mended key)) (mended key)
+
+-- a pair as what its key asks for, and its value
+abbrev pub keyed : List ℕ × List ℕ → Key × List ℕ
+keyed pair = (key_of pair.0, pair.1)
 
 -- a key asks for a date in this tier
 abbrev pub is_date_key : Tier → Key → Bool

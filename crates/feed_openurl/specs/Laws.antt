@@ -1,15 +1,15 @@
 -- Laws of queries as they are understood.
-use Rattle.std.specs.Prelude.{◌≡◌, ◌<◌, ◌≤◌, ℕ, length, List, Option, Some, None, Ok, IfSome}
-use Rattle.feed_dates.specs.declared.day_range.DayRange.{DayRange}
-use Rattle.feed_dates.specs.DayRanges.{query_days_of}
-use Rattle.feed_kbart.specs.Volumes.{volume_of}
+use Rattle.std.specs.Prelude.{◌≡◌, ◌<◌, ◌≤◌, ℕ, length, List, Some, None, Ok, IfSome}
 use Rattle.std.specs.List.{All}
 use Rattle.std.specs.Option.{option_and_then}
+use Rattle.feed_dates.specs.DayRanges.{query_days_of}
+use Rattle.feed_kbart.specs.Volumes.{volume_of}
 use Rattle.feed_answer.specs.Limits.{query_limit}
 use Rattle.feed_answer.specs.Pairs.{first_days, first_volume}
 use Rattle.feed_answer.specs.Queries.{query_of}
 use Rattle.feed_answer.specs.QueryValue.{QueryValue}
-use Rattle.feed_openurl.specs.Values.{IsUnderstood, IsWellFormed, UnderstandingValue, count, identifier_limit}
+use Rattle.feed_openurl.specs.Identifiers.{count, identifier_limit}
+use Rattle.feed_openurl.specs.Values.{IsWellFormed, UnderstandingValue, understood}
 use Rattle.feed_openurl.specs.Written.{pairs_for, written}
 
 -- a query that the core answers keeps its identifiers, its days and its volume
@@ -22,8 +22,8 @@ pub record KeepsAnswer (q : QueryValue) (u : UnderstandingValue) : Type 0 where
 
 -- for every query that the core answers, with at most the limit of identifiers
 abbrev pub AnswersAreKept : Type 0
-AnswersAreKept = (text : List ℕ) (q : QueryValue) (u : UnderstandingValue)
-    → query_of text ≡ Ok q → count q.issns q.isbns ≤ identifier_limit → IsUnderstood text u → KeepsAnswer q u
+AnswersAreKept = (text : List ℕ) (q : QueryValue)
+    → query_of text ≡ Ok q → count q.issns q.isbns ≤ identifier_limit → KeepsAnswer q (understood text)
 
 -- the pairs of the query that is written
 abbrev pub written_pairs : UnderstandingValue → List (List ℕ × List ℕ)
@@ -50,5 +50,5 @@ pub record IsAskedFor (u again : UnderstandingValue) : Type 0 where
 -- what is written for a query that is not refused is understood with the same identifiers
 abbrev pub WrittenIsUnderstood : Type 0
 WrittenIsUnderstood =
-    (u again : UnderstandingValue) → IsWellFormed u → u.refusal ≡ None → AreBytes (written_pairs u) → length (written u) ≤ query_limit
-    → IsUnderstood (written u) again → IsAskedFor u again
+    (u : UnderstandingValue) → IsWellFormed u → u.refusal ≡ None → AreBytes (written_pairs u) → length (written u) ≤ query_limit
+    → IsAskedFor u (understood (written u))

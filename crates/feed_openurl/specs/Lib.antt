@@ -1,6 +1,13 @@
+pub mod Fronts
 pub mod Texts
 pub mod Keys
 pub mod Core
+pub mod Plain
+pub mod Numbers
+pub mod Kinds
+pub mod Identifiers
+pub mod Volumes
+pub mod Dates
 pub mod Tiers
 pub mod Values
 pub mod Written

@@ -1,8 +1,8 @@
 //! What a reader looked for: the citation of a query.
 use crate::key::{Key, Tier, after_rft, is_name, mended};
 use crate::links::{bare_pmid_of, doi_of, pmid_of};
-use crate::pair::Pair;
 use crate::plain::shown_text;
+use feed_answer::Pair;
 use feed_identifiers::trim_spaces;
 use std::alloc::{AllocError, Global};
 
@@ -167,7 +167,7 @@ impl<'a> Choices<'a> {
 
     fn offer(&mut self, pair: &'a Pair<'_>) {
         let value = trim_spaces(pair.value());
-        match pair.meaning() {
+        match Key::of(pair.key()) {
             Key::Date(tier) => self.date.offer(rank(tier, 0), value),
             Key::Volume(tier) => self.volume.offer(rank(tier, 0), value),
             Key::Name(tier) => self.offer_name(rank(tier, 0), value),

@@ -1,5 +1,6 @@
 //! A date as the core reads it: `YYYY`, `YYYY-MM` or `YYYY-MM-DD`.
 ghost use Rattle.std.specs.Prelude.{◌≡◌};
+ghost use Rattle.feed_openurl.specs.Dates.{two_digits};
 
 use feed_dates::DayRange;
 use std::marker::Model;
@@ -23,6 +24,7 @@ impl Model for DateText {
 }
 
 impl DateText {
+    ghost use Rattle.feed_openurl.specs.Dates.{date_of_parts};
     ghost use Rattle.feed_openurl.specs.Texts.{IsDateText, date_text_of};
 
     /// Parses a date of a query (Z39.88-2004): `YYYY`, `YYYY-MM`, `YYYY-MM-DD`, `YYYYMM` or `YYYYMMDD`, of the years
@@ -58,10 +60,12 @@ impl DateText {
 
     /// Returns the longest part of a date that the calendar has: the day, the month or the year. A month or a day
     /// that is 0 is absent.
-    pub(crate) fn of_parts(year: [u8; 4], month: u8, day: u8) -> Option<DateText> {
+    pub(crate) fn of_parts(year: [u8; 4], month: u8, day: u8) -> Option<DateText>
+        ensures { result ≡ date_of_parts year month day }
+    {
         let [a, b, c, d] = year;
-        let [e, f] = two(month);
-        let [g, h] = two(day);
+        let [e, f] = two_digits(month);
+        let [g, h] = two_digits(day);
         if let Some(date) = DateText::of_query(&[a, b, c, d, e, f, g, h]) {
             return Some(date);
         }
@@ -81,6 +85,8 @@ impl DateText {
 }
 
 // The two digits of a number below 100.
-fn two(number: u8) -> [u8; 2] {
+fn two_digits(number: u8) -> [u8; 2]
+    ensures { result ≡ two_digits number }
+{
     [b'0' + number / 10 % 10, b'0' + number % 10]
 }

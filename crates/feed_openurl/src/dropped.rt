@@ -1,9 +1,8 @@
 //! The keys of a query that nobody reads.
 use crate::citation::is_cited;
-use crate::decode::decode_pairs;
 use crate::key::Key;
-use crate::pair::Pair;
 use crate::plain::shown_text;
+use feed_answer::{Pair, decode_pairs};
 use std::alloc::{AllocError, Global};
 
 /// A key that nobody reads, and how often it appears.
@@ -14,7 +13,7 @@ pub struct Dropped {
 }
 
 fn is_dropped(pair: &Pair<'_>) -> bool {
-    match pair.meaning() {
+    match Key::of(pair.key()) {
         Key::Other => !is_cited(pair.key()),
         _ => false,
     }

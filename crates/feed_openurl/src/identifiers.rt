@@ -1,143 +1,197 @@
-//! The identifiers that a query is about: the core's, or those of the first tier of keys that has some.
-ghost use Rattle.std.specs.Prelude.{◌≡◌};
-ghost use Rattle.std.specs.List.{list_any};
-ghost use Rattle.feed_answer.specs.Pairs.{has_format, is_other_format, is_other_version};
-ghost use Rattle.feed_answer.specs.Queries.{has_other_format};
-ghost use Rattle.feed_openurl.specs.Core.{core_isbns, core_issns};
-ghost use Rattle.feed_openurl.specs.Values.{AreAdded, AreCollected, isbns_with, issns_with};
+//! The identifiers that are looked up for a query: the core's, or those of the first keys that have some.
+ghost use Rattle.std.specs.Prelude.{◌≡◌, IfOk, map};
+ghost use Rattle.feed_openurl.specs.Core.{core_isbns, core_issns, is_refused};
+ghost use Rattle.feed_openurl.specs.Identifiers.{first_tier, looked_up, looked_up_of_others};
+ghost use Rattle.feed_openurl.specs.Identifiers.{other_identifiers, reason_without, refused, within_limit, within_or};
+ghost use Rattle.feed_openurl.specs.Keys.{keyed};
+ghost use Rattle.feed_openurl.specs.Kinds.{formats_of};
 
-use crate::collect::{Identifiers, Stop};
-use crate::key::{Key, Tier};
+use crate::fault::Refusal;
+use crate::key::Tier;
+use crate::kind;
 use crate::kind::FormatNames;
-use crate::links::number_in;
-use crate::numbers::{Kind, add_numbers};
-use crate::pair::{BOOK, JOURNAL, Pair};
-use crate::plain::plain;
-use std::alloc::Global;
+use crate::numbers::numbers_of;
+use crate::sets::{Identifiers, identifiers_for, set_of};
+use crate::value::Value;
+use feed_answer::{BOOK, JOURNAL, Pair, has_format, has_other_format, has_other_version};
+use feed_identifiers::{Isbn, Issn};
+use std::alloc::{AllocError, Global};
+use std::marker::Model;
 
-fn has_format(pairs: &[Pair<'_>], format: &str) -> bool
-    ensures { result ≡ list_any (has_format format.now) pairs.now }
-{
-    pairs.iter().any(|pair| pair.has_format(format))
+/// What is looked up: identifiers, or none and the reason.
+#[derive(Drop)]
+pub(crate) struct LookedUp {
+    pub(crate) issns: Vec<Issn>,
+    pub(crate) isbns: Vec<Isbn>,
+    pub(crate) refusal: Option<Refusal>,
 }
 
-fn has_other_version(pairs: &[Pair<'_>]) -> bool
-    ensures { result ≡ list_any is_other_version pairs.now }
-{
-    pairs.iter().any(|pair| pair.is_other_version())
+impl Model for LookedUp {
+    ghost use Rattle.feed_openurl.specs.Identifiers.{LookedUp};
+
+    ghost Value = { LookedUp };
+
+    ghost view = { λ found. record { issns = found.issns.items; isbns = found.isbns.items; refusal = found.refusal } };
 }
 
-fn has_unsupported_format(pairs: &[Pair<'_>]) -> bool
-    ensures { result ≡ list_any is_other_format pairs.now }
+// Returns whether the core refuses the version or the format.
+fn is_refused(pairs: &[Pair<'_>]) -> bool
+    ensures { result ≡ is_refused pairs.now }
 {
-    pairs.iter().any(|pair| pair.is_other_format())
+    has_other_version(pairs) || has_other_format(pairs)
 }
 
-fn has_other_format(pairs: &[Pair<'_>]) -> bool
-    ensures { result ≡ has_other_format pairs.now }
+// The ISSNs that the core looks up.
+fn core_issns(alloc: Global, pairs: &[Pair<'_>]) -> Result<Vec<Issn>, AllocError>
+    ensures { IfOk result (λ issns. issns.items ≡ core_issns pairs.now) }
 {
-    has_unsupported_format(pairs) || (has_format(pairs, JOURNAL) && has_format(pairs, BOOK))
-}
-
-// Adds the ISSNs that the core reads of the pairs.
-fn add_issns(pairs: &[Pair<'_>], found: &mut Identifiers) -> Result<(), Stop>
-    ensures { AreAdded (issns_with pairs.now found.old.issns) found.old.isbns found.new result }
-{
+    let mut issns = Vec::new(alloc);
+    if is_refused(pairs) || has_format(pairs, BOOK) {
+        return Ok(issns);
+    }
     for pair in pairs {
         if let Some(issn) = pair.issn() {
-            match found.add_issn(issn) {
-                Ok(()) => {}
-                Err(stop) => return Err(stop),
-            }
+            issns.push(issn)?;
         }
     }
-    Ok(())
+    set_of(alloc, &issns)
 }
 
-// Adds the ISBNs that the core reads of the pairs.
-fn add_isbns(pairs: &[Pair<'_>], found: &mut Identifiers) -> Result<(), Stop>
-    ensures { AreAdded found.old.issns (isbns_with pairs.now found.old.isbns) found.new result }
+// The ISBNs that the core looks up.
+fn core_isbns(alloc: Global, pairs: &[Pair<'_>]) -> Result<Vec<Isbn>, AllocError>
+    ensures { IfOk result (λ isbns. isbns.items ≡ core_isbns pairs.now) }
 {
+    let mut isbns = Vec::new(alloc);
+    if is_refused(pairs) || has_format(pairs, JOURNAL) {
+        return Ok(isbns);
+    }
     for pair in pairs {
         if let Some(isbn) = pair.isbn() {
-            match found.add_isbn(isbn) {
-                Ok(()) => {}
-                Err(stop) => return Err(stop),
-            }
+            isbns.push(isbn)?;
         }
     }
-    Ok(())
+    set_of(alloc, &isbns)
 }
 
-/// Returns the identifiers that the core looks up. There are none if it refuses the version or the format.
-pub(crate) fn core_identifiers(alloc: Global, pairs: &[Pair<'_>]) -> Result<Identifiers, Stop>
-    ensures { AreCollected (core_issns pairs.now) (core_isbns pairs.now) result }
+fn refused(alloc: Global, refusal: Refusal) -> LookedUp
+    ensures { result ≡ refused refusal }
 {
-    let mut found = Identifiers::new(alloc);
-    if has_other_version(pairs) || has_other_format(pairs) {
-        return Ok(found);
+    LookedUp {
+        issns: Vec::new(alloc),
+        isbns: Vec::new(alloc),
+        refusal: Some(refusal),
     }
-    if !has_format(pairs, BOOK) {
-        add_issns(pairs, &mut found)?;
-    }
-    if !has_format(pairs, JOURNAL) {
-        add_isbns(pairs, &mut found)?;
-    }
-    found.check()?;
-    Ok(found)
 }
 
-// The identifiers of one kind in the values of one tier of keys.
-fn numbers_of(
+// The identifiers, unless they are more than the limit.
+fn within_limit(alloc: Global, found: Identifiers) -> LookedUp
+    ensures { result ≡ within_limit found }
+{
+    if found.are_too_many() {
+        return refused(alloc, Refusal::TooMany);
+    }
+    LookedUp {
+        issns: found.issns,
+        isbns: found.isbns,
+        refusal: None,
+    }
+}
+
+// The identifiers of `rft.` keys, or else those of the keys of 0.1.
+fn first_tier(
     alloc: Global,
-    pairs: &[Pair<'_>],
-    tier: Tier,
-    kind: Kind,
-) -> Result<Identifiers, Stop> {
-    let mut found = Identifiers::new(alloc);
-    for pair in pairs {
-        match pair.meaning() {
-            Key::Number(own) if own.is(tier) => {
-                add_value(alloc, pair.value(), kind, &mut found)?;
-            }
-            Key::Name(own) if own.is(tier) => {
-                if let Some(number) = number_in(pair.value()) {
-                    add_value(alloc, number, kind, &mut found)?;
-                }
-            }
-            _ => {}
-        }
-    }
-    Ok(found)
-}
-
-fn add_value(alloc: Global, value: &[u8], kind: Kind, found: &mut Identifiers) -> Result<(), Stop> {
-    let value = plain(alloc, value)?;
-    add_numbers(alloc, value.as_slice(), kind, found)
-}
-
-// The identifiers of one kind: those of `rft.` keys, or else those of the keys of 0.1.
-fn numbers_of_kind(alloc: Global, pairs: &[Pair<'_>], kind: Kind) -> Result<Identifiers, Stop> {
-    let found = numbers_of(alloc, pairs, Tier::Rft, kind)?;
+    is_journal: bool,
+    is_book: bool,
+    values: &[Value<'_>],
+) -> Result<Identifiers, AllocError>
+    ensures { IfOk result (λ found. found ≡ first_tier is_journal is_book values.now) }
+{
+    let numbers = numbers_of(alloc, values, Tier::Rft)?;
+    let found = identifiers_for(alloc, is_journal, is_book, &numbers)?;
     if !found.is_empty() {
         return Ok(found);
     }
-    numbers_of(alloc, pairs, Tier::Old, kind)
+    let numbers = numbers_of(alloc, values, Tier::Old)?;
+    identifiers_for(alloc, is_journal, is_book, &numbers)
 }
 
-/// Returns the identifiers of a query that the core does not answer: those of the kind that its one format says, or
-/// else of both kinds.
-pub(crate) fn other_identifiers(
+// The identifiers of the kind that the one format says, or else of both kinds.
+fn other_identifiers(
+    alloc: Global,
+    formats: FormatNames,
+    values: &[Value<'_>],
+) -> Result<Identifiers, AllocError>
+    ensures { IfOk result (λ found. found ≡ other_identifiers formats values.now) }
+{
+    let is_journal = formats.journal && !formats.book;
+    let is_book = formats.book && !formats.journal;
+    let found = first_tier(alloc, is_journal, is_book, values)?;
+    if !found.is_empty() {
+        return Ok(found);
+    }
+    first_tier(alloc, false, false, values)
+}
+
+// The formats that the values name.
+fn formats_of(alloc: Global, values: &[Value<'_>]) -> Result<FormatNames, AllocError>
+    ensures { IfOk result (λ formats. formats ≡ formats_of values.now) }
+{
+    let journal = kind::has_format(alloc, values, JOURNAL)?;
+    let book = kind::has_format(alloc, values, BOOK)?;
+    Ok(FormatNames { journal, book })
+}
+
+// The reason of a query without identifiers.
+fn reason_without(formats: FormatNames) -> Refusal
+    ensures { result ≡ reason_without formats }
+{
+    if formats.book && !formats.journal {
+        Refusal::NoIsbn
+    } else {
+        Refusal::NoIssn
+    }
+}
+
+// What is looked up for a query that names no other version or format.
+fn found_among(alloc: Global, values: &[Value<'_>]) -> Result<LookedUp, AllocError>
+    ensures { IfOk result (λ found. found
+        ≡ within_or (reason_without (formats_of values.now)) (other_identifiers (formats_of values.now) values.now)) }
+{
+    let formats = formats_of(alloc, values)?;
+    let found = other_identifiers(alloc, formats, values)?;
+    if found.is_empty() {
+        return Ok(refused(alloc, reason_without(formats)));
+    }
+    Ok(within_limit(alloc, found))
+}
+
+// What is looked up for a query that the core does not answer.
+fn looked_up_of_others(alloc: Global, values: &[Value<'_>]) -> Result<LookedUp, AllocError>
+    ensures { IfOk result (λ found. found ≡ looked_up_of_others values.now) }
+{
+    if kind::has_other_version(alloc, values)? {
+        return Ok(refused(alloc, Refusal::Version));
+    }
+    if kind::has_other_format(alloc, values)? {
+        return Ok(refused(alloc, Refusal::OtherFormat));
+    }
+    found_among(alloc, values)
+}
+
+/// Returns what is looked up for a query: the pairs, and what their keys ask for.
+pub(crate) fn looked_up(
     alloc: Global,
     pairs: &[Pair<'_>],
-    formats: FormatNames,
-) -> Result<Identifiers, Stop> {
-    if formats.journal != formats.book {
-        let kind = if formats.book { Kind::Isbn } else { Kind::Issn };
-        let found = numbers_of_kind(alloc, pairs, kind)?;
-        if !found.is_empty() {
-            return Ok(found);
-        }
+    values: &[Value<'_>],
+) -> Result<LookedUp, AllocError>
+    requires { values.now ≡ map keyed pairs.now }
+    ensures { IfOk result (λ found. found ≡ looked_up pairs.now) }
+{
+    let issns = core_issns(alloc, pairs)?;
+    let isbns = core_isbns(alloc, pairs)?;
+    let found = Identifiers { issns, isbns };
+    if !found.is_empty() {
+        return Ok(within_limit(alloc, found));
     }
-    numbers_of_kind(alloc, pairs, Kind::Either)
+    looked_up_of_others(alloc, values)
 }

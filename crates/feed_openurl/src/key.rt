@@ -46,24 +46,12 @@ pub(crate) enum Key {
     Other,
 }
 
-// The rest of a key after `?`.
-fn after_question(key: &[u8]) -> Option<&[u8]>
-    ensures { option_copied result ≡ after_prefix (codes "?") key.now }
+/// Returns the rest of a text after a prefix, in any case of letters.
+pub(crate) fn after<'a>(text: &'a [u8], prefix: &str) -> Option<&'a [u8]>
+    ensures { option_copied result ≡ after_prefix prefix.now text.now }
 {
-    let (front, rest) = key.split_at_checked(1)?;
-    if front.eq_ignore_ascii_case(b"?") {
-        Some(rest)
-    } else {
-        None
-    }
-}
-
-// The rest of a key after `amp;`.
-fn after_amp(key: &[u8]) -> Option<&[u8]>
-    ensures { option_copied result ≡ after_prefix (codes "amp;") key.now }
-{
-    let (front, rest) = key.split_at_checked(4)?;
-    if front.eq_ignore_ascii_case(b"amp;") {
+    let (front, rest) = text.split_at_checked(prefix.len())?;
+    if is_name(front, prefix) {
         Some(rest)
     } else {
         None
@@ -75,9 +63,9 @@ fn after_amp(key: &[u8]) -> Option<&[u8]>
 pub(crate) fn mended(key: &[u8]) -> &[u8]
     ensures { result.now ≡ mended key.now }
 {
-    match after_question(key) {
+    match after(key, "?") {
         Some(rest) => rest,
-        None => match after_amp(key) {
+        None => match after(key, "amp;") {
             Some(rest) => rest,
             None => key,
         },
@@ -88,12 +76,7 @@ pub(crate) fn mended(key: &[u8]) -> &[u8]
 pub(crate) fn after_rft(key: &[u8]) -> Option<&[u8]>
     ensures { option_copied result ≡ after_prefix (codes "rft.") key.now }
 {
-    let (front, rest) = key.split_at_checked(4)?;
-    if front.eq_ignore_ascii_case(b"rft.") {
-        Some(rest)
-    } else {
-        None
-    }
+    after(key, "rft.")
 }
 
 /// Returns whether a key is this name, in any case of letters.

@@ -13,8 +13,8 @@ pub fn written_is_accepted()
     ensures { WrittenIsAccepted }
 {}
 
-/// The query that is written for any query that is not refused is understood with exactly the same identifiers, provided
-/// that it has at most `QUERY_LIMIT` bytes.
+/// The query that is written for any query that is not refused is understood with exactly the same identifiers,
+/// provided that it has at most `QUERY_LIMIT` bytes.
 pub fn written_is_understood()
     ensures { WrittenIsUnderstood }
 {}

@@ -1,78 +1,150 @@
 //! The first date in a value that is no date of the core.
+ghost use Rattle.std.specs.Prelude.{◌≡◌, ◌≤◌, IfOk, filter, length};
+ghost use Rattle.feed_openurl.specs.Fronts.{front_len};
+ghost use Rattle.feed_openurl.specs.Dates.{date_after_year, date_among, date_of_part, date_with_year_last, day_after};
+ghost use Rattle.feed_openurl.specs.Dates.{day_behind, numbered};
+ghost use Rattle.feed_openurl.specs.Dates.{first_year, is_between, is_month};
+ghost use Rattle.feed_openurl.specs.Dates.{is_no_semicolon, is_single, is_small, lenient_date};
+ghost use Rattle.feed_openurl.specs.Dates.{named_date, named_month, numeric_date};
+ghost use Rattle.feed_openurl.specs.Dates.{plausible, year_first_of, year_last, year_of};
+
 use crate::date::DateText;
 use crate::tokens::{Token, tokens};
 use std::alloc::{AllocError, Global};
 
-// The year of a token, if it is one from 1000 to 2099.
-fn year_of(token: Token) -> Option<[u8; 4]> {
-    let year = match token {
-        Token::Year(year) => year,
-        Token::Packed { year, .. } => year,
-        _ => return None,
-    };
-    match year {
-        [b'1', ..] | [b'2', b'0', ..] => Some(year),
-        _ => None,
-    }
-}
-
-fn is_year(token: &Token) -> bool {
-    year_of(*token).is_some()
-}
-
-fn is_month(token: &Token) -> bool {
-    matches!(token, Token::Month(_))
-}
-
-fn is_small(token: &Token) -> bool {
-    matches!(token, Token::Small(_))
-}
-
-// The number of a token of one or two digits.
-fn small(token: Option<&Token>) -> Option<u8> {
-    match token {
-        Some(Token::Small(number)) => Some(*number),
-        _ => None,
-    }
-}
-
-// The date of a year and of the name of a month among some tokens. The only small number counts as the day if it is
-// beside that only name.
-fn named_date(tokens: &[Token], year: [u8; 4], month: usize) -> Option<DateText> {
-    let Token::Month(number) = tokens.get(month)? else {
-        return None;
-    };
-    let smalls = tokens.iter().filter(|token| is_small(token)).count();
-    let months = tokens.iter().filter(|token| is_month(token)).count();
-    let day = if smalls == 1 && months == 1 {
-        day_beside(tokens, month)
+// A year from 1000 to 2099.
+fn plausible(year: [u8; 4]) -> Option<[u8; 4]>
+    ensures { result ≡ plausible year }
+{
+    let [a, b, _, _] = year;
+    if a == b'1' || (a == b'2' && b == b'0') {
+        Some(year)
     } else {
         None
-    };
-    DateText::of_parts(year, *number, day.unwrap_or(0))
+    }
 }
 
-// The small number before or after the name of a month, with a hyphen, a dot or a comma between them.
-fn day_beside(tokens: &[Token], month: usize) -> Option<u8> {
-    let (front, back) = tokens.split_at_checked(month)?;
-    let before = match front {
-        [.., day, Token::Mark(b'-' | b'.' | b'/')] => Some(day),
-        [.., day] => Some(day),
-        [] => None,
-    };
-    if let Some(day) = small(before) {
-        return Some(day);
-    }
-    match back {
-        [_, Token::Mark(b'-' | b'.' | b'/' | b','), day, ..] => small(Some(day)),
-        [_, day, ..] => small(Some(day)),
+fn year_of(token: Token) -> Option<[u8; 4]>
+    ensures { result ≡ year_of token }
+{
+    match token {
+        Token::Year(year) => plausible(year),
+        Token::Packed(year, _, _) => plausible(year),
         _ => None,
+    }
+}
+
+fn first_year(tokens: &[Token]) -> Option<[u8; 4]>
+    ensures { result ≡ first_year tokens.now }
+{
+    for token in tokens {
+        if let Some(year) = year_of(*token) {
+            return Some(year);
+        }
+    }
+    None
+}
+
+// Whether a mark stands between the parts of a date.
+fn is_between(mark: u8) -> bool
+    ensures { result ≡ is_between mark }
+{
+    mark == b'-' || mark == b'/' || mark == b'.'
+}
+
+// The small number at the front, or 0. A mark may be before it.
+fn day_after(tokens: &[Token]) -> u8
+    ensures { result ≡ day_after tokens.now }
+{
+    match tokens {
+        [Token::Small(day), ..] => *day,
+        [Token::Mark(mark), Token::Small(day), ..] => {
+            if is_between(*mark) || *mark == b',' {
+                *day
+            } else {
+                0
+            }
+        }
+        _ => 0,
+    }
+}
+
+// The first month that is named, with the small number beside it, or 0.
+fn named_month(tokens: &[Token]) -> Option<(u8, u8)>
+    ensures { result ≡ named_month 0 tokens.now }
+{
+    let mut before = 0;
+    for place in 0..tokens.len() {
+        match tokens[place] {
+            Token::Month(month) => {
+                let day = if before > 0 {
+                    before
+                } else {
+                    day_after(&tokens[place + 1..])
+                };
+                return Some((month, day));
+            }
+            Token::Small(day) => before = day,
+            Token::Mark(mark) => {
+                if !is_between(mark) {
+                    before = 0;
+                }
+            }
+            _ => before = 0,
+        }
+    }
+    None
+}
+
+// How many small numbers there are.
+fn count_of_small(tokens: &[Token]) -> usize
+    ensures { result ≡ length (filter is_small tokens.now) }
+{
+    let mut count = 0;
+    for token in tokens {
+        if let Token::Small(_) = token {
+            count += 1;
+        }
+    }
+    count
+}
+
+// How many names of months there are.
+fn count_of_months(tokens: &[Token]) -> usize
+    ensures { result ≡ length (filter is_month tokens.now) }
+{
+    let mut count = 0;
+    for token in tokens {
+        if let Token::Month(_) = token {
+            count += 1;
+        }
+    }
+    count
+}
+
+// Whether there is one small number, and one name of a month.
+fn is_single(tokens: &[Token]) -> bool
+    ensures { result ≡ is_single tokens.now }
+{
+    count_of_small(tokens) == 1 && count_of_months(tokens) == 1
+}
+
+// The date of a year and a month that is named. The only small number beside the only month is the day.
+fn named_date(tokens: &[Token], year: [u8; 4], month: u8, day: u8) -> Option<DateText>
+    ensures { result ≡ named_date tokens.now year (month, day) }
+{
+    if is_single(tokens) {
+        DateText::of_parts(year, month, day)
+    } else {
+        DateText::of_parts(year, month, 0)
     }
 }
 
 // The date of three numbers with the year last. With dots the day is first. Otherwise the number above 12 is the day,
 // and two that could change places are neither.
-fn date_of_numbers(first: u8, mark: u8, second: u8, year: [u8; 4]) -> Option<DateText> {
+fn date_with_year_last(first: u8, mark: u8, second: u8, year: [u8; 4]) -> Option<DateText>
+    ensures { result ≡ date_with_year_last first mark second year }
+{
     if mark == b'.' || first > 12 || first == second {
         DateText::of_parts(year, second, first)
     } else if second > 12 {
@@ -82,12 +154,10 @@ fn date_of_numbers(first: u8, mark: u8, second: u8, year: [u8; 4]) -> Option<Dat
     }
 }
 
-fn is_between(mark: u8) -> bool {
-    matches!(mark, b'-' | b'/' | b'.')
-}
-
-// The date whose numbers begin here: the year last, or the year first.
-fn numeric_date(tokens: &[Token]) -> Option<DateText> {
+// The date at the front of some tokens, if it has the year last.
+fn year_last(tokens: &[Token]) -> Option<DateText>
+    ensures { result ≡ year_last tokens.now }
+{
     match tokens {
         [
             Token::Small(first),
@@ -96,33 +166,69 @@ fn numeric_date(tokens: &[Token]) -> Option<DateText> {
             Token::Mark(other),
             last,
             ..
-        ] if is_between(*mark) && *mark == *other && is_year(last) => {
-            date_of_numbers(*first, *mark, *second, year_of(*last)?)
+        ] => {
+            if !is_between(*mark) || *mark != *other {
+                return None;
+            }
+            let year = year_of(*last)?;
+            date_with_year_last(*first, *mark, *second, year)
         }
-        [Token::Packed { month, day, .. }, ..] => {
-            DateText::of_parts(year_of(*tokens.first()?)?, *month, *day)
-        }
-        [
-            year,
-            Token::Mark(mark),
-            Token::Small(month),
-            Token::Mark(other),
-            Token::Small(day),
-            ..
-        ] if is_between(*mark) && *mark == *other => {
-            DateText::of_parts(year_of(*year)?, *month, *day)
-        }
-        [year, Token::Mark(mark), Token::Small(month), ..] if is_between(*mark) => {
-            DateText::of_parts(year_of(*year)?, *month, 0)
-        }
-        [year, ..] => DateText::of_parts(year_of(*year)?, 0, 0),
-        [] => None,
+        _ => None,
     }
 }
 
-fn first_numeric_date(tokens: &[Token]) -> Option<DateText> {
-    for start in 0..tokens.len() {
-        if let Some(date) = numeric_date(&tokens[start..]) {
+// The small number behind the same mark, or 0.
+fn day_behind(mark: u8, tokens: &[Token]) -> u8
+    ensures { result ≡ day_behind mark tokens.now }
+{
+    match tokens {
+        [Token::Mark(other), Token::Small(day), ..] => { if mark == *other { *day } else { 0 } }
+        _ => 0,
+    }
+}
+
+fn numbered(year: [u8; 4], mark: u8, month: u8, day: u8) -> Option<DateText>
+    ensures { result ≡ numbered year mark month day }
+{
+    if is_between(mark) {
+        DateText::of_parts(year, month, day)
+    } else {
+        DateText::of_parts(year, 0, 0)
+    }
+}
+
+// The date of a year and of the numbers behind it.
+fn date_after_year(year: [u8; 4], tokens: &[Token]) -> Option<DateText>
+    ensures { result ≡ date_after_year year tokens.now }
+{
+    match tokens {
+        [Token::Mark(mark), Token::Small(month), rest @ ..] => {
+            numbered(year, *mark, *month, day_behind(*mark, rest))
+        }
+        _ => DateText::of_parts(year, 0, 0),
+    }
+}
+
+// The date of a token and of those behind it, if the token has a year.
+fn year_first(token: Token, tokens: &[Token]) -> Option<DateText>
+    ensures { result ≡ year_first_of (year_of token) token tokens.now }
+{
+    let year = year_of(token)?;
+    match token {
+        Token::Packed(_, month, day) => DateText::of_parts(year, month, day),
+        _ => date_after_year(year, tokens),
+    }
+}
+
+// The first date in numbers.
+fn numeric_date(tokens: &[Token]) -> Option<DateText>
+    ensures { result ≡ numeric_date tokens.now }
+{
+    for place in 0..tokens.len() {
+        if let Some(date) = year_last(&tokens[place..]) {
+            return Some(date);
+        }
+        if let Some(date) = year_first(tokens[place], &tokens[place + 1..]) {
             return Some(date);
         }
     }
@@ -130,21 +236,43 @@ fn first_numeric_date(tokens: &[Token]) -> Option<DateText> {
 }
 
 // The first date among the tokens of a part of a value.
-fn date_among(tokens: &[Token]) -> Option<DateText> {
-    let year = tokens.iter().position(is_year)?;
-    match tokens.iter().position(is_month) {
-        Some(month) => named_date(tokens, year_of(*tokens.get(year)?)?, month),
-        None => first_numeric_date(tokens),
+fn date_among(tokens: &[Token]) -> Option<DateText>
+    ensures { result ≡ date_among tokens.now }
+{
+    let year = first_year(tokens)?;
+    match named_month(tokens) {
+        Some((month, day)) => named_date(tokens, year, month, day),
+        None => numeric_date(tokens),
     }
 }
 
-/// Returns the first date in a value in ASCII: of each part between semicolons, the first that has a year.
-pub(crate) fn lenient_date(alloc: Global, value: &[u8]) -> Result<Option<DateText>, AllocError> {
-    for part in value.split(|byte| *byte == b';') {
-        let tokens = tokens(alloc, part)?;
-        if let Some(date) = date_among(&tokens) {
-            return Ok(Some(date));
+fn date_of_part(alloc: Global, text: &[u8]) -> Result<Option<DateText>, AllocError>
+    ensures { IfOk result (λ date. date ≡ date_of_part text.now) }
+{
+    let tokens = tokens(alloc, text)?;
+    Ok(date_among(&tokens))
+}
+
+// How many bytes are before a semicolon.
+fn part_length(text: &[u8]) -> usize
+    ensures value { result ≡ front_len is_no_semicolon text.now }
+    ensures bound { result ≤ length text.now }
+{
+    for place in 0..text.len() {
+        if text[place] == b';' {
+            return place;
         }
     }
-    Ok(None)
+    text.len()
+}
+
+/// Returns the first date in a value in ASCII: before a semicolon, or else behind it.
+pub(crate) fn lenient_date(alloc: Global, value: &[u8]) -> Result<Option<DateText>, AllocError>
+    ensures { IfOk result (λ date. date ≡ lenient_date value.now) }
+{
+    let (front, rest) = value.split_at(part_length(value));
+    match date_of_part(alloc, front)? {
+        Some(date) => Ok(Some(date)),
+        None => date_of_part(alloc, rest),
+    }
 }

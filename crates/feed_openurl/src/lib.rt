@@ -6,10 +6,8 @@
 #![tactic(auto)]
 
 mod citation;
-mod collect;
 mod date;
 mod dates;
-mod decode;
 mod digits;
 mod dropped;
 mod fault;
@@ -19,13 +17,16 @@ mod kind;
 mod laws;
 mod lenient_date;
 mod links;
+mod number;
 mod numbers;
-mod pair;
 mod plain;
+mod sets;
 mod tokens;
 mod understanding;
+mod value;
 mod volume;
 mod volumes;
+mod words;
 mod writing;
 
 pub use crate::citation::Citation;

@@ -1,13 +1,15 @@
 //! Names of an article or a serial that are written as URIs: DOIs, PMIDs, `urn:ISSN:`, `urn:ISBN:`.
+ghost use Rattle.std.specs.Prelude.{◌≡◌, option_copied};
+ghost use Rattle.feed_openurl.specs.Identifiers.{after_portal, after_urn, host_of, number_in};
+
+use crate::key::after;
+use feed_identifiers::trim_spaces;
 
 // The rest of a text after one of some prefixes, in any case.
 fn after_one<'a>(text: &'a [u8], prefixes: &[&str]) -> Option<&'a [u8]> {
     for prefix in prefixes {
-        let prefix = prefix.as_bytes();
-        if let Some((front, rest)) = text.split_at_checked(prefix.len()) {
-            if front.eq_ignore_ascii_case(prefix) {
-                return Some(rest);
-            }
+        if let Some(rest) = after(text, prefix) {
+            return Some(rest);
         }
     }
     None
@@ -34,25 +36,12 @@ const PMID: [&str; 7] = [
     "medline:",
 ];
 
-const NUMBER: [&str; 6] = [
-    "urn:issn:",
-    "urn:isbn:",
-    "https://portal.issn.org/resource/issn/",
-    "http://portal.issn.org/resource/issn/",
-    "https://issn.org/resource/issn/",
-    "http://issn.org/resource/issn/",
-];
-
-fn trimmed(text: &[u8]) -> &[u8] {
-    feed_identifiers::trim_spaces(text)
-}
-
 // The text without the prefixes of DOIs, of which up to three follow one another.
 fn without_doi(text: &[u8]) -> &[u8] {
-    let mut rest = trimmed(text);
+    let mut rest = trim_spaces(text);
     for _ in 0..3 {
         match after_one(rest, &DOI) {
-            Some(tail) => rest = trimmed(tail),
+            Some(tail) => rest = trim_spaces(tail),
             None => return rest,
         }
     }
@@ -79,14 +68,14 @@ pub(crate) fn doi_of(value: &[u8]) -> Option<&[u8]> {
 
 /// Returns the PMID of a value that says that it is one: one to nine digits.
 pub(crate) fn pmid_of(value: &[u8]) -> Option<&[u8]> {
-    number_of_pmid(after_one(trimmed(value), &PMID)?)
+    number_of_pmid(after_one(trim_spaces(value), &PMID)?)
 }
 
 /// Returns a PMID without a prefix or with one.
 pub(crate) fn bare_pmid_of(value: &[u8]) -> Option<&[u8]> {
     match pmid_of(value) {
         Some(pmid) => Some(pmid),
-        None => number_of_pmid(trimmed(value)),
+        None => number_of_pmid(trim_spaces(value)),
     }
 }
 
@@ -102,8 +91,44 @@ fn number_of_pmid(text: &[u8]) -> Option<&[u8]> {
     }
 }
 
-/// Returns what follows the prefix of a `urn:ISSN:` name (RFC 3044), a `urn:ISBN:` name (RFC 3187, RFC 8254) or an
-/// address of the ISSN Portal.
-pub(crate) fn number_in(value: &[u8]) -> Option<&[u8]> {
-    after_one(trimmed(value), &NUMBER)
+// The number in a `urn:ISSN:` name (RFC 3044) or a `urn:ISBN:` name (RFC 3187, RFC 8254).
+fn after_urn(name: &[u8]) -> Option<&[u8]>
+    ensures { option_copied result ≡ after_urn name.now }
+{
+    match after(name, "urn:issn:") {
+        Some(number) => Some(number),
+        None => after(name, "urn:isbn:"),
+    }
+}
+
+// The host and the path of an address.
+fn host_of(name: &[u8]) -> Option<&[u8]>
+    ensures { option_copied result ≡ host_of name.now }
+{
+    match after(name, "https://") {
+        Some(host) => Some(host),
+        None => after(name, "http://"),
+    }
+}
+
+// The number in an address of the ISSN Portal.
+fn after_portal(name: &[u8]) -> Option<&[u8]>
+    ensures { option_copied result ≡ after_portal name.now }
+{
+    let host = host_of(name)?;
+    match after(host, "portal.issn.org/resource/issn/") {
+        Some(number) => Some(number),
+        None => after(host, "issn.org/resource/issn/"),
+    }
+}
+
+/// Returns the number in a name.
+pub(crate) fn number_in(value: &[u8]) -> Option<&[u8]>
+    ensures { option_copied result ≡ number_in value.now }
+{
+    let name = trim_spaces(value);
+    match after_urn(name) {
+        Some(number) => Some(number),
+        None => after_portal(name),
+    }
 }

@@ -1,4 +1,11 @@
 //! The characters of a value: UTF-8, or Windows-1252 as older sources send it.
+ghost use Rattle.std.specs.Prelude.{◌≡◌, IfOk};
+ghost use Rattle.std.specs.Cow.{cow_slice_items};
+ghost use Rattle.std.specs.List.{filter_map, list_all};
+ghost use Rattle.std.specs.Str.{chars};
+ghost use Rattle.feed_openurl.specs.Plain.{has_no_width, is_ascii_byte, is_dash};
+ghost use Rattle.feed_openurl.specs.Plain.{is_space, plain, plain_byte, plain_windows};
+
 use std::alloc::{AllocError, Global};
 use std::borrow::CowSlice;
 
@@ -18,49 +25,102 @@ fn windows_1252(byte: u8) -> char {
     }
 }
 
-// The byte of a value without its alphabet: a hyphen for each dash, a space for each space, an underscore for a letter
-// or a sign beyond ASCII, and nothing for a character without width.
-fn plain_byte(c: char) -> Option<u8> {
-    match c {
-        '\u{0}'..='\u{7F}' => Some(c as u8),
-        '\u{AD}'
-        | '\u{200B}'..='\u{200F}'
-        | '\u{202A}'..='\u{202E}'
-        | '\u{2060}'..='\u{206F}'
-        | '\u{FEFF}' => None,
-        '\u{2010}'..='\u{2015}' | '\u{2212}' | '\u{FE58}' | '\u{FE63}' | '\u{FF0D}' => Some(b'-'),
-        '\u{A0}' | '\u{2000}'..='\u{200A}' | '\u{202F}' | '\u{205F}' | '\u{3000}' => Some(b' '),
-        _ => Some(b'_'),
+// Whether a character is a dash of Unicode.
+fn is_dash(c: u32) -> bool
+    ensures { result ≡ is_dash c }
+{
+    (0x2010..=0x2015).contains(&c) || c == 0x2212 || c == 0xFE58 || c == 0xFE63 || c == 0xFF0D
+}
+
+// Whether a character is a space of Unicode.
+fn is_space(c: u32) -> bool
+    ensures { result ≡ is_space c }
+{
+    c == 0xA0 || (0x2000..=0x200A).contains(&c) || c == 0x202F || c == 0x205F || c == 0x3000
+}
+
+// Whether a character shows nothing.
+fn has_no_width(c: u32) -> bool
+    ensures { result ≡ has_no_width c }
+{
+    c == 0xAD
+        || (0x200B..=0x200F).contains(&c)
+        || (0x202A..=0x202E).contains(&c)
+        || (0x2060..=0x206F).contains(&c)
+        || c == 0xFEFF
+}
+
+// The byte of a character: a hyphen for each dash, a space for each space, an underscore for a letter or a sign beyond
+// ASCII, and nothing for a character without width.
+fn plain_byte(c: u32) -> Option<u8>
+    ensures { result ≡ plain_byte c }
+{
+    if c < 128 {
+        Some(c as u8)
+    } else if has_no_width(c) {
+        None
+    } else if is_dash(c) {
+        Some(b'-')
+    } else if is_space(c) {
+        Some(b' ')
+    } else {
+        Some(b'_')
     }
 }
 
-fn push_plain(bytes: &mut Vec<u8>, c: char) -> Result<(), AllocError> {
-    if let Some(byte) = plain_byte(c) {
-        bytes.push(byte)?;
+// The byte of a byte in Windows-1252.
+fn plain_windows(byte: u8) -> Option<u8>
+    ensures { result ≡ plain_windows byte }
+{
+    if byte == 0x96 || byte == 0x97 {
+        Some(b'-')
+    } else {
+        plain_byte(u32::from(byte))
     }
-    Ok(())
+}
+
+fn is_ascii(value: &[u8]) -> bool
+    ensures { result ≡ list_all is_ascii_byte value.now }
+{
+    value.iter().all(|byte| *byte < 128)
+}
+
+fn plain_text(alloc: Global, text: &str) -> Result<Vec<u8>, AllocError>
+    ensures { IfOk result (λ bytes. bytes.items ≡ filter_map plain_byte (chars text.now)) }
+{
+    let mut bytes = Vec::new(alloc);
+    for c in text.chars() {
+        if let Some(byte) = plain_byte(u32::from(c)) {
+            bytes.push(byte)?;
+        }
+    }
+    Ok(bytes)
+}
+
+fn plain_bytes(alloc: Global, value: &[u8]) -> Result<Vec<u8>, AllocError>
+    ensures { IfOk result (λ bytes. bytes.items ≡ filter_map plain_windows value.now) }
+{
+    let mut bytes = Vec::new(alloc);
+    for byte in value {
+        if let Some(byte) = plain_windows(*byte) {
+            bytes.push(byte)?;
+        }
+    }
+    Ok(bytes)
 }
 
 /// Returns a value in ASCII: a hyphen for each dash, a space for each space, and `_` for any other character beyond
 /// ASCII. A value in ASCII is borrowed.
-pub(crate) fn plain(alloc: Global, value: &[u8]) -> Result<CowSlice<'_, u8, Global>, AllocError> {
-    if value.iter().all(|byte| byte.is_ascii()) {
+pub(crate) fn plain(alloc: Global, value: &[u8]) -> Result<CowSlice<'_, u8, Global>, AllocError>
+    ensures { IfOk result (λ text. cow_slice_items text ≡ plain value.now) }
+{
+    if is_ascii(value) {
         return Ok(CowSlice::Borrowed(value));
     }
-    let mut bytes = Vec::with_capacity(alloc, value.len())?;
     match str::from_utf8(value) {
-        Ok(text) => {
-            for c in text.chars() {
-                push_plain(&mut bytes, c)?;
-            }
-        }
-        Err(_) => {
-            for byte in value {
-                push_plain(&mut bytes, windows_1252(*byte))?;
-            }
-        }
+        Ok(text) => Ok(CowSlice::Owned(plain_text(alloc, text)?)),
+        Err(_) => Ok(CowSlice::Owned(plain_bytes(alloc, value)?)),
     }
-    Ok(CowSlice::Owned(bytes))
 }
 
 // The character as a citation shows it: a space for a control character, and nothing for one that turns the direction

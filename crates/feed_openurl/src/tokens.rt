@@ -1,5 +1,12 @@
 //! The tokens of a date as it is written: numbers, names of months, words and marks.
+ghost use Rattle.std.specs.Prelude.{◌≡◌, ◌++◌, ◌∷◌, ℕ, List, [], IfOk, OnOk};
+ghost use Rattle.std.specs.List.{cons_option};
+ghost use Rattle.feed_openurl.specs.Dates.{is_one, is_ordinal, joins};
+ghost use Rattle.feed_openurl.specs.Dates.{late_month_of, month_of, month_token, number_of_two};
+ghost use Rattle.feed_openurl.specs.Dates.{number_token, token_of, tokens_from};
+
 use crate::digits::is_letter;
+use crate::key::is_name;
 use std::alloc::{AllocError, Global};
 
 /// A part of a date.
@@ -9,8 +16,8 @@ pub(crate) enum Token {
     Small(u8),
     /// Four digits.
     Year([u8; 4]),
-    /// Six or eight digits: a year, a month, and a day or none.
-    Packed { year: [u8; 4], month: u8, day: u8 },
+    /// Six or eight digits: a year, a month, and a day or 0.
+    Packed([u8; 4], u8, u8),
     /// The name of a month, 1 to 12.
     Month(u8),
     /// Any other run of letters or of digits.
@@ -19,122 +26,163 @@ pub(crate) enum Token {
     Mark(u8),
 }
 
-const MONTHS: [&str; 12] = [
-    "january",
-    "february",
-    "march",
-    "april",
-    "may",
-    "june",
-    "july",
-    "august",
-    "september",
-    "october",
-    "november",
-    "december",
-];
+fn is_one(word: &[u8], short: &str, long: &str) -> bool
+    ensures { result ≡ is_one word.now short.now long.now }
+{
+    is_name(word, short) || is_name(word, long)
+}
 
-// Whether a word is the name of a month, its first three letters, or `sept`.
-fn names_month(word: &[u8], name: &str) -> bool {
-    let name = name.as_bytes();
-    let is_short = word.len() == 3 || (word.len() == 4 && word.eq_ignore_ascii_case(b"sept"));
-    match name.split_at_checked(word.len()) {
-        Some((front, _)) => (is_short || word.len() == name.len())
-            && word.eq_ignore_ascii_case(front),
-        None => false,
+// The month of the second half of a year that a word names.
+fn late_month_of(word: &[u8]) -> Option<u8>
+    ensures { result ≡ late_month_of word.now }
+{
+    if is_one(word, "jul", "july") {
+        Some(7)
+    } else if is_one(word, "aug", "august") {
+        Some(8)
+    } else if is_one(word, "sep", "september") || is_name(word, "sept") {
+        Some(9)
+    } else if is_one(word, "oct", "october") {
+        Some(10)
+    } else if is_one(word, "nov", "november") {
+        Some(11)
+    } else if is_one(word, "dec", "december") {
+        Some(12)
+    } else {
+        None
     }
 }
 
-fn month_of(word: &[u8]) -> Option<u8> {
-    let mut month = 0u8;
-    for name in &MONTHS {
-        month = month.saturating_add(1);
-        if names_month(word, name) {
-            return Some(month);
-        }
+// The month that a word names: its name in English, or the first three letters of it.
+fn month_of(word: &[u8]) -> Option<u8>
+    ensures { result ≡ month_of word.now }
+{
+    if is_one(word, "jan", "january") {
+        Some(1)
+    } else if is_one(word, "feb", "february") {
+        Some(2)
+    } else if is_one(word, "mar", "march") {
+        Some(3)
+    } else if is_one(word, "apr", "april") {
+        Some(4)
+    } else if is_one(word, "may", "may") {
+        Some(5)
+    } else if is_one(word, "jun", "june") {
+        Some(6)
+    } else {
+        late_month_of(word)
     }
-    None
 }
 
 // Whether a word makes an ordinal of the number before it.
-fn is_ordinal(word: &[u8]) -> bool {
-    word.eq_ignore_ascii_case(b"st")
-        || word.eq_ignore_ascii_case(b"nd")
-        || word.eq_ignore_ascii_case(b"rd")
-        || word.eq_ignore_ascii_case(b"th")
+fn is_ordinal(word: &[u8]) -> bool
+    ensures { result ≡ is_ordinal word.now }
+{
+    is_one(word, "st", "nd") || is_one(word, "rd", "th")
 }
 
-fn two(a: u8, b: u8) -> u8 {
-    a.saturating_sub(b'0').min(9) * 10 + b.saturating_sub(b'0').min(9)
+fn number_of_two(a: u8, b: u8) -> u8
+    ensures { result ≡ number_of_two a b }
+{
+    10 * a.saturating_sub(b'0').min(9) + b.saturating_sub(b'0').min(9)
 }
 
-fn number(digits: &[u8]) -> Token {
+fn number_token(digits: &[u8]) -> Token
+    ensures { result ≡ number_token digits.now }
+{
     match digits {
-        [a] => Token::Small(two(b'0', *a)),
-        [a, b] => Token::Small(two(*a, *b)),
+        [a] => Token::Small(number_of_two(b'0', *a)),
+        [a, b] => Token::Small(number_of_two(*a, *b)),
         [a, b, c, d] => Token::Year([*a, *b, *c, *d]),
-        [a, b, c, d, e, f] => Token::Packed {
-            year: [*a, *b, *c, *d],
-            month: two(*e, *f),
-            day: 0,
-        },
-        [a, b, c, d, e, f, g, h] => Token::Packed {
-            year: [*a, *b, *c, *d],
-            month: two(*e, *f),
-            day: two(*g, *h),
-        },
+        [a, b, c, d, e, f] => Token::Packed([*a, *b, *c, *d], number_of_two(*e, *f), 0),
+        [a, b, c, d, e, f, g, h] => {
+            Token::Packed(
+                [*a, *b, *c, *d],
+                number_of_two(*e, *f),
+                number_of_two(*g, *h),
+            )
+        }
         _ => Token::Word,
     }
 }
 
-fn word(letters: &[u8]) -> Token {
-    match month_of(letters) {
+fn month_token(word: &[u8]) -> Token
+    ensures { result ≡ month_token (month_of word.now) }
+{
+    match month_of(word) {
         Some(month) => Token::Month(month),
         None => Token::Word,
     }
 }
 
-// What a byte is part of: a number, a word, or neither.
-fn class(byte: u8) -> u8 {
-    if byte.is_ascii_digit() {
-        0
-    } else if is_letter(byte) {
-        1
+// A run of digits, of letters, or one other byte, as a token. A space is none.
+fn token_of(run: &[u8]) -> Option<Token>
+    ensures { result ≡ token_of run.now }
+{
+    let first = *run.first()?;
+    if first.is_ascii_digit() {
+        Some(number_token(run))
+    } else if is_letter(first) {
+        if is_ordinal(run) {
+            None
+        } else {
+            Some(month_token(run))
+        }
+    } else if first > 32 {
+        Some(Token::Mark(first))
     } else {
-        2
+        None
     }
 }
 
-// Appends the tokens of a run of digits, of letters, or of other bytes.
-fn push_run(tokens: &mut Vec<Token>, run: &[u8], first: u8) -> Result<(), AllocError> {
-    if first.is_ascii_digit() {
-        tokens.push(number(run))?;
-    } else if is_letter(first) {
-        if !is_ordinal(run) {
-            tokens.push(word(run))?;
+// Whether a byte belongs to a run.
+fn joins(run: &[u8], byte: u8) -> bool
+    ensures { result ≡ joins run.now byte }
+{
+    match run.first() {
+        Some(first) => {
+            (first.is_ascii_digit() && byte.is_ascii_digit())
+                || (is_letter(*first) && is_letter(byte))
         }
-    } else {
-        push_marks(tokens, run)?;
+        None => false,
+    }
+}
+
+// Appends the token of a run, if it is one.
+fn push_token(tokens: &mut Vec<Token>, run: &[u8]) -> Result<(), AllocError>
+    ensures { OnOk result (tokens.new.items ≡ tokens.old.items ++ cons_option (token_of run.now) []) }
+{
+    if let Some(token) = token_of(run) {
+        tokens.push(token)?;
     }
     Ok(())
 }
 
-fn push_marks(tokens: &mut Vec<Token>, run: &[u8]) -> Result<(), AllocError> {
-    for byte in run {
-        if *byte > b' ' {
-            tokens.push(Token::Mark(*byte))?;
-        }
+// Takes a byte: onto the run, or as the first of another run, after the token of the run.
+fn take_byte(tokens: &mut Vec<Token>, run: &mut Vec<u8>, byte: u8) -> Result<(), AllocError>
+    ensures { OnOk result ((rest : List ℕ) →
+        tokens.new.items ++ tokens_from run.new.items rest
+        ≡ tokens.old.items ++ tokens_from run.old.items (byte ∷ rest)) }
+{
+    if joins(run, byte) {
+        run.push(byte)?;
+        return Ok(());
     }
+    push_token(tokens, run)?;
+    run.clear();
+    run.push(byte)?;
     Ok(())
 }
 
 /// Returns the tokens of a text in ASCII.
-pub(crate) fn tokens(alloc: Global, text: &[u8]) -> Result<Vec<Token>, AllocError> {
+pub(crate) fn tokens(alloc: Global, text: &[u8]) -> Result<Vec<Token>, AllocError>
+    ensures { IfOk result (λ tokens. tokens.items ≡ tokens_from [] text.now) }
+{
     let mut tokens = Vec::new(alloc);
-    for run in text.chunk_by(|a, b| class(*a) == class(*b)) {
-        if let Some(first) = run.first() {
-            push_run(&mut tokens, run, *first)?;
-        }
+    let mut run = Vec::new(alloc);
+    for byte in text {
+        take_byte(&mut tokens, &mut run, *byte)?;
     }
+    push_token(&mut tokens, &run)?;
     Ok(tokens)
 }

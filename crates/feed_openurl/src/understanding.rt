@@ -1,22 +1,16 @@
 //! How a query is understood: its citation, and what of it the core looks up.
-ghost use Rattle.std.specs.Prelude.{IfOk};
-ghost use Rattle.feed_openurl.specs.Core.{core_isbns, core_issns};
-ghost use Rattle.feed_openurl.specs.Values.{AreFound, AreFoundOrStopped, IsCounted};
-
 use crate::citation::Citation;
-pub use crate::collect::IDENTIFIER_LIMIT;
-use crate::collect::{Identifiers, Stop};
 use crate::date::DateText;
 use crate::dates::date_of;
-use crate::decode::decode_pairs;
 use crate::fault::{ReadFault, Refusal};
-use crate::identifiers::{core_identifiers, other_identifiers};
-use crate::kind::{FormatNames, formats, has_other_version};
-use crate::pair::Pair;
+use crate::identifiers::looked_up;
+pub use crate::sets::IDENTIFIER_LIMIT;
+use crate::value::values_of;
 use crate::volume::VolumeText;
 use crate::volumes::volume_of;
 use crate::writing::write_query;
-use feed_identifiers::{Isbn, Issn};
+use feed_answer::{decode_pairs, sets_ascend};
+use feed_identifiers::{Isbn, Issn, printed_isbn_parses, printed_issn_parses};
 use std::alloc::{AllocError, Global};
 use std::marker::Model;
 
@@ -24,32 +18,34 @@ use std::marker::Model;
 #[derive(Drop)]
 pub struct Understanding {
     citation: Citation,
-    identifiers: Identifiers,
+    issns: Vec<Issn>,
+    isbns: Vec<Isbn>,
     date: Option<DateText>,
     volume: Option<VolumeText>,
     refusal: Option<Refusal>,
 }
 
 impl Model for Understanding {
-    ghost use Rattle.feed_openurl.specs.Values.{IsCounted, UnderstandingValue};
+    ghost use Rattle.feed_openurl.specs.Values.{AreIdentifiers, IsCounted, UnderstandingValue};
 
     ghost Value = { UnderstandingValue };
 
     ghost view = { λ u. record {
-      issns = u.identifiers.issns;
-      isbns = u.identifiers.isbns;
+      issns = u.issns.items;
+      isbns = u.isbns.items;
       date = u.date;
       volume = u.volume;
       refusal = u.refusal;
     } };
 
-    ghost invariant = { λ u. IsCounted u.identifiers.issns u.identifiers.isbns u.refusal };
+    ghost invariant = { λ u.
+        AreIdentifiers u.issns.items u.isbns.items × IsCounted u.issns.items u.isbns.items u.refusal };
 }
 
 impl Understanding {
     ghost use Rattle.std.specs.Prelude.{◌≡◌, IfOk, IfSome, option_copied};
     ghost use Rattle.feed_openurl.specs.Texts.{IsDateText, IsVolumeText};
-    ghost use Rattle.feed_openurl.specs.Values.{AreIdentifiers, IsUnderstood, IsWellFormed};
+    ghost use Rattle.feed_openurl.specs.Values.{AreIdentifiers, IsCounted, IsWellFormed, understood};
     ghost use Rattle.feed_openurl.specs.Written.{written};
 
     /// Reads the bytes after the `?` of an OpenURL, or the body of a form, of any length.
@@ -58,19 +54,24 @@ impl Understanding {
     ///
     /// `Memory`. A query with nothing to look up is no error: `refusal` says why.
     pub fn read(alloc: Global, text: &[u8]) -> Result<Understanding, ReadFault>
-        ensures { IfOk result (IsUnderstood text.now) }
+        ensures { IfOk result (λ u. u ≡ understood text.now) }
     {
+        sets_ascend();
+        printed_issn_parses();
+        printed_isbn_parses();
         let pairs = decode_pairs(alloc, text)?;
         let citation = Citation::of(alloc, &pairs)?;
-        let date = date_of(alloc, &pairs)?;
-        let volume = volume_of(alloc, &pairs)?;
-        let (identifiers, refusal) = identifiers_of(alloc, &pairs)?;
+        let values = values_of(alloc, &pairs)?;
+        let date = date_of(alloc, &pairs, &values)?;
+        let volume = volume_of(alloc, &pairs, &values)?;
+        let found = looked_up(alloc, &pairs, &values)?;
         Ok(Understanding {
             citation,
-            identifiers,
+            issns: found.issns,
+            isbns: found.isbns,
             date,
             volume,
-            refusal,
+            refusal: found.refusal,
         })
     }
 
@@ -85,14 +86,14 @@ impl Understanding {
         ensures valid { AreIdentifiers self.now.issns self.now.isbns }
         ensures counted { IsCounted self.now.issns self.now.isbns self.now.refusal }
     {
-        self.identifiers.issns()
+        &self.issns
     }
 
     /// Returns the ISBNs to look up, ascending by their thirteen digits, each once.
     pub fn isbns(&self) -> &[Isbn]
         ensures { result.now ≡ self.now.isbns }
     {
-        self.identifiers.isbns()
+        &self.isbns
     }
 
     /// Returns the date, as `YYYY`, `YYYY-MM` or `YYYY-MM-DD`.
@@ -136,60 +137,5 @@ impl Understanding {
             self.date(),
             self.volume(),
         )
-    }
-}
-
-// The identifiers to look up, or why there are none.
-fn identifiers_of(
-    alloc: Global,
-    pairs: &[Pair<'_>],
-) -> Result<(Identifiers, Option<Refusal>), AllocError>
-    ensures { IfOk result (λ found. AreFound (core_issns pairs.now) (core_isbns pairs.now) found.0 found.1) }
-{
-    match found_identifiers(alloc, pairs) {
-        Ok(found) => Ok(found),
-        Err(Stop::TooMany) => Ok((Identifiers::new(alloc), Some(Refusal::TooMany))),
-        Err(Stop::Memory) => Err(AllocError),
-    }
-}
-
-fn found_identifiers(
-    alloc: Global,
-    pairs: &[Pair<'_>],
-) -> Result<(Identifiers, Option<Refusal>), Stop>
-    ensures { AreFoundOrStopped (core_issns pairs.now) (core_isbns pairs.now) result }
-{
-    let found = core_identifiers(alloc, pairs)?;
-    if !found.is_empty() {
-        return Ok((found, None));
-    }
-    other_outcome(alloc, pairs)
-}
-
-// The identifiers of a query that the core does not answer, or why there are none.
-fn other_outcome(alloc: Global, pairs: &[Pair<'_>]) -> Result<(Identifiers, Option<Refusal>), Stop>
-    ensures { IfOk result (λ found. IsCounted found.0.issns found.0.isbns found.1) }
-{
-    if has_other_version(alloc, pairs)? {
-        return Ok((Identifiers::new(alloc), Some(Refusal::Version)));
-    }
-    let formats = formats(alloc, pairs)?;
-    if formats.other {
-        return Ok((Identifiers::new(alloc), Some(Refusal::OtherFormat)));
-    }
-    let found = other_identifiers(alloc, pairs, formats)?;
-    if found.is_empty() {
-        return Ok((Identifiers::new(alloc), Some(without_identifiers(formats))));
-    }
-    found.check()?;
-    Ok((found, None))
-}
-
-// The reason of a query without identifiers.
-fn without_identifiers(formats: FormatNames) -> Refusal {
-    if formats.book && !formats.journal {
-        Refusal::NoIsbn
-    } else {
-        Refusal::NoIssn
     }
 }

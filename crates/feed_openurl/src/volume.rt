@@ -1,7 +1,11 @@
 //! The volume of a query as the core reads it, and the leading number of a value that has more.
-ghost use Rattle.std.specs.Prelude.{◌≡◌, IfOk};
+ghost use Rattle.std.specs.Prelude.{◌≡◌, ◌≤◌, IfOk, length};
+ghost use Rattle.feed_openurl.specs.Fronts.{front_len};
+ghost use Rattle.feed_openurl.specs.Volumes.{is_english_word, is_filler, is_other_word, is_volume_word};
+ghost use Rattle.feed_openurl.specs.Volumes.{leading_volume, number_at_front, without_fillers};
 
 use crate::digits::{is_letter, split_digits, split_letters};
+use crate::key::is_name;
 use feed_kbart::read_volume;
 use std::alloc::{AllocError, Global};
 use std::marker::Model;
@@ -48,49 +52,74 @@ impl VolumeText {
     }
 }
 
-// Words that may come before the number of a volume.
-const WORDS: [&str; 9] = [
-    "volume", "vol", "v", "band", "bd", "tome", "tomo", "t", "vols",
-];
-
-fn is_word(word: &[u8]) -> bool {
-    WORDS
-        .iter()
-        .any(|known| word.eq_ignore_ascii_case(known.as_bytes()))
+fn is_english_word(word: &[u8]) -> bool
+    ensures { result ≡ is_english_word word.now }
+{
+    is_name(word, "volume") || is_name(word, "vol") || is_name(word, "v") || is_name(word, "vols")
 }
 
-fn is_filler(byte: u8) -> bool {
-    matches!(byte, b' ' | b'.' | b':' | b'[' | b'(')
+fn is_other_word(word: &[u8]) -> bool
+    ensures { result ≡ is_other_word word.now }
+{
+    is_name(word, "band")
+        || is_name(word, "bd")
+        || is_name(word, "tome")
+        || is_name(word, "tomo")
+        || is_name(word, "t")
 }
 
-fn skip_fillers(text: &[u8]) -> &[u8] {
-    match text.iter().position(|byte| !is_filler(*byte)) {
-        Some(start) => &text[start..],
-        None => &[],
+// Whether a word may come before the number of a volume; also none.
+fn is_volume_word(word: &[u8]) -> bool
+    ensures { result ≡ is_volume_word word.now }
+{
+    word.is_empty() || is_english_word(word) || is_other_word(word)
+}
+
+fn is_filler(byte: u8) -> bool
+    ensures { result ≡ is_filler byte }
+{
+    byte == b' ' || byte == b'.' || byte == b':' || byte == b'[' || byte == b'('
+}
+
+// How many signs other than words and numbers are at the front of a text.
+fn filler_count(text: &[u8]) -> usize
+    ensures value { result ≡ front_len is_filler text.now }
+    ensures bound { result ≤ length text.now }
+{
+    for place in 0..text.len() {
+        if !is_filler(text[place]) {
+            return place;
+        }
     }
+    text.len()
 }
 
-// The digits at the front of a value, behind a word for a volume, with no letter beside them.
-fn leading_digits(value: &[u8]) -> Option<&[u8]> {
-    let (word, rest) = split_letters(skip_fillers(value));
-    if !word.is_empty() && !is_word(word) {
-        return None;
-    }
-    let (number, tail) = split_digits(skip_fillers(rest));
+// The text from its first word or number on.
+fn without_fillers(text: &[u8]) -> &[u8]
+    ensures { result.now ≡ without_fillers text.now }
+{
+    &text[filler_count(text)..]
+}
+
+// The number of one to nine digits at the front of a text, with no letter behind it.
+fn number_at_front(alloc: Global, text: &[u8]) -> Result<Option<VolumeText>, AllocError>
+    ensures { IfOk result (λ volume. volume ≡ number_at_front text.now) }
+{
+    let (number, tail) = split_digits(text);
     match tail.first() {
-        Some(next) if is_letter(*next) => None,
-        _ => Some(number),
+        Some(next) if is_letter(*next) => Ok(None),
+        _ => VolumeText::of_query(alloc, number),
     }
 }
 
 /// Returns the leading number of one to nine digits in a value in ASCII, with no letter beside it. Before it may be a
 /// word for a volume.
-pub(crate) fn leading_volume(
-    alloc: Global,
-    value: &[u8],
-) -> Result<Option<VolumeText>, AllocError> {
-    match leading_digits(value) {
-        Some(digits) => VolumeText::of_query(alloc, digits),
-        None => Ok(None),
+pub(crate) fn leading_volume(alloc: Global, value: &[u8]) -> Result<Option<VolumeText>, AllocError>
+    ensures { IfOk result (λ volume. volume ≡ leading_volume value.now) }
+{
+    let (word, rest) = split_letters(without_fillers(value));
+    if !is_volume_word(word) {
+        return Ok(None);
     }
+    number_at_front(alloc, without_fillers(rest))
 }

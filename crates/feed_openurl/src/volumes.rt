@@ -1,33 +1,48 @@
 //! The volume of a query: what the core reads, or else a value of an `rft.` key, or else one of OpenURL 0.1.
-ghost use Rattle.std.specs.Prelude.{◌≡◌, true, false, IfOk, None, is_some};
-ghost use Rattle.std.specs.List.{list_any};
-ghost use Rattle.feed_openurl.specs.Core.{core_volume};
-ghost use Rattle.feed_openurl.specs.Tiers.{is_volume, strict_volume};
-ghost use Rattle.feed_openurl.specs.declared.key.Tier.TheVariants.{Old, Rft};
+ghost use Rattle.std.specs.Prelude.{◌≡◌, IfOk, map};
+ghost use Rattle.std.specs.List.{filter_map};
+ghost use Rattle.feed_answer.specs.Pairs.{first};
+ghost use Rattle.feed_openurl.specs.Core.{core_volume, volume_of_pair};
+ghost use Rattle.feed_openurl.specs.Keys.{keyed};
+ghost use Rattle.feed_openurl.specs.Plain.{plain};
+ghost use Rattle.feed_openurl.specs.Tiers.{lenient_volume_of, strict_volume_of, volume_in, volume_of};
+ghost use Rattle.feed_openurl.specs.Volumes.{leading_volume};
 
 use crate::key::Tier;
-use crate::pair::Pair;
 use crate::plain::plain;
+use crate::value::Value;
 use crate::volume::{VolumeText, leading_volume};
+use feed_answer::Pair;
+use feed_identifiers::trim_spaces;
 use std::alloc::{AllocError, Global};
 
 /// Returns the volume of a query.
-pub(crate) fn volume_of(alloc: Global, pairs: &[Pair<'_>]) -> Result<Option<VolumeText>, AllocError>
-    ensures of_core { IfOk result (λ volume. is_some (core_volume pairs.now) ≡ true → volume ≡ core_volume pairs.now) }
-    ensures of_rft { IfOk result (λ volume. core_volume pairs.now ≡ None
-        → is_some (strict_volume Rft pairs.now) ≡ true → volume ≡ strict_volume Rft pairs.now) }
-    ensures of_old { IfOk result (λ volume. core_volume pairs.now ≡ None → list_any (is_volume Rft) pairs.now ≡ false
-        → is_some (strict_volume Old pairs.now) ≡ true → volume ≡ strict_volume Old pairs.now) }
-    ensures absent { IfOk result (λ volume. core_volume pairs.now ≡ None → list_any (is_volume Rft) pairs.now ≡ false
-        → list_any (is_volume Old) pairs.now ≡ false → volume ≡ None) }
+pub(crate) fn volume_of(
+    alloc: Global,
+    pairs: &[Pair<'_>],
+    values: &[Value<'_>],
+) -> Result<Option<VolumeText>, AllocError>
+    requires { values.now ≡ map keyed pairs.now }
+    ensures { IfOk result (λ volume. volume ≡ volume_of pairs.now) }
 {
     if let Some(volume) = core_volume(alloc, pairs)? {
         return Ok(Some(volume));
     }
-    if let Some(volume) = volume_in(alloc, pairs, Tier::Rft)? {
-        return Ok(Some(volume));
+    match volume_in(alloc, values, Tier::Rft)? {
+        Some(volume) => Ok(Some(volume)),
+        None => volume_in(alloc, values, Tier::Old),
     }
-    volume_in(alloc, pairs, Tier::Old)
+}
+
+// The volume that the core reads of a pair.
+fn volume_of_pair(alloc: Global, pair: &Pair<'_>) -> Result<Option<VolumeText>, AllocError>
+    ensures { IfOk result (λ volume. volume ≡ volume_of_pair pair.now) }
+{
+    if pair.has_key("rft.volume") {
+        VolumeText::of_query(alloc, trim_spaces(pair.value()))
+    } else {
+        Ok(None)
+    }
 }
 
 // The first volume that the core reads.
@@ -35,67 +50,66 @@ fn core_volume(alloc: Global, pairs: &[Pair<'_>]) -> Result<Option<VolumeText>, 
     ensures { IfOk result (λ volume. volume ≡ core_volume pairs.now) }
 {
     for pair in pairs {
-        if let Some(volume) = pair.volume(alloc)? {
+        if let Some(volume) = volume_of_pair(alloc, pair)? {
             return Ok(Some(volume));
         }
     }
     Ok(None)
 }
 
-// The first volume of a tier in the form of the core, or else the first in another.
+// The first volume of a tier in the form of the core, or else the first leading number.
 fn volume_in(
     alloc: Global,
-    pairs: &[Pair<'_>],
+    values: &[Value<'_>],
     tier: Tier,
 ) -> Result<Option<VolumeText>, AllocError>
-    ensures strict { IfOk result (λ volume. is_some (strict_volume tier pairs.now) ≡ true
-        → volume ≡ strict_volume tier pairs.now) }
-    ensures absent { IfOk result (λ volume. list_any (is_volume tier) pairs.now ≡ false → volume ≡ None) }
+    ensures { IfOk result (λ volume. volume ≡ volume_in tier values.now) }
 {
-    if !has_volume(pairs, tier) {
-        return Ok(None);
-    }
-    match strict_volume(alloc, pairs, tier)? {
+    match strict_volume(alloc, values, tier)? {
         Some(volume) => Ok(Some(volume)),
-        None => other_volume(alloc, pairs, tier),
+        None => other_volume(alloc, values, tier),
     }
-}
-
-fn has_volume(pairs: &[Pair<'_>], tier: Tier) -> bool
-    ensures { result ≡ list_any (is_volume tier) pairs.now }
-{
-    pairs.iter().any(|pair| pair.is_volume(tier))
 }
 
 // The first volume of a tier in the form of the core.
 fn strict_volume(
     alloc: Global,
-    pairs: &[Pair<'_>],
+    values: &[Value<'_>],
     tier: Tier,
 ) -> Result<Option<VolumeText>, AllocError>
-    ensures { IfOk result (λ volume. volume ≡ strict_volume tier pairs.now) }
+    ensures { IfOk result (λ volume. volume ≡ first (filter_map (strict_volume_of tier) values.now)) }
 {
-    for pair in pairs {
-        if let Some(volume) = pair.strict_volume(alloc, tier)? {
-            return Ok(Some(volume));
-        }
-    }
-    Ok(None)
-}
-
-// The first volume of a tier in another form.
-fn other_volume(
-    alloc: Global,
-    pairs: &[Pair<'_>],
-    tier: Tier,
-) -> Result<Option<VolumeText>, AllocError> {
-    for pair in pairs {
-        if pair.is_volume(tier) {
-            let value = plain(alloc, pair.value())?;
-            if let Some(volume) = leading_volume(alloc, value.as_slice())? {
+    for value in values {
+        if value.is_volume(tier) {
+            if let Some(volume) = VolumeText::of_query(alloc, trim_spaces(value.text()))? {
                 return Ok(Some(volume));
             }
         }
     }
     Ok(None)
+}
+
+// The first leading number of a tier.
+fn other_volume(
+    alloc: Global,
+    values: &[Value<'_>],
+    tier: Tier,
+) -> Result<Option<VolumeText>, AllocError>
+    ensures { IfOk result (λ volume. volume ≡ first (filter_map (lenient_volume_of tier) values.now)) }
+{
+    for value in values {
+        if value.is_volume(tier) {
+            if let Some(volume) = lenient_volume(alloc, value.text())? {
+                return Ok(Some(volume));
+            }
+        }
+    }
+    Ok(None)
+}
+
+fn lenient_volume(alloc: Global, value: &[u8]) -> Result<Option<VolumeText>, AllocError>
+    ensures { IfOk result (λ volume. volume ≡ leading_volume (plain value.now)) }
+{
+    let text = plain(alloc, value)?;
+    leading_volume(alloc, text.as_slice())
 }

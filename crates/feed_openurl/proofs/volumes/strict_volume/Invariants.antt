@@ -1,7 +1,9 @@
 use Rattle.std.proofs.Common.{◌≡◌, drop}
-use Rattle.feed_openurl.specs.Tiers.{strict_volume}
+use Rattle.std.specs.List.{filter_map}
+use Rattle.feed_answer.specs.Pairs.{first}
+use Rattle.feed_openurl.specs.Tiers.{strict_volume_of}
 use Rattle.feed_openurl.proofs.volumes.strict_volume.Given as goal
 
--- no pair so far has a valid volume
-abbrev pub invariant-loop-pair : goal.invariant-loop-pair
-invariant-loop-pair l = strict_volume l.tier (drop l.pair-index l.pairs) ≡ strict_volume l.tier l.pairs
+-- no value so far has a valid volume
+abbrev pub invariant-loop-value : goal.invariant-loop-value
+invariant-loop-value l = first (filter_map (strict_volume_of l.tier) (drop l.value-index l.values)) ≡ first (filter_map (strict_volume_of l.tier) l.values)

@@ -1,0 +1,239 @@
+-- What is looked up for a query: identifiers that parse, ascending, and within the limit.
+use Rattle.std.proofs.Common.{◌≡◌, ◌<◌, ℕ, Bool, true, false, ◌&&◌, ◌||◌, List, [], ◌∷◌, ◌++◌, take, drop, Option, Some, None, if◌then◌else◌, codes, refl, map, arith}
+use Rattle.std.specs.Prelude.{IfSome, fold, nat_lt}
+use Rattle.std.specs.BTreeSet.{insert_key}
+use Rattle.std.specs.List.{All, concat, cons_option, filter_map, flat_map, list_any}
+use Rattle.std.proofs.lemmas.Bool.{ltb-false}
+use Rattle.std.proofs.lemmas.List.Elements.{All-append, All-cons, All-head, All-nil, All-tail}
+use Rattle.std.proofs.lemmas.Map.Views.{All-insert_key}
+use Rattle.feed_identifiers.specs.Isbn.{isbn_of}
+use Rattle.feed_identifiers.specs.Issn.{issn_of}
+use Rattle.feed_identifiers.specs.Laws.{PrintedFormParses}
+use Rattle.feed_answer.specs.IdentifierSet.{IsAscending, bytes_cmp, identifier_set}
+use Rattle.feed_answer.specs.Laws.{SetsAscend}
+use Rattle.feed_answer.specs.Pairs.{has_key, has_prefix, is_empty, isbn_of_pair, issn_of_pair, issn_of_urn}
+use Rattle.feed_answer.specs.Queries.{has_book_format, has_journal_format}
+use Rattle.feed_openurl.specs.Core.{is_refused}
+use Rattle.feed_openurl.specs.Identifiers.{IdentifiersValue, LookedUp, are_none, as_isbn, as_issn, core_identifiers, count, first_tier, identifier_limit}
+use Rattle.feed_openurl.specs.Identifiers.{identifiers_for, looked_up, looked_up_of_others, number_text, numbers_of, other_identifiers}
+use Rattle.feed_openurl.specs.Identifiers.{reason_without, refused, within_limit}
+use Rattle.feed_openurl.specs.Keys.{keyed}
+use Rattle.feed_openurl.specs.Kinds.{formats_of, names_other_format, names_other_version}
+use Rattle.feed_openurl.specs.Numbers.{first_number, found_or, isbn_number, is_number, number_of_word, number_onto, number_or}
+use Rattle.feed_openurl.specs.Numbers.{numbers_after, numbers_in, spaced_isbn, spaced_issn, taken, words_from}
+use Rattle.feed_openurl.specs.Plain.{plain}
+use Rattle.feed_openurl.specs.Values.{AreIdentifiers, IsCounted, IsIsbnText, IsIssnText}
+use Rattle.feed_openurl.specs.declared.fault.Refusal.{Refusal}
+use Rattle.feed_openurl.specs.declared.fault.Refusal.TheVariants as reason
+use Rattle.feed_openurl.specs.declared.key.Key.{Key}
+use Rattle.feed_openurl.specs.declared.key.Tier.{Tier}
+use Rattle.feed_openurl.specs.declared.key.Tier.TheVariants.{Old, Rft}
+use Rattle.feed_openurl.specs.declared.number.Number.{Number}
+use Rattle.feed_openurl.specs.declared.number.Number.TheVariants.{Isbn, Issn}
+
+-- a number is the printed form of one
+abbrev IsValid : Number → Type 0
+IsValid (Issn issn) = IsIssnText issn
+IsValid (Isbn isbn) = IsIsbnText isbn
+
+abbrev IsFound : Number × ℕ → Type 0
+IsFound found = IsValid found.0
+
+parsed : (read : List ℕ → Option (List ℕ)) → PrintedFormParses read → (text : List ℕ) (o : Option (List ℕ)) → read text ≡ o
+    → IfSome o (λ t. read t ≡ Some t)
+parsed read law text None is = tt
+parsed read law text (Some printed) is = law text printed is
+
+if_valid : {A : Type 0} (P : A → Type 0) (b : Bool) (o other : Option A) → IfSome o P → IfSome other P → IfSome (if b then o else other) P
+if_valid P true o other first second = first
+if_valid P false o other first second = second
+
+isbn_number_valid : (o : Option (List ℕ)) → IfSome o IsIsbnText → IfSome (isbn_number o) IsValid
+isbn_number_valid None is = tt
+isbn_number_valid (Some isbn) is = is
+
+number_or_valid : (o : Option (List ℕ)) (other : Option Number) → IfSome o IsIssnText → IfSome other IsValid → IfSome (number_or o other) IsValid
+number_or_valid None other is later = later
+number_or_valid (Some issn) other is later = is
+
+found_or_valid : (o : Option Number) (more : ℕ) (other : Option (Number × ℕ)) → IfSome o IsValid → IfSome other IsFound → IfSome (found_or o more other) IsFound
+found_or_valid None more other is later = later
+found_or_valid (Some number) more other is later = is
+
+onto_valid : (o : Option (Number × ℕ)) (numbers : List Number) → IfSome o IsFound → All IsValid numbers → All IsValid (number_onto o numbers)
+onto_valid None numbers is all = all
+onto_valid (Some found) numbers is all = All-cons IsValid found.0 numbers is all
+
+module _ (issn_law : PrintedFormParses issn_of) (isbn_law : PrintedFormParses isbn_of) where
+  issn_valid : (text : List ℕ) → IfSome (issn_of text) IsIssnText
+  issn_valid text = parsed issn_of issn_law text (issn_of text) refl
+
+  isbn_valid : (text : List ℕ) → IfSome (isbn_of text) IsIsbnText
+  isbn_valid text = parsed isbn_of isbn_law text (isbn_of text) refl
+
+  word_valid : (word : List ℕ) → IfSome (number_of_word word) IsValid
+  word_valid word = number_or_valid (issn_of word) (isbn_number (isbn_of word)) (issn_valid word) (isbn_number_valid (isbn_of word) (isbn_valid word))
+
+  spaced_issn_valid : (words : List (List ℕ)) → IfSome (spaced_issn words) IsIssnText
+  spaced_issn_valid [] = tt
+  spaced_issn_valid (front ∷ []) = tt
+  spaced_issn_valid (front ∷ back ∷ words) = if_valid IsIssnText _ (issn_of (front ++ back)) None (issn_valid (front ++ back)) tt
+
+  spaced_isbn_valid : (n : ℕ) (words : List (List ℕ)) → IfSome (isbn_number (spaced_isbn n words)) IsValid
+  spaced_isbn_valid n words =
+      isbn_number_valid (spaced_isbn n words)
+      (if_valid IsIsbnText (list_any is_number (take n words)) None (isbn_of (concat (take n words))) tt (isbn_valid (concat (take n words))))
+
+  first_valid : (words : List (List ℕ)) → IfSome (first_number words) IsFound
+  first_valid [] = tt
+  first_valid (word ∷ words) =
+      found_or_valid (number_of_word word) 0 _ (word_valid word)
+      (found_or_valid (number_or (spaced_issn (word ∷ words)) None) 1 _ (number_or_valid (spaced_issn (word ∷ words)) None (spaced_issn_valid (word ∷ words)) tt)
+      (found_or_valid (isbn_number (spaced_isbn 5 (word ∷ words))) 4 _ (spaced_isbn_valid 5 (word ∷ words))
+      (found_or_valid (isbn_number (spaced_isbn 4 (word ∷ words))) 3 _ (spaced_isbn_valid 4 (word ∷ words))
+      (found_or_valid (isbn_number (spaced_isbn 3 (word ∷ words))) 2 _ (spaced_isbn_valid 3 (word ∷ words))
+      (found_or_valid (isbn_number (spaced_isbn 2 (word ∷ words))) 1 None (spaced_isbn_valid 2 (word ∷ words)) tt)))))
+
+  if_all : (b : Bool) (xs ys : List Number) → All IsValid xs → All IsValid ys → All IsValid (if b then xs else ys)
+  if_all true xs ys first second = first
+  if_all false xs ys first second = second
+
+  after_valid : (words : List (List ℕ)) (skipped : ℕ) → All IsValid (numbers_after skipped words)
+  after_valid [] skipped = All-nil IsValid
+  after_valid (word ∷ words) skipped =
+      if_all (nat_lt 0 skipped) _ _ (after_valid words _)
+      (onto_valid (first_number (word ∷ words)) _ (first_valid (word ∷ words)) (after_valid words (taken (first_number (word ∷ words)))))
+
+  all_valid : (texts : List (List ℕ)) → All IsValid (flat_map numbers_in texts)
+  all_valid [] = All-nil IsValid
+  all_valid (text ∷ texts) = All-append IsValid (numbers_in text) (flat_map numbers_in texts) (after_valid (words_from [] (plain text)) 0) (all_valid texts)
+
+  numbers_valid : (tier : Tier) (values : List (Key × List ℕ)) → All IsValid (numbers_of tier values)
+  numbers_valid tier values = all_valid (filter_map (number_text tier) values)
+
+  issns_parse : (found : List Number) → All IsValid found → All IsIssnText (filter_map as_issn found)
+  issns_parse [] all = All-nil IsIssnText
+  issns_parse (Issn issn ∷ found) all =
+      All-cons IsIssnText issn (filter_map as_issn found) (All-head IsValid (Issn issn) found all) (issns_parse found (All-tail IsValid (Issn issn) found all))
+  issns_parse (Isbn isbn ∷ found) all = issns_parse found (All-tail IsValid (Isbn isbn) found all)
+
+  isbns_parse : (found : List Number) → All IsValid found → All IsIsbnText (filter_map as_isbn found)
+  isbns_parse [] all = All-nil IsIsbnText
+  isbns_parse (Isbn isbn ∷ found) all =
+      All-cons IsIsbnText isbn (filter_map as_isbn found) (All-head IsValid (Isbn isbn) found all) (isbns_parse found (All-tail IsValid (Isbn isbn) found all))
+  isbns_parse (Issn issn ∷ found) all = isbns_parse found (All-tail IsValid (Issn issn) found all)
+
+-- the set of identifiers that parse
+set_parses : (P : List ℕ → Type 0) (ones set : List (List ℕ)) → All P ones → All P set → All P (fold (insert_key bytes_cmp) set ones)
+set_parses P [] set all others = others
+set_parses P (one ∷ ones) set all others =
+    set_parses P ones (insert_key bytes_cmp set one) (All-tail P one ones all) (All-insert_key bytes_cmp one P set others (All-head P one ones all))
+
+abbrev IsSet : (List ℕ → Type 0) → List (List ℕ) → Type 0
+IsSet P set = IsAscending set × All P set
+
+if_set : (P : List ℕ → Type 0) (b : Bool) (first second : List (List ℕ)) → IsSet P first → IsSet P second → IsSet P (if b then first else second)
+if_set P true first second is later = is
+if_set P false first second is later = later
+
+cons_parse : (P : List ℕ → Type 0) (o : Option (List ℕ)) (texts : List (List ℕ)) → IfSome o P → All P texts → All P (cons_option o texts)
+cons_parse P None texts is all = all
+cons_parse P (Some text) texts is all = All-cons P text texts is all
+
+some_parse : (P : List ℕ → Type 0) (read : List ℕ × List ℕ → Option (List ℕ)) → ((pair : List ℕ × List ℕ) → IfSome (read pair) P)
+    → (pairs : List (List ℕ × List ℕ)) → All P (filter_map read pairs)
+some_parse P read valid [] = All-nil P
+some_parse P read valid (pair ∷ pairs) = cons_parse P (read pair) (filter_map read pairs) (valid pair) (some_parse P read valid pairs)
+
+abbrev AreValid : IdentifiersValue → Type 0
+AreValid found = IsSet IsIssnText found.issns × IsSet IsIsbnText found.isbns
+
+abbrev pub IsLookedUp : LookedUp → Type 0
+IsLookedUp found = AreIdentifiers found.issns found.isbns × IsCounted found.issns found.isbns found.refusal
+
+identifiers_of_valid : (found : IdentifiersValue) → AreValid found → AreIdentifiers found.issns found.isbns
+identifiers_of_valid found valid =
+    record { issns_ascend = valid.0.0; isbns_ascend = valid.1.0; issns_parse = valid.0.1; isbns_parse = valid.1.1 }
+
+or_valid : (found others : IdentifiersValue) (b : Bool) → AreValid found → AreValid others → AreValid (if b then others else found)
+or_valid found others true first second = second
+or_valid found others false first second = first
+
+some_count : (issns isbns : List (List ℕ)) → (is_empty issns && is_empty isbns) ≡ false → 0 < count issns isbns
+some_count [] [] e = absurd (cc)
+some_count [] (isbn ∷ isbns) e = omega arith
+some_count (issn ∷ issns) isbns e = omega arith
+
+module _ (ascend : SetsAscend) (issn_law : PrintedFormParses issn_of) (isbn_law : PrintedFormParses isbn_of) where
+  no_set : (P : List ℕ → Type 0) → IsSet P []
+  no_set P = (ascend [], All-nil P)
+
+  for_valid : (is_journal is_book : Bool) (found : List Number) → All IsValid found → AreValid (identifiers_for is_journal is_book found)
+  for_valid is_journal is_book found all = (
+    if_set IsIssnText is_book [] (identifier_set (filter_map as_issn found)) (no_set IsIssnText)
+        (ascend (filter_map as_issn found), set_parses IsIssnText (filter_map as_issn found) [] (issns_parse issn_law isbn_law found all) (All-nil IsIssnText)),
+    if_set IsIsbnText is_journal [] (identifier_set (filter_map as_isbn found)) (no_set IsIsbnText)
+        (ascend (filter_map as_isbn found), set_parses IsIsbnText (filter_map as_isbn found) [] (isbns_parse issn_law isbn_law found all) (All-nil IsIsbnText)),
+  )
+
+  tier_valid : (is_journal is_book : Bool) (values : List (Key × List ℕ)) → AreValid (first_tier is_journal is_book values)
+  tier_valid is_journal is_book values =
+      or_valid (identifiers_for is_journal is_book (numbers_of Rft values)) (identifiers_for is_journal is_book (numbers_of Old values)) _
+      (for_valid is_journal is_book (numbers_of Rft values) (numbers_valid issn_law isbn_law Rft values))
+      (for_valid is_journal is_book (numbers_of Old values) (numbers_valid issn_law isbn_law Old values))
+
+  refused_valid : (why : Refusal) → IsLookedUp (refused why)
+  refused_valid why = (identifiers_of_valid (record { issns = []; isbns = [] }) (no_set IsIssnText, no_set IsIsbnText), refl)
+
+  limited : (found : IdentifiersValue) (b : Bool) → nat_lt identifier_limit (count found.issns found.isbns) ≡ b → AreValid found → are_none found ≡ false
+      → IsLookedUp (if b then refused reason.TooMany else record { issns = found.issns; isbns = found.isbns; refusal = None })
+  limited found true e valid some = refused_valid reason.TooMany
+  limited found false e valid some =
+      (identifiers_of_valid found valid, (some_count found.issns found.isbns some, ltb-false identifier_limit (count found.issns found.isbns) e))
+
+  limit_valid : (found : IdentifiersValue) → AreValid found → are_none found ≡ false → IsLookedUp (within_limit found)
+  limit_valid found valid some = limited found (nat_lt identifier_limit (count found.issns found.isbns)) refl valid some
+
+  within_valid : (why : Refusal) (found : IdentifiersValue) (b : Bool) → are_none found ≡ b → AreValid found → IsLookedUp (if b then refused why else within_limit found)
+  within_valid why found true e valid = refused_valid why
+  within_valid why found false e valid = limit_valid found valid e
+
+  if_looked : (b : Bool) (first second : LookedUp) → IsLookedUp first → IsLookedUp second → IsLookedUp (if b then first else second)
+  if_looked true first second is later = is
+  if_looked false first second is later = later
+
+  others_valid : (values : List (Key × List ℕ)) → IsLookedUp (looked_up_of_others values)
+  others_valid values =
+      if_looked (list_any names_other_version values) _ _ (refused_valid reason.Version)
+      (if_looked (list_any names_other_format values) _ _ (refused_valid reason.OtherFormat)
+      (within_valid (reason_without (formats_of values)) (other_identifiers (formats_of values) values) _ refl
+      (or_valid (first_tier _ _ values) (first_tier false false values) _ (tier_valid _ _ values) (tier_valid false false values))))
+
+  pair_issn : (pair : List ℕ × List ℕ) → IfSome (issn_of_pair pair) IsIssnText
+  pair_issn pair =
+      if_valid IsIssnText (has_key (codes "rft.issn") pair || has_key (codes "rft.eissn") pair) (issn_of pair.1)
+      (if has_key (codes "rft_id") pair then issn_of_urn pair.1 else None) (issn_valid issn_law isbn_law pair.1)
+      (if_valid IsIssnText (has_key (codes "rft_id") pair) (issn_of_urn pair.1) None
+      (if_valid IsIssnText (has_prefix (codes "urn:ISSN:") pair.1) (issn_of (drop 9 pair.1)) None (issn_valid issn_law isbn_law (drop 9 pair.1)) tt) tt)
+
+  pair_isbn : (pair : List ℕ × List ℕ) → IfSome (isbn_of_pair pair) IsIsbnText
+  pair_isbn pair = if_valid IsIsbnText (has_key (codes "rft.isbn") pair) (isbn_of pair.1) None (isbn_valid issn_law isbn_law pair.1) tt
+
+  core_valid : (pairs : List (List ℕ × List ℕ)) → AreValid (core_identifiers pairs)
+  core_valid pairs = (
+    if_set IsIssnText (is_refused pairs) [] _ (no_set IsIssnText)
+        (if_set IsIssnText (has_book_format pairs) [] (identifier_set (filter_map issn_of_pair pairs)) (no_set IsIssnText)
+        (ascend (filter_map issn_of_pair pairs), set_parses IsIssnText (filter_map issn_of_pair pairs) [] (some_parse IsIssnText issn_of_pair pair_issn pairs) (All-nil IsIssnText))),
+    if_set IsIsbnText (is_refused pairs) [] _ (no_set IsIsbnText)
+        (if_set IsIsbnText (has_journal_format pairs) [] (identifier_set (filter_map isbn_of_pair pairs)) (no_set IsIsbnText)
+        (ascend (filter_map isbn_of_pair pairs), set_parses IsIsbnText (filter_map isbn_of_pair pairs) [] (some_parse IsIsbnText isbn_of_pair pair_isbn pairs) (All-nil IsIsbnText))),
+  )
+
+  looked_by : (pairs : List (List ℕ × List ℕ)) (b : Bool) → are_none (core_identifiers pairs) ≡ b
+      → IsLookedUp (if b then looked_up_of_others (map keyed pairs) else within_limit (core_identifiers pairs))
+  looked_by pairs true e = others_valid (map keyed pairs)
+  looked_by pairs false e = limit_valid (core_identifiers pairs) (core_valid pairs) e
+
+  -- what is looked up for a query is valid
+  pub looked_up_valid : (pairs : List (List ℕ × List ℕ)) → IsLookedUp (looked_up pairs)
+  looked_up_valid pairs = looked_by pairs (are_none (core_identifiers pairs)) refl

@@ -1,0 +1,8 @@
+use Rattle.std.proofs.Common.{◌≡◌, drop}
+use Rattle.std.specs.List.{list_any}
+use Rattle.feed_openurl.specs.Kinds.{names_other_version}
+use Rattle.feed_openurl.proofs.kind.has_other_version.Given as goal
+
+-- none so far is such a value
+abbrev pub invariant-loop-value : goal.invariant-loop-value
+invariant-loop-value l = list_any names_other_version (drop l.value-index l.values) ≡ list_any names_other_version l.values

@@ -1,0 +1,9 @@
+use Rattle.std.proofs.Common.{◌≡◌, drop}
+use Rattle.std.specs.List.{filter_map}
+use Rattle.feed_answer.specs.Pairs.{first}
+use Rattle.feed_openurl.specs.Tiers.{lenient_volume_of}
+use Rattle.feed_openurl.proofs.volumes.other_volume.Given as goal
+
+-- no value so far has a valid volume
+abbrev pub invariant-loop-value : goal.invariant-loop-value
+invariant-loop-value l = first (filter_map (lenient_volume_of l.tier) (drop l.value-index l.values)) ≡ first (filter_map (lenient_volume_of l.tier) l.values)

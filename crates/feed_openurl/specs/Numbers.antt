@@ -1,0 +1,108 @@
+-- The ISSNs and the ISBNs in a value that has several, or words and spaces around them.
+use Rattle.std.specs.Prelude.{ℕ, Bool, ◌||◌, ◌&&◌, ◌-◌, ◌==◌, nat_lt, List, [], ◌∷◌, ◌++◌, take, length, Option, Some, None, is_some, if◌then◌else◌, codes}
+use Rattle.std.specs.Char.{is_ascii_alphanumeric}
+use Rattle.std.specs.List.{concat, list_any}
+use Rattle.feed_identifiers.specs.Isbn.{isbn_of}
+use Rattle.feed_identifiers.specs.Issn.{issn_of}
+use Rattle.feed_answer.specs.Pairs.{is_empty}
+use Rattle.feed_openurl.specs.Keys.{after_prefix, or_else}
+use Rattle.feed_openurl.specs.Plain.{plain}
+use Rattle.feed_openurl.specs.declared.number.Number.{Number}
+use Rattle.feed_openurl.specs.declared.number.Number.TheVariants.{Isbn, Issn}
+
+-- a word has letters, digits and hyphens; `_` is a letter beyond ASCII
+abbrev pub is_word_byte : ℕ → Bool
+is_word_byte b = is_ascii_alphanumeric b || (b == 45) || (b == 95)
+
+-- a text without a prefix, if it has it
+abbrev pub without : List ℕ → List ℕ → List ℕ
+without front text = or_else (after_prefix front text) text
+
+-- a word without a label that is written onto it, as in `ISSN2434-561X`
+abbrev pub unlabelled : List ℕ → List ℕ
+unlabelled word =
+    without (codes "-") (without (codes "ISSN") (without (codes "ISBN") word))
+
+-- a word goes before others, unless nothing is left of it
+abbrev pub onto : List ℕ → List (List ℕ) → List (List ℕ)
+onto word words = if is_empty word then words else word ∷ words
+
+-- a sign other than a space goes before others, as a word of its own: no number reaches over it
+abbrev pub sign_onto : ℕ → List (List ℕ) → List (List ℕ)
+sign_onto b words = if b == 32 then words else (b ∷ []) ∷ words
+
+-- the words of a text, of which the first has begun; a hyphen begins none
+abbrev pub words_from : List ℕ → List ℕ → List (List ℕ)
+words_from begun [] = onto (unlabelled begun) []
+words_from begun (b ∷ bytes) =
+    if is_empty begun && (b == 45) then words_from [] bytes
+    else if is_word_byte b then words_from (begun ++ b ∷ []) bytes
+    else onto (unlabelled begun) (sign_onto b (words_from [] bytes))
+
+-- the number that a word is by itself, by its form and its check character
+abbrev pub isbn_number : Option (List ℕ) → Option Number
+isbn_number (Some isbn) = Some (Isbn isbn)
+isbn_number None = None
+
+abbrev pub number_or : Option (List ℕ) → Option Number → Option Number
+number_or (Some issn) other = Some (Issn issn)
+number_or None other = other
+
+abbrev pub number_of_word : List ℕ → Option Number
+number_of_word word = number_or (issn_of word) (isbn_number (isbn_of word))
+
+-- a word is a number by itself
+abbrev pub is_number : List ℕ → Bool
+is_number word = is_some (number_of_word word)
+
+-- the ISSN of two words of four characters, as a space stands for its hyphen
+abbrev pub spaced_issn : List (List ℕ) → Option (List ℕ)
+spaced_issn (front ∷ back ∷ words) = if (length front == 4) && (length back == 4) then issn_of (front ++ back) else None
+spaced_issn _ = None
+
+-- the ISBN of the first words together, as spaces stand for its hyphens; none of them is a number by itself
+abbrev pub isbn_of_words : List (List ℕ) → Option (List ℕ)
+isbn_of_words words = if list_any is_number words then None else isbn_of (concat words)
+
+abbrev pub spaced_isbn : ℕ → List (List ℕ) → Option (List ℕ)
+spaced_isbn count words = isbn_of_words (take count words)
+
+-- a number at the front of some words, and how many words after the first it takes
+abbrev pub found_or : Option Number → ℕ → Option (Number × ℕ) → Option (Number × ℕ)
+found_or (Some number) more other = Some (number, more)
+found_or None more other = other
+
+-- the ISBN of the first five words, or else of four, of three, or of two
+abbrev pub first_spaced_isbn : List (List ℕ) → Option (Number × ℕ)
+first_spaced_isbn words =
+    found_or (isbn_number (spaced_isbn 5 words)) 4
+    (found_or (isbn_number (spaced_isbn 4 words)) 3
+    (found_or (isbn_number (spaced_isbn 3 words)) 2
+    (found_or (isbn_number (spaced_isbn 2 words)) 1 None)))
+
+-- the number at the front of some words: a word, or else an ISSN of two words, or else an ISBN of several words
+abbrev pub first_number : List (List ℕ) → Option (Number × ℕ)
+first_number [] = None
+first_number (word ∷ words) =
+    found_or (number_of_word word) 0
+    (found_or (number_or (spaced_issn (word ∷ words)) None) 1 (first_spaced_isbn (word ∷ words)))
+
+-- the number that is found goes before others
+abbrev pub number_onto : Option (Number × ℕ) → List Number → List Number
+number_onto (Some found) numbers = found.0 ∷ numbers
+number_onto None numbers = numbers
+
+abbrev pub taken : Option (Number × ℕ) → ℕ
+taken (Some found) = found.1
+taken None = 0
+
+-- the numbers of some words, of which the first belong to a number already
+abbrev pub numbers_after : ℕ → List (List ℕ) → List Number
+numbers_after skipped [] = []
+numbers_after skipped (word ∷ words) =
+    if nat_lt 0 skipped then numbers_after (skipped - 1) words
+    else number_onto (first_number (word ∷ words)) (numbers_after (taken (first_number (word ∷ words))) words)
+
+-- the numbers of a value, from its front to its end
+abbrev pub numbers_in : List ℕ → List Number
+numbers_in value = numbers_after 0 (words_from [] (plain value))

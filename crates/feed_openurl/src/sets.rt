@@ -1,0 +1,111 @@
+//! Sets of identifiers.
+ghost use Rattle.std.specs.Prelude.{◌≡◌, ◌<◌, ◌↔◌, [], IsTrue, IfOk, fold};
+ghost use Rattle.std.specs.BTreeSet.{insert_key};
+ghost use Rattle.std.specs.List.{filter_map};
+ghost use Rattle.feed_answer.specs.IdentifierSet.{identifier_set};
+ghost use Rattle.feed_openurl.specs.Identifiers.{as_isbn, as_issn, identifiers_for};
+
+use crate::number::Number;
+use feed_identifiers::{Isbn, Issn};
+use std::alloc::{AllocError, Global};
+use std::collections::BTreeSet;
+use std::marker::Model;
+
+/// The most ISSNs and ISBNs that a query may have.
+pub const IDENTIFIER_LIMIT: usize = 64;
+
+/// ISSNs and ISBNs.
+#[derive(Drop)]
+pub(crate) struct Identifiers {
+    pub(crate) issns: Vec<Issn>,
+    pub(crate) isbns: Vec<Isbn>,
+}
+
+impl Model for Identifiers {
+    ghost use Rattle.feed_openurl.specs.Identifiers.{IdentifiersValue};
+
+    ghost Value = { IdentifiersValue };
+
+    ghost view = { λ found. record { issns = found.issns.items; isbns = found.isbns.items } };
+}
+
+impl Identifiers {
+    ghost use Rattle.feed_openurl.specs.Identifiers.{are_none, count, identifier_limit};
+
+    pub(crate) fn is_empty(&self) -> bool
+        ensures { result ≡ are_none self.now }
+    {
+        self.issns.is_empty() && self.isbns.is_empty()
+    }
+
+    /// Returns whether there are more than the limit.
+    pub(crate) fn are_too_many(&self) -> bool
+        ensures { IsTrue result ↔ (identifier_limit < count self.now.issns self.now.isbns) }
+    {
+        let issns = self.issns.len();
+        issns > IDENTIFIER_LIMIT || self.isbns.len() > IDENTIFIER_LIMIT - issns
+    }
+}
+
+/// Returns the set of some identifiers: ascending, each once.
+pub(crate) fn set_of<T: Ord + Copy>(alloc: Global, identifiers: &[T]) -> Result<Vec<T>, AllocError>
+    ensures { IfOk result (λ set. set.items ≡ fold (insert_key T.cmp) [] identifiers.now) }
+{
+    let mut set = BTreeSet::new(alloc);
+    for identifier in identifiers {
+        set.insert(*identifier)?;
+    }
+    let mut ascending = Vec::new(alloc);
+    for identifier in &set {
+        ascending.push(*identifier)?;
+    }
+    Ok(ascending)
+}
+
+// The ISSNs among some numbers, as a set.
+fn issns_of(alloc: Global, numbers: &[Number]) -> Result<Vec<Issn>, AllocError>
+    ensures { IfOk result (λ set. set.items ≡ identifier_set (filter_map as_issn numbers.now)) }
+{
+    let mut issns = Vec::new(alloc);
+    for number in numbers {
+        if let Number::Issn(issn) = number {
+            issns.push(*issn)?;
+        }
+    }
+    set_of(alloc, &issns)
+}
+
+// The ISBNs among some numbers, as a set.
+fn isbns_of(alloc: Global, numbers: &[Number]) -> Result<Vec<Isbn>, AllocError>
+    ensures { IfOk result (λ set. set.items ≡ identifier_set (filter_map as_isbn numbers.now)) }
+{
+    let mut isbns = Vec::new(alloc);
+    for number in numbers {
+        if let Number::Isbn(isbn) = number {
+            isbns.push(*isbn)?;
+        }
+    }
+    set_of(alloc, &isbns)
+}
+
+/// Returns the identifiers among some numbers. In the format of journals ISBNs do not count, in that of books ISSNs.
+pub(crate) fn identifiers_for(
+    alloc: Global,
+    is_journal: bool,
+    is_book: bool,
+    numbers: &[Number],
+) -> Result<Identifiers, AllocError>
+    ensures { IfOk result (λ found. found ≡ identifiers_for is_journal is_book numbers.now) }
+{
+    let issns = if is_book {
+        Vec::new(alloc)
+    } else {
+        issns_of(alloc, numbers)?
+    };
+    let isbns = if is_journal {
+        Vec::new(alloc)
+    } else {
+        isbns_of(alloc, numbers)?
+    };
+    Ok(Identifiers { issns, isbns })
+}
