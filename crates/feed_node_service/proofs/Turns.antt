@@ -1,6 +1,6 @@
 -- The reply of a responder in a turn.
-use Rattle.std.proofs.Common.{◌≡◌, ◌≤◌, ◌⊎◌, ℕ, Bool, true, false, List, length, take, drop, Some, None, inl, inr, refl, sym, ap, ◌∙◌, subst, arith}
-use Rattle.std.proofs.lemmas.Bool.{cases_Bool, false≢true}
+use Rattle.std.proofs.Common.{◌≡◌, ◌≤◌, ◌⊎◌, ℕ, Bool, true, false, List, length, take, drop, Some, None, Option, inl, inr, refl, sym, ap, ◌∙◌, subst, arith}
+use Rattle.std.proofs.lemmas.Bool.{cases_Bool, false≢true, ltb-false}
 use Rattle.std.proofs.lemmas.Slice.Eq.{bytes_eq-Decides}
 use Rattle.std.proofs.lemmas.List.{take-take}
 use Rattle.std.specs.Prelude.{◌==◌, ◌&&◌, ◌||◌, not, nat_lt, is_some, if◌then◌else◌, codes, Result, Ok, Err}
@@ -14,7 +14,7 @@ use Rattle.feed_http_heads.specs.Fields.{values_named, has_any}
 use Rattle.feed_http_heads.specs.Requests.{lacks_host}
 use Rattle.feed_http_heads.specs.Targets.{origin_form}
 use Rattle.feed_resolver_request.specs.Targets.{path_in, resource_of, names_package}
-use Rattle.feed_resolver_request.specs.FetchRequests.{FetchPolicyValue, name_to_fetch}
+use Rattle.feed_resolver_request.specs.FetchRequests.{FetchPolicyValue, name_to_fetch, name_after_feed}
 use Rattle.feed_resolver_request.specs.Forms.{form_limit, takes_form, is_form_post, has_form_type, stated_length, form_by, form_in, length_of_form, form_length}
 use Rattle.feed_resolver_request.specs.declared.target.Resource.TheVariants.{Home, Status, Resolve, Package, Go, Unknown}
 use Rattle.feed_resolver_request.specs.declared.form.FormFault.{FormFault}
@@ -87,7 +87,7 @@ form_is_short typed (Ok n) = by typed (cases_Bool (nat_lt form_limit n))
   where
     by : (t : Bool) → (nat_lt form_limit n ≡ true) ⊎ (nat_lt form_limit n ≡ false) → length_of_form (Some (form_by t (Ok n))) ≤ 8192
     by t (inl long) = rw long (omega arith)
-    by true (inr short) = rw short (omega (arith, short))
+    by true (inr short) = rw short (omega (arith, ltb-false form_limit n short))
     by false (inr short) = rw short (omega arith)
 
 pub form_within : (head : RequestHead) → form_length head ≤ 8192
@@ -119,13 +119,17 @@ persists_not_post head keeps =
     no_post (is_post head) (and_first (not (is_post head) || nat_lt 0 0) (lacks_close head.fields && states_len head 0)
     (and_last (head.minor == 1) ((not (is_post head) || nat_lt 0 0) && (lacks_close head.fields && states_len head 0)) keeps))
 
-none_wanted : (b : Bool) → (if b then 0 else 0) ≡ 0
-none_wanted true = refl
-none_wanted false = refl
+none_wanted : (b : Bool) (n : ℕ) → n ≡ 0 → (if b then n else 0) ≡ 0
+none_wanted true n zero = zero
+none_wanted false n zero = refl
 
 -- only a POST asks the node to fetch
+asks_by_post : (post : Bool) (name : Option (List ℕ)) → is_some (if post then name else None) ≡ true → post ≡ false → ⊥
+asks_by_post true name named none = false≢true (sym none)
+asks_by_post false name named none = false≢true named
+
 fetch_is_post : (head : RequestHead) → is_some (name_to_fetch head) ≡ true → is_post head ≡ false → ⊥
-fetch_is_post head named none = absurd (cc)
+fetch_is_post head named none = asks_by_post (is_post head) (name_after_feed (path_in (origin_form head.target))) named none
 
 pub says_in_turn : (bytes body : List ℕ) (keeps : Bool) (response : ResponseValue) → (keeps ≡ true → IsPersistent form_length bytes body)
     → SaysOfConnection bytes keeps response → SaysWhetherItKeeps keeps response.bytes
@@ -135,6 +139,5 @@ says_in_turn bytes body true response allowed (inr ((head, begins, fetch), says)
     let is = allowed refl in
     let one = request_unique bytes is.head head is.begins.rest begins.rest is.begins.reads begins.reads in
     let asks : is_some (name_to_fetch is.head) ≡ true = subst (λ (h : RequestHead). is_some (name_to_fetch h) ≡ true) (sym one.0) fetch.1 in
-    let none : length body ≡ 0 =
-    is.size ∙ ap (λ n. body_len_of n is.head) (fetch_has_no_form is.head asks) ∙ none_wanted (states_len is.head 0) in
+    let none : length body ≡ 0 = is.size ∙ none_wanted (states_len is.head (form_length is.head)) (form_length is.head) (fetch_has_no_form is.head asks) in
     absurd (fetch_is_post is.head asks (persists_not_post is.head (ap (λ n. persists is.head n) (sym none) ∙ is.keeps)))

@@ -8,7 +8,7 @@ ghost use Rattle.feed_node_service.specs.Responders.{IsPolicyIn, IsReplyBy, IsTu
 use crate::node_state::NodeState;
 use feed_http_heads::Request;
 use feed_keep::Keep;
-use feed_node_connection::{Reply, ReplySummary, Respond, RespondFault};
+use feed_node_connection::{BODY_LIMIT, Reply, ReplySummary, Respond, RespondFault};
 use feed_releases::Feed;
 use feed_resolver::{respond_about_feed, respond_as_node};
 use feed_resolver_reply::Response;
@@ -112,7 +112,7 @@ impl<'a, K: Keep + Drop> Respond for FeedResponder<'a, K> {
     ghost replies = { λ responder head body persists reply. IfSome reply (IsTurnText responder head body persists) };
 
     fn body_len(&self, request: &Request<'_>) -> usize {
-        form_length(request) as usize
+        (form_length(request) as usize).min(BODY_LIMIT)
     }
 
     fn respond(
