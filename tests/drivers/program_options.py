@@ -34,7 +34,7 @@ def read_help():
     texts.update((name, help_of(name)) for name in re.findall(r"^  ([a-z]+) ", texts[""], re.M))
     options = {}
     for name, text in texts.items():
-        found = re.findall(r"^ +(?:(-\w), )?(--[a-z]+)(?: <([\w:]+)>)?", text[text.rindex("Usage:"):], re.M)
+        found = re.findall(r"^ +(?:(-\w), )?(--[a-z][a-z-]*)(?: <([\w:]+)>)?", text[text.rindex("Usage:"):], re.M)
         options[name] = {f"{it} {value}".strip() for short, long, value in found for it in (short, long) if it}
     statuses = {name: statuses_of(text) for name, text in texts.items()}
     statuses[""] = set().union(*statuses.values())
@@ -59,7 +59,7 @@ def read_page(page):
     page = re.sub(r"^\.(Pp|Bl|El).*", "", page.replace(r"\-", "-"), flags=re.M)
     options, statuses, named = {"": set()}, {"": set()}, set()
     for section, command, part in parts_of(page):
-        named |= {(command, f"-{word}") for word in re.findall(r"\bFl (-?\w+)", part)}
+        named |= {(command, f"-{word}") for word in re.findall(r"\bFl (-?\w[\w-]*)", part)}
         if section == command:
             options[command] = set()
             statuses[command] = statuses_of(part)
@@ -67,7 +67,7 @@ def read_page(page):
             statuses[""] = set(re.findall(r"^\.It (\d)$", part, re.M))
         for item in re.findall(r"^\.It (Fl .*)", part, re.M):
             value = "".join(re.findall(r" Ar ([\w:]+)", item))
-            options[command] |= {f"-{word} {value}".strip() for word in re.findall(r"Fl (-?\w+)", item)}
+            options[command] |= {f"-{word} {value}".strip() for word in re.findall(r"Fl (-?\w[\w-]*)", item)}
     explained = {(command, it.split()[0]) for command, found in options.items() for it in found}
     return options, statuses, {it for it in named if it not in explained and ("", it[1]) not in explained}
 
