@@ -27,7 +27,7 @@ DATA = man/kbfeed.1:share/man/man1/kbfeed.1 man/kbfeed-feed.1:share/man/man1/kbf
 	$(foreach page,$(PAGES),$(page):$(DOC)/$(page))
 INTO = $(DESTDIR)$(PREFIX)
 
-.PHONY: help build replay test sessions pages check fmt lint install uninstall deb
+.PHONY: help build replay test sessions pages check fmt lint bench install uninstall deb
 
 help:
 	@echo "make build      proves the crates side by side, builds the program, and leaves it at $(BUILT)"
@@ -47,6 +47,7 @@ help:
 	@echo "make pages               compares the pages with the sources and the sessions"
 	@echo "make fmt                 formats the sources of every crate, as the proofs require"
 	@echo "make lint                checks widths and module docs, and runs shellcheck and a Python linter if installed"
+	@echo "make bench [ONLY=x]      measures the program that is built beside its peers, and prints ratios (bench/README.md)"
 
 build:
 	@tools/build
@@ -79,6 +80,9 @@ fmt:
 
 lint:
 	@tools/lint
+
+bench:
+	@bench/run --program "$(PROGRAM)" $(foreach name,$(ONLY),--only $(name))
 
 install: $(PROGRAM)
 	@put() { install -d "$${3%/*}" && install -m "$$1" "$$2" "$$3" && echo "$$3"; }; \

@@ -1,0 +1,387 @@
+"""The benchmarks by group: which commands of kbfeed are measured, and beside which peers."""
+import hashlib
+import http.client
+import os
+import re
+import sqlite3
+import subprocess
+import sys
+import threading
+import time
+
+import make_script
+from measuring import BUILT, KBFEED, MIB, PEER, PEERS, TIMED, Benchmark, Failed, free_port, is_listening, usage_of
+
+TOKEN = "benchmark-of-kbfeed-on-127.0.0.1"
+ROUNDS = {"1M": 4, "256K": 2, "1K": 2}
+
+
+def python(script, *args):
+    return [sys.executable, "-X", f"pycache_prefix={BUILT / 'python'}", PEERS / script, *args]
+
+
+def start(shop):
+    """The cost of a command before it does anything: an empty script."""
+    script = shop.fresh(".script")
+    script.write_text("nodes 1\n")
+    bench = Benchmark("start", "ms")
+    bench.add(KBFEED, "=", shop.command(shop.program, "replay", stdin=script), needs=())
+    bench.add("rust", "=", shop.command(PEER, "replay", stdin=script))
+    yield bench
+
+
+def check(shop):
+    """Lists of several sizes, one whose records are all skipped, and one with a very wide record."""
+    lists = [(f"check-{mib}", shop.list_of(mib)) for mib in shop.sizes]
+    for name, path in [*lists, *[(f"check-{kind}", shop.odd_list(kind)) for kind in ("skipped", "wide")]]:
+        bench = Benchmark(name, "ms")
+        bench.add(KBFEED, "=", shop.command(shop.program, "check", path), needs=())
+        bench.add("rust, rows kept", "=", shop.command(PEER, "check", path))
+        bench.add("rust, one pass", "=", shop.command(PEER, "check-stream", path))
+        bench.add("python csv", "=", shop.command(*python("check.py", path)), needs=(), once=True)
+        yield bench
+
+
+def requested_ranges(shop, server, path, piece, rounds):
+    """Starts a server, requests the ranges of a file one after another, and returns the figures of one request."""
+    size, port = path.stat().st_size, free_port()
+    requests = rounds * -(-size // piece)
+    child, end = server(port, requests + 1)
+    try:
+        last = min(999 + piece, size - 1)
+        got = subprocess.run(["curl", "-s", "--max-time", "20", "-H", "Connection: close", "-r", f"1000-{last}",
+                              f"http://127.0.0.1:{port}/{path.name}"], capture_output=True, check=False).stdout
+        with open(path, "rb") as file:
+            file.seek(1_000)
+            if got != file.read(last - 999):
+                raise Failed("another body")
+        figures = shop.timed([PEER, "ranges", f"127.0.0.1:{port}", path.name, size, piece, rounds])
+        cpu, memory = end()
+    finally:
+        shop.stop(child)
+    return {"value": figures["value"] * 1e3 / requests, "cpu": cpu * 1e3 / requests, "memory": memory}
+
+
+def counting_server(shop, program):
+    """Returns how to start a server that ends after a number of connections."""
+    def server(port, count):
+        report = shop.fresh(".time")
+        with open(shop.fresh(".log"), "wb") as log:
+            child = shop.start([TIMED, report, program, "serve", shop.shelf, f"127.0.0.1:{port}", "--count", count],
+                               lambda: is_listening(port), stdout=log)
+
+        def end():
+            try:
+                child.wait(20)
+            except subprocess.TimeoutExpired as why:
+                raise Failed("the server does not end after its count") from why
+            _, user, system, peak, _, status = report.read_text().split()
+            if status != "0":
+                raise Failed(f"the server ends with {status}")
+            return (float(user) + float(system)) * 1e3, int(peak) / 1024
+        return child, end
+    return server
+
+
+def running_server(begin):
+    """Returns how to start a server that runs until it is stopped."""
+    def server(port, _):
+        child = begin(port)
+        return child, lambda: usage_of(child)
+    return server
+
+
+def serve(shop):
+    """Ranges of a file, with one connection for each request."""
+    def with_python(port):
+        return shop.start(python("serve.py", shop.shelf, port), lambda: is_listening(port))
+
+    servers = [(KBFEED, counting_server(shop, shop.program), ()),
+               ("rust, read and write", counting_server(shop, PEER), ()),
+               ("nginx, sendfile", running_server(lambda port: shop.nginx(port, shop.shelf)), ("nginx",)),
+               ("nginx, no sendfile", running_server(lambda port: shop.nginx(port, shop.shelf, False)), ("nginx",)),
+               ("python http.server", running_server(with_python), ())]
+    big = max(shop.sizes)
+    for label, mib, piece in [("1M", big, MIB), ("256K", big, 256 << 10), ("1K", 1, 1 << 10)]:
+        bench = Benchmark(f"serve-{label}", "us a request")
+        for who, server, needs in servers:
+            bench.add(who, "=", lambda server=server, mib=mib, piece=piece, label=label:
+                      requested_ranges(shop, server, shop.list_of(mib), piece, ROUNDS[label]),
+                      needs=("kbpeer", "curl", *needs))
+        yield bench
+
+
+def remove_database(path):
+    for suffix in ("", "-wal", "-shm", "-journal"):
+        if os.path.exists(f"{path}{suffix}"):
+            os.remove(f"{path}{suffix}")
+
+
+def stored_bytes(database, name):
+    connection = sqlite3.connect(database)
+    try:
+        pieces = connection.execute("SELECT bytes FROM feed_piece WHERE name = ? ORDER BY place", (name,))
+        return b"".join(piece for piece, in pieces)
+    finally:
+        connection.close()
+
+
+def fetched(shop, program, path, *options):
+    """Returns a runner that downloads a list into a new database, and compares what the first run stored."""
+    seen = []
+
+    def go():
+        database = shop.fresh(".db")
+        try:
+            figures = shop.timed([program, "fetch", database, shop.shelf_address(), path.name, *options])
+            if not seen and stored_bytes(database, path.name) != path.read_bytes():
+                raise Failed("other bytes are stored")
+            seen.append(True)
+            return figures
+        finally:
+            remove_database(database)
+    return go
+
+
+def downloaded(shop, path, piece):
+    """Returns a runner of curl that downloads a list in ranges to a file."""
+    size = path.stat().st_size
+    parts = [f'url = "http://{shop.shelf_address()}/{path.name}"\nrange = {first}-{min(first + piece, size) - 1}\n'
+             f'header = "Connection: close"\n' for first in range(0, size, piece)]
+    config = shop.fresh(".curl")
+    config.write_text("next\n".join(parts))
+
+    def go():
+        figures = shop.timed(["curl", "-s", "-K", config])
+        if figures["output"] != hashlib.sha256(path.read_bytes()).hexdigest():
+            raise Failed("other bytes arrived")
+        return figures
+    return go
+
+
+def fetch(shop):
+    """Downloads of a list from nginx into a database, in pieces."""
+    big = max(shop.sizes)
+    for label, mib, piece in [("1M", big, MIB), ("256K", big, 256 << 10), ("16K", min(4, big), 16 << 10)]:
+        path, each = shop.list_of(mib), ("--piece", piece)
+        bench = Benchmark(f"fetch-{label}", "ms")
+        bench.add(KBFEED, "=", fetched(shop, shop.program, path, *each), needs=("nginx",))
+        bench.add("rust, sqlite WAL", "=", fetched(shop, PEER, path, *each), needs=("kbpeer", "nginx"))
+        bench.add("rust, sqlite DELETE", "=", fetched(shop, PEER, path, *each, "--journal", "delete"),
+                  needs=("kbpeer", "nginx"))
+        bench.add("curl, ranges to a file", "-", lambda path=path, piece=piece: downloaded(shop, path, piece)(),
+                  needs=("curl", "nginx"))
+        yield bench
+
+
+def store(shop):
+    """The floor of a fetch: the pieces of a file are stored, by the peers alone."""
+    path = shop.list_of(max(shop.sizes))
+
+    def into(command):
+        def go():
+            database = shop.fresh(".db")
+            try:
+                return shop.timed([database if word == "DB" else word for word in command])
+            finally:
+                remove_database(database)
+        return go
+
+    for label, piece in [("1M", MIB), ("256K", 256 << 10)]:
+        bench = Benchmark(f"store-{label}", "ms")
+        for journal in ("wal", "delete"):
+            bench.add(f"rust, sqlite {journal.upper()}", "=",
+                      into([PEER, "store", "DB", path, "--piece", piece, "--journal", journal]))
+            bench.add(f"python, sqlite {journal.upper()}", "=", into(python("store.py", "DB", path, piece, journal)),
+                      needs=())
+        yield bench
+
+
+def database_of(shop, program, mib):
+    """Returns a database into which this program has fetched a list."""
+    def make():
+        database = shop.fresh(".db")
+        shop.timed([program, "fetch", database, shop.shelf_address(), shop.list_of(mib).name, "--piece", MIB])
+        return database
+    return shop.once(("database", program, mib), make)
+
+
+def package_of(path):
+    return path.name[:-len("_2024-01-01.txt")]
+
+
+def query_for(path):
+    """Returns a query with an ISSN of a list."""
+    known = [it for it in make_script.identifiers(path.read_bytes()) if re.fullmatch(r"\d{4}-\d{3}[\dX]", it)]
+    return f"rft.issn={known[len(known) // 2]}"
+
+
+def ask(shop):
+    """From the start of a process to the answer, and the load of a database."""
+    for mib in shop.sizes:
+        path = shop.list_of(mib)
+        words = ["ask", None, package_of(path), query_for(path)]
+        bench = Benchmark(f"ask-{mib}", "ms")
+        for who, program, needs in [(KBFEED, shop.program, ()), ("rust", PEER, ("kbpeer",))]:
+            bench.add(who, "=", lambda program=program, words=words, mib=mib: shop.timed(
+                [program, *[database_of(shop, program, mib) if word is None else word for word in words]]),
+                needs=("nginx", *needs))
+        yield bench
+    big = max(shop.sizes)
+    bench = Benchmark(f"load-{big}", "ms")
+    bench.add(KBFEED, "=", lambda: {**shop.timed([shop.program, "status", database_of(shop, shop.program, big)]),
+                                    "output": None}, needs=("nginx",))
+    bench.add("rust", "=", lambda: {**shop.timed([PEER, "load", database_of(shop, PEER, big)]), "output": None},
+              needs=("kbpeer", "nginx"))
+    bench.add("python, bytes alone", "-", lambda: shop.timed(
+        python("store.py", "--load", database_of(shop, shop.program, big))), needs=("nginx",))
+    yield bench
+
+
+def replay(shop):
+    """Scripts of worlds of nodes."""
+    for kind in ("large", "asks", "world", "scatter", "restart", "releases"):
+        script = shop.script(kind)
+        bench = Benchmark(f"replay-{kind}", "ms")
+        bench.add(KBFEED, "=", shop.command(shop.program, "replay", stdin=script), needs=())
+        bench.add("rust", "=", shop.command(PEER, "replay", stdin=script))
+        if kind == "scatter":
+            bench.add("rust, sorted vector", "=", shop.command(PEER, "replay", "--segments", "list", stdin=script))
+        yield bench
+
+
+def started_node(shop, database, *options):
+    """Starts a node, and returns its process and its port."""
+    port = free_port()
+    log = open(shop.fresh(".log"), "wb")
+    with log:
+        command = [shop.program, "node", database, f"127.0.0.1:{port}", *options]
+        return shop.start(command, lambda: is_listening(port), stdout=log), port
+
+
+def node_start(shop):
+    """From the start of a node to its listening socket, with the memory that it then has."""
+    for mib in shop.sizes:
+        def go(mib=mib):
+            database = database_of(shop, shop.program, mib)
+            began = time.monotonic()
+            child, _ = started_node(shop, database)
+            spent = time.monotonic() - began
+            try:
+                cpu, memory = usage_of(child)
+            finally:
+                shop.stop(child)
+            return {"value": spent * 1e3, "cpu": cpu, "memory": memory}
+
+        bench = Benchmark(f"node-start-{mib}", "ms")
+        bench.add(KBFEED, "=", go, needs=("nginx",))
+        bench.add("rust, opens and loads", "-",
+                  lambda mib=mib: shop.timed([PEER, "load", database_of(shop, PEER, mib)]), needs=("kbpeer", "nginx"))
+        yield bench
+
+
+def rate(shop, clients, url, *options):
+    """Returns the requests a second of wrk."""
+    threads = min(clients, max(1, (os.cpu_count() or 2) // 2))
+    run = subprocess.run(["wrk", "-t", str(threads), "-c", str(clients), "-d", f"{shop.seconds}s", *options, url],
+                         capture_output=True, text=True, check=False)
+    found = re.search(r"Requests/sec:\s+([0-9.]+)", run.stdout)
+    if run.returncode or not found or "Non-2xx" in run.stdout:
+        raise Failed(f"wrk: {(run.stderr or run.stdout).strip()[-200:]}")
+    return float(found[1])
+
+
+def node_requests(shop):
+    """Requests a second of a node, and of nginx with a file of the same bytes. Both write a log."""
+    path = shop.list_of(min(shop.sizes))
+    target = f"resolve?{query_for(path)}"
+
+    def of_node(clients, options):
+        child, port = started_node(shop, database_of(shop, shop.program, min(shop.sizes)))
+        try:
+            value = rate(shop, clients, f"http://127.0.0.1:{port}/{target}", *options)
+            return {"value": value, "cpu": None, "memory": usage_of(child)[1]}
+        finally:
+            shop.stop(child)
+
+    def reply():
+        child, port = started_node(shop, database_of(shop, shop.program, min(shop.sizes)))
+        try:
+            connection = http.client.HTTPConnection("127.0.0.1", port, timeout=30)
+            connection.request("GET", f"/{target}")
+            body = connection.getresponse().read()
+        finally:
+            shop.stop(child)
+        folder = shop.fresh(".site")
+        folder.mkdir()
+        (folder / "answer").write_bytes(body)
+        return folder
+
+    def of_nginx(clients, options):
+        port = free_port()
+        child = shop.nginx(port, shop.once("reply", reply), log=f"{shop.fresh('.log')}")
+        try:
+            return {"value": rate(shop, clients, f"http://127.0.0.1:{port}/answer", *options), "cpu": None,
+                    "memory": usage_of(child)[1]}
+        finally:
+            shop.stop(child)
+
+    for label, options in [("requests", []), ("closing", ["-H", "Connection: close"])]:
+        for clients in (1, 16, 256):
+            bench = Benchmark(f"node-{label}-{clients}", "requests a second", is_rate=True)
+            for who, runner in [(KBFEED, of_node), ("nginx, one worker", of_nginx)]:
+                bench.add(who, "=", lambda runner=runner, clients=clients, options=options: runner(clients, options),
+                          needs=("nginx", "wrk"))
+            yield bench
+
+
+def waits(port, target, is_done):
+    """Returns the times of requests, one after another, until `is_done`."""
+    connection, times = http.client.HTTPConnection("127.0.0.1", port, timeout=60), []
+    while not times or not is_done():
+        began = time.monotonic()
+        connection.request("GET", f"/{target}")
+        reply = connection.getresponse()
+        reply.read()
+        if reply.status != 200:
+            raise Failed(f"a reader gets {reply.status}")
+        times.append(time.monotonic() - began)
+    return times
+
+
+def post_feed(port, name, result):
+    """Has a node fetch a release, and appends the last line of the reply."""
+    connection = http.client.HTTPConnection("127.0.0.1", port, timeout=600)
+    connection.request("POST", f"/feed/{name}", headers={"Authorization": f"Bearer {TOKEN}"})
+    result.append(connection.getresponse().read().decode().strip().split("\n")[-1])
+
+
+def node_switch(shop):
+    """The longest wait of a reader while a node takes in the next release of a list and switches to it."""
+    for mib in shop.sizes:
+        def go(mib=mib):
+            database, token, result = shop.fresh(".db"), shop.fresh(".token"), []
+            token.write_text(f"{TOKEN}\n")
+            old, new = shop.list_of(mib), shop.list_of(mib, "2024-02-01")
+            child, port = started_node(shop, database, "--from", shop.shelf_address(), "--token", token)
+            try:
+                post_feed(port, old.name, result)
+                feeding = threading.Thread(target=post_feed, args=(port, new.name, result))
+                feeding.start()
+                times = waits(port, f"resolve?{query_for(old)}", lambda: not feeding.is_alive())
+                memory = usage_of(child)[1]
+            finally:
+                shop.stop(child)
+                remove_database(database)
+            if result != ["status 0", "status 0"]:
+                raise Failed(f"the fetches end with {result}")
+            return {"value": max(times) * 1e3, "cpu": None, "memory": memory}
+
+        bench = Benchmark(f"node-switch-{mib}", "ms, longest wait")
+        bench.add(KBFEED, "=", go, needs=("nginx",))
+        yield bench
+
+
+GROUPS = {"start": start, "check": check, "serve": serve, "fetch": fetch, "store": store, "ask": ask, "load": ask,
+          "replay": replay, "node-start": node_start, "node-requests": node_requests, "node-closing": node_requests,
+          "node-switch": node_switch}
