@@ -291,47 +291,53 @@ def rate(shop, clients, url, *options):
     return float(found[1])
 
 
+def target_of(shop):
+    """Returns the target that is asked for: a title of the smallest list."""
+    return f"resolve?{query_for(shop.list_of(min(shop.sizes)))}"
+
+
+def rate_of_node(shop, clients, options):
+    child, port = started_node(shop, database_of(shop, shop.program, min(shop.sizes)))
+    try:
+        value = rate(shop, clients, f"http://127.0.0.1:{port}/{target_of(shop)}", *options)
+        return {"value": value, "memory": usage_of(child)[1]}
+    finally:
+        shop.stop(child)
+
+
+def site_of(shop):
+    """Returns a folder with a file that has the bytes of a node's reply."""
+    child, port = started_node(shop, database_of(shop, shop.program, min(shop.sizes)))
+    try:
+        connection = http.client.HTTPConnection("127.0.0.1", port, timeout=30)
+        connection.request("GET", f"/{target_of(shop)}")
+        body = connection.getresponse().read()
+    finally:
+        shop.stop(child)
+    folder = shop.fresh(".site")
+    folder.mkdir()
+    (folder / "answer").write_bytes(body)
+    return folder
+
+
+def rate_of_nginx(shop, clients, options):
+    port, folder = free_port(), shop.once("site", lambda: site_of(shop))
+    child = shop.nginx(port, folder, log=shop.fresh(".log"))
+    try:
+        value = rate(shop, clients, f"http://127.0.0.1:{port}/answer", *options)
+        return {"value": value, "memory": usage_of(child)[1]}
+    finally:
+        shop.stop(child)
+
+
 def node_requests(shop):
     """Requests a second of a node, and of nginx with a file of the same bytes. Both write a log."""
-    path = shop.list_of(min(shop.sizes))
-    target = f"resolve?{query_for(path)}"
-
-    def of_node(clients, options):
-        child, port = started_node(shop, database_of(shop, shop.program, min(shop.sizes)))
-        try:
-            value = rate(shop, clients, f"http://127.0.0.1:{port}/{target}", *options)
-            return {"value": value, "cpu": None, "memory": usage_of(child)[1]}
-        finally:
-            shop.stop(child)
-
-    def reply():
-        child, port = started_node(shop, database_of(shop, shop.program, min(shop.sizes)))
-        try:
-            connection = http.client.HTTPConnection("127.0.0.1", port, timeout=30)
-            connection.request("GET", f"/{target}")
-            body = connection.getresponse().read()
-        finally:
-            shop.stop(child)
-        folder = shop.fresh(".site")
-        folder.mkdir()
-        (folder / "answer").write_bytes(body)
-        return folder
-
-    def of_nginx(clients, options):
-        port = free_port()
-        child = shop.nginx(port, shop.once("reply", reply), log=f"{shop.fresh('.log')}")
-        try:
-            return {"value": rate(shop, clients, f"http://127.0.0.1:{port}/answer", *options), "cpu": None,
-                    "memory": usage_of(child)[1]}
-        finally:
-            shop.stop(child)
-
     for label, options in [("requests", []), ("closing", ["-H", "Connection: close"])]:
         for clients in (1, 16, 256):
             bench = Benchmark(f"node-{label}-{clients}", "requests a second", is_rate=True)
-            for who, runner in [(KBFEED, of_node), ("nginx, one worker", of_nginx)]:
-                bench.add(who, "=", lambda runner=runner, clients=clients, options=options: runner(clients, options),
-                          needs=("nginx", "wrk"))
+            for who, runner in [(KBFEED, rate_of_node), ("nginx, one worker", rate_of_nginx)]:
+                bench.add(who, "=", lambda runner=runner, clients=clients, options=options:
+                          runner(shop, clients, options), needs=("nginx", "wrk"))
             yield bench
 
 
@@ -375,7 +381,7 @@ def node_switch(shop):
                 remove_database(database)
             if result != ["status 0", "status 0"]:
                 raise Failed(f"the fetches end with {result}")
-            return {"value": max(times) * 1e3, "cpu": None, "memory": memory}
+            return {"value": max(times) * 1e3, "memory": memory}
 
         bench = Benchmark(f"node-switch-{mib}", "ms, longest wait")
         bench.add(KBFEED, "=", go, needs=("nginx",))
