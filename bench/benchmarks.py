@@ -197,13 +197,17 @@ def store(shop):
         yield bench
 
 
-def database_of(shop, program, mib):
+def database_with(shop, program, path):
     """Returns a database into which this program has fetched a list."""
     def make():
         database = shop.fresh(".db")
-        shop.timed([program, "fetch", database, shop.shelf_address(), shop.list_of(mib).name, "--piece", MIB])
+        shop.timed([program, "fetch", database, shop.shelf_address(), path.name, "--piece", MIB])
         return database
-    return shop.once(("database", program, mib), make)
+    return shop.once(("database", program, path), make)
+
+
+def database_of(shop, program, mib):
+    return database_with(shop, program, shop.list_of(mib))
 
 
 def package_of(path):
@@ -259,24 +263,28 @@ def started_node(shop, database, *options):
         return shop.start(command, lambda: is_listening(port), stdout=log), port
 
 
+def started(shop, path):
+    """Starts a node with a list, and returns the time until it listens, and its memory then."""
+    database = database_with(shop, shop.program, path)
+    began = time.monotonic()
+    child, _ = started_node(shop, database)
+    spent = time.monotonic() - began
+    try:
+        cpu, memory = usage_of(child)
+    finally:
+        shop.stop(child)
+    return {"value": spent * 1e3, "cpu": cpu, "memory": memory}
+
+
 def node_start(shop):
     """From the start of a node to its listening socket, with the memory that it then has."""
-    for mib in shop.sizes:
-        def go(mib=mib):
-            database = database_of(shop, shop.program, mib)
-            began = time.monotonic()
-            child, _ = started_node(shop, database)
-            spent = time.monotonic() - began
-            try:
-                cpu, memory = usage_of(child)
-            finally:
-                shop.stop(child)
-            return {"value": spent * 1e3, "cpu": cpu, "memory": memory}
-
-        bench = Benchmark(f"node-start-{mib}", "ms")
-        bench.add(KBFEED, "=", go, needs=("nginx",))
+    lists = [(str(mib), lambda mib=mib: shop.list_of(mib)) for mib in shop.sizes]
+    for label, made in [*lists, ("short", lambda: shop.short_list(max(shop.sizes)))]:
+        bench = Benchmark(f"node-start-{label}", "ms")
+        bench.add(KBFEED, "=", lambda made=made: started(shop, made()), needs=("nginx",))
         bench.add("rust, opens and loads", "-",
-                  lambda mib=mib: shop.timed([PEER, "load", database_of(shop, PEER, mib)]), needs=("kbpeer", "nginx"))
+                  lambda made=made: shop.timed([PEER, "load", database_with(shop, PEER, made())]),
+                  needs=("kbpeer", "nginx"))
         yield bench
 
 
@@ -362,30 +370,45 @@ def post_feed(port, name, result):
     result.append(connection.getresponse().read().decode().strip().split("\n")[-1])
 
 
+def switched(shop, mib):
+    """Has a node switch to the next release of a list, and returns the two longest waits of a reader meanwhile."""
+    database, token, result = shop.fresh(".db"), shop.fresh(".token"), []
+    token.write_text(f"{TOKEN}\n")
+    old, new = shop.list_of(mib), shop.list_of(mib, "2024-02-01")
+    target = f"resolve?{query_for(old)}"
+    child, port = started_node(shop, database, "--from", shop.shelf_address(), "--token", token)
+    try:
+        post_feed(port, old.name, result)
+        feeding = threading.Thread(target=post_feed, args=(port, new.name, result))
+        feeding.start()
+        times = sorted(waits(port, target, lambda: not feeding.is_alive()))
+        memory = usage_of(child)[1]
+    finally:
+        shop.stop(child)
+        remove_database(database)
+    if result != ["status 0", "status 0"]:
+        raise Failed(f"the fetches end with {result}")
+    return [{"value": wait * 1e3, "memory": memory} for wait in (times[-1], times[-2] if len(times) > 1 else 0.0)]
+
+
 def node_switch(shop):
     """The longest wait of a reader while a node takes in the next release of a list and switches to it."""
     for mib in shop.sizes:
-        def go(mib=mib):
-            database, token, result = shop.fresh(".db"), shop.fresh(".token"), []
-            token.write_text(f"{TOKEN}\n")
-            old, new = shop.list_of(mib), shop.list_of(mib, "2024-02-01")
-            child, port = started_node(shop, database, "--from", shop.shelf_address(), "--token", token)
-            try:
-                post_feed(port, old.name, result)
-                feeding = threading.Thread(target=post_feed, args=(port, new.name, result))
-                feeding.start()
-                times = waits(port, f"resolve?{query_for(old)}", lambda: not feeding.is_alive())
-                memory = usage_of(child)[1]
-            finally:
-                shop.stop(child)
-                remove_database(database)
-            if result != ["status 0", "status 0"]:
-                raise Failed(f"the fetches end with {result}")
-            return {"value": max(times) * 1e3, "memory": memory}
+        rest = []
 
-        bench = Benchmark(f"node-switch-{mib}", "ms, longest wait")
-        bench.add(KBFEED, "=", go, needs=("nginx",))
-        yield bench
+        def longest(mib=mib, rest=rest):
+            first, second = switched(shop, mib)
+            rest.append(second)
+            return first
+
+        def next_longest(mib=mib, rest=rest):
+            return rest.pop(0) if rest else switched(shop, mib)[1]
+
+        for name, unit, runner in [(f"node-switch-{mib}", "ms, longest wait", longest),
+                                   (f"node-switch-{mib}-next", "ms, next longest wait", next_longest)]:
+            bench = Benchmark(name, unit)
+            bench.add(KBFEED, "=", runner, needs=("nginx",))
+            yield bench
 
 
 GROUPS = {"start": start, "check": check, "serve": serve, "fetch": fetch, "store": store, "ask": ask, "load": ask,

@@ -127,6 +127,17 @@ class Workshop:
             path.write_bytes(head + (b"a\n" * MIB if kind == "skipped" else b"a" + b"\t" * (16 * MIB) + b"\n"))
         return path
 
+    def short_list(self, mib):
+        """Returns a list of so many MiB with the shortest rows: an ISSN alone, in the first column."""
+        path = self.shelf / f"Short{mib}_All_2024-01-01.txt"
+        if not path.exists():
+            with open(self.list_of(1), "rb") as file:
+                labels = file.readline().strip().split(b"\t")
+            head = b"\t".join([b"print_identifier", *[it for it in labels if it != b"print_identifier"]]) + b"\n"
+            row = b"2434561X\n"
+            path.write_bytes(head + row * ((mib * MIB - len(head)) // len(row)))
+        return path
+
     def script(self, kind, *args):
         return self.once((kind, *args), lambda: self.generated(self.fresh(".script"), "make_script.py", kind, *args))
 
