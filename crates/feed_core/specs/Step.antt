@@ -156,7 +156,7 @@ pub record IsNoStart {K : Type 0} (ghosts : keep.Ghosts K) (keepers : List K) (n
   pub rises : ghosts.failed before ≤ ghosts.failed keeper
   pub refused : IsStartRefused (HasFailed (ghosts.failed before) (ghosts.failed keeper)) (ghosts.clean keeper) ∥ ghosts.listed before ∥₁ (ghosts.content before)
 
--- what a fault of a replay says about the keepers
+-- what a fault of a replay says about the keepers: nothing if memory ran out or the number of nodes is not permitted
 abbrev pub IsStart : {K : Type 0} → keep.Ghosts K → List K → ReplayFault K → Type 0
 IsStart ghosts keepers (faults.Start node keeper) = IsNoStart ghosts keepers node keeper
 IsStart ghosts keepers faults.Memory = Unit {0}

@@ -52,6 +52,7 @@ pub trait Keep {
     /// The records: one for each name, in the store of a feed.
     ghost content: { Self → Content };
 
+    /// The content is reliable: it is what was committed.
     ghost clean: { Self → Type 0 };
 
     /// The store holds a list of records, one for each name. A list in memory may have a name twice, and a table may

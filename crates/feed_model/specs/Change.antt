@@ -11,6 +11,8 @@ use Rattle.feed_model.specs.declared.state.State.TheVariants.{Staged, Broken, Ac
 use Rattle.feed_model.specs.Reply.{max_file, max_held}
 use Rattle.feed_model.specs.Content.{Part, Record, Content, record_of, byte_in, end_of, IsText, AreParts}
 
+-- a change of a keeper: it records an offered release; or it adds parts to a staged one, which stays staged, is broken
+-- for a reason, or becomes active
 pub data Change : Type 0 where
   Add : (name : Name) (size : ℕ) → Change
   Pieces : (name : Name) (parts : List Part) → Change
@@ -49,6 +51,7 @@ abbrev pub changed : Name → (Record → Record) → Content → Content
 changed n f [] = []
 changed n f (r ∷ rs) = if name_eq r.name n then f r ∷ rs else r ∷ changed n f rs
 
+-- the first release is of an earlier day of the same package
 abbrev pub is_earlier : Name → Name → Bool
 is_earlier m n = pointwise ◌==◌ m.stem n.stem && int_lt m.day n.day
 
@@ -66,14 +69,16 @@ new_record n size = record {
   parts = [];
 }
 
--- the content after a change
+-- the content after a change. Activate also drops the package's records of earlier days, which are passed from now on;
+-- records of later days and of other packages stay
 abbrev pub after : Change → Content → Content
 after (Add n size) c = insert_record (new_record n size) c
 after (Pieces n ps) c = changed n (grown ps Staged) c
 after (Break n ps why) c = changed n (broken_with ps why) c
 after (Activate n ps) c = without_earlier n (changed n (grown ps Active) c)
 
--- the record is staged, and can take these parts
+-- the record is staged, and can take these parts: there is at least one, they are in order and inside the file, and
+-- they overlap no kept part
 pub record TakesParts (c : Content) (n : Name) (ps : List Part) (r : Record) : Type 0 where
   pub found : record_of c n ≡ Some r
   pub staged : r.state ≡ Staged
@@ -94,7 +99,7 @@ IsBadWith ps why r = (text : List ℕ) × IsText r.size (merged r.parts ps) text
 abbrev pub NoneIsLater : Content → Name → Type 0
 NoneIsLater c n = (a : Record) → record_of c a.name ≡ Some a → a.state ≡ Active → ¬ (IsEarlier n a.name)
 
--- the precondition of a change
+-- the precondition of a change. A keeper does not check files: it keeps the reason that it is given
 abbrev pub IsAllowed : Change → Content → Type 0
 IsAllowed (Add n size) c = (record_of c n ≡ None) × (length c < max_held) × (size ≤ max_file)
 IsAllowed (Pieces n ps) c = (r : Record) × TakesParts c n ps r

@@ -35,6 +35,7 @@ abbrev pub record_of : Content → Name → Option Record
 record_of [] n = None
 record_of (r ∷ rs) n = if name_eq r.name n then Some r else record_of rs n
 
+-- the names of all records, in order
 abbrev pub names : Content → List Name
 names rs = map (λ r. r.name) rs
 
@@ -48,15 +49,16 @@ pub record IsText (size : ℕ) (parts : List Part) (text : List ℕ) : Type 0 wh
   pub count : length text ≡ size
   pub bytes : (place : ℕ) → place < size → byte_in parts place ≡ slice_get text place
 
--- each part has 1 to 1,048,576 bytes, and none begins before the previous one ends
+-- each part has 1 to 1,048,576 bytes, and none begins before this place or the end of the previous one; two may touch
 abbrev pub ArePartsFrom : ℕ → List Part → Type 0
 ArePartsFrom place [] = Unit {0}
 ArePartsFrom place (p ∷ ps) = (place ≤ p.first) × (0 < length p.bytes) × (length p.bytes ≤ max_piece) × ArePartsFrom (end_of p) ps
 
+-- the same from the first place of a file
 abbrev pub AreParts : List Part → Type 0
 AreParts parts = ArePartsFrom 0 parts
 
--- the state is right for the history
+-- the state is right for the history. A good release that is held is the active one, so three states are enough
 abbrev pub IsState : History → Name → State → Type 0
 IsState h n Staged = ¬ (IsWhole h n)
 IsState h n Active = IsActive h n
@@ -77,7 +79,8 @@ pub record IsRecord (h : History) (n : Name) (r : Record) : Type 0 where
   pub state : IsState h n r.state
   pub reason : IsReason h n r.state r.reason
 
--- exactly the releases that are held have a record
+-- the history is legal, and exactly the releases that are held have a record. Many histories have the same content; the
+-- empty list is a content of the empty history
 pub record IsContent (c : Content) (h : History) : Type 0 where
   pub legal : IsLegal h
   pub distinct : IsDistinct name_eq (names c)

@@ -31,7 +31,7 @@ abbrev pub is_refused : Event × Answer → Bool
 is_refused (Offered n size, Err TooLarge) = true
 is_refused _ = false
 
--- the history without the offers that were refused as too large
+-- the history without the offers that were refused as too large, which added nothing
 abbrev pub without_refused : History → History
 without_refused h = filter (λ step. not (is_refused step)) h
 

@@ -7,11 +7,11 @@ use Rattle.feed_model.specs.Reply.{IsRight, history_after}
 use Rattle.feed_model.specs.Content.{Record, Content, record_of, IsContent}
 
 -- for every history that has the content c, the answer is right, and c' is a content of the history with the event and
--- the answer added
+-- the answer added, so it does not matter how the feed got its content
 abbrev pub Handles : Content → Event → Answer → Content → Type 0
 Handles c event answer c' = (h : History) → IsContent c h → IsRight h event answer × IsContent c' ((event, answer) ∷ h)
 
--- an active record of the package is later
+-- an active record of the package is later: IsPassed for a content
 abbrev pub HasLaterActive : Content → Name → Type 0
 HasLaterActive c n = (a : Record) × (record_of c a.name ≡ Some a) × (a.state ≡ Active) × IsEarlier n a.name
 

@@ -16,10 +16,11 @@ use Rattle.feed_model.specs.History.{Event, Offered, Piece, Lost, Answer, Histor
 abbrev pub Case : Type 0 → Type 0 → Type 0 → Type 0
 Case holds here after = (holds × here) ⊎ ((¬ holds) × after)
 
--- this answer; or, in its place, running out of memory or a failed device
+-- this answer; or, in its place, running out of memory or a failed device. A case without this has one right answer
 abbrev pub OrRefused : Answer → Type 0 → Type 0
 OrRefused answer right = right ⊎ ((answer ≡ Err refusals.Memory) ⊎ (answer ≡ Err refusals.Device))
 
+-- the same for one reply
 abbrev pub Commits : Answer → Reply → Type 0
 Commits answer reply = OrRefused answer (answer ≡ Ok reply)
 
@@ -42,7 +43,7 @@ abbrev pub missing_below : (ℕ → Option ℕ) → ℕ → ℕ
 missing_below at zero = 0
 missing_below at (suc n) = missing_below at n + (if is_none (at n) then 1 else 0)
 
--- the kept byte at a place, or otherwise that of a piece
+-- the byte kept at a place once a piece is kept too: the one kept before, or otherwise that of the piece
 abbrev pub kept_with : History → Name → ℕ → List ℕ → ℕ → Option ℕ
 kept_with h n first bytes place = or_else (kept h n place) (byte_at first bytes place)
 
@@ -94,6 +95,7 @@ abbrev pub IsLegalWithin : ℕ → History → Type 0
 IsLegalWithin most [] = Unit {0}
 IsLegalWithin most ((event, answer) ∷ h) = IsRightWithin most h event answer × IsLegalWithin most h
 
+-- the same with the limit of this version
 abbrev pub IsLegal : History → Type 0
 IsLegal h = IsLegalWithin max_file h
 

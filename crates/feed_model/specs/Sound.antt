@@ -32,7 +32,7 @@ pub record IsSoundRecord (r : Record) : Type 0 where
   pub reason : Explains r.state r.size r.parts r.reason
 
 -- each name has one record, at most as many as a feed may have; none is of an earlier day than an active one of its
--- package, so each package has at most one active
+-- package, so each package has at most one active. Every content of a history is sound
 pub record IsSound (c : Content) : Type 0 where
   pub distinct : IsDistinct name_eq (names c)
   pub few : length c ≤ max_held

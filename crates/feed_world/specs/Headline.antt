@@ -85,7 +85,7 @@ pub record HasAlike (h k : History) (stem : List ℕ) : Type 0 where
   pub size : (n : Name) → n.stem ≡ stem → size_of h n ≡ size_of k n
   pub bytes : (n : Name) → n.stem ≡ stem → (place : ℕ) → kept h n place ≡ kept k n place
 
--- the release is the latest of its package with a good published file
+-- the release is published with a good file, and no published good file of its package has a later day
 pub record IsLatest (events : List WorldEvent) (n : Name) : Type 0 where
   pub file : List ℕ
   pub published : file_of events n ≡ Some file

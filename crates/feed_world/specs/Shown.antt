@@ -13,7 +13,7 @@ abbrev pub shown_sent : code_sent.Sent → Sent
 shown_sent (sents.Offer n) = Offer n
 shown_sent (sents.Deliver n first len) = Deliver n first len
 
--- the model value of an event
+-- the model value of an event; the code has an event for each of the three kinds of Tell
 abbrev pub shown_event : code_event.WorldEvent → WorldEvent
 shown_event (events.Publish n bytes) = Publish n bytes.items
 shown_event (events.Offer i n) = Tell i (Offer n)

@@ -96,7 +96,8 @@ abbrev pub loss_event : Name → Option (List ℕ) → Result Event why.Why
 loss_event n None = Err whys.Unpublished
 loss_event n (Some file) = Ok (Lost n)
 
--- the feed's event for what is sent to a node, or why nothing arrives
+-- the feed's event for what is sent to a node, or why nothing arrives: the release is not published, or the slice
+-- extends past the end of its file
 abbrev pub arriving : Shelf → Sent → Result Event why.Why
 arriving shelf (Offer n) = offer_event n (file_on shelf n)
 arriving shelf (Deliver n first len) = delivery_event n first len (file_on shelf n)
@@ -118,7 +119,8 @@ Arrives sent w line v Here = MatchResult (arriving w.shelf sent) Here (λ why. I
 abbrev pub IfUp : Node → World → Line → World → Type 0 → Type 0
 IfUp x w line v Here = MatchBool x.up Here (IsRefused whys.Down w line v)
 
--- the node is open again; or it is down because memory ran out or its device failed
+-- the node is open again; or it is down because memory ran out or its device failed, but never because its keeper is
+-- damaged. Either way it has this history
 abbrev pub Reopens : ℕ → History → Line → World → Line → World → Type 0
 Reopens i history done w line v =
     ((line ≡ done) × (v ≡ with_node w i true history))
@@ -152,12 +154,15 @@ file_says n file (Ok query) = Text (text_for n file query)
 abbrev pub OrMemory : Line → Type 0 → Type 0
 OrMemory line right = right ⊎ (line ≡ Refused whys.Memory)
 
--- a right answer to a query at this history
+-- a right answer to a query at this history: the fault of the query; for a valid query, the answer from the active
+-- release's complete file, or NoRelease if the package has no active release; or, in place of each, running out of
+-- memory
 abbrev pub IsAsked : History → List ℕ → List ℕ → Line → Type 0
 IsAsked h stem query line = (o : Option Name) × Reports h stem o × OrMemory line
     (MatchOption o (line ≡ none_says (query_of query)) (λ n. (file : List ℕ) × IsFile h n file × (line ≡ file_says n file (query_of query))))
 
--- the event may be shown by this line, and may turn one world into the other
+-- the event may be shown by this line, and may turn one world into the other. A restart is tried at a node that is down
+-- as well. A refusal of the feed is an answer too: it is added to the history
 abbrev pub Happens : World → WorldEvent → Line → World → Type 0
 Happens w (Publish n bytes) line v =
     MatchOption (file_on w.shelf n)
@@ -181,7 +186,7 @@ Happens w (Ask i stem query) line v =
     AtNode i w line v (λ x. IfUp x w line v
     ((v ≡ w) × IsAsked x.history stem query line))
 
--- the events may be shown by these lines, one after another
+-- the events may be shown by these lines, one after another; there are as many lines as events
 abbrev pub Shows : World → List WorldEvent → List Line → World → Type 0
 Shows w [] [] v = w ≡ v
 Shows w (event ∷ events) (line ∷ lines) v = (m : World) × Happens w event line m × Shows m events lines v
