@@ -1,4 +1,6 @@
 mod Digits
+mod Sums
 mod Kept
+mod Trimmed
 mod PrintedIssn
 mod PrintedIsbn

@@ -1,30 +1,34 @@
 -- The number of a printed ISSN determines the ISSN.
-use Rattle.std.proofs.Common.{◌≡◌, ◌≤◌, ◌<◌, ◌+◌, ◌-◌, ◌*◌, ℕ, Bool, true, false, ◌&&◌, ◌||◌, eqb, List, [], ◌∷◌}
-use Rattle.std.proofs.Common.{Option, Some, None, if◌then◌else◌, refl, sym, ◌∙◌, arith}
-use Rattle.std.specs.Prelude.{◌%◌, ◌==◌, slice_index}
+use Rattle.std.proofs.Common.{◌≡◌, ◌≤◌, ◌<◌, ◌+◌, ◌-◌, ◌*◌, ℕ, Bool, true, false, ◌&&◌, ◌||◌, eqb, List, [], ◌∷◌, ◌++◌, length, take, drop, get_or}
+use Rattle.std.proofs.Common.{Option, Some, None, if◌then◌else◌, refl, sym, ap, ◌∙◌, arith, subst, eqb-true, take_at, drop_at, drop-drop, take-append-drop, length-drop, length-take-le}
+use Rattle.std.specs.Prelude.{◌%◌, ◌==◌}
 use Rattle.std.specs.Char.{is_ascii_digit}
+use Rattle.std.specs.List.{list_all}
+use Rattle.std.specs.Str.Parse.{digits_value}
+use Rattle.std.proofs.lemmas.Bool.{and_parts}
 use Rattle.std.proofs.lemmas.Bool.Decides.{nat_tests}
-use Rattle.feed_identifiers.proofs.Digits.{AreSevenDigits, digit_is, digit_is_no_space, eqb_same, first_true, same_digit, second_true, seven_digits_are, split, test_true, value_is, worth}
-use Rattle.feed_identifiers.specs.Check.{capital, check_value, is_check, is_x}
-use Rattle.feed_identifiers.specs.Issn.{IsIssn, at_seven, issn_of_digits, issn_of, number_of, issn_of_characters, weighted}
+use Rattle.std.proofs.lemmas.Slice.Eq.{text_from_reads}
+use Rattle.feed_identifiers.proofs.Digits.{IsDigit, digit_at, digit_is, digit_is_no_space, digits_split, few_digits, same_digit, same_digits, test_true, value_is, worth}
+use Rattle.feed_identifiers.specs.Check.{capital, check_value, is_check, is_check_of, is_x, weighted_sum}
+use Rattle.feed_identifiers.specs.Issn.{IsIssn, issn_of_digits, issn_of, number_of, issn_of_characters, printed, weights}
 
 -- what the characters of a printed ISSN are
-record Spelled (text : List ℕ) (a b c d e f g check : ℕ) : Type 0 where
-  is : text ≡ a ∷ b ∷ c ∷ d ∷ 45 ∷ e ∷ f ∷ g ∷ capital check ∷ []
-  digits : AreSevenDigits a b c d e f g
-  open digits use *
+record Spelled (text digits : List ℕ) (check : ℕ) : Type 0 where
+  is : text ≡ printed digits check
+  all : list_all is_ascii_digit digits ≡ true
   checks : is_check check ≡ true
-  sum : weighted a b c d e f g check % 11 ≡ 0
+  sum : (weighted_sum weights digits + check_value check) % 11 ≡ 0
 
-spelled_by : (text : List ℕ) (a b c d e f g check : ℕ) → issn_of_digits a b c d e f g check ≡ Some text → Spelled text a b c d e f g check
-spelled_by text a b c d e f g check made =
-    let all = test_true _ _ text made in
-    let checked = first_true _ _ all in
+spelled_by : (text digits : List ℕ) (check : ℕ) → issn_of_digits digits check ≡ Some text → Spelled text digits check
+spelled_by text digits check made =
+    let sound = test_true (is_check_of weights digits check) (printed digits check) text made in
+    let t3 = and_parts (list_all is_ascii_digit digits && is_check check) ((weighted_sum weights digits + check_value check) % 11 == 0) sound in
+    let t2 = and_parts (list_all is_ascii_digit digits) (is_check check) t3.0 in
     record {
-      is = value_is _ _ text made;
-      digits = seven_digits_are a b c d e f g (first_true _ _ checked);
-      checks = second_true _ (is_check check) checked;
-      sum = eqb_same _ 0 (second_true _ (weighted a b c d e f g check % 11 == 0) all);
+      is = value_is (is_check_of weights digits check) (printed digits check) text made;
+      all = t2.0;
+      checks = t2.1;
+      sum = eqb-true ((weighted_sum weights digits + check_value check) % 11) 0 t3.1;
     }
 
 or_false : (a : Bool) → (a || false) ≡ true → a ≡ true
@@ -51,47 +55,97 @@ same_check k l h g e = go (is_x k) (is_x l) h g e
     go false true h g e = (let w = worth k (digit_is k (or_false _ h)) in absurd (omega arith))
     go false false h g e = same_digit k l (digit_is k (or_false _ h)) (digit_is l (or_false _ g)) e
 
-number_in_steps : (a b c d e f g : ℕ) → 1000000 * a + 100000 * b + 10000 * c + 1000 * d + 100 * e + 10 * f + g
-    ≡ 10 * (10 * (10 * (10 * (10 * (10 * a + b) + c) + d) + e) + f) + g
-number_in_steps a b c d e f g = omega arith
+-- the digits before the hyphen, and those after it
+front_of : (digits : List ℕ) (check : ℕ) → length digits ≡ 7 → take 4 (printed digits check) ≡ take 4 digits
+front_of digits check seven =
+    take_at (take 4 digits) (45 ∷ (drop 4 digits ++ capital check ∷ [])) 4 (length-take-le 4 digits (omega (arith, seven)))
+
+back_of : (digits : List ℕ) (check : ℕ) → length digits ≡ 7 → take 3 (drop 5 (printed digits check)) ≡ drop 4 digits
+back_of digits check seven =
+    let front = length-take-le 4 digits (omega (arith, seven)) in
+    let back = length-drop 4 digits in
+    ap (take 3) (sym (drop-drop 1 4 (printed digits check)) ∙ ap (drop 1) (drop_at (take 4 digits) (45 ∷ (drop 4 digits ++ capital check ∷ [])) 4 front))
+    ∙ take_at (drop 4 digits) (capital check ∷ []) 3 (omega (arith, back, seven))
+
+-- the number of a printed ISSN is that of its digits
+record Numbered (digits : List ℕ) : Type 0 where
+  front_all : list_all is_ascii_digit (take 4 digits) ≡ true
+  back_all : list_all is_ascii_digit (drop 4 digits) ≡ true
+  front_long : length (take 4 digits) ≡ 4
+  back_long : length (drop 4 digits) ≡ 3
+  front_small : digits_value 10 (take 4 digits) < 10000
+  back_small : digits_value 10 (drop 4 digits) < 1000
+
+numbered : (digits : List ℕ) → length digits ≡ 7 → list_all is_ascii_digit digits ≡ true → Numbered digits
+numbered digits seven all =
+    let parts = digits_split 4 digits all in
+    let front = length-take-le 4 digits (omega (arith, seven)) in
+    let cut = length-drop 4 digits in
+    let back : length (drop 4 digits) ≡ 3 = omega (arith, cut, seven) in
+    record {
+      front_all = parts.0;
+      back_all = parts.1;
+      front_long = front;
+      back_long = back;
+      front_small = few_digits (take 4 digits) 4 parts.0 (omega (arith, front));
+      back_small = few_digits (drop 4 digits) 3 parts.1 (omega (arith, back));
+    }
+
+number_is : (text digits : List ℕ) (check : ℕ) → length digits ≡ 7 → text ≡ printed digits check
+    → number_of text ≡ 1000 * digits_value 10 (take 4 digits) + digits_value 10 (drop 4 digits)
+number_is text digits check seven is =
+    ap number_of is ∙ ap (λ l. 1000 * digits_value 10 l + digits_value 10 (take 3 (drop 5 (printed digits check)))) (front_of digits check seven)
+    ∙ ap (λ l. 1000 * digits_value 10 (take 4 digits) + digits_value 10 l) (back_of digits check seven)
 
 -- the number of an ISSN is small
-small_sum : (a b c d e f g : ℕ) → a ≤ 9 → b ≤ 9 → c ≤ 9 → d ≤ 9 → e ≤ 9 → f ≤ 9 → g ≤ 9
-    → 1000000 * a + 100000 * b + 10000 * c + 1000 * d + 100 * e + 10 * f + g < 10000000
-small_sum a b c d e f g p q r s t u v = omega arith
+small_sum : (n front back : ℕ) → n ≡ 1000 * front + back → front < 10000 → back < 1000 → n < 10000000
+small_sum n front back e h k = omega arith
 
 pub small_number : (text : List ℕ) → IsIssn text → number_of text < 10000000
 small_number text i =
-    let p = spelled_by text i.a i.b i.c i.d i.e i.f i.g i.check i.made in
-    rw p.is (small_sum _ _ _ _ _ _ _ (worth i.a p.first) (worth i.b p.second) (worth i.c p.third) (worth i.d p.fourth)
-    (worth i.e p.fifth) (worth i.f p.sixth) (worth i.g p.seventh))
+    let p = spelled_by text i.digits i.check i.made in
+    let n = numbered i.digits i.seven p.all in
+    small_sum (number_of text) (digits_value 10 (take 4 i.digits)) (digits_value 10 (drop 4 i.digits)) (number_is text i.digits i.check i.seven p.is)
+    n.front_small n.back_small
+
+-- the digits of a printed ISSN, before the hyphen and after it
+pub front_digits : (text : List ℕ) → IsIssn text → list_all is_ascii_digit (take 4 text) ≡ true
+front_digits text i =
+    let p = spelled_by text i.digits i.check i.made in
+    let n = numbered i.digits i.seven p.all in
+    ap (list_all is_ascii_digit) (ap (take 4) p.is ∙ front_of i.digits i.check i.seven) ∙ n.front_all
+
+pub back_digits : (text : List ℕ) → IsIssn text → list_all is_ascii_digit (take 3 (drop 5 text)) ≡ true
+back_digits text i =
+    let p = spelled_by text i.digits i.check i.made in
+    let n = numbered i.digits i.seven p.all in
+    ap (list_all is_ascii_digit) (ap (λ l. take 3 (drop 5 l)) p.is ∙ back_of i.digits i.check i.seven) ∙ n.back_all
 
 -- two ISSNs with one number are the same
+halves : (x y p q : ℕ) → y < 1000 → q < 1000 → 1000 * x + y ≡ 1000 * p + q → (x ≡ p) × (y ≡ q)
+halves x y p q h k e = (omega arith, omega arith)
+
+joined : (s t : List ℕ) → take 4 s ≡ take 4 t → drop 4 s ≡ drop 4 t → s ≡ t
+joined s t front back =
+    sym (take-append-drop 4 s) ∙ ap (λ l. l ++ drop 4 s) front ∙ ap (λ l. take 4 t ++ l) back ∙ take-append-drop 4 t
+
 pub same_issn : (s t : List ℕ) → IsIssn s → IsIssn t → number_of s ≡ number_of t → s ≡ t
 same_issn s t i j same =
-    let p = spelled_by s i.a i.b i.c i.d i.e i.f i.g i.check i.made in
-    let q = spelled_by t j.a j.b j.c j.d j.e j.f j.g j.check j.made in
-    let steps = sym (number_in_steps (i.a - 48) (i.b - 48) (i.c - 48) (i.d - 48) (i.e - 48) (i.f - 48) (i.g - 48)) ∙ rw (p.is, q.is) at same
-    ∙ number_in_steps (j.a - 48) (j.b - 48) (j.c - 48) (j.d - 48) (j.e - 48) (j.f - 48) (j.g - 48) in
-    let g = split _ (i.g - 48) _ (j.g - 48) (worth i.g p.seventh) (worth j.g q.seventh) steps in
-    let f = split _ (i.f - 48) _ (j.f - 48) (worth i.f p.sixth) (worth j.f q.sixth) g.0 in
-    let e = split _ (i.e - 48) _ (j.e - 48) (worth i.e p.fifth) (worth j.e q.fifth) f.0 in
-    let d = split _ (i.d - 48) _ (j.d - 48) (worth i.d p.fourth) (worth j.d q.fourth) e.0 in
-    let c = split _ (i.c - 48) _ (j.c - 48) (worth i.c p.third) (worth j.c q.third) d.0 in
-    let b = split (i.a - 48) (i.b - 48) (j.a - 48) (j.b - 48) (worth i.b p.second) (worth j.b q.second) c.0 in
-    p.is ∙ spelled_same i.a i.b i.c i.d i.e i.f i.g i.check j.a j.b j.c j.d j.e j.f j.g j.check
-    (same_digit i.a j.a p.first q.first b.0) (same_digit i.b j.b p.second q.second b.1) (same_digit i.c j.c p.third q.third c.1)
-    (same_digit i.d j.d p.fourth q.fourth d.1) (same_digit i.e j.e p.fifth q.fifth e.1) (same_digit i.f j.f p.sixth q.sixth f.1)
-    (same_digit i.g j.g p.seventh q.seventh g.1) p.checks q.checks p.sum q.sum ∙ sym q.is
-  where
-    spelled_same : (a b c d e f g k h i j l m n o r : ℕ) → a ≡ h → b ≡ i → c ≡ j → d ≡ l → e ≡ m → f ≡ n → g ≡ o
-        → is_check k ≡ true → is_check r ≡ true → weighted a b c d e f g k % 11 ≡ 0 → weighted h i j l m n o r % 11 ≡ 0
-        → (a ∷ b ∷ c ∷ d ∷ 45 ∷ e ∷ f ∷ g ∷ capital k ∷ []) ≡ (h ∷ i ∷ j ∷ l ∷ 45 ∷ m ∷ n ∷ o ∷ capital r ∷ [])
-    spelled_same a b c d e f g k h i j l m n o r ah bi cj dl em fn go checks others sum other =
-        let own = rw (ah, bi, cj, dl, em, fn, go) at sum in
-        let worths = same_worth (8 * (h - 48) + 7 * (i - 48) + 6 * (j - 48) + 5 * (l - 48) + 4 * (m - 48) + 3 * (n - 48) + 2 * (o - 48)) (check_value k) (check_value r)
-        (check_worth k checks) (check_worth r others) own other in
-        rw (ah, bi, cj, dl, em, fn, go, same_check k r checks others worths) refl
+    let p = spelled_by s i.digits i.check i.made in
+    let q = spelled_by t j.digits j.check j.made in
+    let n = numbered i.digits i.seven p.all in
+    let m = numbered j.digits j.seven q.all in
+    let numbers = halves (digits_value 10 (take 4 i.digits)) (digits_value 10 (drop 4 i.digits)) (digits_value 10 (take 4 j.digits)) (digits_value 10 (drop 4 j.digits))
+    n.back_small m.back_small (sym (number_is s i.digits i.check i.seven p.is) ∙ same ∙ number_is t j.digits j.check j.seven q.is) in
+    let digits = joined i.digits j.digits
+    (same_digits (take 4 i.digits) (take 4 j.digits) (n.front_long ∙ sym m.front_long) n.front_all m.front_all numbers.0)
+    (same_digits (drop 4 i.digits) (drop 4 j.digits) (n.back_long ∙ sym m.back_long) n.back_all m.back_all numbers.1) in
+    let own : (weighted_sum weights j.digits + check_value i.check) % 11 ≡ 0 =
+    subst (λ l. (weighted_sum weights l + check_value i.check) % 11 ≡ 0) digits p.sum in
+    let worths = same_worth (weighted_sum weights j.digits) (check_value i.check) (check_value j.check)
+    (check_worth i.check p.checks) (check_worth j.check q.checks) own q.sum in
+    p.is ∙ ap (λ l. printed l i.check) digits
+    ∙ ap (λ c. take 4 j.digits ++ 45 ∷ (drop 4 j.digits ++ c ∷ [])) (same_check i.check j.check p.checks q.checks worths) ∙ sym q.is
 
 -- the printed form of an ISSN reads as itself
 capital_again : (k : ℕ) → is_check k ≡ true → (is_check (capital k) ≡ true) × (check_value (capital k) ≡ check_value k) × (capital (capital k) ≡ capital k) × (eqb (capital k) 32 ≡ false)
@@ -111,29 +165,48 @@ taken : (b : Bool) (x : Option (List ℕ)) (s : List ℕ) → (if b then x else 
 taken true x s e = e
 taken false x s e = absurd (cc)
 
-issn_with : (a b c d e f g check : ℕ) (printed : List ℕ) → issn_of_digits a b c d e f g check ≡ Some printed → IsIssn printed
-issn_with a b c d e f g check printed made =
-    record { digits = record { a = a; b = b; c = c; d = d; e = e; f = f; g = g }; check = check; made = made }
+pub issn_with : (digits : List ℕ) (check : ℕ) (text : List ℕ) → length digits ≡ 7 → issn_of_digits digits check ≡ Some text → IsIssn text
+issn_with digits check text seven made = record { digits = digits; check = check; seven = seven; made = made }
 
-pub issn_of_array : (digits : List ℕ) (check : ℕ) (printed : List ℕ) → at_seven issn_of_digits digits check ≡ Some printed → IsIssn printed
-issn_of_array digits check printed made =
-    issn_with (slice_index digits 0) (slice_index digits 1) (slice_index digits 2) (slice_index digits 3) (slice_index digits 4) (slice_index digits 5)
-    (slice_index digits 6) check printed made
+pub issn_made : (characters text : List ℕ) → issn_of_characters characters ≡ Some text → IsIssn text
+issn_made (a ∷ b ∷ c ∷ d ∷ e ∷ f ∷ g ∷ check ∷ []) text made = issn_with (a ∷ b ∷ c ∷ d ∷ e ∷ f ∷ g ∷ []) check text refl made
+issn_made (a ∷ b ∷ c ∷ d ∷ hyphen ∷ e ∷ f ∷ g ∷ check ∷ []) text made =
+    issn_with (a ∷ b ∷ c ∷ d ∷ e ∷ f ∷ g ∷ []) check text refl (taken (hyphen == 45) (issn_of_digits (a ∷ b ∷ c ∷ d ∷ e ∷ f ∷ g ∷ []) check) text made)
+issn_made _ text made = absurd (cc)
 
-pub issn_made : (characters printed : List ℕ) → issn_of_characters characters ≡ Some printed → IsIssn printed
-issn_made (a ∷ b ∷ c ∷ d ∷ e ∷ f ∷ g ∷ check ∷ []) printed made = issn_with a b c d e f g check printed made
-issn_made (a ∷ b ∷ c ∷ d ∷ hyphen ∷ e ∷ f ∷ g ∷ check ∷ []) printed made =
-    issn_with a b c d e f g check printed (taken (hyphen == 45) (issn_of_digits a b c d e f g check) printed made)
-issn_made _ printed made = absurd (cc)
+-- how eight characters parse, and nine with a hyphen
+pub eight_parse : (s : List ℕ) → length s ≡ 8 → issn_of_characters s
+    ≡ issn_of_digits (get_or s 0 0 ∷ get_or s 1 0 ∷ get_or s 2 0 ∷ get_or s 3 0 ∷ get_or s 4 0 ∷ get_or s 5 0 ∷ get_or s 6 0 ∷ []) (get_or s 7 0)
+eight_parse s eight =
+    ap issn_of_characters (text_from_reads s
+    (get_or s 0 0 ∷ get_or s 1 0 ∷ get_or s 2 0 ∷ get_or s 3 0 ∷ get_or s 4 0 ∷ get_or s 5 0 ∷ get_or s 6 0 ∷ get_or s 7 0 ∷ []) eight
+    (refl, (refl, (refl, (refl, (refl, (refl, (refl, (refl, (tt))))))))))
 
-pub issn_again : (printed : List ℕ) → IsIssn printed → issn_of printed ≡ Some printed
-issn_again printed j =
-    let p = spelled_by printed j.a j.b j.c j.d j.e j.f j.g j.check j.made in
-    let c = capital_again j.check p.checks in
-    rw (p.is, digit_is_no_space j.a p.first, c.3)
-    (checked_again (is_ascii_digit j.a && is_ascii_digit j.b && is_ascii_digit j.c && is_ascii_digit j.d && is_ascii_digit j.e && is_ascii_digit j.f && is_ascii_digit j.g)
-    (is_check j.check) (is_check (capital j.check)) (check_value j.check) (check_value (capital j.check))
-    (8 * (j.a - 48) + 7 * (j.b - 48) + 6 * (j.c - 48) + 5 * (j.d - 48) + 4 * (j.e - 48) + 3 * (j.f - 48) + 2 * (j.g - 48))
-    (j.a ∷ j.b ∷ j.c ∷ j.d ∷ 45 ∷ j.e ∷ j.f ∷ j.g ∷ capital j.check ∷ [])
-    (j.a ∷ j.b ∷ j.c ∷ j.d ∷ 45 ∷ j.e ∷ j.f ∷ j.g ∷ capital (capital j.check) ∷ []) _
-    p.checks c.0 c.1 (rw c.2 refl) (rw p.is at j.made))
+pub nine_parse : (s : List ℕ) → length s ≡ 9 → get_or s 4 0 ≡ 45 → issn_of_characters s
+    ≡ issn_of_digits (get_or s 0 0 ∷ get_or s 1 0 ∷ get_or s 2 0 ∷ get_or s 3 0 ∷ get_or s 5 0 ∷ get_or s 6 0 ∷ get_or s 7 0 ∷ []) (get_or s 8 0)
+nine_parse s nine hyphen =
+    ap issn_of_characters (text_from_reads s
+    (get_or s 0 0 ∷ get_or s 1 0 ∷ get_or s 2 0 ∷ get_or s 3 0 ∷ 45 ∷ get_or s 5 0 ∷ get_or s 6 0 ∷ get_or s 7 0 ∷ get_or s 8 0 ∷ []) nine
+    (refl, (refl, (refl, (refl, (hyphen, (refl, (refl, (refl, (refl, (tt)))))))))))
+
+spelled_again : (a b c d e f g check : ℕ) → IsDigit a → eqb (capital check) 32 ≡ false
+    → issn_of (printed (a ∷ b ∷ c ∷ d ∷ e ∷ f ∷ g ∷ []) check) ≡ issn_of_digits (a ∷ b ∷ c ∷ d ∷ e ∷ f ∷ g ∷ []) (capital check)
+spelled_again a b c d e f g check first last = rw (digit_is_no_space a first, last) refl
+
+printed_again : (digits : List ℕ) (check : ℕ) → length digits ≡ 7 → list_all is_ascii_digit digits ≡ true → eqb (capital check) 32 ≡ false
+    → issn_of (printed digits check) ≡ issn_of_digits digits (capital check)
+printed_again digits check seven all last =
+    let at : ℕ → ℕ = λ i. get_or digits i 0 in
+    let is : digits ≡ at 0 ∷ at 1 ∷ at 2 ∷ at 3 ∷ at 4 ∷ at 5 ∷ at 6 ∷ [] =
+    text_from_reads digits (at 0 ∷ at 1 ∷ at 2 ∷ at 3 ∷ at 4 ∷ at 5 ∷ at 6 ∷ []) seven (refl, (refl, (refl, (refl, (refl, (refl, (refl, (tt)))))))) in
+    subst (λ l. issn_of (printed l check) ≡ issn_of_digits l (capital check)) (sym is)
+    (spelled_again (at 0) (at 1) (at 2) (at 3) (at 4) (at 5) (at 6) check (digit_at digits 0 all (omega (arith, seven))) last)
+
+pub issn_again : (text : List ℕ) → IsIssn text → issn_of text ≡ Some text
+issn_again text i =
+    let p = spelled_by text i.digits i.check i.made in
+    let c = capital_again i.check p.checks in
+    ap issn_of p.is ∙ printed_again i.digits i.check i.seven p.all c.3
+    ∙ checked_again (list_all is_ascii_digit i.digits) (is_check i.check) (is_check (capital i.check)) (check_value i.check) (check_value (capital i.check))
+    (weighted_sum weights i.digits) (printed i.digits i.check) (printed i.digits (capital i.check)) text p.checks c.0 c.1
+    (ap (λ x. take 4 i.digits ++ 45 ∷ (drop 4 i.digits ++ x ∷ [])) c.2) i.made

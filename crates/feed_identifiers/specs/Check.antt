@@ -1,6 +1,7 @@
 -- Digits and check characters, which ISSNs and ISBNs have in common.
-use Rattle.std.specs.Prelude.{ℕ, ◌-◌, ◌==◌, ◌&&◌, ◌||◌, Bool, if◌then◌else◌}
+use Rattle.std.specs.Prelude.{ℕ, ◌+◌, ◌-◌, ◌*◌, ◌%◌, ◌==◌, ◌&&◌, ◌||◌, Bool, List, [], ◌∷◌, if◌then◌else◌}
 use Rattle.std.specs.Char.{is_ascii_digit}
+use Rattle.std.specs.List.{list_all}
 
 -- whether a character is an x of either case
 abbrev pub is_x : ℕ → Bool
@@ -18,18 +19,14 @@ check_value b = if is_x b then 10 else b - 48
 abbrev pub capital : ℕ → ℕ
 capital b = if is_x b then 88 else b
 
--- seven characters
-pub record Seven : Type 0 where
-  pub a : ℕ
-  pub b : ℕ
-  pub c : ℕ
-  pub d : ℕ
-  pub e : ℕ
-  pub f : ℕ
-  pub g : ℕ
+-- the sum of the values of digits, each multiplied by the weight at its place
+abbrev pub weighted_sum : List ℕ → List ℕ → ℕ
+weighted_sum [] digits = 0
+weighted_sum (weight ∷ weights) [] = 0
+weighted_sum (weight ∷ weights) (digit ∷ digits) = weight * (digit - 48) + weighted_sum weights digits
 
--- whether seven characters are digits
-abbrev pub are_seven_digits : ℕ → ℕ → ℕ → ℕ → ℕ → ℕ → ℕ → Bool
-are_seven_digits a b c d e f g =
-    is_ascii_digit a && is_ascii_digit b && is_ascii_digit c && is_ascii_digit d
-    && is_ascii_digit e && is_ascii_digit f && is_ascii_digit g
+-- whether a character is the check character of the digits before it: their weighted sum, in which the check character
+-- has the weight 1, is divisible by 11
+abbrev pub is_check_of : List ℕ → List ℕ → ℕ → Bool
+is_check_of weights digits check =
+    list_all is_ascii_digit digits && is_check check && ((weighted_sum weights digits + check_value check) % 11 == 0)

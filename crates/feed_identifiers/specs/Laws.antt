@@ -1,5 +1,5 @@
 -- Laws of identifiers.
-use Rattle.std.specs.Prelude.{◌≡◌, ◌<◌, ℕ, List, Option, Some}
+use Rattle.std.specs.Prelude.{◌≡◌, ◌<◌, ℕ, List, [], ◌∷◌, ◌++◌, length, take, codes, Option, Some}
 use Rattle.feed_identifiers.specs.Issn as issn
 use Rattle.feed_identifiers.specs.Isbn as isbn
 
@@ -18,8 +18,8 @@ OneIsbnForNumber = (s t : List ℕ) → isbn.IsIsbn s → isbn.IsIsbn t → isbn
 -- a ten-character ISBN equals the one of thirteen digits with 978, the same nine digits, and their check digit
 abbrev pub TenAreThirteen : Type 0
 TenAreThirteen =
-    (a b c d e f g h i check : ℕ) (printed : List ℕ) → isbn.of_ten a b c d e f g h i check ≡ Some printed
-    → (digit : ℕ) × (isbn.of_thirteen 57 55 56 a b c d e f g h i digit ≡ Some printed)
+    (characters printed : List ℕ) → length characters ≡ 10 → isbn.isbn_of_characters characters ≡ Some printed
+    → (digit : ℕ) × (isbn.isbn_of_characters (codes "978" ++ take 9 characters ++ digit ∷ []) ≡ Some printed)
 
 -- the number of an ISSN has seven digits
 abbrev pub IssnNumbersAreSmall : Type 0

@@ -1,13 +1,18 @@
 //! International Standard Book Numbers (ISO 2108): parsing, validation and the conversion of the ten-character form.
 ghost use Rattle.std.specs.Prelude.{◌≡◌, ◌≤◌, ◌<◌, IfNone, IfSome, length, take};
 ghost use Rattle.std.specs.List.{filter};
-ghost use Rattle.feed_identifiers.specs.Isbn.{are_nine_digits, at_nine, at_three, check_digit, is_no_hyphen};
-ghost use Rattle.feed_identifiers.specs.Isbn.{isbn_of, isbn_of_characters, of_ten, of_thirteen};
-ghost use Rattle.feed_identifiers.specs.Isbn.{sum_of_nine, sum_of_twelve, thirteen};
+ghost use Rattle.feed_identifiers.specs.Isbn.{check_digit, has_prefix, is_isbn_10, is_isbn_13, is_no_hyphen};
+ghost use Rattle.feed_identifiers.specs.Isbn.{isbn_13_of, isbn_of, isbn_of_characters};
 
-use crate::check::{check_value, is_check};
+use crate::check::{are_digits, is_check_of, number_of_digits, weighted_sum};
 use crate::text::trim_spaces;
 use std::marker::Model;
+
+// The weights of the twelve digits before the check digit.
+const WEIGHTS_OF_THIRTEEN: [u8; 12] = [1, 3, 1, 3, 1, 3, 1, 3, 1, 3, 1, 3];
+
+// The weights of the nine digits before the check character of the older form.
+const WEIGHTS_OF_TEN: [u8; 9] = [10, 9, 8, 7, 6, 5, 4, 3, 2];
 
 /// An International Standard Book Number (ISO 2108) of thirteen digits, ordered by its digits. A number of the older
 /// form, of ten characters, is stored as the equivalent one of thirteen digits.
@@ -56,18 +61,8 @@ impl Isbn {
         ensures small { result < 2000000000 }
         ensures printed { IsIsbn self.now }
     {
-        let [_, _, last, a, b, c, d, e, f, g, h, i, _] = self.printed;
-        let value = |digit: u8| -> u64 { digit.saturating_sub(b'0') as u64 };
-        let number = 1_000_000_000 * (last.saturating_sub(b'8') as u64)
-            + 100_000_000 * value(a)
-            + 10_000_000 * value(b)
-            + 1_000_000 * value(c)
-            + 100_000 * value(d)
-            + 10_000 * value(e)
-            + 1_000 * value(f)
-            + 100 * value(g)
-            + 10 * value(h)
-            + value(i);
+        let last = self.printed[2].saturating_sub(b'8') as u64;
+        let number = 1_000_000_000 * last + number_of_digits(&self.printed[3..12]) as u64;
         number as u32
     }
 }
@@ -97,117 +92,63 @@ fn isbn_digits(text: &[u8]) -> Option<[u8; 13]>
     ensures { result ≡ isbn_of text.now }
 {
     let (kept, count) = without_hyphens(trim_spaces(text))?;
-    digits_of(&kept[..count])
+    digits_of(kept, count)
 }
 
-// Parses characters without hyphens into the thirteen digits of an ISBN.
-fn digits_of(characters: &[u8]) -> Option<[u8; 13]>
-    ensures { result ≡ isbn_of_characters characters.now }
+// Parses the first characters, which have no hyphens, into the thirteen digits of an ISBN.
+fn digits_of(kept: [u8; 13], count: usize) -> Option<[u8; 13]>
+    requires { count ≤ 13 }
+    ensures { result ≡ isbn_of_characters (take count kept) }
 {
-    match characters {
-        [a, b, c, d, e, f, g, h, i, check] => of_ten([*a, *b, *c, *d, *e, *f, *g, *h, *i], *check),
-        [first, second, last, a, b, c, d, e, f, g, h, i, check] => of_thirteen(
-            [*first, *second, *last],
-            [*a, *b, *c, *d, *e, *f, *g, *h, *i],
-            *check,
-        ),
-        _ => None,
+    let characters = &kept[..count];
+    if is_isbn_13(characters) {
+        return Some(kept);
     }
-}
-
-// Returns whether all nine are digits.
-fn are_digits(digits: [u8; 9]) -> bool
-    ensures { result ≡ at_nine are_nine_digits digits }
-{
-    let [a, b, c, d, e, f, g, h, i] = digits;
-    a.is_ascii_digit()
-        && b.is_ascii_digit()
-        && c.is_ascii_digit()
-        && d.is_ascii_digit()
-        && e.is_ascii_digit()
-        && f.is_ascii_digit()
-        && g.is_ascii_digit()
-        && h.is_ascii_digit()
-        && i.is_ascii_digit()
-}
-
-// The sum of 978 or 979 (`last` is its last digit) and nine digits, with the weights 1, 3, 1, 3 and so on.
-fn sum_of_twelve(last: u8, digits: [u8; 9]) -> u32
-    ensures { result ≡ at_nine (sum_of_twelve last) digits }
-{
-    let [a, b, c, d, e, f, g, h, i] = digits;
-    let value = |digit: u8| -> u32 { digit.saturating_sub(b'0') as u32 };
-    9 + 3 * 7
-        + value(last)
-        + 3 * value(a)
-        + value(b)
-        + 3 * value(c)
-        + value(d)
-        + 3 * value(e)
-        + value(f)
-        + 3 * value(g)
-        + value(h)
-        + 3 * value(i)
-}
-
-// The sum of the nine digits of the older form, with the weights 10 to 2.
-fn sum_of_nine(digits: [u8; 9]) -> u32
-    ensures { result ≡ at_nine sum_of_nine digits }
-{
-    let [a, b, c, d, e, f, g, h, i] = digits;
-    let value = |digit: u8| -> u32 { digit.saturating_sub(b'0') as u32 };
-    10 * value(a)
-        + 9 * value(b)
-        + 8 * value(c)
-        + 7 * value(d)
-        + 6 * value(e)
-        + 5 * value(f)
-        + 4 * value(g)
-        + 3 * value(h)
-        + 2 * value(i)
-}
-
-// The digit that makes a sum divisible by 10.
-fn check_digit(sum: u32) -> u8
-    ensures { result ≡ check_digit sum }
-{
-    b'0' + ((10 - sum % 10) % 10) as u8
-}
-
-// The thirteen digits, if they begin with 978 or 979 and the check digit is right.
-fn of_thirteen(front: [u8; 3], digits: [u8; 9], check: u8) -> Option<[u8; 13]>
-    ensures { result ≡ at_nine (at_three of_thirteen front) digits check }
-{
-    let [first, second, last] = front;
-    if first != b'9' || second != b'7' || !(last == b'8' || last == b'9') {
-        return None;
+    if is_isbn_10(characters) {
+        return Some(isbn_13_of(&kept[..9]));
     }
-    if !are_digits(digits) || !check.is_ascii_digit() {
-        return None;
-    }
-    if (sum_of_twelve(last, digits) + check.saturating_sub(b'0') as u32) % 10 != 0 {
-        return None;
-    }
-    Some(thirteen(last, digits, check))
+    None
 }
 
-// Nine digits and a check character, converted to thirteen digits, if the check character is right.
-fn of_ten(digits: [u8; 9], check: u8) -> Option<[u8; 13]>
-    ensures { result ≡ at_nine of_ten digits check }
+// Returns whether characters are thirteen digits that begin with 978 or 979 and end with their check digit.
+fn is_isbn_13(characters: &[u8]) -> bool
+    ensures { result ≡ is_isbn_13 characters.now }
 {
-    if !are_digits(digits) || !is_check(check) {
-        return None;
-    }
-    if (sum_of_nine(digits) + check_value(check)) % 11 != 0 {
-        return None;
-    }
-    Some(thirteen(b'8', digits, check_digit(sum_of_twelve(b'8', digits))))
+    characters.len() == 13
+        && are_digits(characters)
+        && has_prefix(characters)
+        && characters[12] == check_digit(&characters[..12])
 }
 
-// The thirteen digits: 978 or 979 (`last` is its last digit), nine digits and a check digit.
-fn thirteen(last: u8, digits: [u8; 9], check: u8) -> [u8; 13]
-    ensures { result ≡ at_nine (thirteen last) digits check }
+// Returns whether digits begin with 978 or 979.
+fn has_prefix(digits: &[u8]) -> bool
+    ensures { result ≡ has_prefix digits.now }
 {
-    let [a, b, c, d, e, f, g, h, i] = digits;
-    [b'9', b'7', last, a, b, c, d, e, f, g, h, i, check]
+    digits.starts_with(b"978") || digits.starts_with(b"979")
+}
+
+// Returns whether characters are the older form: nine digits and their check character.
+fn is_isbn_10(characters: &[u8]) -> bool
+    ensures { result ≡ is_isbn_10 characters.now }
+{
+    characters.len() == 10 && is_check_of(&WEIGHTS_OF_TEN, &characters[..9], characters[9])
+}
+
+// Converts nine digits of the older form: 978, the nine digits, and the check digit of these twelve.
+fn isbn_13_of(nine: &[u8]) -> [u8; 13]
+    requires { length nine.now ≡ 9 }
+    ensures { result ≡ isbn_13_of nine.now }
+{
+    let mut digits = *b"9780000000000";
+    digits[3..12].copy_from_slice(nine);
+    digits[12] = check_digit(&digits[..12]);
+    digits
+}
+
+// Returns the check digit of twelve digits: with it, and its weight 1, the weighted sum is divisible by 10.
+fn check_digit(twelve: &[u8]) -> u8
+    requires { length twelve.now ≡ 12 }
+    ensures { result ≡ check_digit twelve.now }
+{
+    b'0' + ((10 - weighted_sum(&WEIGHTS_OF_THIRTEEN, twelve) % 10) % 10) as u8
 }

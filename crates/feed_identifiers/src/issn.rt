@@ -1,9 +1,12 @@
 //! International Standard Serial Numbers (ISO 3297): parsing and validation.
 ghost use Rattle.std.specs.Prelude.{◌≡◌, ◌<◌};
 
-use crate::check::{capital, check_value, is_check};
+use crate::check::{capital, is_check_of, number_of_digits};
 use crate::text::trim_spaces;
 use std::marker::Model;
+
+// The weights of the seven digits before the check character.
+const WEIGHTS: [u8; 7] = [8, 7, 6, 5, 4, 3, 2];
 
 /// An International Standard Serial Number (ISO 3297), ordered by its nine printed bytes.
 #[derive(Clone, Copy, Debug, PartialEq, Eq, PartialOrd, Ord)]
@@ -25,7 +28,7 @@ impl Model for Issn {
 }
 
 impl Issn {
-    ghost use Rattle.feed_identifiers.specs.Issn.{IsIssn, at_seven, issn_of, issn_of_digits, number_of};
+    ghost use Rattle.feed_identifiers.specs.Issn.{IsIssn, issn_of, issn_of_digits, number_of};
 
     /// Parses seven digits and a check character, with or without a hyphen after the fourth digit (ISO 3297).
     /// Trims spaces at both ends, and accepts a check character `x` as `X`. Returns `None` for anything else, such as a
@@ -62,20 +65,14 @@ impl Issn {
         ensures small { result < 10000000 }
         ensures printed { IsIssn self.now }
     {
-        let [a, b, c, d, _, e, f, g, _] = self.printed;
-        let value = |digit: u8| -> u32 { digit.saturating_sub(b'0') as u32 };
-        1_000_000 * value(a)
-            + 100_000 * value(b)
-            + 10_000 * value(c)
-            + 1_000 * value(d)
-            + 100 * value(e)
-            + 10 * value(f)
-            + value(g)
+        let front = number_of_digits(&self.printed[..4]) as u64;
+        let number = 1_000 * front + number_of_digits(&self.printed[5..8]) as u64;
+        number as u32
     }
 
     // The ISSN of seven digits and a check character, if the check character is right.
     fn of_digits(digits: [u8; 7], check: u8) -> Option<Issn>
-        ensures { result ≡ at_seven issn_of_digits digits check }
+        ensures { result ≡ issn_of_digits digits check }
     {
         let printed = Issn::printed_bytes(digits, check)?;
         Some(Issn { printed })
@@ -83,31 +80,12 @@ impl Issn {
 
     // The printed bytes of that ISSN.
     fn printed_bytes(digits: [u8; 7], check: u8) -> Option<[u8; 9]>
-        ensures { result ≡ at_seven issn_of_digits digits check }
+        ensures { result ≡ issn_of_digits digits check }
     {
+        if !is_check_of(&WEIGHTS, &digits, check) {
+            return None;
+        }
         let [a, b, c, d, e, f, g] = digits;
-        let are_digits = a.is_ascii_digit()
-            && b.is_ascii_digit()
-            && c.is_ascii_digit()
-            && d.is_ascii_digit()
-            && e.is_ascii_digit()
-            && f.is_ascii_digit()
-            && g.is_ascii_digit();
-        if !are_digits || !is_check(check) {
-            return None;
-        }
-        let value = |digit: u8| -> u32 { digit.saturating_sub(b'0') as u32 };
-        let sum = 8 * value(a)
-            + 7 * value(b)
-            + 6 * value(c)
-            + 5 * value(d)
-            + 4 * value(e)
-            + 3 * value(f)
-            + 2 * value(g)
-            + check_value(check);
-        if sum % 11 != 0 {
-            return None;
-        }
         Some([a, b, c, d, b'-', e, f, g, capital(check)])
     }
 }

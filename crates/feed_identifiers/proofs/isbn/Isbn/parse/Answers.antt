@@ -1,11 +1,9 @@
-use Rattle.std.proofs.Common.{◌≡◌, Some}
+use Rattle.std.proofs.Common.{sym}
 use Rattle.std.specs.List.{filter}
 use Rattle.feed_identifiers.specs.Text.{trimmed}
-use Rattle.feed_identifiers.specs.Isbn.{is_no_hyphen, isbn_of}
+use Rattle.feed_identifiers.specs.Isbn.{is_no_hyphen}
 use Rattle.feed_identifiers.proofs.PrintedIsbn.{made_by}
 use Rattle.feed_identifiers.proofs.isbn.Isbn.parse.Goals as goal
 
 pub invariant_of-result : goal.invariant_of-result
-invariant_of-result c =
-    let read : isbn_of c.args.text.now ≡ Some c.in_ok-printed.printed = cc in
-    made_by (filter is_no_hyphen (trimmed c.args.text.now)) c.in_ok-printed.printed read
+invariant_of-result c = made_by (filter is_no_hyphen (trimmed c.args.text.now)) c.in_ok-printed.printed (sym c.in_ok-printed.ensures)
