@@ -38,7 +38,7 @@ pub record IsExchange (replies : Replies) (host : List ℕ) (n : Name) (piece : 
   pub opens : Opens n phase reply result c d
   pub fills : Fills n phase reply result c d
 
--- this many exchanges, of which none stopped the fetch; between them the feed does not change
+-- this many exchanges; none of them stopped the fetch, and between them the feed does not change
 abbrev pub AreExchanges : Replies → List ℕ → Name → ℕ → ℕ → Phase → Content → Phase → Content → Type 0
 AreExchanges replies host n piece zero p c q d = (q ≡ p) × (d ≡ c)
 AreExchanges replies host n piece (suc count) p c q d =

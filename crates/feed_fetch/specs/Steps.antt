@@ -36,7 +36,7 @@ phase_after_part phase (Err stop) = phases.Stopped
 abbrev pub IsArrivedPart : List ℕ → ℕ → ℕ → List ℕ → Type 0
 IsArrivedPart file first size bytes = IsPieceOf (got.Whole file) first (Some size) bytes
 
--- what a fetch needs next: the length; then a range exactly if it is the next missing one, and nothing exactly if none
+-- the next need of a fetch: the length; then a range exactly if it is the next missing one, and nothing exactly if none
 -- is missing; after a stop nothing
 abbrev pub IsNextStep : Name → ℕ → Phase → History → Next → Type 0
 IsNextStep n piece phases.New h next = next ≡ Ask requests.Length

@@ -30,12 +30,12 @@ pub enum Request {
     Range { first: u64, last: u64 },
 }
 
-/// What a fetch needs next.
+/// The next step of a fetch.
 #[derive(Clone, Copy, Debug, PartialEq, Eq)]
 pub enum Next {
-    /// The reply to this request.
+    /// It needs the reply to this request.
     Ask(Request),
-    /// Nothing: no range is missing, or the fetch stopped.
+    /// It needs nothing: no range is missing, or the fetch stopped.
     Done,
 }
 

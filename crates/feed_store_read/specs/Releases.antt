@@ -21,6 +21,13 @@ pub record WritesNothing (old new : State) : Type 0 where
   pub kept : IsLive new → IsUnchanged old new ⊎ IsRolledBack old new
   pub limit : new.step_limit ≡ old.step_limit
 
+-- a reading outside a transaction changes no row and opens no transaction
+pub record LeavesRows (old new : State) : Type 0 where
+  pub idle : new.in_transaction ≡ false
+  pub live : IsLive new → IsLive old
+  pub same : IsLive new → new.now ≡ old.now
+  pub limit : new.step_limit ≡ old.step_limit
+
 -- the rows are those of the releases found, one after another
 pub record ShowReleases (rows : List Row) (found : Releases) : Type 0 where
   pub proper : AllByRecursion IsReleaseRow rows

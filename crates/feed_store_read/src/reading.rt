@@ -11,7 +11,7 @@ ghost use Rattle.feed_store_model.specs.Live.{IsLive};
 ghost use Rattle.feed_store_model.specs.Tables.{HoldsReleases, HoldsRecords, IsLayout2, IsTabled};
 ghost use Rattle.feed_store_model.specs.Tables.{stored_content, content_without_reasons};
 ghost use Rattle.feed_store_read.specs.Order.{AreNamesAscending};
-ghost use Rattle.feed_store_read.specs.Releases.{WritesNothing};
+ghost use Rattle.feed_store_read.specs.Releases.{LeavesRows, WritesNothing};
 ghost use Rattle.feed_store_read.specs.Selected.{AreSelected, AreRecordsOf, AreRecordsWithoutReasons};
 
 use crate::checks::{are_names_ascending, are_places_ascending, sort_distinct};
@@ -34,10 +34,7 @@ pub fn read_without_reasons<S: Alter>(
     conn: &mut Connection<S>,
 ) -> Result<Option<Vec<Record>>, Error>
     requires { conn.old.in_transaction ≡ false }
-    ensures idle { conn.new.in_transaction ≡ false }
-    ensures live { IsLive (state S.Store conn.new) → IsLive (state S.Store conn.old) }
-    ensures same { IsLive (state S.Store conn.new) → (state S.Store conn.new).now ≡ (state S.Store conn.old).now }
-    ensures limit { conn.new.step_limit ≡ conn.old.step_limit }
+    ensures leaves { LeavesRows (state S.Store conn.old) (state S.Store conn.new) }
     ensures up { IfOk result (λ found. IfSome found
         (λ records. AreNamesAscending (names (shown records.items)))) }
     ensures distinct { IfOk result (λ found. IfSome found
@@ -70,10 +67,7 @@ pub fn read_records<S: Alter>(
     conn: &mut Connection<S>,
 ) -> Result<Option<Vec<Record>>, Error>
     requires { conn.old.in_transaction ≡ false }
-    ensures idle { conn.new.in_transaction ≡ false }
-    ensures live { IsLive (state S.Store conn.new) → IsLive (state S.Store conn.old) }
-    ensures same { IsLive (state S.Store conn.new) → (state S.Store conn.new).now ≡ (state S.Store conn.old).now }
-    ensures limit { conn.new.step_limit ≡ conn.old.step_limit }
+    ensures leaves { LeavesRows (state S.Store conn.old) (state S.Store conn.new) }
     ensures distinct { IfOk result (λ found. IfSome found
         (λ records. IsDistinct name_eq (names (shown records.items)))) }
     ensures order { IfOk result (λ found. IfSome found (λ records. IsInOrder (shown records.items))) }
@@ -97,10 +91,7 @@ fn read_reasons<S: Alter>(
 ) -> Result<Option<Vec<Record>>, Error>
     requires idle { conn.old.in_transaction ≡ false }
     requires up { AreNamesAscending (names (shown records.items)) }
-    ensures idle { conn.new.in_transaction ≡ false }
-    ensures live { IsLive (state S.Store conn.new) → IsLive (state S.Store conn.old) }
-    ensures same { IsLive (state S.Store conn.new) → (state S.Store conn.new).now ≡ (state S.Store conn.old).now }
-    ensures limit { conn.new.step_limit ≡ conn.old.step_limit }
+    ensures leaves { LeavesRows (state S.Store conn.old) (state S.Store conn.new) }
     ensures names { IfOk result (λ found. IfSome found
         (λ explained. names (shown explained.items) ≡ names (shown records.items))) }
     ensures parts { IfOk result (λ found. IfSome found

@@ -15,15 +15,15 @@ returns-in-Some-clause-order g c =
 pub returns-in-Some-clause-records : goal.returns-in-Some-clause-records
 returns-in-Some-clause-records g c live ours =
     let db = (state g.S.Store c.args.conn.now).now in
-    let early = c.read_reasons.ensures.live live in
+    let early = c.read_reasons.ensures.leaves.live live in
     let has = tabled_ours db ours in
-    told_records db c.read_reasons.result (told_before db _ (shown c.in-Some.records.items) c.read_reasons.result (c.read_without_reasons.ensures.same early) ours
+    told_records db c.read_reasons.result (told_before db _ (shown c.in-Some.records.items) c.read_reasons.result (c.read_without_reasons.ensures.leaves.same early) ours
     (rw c.in-Some.is at (c.in_ok-records.ensures.listed early has)) (rw c.in-Some.is at (c.in_ok-records.ensures.records early has)) (c.read_reasons.ensures.explained live))
 
 pub returns-in-Some-clause-listed : goal.returns-in-Some-clause-listed
 returns-in-Some-clause-listed g c live ours =
     let db = (state g.S.Store c.args.conn.now).now in
-    let early = c.read_reasons.ensures.live live in
+    let early = c.read_reasons.ensures.leaves.live live in
     let has = tabled_ours db ours in
-    told_listed db c.read_reasons.result (told_before db _ (shown c.in-Some.records.items) c.read_reasons.result (c.read_without_reasons.ensures.same early) ours
+    told_listed db c.read_reasons.result (told_before db _ (shown c.in-Some.records.items) c.read_reasons.result (c.read_without_reasons.ensures.leaves.same early) ours
     (rw c.in-Some.is at (c.in_ok-records.ensures.listed early has)) (rw c.in-Some.is at (c.in_ok-records.ensures.records early has)) (c.read_reasons.ensures.explained live))
