@@ -30,7 +30,7 @@ use Rattle.feed_resolver_hits.specs.Tallies.{counted}
 use Rattle.feed_resolver_hits.proofs.Redirects.{best_is}
 use Rattle.feed_resolver.specs.Answers.{is_of, hits_among}
 use Rattle.feed_resolver.specs.Replies.{query_reply, hits_reply, resolve_reply, resolve_reply_at, redirect_reply, resource_reply, path_of, target_query, target_reply, has_coded_body}
-use Rattle.feed_resolver.specs.Replies.{plain_reply, form_refusal, reply_by_form, reply_to}
+use Rattle.feed_resolver.specs.Replies.{method_refusal, plain_reply, form_refusal, reply_by_form, reply_to}
 
 pub nowhere : IsLocation []
 nowhere = All-nil (λ b. is_uri_byte b ≡ true)
@@ -98,11 +98,19 @@ either_located : (b : Bool) (one other : ReplyValue) → IsLocated one → IsLoc
 either_located true one other first second = first
 either_located false one other first second = second
 
+method_located : (r : Resource) → IsLocated (method_refusal r)
+method_located resource.Home = plain
+method_located resource.Status = plain
+method_located resource.Resolve = plain
+method_located resource.Package = plain
+method_located resource.Go = plain
+method_located resource.Unknown = plain
+
 plain_located : (head : RequestHead) (actives : List ActiveValue) → IsLocated (plain_reply head actives)
 plain_located head actives =
     let coded : ReplyValue = if has_coded_body head then refusal status.NotImplemented Text (codes "Coding") else target_reply head (target_query head) actives in
     let unknown : ReplyValue = if not (is_get head || is_head head) then refusal status.NotImplemented Text (codes "Method") else coded in
-    either_located (is_unsupported_method head.method) (refusal status.MethodNotAllowed Text (codes "Method")) unknown plain
+    either_located (is_unsupported_method head.method) (method_refusal (resource_of (path_of head))) unknown (method_located (resource_of (path_of head)))
     (either_located (not (is_get head || is_head head)) (refusal status.NotImplemented Text (codes "Method")) coded plain
     (either_located (has_coded_body head) (refusal status.NotImplemented Text (codes "Coding")) (target_reply head (target_query head) actives) plain
     (target_located head (target_query head) actives)))

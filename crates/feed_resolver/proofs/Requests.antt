@@ -40,7 +40,7 @@ use Rattle.feed_resolver_hits.proofs.BestLinks as links
 use Rattle.feed_resolver_tag.specs.Tags.{SiteValue}
 use Rattle.feed_resolver.specs.Answers.{is_of, hits_among}
 use Rattle.feed_resolver.specs.Replies.{resource_reply, resolve_reply, package_reply, redirect_reply, hits_reply, query_reply, target_reply, target_query, path_of}
-use Rattle.feed_resolver.specs.Replies.{has_coded_body, resolve_reply_at, reply_by_form, reply_to, tagged_reply, response_to, IsResponse}
+use Rattle.feed_resolver.specs.Replies.{method_refusal, has_coded_body, resolve_reply_at, reply_by_form, reply_to, tagged_reply, response_to, IsResponse}
 use Rattle.feed_resolver.specs.Answered.{IsGoodIn, IsAnswered, IsAnsweredTo}
 use Rattle.feed_resolver.specs.Validators.{is_tagged, has_validator, resource_in}
 use Rattle.feed_resolver.specs.NodeReplies.{node_reply, IsNodeReply, AsksForNoFetch}
@@ -98,7 +98,9 @@ pub read_reply : (head : RequestHead) (body : List ℕ) (actives : List ActiveVa
     → reply_to head body actives ≡ reply_by (lacks_host head) false false (has_coded_body head) (query_answer head actives)
 read_reply head body actives read =
     ap (λ o. if lacks_host head then refusal status.BadRequest Text (codes "NoHost") else reply_by_form head body actives o) (formless head read)
-    ∙ ap (λ u. reply_by (lacks_host head) u (not (is_get head || is_head head)) (has_coded_body head) (query_answer head actives)) (supported head read)
+    ∙ ap (λ u. if lacks_host head then refusal status.BadRequest Text (codes "NoHost")
+    else (if u then method_refusal (resource_of (path_of head))
+    else reply_by false false (not (is_get head || is_head head)) (has_coded_body head) (query_answer head actives))) (supported head read)
     ∙ ap (λ r. reply_by (lacks_host head) false (not r) (has_coded_body head) (query_answer head actives)) read
 
 -- ---- a target with a tag

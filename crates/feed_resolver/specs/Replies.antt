@@ -11,7 +11,7 @@ use Rattle.feed_answer.specs.declared.fault.QueryFault.{QueryFault}
 use Rattle.feed_model.specs.History.{History}
 use Rattle.feed_releases.specs.Actives.{ActiveValue, AreReported}
 use Rattle.feed_resolver_request.specs.FoundRequests.{BeginsWith, HasNoHead}
-use Rattle.feed_resolver_request.specs.Forms.{form_of}
+use Rattle.feed_resolver_request.specs.Forms.{form_of, takes_form}
 use Rattle.feed_resolver_request.specs.declared.form.FormFault.{FormFault}
 use Rattle.feed_resolver_request.specs.declared.form.FormFault.TheVariants as fault
 use Rattle.feed_resolver_request.specs.Representations.{accepted_representation, representation_of}
@@ -82,10 +82,15 @@ target_reply head query actives = resource_reply (resource_of (path_of head)) he
 abbrev pub has_coded_body : RequestHead → Bool
 has_coded_body head = has_any (values_named (codes "transfer-encoding") head.fields)
 
+-- the reply to a method that the resource does not take: it says which ones it takes (RFC 9110, section 10.2.1)
+abbrev pub method_refusal : Resource → ReplyValue
+method_refusal resource =
+    if takes_form resource then refusal status.GetOrPost Text (codes "Method") else refusal status.MethodNotAllowed Text (codes "Method")
+
 -- the reply to a request that submits no form: the first case that holds
 abbrev pub plain_reply : RequestHead → List ActiveValue → ReplyValue
 plain_reply head actives =
-    if is_unsupported_method head.method then refusal status.MethodNotAllowed Text (codes "Method")
+    if is_unsupported_method head.method then method_refusal (resource_of (path_of head))
     else (if not (is_get head || is_head head) then refusal status.NotImplemented Text (codes "Method")
     else (if has_coded_body head then refusal status.NotImplemented Text (codes "Coding")
     else target_reply head (target_query head) actives))

@@ -15,7 +15,8 @@ ghost use Rattle.feed_resolver_reply.specs.declared.status.Status.TheVariants as
 ghost use Rattle.feed_resolver.specs.Answers.{is_of, tally_among};
 ghost use Rattle.feed_resolver.specs.Replies.{IsResponse, IsResponseAt, hits_reply, query_reply, resolve_reply};
 ghost use Rattle.feed_resolver.specs.Replies.{package_reply, redirect_reply, resource_reply, target_reply};
-ghost use Rattle.feed_resolver.specs.Replies.{plain_reply, form_refusal, form_reply, reply_to, response_to};
+ghost use Rattle.feed_resolver.specs.Replies.{method_refusal, plain_reply, form_refusal, form_reply};
+ghost use Rattle.feed_resolver.specs.Replies.{reply_to, response_to};
 ghost use Rattle.feed_resolver.specs.Validators.{final_reply};
 ghost use Rattle.feed_resolver.specs.Messages.{IsMessageTo};
 ghost use Rattle.feed_resolver.specs.Status.{home_page, status_body};
@@ -32,6 +33,7 @@ use feed_resolver_reply::{Reply, Response, Status, bad_head_response, refusal};
 use feed_resolver_request::{
     FormFault, Representation, Resource, accepted_representation, find_request, form_of,
     is_unsupported_method, package_in, path_in, query_in, representation_of, resource_of,
+    takes_form,
 };
 use feed_resolver_tag::Site;
 use httparse::spans::EMPTY_HEADER_SPAN;
@@ -189,6 +191,17 @@ fn target_reply<'a>(
     resource_reply(alloc, request, path, query, actives)
 }
 
+fn method_refusal(alloc: Global, resource: Resource) -> Result<Reply<'static>, AllocError>
+    ensures { IfOk result (λ reply. reply ≡ method_refusal resource) }
+{
+    let status = if takes_form(resource) {
+        Status::GetOrPost
+    } else {
+        Status::MethodNotAllowed
+    };
+    refusal(alloc, status, Representation::Text, b"Method")
+}
+
 fn plain_reply<'a>(
     alloc: Global,
     request: &Request<'_>,
@@ -199,11 +212,9 @@ fn plain_reply<'a>(
         → reply ≡ plain_reply head actives.now) }
 {
     if is_unsupported_method(request.method()) {
-        return refusal(
+        return method_refusal(
             alloc,
-            Status::MethodNotAllowed,
-            Representation::Text,
-            b"Method",
+            resource_of(path_in(origin_form(request.target()))),
         );
     }
     if !(request.is_get() || request.is_head()) {
