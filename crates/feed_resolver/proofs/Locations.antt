@@ -9,8 +9,7 @@ use Rattle.std.proofs.lemmas.List.Sums.{AllPass-from_list_all}
 use Rattle.httparse.specs.Grammar.{RequestHead, is_uri_byte}
 use Rattle.feed_http_heads.specs.Requests.{lacks_host, is_get, is_head}
 use Rattle.feed_answer.specs.QueryValue.{QueryValue}
-use Rattle.feed_answer.specs.Queries.{query_of}
-use Rattle.feed_answer.specs.declared.fault.QueryFault.{QueryFault}
+use Rattle.feed_openurl.specs.declared.fault.Refusal.{Refusal}
 use Rattle.feed_releases.specs.Actives.{ActiveValue}
 use Rattle.feed_resolver_request.specs.Representations.{accepted_representation, representation_of}
 use Rattle.feed_resolver_request.specs.Targets.{resource_of, package_in, is_unsupported_method}
@@ -24,13 +23,14 @@ use Rattle.feed_resolver_request.specs.declared.target.Resource.TheVariants as r
 use Rattle.feed_resolver_reply.specs.Replies.{ReplyValue, refusal, redirect_to}
 use Rattle.feed_resolver_reply.specs.Messages.{IsLocation}
 use Rattle.feed_resolver_reply.specs.declared.status.Status.TheVariants as status
+use Rattle.feed_resolver_hits.specs.Asked.{asked_of}
 use Rattle.feed_resolver_hits.specs.Links.{is_link, link_limit, is_visible, begins_with}
 use Rattle.feed_resolver_hits.specs.Hits.{best_link}
 use Rattle.feed_resolver_hits.specs.Tallies.{counted}
 use Rattle.feed_resolver_hits.proofs.Redirects.{best_is}
 use Rattle.feed_resolver.specs.Answers.{is_of, hits_among}
 use Rattle.feed_resolver.specs.Replies.{query_reply, hits_reply, resolve_reply, resolve_reply_at, redirect_reply, resource_reply, path_of, target_query, target_reply, has_coded_body}
-use Rattle.feed_resolver.specs.Replies.{plain_reply, form_refusal, reply_by_form, reply_to}
+use Rattle.feed_resolver.specs.Replies.{method_refusal, plain_reply, form_refusal, reply_by_form, reply_to}
 
 pub nowhere : IsLocation []
 nowhere = All-nil (λ b. is_uri_byte b ≡ true)
@@ -58,13 +58,13 @@ no_bytes = []
 plain : IsLocation no_bytes × (no_bytes ≡ no_bytes) × (zero ≡ zero)
 plain = (nowhere, refl, refl)
 
-query_located : (representation : Representation) (reply : QueryValue → ReplyValue) (o : Result QueryValue QueryFault) → ((query : QueryValue) → IsLocated (reply query))
+query_located : (representation : Representation) (reply : QueryValue → ReplyValue) (o : Result QueryValue Refusal) → ((query : QueryValue) → IsLocated (reply query))
     → IsLocated (query_reply representation reply o)
 query_located representation reply (Ok query) located = located query
-query_located representation reply (Err fault) located = plain
+query_located representation reply (Err reason) located = plain
 
 resolve_located : (representation : Representation) (text : List ℕ) (actives : List ActiveValue) → IsLocated (resolve_reply representation text actives)
-resolve_located representation text actives = query_located representation (hits_reply status.Good representation actives) (query_of text) (λ query. plain)
+resolve_located representation text actives = query_located representation (hits_reply status.Good representation actives) (asked_of text) (λ query. plain)
 
 package_located : (representation : Representation) (text : List ℕ) (actives : List ActiveValue) (other : ReplyValue) (o : Option ℕ) → IsLocated other
     → IsLocated (option_map_or (resolve_reply_at representation text actives) o other)
@@ -88,7 +88,7 @@ resource_located resource.Package head path query actives =
     package_located (representation_of query head) query actives (refusal status.NotFound (representation_of query head) (codes "NoRelease"))
     (position (is_of (package_in path)) actives) plain
 resource_located resource.Go head path query actives =
-    query_located (accepted_representation head) (redirect_reply (accepted_representation head) actives) (query_of query) (go_located (accepted_representation head) actives)
+    query_located (accepted_representation head) (redirect_reply (accepted_representation head) actives) (asked_of query) (go_located (accepted_representation head) actives)
 resource_located resource.Unknown head path query actives = plain
 
 target_located : (head : RequestHead) (query : List ℕ) (actives : List ActiveValue) → IsLocated (target_reply head query actives)
@@ -98,11 +98,19 @@ either_located : (b : Bool) (one other : ReplyValue) → IsLocated one → IsLoc
 either_located true one other first second = first
 either_located false one other first second = second
 
+method_located : (r : Resource) → IsLocated (method_refusal r)
+method_located resource.Home = plain
+method_located resource.Status = plain
+method_located resource.Resolve = plain
+method_located resource.Package = plain
+method_located resource.Go = plain
+method_located resource.Unknown = plain
+
 plain_located : (head : RequestHead) (actives : List ActiveValue) → IsLocated (plain_reply head actives)
 plain_located head actives =
     let coded : ReplyValue = if has_coded_body head then refusal status.NotImplemented Text (codes "Coding") else target_reply head (target_query head) actives in
     let unknown : ReplyValue = if not (is_get head || is_head head) then refusal status.NotImplemented Text (codes "Method") else coded in
-    either_located (is_unsupported_method head.method) (refusal status.MethodNotAllowed Text (codes "Method")) unknown plain
+    either_located (is_unsupported_method head.method) (method_refusal (resource_of (path_of head))) unknown (method_located (resource_of (path_of head)))
     (either_located (not (is_get head || is_head head)) (refusal status.NotImplemented Text (codes "Method")) coded plain
     (either_located (has_coded_body head) (refusal status.NotImplemented Text (codes "Coding")) (target_reply head (target_query head) actives) plain
     (target_located head (target_query head) actives)))

@@ -12,8 +12,7 @@ use Rattle.feed_http_heads.specs.Fields.{values_named, only, has_any}
 use Rattle.feed_http_heads.specs.Requests.{lacks_host, is_get, is_head}
 use Rattle.feed_http_heads.specs.Targets.{origin_form}
 use Rattle.feed_answer.specs.QueryValue.{QueryValue}
-use Rattle.feed_answer.specs.Queries.{query_of}
-use Rattle.feed_answer.specs.declared.fault.QueryFault.{QueryFault}
+use Rattle.feed_openurl.specs.declared.fault.Refusal.{Refusal}
 use Rattle.feed_releases.specs.Actives.{ActiveValue}
 use Rattle.feed_resolver_request.specs.FoundRequests.{BeginsWith}
 use Rattle.feed_resolver_request.specs.FetchRequests.{FetchPolicyValue, name_to_fetch, name_after_feed}
@@ -33,6 +32,7 @@ use Rattle.feed_resolver_reply.specs.Messages.{IsMessage, IsMessageFor, BeginsSt
 use Rattle.feed_resolver_reply.specs.declared.status.Status.TheVariants as status
 use Rattle.feed_resolver_reply.proofs.HeadsRead.{head_of, sent_as}
 use Rattle.feed_resolver_hits.specs.Hits.{ReleaseHitValue, best_link}
+use Rattle.feed_resolver_hits.specs.Asked.{asked_of}
 use Rattle.feed_resolver_hits.specs.Ranks.{IsBestLink}
 use Rattle.feed_resolver_hits.specs.Links.{is_link}
 use Rattle.feed_resolver_hits.specs.Tallies.{counted}
@@ -40,7 +40,7 @@ use Rattle.feed_resolver_hits.proofs.BestLinks as links
 use Rattle.feed_resolver_tag.specs.Tags.{SiteValue}
 use Rattle.feed_resolver.specs.Answers.{is_of, hits_among}
 use Rattle.feed_resolver.specs.Replies.{resource_reply, resolve_reply, package_reply, redirect_reply, hits_reply, query_reply, target_reply, target_query, path_of}
-use Rattle.feed_resolver.specs.Replies.{has_coded_body, resolve_reply_at, reply_by_form, reply_to, tagged_reply, response_to, IsResponse}
+use Rattle.feed_resolver.specs.Replies.{method_refusal, has_coded_body, resolve_reply_at, reply_by_form, reply_to, tagged_reply, response_to, IsResponse}
 use Rattle.feed_resolver.specs.Answered.{IsGoodIn, IsAnswered, IsAnsweredTo}
 use Rattle.feed_resolver.specs.Validators.{is_tagged, has_validator, resource_in}
 use Rattle.feed_resolver.specs.NodeReplies.{node_reply, IsNodeReply, AsksForNoFetch}
@@ -98,7 +98,9 @@ pub read_reply : (head : RequestHead) (body : List ℕ) (actives : List ActiveVa
     → reply_to head body actives ≡ reply_by (lacks_host head) false false (has_coded_body head) (query_answer head actives)
 read_reply head body actives read =
     ap (λ o. if lacks_host head then refusal status.BadRequest Text (codes "NoHost") else reply_by_form head body actives o) (formless head read)
-    ∙ ap (λ u. reply_by (lacks_host head) u (not (is_get head || is_head head)) (has_coded_body head) (query_answer head actives)) (supported head read)
+    ∙ ap (λ u. if lacks_host head then refusal status.BadRequest Text (codes "NoHost")
+    else (if u then method_refusal (resource_of (path_of head))
+    else reply_by false false (not (is_get head || is_head head)) (has_coded_body head) (query_answer head actives))) (supported head read)
     ∙ ap (λ r. reply_by (lacks_host head) false (not r) (has_coded_body head) (query_answer head actives)) read
 
 -- ---- a target with a tag
@@ -122,24 +124,24 @@ pub status_answered : (target : List ℕ) (actives : List ActiveValue) → resou
 status_answered target actives is head =
     subst (λ r. IsGoodIn (representation_of (query_in target) head) (resource_reply r head (path_in target) (query_in target) actives)) (sym is) (refl, refl)
 
-query_answered : (representation : Representation) (actives : List ActiveValue) (o : Result QueryValue QueryFault) (query : QueryValue) → o ≡ Ok query
+query_answered : (representation : Representation) (actives : List ActiveValue) (o : Result QueryValue Refusal) (query : QueryValue) → o ≡ Ok query
     → IsGoodIn representation (query_reply representation (hits_reply status.Good representation actives) o)
 query_answered representation actives (Ok other) query is = (refl, refl)
-query_answered representation actives (Err fault) query is = absurd (cc)
+query_answered representation actives (Err reason) query is = absurd (cc)
 
-pub resolve_answered : (target : List ℕ) (actives : List ActiveValue) (query : QueryValue) → resource_of (path_in target) ≡ resource.Resolve → query_of (query_in target) ≡ Ok query
+pub resolve_answered : (target : List ℕ) (actives : List ActiveValue) (query : QueryValue) → resource_of (path_in target) ≡ resource.Resolve → asked_of (query_in target) ≡ Ok query
     → IsAnswered target actives
 resolve_answered target actives query is valid head =
     subst (λ r. IsGoodIn (representation_of (query_in target) head) (resource_reply r head (path_in target) (query_in target) actives)) (sym is)
-    (query_answered (representation_of (query_in target) head) actives (query_of (query_in target)) query valid)
+    (query_answered (representation_of (query_in target) head) actives (asked_of (query_in target)) query valid)
 
 placed_answered : (representation : Representation) (text : List ℕ) (actives : List ActiveValue) (query : QueryValue) (o : Option ℕ) (other : ReplyValue) → is_some o ≡ true
-    → query_of text ≡ Ok query → IsGoodIn representation (option_map_or (resolve_reply_at representation text actives) o other)
-placed_answered representation text actives query (Some place) other some valid = query_answered representation _ (query_of text) query valid
+    → asked_of text ≡ Ok query → IsGoodIn representation (option_map_or (resolve_reply_at representation text actives) o other)
+placed_answered representation text actives query (Some place) other some valid = query_answered representation _ (asked_of text) query valid
 placed_answered representation text actives query None other some valid = absurd (cc)
 
 pub package_answered : (target : List ℕ) (actives : List ActiveValue) (query : QueryValue) → resource_of (path_in target) ≡ resource.Package
-    → is_some (position (is_of (package_in (path_in target))) actives) ≡ true → query_of (query_in target) ≡ Ok query → IsAnswered target actives
+    → is_some (position (is_of (package_in (path_in target))) actives) ≡ true → asked_of (query_in target) ≡ Ok query → IsAnswered target actives
 package_answered target actives query is some valid head =
     subst (λ r. IsGoodIn (representation_of (query_in target) head) (resource_reply r head (path_in target) (query_in target) actives)) (sym is)
     (placed_answered (representation_of (query_in target) head) (query_in target) actives query (position (is_of (package_in (path_in target))) actives) _ some valid)
@@ -283,7 +285,7 @@ answer_by resource.Home named accepted path query actives = reply_with status.Go
 answer_by resource.Status named accepted path query actives = reply_with status.Good named (status_body named actives)
 answer_by resource.Resolve named accepted path query actives = resolve_reply named query actives
 answer_by resource.Package named accepted path query actives = package_reply named (package_in path) query actives
-answer_by resource.Go named accepted path query actives = query_reply accepted (redirect_reply accepted actives) (query_of query)
+answer_by resource.Go named accepted path query actives = query_reply accepted (redirect_reply accepted actives) (asked_of query)
 answer_by resource.Unknown named accepted path query actives = refusal status.NotFound accepted (codes "NoTarget")
 
 answered_by : (r : Resource) (head : RequestHead) (path query : List ℕ) (actives : List ActiveValue)

@@ -5,13 +5,13 @@ use Rattle.feed_http_heads.specs.Fields.{values_named}
 use Rattle.feed_http_heads.specs.Requests.{lacks_host, is_get, is_head}
 use Rattle.feed_http_heads.specs.Targets.{origin_form}
 use Rattle.feed_answer.specs.QueryValue.{QueryValue}
-use Rattle.feed_answer.specs.Queries.{query_of}
 use Rattle.feed_releases.specs.Actives.{ActiveValue}
 use Rattle.feed_resolver_request.specs.FoundRequests.{BeginsWith, HasNoHead}
 use Rattle.feed_resolver_request.specs.Targets.{resource_of, path_in, query_in}
 use Rattle.feed_resolver_request.specs.declared.target.Resource.TheVariants.{Go}
 use Rattle.feed_resolver_reply.specs.Replies.{ResponseValue, response_of}
 use Rattle.feed_resolver_reply.specs.Messages.{IsMessage, IsMessageFor}
+use Rattle.feed_resolver_hits.specs.Asked.{asked_of}
 use Rattle.feed_resolver_hits.specs.Ranks.{IsBestLink}
 use Rattle.feed_resolver_hits.specs.Tallies.{counted}
 use Rattle.feed_resolver_tag.specs.Tags.{SiteValue}
@@ -57,7 +57,7 @@ pub record AsksToGo (head : RequestHead) (query : QueryValue) : Type 0 where
   pub method : (is_get head || is_head head) ≡ true
   pub body : has_coded_body head ≡ false
   pub resource : resource_of (path_in (origin_form head.target)) ≡ Go
-  pub asked : query_of (query_in (origin_form head.target)) ≡ Ok query
+  pub asked : asked_of (query_in (origin_form head.target)) ≡ Ok query
 
 -- the response is a redirect to this URL, or there is none to go to
 abbrev pub GoesTo : Option (List ℕ) → ResponseValue → Type 0

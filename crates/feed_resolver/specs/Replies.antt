@@ -6,12 +6,11 @@ use Rattle.feed_http_heads.specs.Fields.{values_named, has_any}
 use Rattle.feed_http_heads.specs.Targets.{origin_form}
 use Rattle.feed_http_heads.specs.Requests.{lacks_host, is_get, is_head}
 use Rattle.feed_answer.specs.QueryValue.{QueryValue}
-use Rattle.feed_answer.specs.Queries.{query_of}
-use Rattle.feed_answer.specs.declared.fault.QueryFault.{QueryFault}
+use Rattle.feed_openurl.specs.declared.fault.Refusal.{Refusal}
 use Rattle.feed_model.specs.History.{History}
 use Rattle.feed_releases.specs.Actives.{ActiveValue, AreReported}
 use Rattle.feed_resolver_request.specs.FoundRequests.{BeginsWith, HasNoHead}
-use Rattle.feed_resolver_request.specs.Forms.{form_of}
+use Rattle.feed_resolver_request.specs.Forms.{form_of, takes_form}
 use Rattle.feed_resolver_request.specs.declared.form.FormFault.{FormFault}
 use Rattle.feed_resolver_request.specs.declared.form.FormFault.TheVariants as fault
 use Rattle.feed_resolver_request.specs.Representations.{accepted_representation, representation_of}
@@ -23,16 +22,17 @@ use Rattle.feed_resolver_request.specs.declared.target.Resource.TheVariants as r
 use Rattle.feed_resolver_reply.specs.Replies.{ReplyValue, ResponseValue, reply_with, redirect_to, refusal, response_of, bad_head_response}
 use Rattle.feed_resolver_reply.specs.declared.status.Status.{Status}
 use Rattle.feed_resolver_reply.specs.declared.status.Status.TheVariants as status
+use Rattle.feed_resolver_hits.specs.Asked.{asked_of}
 use Rattle.feed_resolver_hits.specs.QueryRefusals.{query_refusal}
 use Rattle.feed_resolver.specs.Answers.{is_of, tally_among, answers_body}
 use Rattle.feed_resolver_tag.specs.Tags.{SiteValue}
 use Rattle.feed_resolver.specs.Status.{status_body, home_page}
 use Rattle.feed_resolver.specs.Validators.{final_reply, tag_to}
 
--- the reply to a query, or the error if it is rejected
-abbrev pub query_reply : Representation → (QueryValue → ReplyValue) → Result QueryValue QueryFault → ReplyValue
+-- the reply to what a query asks for, or the reason if it is rejected
+abbrev pub query_reply : Representation → (QueryValue → ReplyValue) → Result QueryValue Refusal → ReplyValue
 query_reply representation reply (Ok query) = reply query
-query_reply representation reply (Err fault) = query_refusal representation fault
+query_reply representation reply (Err reason) = query_refusal representation reason
 
 -- the hits in the given releases
 abbrev pub hits_reply : Status → Representation → List ActiveValue → QueryValue → ReplyValue
@@ -40,7 +40,7 @@ hits_reply code representation actives query = reply_with code representation (a
 
 -- the answer of all packages, by package
 abbrev pub resolve_reply : Representation → List ℕ → List ActiveValue → ReplyValue
-resolve_reply representation text actives = query_reply representation (hits_reply status.Good representation actives) (query_of text)
+resolve_reply representation text actives = query_reply representation (hits_reply status.Good representation actives) (asked_of text)
 
 -- the answer of the release at a place
 abbrev pub resolve_reply_at : Representation → List ℕ → List ActiveValue → ℕ → ReplyValue
@@ -64,7 +64,7 @@ resource_reply resource.Status head path query actives =
 resource_reply resource.Resolve head path query actives = resolve_reply (representation_of query head) query actives
 resource_reply resource.Package head path query actives = package_reply (representation_of query head) (package_in path) query actives
 resource_reply resource.Go head path query actives =
-    query_reply (accepted_representation head) (redirect_reply (accepted_representation head) actives) (query_of query)
+    query_reply (accepted_representation head) (redirect_reply (accepted_representation head) actives) (asked_of query)
 resource_reply resource.Unknown head path query actives = refusal status.NotFound (accepted_representation head) (codes "NoTarget")
 
 -- the path of a request's target, and the query in it
@@ -82,10 +82,15 @@ target_reply head query actives = resource_reply (resource_of (path_of head)) he
 abbrev pub has_coded_body : RequestHead → Bool
 has_coded_body head = has_any (values_named (codes "transfer-encoding") head.fields)
 
+-- the reply to a method that the resource does not take: it says which ones it takes (RFC 9110, section 10.2.1)
+abbrev pub method_refusal : Resource → ReplyValue
+method_refusal resource =
+    if takes_form resource then refusal status.GetOrPost Text (codes "Method") else refusal status.MethodNotAllowed Text (codes "Method")
+
 -- the reply to a request that submits no form: the first case that holds
 abbrev pub plain_reply : RequestHead → List ActiveValue → ReplyValue
 plain_reply head actives =
-    if is_unsupported_method head.method then refusal status.MethodNotAllowed Text (codes "Method")
+    if is_unsupported_method head.method then method_refusal (resource_of (path_of head))
     else (if not (is_get head || is_head head) then refusal status.NotImplemented Text (codes "Method")
     else (if has_coded_body head then refusal status.NotImplemented Text (codes "Coding")
     else target_reply head (target_query head) actives))

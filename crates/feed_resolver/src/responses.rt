@@ -7,15 +7,16 @@ ghost use Rattle.feed_releases.specs.Actives.{actives_of};
 ghost use Rattle.feed_model.specs.History.{History};
 ghost use Rattle.feed_model.specs.Content.{IsContent};
 ghost use Rattle.feed_releases.specs.Feeds.{recorded, releases_of};
-ghost use Rattle.feed_answer.specs.Queries.{query_of};
 ghost use Rattle.feed_resolver_request.specs.Targets.{resource_of};
+ghost use Rattle.feed_resolver_hits.specs.Asked.{asked_of};
 ghost use Rattle.feed_resolver_reply.specs.Replies.{reply_with};
 ghost use Rattle.feed_resolver_reply.specs.Messages.{IsMessageFor};
 ghost use Rattle.feed_resolver_reply.specs.declared.status.Status.TheVariants as status;
 ghost use Rattle.feed_resolver.specs.Answers.{is_of, tally_among};
 ghost use Rattle.feed_resolver.specs.Replies.{IsResponse, IsResponseAt, hits_reply, query_reply, resolve_reply};
 ghost use Rattle.feed_resolver.specs.Replies.{package_reply, redirect_reply, resource_reply, target_reply};
-ghost use Rattle.feed_resolver.specs.Replies.{plain_reply, form_refusal, form_reply, reply_to, response_to};
+ghost use Rattle.feed_resolver.specs.Replies.{method_refusal, plain_reply, form_refusal, form_reply};
+ghost use Rattle.feed_resolver.specs.Replies.{reply_to, response_to};
 ghost use Rattle.feed_resolver.specs.Validators.{final_reply};
 ghost use Rattle.feed_resolver.specs.Messages.{IsMessageTo};
 ghost use Rattle.feed_resolver.specs.Status.{home_page, status_body};
@@ -23,15 +24,16 @@ ghost use Rattle.feed_resolver.specs.Status.{home_page, status_body};
 use crate::answers::{put_answer, tally_among};
 use crate::status::{put_home_page, put_status};
 use crate::validators::{preflight_status, tag_to, validated_reply};
-use feed_answer::{Query, QueryFault};
+use feed_answer::Query;
 use feed_http_heads::{FIELD_LIMIT, Request, origin_form};
 use feed_keep::Keep;
 use feed_releases::{ActiveRelease, Feed};
-use feed_resolver_hits::query_refusal;
+use feed_resolver_hits::{query_refusal, read_query};
 use feed_resolver_reply::{Reply, Response, Status, bad_head_response, refusal};
 use feed_resolver_request::{
     FormFault, Representation, Resource, accepted_representation, find_request, form_of,
     is_unsupported_method, package_in, path_in, query_in, representation_of, resource_of,
+    takes_form,
 };
 use feed_resolver_tag::Site;
 use httparse::spans::EMPTY_HEADER_SPAN;
@@ -59,10 +61,9 @@ fn resolve_reply(
 ) -> Result<Reply<'static>, AllocError>
     ensures { IfOk result (λ reply. reply ≡ resolve_reply representation text.now actives.now) }
 {
-    match Query::read(alloc, text) {
+    match read_query(alloc, text)? {
         Ok(query) => hits_reply(alloc, Status::Good, representation, actives, &query),
-        Err(QueryFault::Memory) => Err(AllocError),
-        Err(fault) => query_refusal(alloc, representation, fault),
+        Err(reason) => query_refusal(alloc, representation, reason),
     }
 }
 
@@ -121,12 +122,11 @@ fn go_reply<'a>(
     actives: &[ActiveRelease<'a>],
 ) -> Result<Reply<'a>, AllocError>
     ensures { IfOk result (λ reply. reply
-        ≡ query_reply representation (redirect_reply representation actives.now) (query_of text.now)) }
+        ≡ query_reply representation (redirect_reply representation actives.now) (asked_of text.now)) }
 {
-    match Query::read(alloc, text) {
+    match read_query(alloc, text)? {
         Ok(query) => redirect_reply(alloc, representation, actives, &query),
-        Err(QueryFault::Memory) => Err(AllocError),
-        Err(fault) => query_refusal(alloc, representation, fault),
+        Err(reason) => query_refusal(alloc, representation, reason),
     }
 }
 
@@ -189,6 +189,17 @@ fn target_reply<'a>(
     resource_reply(alloc, request, path, query, actives)
 }
 
+fn method_refusal(alloc: Global, resource: Resource) -> Result<Reply<'static>, AllocError>
+    ensures { IfOk result (λ reply. reply ≡ method_refusal resource) }
+{
+    let status = if takes_form(resource) {
+        Status::GetOrPost
+    } else {
+        Status::MethodNotAllowed
+    };
+    refusal(alloc, status, Representation::Text, b"Method")
+}
+
 fn plain_reply<'a>(
     alloc: Global,
     request: &Request<'_>,
@@ -199,11 +210,9 @@ fn plain_reply<'a>(
         → reply ≡ plain_reply head actives.now) }
 {
     if is_unsupported_method(request.method()) {
-        return refusal(
+        return method_refusal(
             alloc,
-            Status::MethodNotAllowed,
-            Representation::Text,
-            b"Method",
+            resource_of(path_in(origin_form(request.target()))),
         );
     }
     if !(request.is_get() || request.is_head()) {

@@ -5,7 +5,7 @@ ghost use Rattle.std.specs.List.{flat_map};
 ghost use Rattle.httparse.specs.Grammar.{RequestHead};
 ghost use Rattle.feed_http_heads.specs.Requests.{IsInBuffer, HasHead};
 ghost use Rattle.feed_answer.specs.QueryValue.{QueryValue};
-ghost use Rattle.feed_answer.specs.Queries.{query_of};
+ghost use Rattle.feed_resolver_hits.specs.Asked.{asked_of};
 ghost use Rattle.feed_resolver_tag.specs.Tags.{entity_tag, inputs_of};
 ghost use Rattle.feed_resolver.specs.Status.{active_line};
 ghost use Rattle.feed_resolver.specs.Validators.{has_validator, is_tagged, tag_of, tag_to, validated_by, validated};
@@ -15,10 +15,10 @@ ghost use Rattle.feed_resolver.specs.Replies.{reply_to};
 
 use crate::responses::{position_of, reply_to};
 use crate::status::put_lines;
-use feed_answer::{Query, QueryFault};
 use feed_http_heads::{Request, origin_form};
 use feed_keep::Keep;
 use feed_releases::{ActiveRelease, Feed};
+use feed_resolver_hits::read_query;
 use feed_resolver_reply::{Reply, Status};
 use feed_resolver_request::{
     Representation, Resource, has_tag, package_in, path_in, query_in, representation_of,
@@ -101,11 +101,10 @@ pub(crate) fn tag_to(
 }
 
 fn is_query(alloc: Global, text: &[u8]) -> Result<bool, AllocError>
-    ensures { IfOk result (λ is. is ≡ true → (query : QueryValue) × (query_of text.now ≡ Ok query)) }
+    ensures { IfOk result (λ is. is ≡ true → (query : QueryValue) × (asked_of text.now ≡ Ok query)) }
 {
-    match Query::read(alloc, text) {
+    match read_query(alloc, text)? {
         Ok(_) => Ok(true),
-        Err(QueryFault::Memory) => Err(AllocError),
         Err(_) => Ok(false),
     }
 }

@@ -7,5 +7,6 @@ pub mod Tallying
 pub mod HitsText
 pub mod HitsJson
 pub mod HitsPage
+pub mod Asked
 pub mod QueryRefusals
 pub mod Laws

@@ -1,7 +1,8 @@
-//! The hits of a query in the releases of a node: how many there are, the first ones, and the best link among them; and
-//! how they are written as text, as JSON and as an HTML page.
+//! The hits of a query in the releases of a node: what the query asks for, how many hits there are, the first ones, and
+//! the best link among them; and how they are written as text, as JSON and as an HTML page.
 #![tactic(auto)]
 
+mod asked;
 mod candidates;
 mod hits;
 mod hits_json;
@@ -14,6 +15,7 @@ mod refusals;
 mod shown;
 mod tally;
 
+pub use asked::read_query;
 pub use hits::{ReleaseHit, name_text};
 pub use hits_json::{put_hits_json, put_release_members};
 pub use hits_page::put_hits_page;

@@ -1,28 +1,32 @@
-//! The replies to queries that are rejected.
+//! The replies to queries for which nothing is looked up.
 ghost use Rattle.std.specs.Prelude.{◌≡◌, IfOk};
-ghost use Rattle.feed_resolver_hits.specs.QueryRefusals.{query_refusal};
+ghost use Rattle.feed_resolver_hits.specs.QueryRefusals.{query_refusal, reason_text};
 
-use feed_answer::QueryFault;
+use feed_openurl::Refusal;
 use feed_resolver_reply::{Reply, Status, refusal};
 use feed_resolver_request::Representation;
 use std::alloc::{AllocError, Global};
 
-/// Returns the reply to a query that is rejected. Its body is the name of the fault.
+fn reason_text(reason: Refusal) -> &'static [u8]
+    ensures { result.now ≡ reason_text reason }
+{
+    match reason {
+        Refusal::Version => b"Version",
+        Refusal::OtherFormat => b"OtherFormat",
+        Refusal::NoIssn => b"NoIssn",
+        Refusal::NoIsbn => b"NoIsbn",
+        Refusal::TooMany => b"TooMany",
+    }
+}
+
+/// Returns the reply to a query that is rejected. Its body is the name of the reason.
 pub fn query_refusal(
     alloc: Global,
     representation: Representation,
-    fault: QueryFault,
+    reason: Refusal,
 ) -> Result<Reply<'static>, AllocError>
-    ensures { IfOk result (λ reply. reply ≡ query_refusal representation fault) }
+    ensures { IfOk result (λ reply. reply ≡ query_refusal representation reason) }
 {
-    match fault {
-        QueryFault::TooLong => refusal(alloc, Status::UriTooLong, representation, b"TooLong"),
-        QueryFault::Version => refusal(alloc, Status::BadRequest, representation, b"Version"),
-        QueryFault::OtherFormat => {
-            refusal(alloc, Status::BadRequest, representation, b"OtherFormat")
-        }
-        QueryFault::NoIssn => refusal(alloc, Status::BadRequest, representation, b"NoIssn"),
-        QueryFault::NoIsbn => refusal(alloc, Status::BadRequest, representation, b"NoIsbn"),
-        QueryFault::Memory => refusal(alloc, Status::BadRequest, representation, b"Memory"),
-    }
+    let name = reason_text(reason);
+    refusal(alloc, Status::BadRequest, representation, name)
 }

@@ -144,7 +144,6 @@ status_written status.GetOrPost location rest = refl
 status_written status.Conflict location rest = refl
 status_written status.LengthRequired location rest = refl
 status_written status.ContentTooLarge location rest = refl
-status_written status.UriTooLong location rest = refl
 status_written status.UnsupportedMediaType location rest = refl
 status_written status.NotImplemented location rest = refl
 
@@ -232,7 +231,6 @@ status_digits status.GetOrPost = (refl, refl, refl, refl)
 status_digits status.Conflict = (refl, refl, refl, refl)
 status_digits status.LengthRequired = (refl, refl, refl, refl)
 status_digits status.ContentTooLarge = (refl, refl, refl, refl)
-status_digits status.UriTooLong = (refl, refl, refl, refl)
 status_digits status.UnsupportedMediaType = (refl, refl, refl, refl)
 status_digits status.NotImplemented = (refl, refl, refl, refl)
 
@@ -282,7 +280,6 @@ status_valid status.GetOrPost location passes = literals_valid (status_pairs sta
 status_valid status.Conflict location passes = literals_valid (status_pairs status.Conflict location) refl
 status_valid status.LengthRequired location passes = literals_valid (status_pairs status.LengthRequired location) refl
 status_valid status.ContentTooLarge location passes = literals_valid (status_pairs status.ContentTooLarge location) refl
-status_valid status.UriTooLong location passes = literals_valid (status_pairs status.UriTooLong location) refl
 status_valid status.UnsupportedMediaType location passes = literals_valid (status_pairs status.UnsupportedMediaType location) refl
 status_valid status.NotImplemented location passes = literals_valid (status_pairs status.NotImplemented location) refl
 
@@ -427,7 +424,6 @@ status_values status.GetOrPost location = (refl, refl, refl, refl, refl, refl, r
 status_values status.Conflict location = (refl, refl, refl, refl, refl, refl, refl)
 status_values status.LengthRequired location = (refl, refl, refl, refl, refl, refl, refl)
 status_values status.ContentTooLarge location = (refl, refl, refl, refl, refl, refl, refl)
-status_values status.UriTooLong location = (refl, refl, refl, refl, refl, refl, refl)
 status_values status.UnsupportedMediaType location = (refl, refl, refl, refl, refl, refl, refl)
 status_values status.NotImplemented location = (refl, refl, refl, refl, refl, refl, refl)
 

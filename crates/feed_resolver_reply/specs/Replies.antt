@@ -70,7 +70,6 @@ status_code status.GetOrPost = 405
 status_code status.Conflict = 409
 status_code status.LengthRequired = 411
 status_code status.ContentTooLarge = 413
-status_code status.UriTooLong = 414
 status_code status.UnsupportedMediaType = 415
 status_code status.NotImplemented = 501
 
@@ -99,7 +98,6 @@ reason_text status.GetOrPost = codes "Method Not Allowed"
 reason_text status.Conflict = codes "Conflict"
 reason_text status.LengthRequired = codes "Length Required"
 reason_text status.ContentTooLarge = codes "Content Too Large"
-reason_text status.UriTooLong = codes "URI Too Long"
 reason_text status.UnsupportedMediaType = codes "Unsupported Media Type"
 reason_text status.NotImplemented = codes "Not Implemented"
 

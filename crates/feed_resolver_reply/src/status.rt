@@ -33,8 +33,6 @@ pub enum Status {
     LengthRequired,
     /// 413
     ContentTooLarge,
-    /// 414
-    UriTooLong,
     /// 415
     UnsupportedMediaType,
     /// 501
@@ -57,7 +55,6 @@ pub(crate) fn status_code(status: Status) -> u16
         Status::Conflict => 409,
         Status::LengthRequired => 411,
         Status::ContentTooLarge => 413,
-        Status::UriTooLong => 414,
         Status::UnsupportedMediaType => 415,
         Status::NotImplemented => 501,
     }
@@ -79,7 +76,6 @@ pub(crate) fn reason_text(status: Status) -> &'static [u8]
         Status::Conflict => b"Conflict",
         Status::LengthRequired => b"Length Required",
         Status::ContentTooLarge => b"Content Too Large",
-        Status::UriTooLong => b"URI Too Long",
         Status::UnsupportedMediaType => b"Unsupported Media Type",
         Status::NotImplemented => b"Not Implemented",
     }

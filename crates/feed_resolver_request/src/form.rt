@@ -30,7 +30,8 @@ pub enum FormFault {
     MediaType,
 }
 
-fn takes_form(resource: Resource) -> bool
+/// Returns whether a resource takes a form: whether it answers a query.
+pub fn takes_form(resource: Resource) -> bool
     ensures { result ≡ takes_form resource }
 {
     match resource {

@@ -15,7 +15,7 @@ mod target;
 pub use authorization::{FetchPolicy, is_authorized};
 pub use condition::has_tag;
 pub use fetch_target::{fetch_request, fetch_to_begin, name_to_fetch};
-pub use form::{FormFault, form_length, form_of};
+pub use form::{FormFault, form_length, form_of, takes_form};
 pub use found_request::find_request;
 pub use method::is_unsupported_method;
 pub use representation::{Representation, accepted_representation, representation_of};
