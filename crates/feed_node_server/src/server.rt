@@ -321,6 +321,8 @@ impl Server {
         if self.table.is_full() {
             return Ok(());
         }
+        // Otherwise the system holds a reply back until the client acknowledges the one before it.
+        let _ = stream.set_nodelay(true);
         let socket = Socket { stream };
         let key = self
             .table

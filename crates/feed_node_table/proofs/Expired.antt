@@ -1,5 +1,5 @@
 -- The connections that are out of time, as far as they were looked at.
-use Rattle.std.proofs.Common.{◌≡◌, ◌≢◌, ◌+◌, ◌<◌, ◌≤◌, ◌⊎◌, ℕ, length, get_or, Some, None, IsSome, refl, sym, subst, ap, ◌∙◌, arith, inl, inr}
+use Rattle.std.proofs.Common.{◌≡◌, ◌≢◌, ◌+◌, ◌<◌, ◌≤◌, ◌⊎◌, ℕ, length, get_or, Option, Some, None, IsSome, refl, sym, subst, ap, ◌∙◌, arith, inl, inr}
 use Rattle.std.proofs.lemmas.Bool.{cases_eq, cases_lt}
 use Rattle.std.proofs.lemmas.List.{get_or_past}
 use Rattle.feed_node_table.specs.declared.peer.Peer.{Peer}
@@ -8,6 +8,13 @@ use Rattle.feed_node_table.specs.Peers.{IsLate}
 use Rattle.feed_node_table.specs.Tables.{peer_at, KeepsOthers, IsExpired}
 
 module _ {T : Type 0} where
+  some_there : (slot : Option (Peer T)) → IsSome slot → (peer : Peer T) × (slot ≡ Some peer)
+  some_there None there = absurd (cc)
+  some_there (Some peer) there = (peer, refl)
+
+  pub peer_there : (table : Table T) (key : ℕ) → IsSome (peer_at table key) → (peer : Peer T) × (peer_at table key ≡ Some peer)
+  peer_there table key there = some_there (peer_at table key) there
+
   -- the connections below this key that are out of time are removed, the others below it remain, and those from it on are
   -- as they were
   pub record IsExpiredBelow (limit now : ℕ) (old new : Table T) : Type 0 where

@@ -15,6 +15,15 @@ use Rattle.feed_node_table.proofs.Slots.{sum_of_slot, sum_of_write, sum_of_inser
 some_is_not_none : (reply : List ℕ) → Some reply ≡ None → ⊥
 some_is_not_none reply same = cc
 
+-- without room no reply is made
+none_fits : (replies : Replies) → AreWithin (in_room false replies) 0
+none_fits replies head body persists reply (inl made) = absurd (false≢true made.0)
+none_fits replies head body persists reply (inr none) = absurd (some_is_not_none reply none.1)
+
+some_fits : (replies : Replies) (longest : ℕ) → AreWithin replies longest → AreWithin (in_room true replies) longest
+some_fits replies longest within head body persists reply (inl made) = within head body persists reply made.1
+some_fits replies longest within head body persists reply (inr none) = absurd (false≢true (sym none.0))
+
 module _ {T : Type 0} where
   -- a connection changed
   pub counted_after_write : (slots : List (Option (Peer T))) (key : ℕ) (old new : Peer T) (unsent before after : ℕ) → get_or slots key None ≡ Some old
@@ -25,6 +34,22 @@ module _ {T : Type 0} where
       sum_of_write unsent_in refl slots key old (Some new) there in
       let least : unsent_bytes old.connection ≤ sum_by unsent_in slots = sum_of_slot unsent_in refl slots key old there in
       omega (arith, written, least, counted, was, is)
+
+  -- a connection changed, and holds no more than it held
+  pub less_is_within : (slots : List (Option (Peer T))) (key : ℕ) (old : Peer T) (unsent before after : ℕ) → get_or slots key None ≡ Some old
+      → unsent ≡ sum_by unsent_in slots → before ≡ unsent_bytes old.connection → before - after ≤ unsent
+  less_is_within slots key old unsent before after there counted was =
+      let least : unsent_bytes old.connection ≤ sum_by unsent_in slots = sum_of_slot unsent_in refl slots key old there in
+      omega (arith, least, counted, was)
+
+  pub counted_after_less : (slots : List (Option (Peer T))) (key : ℕ) (old new : Peer T) (unsent before after : ℕ) → get_or slots key None ≡ Some old
+      → unsent ≡ sum_by unsent_in slots → before ≡ unsent_bytes old.connection → after ≡ unsent_bytes new.connection
+      → unsent_bytes new.connection ≤ unsent_bytes old.connection → unsent - (before - after) ≡ sum_by unsent_in (set slots key (Some new))
+  counted_after_less slots key old new unsent before after there counted was is less =
+      let written : sum_by unsent_in (set slots key (Some new)) + unsent_bytes old.connection ≡ sum_by unsent_in slots + unsent_bytes new.connection =
+      sum_of_write unsent_in refl slots key old (Some new) there in
+      let least : unsent_bytes old.connection ≤ sum_by unsent_in slots = sum_of_slot unsent_in refl slots key old there in
+      omega (arith, written, least, counted, was, is, less)
 
   -- a connection was removed
   pub counted_after_removal : (slots left : List (Option (Peer T))) (key : ℕ) (old : Peer T) (unsent before : ℕ) → get_or slots key None ≡ Some old
@@ -77,7 +102,7 @@ module _ {T : Type 0} where
       → sum_by over_in slots ≤ unsent_limit + longest → sum_by over_in (set slots key (Some new)) ≤ unsent_limit + longest
   within_after replies true slots key longest old new there is within bounded was =
       let most : unsent_bytes new.connection ≤ max (unsent_bytes old.connection) (max longest short_len) =
-      bounded longest (λ head body persists reply made. elim made [ inl yes ↦ within head body persists reply yes.1 | inr no ↦ absurd (false≢true (sym no.0)) ]) in
+      bounded longest (some_fits replies longest within) in
       let written : sum_by over_in (set slots key (Some new)) + (unsent_bytes old.connection - short_len) ≡ sum_by over_in slots + (unsent_bytes new.connection - short_len) =
       sum_of_write over_in refl slots key old (Some new) there in
       let below : sum_by unsent_in slots < unsent_limit = ltb-true (sum_by unsent_in slots) unsent_limit (sym is) in
@@ -85,7 +110,7 @@ module _ {T : Type 0} where
       omega (arith, most, written, below, least, sum_less over_in unsent_in over_less slots)
   within_after replies false slots key longest old new there is within bounded was =
       let most : unsent_bytes new.connection ≤ max (unsent_bytes old.connection) (max 0 short_len) =
-      bounded 0 (λ head body persists reply made. elim made [ inl yes ↦ absurd (false≢true yes.0) | inr no ↦ absurd (some_is_not_none reply no.1) ]) in
+      bounded 0 (none_fits replies) in
       let written : sum_by over_in (set slots key (Some new)) + (unsent_bytes old.connection - short_len) ≡ sum_by over_in slots + (unsent_bytes new.connection - short_len) =
       sum_of_write over_in refl slots key old (Some new) there in
       omega (arith, most, written, was)

@@ -4,8 +4,8 @@ pub mod Shares
 pub mod Slots
 pub mod Places
 pub mod Invariants
+pub mod Order
+pub mod Firsts
 pub mod Records
 pub mod Settled
 pub mod Expired
-pub mod Order
-pub mod Firsts

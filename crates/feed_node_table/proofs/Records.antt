@@ -1,11 +1,13 @@
 -- What a log records of a table.
-use Rattle.std.proofs.Common.{◌≡◌, ◌≢◌, ◌+◌, ◌<◌, ◌≤◌, ℕ, List, [], ◌∷◌, ◌++◌, refl, sym, subst, ◌∙◌, arith}
+use Rattle.std.proofs.Common.{◌≡◌, ◌≢◌, ◌+◌, ◌<◌, ◌≤◌, ℕ, List, [], ◌∷◌, ◌++◌, Some, refl, sym, ap, subst, ◌∙◌, arith}
 use Rattle.feed_node_table.specs.declared.log.CloseCause.{CloseCause}
 use Rattle.feed_node_table.specs.declared.table.Table.{Table}
 use Rattle.feed_node_table.specs.Logs.{Entry, Accepted, Replied, Closed, AreFor, AreRecorded, HasRecorded, cause_in, closings}
-use Rattle.feed_node_table.specs.Peers.{micros_of}
+use Rattle.feed_node_table.specs.declared.peer.Peer.{Peer}
+use Rattle.feed_node_table.specs.Peers.{cause_of, micros_of}
 use Rattle.feed_node_table.specs.Lists.{IsListed, KeepsBefore}
-use Rattle.feed_node_table.specs.Tables.{size_of, over_bytes, ready_keys, KeepsReady, IsRemoved, HasClosed}
+use Rattle.feed_node_table.specs.Tables.{peer_at, size_of, over_bytes, ready_keys, KeepsReady, IsRemoved, HasClosed}
+use Rattle.feed_node_table.proofs.Firsts.{same_peer}
 
 closings-append : (these those : List Entry) → closings (these ++ those) ≡ closings these + closings those
 closings-append [] those = omega arith
@@ -67,7 +69,7 @@ module _ {L : Type 0} (records : L → Entry → L → Type 0) (cause : CloseCau
     closed_none old new log after none size clients over = record { count = 0; recorded = none; size = omega (arith, size); clients = clients; over = over }
 
     -- one connection was removed
-    pub closed_one : (key : ℕ) (given : CloseCause) (now : ℕ) (old new : Table T) (log after : L) → (removed : IsRemoved records key given now old new log after)
+    closed_one : (key : ℕ) (given : CloseCause) (now : ℕ) (old new : Table T) (log after : L) → (removed : IsRemoved records key given now old new log after)
         → given ≡ cause_in removed.peer.connection cause → HasClosed records cause old new log after
     closed_one key given now old new log after removed is = record {
       count = 1;
@@ -76,6 +78,12 @@ module _ {L : Type 0} (records : L → Entry → L → Type 0) (cause : CloseCau
       clients = removed.clients;
       over = removed.over;
     }
+
+    -- for this cause, unless its last reply was sent
+    pub closed_removed : (key now : ℕ) (old new : Table T) (log after : L) (peer : Peer T) → peer_at old key ≡ Some peer
+        → IsRemoved records key (cause_of peer cause) now old new log after → HasClosed records cause old new log after
+    closed_removed key now old new log after peer there removed =
+        closed_one key (cause_of peer cause) now old new log after removed (ap (λ p. cause_of p cause) (same_peer removed.peer peer (peer_at old key) removed.was there))
 
     pub closed_both : (a b c : Table T) (k l m : L) → HasClosed records cause a b k l → HasClosed records cause b c l m → HasClosed records cause a c k m
     closed_both a b c k l m first second = record {

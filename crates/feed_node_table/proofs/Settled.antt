@@ -1,5 +1,5 @@
 -- What follows a share of a turn of a connection.
-use Rattle.std.proofs.Common.{◌≡◌, ◌≢◌, ◌+◌, ◌≤◌, ℕ, true, false, Some, None, IsSome, refl, sym, ap, subst, ◌∙◌}
+use Rattle.std.proofs.Common.{◌≡◌, ◌≢◌, ◌+◌, ◌≤◌, ℕ, true, false, Option, Some, None, IsSome, sum_by, refl, sym, ap, subst, ◌∙◌}
 use Rattle.std.proofs.lemmas.Bool.{false≢true}
 use Rattle.slab.specs.Slab.{get, slab_len}
 use Rattle.feed_node_connection.specs.declared.streams.Progress.{Progress}
@@ -10,9 +10,9 @@ use Rattle.feed_node_table.specs.declared.peer.Outcome.TheVariants.{Waits, Ready
 use Rattle.feed_node_table.specs.declared.peer.Peer.{Peer}
 use Rattle.feed_node_table.specs.declared.table.Table.{Table}
 use Rattle.feed_node_table.specs.Logs.{Entry, HasRecorded}
-use Rattle.feed_node_table.specs.Peers.{IsFollowed, cause_of}
+use Rattle.feed_node_table.specs.Peers.{IsFollowed, cause_of, over_in}
 use Rattle.feed_node_table.specs.Tables.{peer_at, size_of, over_bytes, ready_keys, has_more, IsReady, KeepsOthers, KeepsReady, IsRemoved, HasClosed, IsFollowedAt, IsSettled}
-use Rattle.feed_node_table.proofs.Records.{closed_none, closed_one, closed_both, recorded_none, ready_same, ready_after}
+use Rattle.feed_node_table.proofs.Records.{closed_both, closed_removed, ready_same, ready_after}
 
 module _ {T L : Type 0} (records : L → Entry → L → Type 0) where
   -- the connection did what follows its share
@@ -48,24 +48,42 @@ module _ {T L : Type 0} (records : L → Entry → L → Type 0) where
       recorded = closed.recorded;
       size = ap (λ slab. slab_len slab + closed.count) peers ∙ closed.size;
       clients = clients ∙ closed.clients;
-      over = subst (λ slab. over_bytes (record middle { peers = slab }) ≤ over_bytes old) (sym peers) closed.over;
+      over = subst (λ slab. sum_by over_in slab.slots ≤ over_bytes old) (sym peers) closed.over;
     };
     followed = followed;
   }
 
   -- or it is removed
-  pub settled_removed : (key : ℕ) (progress : Progress) (now : ℕ) (given : CloseCause) (old middle new : Table T) (log between after : L)
+  settled_removed : (key : ℕ) (progress : Progress) (now : ℕ) (old middle new : Table T) (log between after : L)
       → KeepsOthers key old middle → ready_keys middle ≡ ready_keys old → HasClosed records PeerClosed old middle log between
       → IsNext key progress now Over old middle log between → (peer : Peer T) → peer_at middle key ≡ Some peer
       → IsRemoved records key (cause_of peer PeerClosed) now middle new between after → IsSettled records key progress now Over old new log after
-  settled_removed key progress now given old middle new log between after others ready closed next peer there removed = record {
+  settled_removed key progress now old middle new log between after others ready closed next peer there removed = record {
     others = λ other differs. removed.others other differs ∙ others other differs;
     ready = ready_after key old middle new ready removed.ready;
     marked = λ more. absurd (false≢true more);
-    closed = closed_both records PeerClosed old middle new log between after closed
-        (closed_one records PeerClosed key (cause_of peer PeerClosed) now middle new between after removed (ap (λ p. cause_of p PeerClosed) (same_peer peer removed.peer there removed.was)));
+    closed = closed_both records PeerClosed old middle new log between after closed (closed_removed records PeerClosed key now middle new between after peer there removed);
     followed = λ was is. ((next was is).2.0, removed.gone);
   }
+
+  -- or there is none
+  settled_absent : (key : ℕ) (progress : Progress) (now : ℕ) (old middle : Table T) (log between : L)
+      → KeepsOthers key old middle → ready_keys middle ≡ ready_keys old → HasClosed records PeerClosed old middle log between
+      → IsNext key progress now Over old middle log between → peer_at middle key ≡ None → IsSettled records key progress now Over old middle log between
+  settled_absent key progress now old middle log between others ready closed next none =
+      settled_still key progress now Over old middle log between refl others ready closed (λ was is. ((next was is).2.0, none))
+
+  -- by whether it is there
+  pub settled_over : (key : ℕ) (progress : Progress) (now : ℕ) (old middle new : Table T) (log between after : L)
+      → KeepsOthers key old middle → ready_keys middle ≡ ready_keys old → HasClosed records PeerClosed old middle log between
+      → IsNext key progress now Over old middle log between
+      → ((peer : Peer T) → peer_at middle key ≡ Some peer → IsRemoved records key (cause_of peer PeerClosed) now middle new between after)
+      → (peer_at middle key ≡ None → (new ≡ middle) × (after ≡ between)) → IsSettled records key progress now Over old new log after
+  settled_over key progress now old middle new log between after others ready closed next removed absent = by (peer_at middle key) refl
     where
-      same_peer : (first second : Peer T) → peer_at middle key ≡ Some first → peer_at middle key ≡ Some second → first ≡ second
-      same_peer first second one other = cc
+      by : (slot : Option (Peer T)) → peer_at middle key ≡ slot → IsSettled records key progress now Over old new log after
+      by (Some peer) there = settled_removed key progress now old middle new log between after others ready closed next peer there (removed peer there)
+      by None none =
+          subst (λ table. IsSettled records key progress now Over old table log after) (sym (absent none).0)
+          (subst (λ l. IsSettled records key progress now Over old middle log l) (sym (absent none).1)
+          (settled_absent key progress now old middle log between others ready closed next none))

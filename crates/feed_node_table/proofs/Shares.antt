@@ -12,6 +12,7 @@ use Rattle.feed_node_connection.specs.Replies.{Replies, LacksReply}
 use Rattle.feed_node_connection.specs.States.{HasState, wants_in}
 use Rattle.feed_node_connection.specs.Streams.{IsStopped}
 use Rattle.feed_node_table.specs.Connections.{HasMoved, HasServed, IsConnection, IsGiven, AreWithin, in_room, short_len, unsent_bytes}
+use Rattle.feed_node_table.specs.declared.peer.Peer.{Peer}
 use Rattle.feed_node_table.proofs.Bytes.{over_holds_least}
 use Rattle.feed_node_table.proofs.Bounds.{bounded_after}
 
@@ -58,7 +59,7 @@ stopped_in has_room Moved old new share given left after is bytes replies stoppe
 stopped_in has_room Blocked old new share given left after is bytes replies stopped = inl stopped
 stopped_in has_room Spent old new share given left after is bytes replies (inl none) = inl (inl (bytes ∙ none))
 stopped_in has_room Spent old new share given left after (inl all) bytes replies (inr none) = inl (inr (omega (arith, all.0, replies, none)))
-stopped_in has_room Spent old new share given left after (inr zero) bytes replies (inr none) = inr (refl, zero.1)
+stopped_in has_room Spent old new share given left after (inr zero) bytes replies (inr none) = inr (refl, zero.1, zero.2)
 
 -- the share of the table follows from the one that the connection was given
 pub served_after : (replies : Replies) (has_room : Bool) (progress : Progress) (share given left after : Share) (old new : Connection) → IsConnection old
@@ -89,7 +90,7 @@ stopped_over has_room Moved left old new next over stopped = inl tt
 stopped_over has_room Blocked left old new next over stopped = inl (λ parses. close_is_no_parse (sym over ∙ parses))
 stopped_over has_room Spent left old new next over stopped = stopped
 
-pub served_over : (replies : Replies) (has_room : Bool) (progress : Progress) (share left : Share) (old new next : Connection) → wants_in next.phase ≡ wants.Close
+served_over : (replies : Replies) (has_room : Bool) (progress : Progress) (share left : Share) (old new next : Connection) → wants_in next.phase ≡ wants.Close
     → ((history : List Event) → HasState new history → HasState next history) → HasServed replies has_room progress share left old new
     → HasServed replies has_room progress share left old next
 served_over replies has_room progress share left old new next over state served = record {
@@ -105,3 +106,12 @@ served_over replies has_room progress share left old new next over state served 
   stopped = stopped_over has_room progress left old new next over served.stopped;
   bounded = λ longest within. over_holds_least next (max (unsent_bytes old) (max longest short_len)) over;
 }
+
+-- the connection is as it was, or it ended
+pub served_next : {T : Type 0} (replies : Replies) (has_room : Bool) (progress : Progress) (share left : Share) (old : Connection) (new next : Peer T)
+    → (next ≡ new) ⊎ (wants_in next.connection.phase ≡ wants.Close) → ((history : List Event) → HasState new.connection history → HasState next.connection history)
+    → HasServed replies has_room progress share left old new.connection → HasServed replies has_room progress share left old next.connection
+served_next replies has_room progress share left old new next (inl same) state served =
+    subst (λ peer. HasServed replies has_room progress share left old peer.connection) (sym same) served
+served_next replies has_room progress share left old new next (inr over) state served =
+    served_over replies has_room progress share left old new.connection next.connection over state served

@@ -4,7 +4,6 @@ ghost use Rattle.feed_node_connection.specs.Events.{Event};
 ghost use Rattle.feed_node_connection.specs.States.{HasState, is_reply_sent_in, wants_in};
 ghost use Rattle.feed_node_table.specs.Connections.{HasServed, IsConnection, IsGiven, unsent_bytes};
 ghost use Rattle.feed_node_table.specs.Logs.{HasRecorded, Replied};
-ghost use Rattle.feed_node_table.specs.Peers.{HasResumed, begins_stream};
 
 use crate::log::{CloseCause, Log};
 use crate::room::RoomResponder;
@@ -46,7 +45,7 @@ pub(crate) struct Peer<T> {
 }
 
 impl<T: Stream> Peer<T> {
-    ghost use Rattle.feed_node_table.specs.Peers.{cause_of, micros_of, IsFollowed, IsLate};
+    ghost use Rattle.feed_node_table.specs.Peers.{begins_stream, cause_of, micros_of, HasResumed, IsFollowed, IsLate};
 
     /// Returns a connection that was accepted now.
     pub(crate) fn new(

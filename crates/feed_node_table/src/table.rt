@@ -283,9 +283,9 @@ impl<T: Stream> Table<T> {
         let Some(peer) = self.peers.get_mut(key) else {
             return Outcome::Over;
         };
-        let rest = self.unsent - peer.unsent();
+        let before = peer.unsent();
         let outcome = peer.settle(progress, now, log);
-        self.unsent = rest + peer.unsent();
+        self.unsent -= before - peer.unsent();
         outcome
     }
 
@@ -347,9 +347,9 @@ impl<T: Stream> Table<T> {
         let Some(peer) = self.peers.get_mut(key) else {
             return false;
         };
-        let rest = self.unsent - peer.unsent();
+        let before = peer.unsent();
         let is_late = peer.advance_clock(now);
-        self.unsent = rest + peer.unsent();
+        self.unsent -= before - peer.unsent();
         is_late
     }
 

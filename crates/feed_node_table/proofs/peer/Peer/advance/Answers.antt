@@ -1,5 +1,6 @@
-use Rattle.std.proofs.Common.{◌++◌, refl}
+use Rattle.std.proofs.Common.{◌++◌, ◌-◌, refl, sym, ap, subst}
 use Rattle.std.proofs.Math.Logic.{∥∥₁_map}
+use Rattle.feed_node_table.specs.Connections.{HasServed}
 use Rattle.feed_node_table.proofs.Shares.{served_none, served_after}
 use Rattle.feed_node_table.proofs.peer.Peer.advance.Goals as goal
 
@@ -14,4 +15,12 @@ returns-then-is_over-clause-served g c =
     (c.is_over.ensures.over c.if-is_over.true)
 
 pub returns-clause-served : goal.returns-clause-served
-returns-clause-served g c = ?
+returns-clause-served g c =
+    subst (λ connection. HasServed (g.S.Respond.wanted c.args.responder.now, g.S.Respond.replies c.args.responder.now) c.args.has_room c.advance-progress.result c.args.share.now
+    (record { bytes = c.advance-progress.new.share.bytes; replies = c.args.share.now.replies - c.saturating_sub-made.result }) c.args.self.now.connection connection)
+    (sym c.note_times.ensures.connection)
+    (served_after (g.S.Respond.wanted c.args.responder.now, g.S.Respond.replies c.args.responder.now) c.args.has_room c.advance-progress.result c.args.share.now
+    c.share-given.result c.advance-progress.new.share (record { bytes = c.advance-progress.new.share.bytes; replies = c.args.share.now.replies - c.saturating_sub-made.result })
+    c.args.self.now.connection c.advance-progress.new.connection c.args.self.now.stateful (c.is_over.ensures.opened c.if-is_over.false)
+    c.share-given.ensures.bytes c.share-given.ensures.given refl (ap (λ n. c.args.share.now.replies - n) c.saturating_sub-made.ensures)
+    c.advance-progress.ensures.moved c.advance-progress.ensures.still c.advance-progress.ensures.stopped)
