@@ -12,7 +12,7 @@ import sys
 
 INNER = b"GET /smuggled HTTP/1.1\r\nHost: h\r\n\r\n"
 SIZE = len(INNER)
-FORM = "Content-Type: application/x-www-form-urlencoded"
+LENGTH = f"Content-Length: {SIZE}"
 CHUNKS = b"%x\r\n%b\r\n0\r\n\r\n" % (SIZE, INNER)
 
 
@@ -21,32 +21,36 @@ def request(line, *fields, body=INNER, end="\r\n"):
     return "".join(each + end for each in [*lines, ""]).encode("latin-1") + body
 
 
+def form(*fields, body=INNER, end="\r\n"):
+    return request("POST /resolve", "Content-Type: application/x-www-form-urlencoded", *fields, body=body, end=end)
+
+
 CASES = {
-    "a form of its length": request("POST /resolve", FORM, f"Content-Length: {SIZE}"),
-    "a GET with a body": request("GET /status", f"Content-Length: {SIZE}"),
-    "a HEAD with a body": request("HEAD /status", f"Content-Length: {SIZE}"),
-    "two lengths": request("POST /resolve", FORM, "Content-Length: 0", f"Content-Length: {SIZE}"),
-    "the same length twice": request("POST /resolve", FORM, f"Content-Length: {SIZE}", f"Content-Length: {SIZE}"),
-    "a list of lengths": request("POST /resolve", FORM, f"Content-Length: {SIZE}, {SIZE}"),
-    "a length with a sign": request("POST /resolve", FORM, f"Content-Length: +{SIZE}"),
-    "a length in hexadecimal": request("POST /resolve", FORM, f"Content-Length: 0x{SIZE:x}"),
-    "a length past 64 bits": request("POST /resolve", FORM, f"Content-Length: {(1 << 64) + SIZE}"),
-    "chunks": request("POST /resolve", FORM, "Transfer-Encoding: chunked", body=CHUNKS),
-    "chunks and a length": request("POST /resolve", FORM, "Transfer-Encoding: chunked", "Content-Length: 4", body=CHUNKS),
-    "chunks, by capital letters": request("POST /resolve", FORM, "TRANSFER-ENCODING: CHUNKED", body=CHUNKS),
-    "an unknown coding": request("POST /resolve", FORM, "Transfer-Encoding: xchunked", f"Content-Length: {SIZE}"),
-    "two codings": request("POST /resolve", FORM, "Transfer-Encoding: chunked", "Transfer-Encoding: identity", body=CHUNKS),
-    "a blank before the colon": request("POST /resolve", FORM, "Transfer-Encoding : chunked", f"Content-Length: {SIZE}"),
-    "a tab before the value": request("POST /resolve", FORM, "Transfer-Encoding:\tchunked", body=CHUNKS),
-    "a vertical tab before the value": request("POST /resolve", FORM, "Transfer-Encoding:\x0bchunked", f"Content-Length: {SIZE}"),
-    "an underscore in the name": request("POST /resolve", FORM, "Transfer_Encoding: chunked", f"Content-Length: {SIZE}"),
-    "a folded value": request("POST /resolve", FORM, "Transfer-Encoding:", " chunked", f"Content-Length: {SIZE}"),
-    "a field behind a lone line feed": request("POST /resolve", FORM, f"X: y\nContent-Length: {SIZE}", "Content-Length: 0"),
-    "a field behind a lone carriage return": request("POST /resolve", FORM, f"X: y\rContent-Length: {SIZE}", "Content-Length: 0"),
-    "lines that end in line feeds": request("POST /resolve", FORM, f"Content-Length: {SIZE}", end="\n"),
-    "Expect: 100-continue": request("POST /resolve", FORM, "Expect: 100-continue", f"Content-Length: {SIZE}"),
-    "Expect and a GET": request("GET /status", "Expect: 100-continue", f"Content-Length: {SIZE}"),
-    "a request behind the body": request("POST /resolve", FORM, f"Content-Length: {SIZE}") + request("GET /none", body=b""),
+    "a form of its length": form(LENGTH),
+    "a GET with a body": request("GET /status", LENGTH),
+    "a HEAD with a body": request("HEAD /status", LENGTH),
+    "two lengths": form("Content-Length: 0", LENGTH),
+    "the same length twice": form(LENGTH, LENGTH),
+    "a list of lengths": form(f"Content-Length: {SIZE}, {SIZE}"),
+    "a length with a sign": form(f"Content-Length: +{SIZE}"),
+    "a length in hexadecimal": form(f"Content-Length: 0x{SIZE:x}"),
+    "a length past 64 bits": form(f"Content-Length: {(1 << 64) + SIZE}"),
+    "chunks": form("Transfer-Encoding: chunked", body=CHUNKS),
+    "chunks and a length": form("Transfer-Encoding: chunked", "Content-Length: 4", body=CHUNKS),
+    "chunks, by capital letters": form("TRANSFER-ENCODING: CHUNKED", body=CHUNKS),
+    "an unknown coding": form("Transfer-Encoding: xchunked", LENGTH),
+    "two codings": form("Transfer-Encoding: chunked", "Transfer-Encoding: identity", body=CHUNKS),
+    "a blank before the colon": form("Transfer-Encoding : chunked", LENGTH),
+    "a tab before the value": form("Transfer-Encoding:\tchunked", body=CHUNKS),
+    "a vertical tab before the value": form("Transfer-Encoding:\x0bchunked", LENGTH),
+    "an underscore in the name": form("Transfer_Encoding: chunked", LENGTH),
+    "a folded value": form("Transfer-Encoding:", " chunked", LENGTH),
+    "a field behind a lone line feed": form(f"X: y\nContent-Length: {SIZE}", "Content-Length: 0"),
+    "a field behind a lone carriage return": form(f"X: y\rContent-Length: {SIZE}", "Content-Length: 0"),
+    "lines that end in line feeds": form(LENGTH, end="\n"),
+    "Expect: 100-continue": form("Expect: 100-continue", LENGTH),
+    "Expect and a GET": request("GET /status", "Expect: 100-continue", LENGTH),
+    "a request behind the body": form(LENGTH) + request("GET /none", body=b""),
 }
 
 
