@@ -5,10 +5,16 @@ keep_alive.py ADDR idle             prints after how many seconds the node close
 keep_alive.py ADDR pipelined N      sends N requests at once, and prints how many replies have which status
 keep_alive.py ADDR open TARGET N    N clients get the last reply to TARGET, send one byte more and stay open; prints the
                                     status that another client gets then
+keep_alive.py ADDR eight            sends eight requests at once, 50 times; prints whether the median of the times until
+                                    the eighth reply is below 20 ms
+keep_alive.py ADDR library          Python's http.client sends three requests; prints their statuses, and over how many
+                                    connections they went
 keep_alive.py ADDR stream           a client streams a body without an end; prints whether each of 200 requests of
                                     another client is answered within 100 ms"""
+import http.client
 import re
 import socket
+import statistics
 import sys
 import time
 
@@ -64,6 +70,32 @@ def pipelined(address, count):
         print(*(f"{code.decode()} {found.count(code)}" for code in sorted(set(found))))
 
 
+def eight(address):
+    times = []
+    with dialled(address) as peer:
+        for _ in range(50):
+            began = time.monotonic()
+            peer.sendall(request("/status") * 8)
+            reply = b""
+            while reply.count(b"HTTP/1.1 200") < 8 or not reply.endswith(b"\n"):
+                reply += peer.recv(65_536)
+            times.append(time.monotonic() - began)
+    median = statistics.median(times)
+    print("at once" if median < 0.02 else f"{median * 1_000:.0f} ms")
+
+
+def library(address):
+    client = http.client.HTTPConnection(address)
+    statuses, ports = [], set()
+    for target in ("/status", "/none", "/status"):
+        client.request("GET", target)
+        ports.add(client.sock.getsockname())
+        reply = client.getresponse()
+        reply.read()
+        statuses.append(reply.status)
+    print(*statuses, "over", len(ports))
+
+
 def stay_open(address, target, count):
     peers = []
     for _ in range(int(count)):
@@ -96,7 +128,9 @@ def stream(address):
 
 def main():
     address, kind, *words = sys.argv[1:]
-    {"idle": idle, "pipelined": pipelined, "open": stay_open, "stream": stream}[kind](address, *words)
+    kinds = [("idle", idle), ("pipelined", pipelined), ("eight", eight), ("library", library), ("open", stay_open),
+             ("stream", stream)]
+    dict(kinds)[kind](address, *words)
 
 
 if __name__ == "__main__":

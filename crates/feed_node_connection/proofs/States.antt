@@ -161,6 +161,7 @@ begun (byte ∷ bytes) size after request old new history was limits has is = (
     sent = rw (has.sent, has.text) (ap (λ t. t ++ byte ∷ bytes) was.sent);
     more = rw (has.sent, has.text) (omega arith);
     sent_is = has.sent;
+    reply_is = has.text;
     in_time = record { idleness = refl; counted_time = has.elapsed; counted_bytes = has.sent_since; left = rw (has.elapsed, limits) (omega (arith, was.in_time.left)) };
   }),
   has.sent_len,
@@ -430,6 +431,7 @@ waited wanted found old new history parsing state limits is missing waits =
             sent = rw (has.sent, has.text) (ap (λ t. t ++ continue_text) was.sent);
             more = rw (has.sent, has.text) (omega arith);
             sent_is = has.sent;
+            reply_is = has.text;
             in_time = record {
               idleness = refl;
               counted_time = has.elapsed ∙ was.in_time.counted_time;
@@ -550,6 +552,7 @@ sent_part Sending old new history count some within same reply sent counts other
       sent = rw (reply, sent) (went_on old.reply.items old.sent count (sent_bytes history) (reply_bytes history) state.sent);
       more = rw (reply, sent) (omega (arith, state.more, within, other, length-drop old.sent old.reply.items));
       sent_is = sent ∙ rw (long, state.sent_is) refl;
+      reply_is = ap (λ text. text.items) reply ∙ state.reply_is;
       in_time = in_time old new history bytes count long counts same.limits state.in_time;
     }
 

@@ -1,11 +1,11 @@
 -- The bytes of two consecutive steps, taken together.
-use Rattle.std.proofs.Common.{◌≡◌, ◌≤◌, ◌+◌, ℕ, Bool, true, false, List, [], ◌∷◌, ◌++◌, length, Option, Some, None, refl, sym, ap, ◌∙◌, append_assoc, append-nil, length-append, arith, subst, inl, inr}
+use Rattle.std.proofs.Common.{◌≡◌, ◌≤◌, ◌+◌, ◌⊎◌, ℕ, Bool, true, false, List, [], ◌∷◌, ◌++◌, length, Option, Some, None, refl, sym, ap, ◌∙◌, append_assoc, append-nil, length-append, arith, subst, inl, inr}
 use Rattle.std.specs.Io.KnownBytes.{Consumes, Appends}
 use Rattle.feed_node_connection.specs.declared.connection.Connection.{Connection}
 use Rattle.feed_node_connection.specs.declared.streams.Share.{Share}
 use Rattle.feed_node_connection.specs.Requests.{Request}
 use Rattle.feed_node_connection.specs.Events.{Event, Received, Replied, Sent, Continued, Resumed, Elapsed, received_bytes, requests_in, sent_bytes}
-use Rattle.feed_node_connection.specs.Replies.{Replies}
+use Rattle.feed_node_connection.specs.Replies.{Replies, LacksReply}
 use Rattle.feed_node_connection.specs.States.{HasState, HasParsed, HasWaited}
 use Rattle.feed_node_connection.specs.Streams.{AreReplies, HasAdvanced, HasRead, HasWritten}
 
@@ -80,11 +80,24 @@ replies-append replies (Continued ∷ later) earlier these those = replies-appen
 replies-append replies (Resumed idle ∷ later) earlier these those = replies-append replies later earlier these those
 replies-append replies (Elapsed millis ∷ later) earlier these those = replies-append replies later earlier these those
 
+counted_none : (left share : ℕ) → left ≡ share → 0 + left ≡ share
+counted_none left share same = omega (arith, same)
+
 covered_none : (left share : ℕ) → left ≡ share → 0 + left ≤ share
 covered_none left share same = omega (arith, same)
 
+counted_one : (left share : ℕ) → left + 1 ≡ share → 1 + left ≡ share
+counted_one left share less = omega (arith, less)
+
 covered_one : (left share : ℕ) → left + 1 ≡ share → 1 + left ≤ share
 covered_one left share less = omega (arith, less)
+
+-- the replies of two steps are counted, if those of each step are
+counted_both : (replies : Replies) (made more_made share middle left : ℕ) → (made + middle ≡ share) ⊎ LacksReply replies → (more_made + left ≡ middle) ⊎ LacksReply replies
+    → ((made + more_made) + left ≡ share) ⊎ LacksReply replies
+counted_both replies made more_made share middle left (inl first) (inl second) = inl (omega (arith, first, second))
+counted_both replies made more_made share middle left (inl first) (inr lacks) = inr lacks
+counted_both replies made more_made share middle left (inr lacks) second = inr lacks
 
 pub nothing : (replies : Replies) (share : Share) (connection : Connection) (history : List Event) (r w : Option (List ℕ)) → HasState connection history
     → HasAdvanced replies share share connection history r r w w
@@ -94,8 +107,9 @@ nothing replies share connection history r w state = record {
   replies_made = tt;
   bytes_received = consumes_none r;
   bytes_sent = appends_none w;
-  bytes_covered = covered_none share.bytes share.bytes refl;
+  bytes_counted = counted_none share.bytes share.bytes refl;
   replies_covered = covered_none share.replies share.replies refl;
+  replies_counted = inl (counted_none share.replies share.replies refl);
 }
 
 pub after_read : (replies : Replies) (share left : Share) (new : Connection) (history : List Event) (r0 r1 w : Option (List ℕ)) → HasRead share left new history r0 r1
@@ -106,8 +120,9 @@ after_read replies share left new history r0 r1 w has = record {
   replies_made = no_replies replies has.more has.no_reply_made;
   bytes_received = has.bytes_received;
   bytes_sent = subst (Appends w w) (sym has.none_sent) (appends_none w);
-  bytes_covered = has.bytes_covered;
+  bytes_counted = has.bytes_counted;
   replies_covered = rw has.no_reply_made (covered_none left.replies share.replies has.replies_kept);
+  replies_counted = inl (rw has.no_reply_made (counted_none left.replies share.replies has.replies_kept));
 }
 
 pub after_write : (replies : Replies) (share : Share) (new : Connection) (history : List Event) (r w0 w1 : Option (List ℕ)) → HasWritten new history w0 w1
@@ -118,8 +133,9 @@ after_write replies share new history r w0 w1 has = record {
   replies_made = no_replies replies has.more has.no_reply_made;
   bytes_received = subst (Consumes r r) (sym has.none_received) (consumes_none r);
   bytes_sent = has.bytes_sent;
-  bytes_covered = rw has.none_received (covered_none share.bytes share.bytes refl);
+  bytes_counted = rw has.none_received (counted_none share.bytes share.bytes refl);
   replies_covered = rw has.no_reply_made (covered_none share.replies share.replies refl);
+  replies_counted = inl (rw has.no_reply_made (counted_none share.replies share.replies refl));
 }
 
 -- the bytes held were parsed, and a reply may have been made
@@ -136,8 +152,9 @@ after_parse replies share left false new history r w bytes same less waited = by
       replies_made = no_replies replies more none;
       bytes_received = subst (Consumes r r) (sym no_bytes) (consumes_none r);
       bytes_sent = subst (Appends w w) (sym none_sent) (appends_none w);
-      bytes_covered = rw no_bytes (covered_none left.bytes share.bytes bytes);
+      bytes_counted = rw no_bytes (counted_none left.bytes share.bytes bytes);
       replies_covered = rw none (covered_none left.replies share.replies (same refl));
+      replies_counted = inl (rw none (counted_none left.replies share.replies (same refl)));
     }
 
     by : HasWaited new history → HasAdvanced replies share left new history r r w w
@@ -150,8 +167,9 @@ after_parse replies share left true new history r w bytes same less (inl (reques
   replies_made = (is, tt);
   bytes_received = consumes_none r;
   bytes_sent = appends_none w;
-  bytes_covered = covered_none left.bytes share.bytes bytes;
+  bytes_counted = counted_none left.bytes share.bytes bytes;
   replies_covered = covered_one left.replies share.replies (less refl);
+  replies_counted = inl (counted_one left.replies share.replies (less refl));
 }
 after_parse replies share left true new history r w bytes same less (inr (text, body, none, phase, state)) = record {
   more = [];
@@ -159,8 +177,9 @@ after_parse replies share left true new history r w bytes same less (inr (text, 
   replies_made = tt;
   bytes_received = consumes_none r;
   bytes_sent = appends_none w;
-  bytes_covered = covered_none left.bytes share.bytes bytes;
+  bytes_counted = counted_none left.bytes share.bytes bytes;
   replies_covered = omega (arith, covered_one left.replies share.replies (less refl));
+  replies_counted = inr (text, body, none);
 }
 
 pub further : (replies : Replies) (share mid_share left : Share) (mid new : Connection) (history : List Event) (r0 r1 r2 w0 w1 w2 : Option (List ℕ))
@@ -172,21 +191,24 @@ further replies share mid_share left mid new history r0 r1 r2 w0 w1 w2 before af
   replies_made = replies-append replies after.more before.more after.replies_made before.replies_made;
   bytes_received = subst (Consumes r0 r2) (sym (received_bytes-append after.more before.more)) (consumes_more r0 r1 r2 _ _ before.bytes_received after.bytes_received);
   bytes_sent = subst (Appends w0 w2) (sym (sent_bytes-append after.more before.more)) (appends_more w0 w1 w2 _ _ before.bytes_sent after.bytes_sent);
-  bytes_covered = rw (received_bytes-append after.more before.more, length-append (received_bytes before.more) (received_bytes after.more))
-      (omega (arith, before.bytes_covered, after.bytes_covered));
+  bytes_counted = rw (received_bytes-append after.more before.more, length-append (received_bytes before.more) (received_bytes after.more))
+      (omega (arith, before.bytes_counted, after.bytes_counted));
   replies_covered = rw (requests-append after.more before.more, length-append (requests_in before.more) (requests_in after.more))
       (omega (arith, before.replies_covered, after.replies_covered));
+  replies_counted = rw (requests-append after.more before.more, length-append (requests_in before.more) (requests_in after.more))
+      (counted_both replies (length (requests_in before.more)) (length (requests_in after.more)) share.replies mid_share.replies left.replies
+      before.replies_counted after.replies_counted);
 }
 
 -- bytes of a single read
 pub read_some : (share left : Share) (new : Connection) (history : List Event) (bytes : List ℕ) (r0 r1 : Option (List ℕ)) → Consumes r0 r1 bytes
-    → HasState new (Received bytes ∷ history) → length bytes + left.bytes ≤ share.bytes → left.replies ≡ share.replies → HasRead share left new history r0 r1
-read_some share left new history bytes r0 r1 received state covered kept = record {
+    → HasState new (Received bytes ∷ history) → length bytes + left.bytes ≡ share.bytes → left.replies ≡ share.replies → HasRead share left new history r0 r1
+read_some share left new history bytes r0 r1 received state counted kept = record {
   more = Received bytes ∷ [];
   state = state;
   no_reply_made = refl;
   bytes_received = received;
   none_sent = refl;
-  bytes_covered = covered;
+  bytes_counted = counted;
   replies_kept = kept;
 }

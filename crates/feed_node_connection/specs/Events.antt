@@ -75,6 +75,16 @@ sent_len (Continued ∷ earlier) = 0
 sent_len (Resumed idle ∷ earlier) = 0
 sent_len (Elapsed millis ∷ earlier) = sent_len earlier
 
+-- the last reply that was made, or the interim one
+abbrev pub last_reply : List Event → List ℕ
+last_reply [] = []
+last_reply (Received bytes ∷ earlier) = last_reply earlier
+last_reply (Sent bytes ∷ earlier) = last_reply earlier
+last_reply (Replied request reply ∷ earlier) = reply
+last_reply (Continued ∷ earlier) = continue_text
+last_reply (Resumed idle ∷ earlier) = last_reply earlier
+last_reply (Elapsed millis ∷ earlier) = last_reply earlier
+
 -- the connection waits for the first byte of the next request
 abbrev pub is_idle : List Event → Bool
 is_idle [] = false

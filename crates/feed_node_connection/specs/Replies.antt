@@ -27,6 +27,10 @@ Replies = (RequestHead → ℕ) × (List ℕ → List ℕ → Bool → Option (L
 abbrev pub HasNoReply : Replies → List ℕ → List ℕ → Type 0
 HasNoReply replies bytes body = (keeps : Bool) × replies.1 bytes body keeps None
 
+-- and so it did for some bytes
+abbrev pub LacksReply : Replies → Type 0
+LacksReply replies = (bytes : List ℕ) × (body : List ℕ) × HasNoReply replies bytes body
+
 -- the body has the length that the responder wants, if the head states that length
 abbrev pub IsWanted : Replies → RequestHead → List ℕ → Type 0
 IsWanted replies head body = length body ≡ body_len_of (replies.0 head) head

@@ -13,7 +13,7 @@ use Rattle.feed_node_connection.specs.declared.connection.Wants.TheVariants as w
 use Rattle.feed_node_connection.specs.declared.head_state.AfterReply.{AfterReply}
 use Rattle.feed_node_connection.specs.declared.head_state.AfterReply.TheVariants.{Persist, Linger, Receive}
 use Rattle.feed_node_connection.specs.Events.{Event, Received, Sent, Replied, Continued, Resumed, Elapsed, interim, continue_text}
-use Rattle.feed_node_connection.specs.Events.{received_bytes, reply_bytes, requests_in, sent_bytes, sent_len, sent_since, elapsed, is_idle}
+use Rattle.feed_node_connection.specs.Events.{received_bytes, reply_bytes, last_reply, requests_in, sent_bytes, sent_len, sent_since, elapsed, is_idle}
 use Rattle.feed_node_connection.specs.Requests.{Request, AreRequestsIn, all_persist, states_len, body_limit, expects_continue}
 use Rattle.feed_node_connection.specs.Replies.{Replies, HasNoReply, IsRepliedTo, IsInterim, IsPending, after_reply, unavailable}
 
@@ -116,6 +116,7 @@ pub record IsSending (connection : Connection) (history : List Event) : Type 0 w
   pub sent : reply_bytes history ≡ sent_bytes history ++ drop connection.sent connection.reply.items
   pub more : connection.sent < length connection.reply.items
   pub sent_is : connection.sent ≡ sent_len history
+  pub reply_is : connection.reply.items ≡ last_reply history
   pub in_time : IsInTime false connection history
 
 -- all replies were sent, the last one is freed, and another request may be answered

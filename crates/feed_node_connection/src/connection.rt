@@ -482,6 +482,8 @@ impl Connection {
             → HasState self.new (Elapsed millis ∷ history) }
         ensures kept { self.old.elapsed + millis < limit_in (is_idle_in self.old.phase) self.old.limits
             → self.new.phase ≡ self.old.phase }
+        ensures late { limit_in (is_idle_in self.old.phase) self.old.limits ≤ self.old.elapsed + millis
+            → wants_in self.new.phase ≡ Wants.Close }
         ensures limits { self.new.limits ≡ self.old.limits }
     {
         if self.wants() == Wants::Close {

@@ -1,13 +1,14 @@
-//! Runs a connection over a nonblocking reader and writer, one bounded turn after the other.
-ghost use Rattle.std.specs.Prelude.{◌≡◌, ◌≢◌, ℕ, List, Option};
+//! Runs a connection over the two sides of a stream that does not block, one bounded turn after the other.
+ghost use Rattle.std.specs.Prelude.{◌≡◌, ◌≢◌, ◌⊎◌, ℕ, List, Option};
 ghost use Rattle.feed_node_connection.specs.Events.{Event};
 ghost use Rattle.feed_node_connection.specs.States.{HasState, wants_in};
-ghost use Rattle.feed_node_connection.specs.Streams.{HasAdvanced, HasRead, HasWritten, IsStopped};
+ghost use Rattle.feed_node_connection.specs.Streams.{HasAdvanced, HasRead, HasWritten, IsStopped, WaitsFor};
 
 use crate::connection::{Connection, Wants};
 use crate::respond::Respond;
+use crate::sides::{Receive, Transmit};
 use std::alloc::Global;
-use std::io::{ErrorKind, Read, Write};
+use std::io::ErrorKind;
 
 /// The work that is left to a connection in a turn.
 #[derive(Clone, Copy, Debug)]
@@ -36,7 +37,7 @@ pub enum Progress {
 }
 
 /// Receives, replies and sends until the reader or the writer would block, a reply was sent, or the share is used.
-pub fn advance<S: Respond, R: Read, W: Write>(
+pub fn advance<S: Respond, R: Receive, W: Transmit>(
     connection: &mut Connection,
     alloc: Global,
     responder: &S,
@@ -45,11 +46,15 @@ pub fn advance<S: Respond, R: Read, W: Write>(
     buffer: &mut [u8],
     share: &mut Share,
 ) -> Progress
+    requires may_read { R.may_read reader.old }
+    requires may_write { W.may_write writer.old }
     ensures advanced { (history : List Event) → HasState connection.old history
         → HasAdvanced (S.wanted responder.now, S.replies responder.now) share.old share.new connection.new history
         (R.remaining reader.old) (R.remaining reader.new) (W.contents writer.old) (W.contents writer.new) }
     ensures still { result ≢ Progress.Moved }
     ensures stopped { IsStopped result share.new connection.new }
+    ensures receives { result ≡ Progress.Blocked → wants_in connection.new.phase ≡ Wants.Bytes → R.has_blocked reader.new }
+    ensures sends { result ≡ Progress.Blocked → wants_in connection.new.phase ≡ Wants.Room → W.has_blocked writer.new }
 {
     for _ in 0..u64::MAX {
         let progress = step(connection, alloc, responder, reader, writer, buffer, share);
@@ -61,7 +66,7 @@ pub fn advance<S: Respond, R: Read, W: Write>(
     Progress::Blocked
 }
 
-fn step<S: Respond, R: Read, W: Write>(
+fn step<S: Respond, R: Receive, W: Transmit>(
     connection: &mut Connection,
     alloc: Global,
     responder: &S,
@@ -70,10 +75,16 @@ fn step<S: Respond, R: Read, W: Write>(
     buffer: &mut [u8],
     share: &mut Share,
 ) -> Progress
+    requires may_read { R.may_read reader.old }
+    requires may_write { W.may_write writer.old }
     ensures advanced { (history : List Event) → HasState connection.old history
         → HasAdvanced (S.wanted responder.now, S.replies responder.now) share.old share.new connection.new history
         (R.remaining reader.old) (R.remaining reader.new) (W.contents writer.old) (W.contents writer.new) }
     ensures stopped { IsStopped result share.new connection.new }
+    ensures receives { result ≡ Progress.Blocked → wants_in connection.new.phase ≡ Wants.Bytes → R.has_blocked reader.new }
+    ensures sends { result ≡ Progress.Blocked → wants_in connection.new.phase ≡ Wants.Room → W.has_blocked writer.new }
+    ensures may_read { result ≡ Progress.Moved → R.may_read reader.new }
+    ensures may_write { result ≡ Progress.Moved → W.may_write writer.new }
 {
     match connection.wants() {
         Wants::Bytes => receive_once(connection, reader, buffer, share),
@@ -95,6 +106,7 @@ fn parse_once<S: Respond>(
         → HasAdvanced (S.wanted responder.now, S.replies responder.now) share.old share.new connection.new history
         unread unread unwritten unwritten }
     ensures stopped { IsStopped result share.new connection.new }
+    ensures parsed { result ≢ Progress.Blocked }
 {
     if share.replies == 0 {
         return Progress::Spent;
@@ -106,16 +118,19 @@ fn parse_once<S: Respond>(
 }
 
 // Reads no more than there is room for, and than the share allows.
-fn receive_once<R: Read>(
+fn receive_once<R: Receive>(
     connection: &mut Connection,
     reader: &mut R,
     buffer: &mut [u8],
     share: &mut Share,
 ) -> Progress
-    requires { wants_in connection.old.phase ≡ Wants.Bytes }
+    requires waiting { wants_in connection.old.phase ≡ Wants.Bytes }
+    requires may_read { R.may_read reader.old }
     ensures read { (history : List Event) → HasState connection.old history
         → HasRead share.old share.new connection.new history (R.remaining reader.old) (R.remaining reader.new) }
     ensures stopped { IsStopped result share.new connection.new }
+    ensures blocked { result ≡ Progress.Blocked → WaitsFor Wants.Bytes (R.has_blocked reader.new) connection.new }
+    ensures may_read { result ≡ Progress.Moved → R.may_read reader.new }
 {
     if share.bytes == 0 {
         return Progress::Spent;
@@ -137,11 +152,14 @@ fn receive_once<R: Read>(
     }
 }
 
-fn send_once<W: Write>(connection: &mut Connection, alloc: Global, writer: &mut W) -> Progress
-    requires { wants_in connection.old.phase ≡ Wants.Room }
+fn send_once<W: Transmit>(connection: &mut Connection, alloc: Global, writer: &mut W) -> Progress
+    requires waiting { wants_in connection.old.phase ≡ Wants.Room }
+    requires may_write { W.may_write writer.old }
     ensures written { (history : List Event) → HasState connection.old history
         → HasWritten connection.new history (W.contents writer.old) (W.contents writer.new) }
     ensures stopped { (share : Share) → IsStopped result share connection.new }
+    ensures blocked { result ≡ Progress.Blocked → WaitsFor Wants.Room (W.has_blocked writer.new) connection.new }
+    ensures may_write { result ≡ Progress.Moved → W.may_write writer.new }
 {
     match writer.write(connection.pending_reply()) {
         Ok(0) => {
@@ -162,6 +180,10 @@ fn handle_error(connection: &mut Connection, fault: ErrorKind) -> Progress
     ensures state { (history : List Event) → HasState connection.old history
         → HasState connection.new history }
     ensures stopped { (share : Share) → IsStopped result share connection.new }
+    ensures blocked { result ≡ Progress.Blocked
+        → (fault ≡ ErrorKind.WouldBlock) ⊎ (wants_in connection.new.phase ≡ Wants.Close) }
+    ensures moved { result ≡ Progress.Moved → fault ≡ ErrorKind.Interrupted }
+    ensures phase { fault ≡ ErrorKind.WouldBlock → connection.new.phase ≡ connection.old.phase }
 {
     match fault {
         ErrorKind::WouldBlock => Progress::Blocked,

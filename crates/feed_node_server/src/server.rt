@@ -185,7 +185,7 @@ impl Server {
         self.poll.poll(events, Some(Duration::from_millis(wait)))?;
         let now = Instant::now(rt)?;
         for event in events.iter() {
-            self.on_event(event.token(), now, log);
+            self.on_event(event.token());
         }
         self.serve_ready(rt, responder, log)?;
         let has_more_work = self.accept_waiting(rt, responder, log)?;
@@ -195,12 +195,11 @@ impl Server {
         Ok(())
     }
 
-    fn on_event<L: Log>(&mut self, token: Token, now: Instant, log: &mut L) {
+    fn on_event(&mut self, token: Token) {
         if token == LISTENER {
             self.may_accept = true;
-        } else if self.table.mark_ready(token.0).is_err() {
-            let now = self.micros(now);
-            let _ = self.table.remove(token.0, CloseCause::PeerClosed, now, log);
+        } else {
+            self.table.mark_ready(token.0);
         }
     }
 
@@ -322,6 +321,8 @@ impl Server {
         if self.table.is_full() {
             return Ok(());
         }
+        // Otherwise the system holds a reply back until the client acknowledges the one before it.
+        let _ = stream.set_nodelay(true);
         let socket = Socket { stream };
         let key = self
             .table

@@ -1,5 +1,5 @@
 //! The socket of a client.
-use feed_node_connection::{Connection, Progress, Respond, Share, advance};
+use feed_node_connection::{Connection, Progress, Reading, Respond, Share, Writing, advance};
 use feed_node_table::Stream;
 use mio::net::TcpStream;
 use mio::{Interest, Registry, Token};
@@ -34,12 +34,18 @@ impl Stream for Socket {
         buffer: &mut [u8],
         share: &mut Share,
     ) -> Progress {
+        let mut reader = Reading {
+            reader: &self.stream,
+        };
+        let mut writer = Writing {
+            writer: &self.stream,
+        };
         advance(
             connection,
             alloc,
             responder,
-            &mut &self.stream,
-            &mut &self.stream,
+            &mut reader,
+            &mut writer,
             buffer,
             share,
         )

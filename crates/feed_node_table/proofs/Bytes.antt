@@ -64,3 +64,7 @@ next_is_open phase is over = next_differs (sym is ∙ over)
   where
     next_differs : wants.Next ≡ wants.Close → ⊥
     next_differs same = cc
+
+-- a connection that is over holds no more than any other
+pub over_holds_least : (connection : Connection) (bytes : ℕ) → wants_in connection.phase ≡ wants.Close → unsent_bytes connection ≤ bytes
+over_holds_least connection bytes is = omega (arith, ap length (closed_holds_none connection.phase connection is))

@@ -1,6 +1,11 @@
-pub mod Slots
 pub mod Bytes
+pub mod Bounds
+pub mod Shares
+pub mod Slots
+pub mod Places
+pub mod Invariants
 pub mod Order
 pub mod Firsts
-pub mod Invariants
 pub mod Records
+pub mod Settled
+pub mod Expired

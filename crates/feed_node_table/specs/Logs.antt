@@ -1,8 +1,10 @@
 -- What a log of connections records.
-use Rattle.std.specs.Prelude.{◌≡◌, ◌+◌, ℕ, List, [], ◌∷◌}
+use Rattle.std.specs.Prelude.{◌≡◌, ◌+◌, if◌then◌else◌, ℕ, List, [], ◌∷◌}
 use Rattle.std.specs.declared.net.socket_addr.SocketAddr.{SocketAddr}
 use Rattle.feed_node_connection.specs.declared.connection.Connection.{Connection}
+use Rattle.feed_node_connection.specs.States.{is_reply_sent_in}
 use Rattle.feed_node_table.specs.declared.log.CloseCause.{CloseCause}
+use Rattle.feed_node_table.specs.declared.log.CloseCause.TheVariants.{Complete}
 
 -- a connection is accepted; a reply was sent and its connection persists; a connection is removed. The number is a time in
 -- microseconds
@@ -23,8 +25,20 @@ closings (Accepted addr ∷ earlier) = closings earlier
 closings (Replied addr connection micros ∷ earlier) = closings earlier
 closings (Closed addr connection cause micros ∷ earlier) = closings earlier + 1
 
--- so many removals were recorded, and perhaps replies
-pub record HasRecorded {L : Type 0} (records : L → Entry → L → Type 0) (count : ℕ) (old new : L) : Type 0 where
+-- why the connection is closed, if this is why unless its last reply was sent whole
+abbrev pub cause_in : Connection → CloseCause → CloseCause
+cause_in connection cause = if is_reply_sent_in connection.phase then Complete else cause
+
+-- each removal was recorded for this cause, or because the last reply was sent whole
+abbrev pub AreFor : CloseCause → List Entry → Type 0
+AreFor cause [] = Unit {0}
+AreFor cause (Accepted addr ∷ earlier) = AreFor cause earlier
+AreFor cause (Replied addr connection micros ∷ earlier) = AreFor cause earlier
+AreFor cause (Closed addr connection given micros ∷ earlier) = (given ≡ cause_in connection cause) × AreFor cause earlier
+
+-- so many removals were recorded, for this cause, and perhaps replies
+pub record HasRecorded {L : Type 0} (records : L → Entry → L → Type 0) (cause : CloseCause) (count : ℕ) (old new : L) : Type 0 where
   pub entries : List Entry
   pub recorded : AreRecorded records old entries new
   pub counted : closings entries ≡ count
+  pub causes : AreFor cause entries

@@ -1,15 +1,35 @@
 -- A connection with its stream, as the table holds it.
-use Rattle.std.specs.Prelude.{◌-◌, if◌then◌else◌, ℕ, Option, Some, None}
-use Rattle.feed_node_connection.specs.States.{is_reply_sent_in}
+use Rattle.std.specs.Prelude.{◌≡◌, ◌≢◌, ◌==◌, ◌&&◌, ◌≤◌, ◌+◌, ◌-◌, ◌/◌, ℕ, Bool, true, false, List, ◌∷◌, length, Option, Some, None}
+use Rattle.std.specs.Option.{option_map_or}
+use Rattle.feed_node_connection.specs.declared.connection.Connection.{Connection}
+use Rattle.feed_node_connection.specs.declared.connection.Wants.TheVariants as wants
+use Rattle.feed_node_connection.specs.declared.streams.Progress.{Progress}
+use Rattle.feed_node_connection.specs.declared.streams.Progress.TheVariants.{Blocked}
+use Rattle.feed_node_connection.specs.Events.{Event, Resumed}
+use Rattle.feed_node_connection.specs.States.{HasState, is_idle_in, is_reply_sent_in, limit_in, rest_of, wants_in}
 use Rattle.feed_node_table.specs.declared.log.CloseCause.{CloseCause}
-use Rattle.feed_node_table.specs.declared.log.CloseCause.TheVariants.{Complete}
+use Rattle.feed_node_table.specs.declared.peer.Outcome.{Outcome}
+use Rattle.feed_node_table.specs.declared.peer.Outcome.TheVariants as outcome
 use Rattle.feed_node_table.specs.declared.peer.Peer.{Peer}
-use Rattle.feed_node_table.specs.Connections.{unsent_bytes}
+use Rattle.feed_node_table.specs.Connections.{short_len, unsent_bytes}
+use Rattle.feed_node_table.specs.Logs.{Entry, Replied, cause_in}
 
 -- the microseconds that a reply took that began then, if one is under way, or else those of the last one
 abbrev pub micros_in : Option ℕ → ℕ → ℕ → ℕ
 micros_in None micros now = micros
 micros_in (Some began) micros now = now - began
+
+-- the head of a streamed reply was sent
+abbrev pub begins_stream : Connection → Bool
+begins_stream connection = option_map_or (λ summary. summary.is_streamed) connection.summary false && is_reply_sent_in connection.phase
+
+-- the connection is neither over nor ready for its next request
+abbrev pub IsUnderWay : Connection → Type 0
+IsUnderWay connection = (wants_in connection.phase ≢ wants.Next) × (wants_in connection.phase ≢ wants.Close)
+
+-- it turned to its next request
+abbrev pub HasResumed : Connection → Connection → Type 0
+HasResumed old new = (history : List Event) → HasState old history → HasState new (Resumed (length (rest_of old) == 0) ∷ history)
 
 module _ {T : Type 0} where
   abbrev pub micros_of : Peer T → ℕ → ℕ
@@ -17,9 +37,36 @@ module _ {T : Type 0} where
 
   -- why the connection is closed, if this is why unless its last reply was sent whole
   abbrev pub cause_of : Peer T → CloseCause → CloseCause
-  cause_of peer cause = if is_reply_sent_in peer.connection.phase then Complete else cause
+  cause_of peer cause = cause_in peer.connection cause
 
   -- the bytes of a reply that are not yet sent, in a slot of the table
   abbrev pub unsent_in : Option (Peer T) → ℕ
   unsent_in None = 0
   unsent_in (Some peer) = unsent_bytes peer.connection
+
+  -- those of them past the length of a short reply
+  abbrev pub over_in : Option (Peer T) → ℕ
+  over_in None = 0
+  over_in (Some peer) = unsent_bytes peer.connection - short_len
+
+  -- the connection is open, and out of time
+  abbrev pub IsLate : Peer T → ℕ → Type 0
+  IsLate peer now =
+      (wants_in peer.connection.phase ≢ wants.Close)
+      × (limit_in (is_idle_in peer.connection.phase) peer.connection.limits ≤ peer.connection.elapsed + (now - peer.clock) / 1000)
+
+  module _ {L : Type 0} (records : L → Entry → L → Type 0) where
+    -- what follows a share of a turn, by how that ended. The connection waits for its stream, or has more to do; the log
+    -- has its reply, and it turned to its next request; the head of a streamed reply was sent; or it is over
+    abbrev pub IsFollowed : Outcome → Progress → ℕ → Peer T → Peer T → L → L → Type 0
+    IsFollowed outcome.Waits progress now old new log after =
+        (progress ≡ Blocked) × IsUnderWay old.connection × (new.connection ≡ old.connection) × (after ≡ log)
+    IsFollowed outcome.Ready progress now old new log after =
+        (progress ≢ Blocked) × IsUnderWay old.connection × (new.connection ≡ old.connection) × (after ≡ log)
+    IsFollowed outcome.Resumed progress now old new log after =
+        (wants_in old.connection.phase ≡ wants.Next) × HasResumed old.connection new.connection
+        × records log (Replied old.addr old.connection (micros_of old now)) after
+    IsFollowed outcome.Streams progress now old new log after =
+        (begins_stream old.connection ≡ true) × (new.connection ≡ old.connection) × (after ≡ log)
+    IsFollowed outcome.Over progress now old new log after =
+        (wants_in old.connection.phase ≡ wants.Close) × (new.connection ≡ old.connection) × (after ≡ log)

@@ -1,15 +1,21 @@
 -- The connections of a node.
-use Rattle.std.specs.Prelude.{◌≡◌, ◌≢◌, ◌+◌, ◌<◌, ℕ, Bool, true, false, List, Option, Some, None, IsSome, sum_by}
+use Rattle.std.specs.Prelude.{◌≡◌, ◌≢◌, ◌+◌, ◌<◌, ◌≤◌, ℕ, nat_lt, Bool, true, false, List, Option, Some, None, IsSome, sum_by}
 use Rattle.slab.specs.Slab.{get, slab_len}
-use Rattle.feed_node_connection.specs.States.{is_closed_before}
+use Rattle.feed_node_connection.specs.declared.streams.Progress.{Progress}
+use Rattle.feed_node_connection.specs.declared.streams.Share.{Share}
+use Rattle.feed_node_connection.specs.declared.connection.Wants.TheVariants as wants
+use Rattle.feed_node_connection.specs.Replies.{Replies}
+use Rattle.feed_node_connection.specs.States.{is_closed_before, wants_in}
 use Rattle.feed_node_table.specs.declared.log.CloseCause.{CloseCause}
+use Rattle.feed_node_table.specs.declared.log.CloseCause.TheVariants.{PeerClosed}
 use Rattle.feed_node_table.specs.declared.peer.Outcome.{Outcome}
 use Rattle.feed_node_table.specs.declared.peer.Outcome.TheVariants.{Waits, Ready, Resumed, Streams, Over}
 use Rattle.feed_node_table.specs.declared.peer.Peer.{Peer}
 use Rattle.feed_node_table.specs.declared.table.Table.{Table}
+use Rattle.feed_node_table.specs.Connections.{HasServed}
 use Rattle.feed_node_table.specs.Lists.{IsListed, KeepsBefore}
 use Rattle.feed_node_table.specs.Logs.{Entry, Closed, HasRecorded}
-use Rattle.feed_node_table.specs.Peers.{micros_of, unsent_in}
+use Rattle.feed_node_table.specs.Peers.{micros_of, over_in, unsent_in, IsFollowed, IsLate}
 
 -- the connection has more to do
 abbrev pub has_more : Outcome → Bool
@@ -18,6 +24,10 @@ has_more Ready = true
 has_more Resumed = true
 has_more Streams = false
 has_more Over = false
+
+-- the bytes not yet sent from which on no other reply is made
+abbrev pub unsent_limit : ℕ
+unsent_limit = 33554432
 
 module _ {T : Type 0} where
   -- the connection with this key
@@ -31,6 +41,18 @@ module _ {T : Type 0} where
   -- the bytes of the replies of all connections that are not yet sent
   abbrev pub bytes_held : Table T → ℕ
   bytes_held table = sum_by unsent_in table.peers.slots
+
+  -- another reply may be made
+  abbrev pub has_room_in : Table T → Bool
+  has_room_in table = nat_lt (bytes_held table) unsent_limit
+
+  -- the bytes held of each reply past the length of a short one
+  abbrev pub over_bytes : Table T → ℕ
+  over_bytes table = sum_by over_in table.peers.slots
+
+  -- they are at most the limit and one reply of this length
+  abbrev pub IsWithin : ℕ → Table T → Type 0
+  IsWithin longest table = over_bytes table ≤ unsent_limit + longest
 
   -- the keys of the connections that the next turn serves
   abbrev pub ready_keys : Table T → List ℕ
@@ -48,6 +70,17 @@ module _ {T : Type 0} where
     pub kept : (other : ℕ) → other ≢ key → IsReady old other → IsReady new other
     pub none_added : (other : ℕ) → other ≢ key → IsReady new other → IsReady old other
     pub before : KeepsBefore key (ready_keys old) (ready_keys new)
+
+  -- the connection with this key had its share of a turn
+  abbrev pub IsServed : Replies → ℕ → Progress → Share → Share → Table T → Table T → Type 0
+  IsServed replies key progress share left old new =
+      (peer : Peer T) → peer_at old key ≡ Some peer
+      → (next : Peer T) × (peer_at new key ≡ Some next) × HasServed replies (has_room_in old) progress share left peer.connection next.connection
+
+  -- the connections that are out of time are removed, and the others remain
+  pub record IsExpired (now : ℕ) (old new : Table T) : Type 0 where
+    pub late : (key : ℕ) (peer : Peer T) → peer_at old key ≡ Some peer → IsLate peer now → peer_at new key ≡ None
+    pub kept : (key : ℕ) (peer : Peer T) → peer_at old key ≡ Some peer → ¬ (IsLate peer now) → IsSome (peer_at new key)
 
   -- the connection with this key is closed to make room: none is closed before it
   pub record IsFirstToClose (table : Table T) (key : ℕ) : Type 0 where
@@ -76,19 +109,27 @@ module _ {T : Type 0} where
       pub size : size_of new + 1 ≡ size_of old
       pub ready : KeepsReady key old new
       pub clients : new.clients ≡ old.clients
+      pub over : over_bytes new ≤ over_bytes old
 
-    -- as many removals were recorded as connections were removed
-    pub record HasClosed (old new : Table T) (log after : L) : Type 0 where
+    -- as many removals were recorded, for this cause, as connections were removed
+    pub record HasClosed (cause : CloseCause) (old new : Table T) (log after : L) : Type 0 where
       pub count : ℕ
-      pub recorded : HasRecorded records count log after
+      pub recorded : HasRecorded records cause count log after
       pub size : size_of new + count ≡ size_of old
       pub clients : new.clients ≡ old.clients
+      pub over : over_bytes new ≤ over_bytes old
 
-    -- what follows a turn was done for the connection with this key: it is removed if it is over, and ready if it has more
-    -- to do
-    pub record IsSettled (key : ℕ) (outcome : Outcome) (old new : Table T) (log after : L) : Type 0 where
+    -- this connection is what follows its share of a turn; or it was over, and is gone
+    abbrev pub IsFollowedAt : ℕ → Progress → ℕ → Outcome → Peer T → Table T → L → L → Type 0
+    IsFollowedAt key progress now Over peer new log after = (wants_in peer.connection.phase ≡ wants.Close) × (peer_at new key ≡ None)
+    IsFollowedAt key progress now outcome peer new log after =
+        (next : Peer T) × (peer_at new key ≡ Some next) × IsFollowed records outcome progress now peer next log after
+
+    -- what follows a share of a turn was done for the connection with this key: it is removed if it is over, and ready if it
+    -- has more to do
+    pub record IsSettled (key : ℕ) (progress : Progress) (now : ℕ) (outcome : Outcome) (old new : Table T) (log after : L) : Type 0 where
       pub others : KeepsOthers key old new
       pub ready : KeepsReady key old new
-      pub over : outcome ≡ Over → peer_at new key ≡ None
       pub marked : has_more outcome ≡ true → IsSome (peer_at new key) → IsReady new key
-      pub closed : HasClosed old new log after
+      pub closed : HasClosed PeerClosed old new log after
+      pub followed : (peer : Peer T) → peer_at old key ≡ Some peer → IsFollowedAt key progress now outcome peer new log after

@@ -1,5 +1,6 @@
 //! A set of keys that lists them, each once, and finds the place of each at once.
-ghost use Rattle.std.specs.Prelude.{◌≡◌, ◌≢◌, ◌<◌, ◌≤◌, ℕ, [], slice_index, vec_len, IfOk, OnOk, OnErr, IfSome, IfNone};
+ghost use Rattle.std.specs.Prelude.{◌≡◌, ◌≢◌, ◌<◌, ◌≤◌, ℕ, [], slice_index, vec_len, vec_capacity};
+ghost use Rattle.std.specs.Prelude.{IfOk, IfSome, IfNone};
 ghost use Rattle.feed_node_table.specs.Lists.{IsListed, IsPlaced, KeepsBefore};
 
 use std::alloc::{AllocError, Global};
@@ -11,6 +12,7 @@ pub(crate) struct KeySet {
     /// The place of each key in `keys`. It says nothing of a key that is not in the set.
     places: Vec<usize>,
     ghost placed: { IsPlaced keys.items places.items },
+    ghost roomy: { vec_len places ≤ vec_capacity keys },
 }
 
 impl KeySet {
@@ -53,23 +55,21 @@ impl KeySet {
     }
 
     /// Adds a key at the end of the list, unless the set has it.
-    pub(crate) fn insert(&mut self, key: usize) -> Result<(), AllocError>
+    pub(crate) fn insert(&mut self, key: usize)
         requires { key < vec_len self.old.places }
-        ensures added { OnOk result (IsListed self.new.keys.items key) }
+        ensures added { IsListed self.new.keys.items key }
         ensures listed { (other : ℕ) → IsListed self.new.keys.items other
             → other ≢ key → IsListed self.old.keys.items other }
         ensures before { KeepsBefore key self.old.keys.items self.new.keys.items }
         ensures kept { (other : ℕ) → IsListed self.old.keys.items other → IsListed self.new.keys.items other }
-        ensures unchanged { OnErr result (self.new.keys.items ≡ self.old.keys.items) }
         ensures places { vec_len self.new.places ≡ vec_len self.old.places }
     {
         if self.place_of(key).is_some() {
-            return Ok(());
+            return;
         }
         let place = self.keys.len();
-        self.keys.push(key)?;
+        self.keys.push_reserved(key);
         self.places[key] = place;
-        Ok(())
     }
 
     /// Removes a key, if the set has it. The last key takes its place.

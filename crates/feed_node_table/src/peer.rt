@@ -1,8 +1,9 @@
 //! A connection with its stream and its times.
-ghost use Rattle.std.specs.Prelude.{◌≡◌, ◌≢◌, ◌≤◌, ◌+◌, ◌⊎◌, ℕ, true, false};
-ghost use Rattle.feed_node_connection.specs.States.{wants_in};
-ghost use Rattle.feed_node_table.specs.Connections.{IsConnection, unsent_bytes};
-ghost use Rattle.feed_node_table.specs.Logs.{HasRecorded};
+ghost use Rattle.std.specs.Prelude.{◌≡◌, ◌≢◌, ◌≤◌, ◌+◌, ◌⊎◌, max, ℕ, List, true, false};
+ghost use Rattle.feed_node_connection.specs.Events.{Event};
+ghost use Rattle.feed_node_connection.specs.States.{HasState, is_reply_sent_in, wants_in};
+ghost use Rattle.feed_node_table.specs.Connections.{HasServed, IsConnection, IsGiven, unsent_bytes};
+ghost use Rattle.feed_node_table.specs.Logs.{HasRecorded, Replied};
 
 use crate::log::{CloseCause, Log};
 use crate::room::RoomResponder;
@@ -44,7 +45,7 @@ pub(crate) struct Peer<T> {
 }
 
 impl<T: Stream> Peer<T> {
-    ghost use Rattle.feed_node_table.specs.Peers.{cause_of, micros_of};
+    ghost use Rattle.feed_node_table.specs.Peers.{begins_stream, cause_of, micros_of, HasResumed, IsFollowed, IsLate};
 
     /// Returns a connection that was accepted now.
     pub(crate) fn new(
@@ -90,7 +91,9 @@ impl<T: Stream> Peer<T> {
     /// connection, so that it holds none.
     pub(crate) fn add_unsent(&mut self, rest: usize) -> usize
         ensures sum { result ≡ rest + unsent_bytes self.new.connection }
-        ensures less { unsent_bytes self.new.connection ≤ unsent_bytes self.old.connection }
+        ensures same { (self.new ≡ self.old) ⊎ (wants_in self.new.connection.phase ≡ Wants.Close) }
+        ensures state { (history : List Event) → HasState self.old.connection history
+            → HasState self.new.connection history }
         ensures addr { self.new.addr ≡ self.old.addr }
     {
         match rest.checked_add(self.unsent()) {
@@ -121,20 +124,25 @@ impl<T: Stream> Peer<T> {
         }
     }
 
-    /// Advances the connection's clock.
-    pub(crate) fn advance_clock(&mut self, now: u64)
+    /// Advances the connection's clock. Returns whether its time limit passed by that.
+    pub(crate) fn advance_clock(&mut self, now: u64) -> bool
         ensures addr { self.new.addr ≡ self.old.addr }
         ensures less { unsent_bytes self.new.connection ≤ unsent_bytes self.old.connection }
+        ensures late { result ≡ true → IsLate self.old now }
+        ensures in_time { result ≡ false → ¬ (IsLate self.old now) }
     {
         if self.is_over() {
-            return;
+            return false;
         }
         let passed = now.saturating_sub(self.clock) / 1_000;
         self.clock = self.clock.max(now);
         self.connection.advance_clock(passed);
+        self.is_over()
     }
 
-    fn begins_stream(&self) -> bool {
+    fn begins_stream(&self) -> bool
+        ensures { result ≡ begins_stream self.now.connection }
+{
         match self.connection.summary() {
             Some(summary) => summary.is_streamed && self.connection.is_reply_sent(),
             None => false,
@@ -146,7 +154,8 @@ impl<T: Stream> Peer<T> {
         requires { wants_in self.old.connection.phase ≡ Wants.Next }
         ensures addr { self.new.addr ≡ self.old.addr }
         ensures less { unsent_bytes self.new.connection ≤ unsent_bytes self.old.connection }
-        ensures recorded { HasRecorded L.records 0 log.old log.new }
+        ensures recorded { L.records log.old (Replied self.old.addr self.old.connection self.old.micros) log.new }
+        ensures resumed { HasResumed self.old.connection self.new.connection }
         ensures outcome { result ≡ Outcome.Resumed }
     {
         log.on_reply(self.addr, &self.connection, self.micros);
@@ -159,6 +168,7 @@ impl<T: Stream> Peer<T> {
     fn end_timing(&mut self, now: u64)
         ensures addr { self.new.addr ≡ self.old.addr }
         ensures connection { self.new.connection ≡ self.old.connection }
+        ensures micros { is_reply_sent_in self.old.connection.phase ≡ true → self.new.micros ≡ micros_of self.old now }
     {
         if let Some(began) = self.began {
             if self.connection.is_reply_sent() {
@@ -172,6 +182,7 @@ impl<T: Stream> Peer<T> {
     fn linger(&mut self)
         ensures addr { self.new.addr ≡ self.old.addr }
         ensures connection { self.new.connection ≡ self.old.connection }
+        ensures micros { self.new.micros ≡ self.old.micros }
     {
         if self.connection.is_lingering() && !self.is_shut_down {
             self.is_shut_down = true;
@@ -183,7 +194,8 @@ impl<T: Stream> Peer<T> {
     pub(crate) fn settle<L: Log>(&mut self, progress: Progress, now: u64, log: &mut L) -> Outcome
         ensures addr { self.new.addr ≡ self.old.addr }
         ensures less { unsent_bytes self.new.connection ≤ unsent_bytes self.old.connection }
-        ensures recorded { HasRecorded L.records 0 log.old log.new }
+        ensures recorded { HasRecorded L.records CloseCause.PeerClosed 0 log.old log.new }
+        ensures followed { IsFollowed L.records result progress now self.old self.new log.old log.new }
     {
         self.end_timing(now);
         if self.begins_stream() {
@@ -201,8 +213,8 @@ impl<T: Stream> Peer<T> {
     // Returns what is left of a share for this connection: no reply if there is no room for one, and a part of the last
     // one remains to be sent.
     fn share(&self, has_room: bool, share: Share) -> Share
-        ensures replies { result.replies ≤ share.replies }
-        ensures none { has_room ≡ false → result.replies ≡ 0 ⊎ unsent_bytes self.now.connection ≡ 0 }
+        ensures bytes { result.bytes ≡ share.bytes }
+        ensures given { IsGiven has_room self.now.connection share result }
     {
         Share {
             bytes: share.bytes,
@@ -211,6 +223,19 @@ impl<T: Stream> Peer<T> {
             } else {
                 0
             },
+        }
+    }
+
+    // Notes when a reply began, and restarts the clock if the connection's timer was restarted.
+    fn note_times(&mut self, has_replied: bool, elapsed: u64, now: u64)
+        ensures addr { self.new.addr ≡ self.old.addr }
+        ensures connection { self.new.connection ≡ self.old.connection }
+    {
+        if has_replied {
+            self.began = Some(now);
+            self.clock = now;
+        } else if self.connection.elapsed() < elapsed {
+            self.clock = now;
         }
     }
 
@@ -225,6 +250,8 @@ impl<T: Stream> Peer<T> {
         share: &mut Share,
     ) -> Progress
         ensures addr { self.new.addr ≡ self.old.addr }
+        ensures served { HasServed (S.wanted responder.now, S.replies responder.now) has_room result
+            share.old share.new self.old.connection self.new.connection }
     {
         if self.is_over() {
             return Progress::Blocked;
@@ -239,14 +266,10 @@ impl<T: Stream> Peer<T> {
         let progress = self
             .stream
             .advance(&mut self.connection, alloc, &responder, buffer, &mut left);
+        let made = given.replies.saturating_sub(left.replies);
         share.bytes = left.bytes;
-        if left.replies < given.replies {
-            share.replies = left.replies;
-            self.began = Some(now);
-            self.clock = now;
-        } else if self.connection.elapsed() < elapsed {
-            self.clock = now;
-        }
+        share.replies -= made;
+        self.note_times(0 < made, elapsed, now);
         progress
     }
 }

@@ -4,9 +4,10 @@ use std::alloc::Global;
 
 /// The stream of a connection.
 pub trait Stream: Drop {
-    ghost use Rattle.std.specs.Prelude.{List};
+    ghost use Rattle.std.specs.Prelude.{◌≢◌, List};
     ghost use Rattle.feed_node_connection.specs.Events.{Event};
     ghost use Rattle.feed_node_connection.specs.States.{HasState};
+    ghost use Rattle.feed_node_connection.specs.Streams.{IsStopped};
     ghost use Rattle.feed_node_table.specs.Connections.{HasMoved};
 
     /// What reports the events of streams.
@@ -27,6 +28,8 @@ pub trait Stream: Drop {
         buffer: &mut [u8],
         share: &mut Share,
     ) -> Progress
-        ensures { (history : List Event) → HasState connection.old history
-            → HasMoved (S.wanted responder.now, S.replies responder.now) share.old share.new connection.new history };
+        ensures moved { (history : List Event) → HasState connection.old history
+            → HasMoved (S.wanted responder.now, S.replies responder.now) share.old share.new connection.new history }
+        ensures still { result ≢ Progress.Moved }
+        ensures stopped { IsStopped result share.new connection.new };
 }

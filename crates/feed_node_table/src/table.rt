@@ -1,6 +1,6 @@
 //! The connections of a node as a value.
-ghost use Rattle.std.specs.Prelude.{◌≡◌, ◌≢◌, ◌≤◌, ◌<◌, ◌+◌, ◌⊎◌, ℕ, true, [], sum_by, vec_len, nat_le, nat_lt, length};
-ghost use Rattle.std.specs.Prelude.{slice_index, Some, None, IfOk, IfSome, IfNone, OnOk, OnErr, IsSome, IsSomeAnd};
+ghost use Rattle.std.specs.Prelude.{◌≡◌, ◌≢◌, ◌≤◌, ◌<◌, ◌+◌, ◌*◌, ℕ, true, false, [], sum_by, vec_len, nat_le, length};
+ghost use Rattle.std.specs.Prelude.{slice_index, Some, None, IfOk, IfSome, IfNone, IsSome, IsSomeAnd};
 ghost use Rattle.slab.specs.Slab.{ContainsKey, slab_len};
 ghost use Rattle.feed_node_table.specs.Lists.{IsListed};
 ghost use Rattle.feed_node_table.specs.Peers.{unsent_in};
@@ -38,9 +38,11 @@ impl<T: Stream> Table<T> {
     ghost use Rattle.feed_node_table.specs.Tables.{peer_at, size_of, bytes_held, ready_keys, IsReady, KeepsOthers};
     ghost use Rattle.feed_node_table.specs.Tables.{KeepsReady};
     ghost use Rattle.feed_node_table.specs.declared.peer.Peer.{Peer};
-    ghost use Rattle.feed_node_table.specs.Peers.{cause_of};
+    ghost use Rattle.feed_node_table.specs.Connections.{AreWithin, short_len};
+    ghost use Rattle.feed_node_table.specs.Peers.{cause_of, IsFollowed, IsLate};
     ghost use Rattle.feed_node_table.specs.Tables.{IsFirstToClose, IsFirstBelow, IsRemoved, HasClosed, IsSettled};
-    ghost use Rattle.feed_node_table.specs.Tables.{has_more};
+    ghost use Rattle.feed_node_table.specs.Tables.{has_room_in, over_bytes, unsent_limit};
+    ghost use Rattle.feed_node_table.specs.Tables.{IsExpired, IsServed, IsWithin};
 
     /// Returns an empty table for at most this many connections, with the memory for all of them.
     pub fn new(alloc: Global, clients: usize) -> Result<Table<T>, AllocError>
@@ -82,14 +84,16 @@ impl<T: Stream> Table<T> {
 
     /// Returns the bytes of the replies of all connections that are not yet sent.
     pub fn bytes_held(&self) -> usize
-        ensures { result ≡ bytes_held self.now }
+        ensures held { result ≡ bytes_held self.now }
+        ensures bounded { (longest : ℕ) → IsWithin longest self.now
+            → result ≤ (unsent_limit + longest) + short_len * size_of self.now }
     {
         self.unsent
     }
 
     /// Returns whether another reply may be made: the bytes held are below 33,554,432.
     pub fn has_room(&self) -> bool
-        ensures { result ≡ nat_lt (bytes_held self.now) 33554432 }
+        ensures { result ≡ has_room_in self.now }
     {
         self.unsent < UNSENT_LIMIT
     }
@@ -110,6 +114,7 @@ impl<T: Stream> Table<T> {
         ensures others { KeepsOthers result self.old self.new }
         ensures size { size_of self.new ≡ size_of self.old + 1 }
         ensures held { bytes_held self.new ≡ bytes_held self.old }
+        ensures over { over_bytes self.new ≡ over_bytes self.old }
         ensures ready { self.new.ready ≡ self.old.ready }
         ensures clients { self.new.clients ≡ self.old.clients }
         ensures recorded { L.records log.old (Accepted addr) log.new }
@@ -124,6 +129,7 @@ impl<T: Stream> Table<T> {
         ensures others { KeepsOthers key self.old self.new }
         ensures size { size_of self.new ≡ size_of self.old }
         ensures held { bytes_held self.new ≡ bytes_held self.old }
+        ensures over { over_bytes self.new ≡ over_bytes self.old }
         ensures ready { self.new.ready ≡ self.old.ready }
         ensures clients { self.new.clients ≡ self.old.clients }
     {
@@ -214,17 +220,14 @@ impl<T: Stream> Table<T> {
     }
 
     /// Has the next turn serve a connection.
-    pub fn mark_ready(&mut self, key: usize) -> Result<(), AllocError>
-        ensures marked { OnOk result (IsSome (peer_at self.old key) → IsReady self.new key) }
+    pub fn mark_ready(&mut self, key: usize)
+        ensures marked { IsSome (peer_at self.old key) → IsReady self.new key }
         ensures ready { KeepsReady key self.old self.new }
         ensures peers { self.new.peers ≡ self.old.peers }
         ensures clients { self.new.clients ≡ self.old.clients }
-        ensures unchanged { OnErr result (ready_keys self.new ≡ ready_keys self.old) }
     {
         if key < self.peers.capacity() && self.peers.contains(key) {
-            self.ready.insert(key)
-        } else {
-            Ok(())
+            self.ready.insert(key);
         }
     }
 
@@ -240,12 +243,15 @@ impl<T: Stream> Table<T> {
         now: u64,
         share: &mut Share,
     ) -> Progress
+        ensures served { IsServed (S.wanted responder.now, S.replies responder.now) key result share.old share.new
+            self.old self.new }
+        ensures within { (longest : ℕ) → AreWithin (S.wanted responder.now, S.replies responder.now) longest
+            → IsWithin longest self.old → IsWithin longest self.new }
         ensures others { KeepsOthers key self.old self.new }
-        ensures kept { IsSome (peer_at self.old key) → IsSome (peer_at self.new key) }
         ensures size { size_of self.new ≡ size_of self.old }
         ensures clients { self.new.clients ≡ self.old.clients }
         ensures ready { KeepsReady key self.old self.new }
-        ensures served { ¬ (IsReady self.new key) }
+        ensures once { ¬ (IsReady self.new key) }
     {
         let has_room = self.has_room();
         self.ready.remove(key);
@@ -266,19 +272,21 @@ impl<T: Stream> Table<T> {
         now: u64,
         log: &mut L,
     ) -> Outcome
+        ensures followed { (peer : Peer T) → peer_at self.old key ≡ Some peer → (next : Peer T)
+            × (peer_at self.new key ≡ Some next) × IsFollowed L.records result progress now peer next log.old log.new }
         ensures others { KeepsOthers key self.old self.new }
-        ensures kept { IsSome (peer_at self.old key) → IsSome (peer_at self.new key) }
         ensures size { size_of self.new ≡ size_of self.old }
         ensures clients { self.new.clients ≡ self.old.clients }
         ensures ready { self.new.ready ≡ self.old.ready }
-        ensures recorded { HasRecorded L.records 0 log.old log.new }
+        ensures over { over_bytes self.new ≤ over_bytes self.old }
+        ensures recorded { HasRecorded L.records CloseCause.PeerClosed 0 log.old log.new }
     {
         let Some(peer) = self.peers.get_mut(key) else {
             return Outcome::Over;
         };
-        let rest = self.unsent - peer.unsent();
+        let before = peer.unsent();
         let outcome = peer.settle(progress, now, log);
-        self.unsent = peer.add_unsent(rest);
+        self.unsent -= before - peer.unsent();
         outcome
     }
 
@@ -287,27 +295,12 @@ impl<T: Stream> Table<T> {
         ensures removed { (peer : Peer T) → peer_at self.old key ≡ Some peer
             → IsRemoved L.records key (cause_of peer cause) now self.old self.new log.old log.new }
         ensures absent { peer_at self.old key ≡ None → (self.new ≡ self.old) × (log.new ≡ log.old) }
-        ensures settled { IsSettled L.records key Outcome.Over self.old self.new log.old log.new }
     {
         let Some(peer) = self.peers.get(key) else {
             return;
         };
         let cause = peer.close_cause(cause);
         let _ = self.remove(key, cause, now, log);
-    }
-
-    // Marks a connection that has more to do as ready, or closes it if there is no memory for that.
-    fn keep_ready<L: Log>(&mut self, key: usize, outcome: Outcome, now: u64, log: &mut L) -> Outcome
-        requires { has_more outcome ≡ true }
-        ensures { IsSettled L.records key result self.old self.new log.old log.new }
-    {
-        match self.mark_ready(key) {
-            Ok(()) => outcome,
-            Err(_) => {
-                self.close(key, CloseCause::PeerClosed, now, log);
-                Outcome::Over
-            }
-        }
     }
 
     /// Does what follows `advance`, by how that ended: records a reply that was sent, marks the connection as ready if
@@ -319,14 +312,20 @@ impl<T: Stream> Table<T> {
         now: u64,
         log: &mut L,
     ) -> Outcome
-        ensures { IsSettled L.records key result self.old self.new log.old log.new }
+        ensures { IsSettled L.records key progress now result self.old self.new log.old log.new }
     {
         let outcome = self.settle_peer(key, progress, now, log);
         match outcome {
             Outcome::Waits => Outcome::Waits,
             Outcome::Streams => Outcome::Streams,
-            Outcome::Ready => self.keep_ready(key, Outcome::Ready, now, log),
-            Outcome::Resumed => self.keep_ready(key, Outcome::Resumed, now, log),
+            Outcome::Ready => {
+                self.mark_ready(key);
+                Outcome::Ready
+            }
+            Outcome::Resumed => {
+                self.mark_ready(key);
+                Outcome::Resumed
+            }
             Outcome::Over => {
                 self.close(key, CloseCause::PeerClosed, now, log);
                 Outcome::Over
@@ -334,35 +333,45 @@ impl<T: Stream> Table<T> {
         }
     }
 
-    // Advances the clock of a connection.
+    // Advances the clock of a connection. Returns whether its time limit passed by that.
     fn advance_clock_of(&mut self, key: usize, now: u64) -> bool
+        ensures late { (peer : Peer T) → peer_at self.old key ≡ Some peer → result ≡ true → IsLate peer now }
+        ensures in_time { (peer : Peer T) → peer_at self.old key ≡ Some peer → result ≡ false
+            → (¬ (IsLate peer now)) × IsSome (peer_at self.new key) }
+        ensures there { result ≡ true → IsSome (peer_at self.new key) }
         ensures others { KeepsOthers key self.old self.new }
         ensures size { size_of self.new ≡ size_of self.old }
         ensures clients { self.new.clients ≡ self.old.clients }
         ensures ready { self.new.ready ≡ self.old.ready }
+        ensures over { over_bytes self.new ≤ over_bytes self.old }
     {
         let Some(peer) = self.peers.get_mut(key) else {
             return false;
         };
-        let rest = self.unsent - peer.unsent();
-        peer.advance_clock(now);
-        self.unsent = peer.add_unsent(rest);
-        peer.is_over()
+        let before = peer.unsent();
+        let is_late = peer.advance_clock(now);
+        self.unsent -= before - peer.unsent();
+        is_late
     }
 
     // Advances the clock of a connection, and removes it if it is out of time.
     fn expire<L: Log>(&mut self, key: usize, now: u64, log: &mut L)
-        ensures { HasClosed L.records self.old self.new log.old log.new }
+        ensures closed { HasClosed L.records CloseCause.TimedOut self.old self.new log.old log.new }
+        ensures others { KeepsOthers key self.old self.new }
+        ensures late { (peer : Peer T) → peer_at self.old key ≡ Some peer → IsLate peer now
+            → peer_at self.new key ≡ None }
+        ensures kept { (peer : Peer T) → peer_at self.old key ≡ Some peer → ¬ (IsLate peer now)
+            → IsSome (peer_at self.new key) }
     {
-        if !self.advance_clock_of(key, now) {
-            return;
+        if self.advance_clock_of(key, now) {
+            self.close(key, CloseCause::TimedOut, now, log);
         }
-        self.close(key, CloseCause::TimedOut, now, log);
     }
 
     /// Advances the clocks of all connections, and removes those that are out of time.
     pub fn advance_clock<L: Log>(&mut self, now: u64, log: &mut L)
-        ensures { HasClosed L.records self.old self.new log.old log.new }
+        ensures expired { IsExpired now self.old self.new }
+        ensures closed { HasClosed L.records CloseCause.TimedOut self.old self.new log.old log.new }
     {
         for key in 0..self.peers.capacity() {
             self.expire(key, now, log);

@@ -9,7 +9,8 @@ use crate::line::Line;
 use crate::node::Node;
 use feed_http_heads::Request;
 use feed_node_connection::{
-    BODY_LIMIT, Connection, Reply, Respond, RespondFault, TURN_SHARE, TimeLimits, Wants, advance,
+    BODY_LIMIT, Connection, Reading, Reply, Respond, RespondFault, TURN_SHARE, TimeLimits, Wants,
+    Writing, advance,
 };
 use std::alloc::{AllocError, Global};
 
@@ -157,14 +158,18 @@ impl Node<'_> {
         };
         let limits = TimeLimits { step: 10, idle: 10 };
         let mut connection = Connection::new(self.rt.alloc(), limits);
-        let mut reader = ShortReader {
-            bytes: &request,
-            step: self.step,
-            fails_at: usize::MAX,
-            waits: !ends,
-            calls: 0,
+        let mut reader = Reading {
+            reader: ShortReader {
+                bytes: &request,
+                step: self.step,
+                fails_at: usize::MAX,
+                waits: !ends,
+                calls: 0,
+            },
         };
-        let mut writer = ShortWriter::new(self.rt.alloc());
+        let mut writer = Writing {
+            writer: ShortWriter::new(self.rt.alloc()),
+        };
         let mut buffer = [0u8; 64];
         for _ in 0..200 {
             let mut share = TURN_SHARE;
@@ -185,7 +190,7 @@ impl Node<'_> {
         println!(self.rt;
             "{:?} {lingers} {}",
             connection.wants(),
-            Escaped(&writer.bytes)
+            Escaped(&writer.writer.bytes)
         )?;
         Ok(())
     }

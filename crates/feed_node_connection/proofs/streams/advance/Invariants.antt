@@ -5,6 +5,8 @@ use Rattle.feed_node_connection.specs.Streams.{HasAdvanced}
 use Rattle.feed_node_connection.proofs.streams.advance.Given as goal
 
 abbrev pub invariant-loop : goal.invariant-loop
-invariant-loop g l = (history : List Event) → HasState l.fn.connection history
-    → HasAdvanced (g.S.Respond.wanted l.responder, g.S.Respond.replies l.responder) l.fn.share l.share l.connection history (g.R.Read.remaining l.fn.reader) (g.R.Read.remaining l.reader)
-    (g.W.Write.contents l.fn.writer) (g.W.Write.contents l.writer)
+invariant-loop g l =
+    ((history : List Event) → HasState l.fn.connection history
+    → HasAdvanced (g.S.Respond.wanted l.responder, g.S.Respond.replies l.responder) l.fn.share l.share l.connection history (g.R.Receive.remaining l.fn.reader) (g.R.Receive.remaining l.reader)
+    (g.W.Transmit.contents l.fn.writer) (g.W.Transmit.contents l.writer))
+    × g.R.Receive.may_read l.reader × g.W.Transmit.may_write l.writer

@@ -9,6 +9,6 @@ returns-in-Ok-clause-written g c = λ history state. record {
   more = Sent (take c.in-Ok.count (pending_of c.args.connection.now)) ∷ [];
   state = c.mark_sent.ensures.state history state;
   no_reply_made = refl;
-  bytes_sent = subst (λ t. Appends (g.W.Write.contents c.args.writer.now) (g.W.Write.contents c.write.new.self) (take c.in-Ok.count t)) c.pending_reply.ensures c.in-Ok.ensures.bytes;
+  bytes_sent = subst (λ t. Appends (g.W.Transmit.contents c.args.writer.now) (g.W.Transmit.contents c.write.new.self) (take c.in-Ok.count t)) c.pending_reply.ensures c.in-Ok.ensures.bytes;
   none_received = refl;
 }

@@ -1,14 +1,8 @@
-use Rattle.std.proofs.Common.{refl, sym, subst, ◌∙◌, ap, IsSome, ◌≡◌}
-use Rattle.std.specs.Option.{option_copied}
+use Rattle.std.proofs.Common.{◌≡◌, sym, subst, ap, ◌∙◌, refl, IsSome}
 use Rattle.feed_node_table.specs.Peers.{cause_of}
 use Rattle.feed_node_table.specs.Tables.{peer_at, IsRemoved}
 use Rattle.feed_node_table.proofs.Firsts.{same_peer}
-use Rattle.feed_node_table.proofs.Records.{settled_none, settled_removed}
 use Rattle.feed_node_table.proofs.table.Table.close.Goals as goal
-
-pub returns-in_default-clause-settled : goal.returns-in_default-clause-settled
-returns-in_default-clause-settled g c =
-    settled_none g.L.Log.records c.args.key _ c.args.self.now c.args.log.now refl (λ is. sym c.get.ensures ∙ ap (λ slot. option_copied slot) c.in_default.is)
 
 pub returns-clause-removed : goal.returns-clause-removed
 returns-clause-removed g c = λ peer is.
@@ -17,7 +11,3 @@ returns-clause-removed g c = λ peer is.
     subst (λ why. IsRemoved g.L.Log.records c.args.key why c.args.now c.args.self.now c.remove.new.self c.args.log.now c.remove.new.log) cause
     (c.remove.ensures.removed (subst (λ slot. IsSome slot) c.in-Some.ensures refl))
 
-pub returns-clause-settled : goal.returns-clause-settled
-returns-clause-settled g c =
-    settled_removed g.L.Log.records c.args.key c.close_cause-cause.result c.args.now c.args.self.now c.remove.new.self c.args.log.now c.remove.new.log
-    (c.remove.ensures.removed (subst (λ slot. IsSome slot) c.in-Some.ensures refl))

@@ -1,14 +1,23 @@
-use Rattle.feed_node_table.proofs.Records.{closed_none, closed_both, recorded_none}
+use Rattle.std.proofs.Common.{◌≡◌, ◌∙◌, refl, ap}
+use Rattle.feed_node_table.specs.declared.log.CloseCause.TheVariants.{TimedOut}
+use Rattle.feed_node_table.proofs.Records.{closed_none, closed_both, closed_removed, recorded_none}
+use Rattle.feed_node_table.proofs.Expired.{peer_there}
 use Rattle.feed_node_table.proofs.table.Table.expire.Goals as goal
 
-pub returns-then-not-advance_clock_of : goal.returns-then-not-advance_clock_of
-returns-then-not-advance_clock_of g c =
-    closed_none g.L.Log.records c.args.self.now c.advance_clock_of.new.self c.args.log.now c.args.log.now (recorded_none g.L.Log.records c.args.log.now)
-    c.advance_clock_of.ensures.size c.advance_clock_of.ensures.clients
+pub returns-then-advance_clock_of-clause-closed : goal.returns-then-advance_clock_of-clause-closed
+returns-then-advance_clock_of-clause-closed g c =
+    let it = peer_there c.advance_clock_of.new.self c.args.key (c.advance_clock_of.ensures.there c.if-advance_clock_of.true) in
+    closed_both g.L.Log.records TimedOut c.args.self.now c.advance_clock_of.new.self c.close.new.self c.args.log.now c.args.log.now c.close.new.log
+    (closed_none g.L.Log.records TimedOut c.args.self.now c.advance_clock_of.new.self c.args.log.now c.args.log.now (recorded_none g.L.Log.records TimedOut c.args.log.now)
+    c.advance_clock_of.ensures.size c.advance_clock_of.ensures.clients c.advance_clock_of.ensures.over)
+    (closed_removed g.L.Log.records TimedOut c.args.key c.args.now c.advance_clock_of.new.self c.close.new.self c.args.log.now c.close.new.log it.0 it.1 (c.close.ensures.removed it.0 it.1))
 
-pub returns : goal.returns
-returns g c =
-    closed_both g.L.Log.records c.args.self.now c.advance_clock_of.new.self c.close.new.self c.args.log.now c.args.log.now c.close.new.log
-    (closed_none g.L.Log.records c.args.self.now c.advance_clock_of.new.self c.args.log.now c.args.log.now (recorded_none g.L.Log.records c.args.log.now)
-    c.advance_clock_of.ensures.size c.advance_clock_of.ensures.clients)
-    c.close.ensures.settled.closed
+pub returns-then-advance_clock_of-clause-others : goal.returns-then-advance_clock_of-clause-others
+returns-then-advance_clock_of-clause-others g c = λ other differs.
+    let it = peer_there c.advance_clock_of.new.self c.args.key (c.advance_clock_of.ensures.there c.if-advance_clock_of.true) in
+    (c.close.ensures.removed it.0 it.1).others other differs ∙ c.advance_clock_of.ensures.others other differs
+
+pub returns-then-advance_clock_of-clause-late : goal.returns-then-advance_clock_of-clause-late
+returns-then-advance_clock_of-clause-late g c = λ peer is late.
+    let it = peer_there c.advance_clock_of.new.self c.args.key (c.advance_clock_of.ensures.there c.if-advance_clock_of.true) in
+    (c.close.ensures.removed it.0 it.1).gone

@@ -1,4 +1,4 @@
-use Rattle.feed_node_table.proofs.Invariants.{counted_after_insert, known_after_update}
+use Rattle.feed_node_table.proofs.Invariants.{counted_after_insert, known_after_update, over_after_insert}
 use Rattle.feed_node_table.proofs.table.Table.insert.Goals as goal
 
 pub invariant_of-self-clause-counted : goal.invariant_of-self-clause-counted
@@ -7,3 +7,6 @@ invariant_of-self-clause-counted g c =
 
 pub invariant_of-self-clause-known : goal.invariant_of-self-clause-known
 invariant_of-self-clause-known g c = known_after_update _ _ _ _ _ _ c.insert_reserved.ensures.updates c.args.self.now.known (λ other is. is)
+
+pub returns-clause-over : goal.returns-clause-over
+returns-clause-over g c = over_after_insert _ _ _ _ c.insert_reserved.ensures.was_vacant c.insert_reserved.ensures.updates c.new-peer.ensures.unsent

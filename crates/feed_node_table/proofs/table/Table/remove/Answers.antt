@@ -1,6 +1,6 @@
 use Rattle.std.proofs.Common.{refl, sym, subst}
 use Rattle.feed_node_table.specs.Logs.{Closed}
-use Rattle.feed_node_table.proofs.Invariants.{counted_after_removal, known_after_removal}
+use Rattle.feed_node_table.proofs.Invariants.{counted_after_removal, known_after_removal, over_after_removal}
 use Rattle.feed_node_table.proofs.table.Table.remove.Goals as goal
 
 pub invariant_of-self-2-clause-counted : goal.invariant_of-self-2-clause-counted
@@ -25,4 +25,5 @@ returns-clause-removed g c = λ there. record {
     before = c.remove.ensures.before;
   };
   clients = refl;
+  over = over_after_removal _ _ _ _ (sym c.in-Some.ensures.value) c.in-Some.ensures.slots;
 }

@@ -1,51 +1,54 @@
-use Rattle.std.proofs.Common.{refl, ap, ◌≡◌}
-use Rattle.feed_node_table.specs.declared.peer.Outcome.TheVariants.{Waits, Streams, Over}
-use Rattle.feed_node_table.proofs.Records.{closed_none, settled_after, settled_none}
+use Rattle.std.proofs.Common.{◌≡◌, refl, ap, subst, ◌∙◌, Some, None, inl, inr}
+use Rattle.slab.specs.Slab.{get}
+use Rattle.feed_node_table.specs.declared.log.CloseCause.TheVariants.{PeerClosed}
+use Rattle.feed_node_table.specs.declared.peer.Outcome.TheVariants.{Waits, Streams, Ready, Resumed, Over}
+use Rattle.feed_node_table.proofs.Records.{closed_none}
+use Rattle.feed_node_table.proofs.Settled.{IsNext, settled_still, settled_ready, settled_over}
 use Rattle.feed_node_table.proofs.table.Table.settle.Goals as goal
-
-waits_is_not_over : Waits ≡ Over → ⊥
-waits_is_not_over same = cc
-
-streams_is_not_over : Streams ≡ Over → ⊥
-streams_is_not_over same = cc
 
 pub returns-in-Waits : goal.returns-in-Waits
 returns-in-Waits g c =
-    settled_after g.L.Log.records c.args.key _ c.args.self.now c.settle_peer-outcome.new.self c.settle_peer-outcome.new.self c.args.log.now c.settle_peer-outcome.new.log c.settle_peer-outcome.new.log
+    settled_still g.L.Log.records c.args.key c.args.progress c.args.now Waits c.args.self.now c.settle_peer-outcome.new.self c.args.log.now c.settle_peer-outcome.new.log refl
     c.settle_peer-outcome.ensures.others (ap (λ set. set.keys.items) c.settle_peer-outcome.ensures.ready)
-    (closed_none g.L.Log.records c.args.self.now c.settle_peer-outcome.new.self c.args.log.now c.settle_peer-outcome.new.log c.settle_peer-outcome.ensures.recorded
-    c.settle_peer-outcome.ensures.size c.settle_peer-outcome.ensures.clients)
-    (settled_none g.L.Log.records c.args.key _ c.settle_peer-outcome.new.self c.settle_peer-outcome.new.log refl (λ is. absurd (waits_is_not_over is)))
+    (closed_none g.L.Log.records PeerClosed c.args.self.now c.settle_peer-outcome.new.self c.args.log.now c.settle_peer-outcome.new.log c.settle_peer-outcome.ensures.recorded
+    c.settle_peer-outcome.ensures.size c.settle_peer-outcome.ensures.clients c.settle_peer-outcome.ensures.over)
+    (subst (λ o. IsNext g.L.Log.records c.args.key c.args.progress c.args.now o c.args.self.now c.settle_peer-outcome.new.self c.args.log.now c.settle_peer-outcome.new.log) c.in-Waits.is c.settle_peer-outcome.ensures.followed)
 
 pub returns-in-Streams : goal.returns-in-Streams
 returns-in-Streams g c =
-    settled_after g.L.Log.records c.args.key _ c.args.self.now c.settle_peer-outcome.new.self c.settle_peer-outcome.new.self c.args.log.now c.settle_peer-outcome.new.log c.settle_peer-outcome.new.log
+    settled_still g.L.Log.records c.args.key c.args.progress c.args.now Streams c.args.self.now c.settle_peer-outcome.new.self c.args.log.now c.settle_peer-outcome.new.log refl
     c.settle_peer-outcome.ensures.others (ap (λ set. set.keys.items) c.settle_peer-outcome.ensures.ready)
-    (closed_none g.L.Log.records c.args.self.now c.settle_peer-outcome.new.self c.args.log.now c.settle_peer-outcome.new.log c.settle_peer-outcome.ensures.recorded
-    c.settle_peer-outcome.ensures.size c.settle_peer-outcome.ensures.clients)
-    (settled_none g.L.Log.records c.args.key _ c.settle_peer-outcome.new.self c.settle_peer-outcome.new.log refl (λ is. absurd (streams_is_not_over is)))
-
-pub returns-in-Over : goal.returns-in-Over
-returns-in-Over g c =
-    settled_after g.L.Log.records c.args.key _ c.args.self.now c.settle_peer-outcome.new.self c.close.new.self c.args.log.now c.settle_peer-outcome.new.log c.close.new.log
-    c.settle_peer-outcome.ensures.others (ap (λ set. set.keys.items) c.settle_peer-outcome.ensures.ready)
-    (closed_none g.L.Log.records c.args.self.now c.settle_peer-outcome.new.self c.args.log.now c.settle_peer-outcome.new.log c.settle_peer-outcome.ensures.recorded
-    c.settle_peer-outcome.ensures.size c.settle_peer-outcome.ensures.clients)
-    (c.close.ensures.settled)
+    (closed_none g.L.Log.records PeerClosed c.args.self.now c.settle_peer-outcome.new.self c.args.log.now c.settle_peer-outcome.new.log c.settle_peer-outcome.ensures.recorded
+    c.settle_peer-outcome.ensures.size c.settle_peer-outcome.ensures.clients c.settle_peer-outcome.ensures.over)
+    (subst (λ o. IsNext g.L.Log.records c.args.key c.args.progress c.args.now o c.args.self.now c.settle_peer-outcome.new.self c.args.log.now c.settle_peer-outcome.new.log) c.in-Streams.is c.settle_peer-outcome.ensures.followed)
 
 pub returns-in-Ready : goal.returns-in-Ready
 returns-in-Ready g c =
-    settled_after g.L.Log.records c.args.key _ c.args.self.now c.settle_peer-outcome.new.self c.keep_ready.new.self c.args.log.now c.settle_peer-outcome.new.log c.keep_ready.new.log
+    settled_ready g.L.Log.records c.args.key c.args.progress c.args.now Ready c.args.self.now c.settle_peer-outcome.new.self c.mark_ready.new.self c.args.log.now c.settle_peer-outcome.new.log
     c.settle_peer-outcome.ensures.others (ap (λ set. set.keys.items) c.settle_peer-outcome.ensures.ready)
-    (closed_none g.L.Log.records c.args.self.now c.settle_peer-outcome.new.self c.args.log.now c.settle_peer-outcome.new.log c.settle_peer-outcome.ensures.recorded
-    c.settle_peer-outcome.ensures.size c.settle_peer-outcome.ensures.clients)
-    (c.keep_ready.ensures)
+    (closed_none g.L.Log.records PeerClosed c.args.self.now c.settle_peer-outcome.new.self c.args.log.now c.settle_peer-outcome.new.log c.settle_peer-outcome.ensures.recorded
+    c.settle_peer-outcome.ensures.size c.settle_peer-outcome.ensures.clients c.settle_peer-outcome.ensures.over)
+    (λ peer is. let next =
+        subst (λ o. IsNext g.L.Log.records c.args.key c.args.progress c.args.now o c.args.self.now c.settle_peer-outcome.new.self c.args.log.now c.settle_peer-outcome.new.log) c.in-Ready.is c.settle_peer-outcome.ensures.followed peer is in
+    (next.0, ap (λ slab. get slab c.args.key) c.mark_ready.ensures.peers ∙ next.1, next.2))
+    c.mark_ready.ensures.peers c.mark_ready.ensures.clients c.mark_ready.ensures.ready c.mark_ready.ensures.marked
 
 pub returns-in-Resumed : goal.returns-in-Resumed
 returns-in-Resumed g c =
-    settled_after g.L.Log.records c.args.key _ c.args.self.now c.settle_peer-outcome.new.self c.keep_ready-in-Resumed.new.self c.args.log.now c.settle_peer-outcome.new.log
-    c.keep_ready-in-Resumed.new.log
+    settled_ready g.L.Log.records c.args.key c.args.progress c.args.now Resumed c.args.self.now c.settle_peer-outcome.new.self c.mark_ready-in-Resumed.new.self c.args.log.now c.settle_peer-outcome.new.log
     c.settle_peer-outcome.ensures.others (ap (λ set. set.keys.items) c.settle_peer-outcome.ensures.ready)
-    (closed_none g.L.Log.records c.args.self.now c.settle_peer-outcome.new.self c.args.log.now c.settle_peer-outcome.new.log c.settle_peer-outcome.ensures.recorded
-    c.settle_peer-outcome.ensures.size c.settle_peer-outcome.ensures.clients)
-    (c.keep_ready-in-Resumed.ensures)
+    (closed_none g.L.Log.records PeerClosed c.args.self.now c.settle_peer-outcome.new.self c.args.log.now c.settle_peer-outcome.new.log c.settle_peer-outcome.ensures.recorded
+    c.settle_peer-outcome.ensures.size c.settle_peer-outcome.ensures.clients c.settle_peer-outcome.ensures.over)
+    (λ peer is. let next =
+        subst (λ o. IsNext g.L.Log.records c.args.key c.args.progress c.args.now o c.args.self.now c.settle_peer-outcome.new.self c.args.log.now c.settle_peer-outcome.new.log) c.in-Resumed.is c.settle_peer-outcome.ensures.followed peer is in
+    (next.0, ap (λ slab. get slab c.args.key) c.mark_ready-in-Resumed.ensures.peers ∙ next.1, next.2))
+    c.mark_ready-in-Resumed.ensures.peers c.mark_ready-in-Resumed.ensures.clients c.mark_ready-in-Resumed.ensures.ready c.mark_ready-in-Resumed.ensures.marked
+
+pub returns-in-Over : goal.returns-in-Over
+returns-in-Over g c =
+    settled_over g.L.Log.records c.args.key c.args.progress c.args.now c.args.self.now c.settle_peer-outcome.new.self c.close.new.self c.args.log.now c.settle_peer-outcome.new.log c.close.new.log
+    c.settle_peer-outcome.ensures.others (ap (λ set. set.keys.items) c.settle_peer-outcome.ensures.ready)
+    (closed_none g.L.Log.records PeerClosed c.args.self.now c.settle_peer-outcome.new.self c.args.log.now c.settle_peer-outcome.new.log c.settle_peer-outcome.ensures.recorded
+    c.settle_peer-outcome.ensures.size c.settle_peer-outcome.ensures.clients c.settle_peer-outcome.ensures.over)
+    (subst (λ o. IsNext g.L.Log.records c.args.key c.args.progress c.args.now o c.args.self.now c.settle_peer-outcome.new.self c.args.log.now c.settle_peer-outcome.new.log) c.in-Over.is c.settle_peer-outcome.ensures.followed)
+    c.close.ensures.removed c.close.ensures.absent
