@@ -9,7 +9,7 @@ _kbfeed() {
   for ((index = 1; index < COMP_CWORD; index++)); do
     case $has_options${COMP_WORDS[index]} in
       yes--) has_options= ;;
-      yes--name | yes--count | yes--timeout | yes--idle | yes--max-age | yes--piece | yes--clients | yes--from | yes--token)
+      yes--name | yes--count | yes--timeout | yes--idle | yes--max-age | yes--metrics | yes--log-queries | yes--piece | yes--clients | yes--from | yes--token)
         [[ ${COMP_WORDS[index + 1]} == = ]] && ((index++))
         ((index++)) ;;
       yes-?*) ;;
@@ -23,7 +23,9 @@ _kbfeed() {
     check) options='-h --help -v --verbose --name --strict --summary --explain --json' ;;
     openurl) options='-h --help -v --verbose --json' ;;
     serve) options='-h --help -v --verbose --count --timeout' ;;
-    node) options='-h --help -v --verbose --check --from --token --piece --clients --timeout --idle --max-age' ;;
+    node)
+      options='-h --help -v --verbose --check --from --token --piece --clients --timeout --idle --max-age
+        --metrics --forwarded --log-queries' ;;
     fetch) options='-h --help -v --verbose --piece --timeout' ;;
     replay | answer | ask | status | why) options='-h --help -v --verbose' ;;
   esac

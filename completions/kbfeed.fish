@@ -14,7 +14,7 @@ function __kbfeed_place
             switch $word
                 case --
                     set has_options no
-                case --name --count --timeout --idle --max-age --piece --clients --from --token
+                case --name --count --timeout --idle --max-age --metrics --log-queries --piece --clients --from --token
                     set is_value yes
                 case '-?*'
                 case '*'
@@ -70,4 +70,7 @@ complete -c kbfeed -n '__kbfeed_at "node/*"' -x -l clients -d 'The most connecti
 complete -c kbfeed -n '__kbfeed_at "node/*" "fetch/*"' -x -l piece -d 'The most bytes in one request'
 complete -c kbfeed -n '__kbfeed_at "node/*"' -x -l idle -d 'Seconds that a connection may wait between two requests'
 complete -c kbfeed -n '__kbfeed_at "node/*"' -x -l max-age -d 'Seconds that a cache may use an answer without asking again'
+complete -c kbfeed -n '__kbfeed_at "node/*"' -x -l metrics -a 'local any' -d 'Which clients may get the metrics and the health'
+complete -c kbfeed -n '__kbfeed_at "node/*"' -l forwarded -d 'Logs the address in X-Forwarded-For of a client on this machine'
+complete -c kbfeed -n '__kbfeed_at "node/*"' -x -l log-queries -a 'yes no' -d 'Whether the log has the queries of readers'
 complete -c kbfeed -n '__kbfeed_at "serve/*" "node/*" "fetch/*"' -x -l timeout -d 'Seconds that a connection may take'

@@ -67,6 +67,12 @@ enum Kind {
         value: &'static str,
         limit: u64,
     },
+    /// As an option with one of several words.
+    Choice {
+        value: &'static str,
+        words: &'static [&'static str],
+        default: &'static str,
+    },
 }
 
 const DATABASE: Argument = Argument {
@@ -194,7 +200,7 @@ static SERVE: [Argument; 4] = [
     CLIENT_TIMEOUT,
 ];
 
-static NODE: [Argument; 10] = [
+static NODE: [Argument; 13] = [
     DATABASE,
     LISTENING_ADDRESS,
     Argument {
@@ -245,6 +251,29 @@ static NODE: [Argument; 10] = [
             limit: 31_536_000,
         },
         help: "How long a cache may use an answer without asking again, 1 to 31536000",
+    },
+    Argument {
+        id: "metrics",
+        kind: Kind::Choice {
+            value: "CLIENTS",
+            words: &["local", "any"],
+            default: "local",
+        },
+        help: "Which clients may get /metrics and /health",
+    },
+    Argument {
+        id: "forwarded",
+        kind: Kind::Flag { excludes: &[] },
+        help: "Logs the address in X-Forwarded-For of a client on this machine",
+    },
+    Argument {
+        id: "log-queries",
+        kind: Kind::Choice {
+            value: "WHETHER",
+            words: &["yes", "no"],
+            default: "yes",
+        },
+        help: "Whether the log has the queries of readers",
     },
 ];
 
@@ -393,6 +422,11 @@ fn arg_of<'a>(alloc: Global, argument: &'static Argument) -> Result<Arg<'a>, All
             default,
         } => Ok(number(arg.long(id), value, limit, default)),
         Kind::OptionalNumber { value, limit } => Ok(optional_number(arg.long(id), value, limit)),
+        Kind::Choice {
+            value,
+            words,
+            default,
+        } => Ok(choice(arg.long(id), value, words, default)),
     }
 }
 
@@ -420,5 +454,16 @@ fn optional_number<'a>(arg: Arg<'a>, value: &'static str, limit: u64) -> Arg<'a>
 fn number<'a>(arg: Arg<'a>, value: &'static str, limit: u64, default: &'static str) -> Arg<'a> {
     arg.value_name(value)
         .value_parser(ValueParser::unsigned(1, limit))
+        .default_value(default)
+}
+
+fn choice<'a>(
+    arg: Arg<'a>,
+    value: &'static str,
+    words: &'static [&'static str],
+    default: &'static str,
+) -> Arg<'a> {
+    arg.value_name(value)
+        .value_parser(ValueParser::from(words))
         .default_value(default)
 }

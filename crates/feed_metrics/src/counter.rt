@@ -60,7 +60,7 @@ pub(crate) const EVICTED: &[u8] = b"kbfeed_connections_closed_total{cause=\"evic
 pub(crate) const STREAMED: &[u8] = b"kbfeed_connections_closed_total{cause=\"streamed\"} ";
 
 pub(crate) const REQUEST_BYTES: &[u8] =
-    b"# HELP kbfeed_request_bytes_total Bytes of the heads of requests that were replied to.\n\
+    b"# HELP kbfeed_request_bytes_total Bytes of the requests that were replied to.\n\
     # TYPE kbfeed_request_bytes_total counter\n\
     kbfeed_request_bytes_total ";
 

@@ -2,6 +2,7 @@
 use crate::node::{Hosting, run_node};
 use feed_command::Faults;
 use feed_database_commands::{Database, DatabaseCommand, run_database_command};
+use feed_node_service::LogSettings;
 use std::io::Write;
 use std::time::Duration;
 
@@ -19,6 +20,7 @@ pub enum Command<'a> {
         max_age: u32,
         /// The version of the program.
         version: &'a str,
+        log: LogSettings,
         is_check: bool,
         upstream: Option<Upstream<'a>>,
     },
@@ -52,6 +54,7 @@ pub fn run_command<D: Database, O: Write, F: Write + Drop>(
             idle,
             max_age,
             version,
+            log,
             is_check,
             upstream,
         } => {
@@ -62,6 +65,7 @@ pub fn run_command<D: Database, O: Write, F: Write + Drop>(
                 idle: millis_of(idle),
                 max_age,
                 version,
+                log,
                 is_check,
             };
             run_node(rt, database, hosting, upstream, out, faults)

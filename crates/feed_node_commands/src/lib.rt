@@ -6,3 +6,4 @@ mod node;
 mod token;
 
 pub use command::{Command, Upstream, run_command};
+pub use feed_node_service::LogSettings;

@@ -4,9 +4,11 @@ use crate::token::read_token;
 use feed_command::{DONE, FAILED, Faults, MISUSED, REFUSED, open_file};
 use feed_database_commands::{Database, close_keeper, open_feed};
 use feed_http::is_host;
+use feed_keep::Keep;
 use feed_node_server::{Server, Settings, TimeLimits};
-use feed_node_service::{End, Source, SourceAddrs, run};
+use feed_node_service::{End, LogSettings, NodeSetup, Source, SourceAddrs, WatchedFile, run};
 use feed_range::read_number;
+use feed_releases::Feed;
 use feed_resolver_tag::Site;
 use std::io;
 use std::io::Write;
@@ -27,15 +29,17 @@ pub struct Hosting<'a> {
     pub max_age: u32,
     /// The version of the program.
     pub version: &'a str,
+    pub log: LogSettings,
     pub is_check: bool,
 }
 
 /// Runs a node: opens the feed of a database and answers readers at an address, without end. If it has a source, a
 /// client that has the token can make it fetch a release from there. It prints a line for each request, at once. The
 /// first fault is reported: of the source (`Host`, `Read`, `Token`), of the database, of the address (`Bind`), of the
-/// sockets (`Poll`) and of the print. A host that has no address yet is reported too (`Resolve`), and the node runs. If
-/// there are too few descriptors for all clients, that is reported (`Descriptors`), and the node answers fewer at a
-/// time, or does not start with fewer than 16. A check answers no reader, and prints `ok` if all is well.
+/// sockets (`Poll`), of the print, and of a database whose file is gone (`Device`). A host that has no address yet is
+/// reported too (`Resolve`), and the node runs. If there are too few descriptors for all clients, that is reported
+/// (`Descriptors`), and the node answers fewer at a time, or does not start with fewer than 16. A check answers no
+/// reader, and prints `ok` if all is well.
 pub fn run_node<D: Database, O: Write, F: Write + Drop>(
     rt: &HostRuntime,
     database: &D,
@@ -120,27 +124,68 @@ fn run_server<D: Database, O: Write, F: Write + Drop>(
         Ok(feed) => feed,
         Err(status) => return status,
     };
-    let mut server = match bind(rt, hosting) {
+    let mut server = match listen(rt, hosting, faults) {
         Ok(server) => server,
-        Err(error) => {
+        Err(status) => {
             close_keeper(database, feed.restart(), faults);
-            return faults.report_with("Bind", hosting.addr, error, FAILED);
+            return status;
         }
     };
-    if has_too_few_descriptors(&server, hosting, faults) {
+    if hosting.is_check {
         close_keeper(database, feed.restart(), faults);
-        return FAILED;
+        return faults.check_print(announce(out, "ok"), DONE);
     }
-    let end = match announce(out, hosting.is_check) {
-        Err(error) => Some(End::Print(error)),
-        Ok(()) if hosting.is_check => None,
-        Ok(()) => Some(run(rt, &mut feed, &mut server, source, addrs, site, out)),
+    let setup = NodeSetup {
+        source,
+        addrs,
+        site,
+        version: first_line(hosting.version),
+        log: hosting.log,
     };
-    close_keeper(database, feed.restart(), faults);
-    match end {
-        Some(end) => report_end(end, faults),
-        None => DONE,
+    let end = serve(rt, database.name(), &mut feed, &mut server, setup, out);
+    end_node(database, feed, end, faults)
+}
+
+// Returns the number of the version without what it was proved with.
+fn first_line(version: &str) -> &str {
+    match version.split_once('\n') {
+        Some((line, _)) => line,
+        None => version,
     }
+}
+
+// Answers readers from the feed of the database file at a path.
+fn serve<K: Keep + Drop, O: Write>(
+    rt: &HostRuntime,
+    path: &str,
+    feed: &mut Feed<K>,
+    server: &mut Server,
+    setup: NodeSetup<'_>,
+    out: &mut O,
+) -> End {
+    let file = match WatchedFile::new(rt, path) {
+        Ok(file) => file,
+        Err(_) => return End::FileGone,
+    };
+    match announce(out, "listening") {
+        Ok(()) => run(rt, feed, server, setup, file, out),
+        Err(error) => End::Print(error),
+    }
+}
+
+// Closes the database and reports why a node ended. A file that is gone is left alone: another database may be in its
+// place, with its log beside it.
+fn end_node<D: Database, F: Write + Drop>(
+    database: &D,
+    feed: Feed<D::Keeper>,
+    end: End,
+    faults: &mut Faults<F>,
+) -> u8 {
+    match &end {
+        End::FileGone => {}
+        _ => close_keeper(database, feed.restart(), faults),
+    }
+    report_end(end, database.name(), faults)
 }
 
 // Reports that the process may open fewer descriptors than all clients need, and returns whether these are too few for
@@ -162,6 +207,22 @@ fn has_too_few_descriptors<F: Write + Drop>(
     server.clients() < MIN_CLIENTS
 }
 
+// Listens at the address, or reports the fault and returns the exit status.
+fn listen<F: Write + Drop>(
+    rt: &HostRuntime,
+    hosting: Hosting<'_>,
+    faults: &mut Faults<F>,
+) -> Result<Server, u8> {
+    let server = match bind(rt, hosting) {
+        Ok(server) => server,
+        Err(error) => return Err(faults.report_with("Bind", hosting.addr, error, FAILED)),
+    };
+    if has_too_few_descriptors(&server, hosting, faults) {
+        return Err(FAILED);
+    }
+    Ok(server)
+}
+
 fn bind(rt: &HostRuntime, hosting: Hosting<'_>) -> io::Result<Server> {
     let mut last = io::Error::from(io::ErrorKind::NotFound);
     let settings = Settings {
@@ -181,17 +242,22 @@ fn bind(rt: &HostRuntime, hosting: Hosting<'_>) -> io::Result<Server> {
 }
 
 // Prints that all is open.
-fn announce<O: Write>(out: &mut O, is_check: bool) -> io::Result<()> {
-    let line = if is_check { "ok" } else { "listening" };
+fn announce<O: Write>(out: &mut O, line: &str) -> io::Result<()> {
     writeln!(out, "{line}")?;
     out.flush()
 }
 
 // Reports why a node ended, and returns the status.
-fn report_end<F: Write + Drop>(end: End, faults: &mut Faults<F>) -> u8 {
+fn report_end<F: Write + Drop>(end: End, path: &str, faults: &mut Faults<F>) -> u8 {
     match end {
         End::Memory => faults.report("Memory", FAILED),
         End::Sockets(fault) => faults.report_with("Poll", "the sockets", fault, FAILED),
         End::Print(fault) => faults.check_print(Err(fault), FAILED),
+        End::FileGone => faults.report_with(
+            "Device",
+            path,
+            "the file was removed or replaced while the node ran",
+            FAILED,
+        ),
     }
 }

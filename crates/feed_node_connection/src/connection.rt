@@ -510,3 +510,22 @@ impl Connection {
         };
     }
 }
+
+impl Connection {
+    ghost use Rattle.std.specs.Prelude.{◌-◌};
+
+    /// Returns the bytes that follow the requests that were answered before: the request whose reply is sent, or what
+    /// arrived of the next one, also once the connection is over.
+    pub fn held_bytes(&self) -> &[u8]
+        ensures { result.now ≡ self.now.received.items }
+    {
+        &self.received
+    }
+
+    /// Returns how many bytes of the reply the peer has not accepted, also once the connection is over.
+    pub fn unsent_len(&self) -> usize
+        ensures { result ≡ vec_len self.now.reply - self.now.sent }
+    {
+        self.reply.len() - self.sent
+    }
+}

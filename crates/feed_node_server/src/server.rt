@@ -1,6 +1,7 @@
 //! The server: the poll, the listener, the connections of clients, and the request to another server.
 use crate::descriptors::available_clients;
 use crate::outgoing::{Destination, OutgoingRequest};
+use crate::responders::Responders;
 use crate::socket::Socket;
 use crate::streamed_reply::StreamedReply;
 use feed_node_connection::{Respond, TURN_SHARE, TimeLimits};
@@ -176,7 +177,7 @@ impl Server {
     pub fn turn<S: Respond, L: Log>(
         &mut self,
         rt: &impl Clock,
-        responder: &S,
+        responders: &Responders<'_, S>,
         events: &mut Events,
         log: &mut L,
     ) -> io::Result<()> {
@@ -187,8 +188,8 @@ impl Server {
         for event in events.iter() {
             self.on_event(event.token());
         }
-        self.serve_ready(rt, responder, log)?;
-        let has_more_work = self.accept_waiting(rt, responder, log)?;
+        self.serve_ready(rt, responders, log)?;
+        let has_more_work = self.accept_waiting(rt, responders, log)?;
         self.has_more_work = self.advance_outgoing() || has_more_work;
         self.advance_streams();
         self.advance_clock(now, log);
@@ -208,12 +209,12 @@ impl Server {
     fn serve_ready<S: Respond, L: Log>(
         &mut self,
         rt: &impl Clock,
-        responder: &S,
+        responders: &Responders<'_, S>,
         log: &mut L,
     ) -> io::Result<()> {
         for place in (0..self.table.ready_len()).rev() {
             if let Some(key) = self.table.ready_at(place) {
-                self.serve(rt, key, responder, log)?;
+                self.serve(rt, key, responders, log)?;
             }
         }
         Ok(())
@@ -224,12 +225,13 @@ impl Server {
         &mut self,
         rt: &impl Clock,
         key: usize,
-        responder: &S,
+        responders: &Responders<'_, S>,
         log: &mut L,
     ) -> io::Result<bool> {
         let mut share = TURN_SHARE;
         let mut outcome = Outcome::Waits;
         let mut now = self.micros(Instant::now(rt)?);
+        let responder = responders.to(self.table.addr(key));
         for _ in 0..2 {
             let progress = self.table.advance(
                 key,
@@ -280,7 +282,7 @@ impl Server {
     fn accept_waiting<S: Respond, L: Log>(
         &mut self,
         rt: &impl Clock,
-        responder: &S,
+        responders: &Responders<'_, S>,
         log: &mut L,
     ) -> io::Result<bool> {
         for _ in 0..ACCEPTS {
@@ -288,7 +290,7 @@ impl Server {
                 return Ok(false);
             }
             match self.listener.accept() {
-                Ok((stream, addr)) => self.admit(rt, stream, addr, responder, log)?,
+                Ok((stream, addr)) => self.admit(rt, stream, addr, responders, log)?,
                 Err(fault) => match fault.kind() {
                     ErrorKind::WouldBlock => self.may_accept = false,
                     ErrorKind::Interrupted => {}
@@ -311,7 +313,7 @@ impl Server {
         rt: &impl Clock,
         stream: TcpStream,
         addr: SocketAddr,
-        responder: &S,
+        responders: &Responders<'_, S>,
         log: &mut L,
     ) -> io::Result<()> {
         let now = self.micros(Instant::now(rt)?);
@@ -327,7 +329,7 @@ impl Server {
         let key = self
             .table
             .insert(self.alloc, socket, addr, self.limits, now, log);
-        let is_open = self.serve(rt, key, responder, log)?;
+        let is_open = self.serve(rt, key, responders, log)?;
         if is_open && !self.table.register(key, self.poll.registry()) {
             let _ = self.table.remove(key, CloseCause::PeerClosed, now, log);
         }

@@ -1,2 +1,4 @@
 pub mod FetchEnds
+pub mod NodeCounts
+pub mod Reports
 pub mod Responders

@@ -9,7 +9,9 @@ use Rattle.feed_resolver_reply.specs.Replies.{ResponseValue}
 use Rattle.feed_resolver_tag.specs.Tags.{SiteValue}
 use Rattle.feed_resolver.specs.NodeReplies.{IsNodeReply}
 use Rattle.feed_resolver.specs.FeedReplies.{IsFeedResponse}
+use Rattle.feed_monitoring.specs.declared.report_text.ReportReply.{ReportReply}
 use Rattle.feed_node_service.specs.declared.responder.FeedResponder.{FeedResponder}
+use Rattle.feed_node_service.specs.Reports.{IsReportFor, HasNoReport}
 
 -- who may make the node fetch, if no client asked for a fetch in the same turn
 abbrev pub policy_of : {K : Type 0} {k : Ghosts K} → FeedResponder K k → FetchPolicyValue
@@ -38,9 +40,19 @@ IsTurnReply responder bytes body keeps response is_streamed =
     × IsWhetherToBegin policy bytes is_streamed
 
 -- the bytes of such a reply
+abbrev pub IsReaderText : {K : Type 0} {k : Ghosts K} → FeedResponder K k → List ℕ → List ℕ → Bool → List ℕ → Type 0
+IsReaderText responder bytes body keeps text =
+    (response : ResponseValue) × (is_streamed : Bool) × IsTurnReply responder bytes body keeps response is_streamed × (text ≡ response.bytes)
+
+-- the bytes of a reply about the node
+abbrev pub IsReportText : {K : Type 0} {k : Ghosts K} → FeedResponder K k → List ℕ → Bool → List ℕ → Type 0
+IsReportText responder bytes keeps text = (reply : ReportReply) × IsReportFor responder bytes keeps reply × (text ≡ reply.bytes.items)
+
+-- the bytes of a reply: about the node, if the client may have that and asks for it, and otherwise as if there were no such
+-- replies
 abbrev pub IsTurnText : {K : Type 0} {k : Ghosts K} → FeedResponder K k → List ℕ → List ℕ → Bool → List ℕ → Type 0
 IsTurnText responder bytes body keeps text =
-    (response : ResponseValue) × (is_streamed : Bool) × IsTurnReply responder bytes body keeps response is_streamed × (text ≡ response.bytes)
+    IsReportText responder bytes keeps text ⊎ (HasNoReport responder bytes × IsReaderText responder bytes body keeps text)
 
 -- the bytes of a reply, with the status and the length that are logged
 abbrev pub response_in : Reply → ResponseValue

@@ -34,13 +34,13 @@ pub fn status_after<K: Keep + Drop>(feed: &Feed<K>, name: &ReleaseName, end: Fet
 }
 
 /// Prints the last lines of the reply: the fault, if there is one, or why a release is broken that was complete before,
-/// and then the exit status.
+/// and then the exit status, which it returns.
 pub fn print_end<K: Keep + Drop, O: Write>(
     feed: &Feed<K>,
     name: &ReleaseName,
     end: FetchEnd,
     lines: &mut Printer<O>,
-) {
+) -> u8 {
     match end {
         FetchEnd::Done => {
             if let Some(why) = feed.reason(name) {
@@ -54,13 +54,16 @@ pub fn print_end<K: Keep + Drop, O: Write>(
             let _ = lines.print("kbfeed: NoRanges");
         }
     }
-    print_status(status_after(feed, name, end), lines);
+    let status = status_after(feed, name, end);
+    print_status(status, lines);
+    status
 }
 
-/// Prints why a name is invalid, and the status that `kbfeed fetch` has for it.
-pub fn print_name_fault<O: Write>(fault: NameFault, lines: &mut Printer<O>) {
+/// Prints why a name is invalid, and the status that `kbfeed fetch` has for it, which it returns.
+pub fn print_name_fault<O: Write>(fault: NameFault, lines: &mut Printer<O>) -> u8 {
     let _ = lines.print(format_args!("kbfeed: {fault}"));
     print_status(2, lines);
+    2
 }
 
 fn print_status<O: Write>(status: u8, lines: &mut Printer<O>) {

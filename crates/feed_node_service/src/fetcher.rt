@@ -1,8 +1,10 @@
 //! Fetches releases for a node, one request at a time, between the turns of its loop.
 use crate::exchange::{Arrival, Exchange, WholePart};
 use crate::fetch_end::{FetchEnd, print_end, print_name_fault};
+use crate::node_state::NodeState;
 use crate::recorded_reply::RecordedReply;
 use crate::source_addrs::SourceAddrs;
+use crate::watched_file::WatchedFile;
 use feed_dial::DialFault;
 use feed_fetch::{Fetch, Next, Printer, Request, RequestFault, Stop};
 use feed_http::{Got, Method, is_host, read_reply, write_head_request, write_request};
@@ -37,6 +39,9 @@ pub struct Fetcher<'a> {
     rt: &'a HostRuntime,
     source: Option<Source<'a>>,
     addrs: SourceAddrs,
+    /// The file of the database.
+    file: WatchedFile<'a>,
+    state: &'a NodeState,
     fetch: Option<RunningFetch>,
 }
 
@@ -65,11 +70,19 @@ enum Step {
 }
 
 impl<'a> Fetcher<'a> {
-    pub fn new(rt: &'a HostRuntime, source: Option<Source<'a>>, addrs: SourceAddrs) -> Fetcher<'a> {
+    pub fn new(
+        rt: &'a HostRuntime,
+        source: Option<Source<'a>>,
+        addrs: SourceAddrs,
+        file: WatchedFile<'a>,
+        state: &'a NodeState,
+    ) -> Fetcher<'a> {
         Fetcher {
             rt,
             source,
             addrs,
+            file,
+            state,
             fetch: None,
         }
     }
@@ -101,7 +114,7 @@ impl<'a> Fetcher<'a> {
             Ok(name) => name,
             Err(fault) => {
                 let mut lines = self.lines();
-                print_name_fault(fault, &mut lines);
+                self.state.end_fetch(print_name_fault(fault, &mut lines));
                 return finish(server, lines);
             }
         };
@@ -129,7 +142,7 @@ impl<'a> Fetcher<'a> {
         end: FetchEnd,
     ) {
         let mut lines = self.lines();
-        print_end(feed, name, end, &mut lines);
+        self.state.end_fetch(print_end(feed, name, end, &mut lines));
         finish(server, lines);
     }
 
@@ -180,14 +193,30 @@ impl<'a> Fetcher<'a> {
     }
 
     /// Takes what has arrived of the reply to the last request. Once it is complete, sends the next request of the
-    /// fetch.
-    pub fn advance<K: Keep + Drop>(&mut self, server: &mut Server, feed: &mut Feed<K>) {
+    /// fetch. Returns whether the file of the database is still at its path. If not, what was stored is lost, and not
+    /// reported.
+    pub fn advance<K: Keep + Drop>(&mut self, server: &mut Server, feed: &mut Feed<K>) -> bool {
         let Some(mut fetch) = self.fetch.take() else {
-            return;
+            return true;
         };
         let mut lines = self.lines();
         let step = self.take_arrived(server, feed, &mut fetch, &mut lines);
-        server.send_to_streams(&lines.into_writer());
+        let lines = lines.into_writer();
+        if !lines.is_empty() && !self.file.is_there() {
+            return false;
+        }
+        server.send_to_streams(&lines);
+        self.follow(server, feed, fetch, step);
+        true
+    }
+
+    fn follow<K: Keep + Drop>(
+        &mut self,
+        server: &mut Server,
+        feed: &Feed<K>,
+        mut fetch: RunningFetch,
+        step: Step,
+    ) {
         match step {
             Step::Wait | Step::Again => self.fetch = Some(fetch),
             Step::Send => self.send_next(server, feed, fetch),

@@ -1,16 +1,19 @@
-//! Runs a node: the loop that ends only when its sockets or its log fail.
-use crate::access_log::AccessLog;
+//! Runs a node: the loop that ends only when its sockets, its log or the file of its database fail.
+use crate::access_log::{AccessLog, LogSettings};
 use crate::fetcher::{Fetcher, Source};
-use crate::node_state::NodeState;
+use crate::node_state::{NodeState, TurnFacts};
 use crate::responder::FeedResponder;
 use crate::source_addrs::SourceAddrs;
+use crate::watched_file::WatchedFile;
 use feed_keep::Keep;
-use feed_node_server::Server;
+use feed_node_server::{Responders, Server};
 use feed_releases::Feed;
 use feed_resolver::keep_releases;
 use feed_resolver_tag::Site;
+use mio::Events;
 use std::io;
 use std::io::Write;
+use std::time::Instant;
 
 /// Why a node ends.
 #[derive(Drop)]
@@ -20,50 +23,165 @@ pub enum End {
     Sockets(io::Error),
     /// A print of the log failed.
     Print(io::Error),
+    /// The file of the database was removed or replaced.
+    FileGone,
 }
 
-/// Answers readers from a feed, until the poll or a print fails. If there is a source, a client that has the token can
-/// have a release fetched from there. Prints a line for each request, at once. Replies have tags by the site.
+/// What a node runs with, beside its feed, its server and the file of its database.
+#[derive(Drop)]
+pub struct NodeSetup<'a> {
+    /// The server that releases are fetched from, and its addresses.
+    pub source: Option<Source<'a>>,
+    pub addrs: SourceAddrs,
+    /// What the tags of replies depend on beside the releases.
+    pub site: Site,
+    /// The version of the program.
+    pub version: &'a str,
+    pub log: LogSettings,
+}
+
+/// Answers readers from a feed, until the poll or a print fails, or the file of the database is gone as a fetch stores
+/// in it. If there is a source, a client that has the token can have a release fetched from there. Prints the lines of
+/// the log after each turn.
 pub fn run<K: Keep + Drop, O: Write>(
     rt: &HostRuntime,
     feed: &mut Feed<K>,
     server: &mut Server,
-    source: Option<Source<'_>>,
-    addrs: SourceAddrs,
-    site: Site,
+    setup: NodeSetup<'_>,
+    file: WatchedFile<'_>,
     out: &mut O,
 ) -> End {
-    let mut events = match server.events() {
-        Ok(events) => events,
-        Err(_) => return End::Memory,
+    let Ok(state) = NodeState::new(rt.alloc()) else {
+        return End::Memory;
     };
-    let mut site = site;
+    let mut site = setup.site;
     let _ = keep_releases(rt.alloc(), &mut site, feed);
-    let state = NodeState::new();
-    let mut fetcher = Fetcher::new(rt, source, addrs);
-    let mut log = AccessLog::new(rt, out);
-    for _ in 0..u64::MAX {
-        let responder = FeedResponder {
-            feed,
-            token: fetcher.token(),
-            is_busy: fetcher.is_busy(),
-            state: &state,
-            site: &site,
+    let fetcher = Fetcher::new(rt, setup.source, setup.addrs, file, &state);
+    let log = AccessLog::new(rt, out, &state, setup.log);
+    let mut node = RunningNode {
+        rt,
+        state: &state,
+        site,
+        fetcher,
+        log,
+        version: setup.version,
+        has_open_reports: setup.log.has_open_reports,
+        switched: None,
+    };
+    node.run(feed, server)
+}
+
+// A node that runs.
+#[derive(Drop)]
+struct RunningNode<'a, O: Write> {
+    rt: &'a HostRuntime,
+    state: &'a NodeState,
+    site: Site,
+    fetcher: Fetcher<'a>,
+    log: AccessLog<'a, O>,
+    version: &'a str,
+    has_open_reports: bool,
+    /// When the active releases last changed.
+    switched: Option<Instant>,
+}
+
+impl<'a, O: Write> RunningNode<'a, O> {
+    fn run<K: Keep + Drop>(&mut self, feed: &mut Feed<K>, server: &mut Server) -> End {
+        let mut events = match server.events() {
+            Ok(events) => events,
+            Err(_) => return End::Memory,
         };
-        if let Err(fault) = server.turn(rt, &responder, &mut events, &mut log) {
-            return End::Sockets(fault);
+        for _ in 0..u64::MAX {
+            if let Some(end) = self.turn(feed, server, &mut events) {
+                return end;
+            }
         }
-        if let Err(fault) = log.flush() {
-            return End::Print(fault);
+        End::Memory
+    }
+
+    // Runs a turn: the connections, the log, and the fetch that is under way. Returns why the node ends.
+    fn turn<K: Keep + Drop>(
+        &mut self,
+        feed: &mut Feed<K>,
+        server: &mut Server,
+        events: &mut Events,
+    ) -> Option<End> {
+        self.state.begin_turn(self.facts(server));
+        if let Err(fault) = self.answer(feed, server, events) {
+            return Some(End::Sockets(fault));
         }
-        let was_busy = fetcher.is_busy();
-        fetcher.advance(server, feed);
-        if was_busy && !fetcher.is_busy() {
-            let _ = keep_releases(rt.alloc(), &mut site, feed);
+        if let Err(fault) = self.log.flush() {
+            return Some(End::Print(fault));
         }
-        if let Some(name) = state.take_fetch() {
-            fetcher.begin(server, feed, name);
+        let was_busy = self.fetcher.is_busy();
+        if !self.fetcher.advance(server, feed) {
+            return Some(End::FileGone);
+        }
+        if was_busy && !self.fetcher.is_busy() {
+            self.note_switch(feed);
+        }
+        if let Some(name) = self.state.take_fetch() {
+            self.fetcher.begin(server, feed, name);
+        }
+        None
+    }
+
+    fn facts(&self, server: &Server) -> TurnFacts {
+        TurnFacts {
+            held_bytes: server.bytes_held() as u64,
+            since_switch: self.since_switch(),
         }
     }
-    End::Memory
+
+    // Returns the seconds since the active releases last changed.
+    fn since_switch(&self) -> Option<u64> {
+        let switched = self.switched?;
+        let now = Instant::now(self.rt).ok()?;
+        Some(now.saturating_duration_since(switched).as_secs())
+    }
+
+    // Serves the connections. Clients on the same machine may have reports of the node, and others if the settings
+    // allow it.
+    fn answer<K: Keep + Drop>(
+        &mut self,
+        feed: &Feed<K>,
+        server: &mut Server,
+        events: &mut Events,
+    ) -> io::Result<()> {
+        let local = FeedResponder {
+            feed,
+            token: self.fetcher.token(),
+            is_busy: self.fetcher.is_busy(),
+            state: self.state,
+            site: &self.site,
+            version: self.version.as_bytes(),
+            has_reports: true,
+        };
+        let remote = FeedResponder {
+            feed,
+            token: self.fetcher.token(),
+            is_busy: self.fetcher.is_busy(),
+            state: self.state,
+            site: &self.site,
+            version: self.version.as_bytes(),
+            has_reports: self.has_open_reports,
+        };
+        let responders = Responders {
+            local: &local,
+            remote: &remote,
+        };
+        server.turn(self.rt, &responders, events, &mut self.log)
+    }
+
+    // Keeps the digest of the active releases, and the time if they have changed.
+    fn note_switch<K: Keep + Drop>(&mut self, feed: &Feed<K>) {
+        let alloc = self.rt.alloc();
+        let before = Vec::from_slice(alloc, self.site.releases().text());
+        let _ = keep_releases(alloc, &mut self.site, feed);
+        if let Ok(before) = before
+            && before.as_slice() != self.site.releases().text()
+        {
+            self.switched = Instant::now(self.rt).ok();
+        }
+    }
 }

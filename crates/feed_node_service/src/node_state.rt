@@ -1,19 +1,44 @@
-//! The state that the replies of a node share: the release to fetch.
-use feed_names::{NameFault, ReleaseName};
-use std::cell::RefCell;
+//! The state that the replies and the log of a node share: the release to fetch, and what the node counts.
+ghost use Rattle.std.specs.Prelude.{IfOk, IfSome};
+ghost use Rattle.feed_http_heads.specs.Options.{SaysWhetherItKeeps};
+ghost use Rattle.feed_node_service.specs.Reports.{IsSomeReply};
 
-/// The state that the replies of a node share.
+use crate::counts::NodeCounts;
+use feed_metrics::{Gauges, ReleaseTime};
+use feed_monitoring::{Exchange, LogPolicy, ReportReply, record_exchange, respond_about_node};
+use feed_names::{NameFault, ReleaseName};
+use feed_node_server::CloseCause;
+use std::alloc::{AllocError, Global};
+use std::cell::{Cell, RefCell};
+
+/// What a node is at the beginning of a turn.
+#[derive(Clone, Copy)]
+pub struct TurnFacts {
+    /// The bytes of replies that are held to be sent.
+    pub held_bytes: u64,
+    /// The seconds since the last switch to a release, if there was one.
+    pub since_switch: Option<u64>,
+}
+
+/// The state that the replies and the log of a node share.
 #[derive(Drop)]
 pub struct NodeState {
     /// The release that a client asked to fetch, or why its name is invalid.
     requested: RefCell<Option<Result<ReleaseName, NameFault>>>,
+    counts: RefCell<NodeCounts>,
+    facts: Cell<TurnFacts>,
 }
 
 impl NodeState {
-    pub fn new() -> NodeState {
-        NodeState {
+    pub fn new(alloc: Global) -> Result<NodeState, AllocError> {
+        Ok(NodeState {
             requested: RefCell::new(None),
-        }
+            counts: RefCell::new(NodeCounts::new(alloc)?),
+            facts: Cell::new(TurnFacts {
+                held_bytes: 0,
+                since_switch: None,
+            }),
+        })
     }
 
     /// Records the release to fetch, unless there is one already. Returns whether it did.
@@ -43,6 +68,82 @@ impl NodeState {
         match self.requested.try_borrow_mut() {
             Ok(mut requested) => requested.take(),
             Err(_) => None,
+        }
+    }
+
+    /// Keeps what the node is at the beginning of a turn.
+    pub fn begin_turn(&self, facts: TurnFacts) {
+        self.facts.set(facts);
+    }
+
+    /// Counts a connection that is accepted.
+    pub fn accept(&self) {
+        if let Ok(mut counts) = self.counts.try_borrow_mut() {
+            counts.accept();
+        }
+    }
+
+    /// Counts a connection that is closed.
+    pub fn close(&self, cause: CloseCause) {
+        if let Ok(mut counts) = self.counts.try_borrow_mut() {
+            counts.close(cause);
+        }
+    }
+
+    /// Counts a fetch that ended with this exit status.
+    pub fn end_fetch(&self, status: u8) {
+        if let Ok(mut counts) = self.counts.try_borrow_mut() {
+            counts.end_fetch(status);
+        }
+    }
+
+    /// Counts a request that was replied to, and appends its line.
+    ///
+    /// # Errors
+    ///
+    /// Running out of memory. The request is counted, and a part of the line may be written then.
+    pub fn record(
+        &self,
+        out: &mut Vec<u8>,
+        policy: LogPolicy,
+        exchange: &Exchange<'_>,
+    ) -> Result<(), AllocError> {
+        match self.counts.try_borrow_mut() {
+            Ok(mut counts) => record_exchange(out, &mut counts.metrics, policy, exchange),
+            Err(_) => Err(AllocError),
+        }
+    }
+
+    /// Returns the reply to a request for a report, from what was counted and these active releases. Returns none for
+    /// any other request.
+    ///
+    /// # Errors
+    ///
+    /// Running out of memory.
+    pub fn report(
+        &self,
+        alloc: Global,
+        bytes: &[u8],
+        persists: bool,
+        version: &[u8],
+        releases: &[ReleaseTime<'_>],
+    ) -> Result<Option<ReportReply>, AllocError>
+        ensures value { IfOk result (IsSomeReply bytes.now persists releases.now) }
+        ensures says { IfOk result (λ found. IfSome found (λ reply. SaysWhetherItKeeps persists reply.bytes.items)) }
+    {
+        let facts = self.facts.get();
+        match self.counts.try_borrow() {
+            Ok(counts) => {
+                let gauges = Gauges {
+                    version,
+                    open: counts.open,
+                    held_bytes: facts.held_bytes,
+                    releases,
+                    since_switch: facts.since_switch,
+                };
+                respond_about_node(alloc, bytes, persists, &counts.metrics, &gauges)
+            }
+            Err(_) => Err(AllocError),
         }
     }
 }

@@ -1,13 +1,17 @@
 //! The replies of a node to its requests.
-ghost use Rattle.std.specs.Prelude.{IfOk};
+ghost use Rattle.std.specs.Prelude.{◌≡◌, IfOk, IfSome, MatchBool, true};
 ghost use Rattle.feed_releases.specs.Actives.{actives_of};
 ghost use Rattle.feed_releases.specs.Feeds.{releases_of};
 ghost use Rattle.feed_resolver.specs.NodeReplies.{SaysOfConnection};
+ghost use Rattle.feed_http_heads.specs.Options.{SaysWhetherItKeeps};
+ghost use Rattle.feed_node_service.specs.Reports.{HasNoReport, IsReportIn};
 ghost use Rattle.feed_node_service.specs.Responders.{IsPolicyIn, IsReplyBy, IsTurnReply, response_in};
 
 use crate::node_state::NodeState;
+use crate::release_times::release_times;
 use feed_http_heads::Request;
 use feed_keep::Keep;
+use feed_monitoring::{ReportReply, asks_for_report};
 use feed_node_connection::{BODY_LIMIT, Reply, ReplySummary, Respond, RespondFault};
 use feed_releases::Feed;
 use feed_resolver::{respond_about_feed, respond_as_node};
@@ -26,6 +30,10 @@ pub struct FeedResponder<'a, K: Keep + Drop> {
     pub state: &'a NodeState,
     /// What the replies depend on beside the releases.
     pub site: &'a Site,
+    /// The version of the program.
+    pub version: &'a [u8],
+    /// Whether the client may have reports of the node.
+    pub has_reports: bool,
 }
 
 impl<'a, K: Keep + Drop> FeedResponder<'a, K> {
@@ -68,8 +76,35 @@ impl<'a, K: Keep + Drop> FeedResponder<'a, K> {
         }
     }
 
-    // Returns the reply. A reply is streamed exactly if the request makes the node begin to fetch.
-    fn reply(
+    // Returns whether the request asks for a reply about the node and the client may have it.
+    fn may_report(&self, bytes: &[u8]) -> bool
+        ensures { MatchBool result (self.now.has_reports ≡ true) (HasNoReport self.now bytes.now) }
+    {
+        self.has_reports && asks_for_report(bytes)
+    }
+
+    // Returns the reply about the node, if the request asks for one and the client may have it.
+    fn report(
+        &self,
+        alloc: Global,
+        bytes: &[u8],
+        persists: bool,
+    ) -> Result<Option<ReportReply>, AllocError>
+        ensures value { IfOk result (IsReportIn self.now bytes.now persists) }
+        ensures says { IfOk result (λ found. IfSome found (λ reply. SaysWhetherItKeeps persists reply.bytes.items)) }
+    {
+        if !self.may_report(bytes) {
+            return Ok(None);
+        }
+        let actives = self.feed.actives()?;
+        let releases = release_times(alloc, &actives)?;
+        self.state
+            .report(alloc, bytes, persists, self.version, &releases)
+    }
+
+    // Returns the reply to a reader, or to a client that has the token. It is streamed exactly if the request makes the
+    // node begin to fetch.
+    fn reader_reply(
         &self,
         alloc: Global,
         bytes: &[u8],
@@ -122,6 +157,9 @@ impl<'a, K: Keep + Drop> Respond for FeedResponder<'a, K> {
         body: &[u8],
         persists: bool,
     ) -> Result<Reply, RespondFault> {
-        self.reply(alloc, head, body, persists)
+        match self.report(alloc, head, persists)? {
+            Some(reply) => Ok(Reply::new(reply.bytes, reply.status, reply.body_len)),
+            None => self.reader_reply(alloc, head, body, persists),
+        }
     }
 }

@@ -378,3 +378,18 @@ impl<T: Stream> Table<T> {
         }
     }
 }
+
+impl<T: Stream> Table<T> {
+    ghost use Rattle.std.specs.Option.{option_map};
+    ghost use Rattle.feed_node_table.specs.Tables.{peer_at};
+
+    /// Returns the address of the peer of a connection.
+    pub fn addr(&self, key: usize) -> Option<SocketAddr>
+        ensures { result ≡ option_map (λ peer. peer.addr) (peer_at self.now key) }
+    {
+        match self.peers.get(key) {
+            Some(peer) => Some(peer.addr),
+            None => None,
+        }
+    }
+}

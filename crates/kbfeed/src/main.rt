@@ -6,7 +6,7 @@ use feed_command::{FAILED, Faults, MISUSED, take_stack};
 use feed_database::run_at;
 use feed_database_commands::DatabaseCommand;
 use feed_file_commands::{Check, answer_file, check_files, explain_query, serve_folder};
-use feed_node_commands::{Command, Upstream};
+use feed_node_commands::{Command, LogSettings, Upstream};
 use feed_replay::replay_input;
 use std::io;
 use std::io::{BufWriter, ErrorKind, Write};
@@ -96,6 +96,11 @@ fn run_request<O: Write, F: Write + Drop>(
                 idle: options.idle,
                 max_age: options.max_age,
                 version: version(),
+                log: LogSettings {
+                    is_forwarded: options.is_forwarded,
+                    has_queries: options.has_queries,
+                    has_open_reports: options.has_open_reports,
+                },
                 is_check: options.is_check,
                 upstream: upstream_of(source),
             };

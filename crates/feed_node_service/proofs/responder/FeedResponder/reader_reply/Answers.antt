@@ -5,7 +5,7 @@ use Rattle.feed_resolver.specs.NodeReplies.{SaysOfConnection}
 use Rattle.feed_resolver_reply.specs.Replies.{ResponseValue}
 use Rattle.feed_node_service.specs.Responders.{IsReplyBy}
 use Rattle.feed_node_service.proofs.Turns.{same_response}
-use Rattle.feed_node_service.proofs.responder.FeedResponder.reply.Goals as goal
+use Rattle.feed_node_service.proofs.responder.FeedResponder.reader_reply.Goals as goal
 
 pub returns-clause-turn : goal.returns-clause-turn
 returns-clause-turn g c = (

@@ -1,0 +1,4 @@
+pub mod ReportHeads
+pub mod Counted
+pub mod LastFields
+pub mod Shown

@@ -1,0 +1,16 @@
+-- The line of a request, or none for a report that the log hides.
+use Rattle.std.proofs.Common.{◌≡◌, ℕ, Bool, true, false, List, ◌++◌, sym}
+use Rattle.std.specs.Prelude.{◌&&◌, not, is_some}
+use Rattle.std.proofs.lemmas.List.{append-nil}
+use Rattle.httparse.specs.Grammar.{RequestHead}
+use Rattle.feed_access_log.specs.Lines.{line_text}
+use Rattle.feed_monitoring.specs.declared.log_line.Exchange.{Exchange}
+use Rattle.feed_monitoring.specs.declared.log_line.LogPolicy.{LogPolicy}
+use Rattle.feed_monitoring.specs.Exchanges.{entry_of, line_of, is_hidden}
+
+pub hidden : (policy : LogPolicy) (e : Exchange) (head : RequestHead) (old : List ℕ) (b : Bool) → b ≡ is_hidden policy head → b ≡ true → old ≡ old ++ line_of policy e head
+hidden policy e head old b is yes = rw (← is, yes) (sym (append-nil old))
+
+pub shown : (policy : LogPolicy) (e : Exchange) (head : RequestHead) (old new : List ℕ) (b : Bool) → b ≡ is_hidden policy head → b ≡ false
+    → new ≡ old ++ line_text (entry_of policy e head.fields) → new ≡ old ++ line_of policy e head
+shown policy e head old new b is no written = rw (← is, no) written

@@ -1,0 +1,5 @@
+pub mod ReportTexts
+pub mod Reports
+pub mod Targets
+pub mod LastValues
+pub mod Exchanges

@@ -1,0 +1,85 @@
+-- What a request asks a node to report of itself, and the reply.
+use Rattle.std.specs.Prelude.{◌≡◌, ◌⊎◌, ◌||◌, ℕ, Bool, true, false, if◌then◌else◌, List, [], length, nat_lt, codes, Option, Some, None, is_some}
+use Rattle.std.specs.Str.{bytes_eq}
+use Rattle.httparse.specs.Grammar.{RequestHead}
+use Rattle.feed_http_heads.specs.Requests.{lacks_host, is_get, is_head}
+use Rattle.feed_http_heads.specs.Targets.{origin_form}
+use Rattle.feed_metrics.specs.Texts.{MetricsValue, metrics_text}
+use Rattle.feed_metrics.specs.declared.text.Gauges.{Gauges}
+use Rattle.feed_resolver_request.specs.Targets.{path_in}
+use Rattle.feed_resolver_request.specs.FoundRequests.{BeginsWith, HasNoHead}
+use Rattle.feed_monitoring.specs.declared.report.Report.{Report}
+use Rattle.feed_monitoring.specs.declared.report.Report.TheVariants as report
+use Rattle.feed_monitoring.specs.declared.report_reply.TheConstants.{WELL, UNREADY, BAD_METHOD}
+use Rattle.feed_monitoring.specs.declared.report_text.ReportKind.{ReportKind}
+use Rattle.feed_monitoring.specs.declared.report_text.ReportReply.{ReportReply}
+use Rattle.feed_monitoring.specs.declared.report_text.ReportKind.TheVariants as kind
+use Rattle.feed_monitoring.specs.ReportTexts.{status_of, sent_body, report_text}
+
+-- what a path names
+abbrev pub report_at : List ℕ → Option Report
+report_at path =
+    if bytes_eq path (codes "/metrics") then Some report.Metrics
+    else (if bytes_eq path (codes "/health") || bytes_eq path (codes "/health/ready") then Some report.Ready
+    else (if bytes_eq path (codes "/health/live") then Some report.Live
+    else None))
+
+-- what a request asks for; without a host it asks for none
+abbrev pub report_of : RequestHead → Option Report
+report_of head = if lacks_host head then None else report_at (path_in (origin_form head.target))
+
+-- the bytes are a request for a report
+abbrev pub AsksForReport : List ℕ → Type 0
+AsksForReport bytes = (head : RequestHead) × BeginsWith bytes head × (is_some (report_of head) ≡ true)
+
+-- they are not
+abbrev pub AsksForNoReport : List ℕ → Type 0
+AsksForNoReport bytes = HasNoHead bytes ⊎ ((head : RequestHead) × BeginsWith bytes head × (report_of head ≡ None))
+
+-- what the reply says, if the method is allowed and the node has an active release, or not
+abbrev pub kind_of : Bool → Bool → Report → ReportKind
+kind_of false ready asked = kind.BadMethod
+kind_of true ready report.Metrics = kind.Metrics
+kind_of true ready report.Ready = if ready then kind.Well else kind.Unready
+kind_of true ready report.Live = kind.Well
+
+-- the same of a request: GET and HEAD are allowed
+abbrev pub kind_to : RequestHead → Bool → Report → ReportKind
+kind_to head ready asked = kind_of (is_get head || is_head head) ready asked
+
+-- the body, if it is not the metrics
+abbrev pub fixed_body : ReportKind → List ℕ
+fixed_body kind.Metrics = []
+fixed_body kind.Well = WELL.now
+fixed_body kind.Unready = UNREADY.now
+fixed_body kind.BadMethod = BAD_METHOD.now
+
+-- the body
+abbrev pub body_of : MetricsValue → Gauges → ReportKind → List ℕ
+body_of metrics gauges kind.Metrics = metrics_text metrics gauges
+body_of metrics gauges kind.Well = WELL.now
+body_of metrics gauges kind.Unready = UNREADY.now
+body_of metrics gauges kind.BadMethod = BAD_METHOD.now
+
+-- the node has an active release
+abbrev pub is_ready : Gauges → Bool
+is_ready gauges = nat_lt 0 (length gauges.releases.now)
+
+-- the reply to a request for a report
+pub record IsReportTo (metrics : MetricsValue) (gauges : Gauges) (head : RequestHead) (keeps : Bool) (asked : Report) (reply : ReportReply) : Type 0 where
+  pub text : reply.bytes.items ≡ report_text (kind_to head (is_ready gauges) asked) keeps (is_head head) (body_of metrics gauges (kind_to head (is_ready gauges) asked))
+  pub status : reply.status ≡ status_of (kind_to head (is_ready gauges) asked)
+  pub size : reply.body_len ≡ length (sent_body (is_head head) (body_of metrics gauges (kind_to head (is_ready gauges) asked)))
+
+-- the bytes are a request for a report, and this is the reply to it
+pub record IsReportAnswer (metrics : MetricsValue) (gauges : Gauges) (bytes : List ℕ) (keeps : Bool) (reply : ReportReply) : Type 0 where
+  pub head : RequestHead
+  pub begins : BeginsWith bytes head
+  pub asked : Report
+  pub names : report_of head ≡ Some asked
+  pub is : IsReportTo metrics gauges head keeps asked reply
+
+-- the reply, exactly if the bytes are such a request
+abbrev pub IsReportReply : MetricsValue → Gauges → List ℕ → Bool → Option ReportReply → Type 0
+IsReportReply metrics gauges bytes keeps None = AsksForNoReport bytes
+IsReportReply metrics gauges bytes keeps (Some reply) = IsReportAnswer metrics gauges bytes keeps reply

@@ -1,0 +1,132 @@
+//! Records a request and its reply: in the counters, and as a line of the log.
+ghost use Rattle.std.specs.Prelude.{◌≡◌, ◌∷◌, ◌++◌, ℕ, List, OnOk};
+ghost use Rattle.httparse.specs.Grammar.{RequestHead};
+ghost use Rattle.feed_http_heads.specs.Requests.{IsInBuffer, HasHead};
+ghost use Rattle.feed_metrics.specs.Counts.{Added, HasCounted};
+ghost use Rattle.feed_metrics.specs.Histograms.{HasObserved};
+ghost use Rattle.feed_monitoring.specs.Exchanges.{added_by, request_added, HasCountedRequest};
+ghost use Rattle.feed_monitoring.specs.Exchanges.{is_hidden, line_of, IsLogged, IsRecorded};
+ghost use Rattle.feed_monitoring.specs.Targets.{target_of};
+
+use crate::log_line::{Exchange, LogPolicy, put_entry};
+use crate::report::report_of;
+use crate::target::target_of;
+use feed_http_heads::{FIELD_LIMIT, Fields, Request};
+use feed_metrics::{Counter, Metrics, StatusClass, Target};
+use feed_resolver_request::find_request;
+use httparse::spans::EMPTY_HEADER_SPAN;
+use std::alloc::AllocError;
+
+// The fields of bytes that are not a head.
+const NO_FIELDS: Fields<'static> = Fields {
+    buffer: b"",
+    headers: &[],
+};
+
+// Counts a request that was replied to, and the bytes of both. A reply of status 401 refuses a token.
+fn count_exchange(metrics: &mut Metrics, target: Target, exchange: &Exchange<'_>)
+    ensures requests { (history : List Added) → HasCounted metrics.old.requests history
+        → HasCounted metrics.new.requests (request_added target exchange.now ∷ history) }
+    ensures times { (observed : List ℕ) → HasObserved metrics.old.times observed
+        → HasObserved metrics.new.times (exchange.now.micros ∷ observed) }
+    ensures counters { (history : List Added) → HasCounted metrics.old.counters history
+        → HasCounted metrics.new.counters (added_by exchange.now ++ history) }
+{
+    metrics.count_request(target, StatusClass::of(exchange.status), exchange.micros);
+    metrics.add(Counter::RequestBytes, exchange.request.len() as u64);
+    metrics.add(Counter::ReplyBytes, exchange.sent);
+    if exchange.status == 401 {
+        metrics.add(Counter::RefusedToken, 1);
+    }
+}
+
+/// Appends the line of a request, without counting it.
+///
+/// # Errors
+///
+/// Running out of memory. A part of the line may be written then.
+pub fn put_exchange(
+    out: &mut Vec<u8>,
+    policy: LogPolicy,
+    exchange: &Exchange<'_>,
+) -> Result<(), AllocError>
+    ensures { OnOk result (IsLogged policy exchange.now out.old.items out.new.items) }
+{
+    let mut headers = [EMPTY_HEADER_SPAN; FIELD_LIMIT];
+    match find_request(exchange.request, &mut headers) {
+        Some(request) => put_entry(out, policy, exchange, &request.fields()),
+        None => put_entry(out, policy, exchange, &NO_FIELDS),
+    }
+}
+
+fn is_hidden(policy: LogPolicy, request: &Request<'_>) -> bool
+    requires { IsInBuffer request.now }
+    ensures { (head : RequestHead) → HasHead request.now head → result ≡ is_hidden policy head }
+{
+    !policy.has_reports && report_of(request).is_some()
+}
+
+fn put_shown(
+    out: &mut Vec<u8>,
+    policy: LogPolicy,
+    exchange: &Exchange<'_>,
+    request: &Request<'_>,
+) -> Result<(), AllocError>
+    requires { IsInBuffer request.now }
+    ensures { OnOk result ((head : RequestHead) → HasHead request.now head
+        → out.new.items ≡ out.old.items ++ line_of policy exchange.now head) }
+{
+    if is_hidden(policy, request) {
+        return Ok(());
+    }
+    put_entry(out, policy, exchange, &request.fields())
+}
+
+fn record_request(
+    out: &mut Vec<u8>,
+    metrics: &mut Metrics,
+    policy: LogPolicy,
+    exchange: &Exchange<'_>,
+    request: &Request<'_>,
+) -> Result<(), AllocError>
+    requires { IsInBuffer request.now }
+    ensures requests { (head : RequestHead) → HasHead request.now head → (history : List Added)
+        → HasCounted metrics.old.requests history
+        → HasCounted metrics.new.requests (request_added (target_of head) exchange.now ∷ history) }
+    ensures times { (observed : List ℕ) → HasObserved metrics.old.times observed
+        → HasObserved metrics.new.times (exchange.now.micros ∷ observed) }
+    ensures counters { (history : List Added) → HasCounted metrics.old.counters history
+        → HasCounted metrics.new.counters (added_by exchange.now ++ history) }
+    ensures line { OnOk result ((head : RequestHead) → HasHead request.now head
+        → out.new.items ≡ out.old.items ++ line_of policy exchange.now head) }
+{
+    count_exchange(metrics, target_of(request), exchange);
+    put_shown(out, policy, exchange, request)
+}
+
+/// Counts a request that was replied to, and appends its line. If the policy hides requests for reports, they have no
+/// line.
+///
+/// # Errors
+///
+/// Running out of memory. The request is counted, and a part of the line may be written then.
+pub fn record_exchange(
+    out: &mut Vec<u8>,
+    metrics: &mut Metrics,
+    policy: LogPolicy,
+    exchange: &Exchange<'_>,
+) -> Result<(), AllocError>
+    ensures counted { HasCountedRequest exchange.now metrics.old metrics.new }
+    ensures counters { (history : List Added) → HasCounted metrics.old.counters history
+        → HasCounted metrics.new.counters (added_by exchange.now ++ history) }
+    ensures line { OnOk result (IsRecorded policy exchange.now out.old.items out.new.items) }
+{
+    let mut headers = [EMPTY_HEADER_SPAN; FIELD_LIMIT];
+    match find_request(exchange.request, &mut headers) {
+        Some(request) => record_request(out, metrics, policy, exchange, &request),
+        None => {
+            count_exchange(metrics, Target::Other, exchange);
+            put_entry(out, policy, exchange, &NO_FIELDS)
+        }
+    }
+}

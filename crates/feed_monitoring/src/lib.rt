@@ -1,0 +1,18 @@
+//! Monitoring of a node: its replies about its metrics and its health, what a request adds to the counters, and the
+//! line of a request in the access log.
+#![tactic(auto)]
+
+mod client;
+mod exchange;
+mod last_value;
+mod log_line;
+mod report;
+mod report_reply;
+mod report_text;
+mod target;
+
+pub use exchange::{put_exchange, record_exchange};
+pub use log_line::{Exchange, LogPolicy};
+pub use report::{Report, asks_for_report};
+pub use report_reply::respond_about_node;
+pub use report_text::{ReportKind, ReportReply};

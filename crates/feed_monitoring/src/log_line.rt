@@ -1,0 +1,85 @@
+//! The line of a request in the access log.
+ghost use Rattle.std.specs.Prelude.{◌≡◌, ◌++◌, List, OnOk};
+ghost use Rattle.httparse.specs.Grammar.{Field};
+ghost use Rattle.feed_http_heads.specs.Fields.{AreWithin, AreFieldsOf};
+ghost use Rattle.feed_access_log.specs.Lines.{line_text};
+ghost use Rattle.feed_monitoring.specs.Exchanges.{sole_or_empty, shown_referrer, entry_of};
+
+use crate::client::client_of;
+use feed_access_log::{Entry, RequestLine, put_line, without_query_part};
+use feed_http_heads::Fields;
+use std::alloc::AllocError;
+use std::marker::Model;
+
+/// What the log shows of the requests of a peer.
+#[derive(Clone, Copy)]
+pub struct LogPolicy {
+    /// Whether the peer is a proxy, which states the address of its client.
+    pub is_proxy: bool,
+    /// Whether the log shows queries.
+    pub has_queries: bool,
+    /// Whether the log shows requests for reports.
+    pub has_reports: bool,
+}
+
+/// A request and its reply.
+#[derive(Clone, Copy)]
+pub struct Exchange<'a> {
+    /// The address of the peer, as text.
+    pub peer: &'a [u8],
+    /// The seconds since 1970-01-01.
+    pub seconds: u64,
+    /// The bytes of the request.
+    pub request: &'a [u8],
+    pub status: u16,
+    /// How many bytes of the reply were sent.
+    pub sent: u64,
+    /// How many of these are of its body.
+    pub body_sent: u64,
+    /// The microseconds from the last byte of the head of the request to the last byte of the reply.
+    pub micros: u64,
+}
+
+fn sole_or_empty<'b>(fields: &Fields<'b>, name: &[u8]) -> &'b [u8]
+    requires { AreWithin fields.now }
+    ensures { (list : List Field) → AreFieldsOf fields.now list → result.now ≡ sole_or_empty name.now list }
+{
+    match fields.sole_value(name) {
+        Some(value) => value,
+        None => b"",
+    }
+}
+
+fn shown_referrer(has_queries: bool, url: &[u8]) -> &[u8]
+    ensures { result.now ≡ shown_referrer has_queries url.now }
+{
+    if has_queries {
+        url
+    } else {
+        without_query_part(url)
+    }
+}
+
+/// Appends the line of a request with these fields.
+pub(crate) fn put_entry(
+    out: &mut Vec<u8>,
+    policy: LogPolicy,
+    exchange: &Exchange<'_>,
+    fields: &Fields<'_>,
+) -> Result<(), AllocError>
+    requires { AreWithin fields.now }
+    ensures { OnOk result ((list : List Field) → AreFieldsOf fields.now list
+        → out.new.items ≡ out.old.items ++ line_text (entry_of policy exchange.now list)) }
+{
+    let entry = Entry {
+        client: client_of(policy.is_proxy, fields, exchange.peer),
+        seconds: exchange.seconds,
+        line: RequestLine::new(exchange.request, policy.has_queries),
+        status: exchange.status,
+        sent: exchange.body_sent,
+        referrer: shown_referrer(policy.has_queries, sole_or_empty(fields, b"referer")),
+        user_agent: sole_or_empty(fields, b"user-agent"),
+        millis: exchange.micros / 1_000,
+    };
+    put_line(out, &entry)
+}

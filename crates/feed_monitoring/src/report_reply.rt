@@ -1,0 +1,120 @@
+//! The replies of a node about itself.
+ghost use Rattle.std.specs.Prelude.{◌≡◌, IfOk, IfSome};
+ghost use Rattle.httparse.specs.Grammar.{RequestHead};
+ghost use Rattle.feed_http_heads.specs.Options.{SaysWhetherItKeeps};
+ghost use Rattle.feed_http_heads.specs.Requests.{IsInBuffer, HasHead, is_get, is_head};
+ghost use Rattle.feed_monitoring.specs.ReportTexts.{status_of, report_text};
+ghost use Rattle.feed_monitoring.specs.Reports.{kind_of, kind_to, fixed_body, body_of, IsReportTo, IsReportReply};
+
+use crate::report::{Report, report_of};
+use crate::report_text::{ReportKind, ReportReply, report_reply};
+use feed_http_heads::{FIELD_LIMIT, Request};
+use feed_metrics::{Gauges, Metrics, put_metrics};
+use feed_resolver_request::find_request;
+use httparse::spans::EMPTY_HEADER_SPAN;
+use std::alloc::{AllocError, Global};
+
+pub(crate) const WELL: &[u8] = b"ok\n";
+
+pub(crate) const UNREADY: &[u8] = b"no active release\n";
+
+pub(crate) const BAD_METHOD: &[u8] = b"Method\n";
+
+fn kind_of(is_allowed: bool, is_ready: bool, report: Report) -> ReportKind
+    ensures { result ≡ kind_of is_allowed is_ready report }
+{
+    if !is_allowed {
+        return ReportKind::BadMethod;
+    }
+    match report {
+        Report::Metrics => ReportKind::Metrics,
+        Report::Ready => {
+            if is_ready {
+                ReportKind::Well
+            } else {
+                ReportKind::Unready
+            }
+        }
+        Report::Live => ReportKind::Well,
+    }
+}
+
+fn kind_to(request: &Request<'_>, is_ready: bool, report: Report) -> ReportKind
+    requires { IsInBuffer request.now }
+    ensures { (head : RequestHead) → HasHead request.now head → result ≡ kind_to head is_ready report }
+{
+    kind_of(request.is_get() || request.is_head(), is_ready, report)
+}
+
+fn fixed_body(kind: ReportKind) -> &'static [u8]
+    ensures { result.now ≡ fixed_body kind }
+{
+    match kind {
+        ReportKind::Metrics => b"",
+        ReportKind::Well => WELL,
+        ReportKind::Unready => UNREADY,
+        ReportKind::BadMethod => BAD_METHOD,
+    }
+}
+
+fn body_of(
+    alloc: Global,
+    kind: ReportKind,
+    metrics: &Metrics,
+    gauges: &Gauges<'_>,
+) -> Result<Vec<u8>, AllocError>
+    ensures { IfOk result (λ body. body.items ≡ body_of metrics.now gauges.now kind) }
+{
+    if kind != ReportKind::Metrics {
+        return Vec::from_slice(alloc, fixed_body(kind));
+    }
+    let mut body = Vec::new(alloc);
+    put_metrics(&mut body, metrics, gauges)?;
+    Ok(body)
+}
+
+fn reply_to(
+    alloc: Global,
+    request: &Request<'_>,
+    keeps: bool,
+    report: Report,
+    metrics: &Metrics,
+    gauges: &Gauges<'_>,
+) -> Result<ReportReply, AllocError>
+    requires { IsInBuffer request.now }
+    ensures reply { IfOk result (λ reply. (head : RequestHead) → HasHead request.now head
+        → IsReportTo metrics.now gauges.now head keeps report reply) }
+    ensures says { IfOk result (λ reply. SaysWhetherItKeeps keeps reply.bytes.items) }
+{
+    let kind = kind_to(request, !gauges.releases.is_empty(), report);
+    let body = body_of(alloc, kind, metrics, gauges)?;
+    report_reply(alloc, kind, keeps, request.is_head(), &body)
+}
+
+/// Returns the reply to a request for a report: the metrics, or the health by whether there are active releases. Only
+/// GET and HEAD are allowed. Returns none for any other request. `keeps` is whether the connection persists after the
+/// reply.
+///
+/// # Errors
+///
+/// Running out of memory.
+pub fn respond_about_node(
+    alloc: Global,
+    bytes: &[u8],
+    keeps: bool,
+    metrics: &Metrics,
+    gauges: &Gauges<'_>,
+) -> Result<Option<ReportReply>, AllocError>
+    ensures value { IfOk result (IsReportReply metrics.now gauges.now bytes.now keeps) }
+    ensures says { IfOk result (λ found. IfSome found (λ reply. SaysWhetherItKeeps keeps reply.bytes.items)) }
+{
+    let mut headers = [EMPTY_HEADER_SPAN; FIELD_LIMIT];
+    let Some(request) = find_request(bytes, &mut headers) else {
+        return Ok(None);
+    };
+    let Some(report) = report_of(&request) else {
+        return Ok(None);
+    };
+    let reply = reply_to(alloc, &request, keeps, report, metrics, gauges)?;
+    Ok(Some(reply))
+}

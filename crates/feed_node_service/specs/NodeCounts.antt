@@ -1,0 +1,27 @@
+-- The counters of connections and fetches.
+use Rattle.std.specs.Prelude.{ℕ, ◌==◌, if◌then◌else◌}
+use Rattle.feed_metrics.specs.Counts.{Added, place_of}
+use Rattle.feed_metrics.specs.declared.counter.Counter.{Counter}
+use Rattle.feed_metrics.specs.declared.counter.Counter.TheVariants as counter
+use Rattle.feed_node_table.specs.declared.log.CloseCause.{CloseCause}
+use Rattle.feed_node_table.specs.declared.log.CloseCause.TheVariants as cause
+
+-- the counter of the connections that are closed for a cause
+abbrev pub cause_counter : CloseCause → Counter
+cause_counter cause.Complete = counter.Complete
+cause_counter cause.PeerClosed = counter.PeerClosed
+cause_counter cause.TimedOut = counter.TimedOut
+cause_counter cause.Evicted = counter.Evicted
+cause_counter cause.Streamed = counter.Streamed
+
+-- the counter of the fetches that end with an exit status: a device failed or memory ran out (3), or the peer or the file
+-- is to blame
+abbrev pub fetch_counter : ℕ → Counter
+fetch_counter status =
+    if status == 0 then counter.FetchDone
+    else (if status == 3 then counter.FetchFailed
+    else counter.FetchRefused)
+
+-- one more of a counter
+abbrev pub one_of : Counter → Added
+one_of which = record { place = place_of which; amount = 1 }

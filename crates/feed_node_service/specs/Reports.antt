@@ -1,0 +1,47 @@
+-- The replies of a node about itself.
+use Rattle.std.specs.Prelude.{◌≡◌, ◌⊎◌, ◌*◌, ℕ, ℤ, pos, unsigned_abs, int_lt, if◌then◌else◌, Bool, true, false, List, map, Option, Some, None}
+use Rattle.feed_keep.specs.declared.keep.Keep.{Ghosts}
+use Rattle.feed_metrics.specs.Texts.{MetricsValue}
+use Rattle.feed_metrics.specs.declared.text.Gauges.{Gauges}
+use Rattle.feed_metrics.specs.declared.text.ReleaseTime.{ReleaseTime}
+use Rattle.feed_releases.specs.Actives.{ActiveValue, actives_of}
+use Rattle.feed_releases.specs.Feeds.{releases_of}
+use Rattle.feed_monitoring.specs.declared.report_text.ReportReply.{ReportReply}
+use Rattle.feed_monitoring.specs.Reports.{AsksForNoReport, IsReportAnswer, IsReportReply}
+use Rattle.feed_node_service.specs.declared.responder.FeedResponder.{FeedResponder}
+
+-- the reply to a request for a report, by some counters and by gauges with these active releases, exactly if the bytes are
+-- such a request
+abbrev pub IsSomeReply : List ℕ → Bool → List ReleaseTime → Option ReportReply → Type 0
+IsSomeReply bytes keeps releases found =
+    (metrics : MetricsValue) × (gauges : Gauges) × (gauges.releases.now ≡ releases) × IsReportReply metrics gauges bytes keeps found
+
+-- the first second of a day, both counted from 1970-01-01; before that day 0
+abbrev pub seconds_of : ℤ → ℕ
+seconds_of day = if int_lt day (pos 0) then 0 else unsigned_abs day * 86400
+
+-- a package, and the first second of the day of its release
+abbrev pub time_of : ReleaseTime → List ℕ × ℕ
+time_of time = (time.package.now, time.seconds)
+
+-- the same of an active release
+abbrev pub active_time : ActiveValue → List ℕ × ℕ
+active_time active = (active.name.stem, seconds_of active.name.day)
+
+-- the bytes are a request for a report that the client may have, and this is the reply to it: by some counters, and by
+-- gauges that have the packages and the days of the active releases
+pub record IsReportFor {K : Type 0} {k : Ghosts K} (responder : FeedResponder K k) (bytes : List ℕ) (keeps : Bool) (reply : ReportReply) : Type 0 where
+  pub allowed : responder.has_reports ≡ true
+  pub metrics : MetricsValue
+  pub gauges : Gauges
+  pub releases : map time_of gauges.releases.now ≡ map active_time (actives_of (releases_of responder.feed.now))
+  pub is : IsReportAnswer metrics gauges bytes keeps reply
+
+-- the client may not have a report, or the bytes are no request for one
+abbrev pub HasNoReport : {K : Type 0} {k : Ghosts K} → FeedResponder K k → List ℕ → Type 0
+HasNoReport responder bytes = (responder.has_reports ≡ false) ⊎ AsksForNoReport bytes
+
+-- the reply, exactly if the client may have it and the bytes are such a request
+abbrev pub IsReportIn : {K : Type 0} {k : Ghosts K} → FeedResponder K k → List ℕ → Bool → Option ReportReply → Type 0
+IsReportIn responder bytes keeps None = HasNoReport responder bytes
+IsReportIn responder bytes keeps (Some reply) = IsReportFor responder bytes keeps reply

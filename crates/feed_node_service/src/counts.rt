@@ -1,0 +1,85 @@
+//! What a node counts.
+ghost use Rattle.std.specs.Prelude.{◌≡◌, ◌∷◌, IfOk, List, []};
+ghost use Rattle.feed_metrics.specs.Counts.{Added, HasCounted};
+ghost use Rattle.feed_metrics.specs.Histograms.{HasObserved};
+ghost use Rattle.feed_metrics.specs.declared.counter.Counter.TheVariants as counter;
+ghost use Rattle.feed_node_service.specs.NodeCounts.{cause_counter, fetch_counter, one_of};
+
+use feed_metrics::{Counter, Metrics};
+use feed_node_server::CloseCause;
+use std::alloc::{AllocError, Global};
+
+/// What a node counts: the metrics, and the connections that are open.
+#[derive(Drop)]
+pub struct NodeCounts {
+    pub metrics: Metrics,
+    pub open: u64,
+}
+
+fn cause_counter(cause: CloseCause) -> Counter
+    ensures { result ≡ cause_counter cause }
+{
+    match cause {
+        CloseCause::Complete => Counter::Complete,
+        CloseCause::PeerClosed => Counter::PeerClosed,
+        CloseCause::TimedOut => Counter::TimedOut,
+        CloseCause::Evicted => Counter::Evicted,
+        CloseCause::Streamed => Counter::Streamed,
+    }
+}
+
+fn fetch_counter(status: u8) -> Counter
+    ensures { result ≡ fetch_counter status }
+{
+    match status {
+        0 => Counter::FetchDone,
+        3 => Counter::FetchFailed,
+        _ => Counter::FetchRefused,
+    }
+}
+
+impl NodeCounts {
+    /// Returns counts of nothing.
+    pub fn new(alloc: Global) -> Result<NodeCounts, AllocError>
+        ensures counters { IfOk result (λ counts. HasCounted counts.metrics.counters []) }
+        ensures requests { IfOk result (λ counts. HasCounted counts.metrics.requests []) }
+        ensures times { IfOk result (λ counts. HasObserved counts.metrics.times []) }
+    {
+        Ok(NodeCounts {
+            metrics: Metrics::new(alloc)?,
+            open: 0,
+        })
+    }
+
+    /// Counts a connection that is accepted.
+    pub fn accept(&mut self)
+        ensures counted { (history : List Added) → HasCounted self.old.metrics.counters history
+            → HasCounted self.new.metrics.counters (one_of counter.Opened ∷ history) }
+        ensures requests { self.new.metrics.requests ≡ self.old.metrics.requests }
+        ensures times { self.new.metrics.times ≡ self.old.metrics.times }
+    {
+        self.metrics.add(Counter::Opened, 1);
+        self.open = self.open.saturating_add(1);
+    }
+
+    /// Counts a connection that is closed, under its cause.
+    pub fn close(&mut self, cause: CloseCause)
+        ensures counted { (history : List Added) → HasCounted self.old.metrics.counters history
+            → HasCounted self.new.metrics.counters (one_of (cause_counter cause) ∷ history) }
+        ensures requests { self.new.metrics.requests ≡ self.old.metrics.requests }
+        ensures times { self.new.metrics.times ≡ self.old.metrics.times }
+    {
+        self.metrics.add(cause_counter(cause), 1);
+        self.open = self.open.saturating_sub(1);
+    }
+
+    /// Counts a fetch that ended with this exit status.
+    pub fn end_fetch(&mut self, status: u8)
+        ensures counted { (history : List Added) → HasCounted self.old.metrics.counters history
+            → HasCounted self.new.metrics.counters (one_of (fetch_counter status) ∷ history) }
+        ensures requests { self.new.metrics.requests ≡ self.old.metrics.requests }
+        ensures times { self.new.metrics.times ≡ self.old.metrics.times }
+    {
+        self.metrics.add(fetch_counter(status), 1);
+    }
+}
