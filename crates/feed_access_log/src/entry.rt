@@ -2,8 +2,9 @@
 ghost use Rattle.std.specs.Prelude.{◌≡◌, ◌++◌, OnOk};
 ghost use Rattle.feed_access_log.specs.Lines.{line_text};
 
-use crate::piece::{Piece, put_all};
+use crate::piece::Piece;
 use crate::request_line::RequestLine;
+use feed_pieces::put_all;
 use std::alloc::AllocError;
 use std::marker::Model;
 

@@ -1,11 +1,11 @@
-//! Writes a line piece by piece.
+//! The pieces of a line.
 ghost use Rattle.std.specs.Prelude.{◌≡◌, ◌++◌, OnOk};
-ghost use Rattle.feed_access_log.specs.Pieces.{or_dash, piece_text, pieces_text};
+ghost use Rattle.feed_access_log.specs.Pieces.{or_dash};
 
 use crate::escape::{put, put_escaped};
 use crate::time::put_time;
+use feed_pieces::{PutPiece, put_number};
 use std::alloc::AllocError;
-use std::io::Write;
 
 /// A piece of a line.
 #[derive(Clone, Copy)]
@@ -22,15 +22,6 @@ pub(crate) enum Piece<'a> {
     Time(u64),
 }
 
-fn put_number(out: &mut Vec<u8>, number: u64) -> Result<(), AllocError>
-    ensures { OnOk result (out.new.items ≡ out.old.items ++ piece_text (Piece.Number number)) }
-{
-    match write!(out, "{number}") {
-        Ok(()) => Ok(()),
-        Err(_) => Err(AllocError),
-    }
-}
-
 fn put_or_dash(out: &mut Vec<u8>, text: &[u8]) -> Result<(), AllocError>
     ensures { OnOk result (out.new.items ≡ out.old.items ++ or_dash text.now) }
 {
@@ -41,10 +32,12 @@ fn put_or_dash(out: &mut Vec<u8>, text: &[u8]) -> Result<(), AllocError>
     }
 }
 
-impl Piece<'_> {
-    fn put(&self, out: &mut Vec<u8>) -> Result<(), AllocError>
-        ensures { OnOk result (out.new.items ≡ out.old.items ++ piece_text self.now) }
-    {
+impl PutPiece for Piece<'_> {
+    ghost use Rattle.feed_access_log.specs.Pieces.{piece_text};
+
+    ghost text = { piece_text };
+
+    fn put(&self, out: &mut Vec<u8>) -> Result<(), AllocError> {
         match self {
             Piece::Plain(text) => put(out, text),
             Piece::Escaped(text) => put_escaped(out, text),
@@ -53,14 +46,4 @@ impl Piece<'_> {
             Piece::Time(seconds) => put_time(out, *seconds),
         }
     }
-}
-
-/// Writes the pieces, one after another.
-pub(crate) fn put_all(out: &mut Vec<u8>, pieces: &[Piece<'_>]) -> Result<(), AllocError>
-    ensures { OnOk result (out.new.items ≡ out.old.items ++ pieces_text pieces.now) }
-{
-    for piece in pieces {
-        piece.put(out)?;
-    }
-    Ok(())
 }

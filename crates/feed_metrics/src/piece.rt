@@ -1,10 +1,10 @@
-//! Writes the text of metrics piece by piece.
+//! The pieces of the text of metrics.
 ghost use Rattle.std.specs.Prelude.{◌≡◌, ◌++◌, OnOk};
 ghost use Rattle.feed_metrics.specs.Labels.{label_byte, label_text};
-ghost use Rattle.feed_metrics.specs.Pieces.{digit, piece_text, pieces_text, seconds_text, six_digits};
+ghost use Rattle.feed_metrics.specs.Pieces.{digit, seconds_text, six_digits};
 
+use feed_pieces::{PutPiece, put_number};
 use std::alloc::AllocError;
-use std::io::Write;
 
 /// A piece of the text.
 #[derive(Clone, Copy)]
@@ -46,15 +46,6 @@ fn put_label(out: &mut Vec<u8>, text: &[u8]) -> Result<(), AllocError>
     Ok(())
 }
 
-fn put_number(out: &mut Vec<u8>, number: u64) -> Result<(), AllocError>
-    ensures { OnOk result (out.new.items ≡ out.old.items ++ piece_text (Piece.Number number)) }
-{
-    match write!(out, "{number}") {
-        Ok(()) => Ok(()),
-        Err(_) => Err(AllocError),
-    }
-}
-
 fn digit(number: u64) -> u8
     ensures { result ≡ digit number }
 {
@@ -85,10 +76,12 @@ fn put_seconds(out: &mut Vec<u8>, micros: u64) -> Result<(), AllocError>
     put_six_digits(out, micros)
 }
 
-impl Piece<'_> {
-    fn put(&self, out: &mut Vec<u8>) -> Result<(), AllocError>
-        ensures { OnOk result (out.new.items ≡ out.old.items ++ piece_text self.now) }
-    {
+impl PutPiece for Piece<'_> {
+    ghost use Rattle.feed_metrics.specs.Pieces.{piece_text};
+
+    ghost text = { piece_text };
+
+    fn put(&self, out: &mut Vec<u8>) -> Result<(), AllocError> {
         match self {
             Piece::Plain(text) => put(out, text),
             Piece::Label(text) => put_label(out, text),
@@ -96,14 +89,4 @@ impl Piece<'_> {
             Piece::Seconds(micros) => put_seconds(out, *micros),
         }
     }
-}
-
-/// Writes the pieces, one after another.
-pub(crate) fn put_all(out: &mut Vec<u8>, pieces: &[Piece<'_>]) -> Result<(), AllocError>
-    ensures { OnOk result (out.new.items ≡ out.old.items ++ pieces_text pieces.now) }
-{
-    for piece in pieces {
-        piece.put(out)?;
-    }
-    Ok(())
 }

@@ -9,8 +9,9 @@ ghost use Rattle.feed_metrics.specs.Texts.{times_text, totals_text};
 use crate::counter::{COUNTERS, Counter};
 use crate::histogram::BOUNDS;
 use crate::metrics::Metrics;
-use crate::piece::{Piece, put, put_all};
+use crate::piece::{Piece, put};
 use crate::request_kind::{CLASSES, StatusClass, TARGETS, Target};
+use feed_pieces::put_all;
 use std::alloc::AllocError;
 
 /// What a node is now, beside what it has counted.

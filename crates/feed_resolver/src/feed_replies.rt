@@ -8,10 +8,11 @@ ghost use Rattle.feed_resolver.specs.FeedReplies.{feed_target, IsFeedReply, IsFe
 
 use feed_http_heads::{FIELD_LIMIT, Request, origin_form};
 use feed_keep::Keep;
+use feed_pieces::put_all;
 use feed_range::strip_prefix;
 use feed_releases::{Feed, ReleaseStatus};
 use feed_resolver_reply::{
-    Piece, Reply, Response, Status, put_all, put_comma, put_list_end, put_list_start, refusal,
+    Piece, Reply, Response, Status, put_comma, put_list_end, put_list_start, refusal,
 };
 use feed_resolver_request::{
     FetchPolicy, Representation, find_request, is_authorized, path_in, query_in, representation_of,

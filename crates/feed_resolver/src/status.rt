@@ -6,11 +6,11 @@ ghost use Rattle.feed_resolver_reply.specs.JsonLists.{items_from, json_list};
 ghost use Rattle.feed_resolver.specs.Status.{active_item, active_items, active_line, active_object, status_body};
 ghost use Rattle.feed_resolver.specs.Status.{home_page};
 
+use feed_pieces::put_all;
 use feed_releases::ActiveRelease;
 use feed_resolver_hits::{name_text, put_release_members};
 use feed_resolver_reply::{
-    Piece, put, put_all, put_comma, put_form, put_list_end, put_list_start, put_page_end,
-    put_page_start,
+    Piece, put, put_comma, put_form, put_list_end, put_list_start, put_page_end, put_page_start,
 };
 use feed_resolver_request::Representation;
 use std::alloc::AllocError;

@@ -11,7 +11,8 @@ use crate::tally::Tally;
 use feed_answer::Grade;
 use feed_kbart::Row;
 use feed_names::ReleaseName;
-use feed_resolver_reply::{Piece, put_all, put_comma, put_list_end, put_list_start};
+use feed_pieces::put_all;
+use feed_resolver_reply::{Piece, put_comma, put_list_end, put_list_start};
 use std::alloc::AllocError;
 
 fn grade_name(grade: Grade) -> &'static [u8]

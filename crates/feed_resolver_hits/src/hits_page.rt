@@ -16,7 +16,8 @@ use crate::tally::Tally;
 use feed_answer::Grade;
 use feed_dates::write_date;
 use feed_kbart::Row;
-use feed_resolver_reply::{Piece, put, put_all, put_page_end, put_page_start};
+use feed_pieces::put_all;
+use feed_resolver_reply::{Piece, put, put_page_end, put_page_start};
 use std::alloc::AllocError;
 
 const TABLE_HEAD: &[u8] =

@@ -12,7 +12,8 @@ use crate::tally::Tally;
 use feed_answer::{Query, write_head, write_hit};
 use feed_kbart::Holdings;
 use feed_names::ReleaseName;
-use feed_resolver_reply::{Piece, put_all};
+use feed_pieces::put_all;
+use feed_resolver_reply::Piece;
 use std::alloc::{AllocError, Global};
 
 #[tactic(auto, unfolding(crate::specs::HitsText::cut_head_line))]

@@ -6,10 +6,11 @@ ghost use Rattle.feed_resolver_reply.specs.Messages.{IsMessageFor};
 ghost use Rattle.feed_resolver_request.specs.declared.representation.Representation.TheVariants as representation;
 
 use crate::page::{put_page_end, put_page_start};
-use crate::piece::{Piece, put_all};
+use crate::piece::Piece;
 use crate::reply::Reply;
 use crate::response::Response;
 use crate::status::Status;
+use feed_pieces::put_all;
 use feed_resolver_request::Representation;
 use std::alloc::{AllocError, Global};
 

@@ -24,7 +24,7 @@ pub use laws::{
     not_modified_is_head_of_good, reply_reads_back,
 };
 pub use page::{put_page_end, put_page_start};
-pub use piece::{Piece, put_all};
+pub use piece::Piece;
 pub use reply::Reply;
 pub use response::Response;
 pub use status::Status;

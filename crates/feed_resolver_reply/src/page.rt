@@ -3,7 +3,8 @@ ghost use Rattle.std.specs.Prelude.{◌≡◌, ◌++◌, OnOk};
 ghost use Rattle.feed_resolver_reply.specs.Pages.{page_start, page_end};
 
 use crate::escape::put;
-use crate::piece::{Piece, put_all};
+use crate::piece::Piece;
+use feed_pieces::put_all;
 use std::alloc::AllocError;
 
 // A page up to its title.

@@ -1,11 +1,8 @@
-//! Writes a reply piece by piece, with the escaping that each needs.
-ghost use Rattle.std.specs.Prelude.{◌≡◌, ◌++◌, OnOk};
-ghost use Rattle.feed_resolver_reply.specs.Pieces.{piece_text, pieces_text};
-
+//! The pieces of a reply, with the escaping that each needs.
 use crate::escape::{put, put_escaped};
 use crate::json_text::put_json_string;
+use feed_pieces::{PutPiece, put_number};
 use std::alloc::AllocError;
-use std::io::Write;
 
 /// A piece of a reply.
 #[derive(Clone, Copy)]
@@ -20,19 +17,12 @@ pub enum Piece<'a> {
     Number(u64),
 }
 
-fn put_number(out: &mut Vec<u8>, number: u64) -> Result<(), AllocError>
-    ensures { OnOk result (out.new.items ≡ out.old.items ++ piece_text (Piece.Number number)) }
-{
-    match write!(out, "{number}") {
-        Ok(()) => Ok(()),
-        Err(_) => Err(AllocError),
-    }
-}
+impl PutPiece for Piece<'_> {
+    ghost use Rattle.feed_resolver_reply.specs.Pieces.{piece_text};
 
-impl Piece<'_> {
-    fn put(&self, out: &mut Vec<u8>) -> Result<(), AllocError>
-        ensures { OnOk result (out.new.items ≡ out.old.items ++ piece_text self.now) }
-    {
+    ghost text = { piece_text };
+
+    fn put(&self, out: &mut Vec<u8>) -> Result<(), AllocError> {
         match self {
             Piece::Plain(text) => put(out, text),
             Piece::Escaped(text) => put_escaped(out, text),
@@ -40,14 +30,4 @@ impl Piece<'_> {
             Piece::Number(number) => put_number(out, *number),
         }
     }
-}
-
-/// Writes the pieces, one after another.
-pub fn put_all(out: &mut Vec<u8>, pieces: &[Piece<'_>]) -> Result<(), AllocError>
-    ensures { OnOk result (out.new.items ≡ out.old.items ++ pieces_text pieces.now) }
-{
-    for piece in pieces {
-        piece.put(out)?;
-    }
-    Ok(())
 }

@@ -8,9 +8,10 @@ ghost use Rattle.feed_resolver_reply.specs.Replies.{connection_field, last_field
 ghost use Rattle.feed_resolver_reply.specs.Messages.{IsLocation, IsMessageFor};
 
 use crate::escape::put;
-use crate::piece::{Piece, put_all};
+use crate::piece::Piece;
 use crate::response::Response;
 use crate::status::{Status, is_bodiless, reason_text, status_code};
+use feed_pieces::put_all;
 use feed_resolver_request::Representation;
 use std::alloc::{AllocError, Global};
 use std::marker::Model;

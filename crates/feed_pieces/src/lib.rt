@@ -1,0 +1,41 @@
+//! Appends a text to a buffer piece by piece. Each kind of text has pieces of its own.
+#![tactic(auto)]
+
+ghost use Rattle.std.specs.Prelude.{◌≡◌, ◌++◌, OnOk};
+ghost use Rattle.std.specs.List.{flat_map};
+ghost use Rattle.std.specs.Fmt.{decimal};
+
+use std::alloc::AllocError;
+use std::io::Write;
+
+/// A piece of a text.
+pub trait PutPiece {
+    ghost use Rattle.std.specs.Prelude.{◌≡◌, ◌++◌, ℕ, List, OnOk};
+
+    /// The text of the piece.
+    ghost text: { Self → List ℕ };
+
+    /// Appends the text of the piece.
+    fn put(&self, out: &mut Vec<u8>) -> Result<(), AllocError>
+        ensures { OnOk result (out.new.items ≡ out.old.items ++ text self.now) };
+}
+
+/// Appends the decimal digits of a number.
+pub fn put_number(out: &mut Vec<u8>, number: u64) -> Result<(), AllocError>
+    ensures { OnOk result (out.new.items ≡ out.old.items ++ decimal number) }
+{
+    match write!(out, "{number}") {
+        Ok(()) => Ok(()),
+        Err(_) => Err(AllocError),
+    }
+}
+
+/// Appends the texts of the pieces, one after another.
+pub fn put_all<P: PutPiece>(out: &mut Vec<u8>, pieces: &[P]) -> Result<(), AllocError>
+    ensures { OnOk result (out.new.items ≡ out.old.items ++ flat_map P.text pieces.now) }
+{
+    for piece in pieces {
+        piece.put(out)?;
+    }
+    Ok(())
+}
