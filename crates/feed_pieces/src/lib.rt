@@ -1,5 +1,6 @@
 //! Appends a text to a buffer piece by piece. Each kind of text has pieces of its own.
 #![tactic(auto)]
+
 ghost use Rattle.std.specs.Prelude.{◌≡◌, ◌++◌, OnOk};
 ghost use Rattle.std.specs.List.{flat_map};
 ghost use Rattle.std.specs.Fmt.{decimal};

@@ -10,8 +10,7 @@ use feed_pieces::put_all;
 use feed_releases::ActiveRelease;
 use feed_resolver_hits::{name_text, put_release_members};
 use feed_resolver_reply::{
-    Piece, put, put_comma, put_form, put_list_end, put_list_start, put_page_end,
-    put_page_start,
+    Piece, put, put_comma, put_form, put_list_end, put_list_start, put_page_end, put_page_start,
 };
 use feed_resolver_request::Representation;
 use std::alloc::AllocError;
