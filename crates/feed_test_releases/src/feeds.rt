@@ -44,6 +44,25 @@ impl Sent {
     }
 }
 
+// What a command asks a feed.
+#[derive(Clone, Copy)]
+enum Question {
+    Next,
+    Reason,
+    Report,
+    Answer,
+}
+
+fn question_of(command: &str) -> Result<Question, Fault> {
+    match command {
+        "next" => Ok(Question::Next),
+        "reason" => Ok(Question::Reason),
+        "report" => Ok(Question::Report),
+        "answer" => Ok(Question::Answer),
+        _ => Err(UNKNOWN),
+    }
+}
+
 const CLOSED: Fault = Fault("no feed is open");
 
 const OPEN: Fault = Fault("a feed is open");
@@ -111,11 +130,17 @@ impl Feeds {
             "queue" => self.queue(rt, rest),
             "stop-before" => self.stop(rt, Point::Before, rest),
             "stop-after" => self.stop(rt, Point::After, rest),
-            "next" => print_next(rt, self.open_feed()?, rest),
-            "reason" => print_reason_of(rt, self.open_feed()?, rest),
-            "report" => print_report(rt, self.open_feed()?, rest),
-            "answer" => print_rows(rt, self.open_feed()?, rest),
-            _ => Err(UNKNOWN),
+            _ => self.ask(rt, question_of(command)?, rest),
+        }
+    }
+
+    fn ask(&self, rt: &HostRuntime, question: Question, words: &[&str]) -> Result<(), Fault> {
+        let feed = self.open_feed()?;
+        match question {
+            Question::Next => print_next(rt, feed, words),
+            Question::Reason => print_reason_of(rt, feed, words),
+            Question::Report => print_report(rt, feed, words),
+            Question::Answer => print_rows(rt, feed, words),
         }
     }
 
@@ -127,20 +152,7 @@ impl Feeds {
     }
 
     fn record(&mut self, rt: &HostRuntime, words: &[&str]) -> Result<(), Fault> {
-        let [name, size, state, parts @ ..] = words else {
-            return Err(WORDS);
-        };
-        let size = number_of(size)?;
-        let (state, reason) = state_of(state)?;
-        let name = name_of(rt.alloc(), name)?;
-        let parts = parts_of(rt, parts)?;
-        self.records.push(Record {
-            name,
-            size,
-            state,
-            reason,
-            parts,
-        })?;
+        self.records.push(record_of(rt, words)?)?;
         Ok(())
     }
 
@@ -259,6 +271,22 @@ impl Feeds {
     }
 }
 
+// `NAME SIZE STATE PART..`
+fn record_of(rt: &HostRuntime, words: &[&str]) -> Result<Record, Fault> {
+    let [name, size, state, parts @ ..] = words else {
+        return Err(WORDS);
+    };
+    let size = number_of(size)?;
+    let (state, reason) = state_of(state)?;
+    Ok(Record {
+        name: name_of(rt.alloc(), name)?,
+        size,
+        state,
+        reason,
+        parts: parts_of(rt, parts)?,
+    })
+}
+
 // Returns the parts with each byte as a part of its own.
 fn split_parts(alloc: Global, parts: &[Part]) -> Result<Vec<Part>, Fault> {
     let mut bytes = Vec::new(alloc);
@@ -297,22 +325,25 @@ fn answers_of(
 
 fn parse_sent(rt: &HostRuntime, words: &[&str]) -> Result<Sent, Fault> {
     match words {
-        ["offer", name, size] => {
-            let size = number_of(size)?;
-            let name = name_of(rt.alloc(), name)?;
-            Ok(Sent::Offered { name, size })
-        }
-        ["piece", name, part] => {
-            let name = name_of(rt.alloc(), name)?;
-            let piece = piece_of(rt, part)?;
-            Ok(Sent::Piece { name, piece })
-        }
-        ["lost", name] => {
-            let name = name_of(rt.alloc(), name)?;
-            Ok(Sent::Lost { name })
-        }
+        ["offer", name, size] => parse_offer(rt, name, size),
+        ["piece", name, part] => parse_piece(rt, name, part),
+        ["lost", name] => Ok(Sent::Lost {
+            name: name_of(rt.alloc(), name)?,
+        }),
         _ => Err(Fault("an event is offer NAME SIZE, piece NAME PART or lost NAME")),
     }
+}
+
+fn parse_offer(rt: &HostRuntime, name: &str, size: &str) -> Result<Sent, Fault> {
+    let size = number_of(size)?;
+    let name = name_of(rt.alloc(), name)?;
+    Ok(Sent::Offered { name, size })
+}
+
+fn parse_piece(rt: &HostRuntime, name: &str, part: &str) -> Result<Sent, Fault> {
+    let name = name_of(rt.alloc(), name)?;
+    let piece = piece_of(rt, part)?;
+    Ok(Sent::Piece { name, piece })
 }
 
 // Submits an event, and once more if the device failed and it is retried.
@@ -352,7 +383,11 @@ fn print_next(rt: &HostRuntime, feed: &Feed<Failing>, words: &[&str]) -> Result<
     };
     let max = number_of(max)?;
     let name = name_of(rt.alloc(), name)?;
-    match feed.next_range(&name, max) {
+    print_range(rt, feed.next_range(&name, max))
+}
+
+fn print_range(rt: &HostRuntime, range: Option<(u64, u64)>) -> Result<(), Fault> {
+    match range {
         Some((first, last)) => Ok(println!(rt; "missing {first}-{last}")?),
         None => print_word(rt, "none"),
     }
@@ -388,10 +423,19 @@ fn print_rows(rt: &HostRuntime, feed: &Feed<Failing>, words: &[&str]) -> Result<
     let Ok(query) = Query::read(rt.alloc(), query.as_bytes()) else {
         return Err(Fault("a query is wrong"));
     };
-    let Some(name) = feed.report(package.as_bytes()) else {
+    print_matches(rt, feed, package.as_bytes(), &query)
+}
+
+fn print_matches(
+    rt: &HostRuntime,
+    feed: &Feed<Failing>,
+    package: &[u8],
+    query: &Query,
+) -> Result<(), Fault> {
+    let Some(name) = feed.report(package) else {
         return print_word(rt, "none");
     };
-    let Ok(answer) = feed.answer(package.as_bytes(), &query) else {
+    let Ok(answer) = feed.answer(package, query) else {
         return Err(Fault("no memory"));
     };
     match answer.write(&mut io::writer(rt), name) {

@@ -1,7 +1,17 @@
-//! A program that runs commands from its standard input on a feed over a keeper in memory, for the sessions of tests/.
+//! A program that runs commands from its standard input on a feed over a keeper in memory, or replays a script over
+//! such keepers, for the sessions of tests/.
 //!
-//!     feed_test_releases            commands on a feed and its keeper
-//!     feed_test_releases segments   commands on the kept parts of one file
+//!     feed_test_releases                          commands on a feed and its keeper
+//!     feed_test_releases segments                 commands on the kept parts of one file
+//!     feed_test_releases failing KEEPER..         replays a script
+//!     feed_test_releases holding KEEPER..         the same
+//!     feed_test_releases again KEEPER..           the same, twice
+//!     feed_test_releases full KEEPER..            replays it, and writes the transcript where there is no room
+//!     feed_test_releases names                    prints names
+//!
+//! If an argument, a command or the script is wrong, the last line says so, and the status is 2.
+//!
+//! # Commands
 //!
 //! A line has one command, its words separated by spaces; an empty line has none. An invalid command ends the program
 //! with status 2, after it has printed the number of the line and the error on standard error.
@@ -59,68 +69,102 @@
 //!     read-with PART ROOM..  reads the kept bytes and the piece's new ones into buffers of up to 16 bytes
 //!     find PLACE           prints the index of the last part that begins at a place or before it, and the probes
 //!     in-order PART..      prints a copy of the parts, in the order of their first places
+//!
+//! # Replays
+//!
+//! The script is one of `kbfeed replay`. There is a node for each KEEPER, whatever number the script names, and a
+//! script publishes no files by their paths. A KEEPER is one of
+//!
+//!     sound, empty                          a keeper without records, which does not fail
+//!     load N                                one without records, which fails at the load after N others
+//!     commits N                             one without records, which fails at every commit after the first N
+//!     record NAME SIZE STATE FIRST TEXT     one with a record, which does not fail. The record is Staged or Active,
+//!                                           with these bytes, or none, at its place FIRST
+//!
+//! `failing` and `holding` print the transcript, or why there is none, and then each keeper that the replay returns:
+//! its number, how often it failed, and its records. `again` does this twice, each time over new keepers, and prints
+//! `again` between. `full` writes the transcript into each buffer that is shorter than it, and prints how many refuse
+//! it. `names` reads no script: it prints each fault, refusal, reply and line of a transcript with its text.
 #![tactic(auto)]
 
 mod feeds;
+mod keepers;
+mod names;
 mod printing;
+mod replays;
 mod segments;
 mod words;
 
-use feed_test_support::Fault;
+use feed_test_support::{Fault, read_events};
 use feeds::Feeds;
+use names::show_names;
+use replays::{show_again, show_full_over, show_over};
 use segments::Kept;
-use std::process::ExitCode;
+use std::process::{ExitCode, Termination};
+use std::test::Fail;
 use std::{env, io};
 use words::words_of;
 
 fn main(rt: HostRuntime) -> ExitCode {
-    match run(&rt) {
-        Ok(()) => ExitCode::SUCCESS,
-        Err(Fault(why)) => {
-            let _ = eprintln!(rt; "feed_test_releases: {why}");
-            ExitCode::from(2)
+    let done = run(&rt);
+    let is_done = done.is_ok();
+    let status = done.report(&rt);
+    if is_done { status } else { ExitCode::from(2) }
+}
+
+fn run(rt: &HostRuntime) -> Result<(), Fail> {
+    let mut words = Vec::new(rt.alloc());
+    for word in env::args(rt)? {
+        words.push(word)?;
+    }
+    match words.as_slice() {
+        [_, command, keepers @ ..] => run_command(rt, command.as_str(), keepers),
+        _ => run_lines(rt, Subject::Feeds(Feeds::new(rt.alloc()))),
+    }
+}
+
+fn run_command(rt: &HostRuntime, command: &str, keepers: &[String]) -> Result<(), Fail> {
+    match command {
+        "segments" => run_lines(rt, Subject::Segments(Kept::new(rt.alloc()))),
+        "failing" | "holding" => show_over(rt, keepers, &read_events(rt)?),
+        "again" => show_again(rt, keepers, &read_events(rt)?),
+        "full" => show_full_over(rt, keepers, &read_events(rt)?),
+        "names" => show_names(rt),
+        _ => Err(Fail::new(format_args!("{command}: unknown command"))),
+    }
+}
+
+// What the commands are on.
+#[derive(Drop)]
+enum Subject {
+    Feeds(Feeds),
+    Segments(Kept),
+}
+
+fn run_lines(rt: &HostRuntime, mut subject: Subject) -> Result<(), Fail> {
+    match take_lines(rt, &mut subject) {
+        Ok(()) => Ok(()),
+        Err(Fault(why)) => Err(Fail::new(format_args!("feed_test_releases: {why}"))),
+    }
+}
+
+// Runs the command of each line. Before the error of a line, prints it with its number.
+fn take_lines(rt: &HostRuntime, subject: &mut Subject) -> Result<(), Fault> {
+    let text = io::read_to_string(rt.alloc(), rt.reader())?;
+    for (at, line) in text.lines().enumerate() {
+        if let Err(why) = take_line(rt, subject, line) {
+            let number = at.saturating_add(1);
+            eprintln!(rt; "line {number}: {line}")?;
+            return Err(why);
         }
     }
-}
-
-fn run(rt: &HostRuntime) -> Result<(), Fault> {
-    let text = io::read_to_string(rt.alloc(), rt.reader())?;
-    let mut args = env::args(rt)?;
-    let _program = args.next();
-    match args.next().as_deref() {
-        None => run_feeds(rt, text.as_str()),
-        Some("segments") => run_segments(rt, text.as_str()),
-        Some(_) => Err(Fault("the argument is `segments`, or there is none")),
-    }
-}
-
-// Runs the commands on a feed.
-fn run_feeds(rt: &HostRuntime, text: &str) -> Result<(), Fault> {
-    let mut feeds = Feeds::new(rt.alloc());
-    for (at, line) in text.lines().enumerate() {
-        let words = words_of(rt.alloc(), line)?;
-        let done = feeds.run_command(rt, words.as_slice());
-        end_at(rt, at, line, done)?;
-    }
     Ok(())
 }
 
-// Runs the commands on the kept parts of a file.
-fn run_segments(rt: &HostRuntime, text: &str) -> Result<(), Fault> {
-    let mut kept = Kept::new(rt.alloc());
-    for (at, line) in text.lines().enumerate() {
-        let words = words_of(rt.alloc(), line)?;
-        let done = kept.run_command(rt, words.as_slice());
-        end_at(rt, at, line, done)?;
+fn take_line(rt: &HostRuntime, subject: &mut Subject, line: &str) -> Result<(), Fault> {
+    let words = words_of(rt.alloc(), line)?;
+    match subject {
+        Subject::Feeds(feeds) => feeds.run_command(rt, words.as_slice()),
+        Subject::Segments(kept) => kept.run_command(rt, words.as_slice()),
     }
-    Ok(())
-}
-
-// Prints the line of an error.
-fn end_at(rt: &HostRuntime, at: usize, line: &str, done: Result<(), Fault>) -> Result<(), Fault> {
-    if done.is_err() {
-        let number = at.saturating_add(1);
-        eprintln!(rt; "line {number}: {line}")?;
-    }
-    done
 }

@@ -34,13 +34,10 @@ impl Kept {
             ["parts", parts @ ..] => self.replace(rt, parts),
             ["in-order", parts @ ..] => print_in_order(rt, parts),
             [command] => ask_word(rt, &self.segments, command),
-            [command @ ("within" | "gap" | "find"), number] => {
-                ask_number(rt, &self.segments, command, number_of(number)?)
-            }
-            [command, part, rest @ ..] => {
-                let piece = fit_piece(rt, part)?;
-                run_piece(rt, &mut self.segments, command, &piece, rest)
-            }
+            ["within", number] => print_within(rt, &self.segments, number),
+            ["gap", number] => print_gap(rt, &self.segments, number),
+            ["find", number] => print_found(rt, &self.segments, number),
+            [command, part, rest @ ..] => run_on_piece(rt, &mut self.segments, command, part, rest),
         }
     }
 
@@ -77,6 +74,17 @@ fn keep_piece(alloc: Global, segments: &mut Segments, piece: &Piece) -> Result<(
     segments.reserve(&new)?;
     segments.insert(new);
     Ok(())
+}
+
+fn run_on_piece(
+    rt: &HostRuntime,
+    segments: &mut Segments,
+    command: &str,
+    part: &str,
+    rest: &[&str],
+) -> Result<(), Fault> {
+    let piece = fit_piece(rt, part)?;
+    run_piece(rt, segments, command, &piece, rest)
 }
 
 // Runs a command on a piece.
@@ -148,13 +156,25 @@ fn read_with(
     requires limit { vec_len piece.now.bytes ≤ max_piece }
 {
     let new = segments.new_parts(rt.alloc(), piece.first, &piece.bytes)?;
-    let mut reader = segments.reader_with(&new);
-    let mut buf = [0_u8; 16];
+    print_reads(rt, &mut segments.reader_with(&new), rooms)
+}
+
+fn print_reads(
+    rt: &HostRuntime,
+    reader: &mut SegmentReader<'_>,
+    rooms: &[&str],
+) -> Result<(), Fault> {
     for room in rooms {
-        let room = number_of(room)?.min(16) as usize;
-        let count = reader.read(&mut buf[..room])?;
-        println!(rt; "{count}:{}", buf[..count].escape_ascii())?;
+        print_read(rt, reader, room)?;
     }
+    Ok(())
+}
+
+fn print_read(rt: &HostRuntime, reader: &mut SegmentReader<'_>, room: &str) -> Result<(), Fault> {
+    let room = number_of(room)?.min(16) as usize;
+    let mut buf = [0_u8; 16];
+    let count = reader.read(&mut buf[..room])?;
+    println!(rt; "{count}:{}", buf[..count].escape_ascii())?;
     Ok(())
 }
 
@@ -179,20 +199,13 @@ fn ask_word(rt: &HostRuntime, segments: &Segments, command: &str) -> Result<(), 
     }
 }
 
-fn ask_number(
-    rt: &HostRuntime,
-    segments: &Segments,
-    command: &str,
-    number: u64,
-) -> Result<(), Fault> {
-    match command {
-        "within" => print_flag(rt, segments.are_within(number)),
-        "gap" => print_gap(rt, segments, number),
-        _ => print_found(rt, segments, number),
-    }
+fn print_within(rt: &HostRuntime, segments: &Segments, size: &str) -> Result<(), Fault> {
+    let size = number_of(size)?;
+    print_flag(rt, segments.are_within(size))
 }
 
-fn print_gap(rt: &HostRuntime, segments: &Segments, size: u64) -> Result<(), Fault> {
+fn print_gap(rt: &HostRuntime, segments: &Segments, size: &str) -> Result<(), Fault> {
+    let size = number_of(size)?;
     if !segments.are_within(size) {
         return Err(Fault("a part reaches past the size"));
     }
@@ -202,7 +215,8 @@ fn print_gap(rt: &HostRuntime, segments: &Segments, size: u64) -> Result<(), Fau
     }
 }
 
-fn print_found(rt: &HostRuntime, segments: &Segments, place: u64) -> Result<(), Fault> {
+fn print_found(rt: &HostRuntime, segments: &Segments, place: &str) -> Result<(), Fault> {
+    let place = number_of(place)?;
     let mut probes = 0;
     match segments.find(place, &mut probes) {
         Some(index) => Ok(println!(rt; "index {index} probes {probes}")?),

@@ -63,18 +63,31 @@ fn places_of(word: &str) -> Result<(u64, Option<u64>), Fault> {
 
 // Returns the bytes of a text, `@FILE` or `@FILE,FROM,COUNT`.
 fn bytes_of(rt: &HostRuntime, text: &str) -> Result<Vec<u8>, Fault> {
-    let Some(file) = text.strip_prefix('@') else {
-        return Ok(Vec::from_slice(rt.alloc(), text.as_bytes())?);
-    };
+    match text.strip_prefix('@') {
+        Some(file) => bytes_in_file(rt, file),
+        None => copy_of(rt.alloc(), text.as_bytes()),
+    }
+}
+
+fn copy_of(alloc: Global, bytes: &[u8]) -> Result<Vec<u8>, Fault> {
+    Ok(Vec::from_slice(alloc, bytes)?)
+}
+
+fn bytes_in_file(rt: &HostRuntime, file: &str) -> Result<Vec<u8>, Fault> {
     let Some((path, places)) = file.split_once(',') else {
         return file_of(rt, file);
     };
-    let Some((from, count)) = places.split_once(',') else {
-        return Err(Fault("a file is @FILE or @FILE,FROM,COUNT"));
-    };
-    let (from, count) = (number_of(from)?, number_of(count)?);
+    let (from, count) = range_of(places)?;
     let bytes = file_of(rt, path)?;
-    Ok(Vec::from_slice(rt.alloc(), cut(&bytes, from, count))?)
+    copy_of(rt.alloc(), cut(&bytes, from, count))
+}
+
+// `FROM,COUNT`
+fn range_of(word: &str) -> Result<(u64, u64), Fault> {
+    match word.split_once(',') {
+        Some((from, count)) => Ok((number_of(from)?, number_of(count)?)),
+        None => Err(Fault("a file is @FILE or @FILE,FROM,COUNT")),
+    }
 }
 
 fn file_of(rt: &HostRuntime, path: &str) -> Result<Vec<u8>, Fault> {

@@ -25,14 +25,15 @@
 
 mod database;
 mod steps;
+mod work;
 mod worlds;
 
 use database::{DatabaseFile, NewDatabase};
 use feed_store::StoreFault;
 use std::env;
 use std::test::Fail;
-use steps::take_steps;
-use worlds::{load, replay_over};
+use work::{Work, do_work};
+use worlds::replay_over;
 
 fn main(rt: HostRuntime) -> Result<(), Fail> {
     let mut arguments = Vec::new(rt.alloc());
@@ -43,29 +44,27 @@ fn main(rt: HostRuntime) -> Result<(), Fail> {
         return Err(Fail::new("feed_test_store DATABASE STEP.."));
     };
     match first.as_str() {
-        "load" => load_each(&rt, others),
-        "replay" => replay_in_files(&rt, others),
+        "load" => work_in_files(&rt, others, &Work::Load),
+        "replay" => work_in_files(&rt, others, &Work::Replay),
         "replay-in-memory" => replay_in_memory(&rt, others),
         "faults" => print_faults(&rt),
-        path => take_steps(&rt, &DatabaseFile { rt: &rt, path }, others),
+        path => work_in(&rt, &[DatabaseFile { rt: &rt, path }], &Work::Steps(others)),
     }
 }
 
-fn load_each(rt: &HostRuntime, paths: &[String]) -> Result<(), Fail> {
-    for path in paths {
-        let path = path.as_str();
-        load(rt, &DatabaseFile { rt, path })?;
-    }
-    Ok(())
-}
-
-fn replay_in_files(rt: &HostRuntime, paths: &[String]) -> Result<(), Fail> {
+fn work_in_files(rt: &HostRuntime, paths: &[String], work: &Work<'_>) -> Result<(), Fail> {
     let mut databases = Vec::new(rt.alloc());
     for path in paths {
         let path = path.as_str();
         databases.push(DatabaseFile { rt, path })?;
     }
-    replay_over(rt, &databases)
+    work_in(rt, &databases, work)
+}
+
+// Does the work with databases in files. The generic function is called for them here alone, because each call at their
+// type is dear to prove.
+fn work_in(rt: &HostRuntime, databases: &[DatabaseFile<'_>], work: &Work<'_>) -> Result<(), Fail> {
+    do_work(rt, databases, work)
 }
 
 fn replay_in_memory(rt: &HostRuntime, words: &[String]) -> Result<(), Fail> {

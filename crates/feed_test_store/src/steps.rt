@@ -4,7 +4,7 @@ use feed_keep::Keep;
 use feed_model::{Refusal, Reply};
 use feed_names::ReleaseName;
 use feed_releases::{Event, Feed};
-use feed_test_support::{content_text, name_of};
+use feed_test_support::{name_of, print_content};
 use std::test::Fail;
 use std::{fs, slice};
 
@@ -73,8 +73,7 @@ fn take_step<D: Database>(
 
 fn print_records<K: Keep + Drop>(rt: &HostRuntime, feed: Feed<K>) -> Result<Feed<K>, Fail> {
     let mut keeper = feed.restart();
-    let text = content_text(rt.alloc(), &mut keeper)?;
-    print!(rt; "{}", str::from_utf8(&text)?)?;
+    print_content(rt, &mut keeper)?;
     open_feed(rt, keeper)
 }
 

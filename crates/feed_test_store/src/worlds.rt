@@ -3,7 +3,8 @@ use crate::database::Database;
 use feed_core::{ReplayFault, Transcript, replay};
 use feed_keep::Keep;
 use feed_releases::Feed;
-use feed_test_support::{content_text, read_events};
+use feed_test_support::{print_content, print_text, read_events};
+use std::alloc::Global;
 use std::test::Fail;
 
 /// Replays the script on standard input, with a node over each of these databases. Prints the transcript, and then the
@@ -29,9 +30,7 @@ fn show_transcript<D: Database>(
     rt: &HostRuntime,
     transcript: Transcript<D::Keeper>,
 ) -> Result<(), Fail> {
-    let mut text = Vec::new(rt.alloc());
-    transcript.write(&mut text)?;
-    print!(rt; "{}", str::from_utf8(&text)?)?;
+    print_text(rt, &text_of(rt.alloc(), &transcript)?)?;
     let mut node = 0_usize;
     for keeper in transcript.into_keepers() {
         node = node.saturating_add(1);
@@ -40,11 +39,16 @@ fn show_transcript<D: Database>(
     Ok(())
 }
 
+fn text_of<K: Keep + Drop>(alloc: Global, transcript: &Transcript<K>) -> Result<Vec<u8>, Fail> {
+    let mut text = Vec::new(alloc);
+    transcript.write(&mut text)?;
+    Ok(text)
+}
+
 fn show_keeper<D: Database>(rt: &HostRuntime, node: usize, keeper: D::Keeper) -> Result<(), Fail> {
     let mut keeper = keeper;
     println!(rt; "keeper {node}, failures {}", keeper.failures())?;
-    let records = content_text(rt.alloc(), &mut keeper)?;
-    print!(rt; "{}", str::from_utf8(&records)?)?;
+    print_content(rt, &mut keeper)?;
     D::close(keeper)
 }
 

@@ -9,4 +9,4 @@ mod records;
 pub use events::read_events;
 pub use failing::Failing;
 pub use fault::Fault;
-pub use records::{content_text, name_of, records_text, write_parts};
+pub use records::{name_of, print_content, print_text, records_text, write_parts};

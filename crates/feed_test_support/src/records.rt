@@ -12,10 +12,23 @@ pub fn name_of(alloc: Global, text: &str) -> Result<ReleaseName, Fail> {
     Ok(ReleaseName::parse(alloc, text.as_bytes())?)
 }
 
-/// Returns the records of a keeper as text.
-pub fn content_text<K: Keep>(alloc: Global, keeper: &mut K) -> Result<Vec<u8>, Fail> {
+// Returns the records of a keeper as text.
+fn content_text<K: Keep>(alloc: Global, keeper: &mut K) -> Result<Vec<u8>, Fail> {
     let records = keeper.load(alloc)?;
     Ok(records_text(alloc, &records)?)
+}
+
+/// Prints a text.
+pub fn print_text(rt: &HostRuntime, text: &[u8]) -> Result<(), Fail> {
+    let text = str::from_utf8(text)?;
+    print!(rt; "{text}")?;
+    Ok(())
+}
+
+/// Prints the records of a keeper.
+pub fn print_content<K: Keep>(rt: &HostRuntime, keeper: &mut K) -> Result<(), Fail> {
+    let records = content_text(rt.alloc(), keeper)?;
+    print_text(rt, &records)
 }
 
 /// Returns records as text, a line for each: its name, size and state, its reason, and then its parts, as in

@@ -2,9 +2,11 @@
 use feed_answer::QueryFault;
 use feed_core::{BadFile, KeepFault, Line, Refusal, Reply, Why};
 use feed_script::{LineFault, ScriptFault};
+use feed_test_support::print_text;
+use std::alloc::Global;
 use std::fmt::{Debug, Display};
+use std::io;
 use std::test::Fail;
-use std::{io, str};
 
 const LINE_FAULTS: [LineFault; 8] = [
     LineFault::NodesExpected,
@@ -117,8 +119,12 @@ fn show_lines(rt: &HostRuntime) -> Result<(), Fail> {
 }
 
 fn show_line(rt: &HostRuntime, line: Line) -> Result<(), Fail> {
-    let mut text = Vec::new(rt.alloc());
+    print!(rt; "{line:?}: ")?;
+    print_text(rt, &text_of(rt.alloc(), &line)?)
+}
+
+fn text_of(alloc: Global, line: &Line) -> Result<Vec<u8>, Fail> {
+    let mut text = Vec::new(alloc);
     line.write(&mut text)?;
-    print!(rt; "{line:?}: {}", str::from_utf8(&text)?)?;
-    Ok(())
+    Ok(text)
 }

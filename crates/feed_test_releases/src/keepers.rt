@@ -15,15 +15,23 @@ pub fn keepers_of(alloc: Global, words: &[String]) -> Result<Vec<Failing>, Fail>
         let Some(word) = left.next() else {
             break;
         };
-        keepers.push(match word.as_str() {
-            "sound" | "empty" => Failing::over(ListKeep::new(alloc)),
-            "load" => failing_load(alloc, next_number(&mut left)?),
-            "commits" => failing_commits(alloc, next_number(&mut left)?),
-            "record" => Failing::over(keeper_of_record(alloc, &mut left)?),
-            _ => return Err(Fail::new(format_args!("{word}: unknown keeper"))),
-        })?;
+        keepers.push(keeper_of(alloc, word.as_str(), &mut left)?)?;
     }
     Ok(keepers)
+}
+
+fn keeper_of(
+    alloc: Global,
+    word: &str,
+    left: &mut slice::Iter<'_, String>,
+) -> Result<Failing, Fail> {
+    match word {
+        "sound" | "empty" => Ok(Failing::over(ListKeep::new(alloc))),
+        "load" => Ok(failing_load(alloc, next_number(left)?)),
+        "commits" => Ok(failing_commits(alloc, next_number(left)?)),
+        "record" => Ok(Failing::over(keeper_of_record(alloc, left)?)),
+        _ => Err(Fail::new(format_args!("{word}: unknown keeper"))),
+    }
 }
 
 // Returns a keeper whose load after `before` others fails.
@@ -42,30 +50,40 @@ fn failing_commits(alloc: Global, before: u64) -> Failing {
 
 // `NAME SIZE STATE FIRST TEXT`
 fn keeper_of_record(alloc: Global, left: &mut slice::Iter<'_, String>) -> Result<ListKeep, Fail> {
+    let records = [record_of(alloc, left)?];
+    Ok(ListKeep::of(alloc, Vec::from_array(alloc, records)?))
+}
+
+fn record_of(alloc: Global, left: &mut slice::Iter<'_, String>) -> Result<Record, Fail> {
     let name = next_word(left)?;
     let size = next_number(left)?;
-    let state = match next_word(left)? {
-        "Staged" => State::Staged,
-        "Active" => State::Active,
-        word => return Err(Fail::new(format_args!("{word}: Staged or Active expected"))),
-    };
+    let state = state_of(next_word(left)?)?;
     let first = next_number(left)?;
     let bytes = next_word(left)?.as_bytes();
-    let mut parts = Vec::new(alloc);
-    if !bytes.is_empty() {
-        parts.push(Part {
-            first,
-            bytes: Vec::from_slice(alloc, bytes)?,
-        })?;
-    }
-    let records = [Record {
+    Ok(Record {
         name: name_of(alloc, name)?,
         size,
         state,
         reason: None,
-        parts,
-    }];
-    Ok(ListKeep::of(alloc, Vec::from_array(alloc, records)?))
+        parts: parts_of(alloc, first, bytes)?,
+    })
+}
+
+fn state_of(word: &str) -> Result<State, Fail> {
+    match word {
+        "Staged" => Ok(State::Staged),
+        "Active" => Ok(State::Active),
+        _ => Err(Fail::new(format_args!("{word}: Staged or Active expected"))),
+    }
+}
+
+fn parts_of(alloc: Global, first: u64, bytes: &[u8]) -> Result<Vec<Part>, Fail> {
+    let mut parts = Vec::new(alloc);
+    if !bytes.is_empty() {
+        let bytes = Vec::from_slice(alloc, bytes)?;
+        parts.push(Part { first, bytes })?;
+    }
+    Ok(parts)
 }
 
 fn next_word<'a>(left: &mut slice::Iter<'a, String>) -> Result<&'a str, Fail> {
