@@ -1,12 +1,12 @@
 -- Rows are equal exactly if they have the same value in each column; and the counts of a comparison add up.
-use Rattle.std.proofs.Common.{◌≡◌, ◌∙◌, ◌+◌, ◌≤◌, ◌&&◌, ℕ, Bool, true, false, cond, List, [], ◌∷◌, ◌++◌, map, Option, Some, None, refl, sym, ap, arith, nat_eq}
+use Rattle.std.proofs.Common.{◌≡◌, ◌∙◌, ◌+◌, ◌&&◌, ℕ, Bool, true, false, cond, List, [], ◌∷◌, ◌++◌, Option, Some, None, refl, sym, ap, arith, nat_eq}
 use Rattle.std.proofs.lemmas.Bool.Decides.{Decides-eqb, Decides-int_eq}
 use Rattle.std.proofs.lemmas.List.Elements.{All-head, All-tail}
 use Rattle.std.proofs.lemmas.List.Sorted.{sum_by-IsPermutation}
 use Rattle.std.proofs.lemmas.List.Sums.{sum_by-append, sum_by-cons}
 use Rattle.std.specs.Bool.{Decides}
 use Rattle.std.specs.Cmp.Lexicographic.{bytes_decides}
-use Rattle.std.specs.List.{All, count_by, sum_by}
+use Rattle.std.specs.List.{All}
 use Rattle.std.specs.Option.{option_eq}
 use Rattle.std.specs.Ordering.{int_eq}
 use Rattle.std.specs.Str.{bytes_eq}
@@ -17,7 +17,7 @@ use Rattle.feed_kbart.specs.declared.label.Label.TheVariants.{PublicationTitle, 
 use Rattle.feed_kbart.specs.declared.label.Label.TheVariants.{DateLastIssueOnline, NumLastVolOnline, TitleUrl, TitleId, EmbargoInfo, CoverageDepth}
 use Rattle.feed_kbart.specs.declared.label.Label.TheVariants.{PublicationType, AccessType}
 use Rattle.feed_diff.specs.Columns.{is_book, is_same, is_same_answer}
-use Rattle.feed_diff.specs.Comparison.{ChangeValue, ComparisonValue, IsComparison, content, mentioned_new, mentioned_old, news, olds}
+use Rattle.feed_diff.specs.Comparison.{ChangeValue, content, mentioned_new, mentioned_old, news, olds}
 use Rattle.feed_diff.specs.Laws.{ChangesHaveAColumn, CountsAddUp, count}
 use Rattle.feed_diff.proofs.Alike.{same_content, same_identifiers}
 

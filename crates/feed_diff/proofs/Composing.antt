@@ -1,27 +1,26 @@
 -- The steps of a comparison make a comparison.
-use Rattle.std.proofs.Common.{◌≡◌, ◌∙◌, ◌<◌, ◌≤◌, ◌+◌, ◌⊎◌, inl, inr, ℕ, Bool, true, false, cond, List, [], ◌∷◌, ◌++◌, length, map, get_or, refl, sym, ap, subst, arith, nat_le}
+use Rattle.std.proofs.Common.{◌≡◌, ◌∙◌, ◌<◌, ◌≤◌, ◌+◌, ◌⊎◌, inl, inr, ℕ, Bool, true, false, cond, List, [], ◌∷◌, ◌++◌, length, map, get_or, refl, sym, ap, subst, arith}
 use Rattle.std.proofs.lemmas.Bool.{leb-true, le-leb}
 use Rattle.std.proofs.lemmas.List.{append_assoc, get_or-map, length-map, map-append}
 use Rattle.std.proofs.lemmas.List.Elements.{All-append, All-map, All-weaker}
-use Rattle.std.proofs.lemmas.List.Sorted.{All-permutation, IsPermutation-append, IsPermutation-append_comm, IsPermutation-append_left, IsPermutation-append_right, IsPermutation-map, IsPermutation-refl, IsPermutation-sym, IsPermutation-trans, sum_by-IsPermutation}
+use Rattle.std.proofs.lemmas.List.Sorted.{All-permutation, IsPermutation-append, IsPermutation-append_comm, IsPermutation-append_left, IsPermutation-append_right, IsPermutation-map, IsPermutation-trans, sum_by-IsPermutation}
 use Rattle.std.proofs.lemmas.List.Sums.{sum_by-cons, sum_by-le-sum_by}
 use Rattle.std.specs.Borrow.{Bor}
-use Rattle.std.specs.List.{All, count_by, sum_by}
+use Rattle.std.specs.List.{All, count_by}
 use Rattle.std.specs.List.Sorted.{IsNonDecreasingBy, IsPermutation}
 use Rattle.std.specs.Ordering.{is_eq}
 use Rattle.std.specs.declared.cmp.Ordering.{Ordering}
 use Rattle.std.specs.declared.cmp.Ordering.TheVariants.{Less, Equal, Greater}
 use Rattle.feed_kbart.specs.RowValue.{RowValue}
-use Rattle.feed_diff.specs.Comparison.{ChangeValue, ComparisonValue, HasSameTitle, HasSameUrl, IsComparison, IsOnlyTitle, IsTitlePair, content}
+use Rattle.feed_diff.specs.Comparison.{ComparisonValue, HasSameUrl, IsComparison, IsOnlyTitle, IsTitlePair, content}
 use Rattle.feed_diff.specs.Comparison.{mentioned_new, mentioned_old, news, olds}
 use Rattle.feed_diff.specs.Pairing.{ArePairedChanges, IsPairing, IsSinglePair, IsSinglePairing, change_of, firsts, is_single, order, row_of, seconds}
 use Rattle.feed_diff.specs.Ranking.{ranking}
 use Rattle.feed_diff.specs.declared.change.Change.{Change}
-use Rattle.feed_diff.specs.declared.order.By.{By}
 use Rattle.feed_diff.specs.declared.order.By.TheVariants.{Content, TitleId, Url}
 use Rattle.feed_diff.specs.declared.pairing.Pairing.{Pairing}
 use Rattle.feed_diff.proofs.Alike.{content_tied, tied_content, tied_title, tied_url, title_tied, url_tied}
-use Rattle.feed_diff.proofs.Alone.{all_left, all_right}
+use Rattle.feed_diff.proofs.Alone.{all_left}
 
 -- ---- pairs by title id, and then by URL
 

@@ -1,5 +1,5 @@
 -- The columns of two rows, one by one, as a list is read.
-use Rattle.std.specs.Prelude.{◌&&◌, ℕ, Bool, true, false, List, nat_eq}
+use Rattle.std.specs.Prelude.{◌&&◌, Bool, true, false, nat_eq}
 use Rattle.std.specs.Option.{option_eq}
 use Rattle.std.specs.Ordering.{int_eq}
 use Rattle.std.specs.Str.{bytes_eq}

@@ -1,5 +1,5 @@
 -- The orders of rows by which lists are paired. Two rows are `Equal` in one exactly if they are alike.
-use Rattle.std.specs.Prelude.{ℕ, ℤ, Bool, List, Option}
+use Rattle.std.specs.Prelude.{ℕ, List}
 use Rattle.std.specs.Cmp.Lexicographic.{slice_cmp}
 use Rattle.std.specs.Option.{option_cmp}
 use Rattle.std.specs.Ordering.{bool_cmp, int_cmp, nat_cmp, on, then_cmp}

@@ -1,4 +1,4 @@
-use Rattle.std.proofs.Common.{◌≡◌, ◌∷◌, [], ◌++◌, refl, sym}
+use Rattle.std.proofs.Common.{refl, sym}
 use Rattle.feed_diff.specs.Pairing.{is_single}
 use Rattle.feed_diff.proofs.Alone.{split_no, split_yes}
 use Rattle.feed_diff.proofs.singles.split_singles.Goals as goal
