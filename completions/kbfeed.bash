@@ -1,6 +1,6 @@
 # Completion of kbfeed for bash. Paths are left to readline, which knows of quotes, spaces and ~.
 _kbfeed() {
-  local commands='replay check answer openurl serve node fetch ask status why help'
+  local commands='replay check diff answer openurl serve node fetch ask status why help'
   local word=${COMP_WORDS[COMP_CWORD]} has_options=yes command= places=0 options= index
   COMPREPLY=()
   case ${COMP_WORDS[COMP_CWORD - 1]} in '<' | '>' | '>>' | --token) compopt -o default; return ;; esac
@@ -9,7 +9,8 @@ _kbfeed() {
   for ((index = 1; index < COMP_CWORD; index++)); do
     case $has_options${COMP_WORDS[index]} in
       yes--) has_options= ;;
-      yes--name | yes--count | yes--timeout | yes--idle | yes--max-age | yes--metrics | yes--log-queries | yes--piece | yes--clients | yes--from | yes--token)
+      yes--name | yes--count | yes--timeout | yes--idle | yes--max-age | yes--metrics | yes--log-queries | yes--piece | \
+        yes--clients | yes--from | yes--token | yes--max-removed | yes--max-changed)
         [[ ${COMP_WORDS[index + 1]} == = ]] && ((index++))
         ((index++)) ;;
       yes-?*) ;;
@@ -21,6 +22,7 @@ _kbfeed() {
   case $command in
     '') options='-h --help -V --version -v --verbose' ;;
     check) options='-h --help -v --verbose --name --strict --summary --explain --json' ;;
+    diff) options='-h --help -v --verbose --summary --json --max-removed --max-changed' ;;
     openurl) options='-h --help -v --verbose --json' ;;
     serve) options='-h --help -v --verbose --count --timeout' ;;
     node)
@@ -34,7 +36,7 @@ _kbfeed() {
   else
     case $command/$places in
       /0 | help/0) COMPREPLY=($(compgen -W "$commands" -- "$word")) ;;
-      check/* | answer/0 | node/0 | fetch/0 | ask/0 | status/0 | why/0) compopt -o default ;;
+      check/* | diff/0 | diff/1 | answer/0 | node/0 | fetch/0 | ask/0 | status/0 | why/0) compopt -o default ;;
       serve/0) compopt -o dirnames ;;
     esac
   fi

@@ -14,7 +14,8 @@ function __kbfeed_place
             switch $word
                 case --
                     set has_options no
-                case --name --count --timeout --idle --max-age --metrics --log-queries --piece --clients --from --token
+                case --name --count --timeout --idle --max-age --metrics --log-queries --piece --clients --from --token \
+                        --max-removed --max-changed
                     set is_value yes
                 case '-?*'
                 case '*'
@@ -36,6 +37,7 @@ complete -c kbfeed -f
 set -l is_command '__kbfeed_at /0 help/0'
 complete -c kbfeed -n $is_command -a replay -d 'Replays a script of published files and nodes'
 complete -c kbfeed -n $is_command -a check -d 'Checks holdings lists'
+complete -c kbfeed -n $is_command -a diff -d 'Prints what a new holdings list changes'
 complete -c kbfeed -n $is_command -a answer -d 'Answers a query from a holdings list'
 complete -c kbfeed -n $is_command -a openurl -d 'Prints how an OpenURL query is understood'
 complete -c kbfeed -n $is_command -a serve -d 'Serves a folder of releases over HTTP'
@@ -59,7 +61,13 @@ complete -c kbfeed -n $check -l summary -d 'Prints one line for each file'
 complete -c kbfeed -n $check -l explain -d 'Prints the line, the title and the reason of each skipped record'
 complete -c kbfeed -n $check -l json -d 'Prints a JSON object for each file'
 
-complete -c kbfeed -n '__kbfeed_at answer/0 node/0 fetch/0 ask/0 status/0 why/0' -F
+set -l diff '__kbfeed_at "diff/*"'
+complete -c kbfeed -n $diff -l summary -d 'Prints the counts alone'
+complete -c kbfeed -n $diff -l json -d 'Prints a JSON object'
+complete -c kbfeed -n $diff -x -l max-removed -d 'The most rows that may be removed, in percent of the old list'
+complete -c kbfeed -n $diff -x -l max-changed -d 'The most rows that may be changed, in percent of the old list'
+
+complete -c kbfeed -n '__kbfeed_at diff/0 diff/1 answer/0 node/0 fetch/0 ask/0 status/0 why/0' -F
 complete -c kbfeed -n '__kbfeed_at "openurl/*"' -l json -d 'Prints a JSON object'
 complete -c kbfeed -n '__kbfeed_at serve/0' -a '(__fish_complete_directories)'
 complete -c kbfeed -n '__kbfeed_at "serve/*"' -x -l count -d 'How many connections to serve'

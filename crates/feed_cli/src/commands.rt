@@ -1,6 +1,6 @@
 //! The commands of the program with their arguments: a table, and the loop that builds clap's command from it.
 use crate::helps::{
-    ANSWER_HELP, ASK_HELP, CHECK_HELP, FETCH_HELP, NODE_HELP, OPENURL_HELP, REPLAY_HELP,
+    ANSWER_HELP, ASK_HELP, CHECK_HELP, DIFF_HELP, FETCH_HELP, NODE_HELP, OPENURL_HELP, REPLAY_HELP,
     SERVE_HELP, STATUS_HELP, WHY_HELP,
 };
 use clap::builder::ValueParser;
@@ -21,6 +21,7 @@ pub fn version() -> &'static str {
 enum Subcommand {
     Replay,
     Check,
+    Diff,
     Answer,
     Openurl,
     Serve,
@@ -73,6 +74,8 @@ enum Kind {
         words: &'static [&'static str],
         default: &'static str,
     },
+    /// As an option with a number from 0 to 100, without a default.
+    Percent,
 }
 
 const DATABASE: Argument = Argument {
@@ -156,6 +159,39 @@ static CHECK: [Argument; 6] = [
         id: "json",
         kind: Kind::Flag { excludes: &[] },
         help: "Prints a JSON object for each file",
+    },
+];
+
+static DIFF: [Argument; 6] = [
+    Argument {
+        id: "OLD",
+        kind: Kind::Positional,
+        help: "The path of the old list",
+    },
+    Argument {
+        id: "NEW",
+        kind: Kind::Positional,
+        help: "The path of the new list",
+    },
+    Argument {
+        id: "summary",
+        kind: Kind::Flag { excludes: &[] },
+        help: "Prints the counts alone",
+    },
+    Argument {
+        id: "json",
+        kind: Kind::Flag { excludes: &[] },
+        help: "Prints a JSON object",
+    },
+    Argument {
+        id: "max-removed",
+        kind: Kind::Percent,
+        help: "Exits with 1 if more rows are removed, 0 to 100 percent of the old list",
+    },
+    Argument {
+        id: "max-changed",
+        kind: Kind::Percent,
+        help: "Exits with 1 if more rows are changed, 0 to 100 percent of the old list",
     },
 ];
 
@@ -312,9 +348,10 @@ static STATUS: [Argument; 1] = [DATABASE];
 static WHY: [Argument; 2] = [DATABASE, RELEASE];
 
 // The commands with their names, in the order of the help.
-const SUBCOMMANDS: [(&str, Subcommand); 10] = [
+const SUBCOMMANDS: [(&str, Subcommand); 11] = [
     ("replay", Subcommand::Replay),
     ("check", Subcommand::Check),
+    ("diff", Subcommand::Diff),
     ("answer", Subcommand::Answer),
     ("openurl", Subcommand::Openurl),
     ("serve", Subcommand::Serve),
@@ -330,6 +367,7 @@ impl Subcommand {
         match self {
             Subcommand::Replay => "Replays a script of published files and nodes",
             Subcommand::Check => "Checks holdings lists",
+            Subcommand::Diff => "Prints what a new holdings list changes",
             Subcommand::Answer => "Answers a query from a holdings list",
             Subcommand::Openurl => "Prints how an OpenURL query is understood",
             Subcommand::Serve => "Serves a folder of releases over HTTP",
@@ -345,6 +383,7 @@ impl Subcommand {
         match self {
             Subcommand::Replay => REPLAY_HELP,
             Subcommand::Check => CHECK_HELP,
+            Subcommand::Diff => DIFF_HELP,
             Subcommand::Answer => ANSWER_HELP,
             Subcommand::Openurl => OPENURL_HELP,
             Subcommand::Serve => SERVE_HELP,
@@ -360,6 +399,7 @@ impl Subcommand {
         match self {
             Subcommand::Replay => &[],
             Subcommand::Check => &CHECK,
+            Subcommand::Diff => &DIFF,
             Subcommand::Answer => &ANSWER,
             Subcommand::Openurl => &OPENURL,
             Subcommand::Serve => &SERVE,
@@ -427,6 +467,7 @@ fn arg_of<'a>(alloc: Global, argument: &'static Argument) -> Result<Arg<'a>, All
             words,
             default,
         } => Ok(choice(arg.long(id), value, words, default)),
+        Kind::Percent => Ok(percent(arg.long(id))),
     }
 }
 
@@ -449,6 +490,11 @@ fn text<'a>(
 fn optional_number<'a>(arg: Arg<'a>, value: &'static str, limit: u64) -> Arg<'a> {
     arg.value_name(value)
         .value_parser(ValueParser::unsigned(1, limit))
+}
+
+fn percent(arg: Arg<'_>) -> Arg<'_> {
+    arg.value_name("PERCENT")
+        .value_parser(ValueParser::unsigned(0, 100))
 }
 
 fn number<'a>(arg: Arg<'a>, value: &'static str, limit: u64, default: &'static str) -> Arg<'a> {

@@ -1,13 +1,15 @@
-//! The commands of kbfeed that need no database: `check`, `answer` and `serve` on files, and `openurl` on a query.
+//! The commands of kbfeed that need no database: `check`, `diff`, `answer` and `serve` on files, and `openurl` on a query.
 #![tactic(auto)]
 
 mod answer;
 mod check;
+mod diff;
 mod folder;
 mod openurl;
 mod serve;
 
 pub use answer::answer_file;
 pub use check::{Check, check_files};
+pub use diff::{Bounds, Diff, compare_files};
 pub use openurl::explain_query;
 pub use serve::serve_folder;

@@ -1,8 +1,11 @@
-//! The report on a checked list, from its release name and its text: in lines, in one line, explained, or as JSON.
+//! The report on a checked list, from its release name and its text: in lines, in one line, explained, or as JSON; and
+//! the report on two lists and their comparison.
 #![tactic(auto)]
 
+mod comparison;
 mod json;
 mod records;
 mod report;
 
+pub use comparison::{ComparisonForm, NamedList, print_comparison};
 pub use report::{Form, Report};

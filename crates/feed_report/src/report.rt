@@ -9,7 +9,7 @@ use std::io;
 use std::io::Write;
 
 // The reasons, in the order in which they are checked.
-const REASONS: [Reason; 5] = [
+pub(crate) const REASONS: [Reason; 5] = [
     Reason::OtherType,
     Reason::NoIssn,
     Reason::NoIsbn,

@@ -5,7 +5,9 @@ use feed_cli::{Request, Source, parse, version};
 use feed_command::{FAILED, Faults, MISUSED, take_stack};
 use feed_database::run_at;
 use feed_database_commands::DatabaseCommand;
-use feed_file_commands::{Check, answer_file, check_files, explain_query, serve_folder};
+use feed_file_commands::{
+    Bounds, Check, Diff, answer_file, check_files, compare_files, explain_query, serve_folder,
+};
 use feed_node_commands::{Command, LogSettings, Upstream};
 use feed_replay::replay_input;
 use std::io;
@@ -75,6 +77,18 @@ fn run_request<O: Write, F: Write + Drop>(
                 is_strict: options.is_strict,
             };
             return check_files(rt, &files, check, out, faults);
+        }
+        Request::Diff { old, new, options } => {
+            let diff = Diff {
+                old,
+                new,
+                form: options.form,
+                bounds: Bounds {
+                    removed: options.max_removed,
+                    changed: options.max_changed,
+                },
+            };
+            return compare_files(rt, diff, out, faults);
         }
         Request::Answer { file, query } => return answer_file(rt, file, query, out, faults),
         Request::Openurl { query, is_json } => {

@@ -1,0 +1,5 @@
+pub mod Alike
+pub mod Columns
+pub mod Merging
+pub mod Alone
+pub mod Composing

@@ -1,0 +1,45 @@
+-- The orders of rows by which lists are paired. Two rows are `Equal` in one exactly if they are alike.
+use Rattle.std.specs.Prelude.{ℕ, List}
+use Rattle.std.specs.Cmp.Lexicographic.{slice_cmp}
+use Rattle.std.specs.Option.{option_cmp}
+use Rattle.std.specs.Ordering.{bool_cmp, int_cmp, nat_cmp, on, then_cmp}
+use Rattle.std.specs.declared.cmp.Ordering.{Ordering}
+use Rattle.feed_kbart.specs.Identifiers.{online_isbn, online_issn, print_isbn, print_issn}
+use Rattle.feed_kbart.specs.RowValue.{RowValue}
+use Rattle.feed_kbart.specs.declared.identifiers.Identifiers.{Identifiers}
+use Rattle.feed_diff.specs.Columns.{is_book}
+use Rattle.feed_diff.specs.declared.order.By.{By}
+use Rattle.feed_diff.specs.declared.order.By.TheVariants.{Content, TitleId, Url}
+
+-- texts by their bytes
+abbrev pub text_cmp : List ℕ → List ℕ → Ordering
+text_cmp = slice_cmp nat_cmp
+
+-- serials before books, and then by each identifier
+abbrev pub identifiers_cmp : Identifiers → Identifiers → Ordering
+identifiers_cmp =
+    then_cmp (then_cmp (then_cmp (then_cmp (on is_book bool_cmp) (on print_issn (option_cmp text_cmp))) (on online_issn (option_cmp text_cmp)))
+    (on print_isbn (option_cmp text_cmp))) (on online_isbn (option_cmp text_cmp))
+
+-- by the days and the volumes
+abbrev pub coverage_cmp : RowValue → RowValue → Ordering
+coverage_cmp =
+    then_cmp (then_cmp (then_cmp (on (λ (row : RowValue). row.first_day) (option_cmp int_cmp)) (on (λ (row : RowValue). row.last_day) (option_cmp int_cmp)))
+    (on (λ (row : RowValue). row.first_volume) (option_cmp nat_cmp))) (on (λ (row : RowValue). row.last_volume) (option_cmp nat_cmp))
+
+-- by the texts
+abbrev pub texts_cmp : RowValue → RowValue → Ordering
+texts_cmp =
+    then_cmp (then_cmp (then_cmp (then_cmp (then_cmp (on (λ (row : RowValue). row.title_id) text_cmp) (on (λ (row : RowValue). row.url) text_cmp))
+    (on (λ (row : RowValue). row.title) text_cmp)) (on (λ (row : RowValue). row.depth) text_cmp)) (on (λ (row : RowValue). row.embargo) text_cmp))
+    (on (λ (row : RowValue). row.access) text_cmp)
+
+-- by all columns
+abbrev pub content_cmp : RowValue → RowValue → Ordering
+content_cmp = then_cmp (then_cmp texts_cmp coverage_cmp) (on (λ (row : RowValue). row.identifiers) identifiers_cmp)
+
+-- by what rows are compared by
+abbrev pub ranking : By → RowValue → RowValue → Ordering
+ranking Content = content_cmp
+ranking TitleId = then_cmp (on (λ (row : RowValue). row.title_id) text_cmp) (on (λ (row : RowValue). row.identifiers) identifiers_cmp)
+ranking Url = then_cmp (on (λ (row : RowValue). row.url) text_cmp) (on (λ (row : RowValue). row.identifiers) identifiers_cmp)

@@ -1,0 +1,147 @@
+//! The comparison of two lists.
+ghost use Rattle.std.specs.Prelude.{◌≡◌, IfOk, OnOk, map};
+ghost use Rattle.std.specs.List.Sorted.{IsNonDecreasingBy, IsPermutation};
+ghost use Rattle.feed_diff.specs.Comparison.{IsComparison};
+ghost use Rattle.feed_diff.specs.Pairing.{ArePairedChanges, change_of, row_of};
+
+use crate::change::Change;
+use crate::order::By;
+use crate::pairing::{Pairing, pair_up};
+use crate::singles::pair_singles;
+use feed_kbart::Row;
+use std::alloc::{AllocError, Global};
+use std::marker::Model;
+
+/// The rows that a new list removes, changes and adds, each in file order. Changes are in the order of the old list.
+#[derive(Drop)]
+pub struct Comparison<'a> {
+    removed: Vec<&'a Row>,
+    changed: Vec<Change<'a>>,
+    added: Vec<&'a Row>,
+}
+
+impl<'a> Model for Comparison<'a> {
+    ghost use Rattle.std.specs.Prelude.{map};
+    ghost use Rattle.feed_diff.specs.Comparison.{ComparisonValue};
+    ghost use Rattle.feed_diff.specs.Pairing.{change_of, row_of};
+
+    ghost Value = { ComparisonValue };
+
+    ghost view = { λ c. record {
+      removed = map row_of c.removed.items;
+      changed = map change_of c.changed.items;
+      added = map row_of c.added.items;
+    } };
+}
+
+impl<'a> Comparison<'a> {
+    /// Returns the rows of the old list that no row of the new list takes the place of.
+    pub fn removed(&self) -> &[&'a Row]
+        ensures { map row_of result.now ≡ self.now.removed }
+    {
+        &self.removed
+    }
+
+    /// Returns the rows of the old list that differ from the row of the new list that takes their place.
+    pub fn changed(&self) -> &[Change<'a>]
+        ensures { map change_of result.now ≡ self.now.changed }
+    {
+        &self.changed
+    }
+
+    /// Returns the rows of the new list that take the place of no row of the old list.
+    pub fn added(&self) -> &[&'a Row]
+        ensures { map row_of result.now ≡ self.now.added }
+    {
+        &self.added
+    }
+}
+
+fn references<'a>(alloc: Global, rows: &'a [Row]) -> Result<Vec<&'a Row>, AllocError>
+    ensures { IfOk result (λ list. map row_of list.items ≡ rows.now) }
+{
+    let mut list = Vec::with_capacity(alloc, rows.len())?;
+    for row in rows {
+        list.push(row)?;
+    }
+    Ok(list)
+}
+
+// Pairs the rows that differ: by title id and identifiers if both rows are the only ones, and then by URL and
+// identifiers.
+fn pair_changes<'a>(
+    alloc: Global,
+    old: Vec<&'a Row>,
+    new: Vec<&'a Row>,
+) -> Result<Pairing<'a>, AllocError>
+    ensures { IfOk result (ArePairedChanges old.entry.items new.entry.items) }
+{
+    let Pairing {
+        pairs: mut changes,
+        old,
+        new,
+    } = pair_singles(alloc, By::TitleId, old, new)?;
+    let Pairing {
+        mut pairs,
+        old,
+        new,
+    } = pair_up(alloc, By::Url, old, new)?;
+    changes.append(&mut pairs)?;
+    Ok(Pairing {
+        pairs: changes,
+        old,
+        new,
+    })
+}
+
+fn sort_rows(rows: &mut Vec<&Row>) -> Result<(), AllocError>
+    ensures permutation { IsPermutation rows.old.items rows.new.items }
+    ensures order { OnOk result (IsNonDecreasingBy (λ row. row.now.number) rows.new.items) }
+{
+    rows.sort_by_key(
+        |row: &&Row| -> u32
+            ensures { result ≡ row.now.now.number }
+        { row.number() },
+    )
+}
+
+fn sort_changes(changes: &mut Vec<Change<'_>>) -> Result<(), AllocError>
+    ensures permutation { IsPermutation changes.old.items changes.new.items }
+    ensures order { OnOk result (IsNonDecreasingBy (λ change. change.old.now.number) changes.new.items) }
+{
+    changes.sort_by_key(
+        |change: &Change<'_>| -> u32
+            ensures { result ≡ change.now.old.now.number }
+        { change.old.number() },
+    )
+}
+
+/// Compares the rows of two lists. Takes time in proportion to `n log n` for lists of `n` rows.
+///
+/// # Errors
+///
+/// Running out of memory.
+pub fn compare<'a>(
+    alloc: Global,
+    old: &'a [Row],
+    new: &'a [Row],
+) -> Result<Comparison<'a>, AllocError>
+    ensures { IfOk result (IsComparison old.now new.now) }
+{
+    let old_rows = references(alloc, old)?;
+    let new_rows = references(alloc, new)?;
+    let Pairing { pairs: _, old, new } = pair_up(alloc, By::Content, old_rows, new_rows)?;
+    let Pairing {
+        mut pairs,
+        mut old,
+        mut new,
+    } = pair_changes(alloc, old, new)?;
+    sort_rows(&mut old)?;
+    sort_changes(&mut pairs)?;
+    sort_rows(&mut new)?;
+    Ok(Comparison {
+        removed: old,
+        changed: pairs,
+        added: new,
+    })
+}

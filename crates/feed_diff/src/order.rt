@@ -1,0 +1,133 @@
+//! The orders of rows by which lists are paired: rows that are alike are neighbors in them.
+ghost use Rattle.std.specs.Prelude.{◌≡◌};
+ghost use Rattle.feed_diff.specs.Columns.{is_book};
+ghost use Rattle.feed_diff.specs.Ranking.{content_cmp, coverage_cmp, identifiers_cmp, ranking, texts_cmp};
+
+use feed_kbart::{Isbn, Issn, Kind, Row};
+use std::cmp::Ordering;
+
+/// What two rows are compared by.
+#[derive(Clone, Copy, Debug)]
+pub(crate) enum By {
+    /// All columns.
+    Content,
+    /// The title id and the identifiers.
+    TitleId,
+    /// The URL and the identifiers.
+    Url,
+}
+
+/// Returns whether a row is a book's.
+pub(crate) fn is_book(row: &Row) -> bool
+    ensures { result ≡ is_book row.now.identifiers }
+{
+    match row.kind() {
+        Kind::Serial => false,
+        Kind::Book => true,
+    }
+}
+
+fn issn_text(issn: Option<Issn>) -> Option<[u8; 9]>
+    ensures { result ≡ issn }
+{
+    match issn {
+        Some(issn) => Some(issn.text()),
+        None => None,
+    }
+}
+
+fn isbn_text(isbn: Option<Isbn>) -> Option<[u8; 13]>
+    ensures { result ≡ isbn }
+{
+    match isbn {
+        Some(isbn) => Some(isbn.text()),
+        None => None,
+    }
+}
+
+fn compare_identifiers(one: &Row, other: &Row) -> Ordering
+    ensures { result ≡ identifiers_cmp one.now.identifiers other.now.identifiers }
+{
+    let first = (
+        is_book(one),
+        issn_text(one.print()),
+        issn_text(one.online()),
+        isbn_text(one.print_isbn()),
+        isbn_text(one.online_isbn()),
+    );
+    let second = (
+        is_book(other),
+        issn_text(other.print()),
+        issn_text(other.online()),
+        isbn_text(other.print_isbn()),
+        isbn_text(other.online_isbn()),
+    );
+    first.cmp(&second)
+}
+
+fn compare_coverage(one: &Row, other: &Row) -> Ordering
+    ensures { result ≡ coverage_cmp one.now other.now }
+{
+    let first = (
+        one.first_day(),
+        one.last_day(),
+        one.first_volume(),
+        one.last_volume(),
+    );
+    let second = (
+        other.first_day(),
+        other.last_day(),
+        other.first_volume(),
+        other.last_volume(),
+    );
+    first.cmp(&second)
+}
+
+fn compare_texts(one: &Row, other: &Row) -> Ordering
+    ensures { result ≡ texts_cmp one.now other.now }
+{
+    let first = (
+        one.title_id(),
+        one.url(),
+        one.title(),
+        one.depth(),
+        one.embargo(),
+        one.access(),
+    );
+    let second = (
+        other.title_id(),
+        other.url(),
+        other.title(),
+        other.depth(),
+        other.embargo(),
+        other.access(),
+    );
+    first.cmp(&second)
+}
+
+fn compare_content(one: &Row, other: &Row) -> Ordering
+    ensures { result ≡ content_cmp one.now other.now }
+{
+    compare_texts(one, other)
+        .then_with(|| compare_coverage(one, other))
+        .then_with(|| compare_identifiers(one, other))
+}
+
+impl By {
+    /// Compares two rows. The result is `Equal` exactly if they are alike.
+    pub(crate) fn compare(self, one: &Row, other: &Row) -> Ordering
+        ensures { result ≡ ranking self one.now other.now }
+    {
+        match self {
+            By::Content => compare_content(one, other),
+            By::TitleId => one
+                .title_id()
+                .cmp(&other.title_id())
+                .then_with(|| compare_identifiers(one, other)),
+            By::Url => one
+                .url()
+                .cmp(&other.url())
+                .then_with(|| compare_identifiers(one, other)),
+        }
+    }
+}

@@ -1,0 +1,120 @@
+//! Pairs the rows of two lists that are alike, in one pass over both lists in order.
+ghost use Rattle.std.specs.Prelude.{◌≡◌, IfOk, OnOk};
+ghost use Rattle.std.specs.List.Sorted.{IsPermutation};
+ghost use Rattle.feed_diff.specs.Pairing.{AreSorted, IsPairing, IsStep};
+ghost use Rattle.feed_diff.specs.Ranking.{ranking};
+
+use crate::change::Change;
+use crate::order::By;
+use feed_kbart::Row;
+use std::alloc::{AllocError, Global};
+use std::cmp::Ordering;
+
+/// Rows of two lists in pairs, and the rows of each list that are left over.
+#[derive(Drop)]
+pub(crate) struct Pairing<'a> {
+    pub(crate) pairs: Vec<Change<'a>>,
+    pub(crate) old: Vec<&'a Row>,
+    pub(crate) new: Vec<&'a Row>,
+}
+
+/// The next rows of two lists in order: the first of one list, or of both if they are alike.
+pub(crate) enum Step<'a> {
+    Old(&'a Row),
+    New(&'a Row),
+    Both(Change<'a>),
+    End,
+}
+
+/// Sorts rows, those that are alike in file order.
+pub(crate) fn sort(by: By, rows: &mut Vec<&Row>) -> Result<(), AllocError>
+    ensures permutation { IsPermutation rows.old.items rows.new.items }
+    ensures sorted { OnOk result (AreSorted by rows.new.items) }
+{
+    rows.sort_by_key(
+        |row: &&Row| -> u32
+            ensures { result ≡ row.now.now.number }
+        { row.number() },
+    )?;
+    rows.sort_by(
+        |one: &&Row, other: &&Row| -> Ordering
+            ensures { result ≡ ranking by one.now.now other.now.now }
+        { by.compare(*one, *other) },
+    )
+}
+
+// Returns the next rows of two sorted lists, from a place in each.
+fn next_step<'a>(by: By, old: &[&'a Row], i: usize, new: &[&'a Row], j: usize) -> Step<'a>
+    requires old { AreSorted by old.now }
+    requires new { AreSorted by new.now }
+    ensures { IsStep by old.now i new.now j result }
+{
+    match (old.get(i), new.get(j)) {
+        (Some(old), Some(new)) => match by.compare(*old, *new) {
+            Ordering::Less => Step::Old(*old),
+            Ordering::Equal => Step::Both(Change {
+                old: *old,
+                new: *new,
+            }),
+            Ordering::Greater => Step::New(*new),
+        },
+        (Some(old), None) => Step::Old(*old),
+        (None, Some(new)) => Step::New(*new),
+        (None, None) => Step::End,
+    }
+}
+
+// Pairs the rows of two sorted lists.
+fn merge<'a>(
+    alloc: Global,
+    by: By,
+    old: &[&'a Row],
+    new: &[&'a Row],
+) -> Result<Pairing<'a>, AllocError>
+    requires old { AreSorted by old.now }
+    requires new { AreSorted by new.now }
+    ensures { IfOk result (IsPairing by old.now new.now) }
+{
+    let mut pairs = Vec::new(alloc);
+    let mut left_old = Vec::new(alloc);
+    let mut left_new = Vec::new(alloc);
+    let mut i = 0usize;
+    let mut j = 0usize;
+    loop {
+        match next_step(by, old, i, new, j) {
+            Step::Old(row) => {
+                left_old.push(row)?;
+                i += 1;
+            }
+            Step::New(row) => {
+                left_new.push(row)?;
+                j += 1;
+            }
+            Step::Both(pair) => {
+                pairs.push(pair)?;
+                i += 1;
+                j += 1;
+            }
+            Step::End => break,
+        }
+    }
+    Ok(Pairing {
+        pairs,
+        old: left_old,
+        new: left_new,
+    })
+}
+
+/// Pairs the rows of two lists that are alike, the first with the first in file order, until none are left that are.
+pub(crate) fn pair_up<'a>(
+    alloc: Global,
+    by: By,
+    mut old: Vec<&'a Row>,
+    mut new: Vec<&'a Row>,
+) -> Result<Pairing<'a>, AllocError>
+    ensures { IfOk result (IsPairing by old.entry.items new.entry.items) }
+{
+    sort(by, &mut old)?;
+    sort(by, &mut new)?;
+    merge(alloc, by, &old, &new)
+}

@@ -1,0 +1,124 @@
+//! `kbfeed diff`: what a new list changes, and whether it removes or changes too much.
+use crate::check::{file_name, report_file};
+use feed_command::{DONE, FAILED, Faults, REFUSED, Watched, open_file, parse_name};
+use feed_diff::{Comparison, compare};
+use feed_kbart::{Holdings, read_file};
+use feed_names::ReleaseName;
+use feed_report::{ComparisonForm, NamedList, print_comparison};
+use std::alloc::Global;
+use std::io::{Read, Write};
+
+/// The most rows that a new list may remove and change, in percent of the rows of the old list.
+#[derive(Clone, Copy)]
+pub struct Bounds {
+    pub removed: Option<u64>,
+    pub changed: Option<u64>,
+}
+
+/// How two lists are compared.
+#[derive(Clone, Copy)]
+pub struct Diff<'a> {
+    pub old: &'a str,
+    pub new: &'a str,
+    pub form: ComparisonForm,
+    pub bounds: Bounds,
+}
+
+// A list, and its release name.
+#[derive(Drop)]
+struct List {
+    name: ReleaseName,
+    holdings: Holdings,
+}
+
+/// Reads the lists at two paths, and prints what the new one changes to `out`. The first fault is reported, and then
+/// nothing is printed to `out`. Returns the exit status: 1 for an invalid name, a file that is bad or too long, and a
+/// new list that passes a bound, 3 for a failing read or print and for running out of memory.
+pub fn compare_files<O: Write, F: Write + Drop>(
+    rt: &HostRuntime,
+    diff: Diff<'_>,
+    out: &mut O,
+    faults: &mut Faults<F>,
+) -> u8 {
+    let old = match open_list(rt, diff.old, faults) {
+        Ok(old) => old,
+        Err(status) => return status,
+    };
+    let new = match open_list(rt, diff.new, faults) {
+        Ok(new) => new,
+        Err(status) => return status,
+    };
+    if old.name.package() != new.name.package() {
+        faults.note(
+            file_name(diff.new),
+            "it is of another package than the old list",
+        );
+    }
+    compare_lists(rt.alloc(), &old, &new, diff, out, faults)
+}
+
+fn open_list<F: Write + Drop>(
+    rt: &HostRuntime,
+    path: &str,
+    faults: &mut Faults<F>,
+) -> Result<List, u8> {
+    let text = file_name(path);
+    let name = parse_name(rt.alloc(), text, REFUSED, faults)?;
+    let file = open_file(rt, path, faults)?;
+    read_list(rt.alloc(), name, text, file, faults)
+}
+
+fn read_list<R: Read + Drop, F: Write + Drop>(
+    alloc: Global,
+    name: ReleaseName,
+    text: &str,
+    file: R,
+    faults: &mut Faults<F>,
+) -> Result<List, u8> {
+    let mut file = Watched::new(file);
+    match read_file(alloc, &mut file) {
+        Ok(holdings) => Ok(List { name, holdings }),
+        Err(fault) => Err(report_file(faults, fault, text, file)),
+    }
+}
+
+fn compare_lists<O: Write, F: Write + Drop>(
+    alloc: Global,
+    old: &List,
+    new: &List,
+    diff: Diff<'_>,
+    out: &mut O,
+    faults: &mut Faults<F>,
+) -> u8 {
+    let before = old.holdings.rows();
+    let after = new.holdings.rows();
+    let Ok(comparison) = compare(alloc, before, after) else {
+        return faults.report("Memory", FAILED);
+    };
+    let status = status_of(before.len(), &comparison, diff.bounds);
+    let old = NamedList {
+        name: &old.name,
+        holdings: &old.holdings,
+    };
+    let new = NamedList {
+        name: &new.name,
+        holdings: &new.holdings,
+    };
+    let printed = print_comparison(alloc, out, old, new, &comparison, diff.form);
+    faults.check_print(printed, status)
+}
+
+// Returns the status of a comparison with an old list of so many rows.
+fn status_of(rows: usize, comparison: &Comparison<'_>, bounds: Bounds) -> u8 {
+    let is_over = passes(rows, comparison.removed().len(), bounds.removed)
+        || passes(rows, comparison.changed().len(), bounds.changed);
+    if is_over { REFUSED } else { DONE }
+}
+
+// Returns whether a count is above so many percent of the rows, rounded up.
+fn passes(rows: usize, count: usize, percent: Option<u64>) -> bool {
+    match percent {
+        Some(percent) => count as u64 > (rows as u64).saturating_mul(percent).div_ceil(100),
+        None => false,
+    }
+}
