@@ -15,8 +15,8 @@ invariant_of-self-2-clause-counted g c =
 
 pub invariant_of-self-2-clause-known : goal.invariant_of-self-2-clause-known
 invariant_of-self-2-clause-known g c =
-    known_after_write c.args.self.now.peers c.args.key c.in-Some.peer.now c.advance_clock-is_late.new.self c.args.self.now.ready.keys.items c.args.self.now.ready.keys.items (sym c.in-Some.ensures.value)
-    c.args.self.now.known (λ other is. is)
+    known_after_write c.args.self.now.peers c.args.key c.in-Some.peer.now c.advance_clock-is_late.new.self c.args.self.now.ready.keys.items c.args.self.now.ready.keys.items
+    (sym c.in-Some.ensures.value) c.args.self.now.known (λ other is. is)
 
 pub returns-clause-over : goal.returns-clause-over
 returns-clause-over g c = over_after_write c.args.self.now.peers.slots c.args.key c.in-Some.peer.now c.advance_clock-is_late.new.self (sym c.in-Some.ensures.value) c.advance_clock-is_late.ensures.less
