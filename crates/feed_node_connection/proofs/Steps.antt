@@ -1,5 +1,6 @@
 -- The bytes of two consecutive steps, taken together.
-use Rattle.std.proofs.Common.{◌≡◌, ◌≤◌, ◌+◌, ◌⊎◌, ℕ, Bool, true, false, List, [], ◌∷◌, ◌++◌, length, Option, Some, None, refl, sym, ap, ◌∙◌, append_assoc, append-nil, length-append, arith, subst, inl, inr}
+use Rattle.std.proofs.Common.{◌≡◌, ◌≤◌, ◌+◌, ◌⊎◌, ℕ, Bool, true, false, List, [], ◌∷◌, ◌++◌, length, Option, Some, None, refl, sym, ap, ◌∙◌}
+use Rattle.std.proofs.Common.{append_assoc, append-nil, length-append, arith, subst, inl, inr}
 use Rattle.std.specs.Io.KnownBytes.{Consumes, Appends}
 use Rattle.feed_node_connection.specs.declared.connection.Connection.{Connection}
 use Rattle.feed_node_connection.specs.declared.streams.Share.{Share}

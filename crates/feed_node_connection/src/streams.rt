@@ -53,8 +53,10 @@ pub fn advance<S: Respond, R: Receive, W: Transmit>(
         (R.remaining reader.old) (R.remaining reader.new) (W.contents writer.old) (W.contents writer.new) }
     ensures still { result ≢ Progress.Moved }
     ensures stopped { IsStopped result share.new connection.new }
-    ensures receives { result ≡ Progress.Blocked → wants_in connection.new.phase ≡ Wants.Bytes → R.has_blocked reader.new }
-    ensures sends { result ≡ Progress.Blocked → wants_in connection.new.phase ≡ Wants.Room → W.has_blocked writer.new }
+    ensures receives { result ≡ Progress.Blocked → wants_in connection.new.phase ≡ Wants.Bytes
+        → R.has_blocked reader.new }
+    ensures sends { result ≡ Progress.Blocked → wants_in connection.new.phase ≡ Wants.Room
+        → W.has_blocked writer.new }
 {
     for _ in 0..u64::MAX {
         let progress = step(connection, alloc, responder, reader, writer, buffer, share);
@@ -81,8 +83,10 @@ fn step<S: Respond, R: Receive, W: Transmit>(
         → HasAdvanced (S.wanted responder.now, S.replies responder.now) share.old share.new connection.new history
         (R.remaining reader.old) (R.remaining reader.new) (W.contents writer.old) (W.contents writer.new) }
     ensures stopped { IsStopped result share.new connection.new }
-    ensures receives { result ≡ Progress.Blocked → wants_in connection.new.phase ≡ Wants.Bytes → R.has_blocked reader.new }
-    ensures sends { result ≡ Progress.Blocked → wants_in connection.new.phase ≡ Wants.Room → W.has_blocked writer.new }
+    ensures receives { result ≡ Progress.Blocked → wants_in connection.new.phase ≡ Wants.Bytes
+        → R.has_blocked reader.new }
+    ensures sends { result ≡ Progress.Blocked → wants_in connection.new.phase ≡ Wants.Room
+        → W.has_blocked writer.new }
     ensures may_read { result ≡ Progress.Moved → R.may_read reader.new }
     ensures may_write { result ≡ Progress.Moved → W.may_write writer.new }
 {

@@ -1,5 +1,6 @@
 -- The table stays as its fields say.
-use Rattle.std.proofs.Common.{◌≡◌, ◌≢◌, ◌+◌, ◌-◌, ◌*◌, ◌<◌, ◌≤◌, ◌⊎◌, max, ℕ, Bool, true, false, List, length, get_or, set, Option, Some, None, is_some, IsSome, sum_by, count_by, refl, sym, ap, subst, ◌∙◌, arith, inl, inr}
+use Rattle.std.proofs.Common.{◌≡◌, ◌≢◌, ◌+◌, ◌-◌, ◌*◌, ◌<◌, ◌≤◌, ◌⊎◌, max, ℕ, Bool, true, false, List, length, get_or}
+use Rattle.std.proofs.Common.{set, Option, Some, None, is_some, IsSome, sum_by, count_by, refl, sym, ap, subst, ◌∙◌, arith, inl, inr}
 use Rattle.std.specs.Prelude.{nat_lt}
 use Rattle.std.proofs.lemmas.Bool.{cases_eq, false≢true, ltb-true}
 use Rattle.slab.specs.Slab.{Slab, get, ContainsKey, Updates, with_value}

@@ -286,7 +286,8 @@ impl<T: Stream> Table<T> {
         };
         let before = peer.unsent();
         let outcome = peer.settle(progress, now, log);
-        self.unsent -= before - peer.unsent();
+        let freed = before - peer.unsent();
+        self.unsent -= freed;
         outcome
     }
 
@@ -350,7 +351,8 @@ impl<T: Stream> Table<T> {
         };
         let before = peer.unsent();
         let is_late = peer.advance_clock(now);
-        self.unsent -= before - peer.unsent();
+        let freed = before - peer.unsent();
+        self.unsent -= freed;
         is_late
     }
 

@@ -1,7 +1,10 @@
-use Rattle.std.proofs.Common.{◌≡◌, IsSome, refl, sym, subst}
+use Rattle.std.proofs.Common.{◌≡◌, IsSome, arith, refl, sym, subst}
 use Rattle.slab.proofs.SlabLemmas.{Updates-with_value}
 use Rattle.feed_node_table.proofs.Invariants.{counted_after_less, known_after_write, less_is_within, over_after_write}
 use Rattle.feed_node_table.proofs.table.Table.advance_clock_of.Goals as goal
+
+pub overflow_sub-freed : goal.overflow_sub-freed
+overflow_sub-freed g c = omega (arith, c.unsent-before.ensures, c.unsent.ensures, c.advance_clock-is_late.ensures.less)
 
 pub overflow_sub-self : goal.overflow_sub-self
 overflow_sub-self g c =
@@ -15,8 +18,8 @@ invariant_of-self-2-clause-counted g c =
 
 pub invariant_of-self-2-clause-known : goal.invariant_of-self-2-clause-known
 invariant_of-self-2-clause-known g c =
-    known_after_write c.args.self.now.peers c.args.key c.in-Some.peer.now c.advance_clock-is_late.new.self c.args.self.now.ready.keys.items c.args.self.now.ready.keys.items (sym c.in-Some.ensures.value)
-    c.args.self.now.known (λ other is. is)
+    known_after_write c.args.self.now.peers c.args.key c.in-Some.peer.now c.advance_clock-is_late.new.self c.args.self.now.ready.keys.items c.args.self.now.ready.keys.items
+    (sym c.in-Some.ensures.value) c.args.self.now.known (λ other is. is)
 
 pub returns-clause-over : goal.returns-clause-over
 returns-clause-over g c = over_after_write c.args.self.now.peers.slots c.args.key c.in-Some.peer.now c.advance_clock-is_late.new.self (sym c.in-Some.ensures.value) c.advance_clock-is_late.ensures.less

@@ -12,7 +12,8 @@ returns-in-Waits g c =
     c.settle_peer-outcome.ensures.others (ap (λ set. set.keys.items) c.settle_peer-outcome.ensures.ready)
     (closed_none g.L.Log.records PeerClosed c.args.self.now c.settle_peer-outcome.new.self c.args.log.now c.settle_peer-outcome.new.log c.settle_peer-outcome.ensures.recorded
     c.settle_peer-outcome.ensures.size c.settle_peer-outcome.ensures.clients c.settle_peer-outcome.ensures.over)
-    (subst (λ o. IsNext g.L.Log.records c.args.key c.args.progress c.args.now o c.args.self.now c.settle_peer-outcome.new.self c.args.log.now c.settle_peer-outcome.new.log) c.in-Waits.is c.settle_peer-outcome.ensures.followed)
+    (subst (λ o. IsNext g.L.Log.records c.args.key c.args.progress c.args.now o c.args.self.now c.settle_peer-outcome.new.self c.args.log.now c.settle_peer-outcome.new.log)
+    c.in-Waits.is c.settle_peer-outcome.ensures.followed)
 
 pub returns-in-Streams : goal.returns-in-Streams
 returns-in-Streams g c =
@@ -20,7 +21,8 @@ returns-in-Streams g c =
     c.settle_peer-outcome.ensures.others (ap (λ set. set.keys.items) c.settle_peer-outcome.ensures.ready)
     (closed_none g.L.Log.records PeerClosed c.args.self.now c.settle_peer-outcome.new.self c.args.log.now c.settle_peer-outcome.new.log c.settle_peer-outcome.ensures.recorded
     c.settle_peer-outcome.ensures.size c.settle_peer-outcome.ensures.clients c.settle_peer-outcome.ensures.over)
-    (subst (λ o. IsNext g.L.Log.records c.args.key c.args.progress c.args.now o c.args.self.now c.settle_peer-outcome.new.self c.args.log.now c.settle_peer-outcome.new.log) c.in-Streams.is c.settle_peer-outcome.ensures.followed)
+    (subst (λ o. IsNext g.L.Log.records c.args.key c.args.progress c.args.now o c.args.self.now c.settle_peer-outcome.new.self c.args.log.now c.settle_peer-outcome.new.log)
+    c.in-Streams.is c.settle_peer-outcome.ensures.followed)
 
 pub returns-in-Ready : goal.returns-in-Ready
 returns-in-Ready g c =
@@ -29,18 +31,21 @@ returns-in-Ready g c =
     (closed_none g.L.Log.records PeerClosed c.args.self.now c.settle_peer-outcome.new.self c.args.log.now c.settle_peer-outcome.new.log c.settle_peer-outcome.ensures.recorded
     c.settle_peer-outcome.ensures.size c.settle_peer-outcome.ensures.clients c.settle_peer-outcome.ensures.over)
     (λ peer is. let next =
-        subst (λ o. IsNext g.L.Log.records c.args.key c.args.progress c.args.now o c.args.self.now c.settle_peer-outcome.new.self c.args.log.now c.settle_peer-outcome.new.log) c.in-Ready.is c.settle_peer-outcome.ensures.followed peer is in
+        subst (λ o. IsNext g.L.Log.records c.args.key c.args.progress c.args.now o c.args.self.now c.settle_peer-outcome.new.self c.args.log.now c.settle_peer-outcome.new.log)
+    c.in-Ready.is c.settle_peer-outcome.ensures.followed peer is in
     (next.0, ap (λ slab. get slab c.args.key) c.mark_ready.ensures.peers ∙ next.1, next.2))
     c.mark_ready.ensures.peers c.mark_ready.ensures.clients c.mark_ready.ensures.ready c.mark_ready.ensures.marked
 
 pub returns-in-Resumed : goal.returns-in-Resumed
 returns-in-Resumed g c =
-    settled_ready g.L.Log.records c.args.key c.args.progress c.args.now Resumed c.args.self.now c.settle_peer-outcome.new.self c.mark_ready-in-Resumed.new.self c.args.log.now c.settle_peer-outcome.new.log
+    settled_ready g.L.Log.records c.args.key c.args.progress c.args.now Resumed c.args.self.now c.settle_peer-outcome.new.self c.mark_ready-in-Resumed.new.self
+    c.args.log.now c.settle_peer-outcome.new.log
     c.settle_peer-outcome.ensures.others (ap (λ set. set.keys.items) c.settle_peer-outcome.ensures.ready)
     (closed_none g.L.Log.records PeerClosed c.args.self.now c.settle_peer-outcome.new.self c.args.log.now c.settle_peer-outcome.new.log c.settle_peer-outcome.ensures.recorded
     c.settle_peer-outcome.ensures.size c.settle_peer-outcome.ensures.clients c.settle_peer-outcome.ensures.over)
     (λ peer is. let next =
-        subst (λ o. IsNext g.L.Log.records c.args.key c.args.progress c.args.now o c.args.self.now c.settle_peer-outcome.new.self c.args.log.now c.settle_peer-outcome.new.log) c.in-Resumed.is c.settle_peer-outcome.ensures.followed peer is in
+        subst (λ o. IsNext g.L.Log.records c.args.key c.args.progress c.args.now o c.args.self.now c.settle_peer-outcome.new.self c.args.log.now c.settle_peer-outcome.new.log)
+    c.in-Resumed.is c.settle_peer-outcome.ensures.followed peer is in
     (next.0, ap (λ slab. get slab c.args.key) c.mark_ready-in-Resumed.ensures.peers ∙ next.1, next.2))
     c.mark_ready-in-Resumed.ensures.peers c.mark_ready-in-Resumed.ensures.clients c.mark_ready-in-Resumed.ensures.ready c.mark_ready-in-Resumed.ensures.marked
 
@@ -50,5 +55,6 @@ returns-in-Over g c =
     c.settle_peer-outcome.ensures.others (ap (λ set. set.keys.items) c.settle_peer-outcome.ensures.ready)
     (closed_none g.L.Log.records PeerClosed c.args.self.now c.settle_peer-outcome.new.self c.args.log.now c.settle_peer-outcome.new.log c.settle_peer-outcome.ensures.recorded
     c.settle_peer-outcome.ensures.size c.settle_peer-outcome.ensures.clients c.settle_peer-outcome.ensures.over)
-    (subst (λ o. IsNext g.L.Log.records c.args.key c.args.progress c.args.now o c.args.self.now c.settle_peer-outcome.new.self c.args.log.now c.settle_peer-outcome.new.log) c.in-Over.is c.settle_peer-outcome.ensures.followed)
+    (subst (λ o. IsNext g.L.Log.records c.args.key c.args.progress c.args.now o c.args.self.now c.settle_peer-outcome.new.self c.args.log.now c.settle_peer-outcome.new.log)
+    c.in-Over.is c.settle_peer-outcome.ensures.followed)
     c.close.ensures.removed c.close.ensures.absent

@@ -1,10 +1,13 @@
-use Rattle.std.proofs.Common.{◌≡◌, IsSome, refl, sym, subst}
+use Rattle.std.proofs.Common.{◌≡◌, IsSome, arith, refl, sym, subst}
 use Rattle.slab.proofs.SlabLemmas.{Updates-with_value}
 use Rattle.feed_node_table.specs.Peers.{IsFollowed}
 use Rattle.feed_node_table.specs.Tables.{peer_at}
 use Rattle.feed_node_table.proofs.Firsts.{same_peer}
 use Rattle.feed_node_table.proofs.Invariants.{counted_after_less, known_after_write, less_is_within, over_after_write}
 use Rattle.feed_node_table.proofs.table.Table.settle_peer.Goals as goal
+
+pub overflow_sub-freed : goal.overflow_sub-freed
+overflow_sub-freed g c = omega (arith, c.unsent-before.ensures, c.unsent.ensures, c.settle-outcome.ensures.less)
 
 pub overflow_sub-self : goal.overflow_sub-self
 overflow_sub-self g c =
