@@ -54,7 +54,7 @@ step_date : (found : Bool) (value : List ℕ) (texts : List (List ℕ)) (others 
 step_date true value texts others later = step_days value (query_days_of value) texts others refl later
 step_date false value texts others later = later
 
-core_days : (pairs : List (List ℕ × List ℕ)) → option_and_then query_days_of (core_date pairs) ≡ first_days pairs
+pub core_days : (pairs : List (List ℕ × List ℕ)) → option_and_then query_days_of (core_date pairs) ≡ first_days pairs
 core_days [] = refl
 core_days (pair ∷ pairs) =
     step_date (has_key (codes "rft.date") pair) (trimmed pair.1) (filter_map date_of_pair pairs) (filter_map days_of_pair pairs) (core_days pairs)
@@ -71,7 +71,7 @@ step_volume : (found : Bool) (value : List ℕ) (texts : List (List ℕ)) (other
 step_volume true value texts others later = step_number value (volume_of value) texts others refl later
 step_volume false value texts others later = later
 
-core_number : (pairs : List (List ℕ × List ℕ)) → option_and_then volume_of (core_volume pairs) ≡ first_volume pairs
+pub core_number : (pairs : List (List ℕ × List ℕ)) → option_and_then volume_of (core_volume pairs) ≡ first_volume pairs
 core_number [] = refl
 core_number (pair ∷ pairs) =
     step_volume (has_key (codes "rft.volume") pair) (trimmed pair.1) (filter_map volume_of_pair pairs) (filter_map core.volume_of_pair pairs) (core_number pairs)

@@ -4,3 +4,5 @@ pub mod Valid
 pub mod Written
 pub mod Parts
 pub mod Plains
+pub mod Bounds
+pub mod Again

@@ -1,16 +1,15 @@
 -- Laws of queries as they are understood.
-use Rattle.std.specs.Prelude.{◌≡◌, ◌<◌, ◌≤◌, ℕ, length, List, Some, None, Ok, IfSome}
-use Rattle.std.specs.List.{All}
+use Rattle.std.specs.Prelude.{◌≡◌, ◌≤◌, ℕ, length, List, Option, Some, None, Ok, IfSome}
 use Rattle.std.specs.Option.{option_and_then}
 use Rattle.feed_dates.specs.DayRanges.{query_days_of}
 use Rattle.feed_kbart.specs.Volumes.{volume_of}
-use Rattle.feed_answer.specs.Limits.{query_limit}
-use Rattle.feed_answer.specs.Pairs.{first_days, first_volume}
 use Rattle.feed_answer.specs.Queries.{query_of}
 use Rattle.feed_answer.specs.QueryValue.{QueryValue}
 use Rattle.feed_openurl.specs.Identifiers.{count, identifier_limit}
 use Rattle.feed_openurl.specs.Values.{IsWellFormed, UnderstandingValue, understood}
-use Rattle.feed_openurl.specs.Written.{pairs_for, written}
+use Rattle.feed_openurl.specs.Written.{written, written_limit}
+use Rattle.feed_openurl.specs.declared.fault.Refusal.{Refusal}
+use Rattle.feed_openurl.specs.declared.fault.Refusal.TheVariants.{NoIssn}
 
 -- a query that the core answers keeps its identifiers, its days and its volume
 pub record KeepsAnswer (q : QueryValue) (u : UnderstandingValue) : Type 0 where
@@ -25,30 +24,32 @@ abbrev pub AnswersAreKept : Type 0
 AnswersAreKept = (text : List ℕ) (q : QueryValue)
     → query_of text ≡ Ok q → count q.issns q.isbns ≤ identifier_limit → KeepsAnswer q (understood text)
 
--- the pairs of the query that is written
-abbrev pub written_pairs : UnderstandingValue → List (List ℕ × List ℕ)
-written_pairs u = pairs_for u.issns u.isbns u.date u.volume
+-- the query that is written is short
+abbrev pub WrittenIsShort : Type 0
+WrittenIsShort = (u : UnderstandingValue) → IsWellFormed u → length (written u) ≤ written_limit
 
--- the texts of pairs are bytes
-abbrev pub AreBytes : List (List ℕ × List ℕ) → Type 0
-AreBytes pairs = All (λ pair. All (λ b. b < 256) pair.0 × All (λ b. b < 256) pair.1) pairs
-
--- the core accepts what is written for a query that is not refused, and asks for exactly its identifiers, with the first
--- date and the first volume of it; if it is within the limit of a query
+-- the core accepts what is written for a query that is not refused, and asks for exactly its identifiers, its date and
+-- its volume
 abbrev pub WrittenIsAccepted : Type 0
 WrittenIsAccepted =
-    (u : UnderstandingValue) → IsWellFormed u → u.refusal ≡ None → AreBytes (written_pairs u) → length (written u) ≤ query_limit
+    (u : UnderstandingValue) → IsWellFormed u → u.refusal ≡ None
     → query_of (written u)
-    ≡ Ok (record { issns = u.issns; isbns = u.isbns; days = first_days (written_pairs u); volume = first_volume (written_pairs u) })
+    ≡ Ok (record { issns = u.issns; isbns = u.isbns; days = option_and_then query_days_of u.date; volume = option_and_then volume_of u.volume })
 
--- an understanding asks for the identifiers of another, and is not refused
-pub record IsAskedFor (u again : UnderstandingValue) : Type 0 where
-  pub refusal : again.refusal ≡ None
-  pub issns : again.issns ≡ u.issns
-  pub isbns : again.isbns ≡ u.isbns
+-- a query that is refused has nothing to look up once it is written, whatever the reason was
+abbrev pub refusal_of_written : Option Refusal → Option Refusal
+refusal_of_written (Some refusal) = Some NoIssn
+refusal_of_written None = None
 
--- what is written for a query that is not refused is understood with the same identifiers
+-- an understanding, as it is understood of what is written for it
+abbrev pub of_written : UnderstandingValue → UnderstandingValue
+of_written u =
+    record { issns = u.issns; isbns = u.isbns; date = u.date; volume = u.volume; refusal = refusal_of_written u.refusal }
+
+-- what is written is understood with the same identifiers, the same date and the same volume
 abbrev pub WrittenIsUnderstood : Type 0
-WrittenIsUnderstood =
-    (u : UnderstandingValue) → IsWellFormed u → u.refusal ≡ None → AreBytes (written_pairs u) → length (written u) ≤ query_limit
-    → IsAskedFor u (understood (written u))
+WrittenIsUnderstood = (u : UnderstandingValue) → IsWellFormed u → understood (written u) ≡ of_written u
+
+-- what is written for what is written is the same text
+abbrev pub WrittenIsItself : Type 0
+WrittenIsItself = (u : UnderstandingValue) → IsWellFormed u → written (understood (written u)) ≡ written u

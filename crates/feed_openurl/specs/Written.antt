@@ -29,6 +29,10 @@ abbrev pub pairs_for : List (List ℕ) → List (List ℕ) → Option (List ℕ)
 pairs_for issns isbns date volume =
     version_pair ∷ (issn_pairs issns ++ (isbn_pairs isbns ++ (date_pairs date ++ volume_pairs volume)))
 
+-- the most bytes of the text that is written: the version, the limit of ISBNs, a day, and a volume of nine digits
+abbrev pub written_limit : ℕ
+written_limit = 1532
+
 -- the text of the query for these
 abbrev pub written_of : List (List ℕ) → List (List ℕ) → Option (List ℕ) → Option (List ℕ) → List ℕ
 written_of issns isbns date volume = form.extend_pairs [] (pairs_for issns isbns date volume)

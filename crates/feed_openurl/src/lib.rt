@@ -32,5 +32,8 @@ mod writing;
 pub use crate::citation::Citation;
 pub use crate::dropped::{Dropped, dropped_keys};
 pub use crate::fault::{ReadFault, Refusal};
-pub use crate::laws::{answers_are_kept, written_is_accepted, written_is_understood};
+pub use crate::laws::{
+    answers_are_kept, written_is_accepted, written_is_itself, written_is_short,
+    written_is_understood,
+};
 pub use crate::understanding::{IDENTIFIER_LIMIT, Understanding};

@@ -1,4 +1,4 @@
-use Rattle.feed_openurl.proofs.Written.{written_understood}
+use Rattle.feed_openurl.proofs.Again.{written_understood}
 use Rattle.feed_openurl.proofs.laws.written_is_understood.Goals as goal
 
 pub returns : goal.returns
