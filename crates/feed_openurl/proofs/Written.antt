@@ -227,7 +227,8 @@ written_parses u is =
     round_trip (written_pairs u)
     (All-cons AreBytes version_pair (issn_pairs u.issns ++ (isbn_pairs u.isbns ++ (date_pairs u.date ++ volume_pairs u.volume)))
     (kept_bytes version_pair.0 version_key, kept_bytes version_pair.1 version_value)
-    (texts_bytes 9 (codes "rft.issn") issn_key u.issns (isbn_pairs u.isbns ++ (date_pairs u.date ++ volume_pairs u.volume)) (All-weaker IsIssnText (IsShort 9) issn_is_short u.issns is.identifiers.issns_parse)
+    (texts_bytes 9 (codes "rft.issn") issn_key u.issns (isbn_pairs u.isbns ++ (date_pairs u.date ++ volume_pairs u.volume))
+    (All-weaker IsIssnText (IsShort 9) issn_is_short u.issns is.identifiers.issns_parse)
     (texts_bytes 13 (codes "rft.isbn") isbn_key u.isbns (date_pairs u.date ++ volume_pairs u.volume) (All-weaker IsIsbnText (IsShort 13) isbn_is_short u.isbns is.identifiers.isbns_parse)
     (last_bytes u.date u.volume is.date is.volume))))
 
