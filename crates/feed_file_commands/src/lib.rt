@@ -1,4 +1,4 @@
-//! The commands of kbfeed that need no database: `check`, `diff`, `answer` and `serve` on files, and `openurl` on a query.
+//! The commands of kbfeed without a database: `check`, `diff`, `answer` and `serve` on files, `openurl` on a query.
 #![tactic(auto)]
 
 mod answer;
