@@ -210,10 +210,7 @@ fn plain_reply<'a>(
         → reply ≡ plain_reply head actives.now) }
 {
     if is_unsupported_method(request.method()) {
-        return method_refusal(
-            alloc,
-            resource_of(path_in(origin_form(request.target()))),
-        );
+        return method_refusal(alloc, resource_of(path_in(origin_form(request.target()))));
     }
     if !(request.is_get() || request.is_head()) {
         return refusal(
