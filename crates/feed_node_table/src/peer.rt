@@ -142,7 +142,7 @@ impl<T: Stream> Peer<T> {
 
     fn begins_stream(&self) -> bool
         ensures { result ≡ begins_stream self.now.connection }
-{
+    {
         match self.connection.summary() {
             Some(summary) => summary.is_streamed && self.connection.is_reply_sent(),
             None => false,

@@ -25,10 +25,10 @@ returns-then-ne-clause-advanced g c = λ history state.
 pub loop-preserved : goal.loop-preserved
 loop-preserved g c = (
   λ history state.
-    let before = c.loop.invariant.0 history state in
-    further (g.S.Respond.wanted c.args.responder.now, g.S.Respond.replies c.args.responder.now) c.args.share.now c.loop.share c.step-progress.new.share
-    c.loop.connection c.step-progress.new.connection history
-    _ _ _ _ _ _ before (c.step-progress.ensures.advanced (before.more ++ history) before.state),
+      let before = c.loop.invariant.0 history state in
+      further (g.S.Respond.wanted c.args.responder.now, g.S.Respond.replies c.args.responder.now) c.args.share.now c.loop.share c.step-progress.new.share
+      c.loop.connection c.step-progress.new.connection history
+      _ _ _ _ _ _ before (c.step-progress.ensures.advanced (before.more ++ history) before.state),
   c.step-progress.ensures.may_read (search rules),
   c.step-progress.ensures.may_write (search rules),
 )

@@ -33,7 +33,7 @@ returns-clause-served g c = λ peer is.
 pub returns-clause-within : goal.returns-clause-within
 returns-clause-within g c = λ longest within was.
     let served = served_next (g.S.Respond.wanted c.args.responder.now, g.S.Respond.replies c.args.responder.now) c.has_room-has_room.result c.advance-progress.result c.args.share.now
-        c.advance-progress.new.share c.in-Some.peer.now.connection c.advance-progress.new.self c.add_unsent-self.new.self c.add_unsent-self.ensures.same c.add_unsent-self.ensures.state
-        c.advance-progress.ensures.served in
+    c.advance-progress.new.share c.in-Some.peer.now.connection c.advance-progress.new.self c.add_unsent-self.new.self c.add_unsent-self.ensures.same c.add_unsent-self.ensures.state
+    c.advance-progress.ensures.served in
     within_after (g.S.Respond.wanted c.args.responder.now, g.S.Respond.replies c.args.responder.now) c.has_room-has_room.result c.args.self.now.peers.slots c.args.key longest
     c.in-Some.peer.now c.add_unsent-self.new.self (sym c.in-Some.ensures.value) c.has_room-has_room.ensures within served.bounded was

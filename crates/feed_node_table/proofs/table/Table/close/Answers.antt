@@ -10,4 +10,3 @@ returns-clause-removed g c = λ peer is.
     let cause : c.close_cause-cause.result ≡ cause_of peer c.args.cause = c.close_cause-cause.ensures ∙ ap (λ p. cause_of p c.args.cause) same in
     subst (λ why. IsRemoved g.L.Log.records c.args.key why c.args.now c.args.self.now c.remove.new.self c.args.log.now c.remove.new.log) cause
     (c.remove.ensures.removed (subst (λ slot. IsSome slot) c.in-Some.ensures refl))
-

@@ -31,7 +31,7 @@ returns-in-Ready g c =
     (closed_none g.L.Log.records PeerClosed c.args.self.now c.settle_peer-outcome.new.self c.args.log.now c.settle_peer-outcome.new.log c.settle_peer-outcome.ensures.recorded
     c.settle_peer-outcome.ensures.size c.settle_peer-outcome.ensures.clients c.settle_peer-outcome.ensures.over)
     (λ peer is. let next =
-        subst (λ o. IsNext g.L.Log.records c.args.key c.args.progress c.args.now o c.args.self.now c.settle_peer-outcome.new.self c.args.log.now c.settle_peer-outcome.new.log)
+    subst (λ o. IsNext g.L.Log.records c.args.key c.args.progress c.args.now o c.args.self.now c.settle_peer-outcome.new.self c.args.log.now c.settle_peer-outcome.new.log)
     c.in-Ready.is c.settle_peer-outcome.ensures.followed peer is in
     (next.0, ap (λ slab. get slab c.args.key) c.mark_ready.ensures.peers ∙ next.1, next.2))
     c.mark_ready.ensures.peers c.mark_ready.ensures.clients c.mark_ready.ensures.ready c.mark_ready.ensures.marked
@@ -44,7 +44,7 @@ returns-in-Resumed g c =
     (closed_none g.L.Log.records PeerClosed c.args.self.now c.settle_peer-outcome.new.self c.args.log.now c.settle_peer-outcome.new.log c.settle_peer-outcome.ensures.recorded
     c.settle_peer-outcome.ensures.size c.settle_peer-outcome.ensures.clients c.settle_peer-outcome.ensures.over)
     (λ peer is. let next =
-        subst (λ o. IsNext g.L.Log.records c.args.key c.args.progress c.args.now o c.args.self.now c.settle_peer-outcome.new.self c.args.log.now c.settle_peer-outcome.new.log)
+    subst (λ o. IsNext g.L.Log.records c.args.key c.args.progress c.args.now o c.args.self.now c.settle_peer-outcome.new.self c.args.log.now c.settle_peer-outcome.new.log)
     c.in-Resumed.is c.settle_peer-outcome.ensures.followed peer is in
     (next.0, ap (λ slab. get slab c.args.key) c.mark_ready-in-Resumed.ensures.peers ∙ next.1, next.2))
     c.mark_ready-in-Resumed.ensures.peers c.mark_ready-in-Resumed.ensures.clients c.mark_ready-in-Resumed.ensures.ready c.mark_ready-in-Resumed.ensures.marked
