@@ -1,12 +1,14 @@
 #!/usr/bin/env python3
-"""Holds the queries that are written of random ones against what reads them.
+"""Holds how random queries are understood against what the core answers.
 
 openurl_random.py COUNT SEED LIST
 
 Makes queries of the keys of OpenURL 1.0 and 0.1, alone and mixed, with values that `kbfeed answer` reads and others.
-What `kbfeed openurl` writes of each has to be accepted by `kbfeed answer` with the list, and understood as itself.
+What `kbfeed openurl` writes of each has to be accepted by `kbfeed answer` with the list, and understood as itself. If
+the query is answered as it is, the answer to what is written has no other row, and lacks a row or has another grade
+only if nothing was tested before, or a date and a volume are now: that is the law of OPENURL.md, as hits show it.
 Prints each breach, and then the number of queries. Fails if fewer than one in twenty of them are answered as they are,
-or only as they are understood."""
+or only as they are understood, or if no row was graded anew."""
 import json
 import random
 import subprocess
@@ -48,27 +50,41 @@ def understood(query):
     return json.loads(ran.stdout)
 
 
-def is_answered(query):
-    words = ["kbfeed", "answer", sys.argv[3], query]
-    return subprocess.run(words, capture_output=True, check=False).returncode == 0
+def grades_of(query):
+    """The grade of each row that `kbfeed answer` prints, by the number of its record; nothing for a refused query."""
+    ran = subprocess.run(["kbfeed", "answer", sys.argv[3], query], capture_output=True, text=True, check=False)
+    if ran.returncode != 0:
+        return None
+    return dict(line.split("\t")[:2] for line in ran.stdout.splitlines()[1:])
+
+
+def is_kept(before, after, is_tested_by_both):
+    """Whether no row was added, and a row has another grade or went only if a date or a volume is new that tests it."""
+    return after.keys() <= before.keys() and all(
+        grade == "untested" or is_tested_by_both or after.get(record) == grade for record, grade in before.items())
 
 
 count, seed = int(sys.argv[1]), int(sys.argv[2])
 rng = random.Random(seed)
-answered = only = 0
+answered = only = graded = 0
 for query in [query_of(rng) for _ in range(count)]:
     read = understood(query)
-    is_plain = is_answered(query)
-    answered += is_plain
+    before = grades_of(query)
+    answered += before is not None
     if read["refused"]:
-        if is_plain:
+        if before is not None:
             print("refused", query)
         continue
-    only += not is_plain
-    if not is_answered(read["query"]):
+    only += before is None
+    after = grades_of(read["query"])
+    if after is None:
         print("not accepted", query)
+    elif before is not None:
+        graded += before != after
+        if not is_kept(before, after, read["date"] and read["volume"]):
+            print("not kept", query, before, after)
     if understood(read["query"])["query"] != read["query"]:
         print("not itself", query)
-if min(answered, only) * 20 < count:
-    sys.exit(f"{answered} answered as they are, {only} only as they are understood")
+if min(answered, only) * 20 < count or not graded:
+    sys.exit(f"{answered} answered as they are, {only} only as they are understood, {graded} graded anew")
 print(f"{count} queries")

@@ -1,14 +1,13 @@
 -- What is written is understood as the query was for which it is written.
-use Rattle.std.proofs.Common.{◌≡◌, ◌<◌, ◌≤◌, ℕ, Bool, true, false, ◌&&◌, ◌||◌, List, [], ◌∷◌, ◌++◌, Option}
+use Rattle.std.proofs.Common.{◌≡◌, ℕ, false, ◌||◌, List, [], ◌∷◌, Option}
 use Rattle.std.proofs.Common.{Some, None, if◌then◌else◌, codes, refl, ap, ◌∙◌, map, arith}
-use Rattle.std.specs.Prelude.{IfSome, nat_lt}
+use Rattle.std.specs.Prelude.{IfSome}
 use Rattle.std.specs.List.{cons_option, filter_map, list_any}
 use Rattle.std.proofs.lemmas.Bool.{le-ltb}
-use Rattle.form_urlencoded.specs.Form as form
 use Rattle.percent_encoding.specs.Percent.{percent_decode}
-use Rattle.feed_answer.specs.Pairs.{first, is_empty}
+use Rattle.feed_answer.specs.Pairs.{first}
 use Rattle.feed_answer.specs.Queries.{has_other_format, query_isbns, query_issns}
-use Rattle.feed_openurl.specs.Core.{core_date, core_isbns, core_issns, core_volume, is_refused}
+use Rattle.feed_openurl.specs.Core.{core_isbns, core_issns, is_refused}
 use Rattle.feed_openurl.specs.Identifiers.{IdentifiersValue, LookedUp, are_none, core_identifiers, count, identifier_limit, looked_up}
 use Rattle.feed_openurl.specs.Identifiers.{looked_up_of_others, or_text, other_identifiers, reason_without, refused, within_limit, within_or}
 use Rattle.feed_openurl.specs.Keys.{keyed}
@@ -16,7 +15,7 @@ use Rattle.feed_openurl.specs.Kinds.{formats_of, names_other_format, names_other
 use Rattle.feed_openurl.specs.Laws.{WrittenIsItself, WrittenIsUnderstood, of_written, refusal_of_written}
 use Rattle.feed_openurl.specs.Texts.{IsDateText, IsVolumeText}
 use Rattle.feed_openurl.specs.Tiers.{date_in, date_of, lenient_date_of, lenient_volume_of, strict_date_of, strict_volume_of, volume_in, volume_of}
-use Rattle.feed_openurl.specs.Values.{AreIdentifiers, IsCounted, IsWellFormed, UnderstandingValue, understood, understood_pairs}
+use Rattle.feed_openurl.specs.Values.{AreIdentifiers, IsCounted, IsWellFormed, UnderstandingValue, understood_pairs}
 use Rattle.feed_openurl.specs.Written.{date_pairs, pairs_for, version_pair, volume_pairs, written}
 use Rattle.feed_openurl.specs.declared.fault.Refusal.{Refusal}
 use Rattle.feed_openurl.specs.declared.fault.Refusal.TheVariants as reason

@@ -1,5 +1,5 @@
 -- The texts of identifiers, dates and volumes are short, and a form writes each of their bytes as it is.
-use Rattle.std.proofs.Common.{◌≡◌, ◌<◌, ◌≤◌, ◌+◌, ◌-◌, ◌*◌, ◌%◌, ◌==◌, ℕ, suc, Bool, true, false, ◌&&◌, ◌||◌, List, [], ◌∷◌, ◌++◌, length}
+use Rattle.std.proofs.Common.{◌≡◌, ◌<◌, ◌≤◌, ◌+◌, ◌-◌, ◌*◌, ◌%◌, ◌==◌, ℕ, Bool, true, false, ◌&&◌, ◌||◌, List, [], ◌∷◌, ◌++◌, length}
 use Rattle.std.proofs.Common.{Option, Some, None, if◌then◌else◌, is_some, codes, refl, sym, ap, subst, ◌∙◌, map, reverse, arith, length-append, mul-suc, nat_le, filter}
 use Rattle.std.specs.Prelude.{IfSome, option_map}
 use Rattle.std.specs.Char.{is_ascii_digit}
@@ -8,15 +8,14 @@ use Rattle.std.proofs.lemmas.Bool.{and_parts, cond-false, cond-true, leb-true}
 use Rattle.std.proofs.lemmas.Bool.Decides.{nat_tests}
 use Rattle.std.proofs.lemmas.List.{reverse-append, reverse-reverse}
 use Rattle.std.proofs.lemmas.List.Elements.{All-cons, All-from_recursion, All-head, All-nil, All-push, All-tail, All-weaker, recursion_from_All}
-use Rattle.form_urlencoded.specs.Form.{IsUnchanged, append_pair, byte_serialize, extend_pairs, is_nonempty, is_unchanged, separator, serialize_byte}
+use Rattle.form_urlencoded.specs.Form.{IsUnchanged, append_pair, byte_serialize, extend_pairs, is_nonempty, is_unchanged}
 use Rattle.form_urlencoded.proofs.FormLemmas.{byte_serialize-cons, byte_serialize-nil}
 use Rattle.feed_identifiers.specs.Check.{are_seven_digits, capital, is_check, is_x}
-use Rattle.feed_identifiers.specs.Isbn.{are_nine_digits, check_digit, is_no_hyphen, isbn_of, isbn_of_characters, of_ten, of_thirteen, sum_of_nine, sum_of_twelve, thirteen}
-use Rattle.feed_identifiers.specs.Issn.{issn_of, issn_of_characters, issn_of_digits, weighted}
+use Rattle.feed_identifiers.specs.Isbn.{are_nine_digits, check_digit, is_no_hyphen, isbn_of_characters, of_ten, of_thirteen, sum_of_twelve, thirteen}
+use Rattle.feed_identifiers.specs.Issn.{issn_of_characters, issn_of_digits}
 use Rattle.feed_identifiers.specs.Text.{skip_spaces, trimmed}
 use Rattle.feed_dates.specs.Days.{day_of_date, day_of_parts, four_digits, two_digits}
 use Rattle.feed_dates.specs.DayRanges.{days_of, days_of_month, days_of_year, query_days_of, single_day, with_hyphens}
-use Rattle.feed_dates.specs.declared.day_range.DayRange.{DayRange}
 use Rattle.feed_kbart.specs.Volumes.{volume_of}
 use Rattle.feed_openurl.specs.Identifiers.{count, identifier_limit}
 use Rattle.feed_openurl.specs.Texts.{IsDateText, IsVolumeText}

@@ -19,7 +19,7 @@ use Rattle.feed_openurl.specs.Identifiers.{identifiers_for, looked_up, looked_up
 use Rattle.feed_openurl.specs.Identifiers.{reason_without, refused, within_limit}
 use Rattle.feed_openurl.specs.Keys.{keyed}
 use Rattle.feed_openurl.specs.Kinds.{formats_of, names_other_format, names_other_version}
-use Rattle.feed_openurl.specs.Numbers.{first_number, found_or, isbn_number, is_number, number_of_word, number_onto, number_or}
+use Rattle.feed_openurl.specs.Numbers.{begins_with_digit, first_number, first_spaced_isbn, found_or, isbn_number, is_number, number_of_word, number_onto, number_or}
 use Rattle.feed_openurl.specs.Numbers.{numbers_after, numbers_in, spaced_isbn, spaced_issn, taken, words_from}
 use Rattle.feed_openurl.specs.Plain.{plain}
 use Rattle.feed_openurl.specs.Values.{AreIdentifiers, IsCounted, IsIsbnText, IsIssnText}
@@ -89,10 +89,11 @@ module _ (issn_law : PrintedFormParses issn_of) (isbn_law : PrintedFormParses is
   first_valid (word ∷ words) =
       found_or_valid (number_of_word word) 0 _ (word_valid word)
       (found_or_valid (number_or (spaced_issn (word ∷ words)) None) 1 _ (number_or_valid (spaced_issn (word ∷ words)) None (spaced_issn_valid (word ∷ words)) tt)
+      (if_valid IsFound (begins_with_digit word) (first_spaced_isbn (word ∷ words)) None
       (found_or_valid (isbn_number (spaced_isbn 5 (word ∷ words))) 4 _ (spaced_isbn_valid 5 (word ∷ words))
       (found_or_valid (isbn_number (spaced_isbn 4 (word ∷ words))) 3 _ (spaced_isbn_valid 4 (word ∷ words))
       (found_or_valid (isbn_number (spaced_isbn 3 (word ∷ words))) 2 _ (spaced_isbn_valid 3 (word ∷ words))
-      (found_or_valid (isbn_number (spaced_isbn 2 (word ∷ words))) 1 None (spaced_isbn_valid 2 (word ∷ words)) tt)))))
+      (found_or_valid (isbn_number (spaced_isbn 2 (word ∷ words))) 1 None (spaced_isbn_valid 2 (word ∷ words)) tt)))) tt))
 
   if_all : (b : Bool) (xs ys : List Number) → All IsValid xs → All IsValid ys → All IsValid (if b then xs else ys)
   if_all true xs ys first second = first

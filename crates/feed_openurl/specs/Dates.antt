@@ -1,15 +1,15 @@
 -- The first date in a value that is no date of the core, as `20 Oct 2005`, `Oct-Nov 2005`, `1996-1997` and `Spring 2004`.
 use Rattle.std.specs.Prelude.{ℕ, Bool, true, false, ◌+◌, ◌-◌, ◌*◌, ◌/◌, ◌%◌, ◌||◌, ◌&&◌, ◌==◌, not, nat_lt}
-use Rattle.std.specs.Prelude.{min, List, [], ◌∷◌, ◌++◌, length, take, drop, filter, Option, Some, None, if◌then◌else◌, codes}
+use Rattle.std.specs.Prelude.{min, List, [], ◌∷◌, ◌++◌, length, take, drop, filter, Option, Some, None, is_some, if◌then◌else◌, codes}
 use Rattle.std.specs.Char.{is_ascii_digit}
-use Rattle.std.specs.List.{cons_option}
+use Rattle.std.specs.List.{cons_option, list_any}
 use Rattle.feed_openurl.specs.Fronts.{front_len}
 use Rattle.feed_openurl.specs.Identifiers.{or_text}
 use Rattle.feed_openurl.specs.Keys.{is_name}
 use Rattle.feed_openurl.specs.Texts.{date_text_of}
 use Rattle.feed_openurl.specs.Volumes.{is_letter}
 use Rattle.feed_openurl.specs.declared.tokens.Token.{Token}
-use Rattle.feed_openurl.specs.declared.tokens.Token.TheVariants.{Mark, Month, Packed, Small, Word, Year}
+use Rattle.feed_openurl.specs.declared.tokens.Token.TheVariants.{Mark, Month, Packed, Season, Small, Word, Year}
 
 -- two digits of a number below 100, and the number of two digits
 abbrev pub two_digits : ℕ → List ℕ
@@ -58,9 +58,15 @@ month_of word =
     else if is_one word (codes "jun") (codes "june") then Some 6
     else late_month_of word
 
-abbrev pub month_token : Option ℕ → Token
-month_token (Some month) = Month month
-month_token None = Word
+-- a word names a season: its name in English, or the first three letters of it
+abbrev pub names_season : List ℕ → Bool
+names_season word =
+    is_one word (codes "spr") (codes "spring") || is_one word (codes "sum") (codes "summer") || is_one word (codes "aut") (codes "autumn")
+    || is_one word (codes "fal") (codes "fall") || is_one word (codes "win") (codes "winter")
+
+abbrev pub word_token : List ℕ → Option ℕ → Token
+word_token word (Some month) = Month month
+word_token word None = if names_season word then Season else Word
 
 -- a word that makes an ordinal of the number before it
 abbrev pub is_ordinal : List ℕ → Bool
@@ -71,7 +77,7 @@ abbrev pub token_of : List ℕ → Option Token
 token_of [] = None
 token_of (b ∷ bytes) =
     if is_ascii_digit b then Some (number_token (b ∷ bytes))
-    else if is_letter b then (if is_ordinal (b ∷ bytes) then None else Some (month_token (month_of (b ∷ bytes))))
+    else if is_letter b then (if is_ordinal (b ∷ bytes) then None else Some (word_token (b ∷ bytes) (month_of (b ∷ bytes))))
     else if nat_lt 32 b then Some (Mark b)
     else None
 
@@ -120,6 +126,7 @@ named_month before (Small day ∷ tokens) = named_month day tokens
 named_month before (Mark mark ∷ tokens) = named_month (if is_between mark then before else 0) tokens
 named_month before (Year year ∷ tokens) = named_month 0 tokens
 named_month before (Packed year month day ∷ tokens) = named_month 0 tokens
+named_month before (Season ∷ tokens) = named_month 0 tokens
 named_month before (Word ∷ tokens) = named_month 0 tokens
 
 abbrev pub is_small : Token → Bool
@@ -134,9 +141,24 @@ is_month _ = false
 abbrev pub is_single : List Token → Bool
 is_single tokens = (length (filter is_small tokens) == 1) && (length (filter is_month tokens) == 1)
 
+abbrev pub is_before : ℕ → Token → Bool
+is_before month (Month other) = nat_lt other month
+is_before month _ = false
+
+abbrev pub has_year : Token → Bool
+has_year token = is_some (year_of token)
+
+-- the months pass the end of a year of which only one is named, as in `Dec-Jan 2006`: which of them it is of is unknown
+abbrev pub pass_a_year : List Token → ℕ → Bool
+pass_a_year tokens month = list_any (is_before month) tokens && (length (filter has_year tokens) == 1)
+
 -- the date of a year and a month that is named
+abbrev pub date_in_month : List Token → List ℕ → ℕ × ℕ → Option (List ℕ)
+date_in_month tokens year named = date_of_parts year named.0 (if is_single tokens then named.1 else 0)
+
+-- the date of a year and the first month that is named
 abbrev pub named_date : List Token → List ℕ → ℕ × ℕ → Option (List ℕ)
-named_date tokens year named = date_of_parts year named.0 (if is_single tokens then named.1 else 0)
+named_date tokens year named = if pass_a_year tokens named.0 then date_of_parts year 0 0 else date_in_month tokens year named
 
 -- the date of three numbers with the year last: with dots the day is first, otherwise the number above 12 is the day,
 -- and two that could change places are neither
@@ -179,10 +201,15 @@ numeric_date [] = None
 numeric_date (token ∷ tokens) =
     or_text (year_last (token ∷ tokens)) (or_text (year_first_of (year_of token) token tokens) (numeric_date tokens))
 
--- the first date among some tokens: there is none without a year; the name of a month counts before numbers
+abbrev pub is_season : Token → Bool
+is_season Season = true
+is_season _ = false
+
+-- the first date among some tokens: there is none without a year; the name of a month counts before numbers, and beside
+-- the name of a season they are no month, as in `Winter 2005-06`
 abbrev pub date_of_named : List Token → List ℕ → Option (ℕ × ℕ) → Option (List ℕ)
 date_of_named tokens year (Some named) = named_date tokens year named
-date_of_named tokens year None = numeric_date tokens
+date_of_named tokens year None = if list_any is_season tokens then date_of_parts year 0 0 else numeric_date tokens
 
 abbrev pub date_with_year : List Token → Option (List ℕ) → Option (List ℕ)
 date_with_year tokens (Some year) = date_of_named tokens year (named_month 0 tokens)

@@ -2,6 +2,7 @@
 -- books), and those of OpenURL 0.1.
 use Rattle.std.specs.Prelude.{◌||◌, ◌&&◌, nat_le, ℕ, Bool, true, false, List, Option, Some, None, if◌then◌else◌, take, drop, length, codes}
 use Rattle.std.specs.Str.{str_eq_ignore_ascii_case}
+use Rattle.feed_identifiers.specs.Text.{trimmed}
 use Rattle.feed_openurl.specs.declared.key.Key.{Key}
 use Rattle.feed_openurl.specs.declared.key.Key.TheVariants.{Version, Format, Number, Name, Date, Volume, Other}
 use Rattle.feed_openurl.specs.declared.key.Tier.{Tier}
@@ -29,8 +30,12 @@ or_else (Some text) other = text
 or_else None other = other
 
 -- a key without the `?` or the `amp;` that a page or a proxy leaves before it (practice)
+abbrev pub without_front : List ℕ → List ℕ
+without_front key = or_else (after_prefix (codes "?") key) (or_else (after_prefix (codes "amp;") key) key)
+
+-- a key without spaces at its ends, and without up to two of these, as an ampersand may be escaped twice
 abbrev pub mended : List ℕ → List ℕ
-mended key = or_else (after_prefix (codes "?") key) (or_else (after_prefix (codes "amp;") key) key)
+mended key = without_front (without_front (trimmed key))
 
 -- a key after `rft.` (Z39.88-2004, the matrices), or one of OpenURL 0.1
 abbrev pub referent_key : Tier → List ℕ → Key

@@ -1,6 +1,6 @@
 -- The ISSNs and the ISBNs in a value that has several, or words and spaces around them.
-use Rattle.std.specs.Prelude.{ℕ, Bool, ◌||◌, ◌&&◌, ◌-◌, ◌==◌, nat_lt, List, [], ◌∷◌, ◌++◌, take, length, Option, Some, None, is_some, if◌then◌else◌, codes}
-use Rattle.std.specs.Char.{is_ascii_alphanumeric}
+use Rattle.std.specs.Prelude.{ℕ, Bool, false, ◌||◌, ◌&&◌, ◌-◌, ◌==◌, nat_lt, List, [], ◌∷◌, ◌++◌, take, length, Option, Some, None, is_some, if◌then◌else◌, codes}
+use Rattle.std.specs.Char.{is_ascii_alphanumeric, is_ascii_digit}
 use Rattle.std.specs.List.{concat, list_any}
 use Rattle.feed_identifiers.specs.Isbn.{isbn_of}
 use Rattle.feed_identifiers.specs.Issn.{issn_of}
@@ -55,9 +55,9 @@ number_of_word word = number_or (issn_of word) (isbn_number (isbn_of word))
 abbrev pub is_number : List ℕ → Bool
 is_number word = is_some (number_of_word word)
 
--- the ISSN of two words of four characters, as a space stands for its hyphen
+-- the ISSN of two words of four characters, as a space stands for its hyphen, or follows it
 abbrev pub spaced_issn : List (List ℕ) → Option (List ℕ)
-spaced_issn (front ∷ back ∷ words) = if (length front == 4) && (length back == 4) then issn_of (front ++ back) else None
+spaced_issn (front ∷ back ∷ words) = if (length back == 4) && ((length front == 4) || (length front == 5)) then issn_of (front ++ back) else None
 spaced_issn _ = None
 
 -- the ISBN of the first words together, as spaces stand for its hyphens; none of them is a number by itself
@@ -80,12 +80,20 @@ first_spaced_isbn words =
     (found_or (isbn_number (spaced_isbn 3 words)) 2
     (found_or (isbn_number (spaced_isbn 2 words)) 1 None)))
 
+-- a word begins with a digit, as each ISBN does
+abbrev pub begins_with_digit : List ℕ → Bool
+begins_with_digit [] = false
+begins_with_digit (b ∷ bytes) = is_ascii_digit b
+
+abbrev pub spaced_number : List ℕ → List (List ℕ) → Option (Number × ℕ)
+spaced_number word words = if begins_with_digit word then first_spaced_isbn (word ∷ words) else None
+
 -- the number at the front of some words: a word, or else an ISSN of two words, or else an ISBN of several words
 abbrev pub first_number : List (List ℕ) → Option (Number × ℕ)
 first_number [] = None
 first_number (word ∷ words) =
     found_or (number_of_word word) 0
-    (found_or (number_or (spaced_issn (word ∷ words)) None) 1 (first_spaced_isbn (word ∷ words)))
+    (found_or (number_or (spaced_issn (word ∷ words)) None) 1 (spaced_number word words))
 
 -- the number that is found goes before others
 abbrev pub number_onto : Option (Number × ℕ) → List Number → List Number

@@ -1,8 +1,8 @@
 //! What a reader looked for: the citation of a query.
 use crate::key::{Key, Tier, after_rft, is_name, mended};
 use crate::links::{bare_pmid_of, doi_of, pmid_of};
-use crate::plain::shown_text;
-use feed_answer::Pair;
+use crate::plain::show;
+use crate::value::Value;
 use feed_identifiers::trim_spaces;
 use std::alloc::{AllocError, Global};
 
@@ -111,8 +111,9 @@ impl<'a> Choice<'a> {
         }
     }
 
-    fn text(&self, alloc: Global) -> Result<String, AllocError> {
-        shown_text(alloc, self.value)
+    // Appends the value as it is shown.
+    fn show(&self, text: &mut String) -> Result<(), AllocError> {
+        show(text, self.value)
     }
 }
 
@@ -165,15 +166,15 @@ impl<'a> Choices<'a> {
         }
     }
 
-    fn offer(&mut self, pair: &'a Pair<'_>) {
-        let value = trim_spaces(pair.value());
-        match Key::of(pair.key()) {
-            Key::Date(tier) => self.date.offer(rank(tier, 0), value),
-            Key::Volume(tier) => self.volume.offer(rank(tier, 0), value),
-            Key::Name(tier) => self.offer_name(rank(tier, 0), value),
+    fn offer(&mut self, value: &Value<'a>) {
+        let text = trim_spaces(value.text);
+        match value.key {
+            Key::Date(tier) => self.date.offer(rank(tier, 0), text),
+            Key::Volume(tier) => self.volume.offer(rank(tier, 0), text),
+            Key::Name(tier) => self.offer_name(rank(tier, 0), text),
             Key::Other => {
-                if let Some((part, tier)) = part_of(pair.key()) {
-                    self.offer_part(part, tier, value);
+                if let Some((part, tier)) = part_of(value.name) {
+                    self.offer_part(part, tier, text);
                 }
             }
             _ => {}
@@ -202,26 +203,40 @@ impl<'a> Choices<'a> {
     }
 
     fn citation(&self, alloc: Global) -> Result<Citation, AllocError> {
-        Ok(Citation {
-            article: self.article.text(alloc)?,
-            title: self.title.text(alloc)?,
-            author: self.author.text(alloc)?,
-            page: self.page.text(alloc)?,
-            issue: self.issue.text(alloc)?,
-            date: self.date.text(alloc)?,
-            volume: self.volume.text(alloc)?,
-            doi: self.doi.text(alloc)?,
-            pmid: self.pmid.text(alloc)?,
-        })
+        let mut citation = Citation::empty(alloc);
+        self.article.show(&mut citation.article)?;
+        self.title.show(&mut citation.title)?;
+        self.author.show(&mut citation.author)?;
+        self.page.show(&mut citation.page)?;
+        self.issue.show(&mut citation.issue)?;
+        self.date.show(&mut citation.date)?;
+        self.volume.show(&mut citation.volume)?;
+        self.doi.show(&mut citation.doi)?;
+        self.pmid.show(&mut citation.pmid)?;
+        Ok(citation)
     }
 }
 
 impl Citation {
+    fn empty(alloc: Global) -> Citation {
+        Citation {
+            article: String::new(alloc),
+            title: String::new(alloc),
+            author: String::new(alloc),
+            page: String::new(alloc),
+            issue: String::new(alloc),
+            date: String::new(alloc),
+            volume: String::new(alloc),
+            doi: String::new(alloc),
+            pmid: String::new(alloc),
+        }
+    }
+
     /// Reads the citation of a query. Of several values of a part, the first of the best key counts.
-    pub(crate) fn of(alloc: Global, pairs: &[Pair<'_>]) -> Result<Citation, AllocError> {
+    pub(crate) fn of(alloc: Global, values: &[Value<'_>]) -> Result<Citation, AllocError> {
         let mut choices = Choices::new();
-        for pair in pairs {
-            choices.offer(pair);
+        for value in values {
+            choices.offer(value);
         }
         choices.citation(alloc)
     }

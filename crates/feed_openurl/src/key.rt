@@ -2,6 +2,9 @@
 //! books), and those of OpenURL 0.1.
 ghost use Rattle.std.specs.Prelude.{◌≡◌, codes, option_copied};
 ghost use Rattle.feed_openurl.specs.Keys.{after_prefix, envelope_key, is_name, mended, referent_key, same_tier};
+ghost use Rattle.feed_openurl.specs.Keys.{without_front};
+
+use feed_identifiers::trim_spaces;
 
 /// Whether a key is one of the referent in OpenURL 1.0, such as `rft.issn`, or the same of OpenURL 0.1, such as `issn`.
 #[derive(Clone, Copy, Debug, PartialEq, Eq)]
@@ -58,10 +61,10 @@ pub(crate) fn after<'a>(text: &'a [u8], prefix: &str) -> Option<&'a [u8]>
     }
 }
 
-/// Returns a key without what a page or a proxy leaves before it: `?` of a base address that has one already, or `amp;`
-/// of an ampersand that was escaped for HTML.
-pub(crate) fn mended(key: &[u8]) -> &[u8]
-    ensures { result.now ≡ mended key.now }
+// A key without what a page or a proxy leaves before it: `?` of a base address that has one already, or `amp;` of an
+// ampersand that was escaped for HTML.
+fn without_front(key: &[u8]) -> &[u8]
+    ensures { result.now ≡ without_front key.now }
 {
     match after(key, "?") {
         Some(rest) => rest,
@@ -70,6 +73,13 @@ pub(crate) fn mended(key: &[u8]) -> &[u8]
             None => key,
         },
     }
+}
+
+/// Returns a key without spaces at its ends, and without up to two of what a page or a proxy leaves before it.
+pub(crate) fn mended(key: &[u8]) -> &[u8]
+    ensures { result.now ≡ mended key.now }
+{
+    without_front(without_front(trim_spaces(key)))
 }
 
 /// Returns the rest of a key after `rft.` in any case.

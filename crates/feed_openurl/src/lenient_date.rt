@@ -1,11 +1,13 @@
 //! The first date in a value that is no date of the core.
 ghost use Rattle.std.specs.Prelude.{◌≡◌, ◌≤◌, IfOk, filter, length};
+ghost use Rattle.std.specs.List.{list_any};
 ghost use Rattle.feed_openurl.specs.Fronts.{front_len};
 ghost use Rattle.feed_openurl.specs.Dates.{date_after_year, date_among, date_of_part, date_with_year_last, day_after};
+ghost use Rattle.feed_openurl.specs.Dates.{date_in_month};
 ghost use Rattle.feed_openurl.specs.Dates.{day_behind, numbered};
-ghost use Rattle.feed_openurl.specs.Dates.{first_year, is_between, is_month};
-ghost use Rattle.feed_openurl.specs.Dates.{is_no_semicolon, is_single, is_small, lenient_date};
-ghost use Rattle.feed_openurl.specs.Dates.{named_date, named_month, numeric_date};
+ghost use Rattle.feed_openurl.specs.Dates.{first_year, has_year, is_before, is_between, is_month};
+ghost use Rattle.feed_openurl.specs.Dates.{is_no_semicolon, is_season, is_single, is_small, lenient_date};
+ghost use Rattle.feed_openurl.specs.Dates.{named_date, named_month, numeric_date, pass_a_year};
 ghost use Rattle.feed_openurl.specs.Dates.{plausible, year_first_of, year_last, year_of};
 
 use crate::date::DateText;
@@ -129,14 +131,59 @@ fn is_single(tokens: &[Token]) -> bool
     count_of_small(tokens) == 1 && count_of_months(tokens) == 1
 }
 
+// Whether a month before this one is named.
+fn has_month_before(tokens: &[Token], month: u8) -> bool
+    ensures { result ≡ list_any (is_before month) tokens.now }
+{
+    for token in tokens {
+        if let Token::Month(other) = token {
+            if *other < month {
+                return true;
+            }
+        }
+    }
+    false
+}
+
+// How many years there are.
+fn count_of_years(tokens: &[Token]) -> usize
+    ensures { result ≡ length (filter has_year tokens.now) }
+{
+    let mut count = 0;
+    for token in tokens {
+        if year_of(*token).is_some() {
+            count += 1;
+        }
+    }
+    count
+}
+
+// Whether the months pass the end of a year of which only one is named, as in `Dec-Jan 2006`.
+fn pass_a_year(tokens: &[Token], month: u8) -> bool
+    ensures { result ≡ pass_a_year tokens.now month }
+{
+    has_month_before(tokens, month) && count_of_years(tokens) == 1
+}
+
 // The date of a year and a month that is named. The only small number beside the only month is the day.
-fn named_date(tokens: &[Token], year: [u8; 4], month: u8, day: u8) -> Option<DateText>
-    ensures { result ≡ named_date tokens.now year (month, day) }
+fn date_in_month(tokens: &[Token], year: [u8; 4], month: u8, day: u8) -> Option<DateText>
+    ensures { result ≡ date_in_month tokens.now year (month, day) }
 {
     if is_single(tokens) {
         DateText::of_parts(year, month, day)
     } else {
         DateText::of_parts(year, month, 0)
+    }
+}
+
+// The date of a year and the first month that is named.
+fn named_date(tokens: &[Token], year: [u8; 4], month: u8, day: u8) -> Option<DateText>
+    ensures { result ≡ named_date tokens.now year (month, day) }
+{
+    if pass_a_year(tokens, month) {
+        DateText::of_parts(year, 0, 0)
+    } else {
+        date_in_month(tokens, year, month, day)
     }
 }
 
@@ -235,6 +282,18 @@ fn numeric_date(tokens: &[Token]) -> Option<DateText>
     None
 }
 
+// Whether a season is named.
+fn has_season(tokens: &[Token]) -> bool
+    ensures { result ≡ list_any is_season tokens.now }
+{
+    for token in tokens {
+        if let Token::Season = token {
+            return true;
+        }
+    }
+    false
+}
+
 // The first date among the tokens of a part of a value.
 fn date_among(tokens: &[Token]) -> Option<DateText>
     ensures { result ≡ date_among tokens.now }
@@ -242,7 +301,13 @@ fn date_among(tokens: &[Token]) -> Option<DateText>
     let year = first_year(tokens)?;
     match named_month(tokens) {
         Some((month, day)) => named_date(tokens, year, month, day),
-        None => numeric_date(tokens),
+        None => {
+            if has_season(tokens) {
+                DateText::of_parts(year, 0, 0)
+            } else {
+                numeric_date(tokens)
+            }
+        }
     }
 }
 

@@ -68,7 +68,7 @@ pub(crate) fn doi_of(value: &[u8]) -> Option<&[u8]> {
 
 /// Returns the PMID of a value that says that it is one: one to nine digits.
 pub(crate) fn pmid_of(value: &[u8]) -> Option<&[u8]> {
-    number_of_pmid(after_one(trim_spaces(value), &PMID)?)
+    number_of_pmid(trim_spaces(after_one(trim_spaces(value), &PMID)?))
 }
 
 /// Returns a PMID without a prefix or with one.

@@ -1,7 +1,7 @@
 //! An ISSN or an ISBN at the front of some words.
 ghost use Rattle.std.specs.Prelude.{◌≡◌, ◌∷◌, [], IfOk};
 ghost use Rattle.std.specs.List.{concat, list_any};
-ghost use Rattle.feed_openurl.specs.Numbers.{first_number, first_spaced_isbn, is_number};
+ghost use Rattle.feed_openurl.specs.Numbers.{begins_with_digit, first_number, first_spaced_isbn, is_number};
 ghost use Rattle.feed_openurl.specs.Numbers.{isbn_of_words, number_of_word, spaced_isbn, spaced_issn};
 
 use crate::words::Word;
@@ -46,7 +46,7 @@ fn has_number(words: &[Word]) -> bool
     false
 }
 
-// The ISSN of the first two words, as a space stands for its hyphen.
+// The ISSN of the first two words, as a space stands for its hyphen, or follows it.
 fn spaced_issn(words: &[Word]) -> Option<Issn>
     ensures { result ≡ spaced_issn words.now }
 {
@@ -59,9 +59,10 @@ fn spaced_issn(words: &[Word]) -> Option<Issn>
 fn spaced_issn_of(front: &[u8], back: &[u8]) -> Option<Issn>
     ensures { result ≡ spaced_issn (front.now ∷ back.now ∷ []) }
 {
-    match front {
-        [a, b, c, d] => match back {
-            [e, f, g, h] => Issn::parse(&[*a, *b, *c, *d, *e, *f, *g, *h]),
+    match back {
+        [e, f, g, h] => match front {
+            [a, b, c, d] => Issn::parse(&[*a, *b, *c, *d, *e, *f, *g, *h]),
+            [a, b, c, d, i] => Issn::parse(&[*a, *b, *c, *d, *i, *e, *f, *g, *h]),
             _ => None,
         },
         _ => None,
@@ -120,6 +121,16 @@ fn first_spaced_isbn(alloc: Global, words: &[Word]) -> Result<Option<(Number, us
     }
 }
 
+// Whether a word begins with a digit, as each ISBN does.
+fn begins_with_digit(word: &[u8]) -> bool
+    ensures { result ≡ begins_with_digit word.now }
+{
+    match word.first() {
+        Some(first) => first.is_ascii_digit(),
+        None => false,
+    }
+}
+
 /// Returns the number at the front of some words, and how many words after the first it takes.
 pub(crate) fn first_number(
     alloc: Global,
@@ -135,6 +146,9 @@ pub(crate) fn first_number(
     }
     if let Some(issn) = spaced_issn(words) {
         return Ok(Some((Number::Issn(issn), 1)));
+    }
+    if !begins_with_digit(first.text()) {
+        return Ok(None);
     }
     first_spaced_isbn(alloc, words)
 }

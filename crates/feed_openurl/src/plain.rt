@@ -146,20 +146,38 @@ fn push_shown(text: &mut String, c: char) -> Result<(), AllocError> {
     }
 }
 
-/// Returns a value as a citation shows it.
-pub(crate) fn shown_text(alloc: Global, value: &[u8]) -> Result<String, AllocError> {
-    let mut shown = String::new(alloc);
+// Whether a value is shown as it is: printable ASCII, with no space at its front.
+fn is_shown_as_is(value: &[u8]) -> bool {
+    match value.first() {
+        Some(b' ') => false,
+        _ => value.iter().all(|byte| (0x20..0x7F).contains(byte)),
+    }
+}
+
+fn push_chars(shown: &mut String, text: &str) -> Result<(), AllocError> {
+    for c in text.chars() {
+        push_shown(shown, c)?;
+    }
+    Ok(())
+}
+
+fn push_bytes(shown: &mut String, value: &[u8]) -> Result<(), AllocError> {
+    for byte in value {
+        push_shown(shown, windows_1252(*byte))?;
+    }
+    Ok(())
+}
+
+/// Appends a value as a citation shows it.
+pub(crate) fn show(shown: &mut String, value: &[u8]) -> Result<(), AllocError> {
     match str::from_utf8(value) {
         Ok(text) => {
-            for c in text.chars() {
-                push_shown(&mut shown, c)?;
+            if is_shown_as_is(value) {
+                shown.push_str(text)
+            } else {
+                push_chars(shown, text)
             }
         }
-        Err(_) => {
-            for byte in value {
-                push_shown(&mut shown, windows_1252(*byte))?;
-            }
-        }
+        Err(_) => push_bytes(shown, value),
     }
-    Ok(shown)
 }

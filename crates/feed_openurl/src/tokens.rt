@@ -2,8 +2,8 @@
 ghost use Rattle.std.specs.Prelude.{◌≡◌, ◌++◌, ◌∷◌, ℕ, List, [], IfOk, OnOk};
 ghost use Rattle.std.specs.List.{cons_option};
 ghost use Rattle.feed_openurl.specs.Dates.{is_one, is_ordinal, joins};
-ghost use Rattle.feed_openurl.specs.Dates.{late_month_of, month_of, month_token, number_of_two};
-ghost use Rattle.feed_openurl.specs.Dates.{number_token, token_of, tokens_from};
+ghost use Rattle.feed_openurl.specs.Dates.{late_month_of, month_of, names_season, number_of_two};
+ghost use Rattle.feed_openurl.specs.Dates.{number_token, token_of, tokens_from, word_token};
 
 use crate::digits::is_letter;
 use crate::key::is_name;
@@ -20,6 +20,8 @@ pub(crate) enum Token {
     Packed([u8; 4], u8, u8),
     /// The name of a month, 1 to 12.
     Month(u8),
+    /// The name of a season.
+    Season,
     /// Any other run of letters or of digits.
     Word,
     /// Another byte. Spaces are none.
@@ -106,12 +108,29 @@ fn number_token(digits: &[u8]) -> Token
     }
 }
 
-fn month_token(word: &[u8]) -> Token
-    ensures { result ≡ month_token (month_of word.now) }
+// Whether a word names a season: its name in English, or the first three letters of it.
+fn names_season(word: &[u8]) -> bool
+    ensures { result ≡ names_season word.now }
+{
+    is_one(word, "spr", "spring")
+        || is_one(word, "sum", "summer")
+        || is_one(word, "aut", "autumn")
+        || is_one(word, "fal", "fall")
+        || is_one(word, "win", "winter")
+}
+
+fn word_token(word: &[u8]) -> Token
+    ensures { result ≡ word_token word.now (month_of word.now) }
 {
     match month_of(word) {
         Some(month) => Token::Month(month),
-        None => Token::Word,
+        None => {
+            if names_season(word) {
+                Token::Season
+            } else {
+                Token::Word
+            }
+        }
     }
 }
 
@@ -126,7 +145,7 @@ fn token_of(run: &[u8]) -> Option<Token>
         if is_ordinal(run) {
             None
         } else {
-            Some(month_token(run))
+            Some(word_token(run))
         }
     } else if first > 32 {
         Some(Token::Mark(first))
