@@ -4,3 +4,4 @@ pub mod Valid
 pub mod Written
 pub mod Parts
 pub mod Plains
+pub mod Shows

@@ -1,7 +1,7 @@
 //! The keys of a query that nobody reads.
 use crate::citation::is_cited;
 use crate::key::Key;
-use crate::plain::shown_text;
+use crate::shown::shown_text;
 use feed_answer::{Pair, decode_pairs};
 use std::alloc::{AllocError, Global};
 
