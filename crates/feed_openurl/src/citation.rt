@@ -284,7 +284,10 @@ impl<'a> Choice<'a> {
     fn new() -> Choice<'a>
         ensures { result ≡ no_choice }
     {
-        Choice { rank: 0, value: &[] }
+        Choice {
+            rank: 0,
+            value: &[],
+        }
     }
 
     // Replaces the value by one of an earlier rank, unless that is empty.

@@ -18,7 +18,7 @@ ghost use Rattle.feed_resolver.specs.Replies.{IsResponse, IsResponseAt, hits_rep
 ghost use Rattle.feed_resolver.specs.Replies.{package_reply, redirect_reply, resource_reply, target_reply};
 ghost use Rattle.feed_resolver.specs.Replies.{method_refusal, plain_reply, form_refusal, form_reply};
 ghost use Rattle.feed_resolver.specs.Replies.{reply_to, response_to};
-ghost use Rattle.feed_resolver.specs.Validators.{final_reply};
+ghost use Rattle.feed_resolver.specs.Validators.{unless_preflight};
 ghost use Rattle.feed_resolver.specs.Messages.{IsMessageTo};
 ghost use Rattle.feed_resolver.specs.Status.{home_page, status_body};
 
@@ -128,7 +128,14 @@ fn redirect_reply<'a>(
 {
     match best_link(alloc, actives, query)? {
         Some(url) => Ok(Reply::redirect(alloc, url)),
-        None => hits_reply(alloc, Status::NotFound, representation, text, actives, query),
+        None => hits_reply(
+            alloc,
+            Status::NotFound,
+            representation,
+            text,
+            actives,
+            query,
+        ),
     }
 }
 
@@ -226,10 +233,7 @@ fn plain_reply<'a>(
         → reply ≡ plain_reply head actives.now) }
 {
     if is_unsupported_method(request.method()) {
-        return method_refusal(
-            alloc,
-            resource_of(path_in(origin_form(request.target()))),
-        );
+        return method_refusal(alloc, resource_of(path_in(origin_form(request.target()))));
     }
     if !(request.is_get() || request.is_head()) {
         return refusal(
@@ -300,21 +304,14 @@ pub(crate) fn reply_to<'a>(
     }
 }
 
-fn final_reply<'a>(
-    alloc: Global,
-    request: &Request<'_>,
-    body: &[u8],
-    tag: Vec<u8>,
-    max_age: u32,
-    actives: &[ActiveRelease<'a>],
-) -> Result<Reply<'a>, AllocError>
+// Returns the reply, or that to a preflight.
+fn unless_preflight<'a>(alloc: Global, request: &Request<'_>, reply: Reply<'a>) -> Reply<'a>
     requires { IsInBuffer request.now }
-    ensures { IfOk result (λ reply. (head : RequestHead) → HasHead request.now head
-        → reply ≡ final_reply head tag.items max_age (reply_to head body.now actives.now)) }
+    ensures { (head : RequestHead) → HasHead request.now head → result ≡ unless_preflight head reply.entry }
 {
     match preflight_status(request) {
-        Some(status) => Ok(Reply::new(status, Representation::Text, Vec::new(alloc))),
-        None => validated_reply(alloc, request, body, tag, max_age, actives),
+        Some(status) => Reply::new(status, Representation::Text, Vec::new(alloc)),
+        None => reply,
     }
 }
 
@@ -333,8 +330,9 @@ pub(crate) fn response_to(
         → IsMessageFor keeps (is_head head) response) }
 {
     let tag = tag_to(alloc, request, site, actives)?;
-    let reply = final_reply(alloc, request, body, tag, site.max_age(), actives)?;
-    reply.response(alloc, keeps, request.is_head())
+    let reply = validated_reply(alloc, request, body, tag, site.max_age(), actives)?;
+    let last = unless_preflight(alloc, request, reply);
+    last.response(alloc, keeps, request.is_head())
 }
 
 /// Returns the reply to the head at the front of the bytes, from the given releases. The reply says

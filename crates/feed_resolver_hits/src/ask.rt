@@ -39,11 +39,7 @@ fn query_text(alloc: Global, understood: &Understanding) -> Result<Vec<u8>, Allo
     }
 }
 
-fn ask_by(
-    alloc: Global,
-    citation: Citation,
-    understood: &Understanding,
-) -> Result<Ask, AllocError>
+fn ask_by(alloc: Global, citation: Citation, understood: &Understanding) -> Result<Ask, AllocError>
     ensures { IfOk result (λ ask. ask ≡ ask_by citation.entry understood.now) }
 {
     Ok(Ask {

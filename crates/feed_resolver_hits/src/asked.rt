@@ -29,10 +29,7 @@ fn read_back(alloc: Global, text: &[u8]) -> Result<Result<Query, Refusal>, Alloc
     }
 }
 
-fn asked_by(
-    alloc: Global,
-    understood: &Understanding,
-) -> Result<Result<Query, Refusal>, AllocError>
+fn asked_by(alloc: Global, understood: &Understanding) -> Result<Result<Query, Refusal>, AllocError>
     ensures { IfOk result (λ asked. asked ≡ asked_by understood.now) }
 {
     match understood.refusal() {

@@ -10,12 +10,7 @@ use std::alloc::AllocError;
 
 // Writes a text of the citation, if there is one.
 #[tactic(auto, unfolding(crate::specs::CitationPage::cited_row))]
-fn put_cited(
-    out: &mut Vec<u8>,
-    label: &[u8],
-    text: &[u8],
-    note: &[u8],
-) -> Result<(), AllocError>
+fn put_cited(out: &mut Vec<u8>, label: &[u8], text: &[u8], note: &[u8]) -> Result<(), AllocError>
     ensures { OnOk result (out.new.items ≡ out.old.items ++ cited_row label.now text.now note.now) }
 {
     if text.is_empty() {
@@ -60,12 +55,7 @@ fn is_plain(byte: u8) -> bool
 }
 
 #[tactic(auto, unfolding(crate::specs::CitationPage::link_row))]
-fn put_link(
-    out: &mut Vec<u8>,
-    label: &[u8],
-    front: &[u8],
-    text: &[u8],
-) -> Result<(), AllocError>
+fn put_link(out: &mut Vec<u8>, label: &[u8], front: &[u8], text: &[u8]) -> Result<(), AllocError>
     ensures { OnOk result (out.new.items ≡ out.old.items ++ link_row label.now front.now text.now) }
 {
     put_all(
@@ -84,12 +74,7 @@ fn put_link(
 }
 
 // Writes a name, as a link to the address that ends in it if it needs no encoding there.
-fn put_name(
-    out: &mut Vec<u8>,
-    label: &[u8],
-    front: &[u8],
-    text: &[u8],
-) -> Result<(), AllocError>
+fn put_name(out: &mut Vec<u8>, label: &[u8], front: &[u8], text: &[u8]) -> Result<(), AllocError>
     ensures { OnOk result (out.new.items ≡ out.old.items ++ name_row label.now front.now text.now) }
 {
     if text.is_empty() {
@@ -127,12 +112,7 @@ fn put_names(out: &mut Vec<u8>, citation: &Citation) -> Result<(), AllocError>
     ensures { OnOk result (out.new.items ≡ out.old.items ++ name_rows citation.now) }
 {
     put_cited(out, b"Page", citation.page.as_bytes(), b"")?;
-    put_name(
-        out,
-        b"DOI",
-        b"https://doi.org/",
-        citation.doi.as_bytes(),
-    )?;
+    put_name(out, b"DOI", b"https://doi.org/", citation.doi.as_bytes())?;
     put_name(
         out,
         b"PubMed",

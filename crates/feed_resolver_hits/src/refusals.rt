@@ -16,7 +16,10 @@ use feed_resolver_reply::{
 use feed_resolver_request::Representation;
 use std::alloc::{AllocError, Global};
 
-const NOTHING: &[u8] = b"<p>The query has no ISSN and no ISBN with its check character, so no holdings were looked up.</p>\n";
+// What a page says if nothing is looked up.
+const NOTHING: &[u8] =
+    b"<p>The query has no ISSN and no ISBN with its check character, so no holdings were looked \
+    up.</p>\n";
 
 fn reason_text(reason: Refusal) -> &'static [u8]
     ensures { result.now ≡ reason_text reason }
@@ -45,12 +48,7 @@ fn put_nothing(out: &mut Vec<u8>, ask: &Ask) -> Result<(), AllocError>
 }
 
 #[tactic(auto, unfolding(crate::specs::QueryRefusals::numberless_body))]
-fn put_page(
-    out: &mut Vec<u8>,
-    named: bool,
-    ask: &Ask,
-    reason: Refusal,
-) -> Result<(), AllocError>
+fn put_page(out: &mut Vec<u8>, named: bool, ask: &Ask, reason: Refusal) -> Result<(), AllocError>
     ensures { OnOk result (out.new.items ≡ out.old.items ++ numberless_body named representation.Html ask.now reason) }
 {
     put_page_start(out, b"Nothing to look up")?;
@@ -74,12 +72,7 @@ fn put_text(out: &mut Vec<u8>, ask: &Ask, reason: Refusal) -> Result<(), AllocEr
 }
 
 #[tactic(auto, unfolding(crate::specs::QueryRefusals::numberless_body))]
-fn put_json(
-    alloc: Global,
-    out: &mut Vec<u8>,
-    ask: &Ask,
-    reason: Refusal,
-) -> Result<(), AllocError>
+fn put_json(alloc: Global, out: &mut Vec<u8>, ask: &Ask, reason: Refusal) -> Result<(), AllocError>
     ensures { OnOk result (out.new.items
         ≡ out.old.items ++ numberless_body true representation.Json ask.now reason) }
 {
@@ -139,5 +132,10 @@ pub fn unasked_reply(
         let named = names_work(&ask.citation);
         return numberless_reply(alloc, status, representation, ask, reason, named);
     }
-    refusal(alloc, Status::BadRequest, representation, reason_text(reason))
+    refusal(
+        alloc,
+        Status::BadRequest,
+        representation,
+        reason_text(reason),
+    )
 }
