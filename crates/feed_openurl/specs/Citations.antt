@@ -1,10 +1,11 @@
 -- The citation of a query: of each part, the first value of the best key (Z39.88-2004, the matrices of journals and books;
 -- OpenURL 0.1).
-use Rattle.std.specs.Prelude.{ℕ, Bool, ◌||◌, ◌==◌, ◌+◌, nat_lt, List, [], Option, Some, None, if◌then◌else◌, option_map, fold, take, codes, position}
-use Rattle.std.specs.Option.{option_and_then, option_map_or}
+use Rattle.std.specs.Prelude.{ℕ, Bool, ◌||◌, ◌&&◌, not, ◌==◌, ◌+◌, nat_lt, List, [], Option, Some, None, if◌then◌else◌, option_map, fold, take, codes}
+use Rattle.std.specs.Option.{option_and_then}
 use Rattle.form_urlencoded.specs.Form as form
 use Rattle.feed_identifiers.specs.Text.{trimmed}
 use Rattle.feed_answer.specs.Pairs.{is_empty}
+use Rattle.feed_openurl.specs.Fronts.{front_len}
 use Rattle.feed_openurl.specs.Keys.{after_prefix, is_name, key_of, mended}
 use Rattle.feed_openurl.specs.Links.{bare_pmid_of, doi_of, pmid_of}
 use Rattle.feed_openurl.specs.Shown.{shown}
@@ -81,12 +82,12 @@ named_after None name = named Old name
 abbrev pub part_of : List ℕ → Option (Part × ℕ)
 part_of key = named_after (after_prefix (codes "rft.") (mended key)) (mended key)
 
--- a byte behind the first page of a range, as in `10-15`
-abbrev pub ends_page : ℕ → Bool
-ends_page b = (b == 45) || (b == 44) || (b == 32)
+-- a byte of the first page of a range: none of those behind it, as in `10-15`
+abbrev pub is_in_page : ℕ → Bool
+is_in_page b = not (b == 45) && not (b == 44) && not (b == 32)
 
 abbrev pub first_page : List ℕ → List ℕ
-first_page pages = option_map_or (λ end. take end pages) (position ends_page pages) pages
+first_page pages = take (front_len is_in_page pages) pages
 
 -- what a value says of a part
 abbrev pub value_for : Part → List ℕ → Option (List ℕ)

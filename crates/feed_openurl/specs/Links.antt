@@ -61,9 +61,11 @@ without_slash text =
     if bytes_eq (drop (length text - 1) text) (codes "/") then take (length text - 1) text else text
 
 -- one to nine digits
+abbrev pub is_pmid : List ℕ → Bool
+is_pmid number = not (is_empty number) && nat_lt (length number) 10 && list_all is_ascii_digit number
+
 abbrev pub only_pmid : List ℕ → Option (List ℕ)
-only_pmid number =
-    if not (is_empty number) && nat_lt (length number) 10 && list_all is_ascii_digit number then Some number else None
+only_pmid number = if is_pmid number then Some number else None
 
 abbrev pub only_pmid_in : Option (List ℕ) → Option (List ℕ)
 only_pmid_in (Some text) = only_pmid (without_slash text)

@@ -1,6 +1,5 @@
 -- A value as a citation shows it: its characters without controls, and without marks that turn the direction of reading.
-use Rattle.std.specs.Prelude.{ℕ, Bool, ◌||◌, ◌&&◌, ◌==◌, ◌-◌, ◌++◌, nat_lt, List, [], Option, Some, None, if◌then◌else◌, fold, slice_get}
-use Rattle.std.specs.Option.{option_map_or}
+use Rattle.std.specs.Prelude.{ℕ, Bool, ◌||◌, ◌&&◌, ◌==◌, ◌-◌, ◌++◌, nat_lt, nat_le, List, [], Option, Some, None, if◌then◌else◌, fold, slice_index}
 use Rattle.std.specs.Char.{encode_utf8}
 use Rattle.std.specs.Str.{chars, is_utf8}
 use Rattle.feed_answer.specs.Pairs.{is_empty}
@@ -29,7 +28,7 @@ with_char text c = with_shown text (shown_char c)
 
 -- the character of a byte in Windows-1252 (WHATWG Encoding, section 9)
 abbrev pub windows_1252 : ℕ → ℕ
-windows_1252 b = if nat_lt b 128 then b else option_map_or (λ c. c) (slice_get UPPER (b - 128)) b
+windows_1252 b = if nat_lt b 128 || nat_le 160 b then b else slice_index UPPER (b - 128)
 
 abbrev pub with_byte : List ℕ → ℕ → List ℕ
 with_byte text b = with_char text (windows_1252 b)

@@ -1,6 +1,7 @@
 //! What a reader looked for: the citation of a query.
-ghost use Rattle.std.specs.Prelude.{◌≡◌, option_copied};
-ghost use Rattle.feed_openurl.specs.Citations.{ends_page, first_page, name_offer, named, number_part, offer_by};
+ghost use Rattle.std.specs.Prelude.{◌≡◌, ◌≤◌, length, option_copied};
+ghost use Rattle.feed_openurl.specs.Fronts.{front_len};
+ghost use Rattle.feed_openurl.specs.Citations.{is_in_page, first_page, name_offer, named, number_part, offer_by};
 ghost use Rattle.feed_openurl.specs.Citations.{offer_of, part_of, part_offer, place_of, rank, taken, title_part};
 ghost use Rattle.feed_openurl.specs.Citations.{value_for};
 
@@ -159,20 +160,30 @@ pub(crate) fn is_cited(key: &[u8]) -> bool {
     part_of(key).is_some()
 }
 
-fn ends_page(byte: u8) -> bool
-    ensures { result ≡ ends_page byte }
+fn is_in_page(byte: u8) -> bool
+    ensures { result ≡ is_in_page byte }
 {
-    byte == b'-' || byte == b',' || byte == b' '
+    byte != b'-' && byte != b',' && byte != b' '
+}
+
+// How many bytes the first of some pages has.
+fn page_len(pages: &[u8]) -> usize
+    ensures value { result ≡ front_len is_in_page pages.now }
+    ensures bound { result ≤ length pages.now }
+{
+    for place in 0..pages.len() {
+        if !is_in_page(pages[place]) {
+            return place;
+        }
+    }
+    pages.len()
 }
 
 // The first of some pages, as `10-15`.
 fn first_page(pages: &[u8]) -> &[u8]
     ensures { result.now ≡ first_page pages.now }
 {
-    match pages.iter().position(|byte| ends_page(*byte)) {
-        Some(end) => &pages[..end],
-        None => pages,
-    }
+    &pages[..page_len(pages)]
 }
 
 // What a value says of a part.

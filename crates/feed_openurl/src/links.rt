@@ -1,10 +1,12 @@
 //! Names of an article or a serial that are written as URIs: DOIs, PMIDs, `urn:ISSN:`, `urn:ISBN:`.
 ghost use Rattle.std.specs.Prelude.{◌≡◌, ◌≤◌, length, option_copied};
+ghost use Rattle.std.specs.Char.{is_ascii_digit};
+ghost use Rattle.std.specs.List.{list_all};
 ghost use Rattle.feed_openurl.specs.Fronts.{front_len};
 ghost use Rattle.feed_openurl.specs.Identifiers.{after_portal, after_urn, host_of, number_in};
 ghost use Rattle.feed_openurl.specs.Links.{after_doi_host, after_doi_name, after_pmid, after_pmid_host, after_pmid_name};
 ghost use Rattle.feed_openurl.specs.Links.{bare_pmid_of, begins_suffix, doi_of, is_doi, is_registered, is_registrant};
-ghost use Rattle.feed_openurl.specs.Links.{only_pmid, pmid_of, without_doi, without_slash};
+ghost use Rattle.feed_openurl.specs.Links.{is_pmid, only_pmid, pmid_of, without_doi, without_slash};
 
 use crate::key::after;
 use feed_identifiers::trim_spaces;
@@ -115,15 +117,23 @@ fn without_slash(text: &[u8]) -> &[u8]
     }
 }
 
-// One to nine digits.
+fn are_digits(bytes: &[u8]) -> bool
+    ensures { result ≡ list_all is_ascii_digit bytes.now }
+{
+    bytes.iter().all(|byte| byte.is_ascii_digit())
+}
+
+// Whether a number has one to nine digits.
+fn is_pmid(number: &[u8]) -> bool
+    ensures { result ≡ is_pmid number.now }
+{
+    !number.is_empty() && number.len() < 10 && are_digits(number)
+}
+
 fn only_pmid(number: &[u8]) -> Option<&[u8]>
     ensures { option_copied result ≡ only_pmid number.now }
 {
-    if !number.is_empty() && number.len() < 10 && number.iter().all(|byte| byte.is_ascii_digit()) {
-        Some(number)
-    } else {
-        None
-    }
+    if is_pmid(number) { Some(number) } else { None }
 }
 
 // The rest of a name after the name of a scheme of PubMed.

@@ -18,13 +18,10 @@ const UPPER: [char; 32] = [
 fn windows_1252(byte: u8) -> char
     ensures { result ≡ windows_1252 byte }
 {
-    if byte < 128 {
+    if byte < 128 || byte >= 160 {
         return char::from(byte);
     }
-    match UPPER.get(usize::from(byte - 128)) {
-        Some(c) => *c,
-        None => char::from(byte),
-    }
+    UPPER[usize::from(byte - 128)]
 }
 
 // Whether a character is a control, or ends a line or a paragraph.
