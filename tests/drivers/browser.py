@@ -64,6 +64,8 @@ def fill(browser, values):
     for field, text in values:
         browser.write(browser.found(f"input[name='{field}']")[0], text)
     browser.click(browser.found("form [type=submit]")[0])
+    while browser.found("form"):
+        time.sleep(0.05)
     print("page:", browser.asked("GET", "/title"))
     print("cited:", "; ".join(browser.text(it) for it in browser.found("dd")))
     for row in browser.found("tbody tr"):

@@ -31,7 +31,7 @@ link_row label front text = joined (
     codes "<dt>" ∷ label ∷ codes "</dt><dd><a href=\"" ∷ front ∷ escaped text ∷ codes "\">" ∷ escaped text ∷ codes "</a></dd>\n" ∷ [])
 
 -- a name that an address has at its end: a link if it needs no encoding there
-abbrev pub name_row : List ℕ → List ℕ → List ℕ → List ℕ
+unfoldable pub name_row : List ℕ → List ℕ → List ℕ → List ℕ
 name_row label front text =
     if is_empty text then [] else if list_all is_plain text then link_row label front text else cited_row label text []
 
@@ -47,12 +47,18 @@ place_rows ask =
     cited_row (codes "Date") ask.citation.date (unread_note ask.has_date)
     ++ (cited_row (codes "Volume") ask.citation.volume (unread_note ask.has_volume) ++ cited_row (codes "Issue") ask.citation.issue [])
 
+-- a DOI, and a number in PubMed
+unfoldable pub doi_row : List ℕ → List ℕ
+doi_row doi = name_row (codes "DOI") (codes "https://doi.org/") doi
+
+unfoldable pub pmid_row : List ℕ → List ℕ
+pmid_row pmid = name_row (codes "PubMed") (codes "https://pubmed.ncbi.nlm.nih.gov/") pmid
+
 -- its page and its names
 unfoldable pub name_rows : CitationValue → List ℕ
 name_rows citation =
     cited_row (codes "Page") citation.page []
-    ++ (name_row (codes "DOI") (codes "https://doi.org/") citation.doi
-    ++ name_row (codes "PubMed") (codes "https://pubmed.ncbi.nlm.nih.gov/") citation.pmid)
+    ++ (doi_row citation.doi ++ pmid_row citation.pmid)
 
 unfoldable pub citation_rows : AskValue → List ℕ
 citation_rows ask = work_rows ask.citation ++ (place_rows ask ++ name_rows ask.citation)

@@ -53,7 +53,7 @@ fn put_citation_back(out: &mut Vec<u8>, citation: &Citation) -> Result<(), Alloc
 }
 
 #[tactic(auto, unfolding(crate::specs::AnswerJson::query_members))]
-fn put_query(out: &mut Vec<u8>, query: &[u8], refused: &[u8]) -> Result<(), AllocError>
+fn put_query<'a>(out: &mut Vec<u8>, query: &'a [u8], refused: &'a [u8]) -> Result<(), AllocError>
     ensures { OnOk result (out.new.items ≡ out.old.items ++ query_members query.now refused.now) }
 {
     put_all(

@@ -40,7 +40,7 @@ fn query_text(alloc: Global, understood: &Understanding) -> Result<Vec<u8>, Allo
 }
 
 fn ask_by(alloc: Global, citation: Citation, understood: &Understanding) -> Result<Ask, AllocError>
-    ensures { IfOk result (λ ask. ask ≡ ask_by citation.entry understood.now) }
+    ensures { IfOk result (λ ask. ask ≡ ask_by citation understood.now) }
 {
     Ok(Ask {
         citation,

@@ -1,6 +1,8 @@
 //! Writes the citation of a query in a page, with links to what has a DOI or a PMID.
 ghost use Rattle.std.specs.Prelude.{◌≡◌, ◌++◌, OnOk};
+ghost use Rattle.std.specs.List.{list_all};
 ghost use Rattle.feed_resolver_hits.specs.CitationPage.{cited_row, unread_note, is_mark, is_plain, link_row, name_row};
+ghost use Rattle.feed_resolver_hits.specs.CitationPage.{doi_row, pmid_row};
 ghost use Rattle.feed_resolver_hits.specs.CitationPage.{work_rows, place_rows, name_rows, citation_rows, citation_part};
 
 use crate::ask::{Ask, is_blank};
@@ -10,7 +12,12 @@ use std::alloc::AllocError;
 
 // Writes a text of the citation, if there is one.
 #[tactic(auto, unfolding(crate::specs::CitationPage::cited_row))]
-fn put_cited(out: &mut Vec<u8>, label: &[u8], text: &[u8], note: &[u8]) -> Result<(), AllocError>
+fn put_cited<'a>(
+    out: &mut Vec<u8>,
+    label: &'a [u8],
+    text: &'a [u8],
+    note: &'a [u8],
+) -> Result<(), AllocError>
     ensures { OnOk result (out.new.items ≡ out.old.items ++ cited_row label.now text.now note.now) }
 {
     if text.is_empty() {
@@ -54,8 +61,19 @@ fn is_plain(byte: u8) -> bool
     byte.is_ascii_alphanumeric() || is_mark(byte)
 }
 
+fn is_all_plain(text: &[u8]) -> bool
+    ensures { result ≡ list_all is_plain text.now }
+{
+    text.iter().all(|byte| is_plain(*byte))
+}
+
 #[tactic(auto, unfolding(crate::specs::CitationPage::link_row))]
-fn put_link(out: &mut Vec<u8>, label: &[u8], front: &[u8], text: &[u8]) -> Result<(), AllocError>
+fn put_link<'a>(
+    out: &mut Vec<u8>,
+    label: &'a [u8],
+    front: &'a [u8],
+    text: &'a [u8],
+) -> Result<(), AllocError>
     ensures { OnOk result (out.new.items ≡ out.old.items ++ link_row label.now front.now text.now) }
 {
     put_all(
@@ -74,13 +92,19 @@ fn put_link(out: &mut Vec<u8>, label: &[u8], front: &[u8], text: &[u8]) -> Resul
 }
 
 // Writes a name, as a link to the address that ends in it if it needs no encoding there.
-fn put_name(out: &mut Vec<u8>, label: &[u8], front: &[u8], text: &[u8]) -> Result<(), AllocError>
+#[tactic(auto, unfolding(crate::specs::CitationPage::name_row))]
+fn put_name<'a>(
+    out: &mut Vec<u8>,
+    label: &'a [u8],
+    front: &'a [u8],
+    text: &'a [u8],
+) -> Result<(), AllocError>
     ensures { OnOk result (out.new.items ≡ out.old.items ++ name_row label.now front.now text.now) }
 {
     if text.is_empty() {
         return Ok(());
     }
-    if text.iter().all(|byte| is_plain(*byte)) {
+    if is_all_plain(text) {
         put_link(out, label, front, text)
     } else {
         put_cited(out, label, text, b"")
@@ -107,18 +131,27 @@ fn put_place(out: &mut Vec<u8>, ask: &Ask) -> Result<(), AllocError>
     put_cited(out, b"Issue", ask.citation.issue.as_bytes(), b"")
 }
 
+#[tactic(auto, unfolding(crate::specs::CitationPage::doi_row))]
+fn put_doi(out: &mut Vec<u8>, doi: &[u8]) -> Result<(), AllocError>
+    ensures { OnOk result (out.new.items ≡ out.old.items ++ doi_row doi.now) }
+{
+    put_name(out, b"DOI", b"https://doi.org/", doi)
+}
+
+#[tactic(auto, unfolding(crate::specs::CitationPage::pmid_row))]
+fn put_pmid(out: &mut Vec<u8>, pmid: &[u8]) -> Result<(), AllocError>
+    ensures { OnOk result (out.new.items ≡ out.old.items ++ pmid_row pmid.now) }
+{
+    put_name(out, b"PubMed", b"https://pubmed.ncbi.nlm.nih.gov/", pmid)
+}
+
 #[tactic(auto, unfolding(crate::specs::CitationPage::name_rows))]
 fn put_names(out: &mut Vec<u8>, citation: &Citation) -> Result<(), AllocError>
     ensures { OnOk result (out.new.items ≡ out.old.items ++ name_rows citation.now) }
 {
     put_cited(out, b"Page", citation.page.as_bytes(), b"")?;
-    put_name(out, b"DOI", b"https://doi.org/", citation.doi.as_bytes())?;
-    put_name(
-        out,
-        b"PubMed",
-        b"https://pubmed.ncbi.nlm.nih.gov/",
-        citation.pmid.as_bytes(),
-    )
+    put_doi(out, citation.doi.as_bytes())?;
+    put_pmid(out, citation.pmid.as_bytes())
 }
 
 #[tactic(auto, unfolding(crate::specs::CitationPage::citation_rows))]
