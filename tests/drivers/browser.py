@@ -4,7 +4,8 @@
 browser.py ADDR LINKED [--picture FILE WIDTH]
 
 Opens the page of a node, fills in the form, and follows the first link of the answer. Before that it sends the form
-once more, as a POST, with a date that is none. Prints what the reader sees. LINKED is the address of the linked page. FILE gets a picture of the answer in a window WIDTH pixels wide."""
+once more, as a POST, with a date that is none. Prints what the reader sees. LINKED is the address of the linked page.
+FILE gets a picture of the answer in a window WIDTH pixels wide."""
 import base64
 import json
 import socket

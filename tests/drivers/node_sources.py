@@ -84,7 +84,8 @@ def reply_of(address, request):
     status = int(head.split(b" ")[1])
     if status != 200 or not lines[0].startswith("release "):
         return status, lines[0]
-    return status, sorted((fields[3].rsplit("/", 1)[1], fields[1]) for fields in map(lambda it: it.split("\t"), lines[1:]))
+    hits = [line.split("\t") for line in lines[1:]]
+    return status, sorted((fields[3].rsplit("/", 1)[1], fields[1]) for fields in hits)
 
 
 def get(query):

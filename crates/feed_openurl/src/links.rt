@@ -4,7 +4,8 @@ ghost use Rattle.std.specs.Char.{is_ascii_digit};
 ghost use Rattle.std.specs.List.{list_all};
 ghost use Rattle.feed_openurl.specs.Fronts.{front_len};
 ghost use Rattle.feed_openurl.specs.Identifiers.{after_portal, after_urn, host_of, number_in};
-ghost use Rattle.feed_openurl.specs.Links.{after_doi_host, after_doi_name, after_pmid, after_pmid_host, after_pmid_name};
+ghost use Rattle.feed_openurl.specs.Links.{after_doi_host, after_doi_name};
+ghost use Rattle.feed_openurl.specs.Links.{after_pmid, after_pmid_host, after_pmid_name};
 ghost use Rattle.feed_openurl.specs.Links.{bare_pmid_of, begins_suffix, doi_of, is_doi, is_registered, is_registrant};
 ghost use Rattle.feed_openurl.specs.Links.{is_pmid, only_pmid, pmid_of, without_doi, without_slash};
 

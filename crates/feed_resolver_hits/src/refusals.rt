@@ -2,8 +2,8 @@
 ghost use Rattle.std.specs.Prelude.{◌≡◌, ◌++◌, IfOk, OnOk, true, false};
 ghost use Rattle.feed_resolver_request.specs.declared.representation.Representation.TheVariants as representation;
 ghost use Rattle.feed_resolver_reply.specs.Replies.{reply_with};
-ghost use Rattle.feed_resolver_hits.specs.QueryRefusals.{is_numberless, nothing_part, numberless_body, numberless_status};
-ghost use Rattle.feed_resolver_hits.specs.QueryRefusals.{reason_text, unasked_reply};
+ghost use Rattle.feed_resolver_hits.specs.QueryRefusals.{is_numberless, nothing_part, numberless_body};
+ghost use Rattle.feed_resolver_hits.specs.QueryRefusals.{numberless_status, reason_text, unasked_reply};
 
 use crate::answer_json::put_answer_json;
 use crate::ask::{Ask, names_work};
