@@ -3,8 +3,9 @@
 
 browser.py ADDR LINKED [--picture FILE WIDTH]
 
-Opens the page of a node, fills in the form, and follows the first link of the answer. Prints what the reader sees.
-LINKED is the address of the linked page. FILE gets a picture of the answer in a window WIDTH pixels wide."""
+Opens the page of a node, fills in the form, and follows the first link of the answer. Before that it sends the form
+once more, as a POST, with a date that is none. Prints what the reader sees. LINKED is the address of the linked page.
+FILE gets a picture of the answer in a window WIDTH pixels wide."""
 import base64
 import json
 import socket
@@ -60,19 +61,30 @@ class Browser:
         self.driver.wait()
 
 
+def fill(browser, values):
+    for field, text in values:
+        browser.write(browser.found(f"input[name='{field}']")[0], text)
+    browser.click(browser.found("form [type=submit]")[0])
+    while browser.found("form"):
+        time.sleep(0.05)
+    print("page:", browser.asked("GET", "/title"))
+    print("cited:", "; ".join(browser.text(it) for it in browser.found("dd")))
+    for row in browser.found("tbody tr"):
+        print("row:", browser.text(row))
+
+
 def main():
     address, linked, *picture = sys.argv[1:]
     browser = Browser(int(picture[2]) if picture else 1_000)
     try:
         browser.asked("POST", "/url", {"url": f"http://{address}/"})
         print("page:", browser.asked("GET", "/title"))
+        browser.asked("POST", "/execute/sync", {"script": "document.forms[0].method = 'post'", "args": []})
+        fill(browser, (("rft.issn", "ISSN 2434 561X"), ("rft.date", "Winter")))
+        print("address:", browser.asked("GET", "/url").removeprefix(f"http://{address}"))
+        browser.asked("POST", "/url", {"url": f"http://{address}/"})
         print("fields:", ", ".join(browser.text(it) for it in browser.found("label")))
-        for field, text in (("rft.issn", "2434-561X"), ("rft.date", "1996")):
-            browser.write(browser.found(f"input[name='{field}']")[0], text)
-        browser.click(browser.found("form [type=submit]")[0])
-        print("page:", browser.asked("GET", "/title"))
-        for row in browser.found("tbody tr"):
-            print("row:", browser.text(row))
+        fill(browser, (("rft.issn", "2434-561X"), ("rft.date", "1996")))
         print("scripts:", len(browser.found("script")))
         if picture:
             with open(picture[1], "wb") as file:

@@ -43,11 +43,17 @@ def understood(query):
     }
 
 
-rows = [line.rstrip("\n").split("\t") for line in open(sys.argv[1], encoding="utf-8")][1:]
-differing = 0
-for row in rows:
-    wanted, got = wanted_of(row), understood(row[3])
-    if wanted != got:
-        differing += 1
-        print(row[0], {name: (wanted[name], got[name]) for name in got if wanted[name] != got[name]})
-print(f"{len(rows)} queries, {differing} not as wanted")
+def main():
+    with open(sys.argv[1], encoding="utf-8") as file:
+        rows = [line.rstrip("\n").split("\t") for line in file][1:]
+    differing = 0
+    for row in rows:
+        wanted, got = wanted_of(row), understood(row[3])
+        if wanted != got:
+            differing += 1
+            print(row[0], {name: (wanted[name], got[name]) for name in got if wanted[name] != got[name]})
+    print(f"{len(rows)} queries, {differing} not as wanted")
+
+
+if __name__ == "__main__":
+    main()

@@ -6,3 +6,4 @@ pub mod Parts
 pub mod Plains
 pub mod Bounds
 pub mod Again
+pub mod Shows

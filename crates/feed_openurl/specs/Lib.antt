@@ -9,6 +9,9 @@ pub mod Identifiers
 pub mod Volumes
 pub mod Dates
 pub mod Tiers
+pub mod Shown
+pub mod Links
+pub mod Citations
 pub mod Values
 pub mod Written
 pub mod Laws

@@ -1,7 +1,7 @@
 //! The keys of a query that nobody reads.
 use crate::citation::is_cited;
 use crate::key::Key;
-use crate::plain::show;
+use crate::shown::shown_text;
 use feed_answer::{Pair, decode_pairs};
 use std::alloc::{AllocError, Global};
 
@@ -36,9 +36,8 @@ fn push_key(
     key: &[u8],
     count: u64,
 ) -> Result<(), AllocError> {
-    let mut shown = String::new(alloc);
-    show(&mut shown, key)?;
-    dropped.push(Dropped { key: shown, count })?;
+    let key = shown_text(alloc, key)?;
+    dropped.push(Dropped { key, count })?;
     Ok(())
 }
 

@@ -21,6 +21,7 @@ mod number;
 mod numbers;
 mod plain;
 mod sets;
+mod shown;
 mod tokens;
 mod understanding;
 mod value;

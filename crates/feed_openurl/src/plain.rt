@@ -9,22 +9,6 @@ ghost use Rattle.feed_openurl.specs.Plain.{is_space, plain, plain_byte, plain_wi
 use std::alloc::{AllocError, Global};
 use std::borrow::CowSlice;
 
-// The characters of the bytes 128 to 159 in Windows-1252 (WHATWG Encoding, section 9). Five bytes have none there.
-const UPPER: [char; 32] = [
-    '\u{20AC}', '\u{FFFD}', '\u{201A}', '\u{0192}', '\u{201E}', '\u{2026}', '\u{2020}', '\u{2021}',
-    '\u{02C6}', '\u{2030}', '\u{0160}', '\u{2039}', '\u{0152}', '\u{FFFD}', '\u{017D}', '\u{FFFD}',
-    '\u{FFFD}', '\u{2018}', '\u{2019}', '\u{201C}', '\u{201D}', '\u{2022}', '\u{2013}', '\u{2014}',
-    '\u{02DC}', '\u{2122}', '\u{0161}', '\u{203A}', '\u{0153}', '\u{FFFD}', '\u{017E}', '\u{0178}',
-];
-
-// The character of a byte in Windows-1252.
-fn windows_1252(byte: u8) -> char {
-    match UPPER.get(usize::from(byte).wrapping_sub(128)) {
-        Some(c) => *c,
-        None => char::from(byte),
-    }
-}
-
 // Whether a character is a dash of Unicode.
 fn is_dash(c: u32) -> bool
     ensures { result ≡ is_dash c }
@@ -120,64 +104,5 @@ pub(crate) fn plain(alloc: Global, value: &[u8]) -> Result<CowSlice<'_, u8, Glob
     match str::from_utf8(value) {
         Ok(text) => Ok(CowSlice::Owned(plain_text(alloc, text)?)),
         Err(_) => Ok(CowSlice::Owned(plain_bytes(alloc, value)?)),
-    }
-}
-
-// The character as a citation shows it: a space for a control character, and nothing for one that turns the direction
-// of reading or has no width.
-fn shown(c: char) -> Option<char> {
-    match c {
-        '\u{0}'..='\u{1F}' | '\u{7F}'..='\u{9F}' | '\u{2028}' | '\u{2029}' => Some(' '),
-        '\u{200B}'
-        | '\u{200E}'
-        | '\u{200F}'
-        | '\u{202A}'..='\u{202E}'
-        | '\u{2060}'..='\u{206F}'
-        | '\u{FEFF}' => None,
-        _ => Some(c),
-    }
-}
-
-fn push_shown(text: &mut String, c: char) -> Result<(), AllocError> {
-    match shown(c) {
-        Some(' ') if text.is_empty() => Ok(()),
-        Some(c) => text.push(c),
-        None => Ok(()),
-    }
-}
-
-// Whether a value is shown as it is: printable ASCII, with no space at its front.
-fn is_shown_as_is(value: &[u8]) -> bool {
-    match value.first() {
-        Some(b' ') => false,
-        _ => value.iter().all(|byte| (0x20..0x7F).contains(byte)),
-    }
-}
-
-fn push_chars(shown: &mut String, text: &str) -> Result<(), AllocError> {
-    for c in text.chars() {
-        push_shown(shown, c)?;
-    }
-    Ok(())
-}
-
-fn push_bytes(shown: &mut String, value: &[u8]) -> Result<(), AllocError> {
-    for byte in value {
-        push_shown(shown, windows_1252(*byte))?;
-    }
-    Ok(())
-}
-
-/// Appends a value as a citation shows it.
-pub(crate) fn show(shown: &mut String, value: &[u8]) -> Result<(), AllocError> {
-    match str::from_utf8(value) {
-        Ok(text) => {
-            if is_shown_as_is(value) {
-                shown.push_str(text)
-            } else {
-                push_chars(shown, text)
-            }
-        }
-        Err(_) => push_bytes(shown, value),
     }
 }

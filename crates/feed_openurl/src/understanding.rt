@@ -60,11 +60,11 @@ impl Understanding {
         printed_issn_parses();
         printed_isbn_parses();
         let pairs = decode_pairs(alloc, text)?;
+        let citation = Citation::of(alloc, &pairs)?;
         let values = values_of(alloc, &pairs)?;
         let date = date_of(alloc, &pairs, &values)?;
         let volume = volume_of(alloc, &pairs, &values)?;
         let found = looked_up(alloc, &pairs, &values)?;
-        let citation = Citation::of(alloc, &values)?;
         Ok(Understanding {
             citation,
             issns: found.issns,

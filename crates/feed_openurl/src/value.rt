@@ -8,11 +8,10 @@ use feed_answer::Pair;
 use std::alloc::{AllocError, Global};
 use std::marker::Model;
 
-/// What the key of a pair asks for, the key itself, and its value. They need not be UTF-8.
+/// What the key of a pair asks for, and its value. It need not be UTF-8.
 #[derive(Drop)]
 pub(crate) struct Value<'a> {
     pub(crate) key: Key,
-    pub(crate) name: &'a [u8],
     pub(crate) text: &'a [u8],
 }
 
@@ -96,11 +95,10 @@ pub(crate) fn values_of<'a>(
 ) -> Result<Vec<Value<'a>>, AllocError>
     ensures { IfOk result (λ values. values.items ≡ map keyed pairs.now) }
 {
-    let mut values = Vec::with_capacity(alloc, pairs.len())?;
+    let mut values = Vec::new(alloc);
     for pair in pairs {
         values.push(Value {
             key: Key::of(pair.key()),
-            name: pair.key(),
             text: pair.value(),
         })?;
     }

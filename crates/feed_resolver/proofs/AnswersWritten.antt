@@ -6,7 +6,8 @@ use Rattle.feed_releases.specs.Actives.{ActiveValue}
 use Rattle.feed_resolver_request.specs.declared.representation.Representation.TheVariants.{Text, Json, Html}
 use Rattle.feed_resolver_hits.specs.Hits.{ReleaseHitValue}
 use Rattle.feed_resolver_hits.specs.HitsText.{release_text}
-use Rattle.feed_resolver_hits.specs.HitsJson.{hits_json}
+use Rattle.feed_resolver_hits.specs.AnswerJson.{answer_json}
+use Rattle.feed_resolver_hits.specs.Asks.{AskValue, ask_of}
 use Rattle.feed_resolver_hits.specs.HitsPage.{hits_page}
 use Rattle.feed_resolver_hits.specs.Tallies.{TallyValue, tally_of}
 use Rattle.feed_resolver_hits.specs.Tallying.{RunningValue, with_hit, with_hits, no_hits, tally_from}
@@ -27,21 +28,26 @@ texts_are query earlier (active ∷ actives) =
     ∙ ap (λ (t : TallyValue). release_text (tally_of earlier) t active.name ++ texts_from query (after (earlier ++ more)) actives) (tally_is (earlier ++ more))
     ∙ ap (λ t. release_text (tally_of earlier) (tally_of (earlier ++ more)) active.name ++ t) (texts_are query (earlier ++ more) actives)
 
-pub text_written : (query : QueryValue) (actives : List ActiveValue) (old new : List ℕ) → new ≡ old ++ texts_from query no_hits actives → new ≡ old ++ answers_body Text query actives
+pub text_written : (text : List ℕ) (query : QueryValue) (actives : List ActiveValue) (old new : List ℕ) → new ≡ old ++ texts_from query no_hits actives
+    → new ≡ old ++ answers_body Text text query actives
 unfolding answers_body
-text_written query actives old new is = is ∙ ap (λ t. old ++ t) (texts_are query [] actives)
+text_written text query actives old new is = is ∙ ap (λ t. old ++ t) (texts_are query [] actives)
 
-pub json_written : (query : QueryValue) (actives : List ActiveValue) (running : RunningValue) (old new : List ℕ) → running ≡ with_hits no_hits (hits_among query actives)
-    → new ≡ old ++ hits_json (tally_from running) → new ≡ old ++ answers_body Json query actives
+pub json_written : (text : List ℕ) (ask : AskValue) (query : QueryValue) (actives : List ActiveValue) (running : RunningValue) (old new : List ℕ) → ask ≡ ask_of text
+    → running ≡ with_hits no_hits (hits_among query actives) → new ≡ old ++ answer_json ask [] (tally_from running) → new ≡ old ++ answers_body Json text query actives
 unfolding answers_body
-json_written query actives running old new made is =
-    is ∙ ap (λ (r : RunningValue). old ++ hits_json (tally_from r)) made ∙ ap (λ (t : TallyValue). old ++ hits_json t) (tally_is (hits_among query actives))
+json_written text ask query actives running old new read made is =
+    is ∙ ap (λ (a : AskValue). old ++ answer_json a [] (tally_from running)) read
+    ∙ ap (λ (r : RunningValue). old ++ answer_json (ask_of text) [] (tally_from r)) made
+    ∙ ap (λ (t : TallyValue). old ++ answer_json (ask_of text) [] t) (tally_is (hits_among query actives))
 
-pub page_written : (query : QueryValue) (actives : List ActiveValue) (running : RunningValue) (old new : List ℕ) → running ≡ with_hits no_hits (hits_among query actives)
-    → new ≡ old ++ hits_page (tally_from running) → new ≡ old ++ answers_body Html query actives
+pub page_written : (text : List ℕ) (ask : AskValue) (query : QueryValue) (actives : List ActiveValue) (running : RunningValue) (old new : List ℕ) → ask ≡ ask_of text
+    → running ≡ with_hits no_hits (hits_among query actives) → new ≡ old ++ hits_page ask (tally_from running) → new ≡ old ++ answers_body Html text query actives
 unfolding answers_body
-page_written query actives running old new made is =
-    is ∙ ap (λ (r : RunningValue). old ++ hits_page (tally_from r)) made ∙ ap (λ (t : TallyValue). old ++ hits_page t) (tally_is (hits_among query actives))
+page_written text ask query actives running old new read made is =
+    is ∙ ap (λ (a : AskValue). old ++ hits_page a (tally_from running)) read
+    ∙ ap (λ (r : RunningValue). old ++ hits_page (ask_of text) (tally_from r)) made
+    ∙ ap (λ (t : TallyValue). old ++ hits_page (ask_of text) t) (tally_is (hits_among query actives))
 
 -- the link that a tally chooses
 pub best_made : (query : QueryValue) (actives : List ActiveValue) (running : RunningValue) → running ≡ with_hits no_hits (hits_among query actives)

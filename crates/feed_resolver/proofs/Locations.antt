@@ -20,16 +20,19 @@ use Rattle.feed_resolver_request.specs.declared.representation.Representation.{R
 use Rattle.feed_resolver_request.specs.declared.representation.Representation.TheVariants.{Text}
 use Rattle.feed_resolver_request.specs.declared.target.Resource.{Resource}
 use Rattle.feed_resolver_request.specs.declared.target.Resource.TheVariants as resource
-use Rattle.feed_resolver_reply.specs.Replies.{ReplyValue, refusal, redirect_to}
+use Rattle.feed_resolver_reply.specs.Replies.{ReplyValue, refusal, redirect_to, reply_with}
 use Rattle.feed_resolver_reply.specs.Messages.{IsLocation}
+use Rattle.feed_resolver_reply.specs.declared.status.Status.{Status}
 use Rattle.feed_resolver_reply.specs.declared.status.Status.TheVariants as status
 use Rattle.feed_resolver_hits.specs.Asked.{asked_of}
+use Rattle.feed_resolver_hits.specs.Asks.{AskValue, ask_of, names_work}
+use Rattle.feed_resolver_hits.specs.QueryRefusals.{is_numberless, numberless_body, numberless_status, reason_text, unasked_reply}
 use Rattle.feed_resolver_hits.specs.Links.{is_link, link_limit, is_visible, begins_with}
 use Rattle.feed_resolver_hits.specs.Hits.{best_link}
 use Rattle.feed_resolver_hits.specs.Tallies.{counted}
 use Rattle.feed_resolver_hits.proofs.Redirects.{best_is}
 use Rattle.feed_resolver.specs.Answers.{is_of, hits_among}
-use Rattle.feed_resolver.specs.Replies.{query_reply, hits_reply, resolve_reply, resolve_reply_at, redirect_reply, resource_reply, path_of, target_query, target_reply, has_coded_body}
+use Rattle.feed_resolver.specs.Replies.{query_reply, hits_reply, resolve_reply, resolve_reply_at, redirect_reply, go_reply, resource_reply, path_of, target_query, target_reply, has_coded_body}
 use Rattle.feed_resolver.specs.Replies.{method_refusal, plain_reply, form_refusal, reply_by_form, reply_to}
 
 pub nowhere : IsLocation []
@@ -58,13 +61,24 @@ no_bytes = []
 plain : IsLocation no_bytes × (no_bytes ≡ no_bytes) × (zero ≡ zero)
 plain = (nowhere, refl, refl)
 
-query_located : (representation : Representation) (reply : QueryValue → ReplyValue) (o : Result QueryValue Refusal) → ((query : QueryValue) → IsLocated (reply query))
-    → IsLocated (query_reply representation reply o)
-query_located representation reply (Ok query) located = located query
-query_located representation reply (Err reason) located = plain
+either_located : (b : Bool) (one other : ReplyValue) → IsLocated one → IsLocated other → IsLocated (if b then one else other)
+either_located true one other first second = first
+either_located false one other first second = second
+
+unasked_located : (code : Status) (representation : Representation) (ask : AskValue) (why : Refusal) → IsLocated (unasked_reply code representation ask why)
+unasked_located code representation ask why =
+    either_located (is_numberless why)
+    (reply_with (numberless_status (names_work ask.citation) code) representation (numberless_body (names_work ask.citation) representation ask why))
+    (refusal status.BadRequest representation (reason_text why)) plain plain
+
+query_located : (code : Status) (representation : Representation) (text : List ℕ) (reply : QueryValue → ReplyValue) (o : Result QueryValue Refusal)
+    → ((query : QueryValue) → IsLocated (reply query)) → IsLocated (query_reply code representation text reply o)
+query_located code representation text reply (Ok query) located = located query
+query_located code representation text reply (Err why) located = unasked_located code representation (ask_of text) why
 
 resolve_located : (representation : Representation) (text : List ℕ) (actives : List ActiveValue) → IsLocated (resolve_reply representation text actives)
-resolve_located representation text actives = query_located representation (hits_reply status.Good representation actives) (asked_of text) (λ query. plain)
+resolve_located representation text actives =
+    query_located status.Good representation text (hits_reply status.Good representation text actives) (asked_of text) (λ query. plain)
 
 package_located : (representation : Representation) (text : List ℕ) (actives : List ActiveValue) (other : ReplyValue) (o : Option ℕ) → IsLocated other
     → IsLocated (option_map_or (resolve_reply_at representation text actives) o other)
@@ -76,9 +90,13 @@ redirect_located : (hits_link : Option (List ℕ)) (other : ReplyValue) → ((ur
 redirect_located None other links located = located
 redirect_located (Some url) other links located = (link_location url (links url refl), refl, refl)
 
-go_located : (representation : Representation) (actives : List ActiveValue) (query : QueryValue) → IsLocated (redirect_reply representation actives query)
-go_located representation actives query =
-    redirect_located (best_link (counted (hits_among query actives))) (hits_reply status.NotFound representation actives query) (best_is (counted (hits_among query actives))) plain
+best_located : (representation : Representation) (text : List ℕ) (actives : List ActiveValue) (query : QueryValue) → IsLocated (redirect_reply representation text actives query)
+best_located representation text actives query =
+    redirect_located (best_link (counted (hits_among query actives))) (hits_reply status.NotFound representation text actives query) (best_is (counted (hits_among query actives))) plain
+
+go_located : (representation : Representation) (text : List ℕ) (actives : List ActiveValue) → IsLocated (go_reply representation text actives)
+go_located representation text actives =
+    query_located status.NotFound representation text (redirect_reply representation text actives) (asked_of text) (best_located representation text actives)
 
 resource_located : (r : Resource) (head : RequestHead) (path query : List ℕ) (actives : List ActiveValue) → IsLocated (resource_reply r head path query actives)
 resource_located resource.Home head path query actives = plain
@@ -87,16 +105,11 @@ resource_located resource.Resolve head path query actives = resolve_located (rep
 resource_located resource.Package head path query actives =
     package_located (representation_of query head) query actives (refusal status.NotFound (representation_of query head) (codes "NoRelease"))
     (position (is_of (package_in path)) actives) plain
-resource_located resource.Go head path query actives =
-    query_located (accepted_representation head) (redirect_reply (accepted_representation head) actives) (asked_of query) (go_located (accepted_representation head) actives)
+resource_located resource.Go head path query actives = go_located (accepted_representation head) query actives
 resource_located resource.Unknown head path query actives = plain
 
 target_located : (head : RequestHead) (query : List ℕ) (actives : List ActiveValue) → IsLocated (target_reply head query actives)
 target_located head query actives = resource_located (resource_of (path_of head)) head (path_of head) query actives
-
-either_located : (b : Bool) (one other : ReplyValue) → IsLocated one → IsLocated other → IsLocated (if b then one else other)
-either_located true one other first second = first
-either_located false one other first second = second
 
 method_located : (r : Resource) → IsLocated (method_refusal r)
 method_located resource.Home = plain

@@ -39,7 +39,7 @@ use Rattle.feed_resolver_hits.specs.Tallies.{counted}
 use Rattle.feed_resolver_hits.proofs.BestLinks as links
 use Rattle.feed_resolver_tag.specs.Tags.{SiteValue}
 use Rattle.feed_resolver.specs.Answers.{is_of, hits_among}
-use Rattle.feed_resolver.specs.Replies.{resource_reply, resolve_reply, package_reply, redirect_reply, hits_reply, query_reply, target_reply, target_query, path_of}
+use Rattle.feed_resolver.specs.Replies.{resource_reply, resolve_reply, package_reply, redirect_reply, go_reply, hits_reply, query_reply, target_reply, target_query, path_of}
 use Rattle.feed_resolver.specs.Replies.{method_refusal, has_coded_body, resolve_reply_at, reply_by_form, reply_to, tagged_reply, response_to, IsResponse}
 use Rattle.feed_resolver.specs.Answered.{IsGoodIn, IsAnswered, IsAnsweredTo}
 use Rattle.feed_resolver.specs.Validators.{is_tagged, has_validator, resource_in}
@@ -124,20 +124,20 @@ pub status_answered : (target : List ℕ) (actives : List ActiveValue) → resou
 status_answered target actives is head =
     subst (λ r. IsGoodIn (representation_of (query_in target) head) (resource_reply r head (path_in target) (query_in target) actives)) (sym is) (refl, refl)
 
-query_answered : (representation : Representation) (actives : List ActiveValue) (o : Result QueryValue Refusal) (query : QueryValue) → o ≡ Ok query
-    → IsGoodIn representation (query_reply representation (hits_reply status.Good representation actives) o)
-query_answered representation actives (Ok other) query is = (refl, refl)
-query_answered representation actives (Err reason) query is = absurd (cc)
+query_answered : (representation : Representation) (text : List ℕ) (actives : List ActiveValue) (o : Result QueryValue Refusal) (query : QueryValue) → o ≡ Ok query
+    → IsGoodIn representation (query_reply status.Good representation text (hits_reply status.Good representation text actives) o)
+query_answered representation text actives (Ok other) query is = (refl, refl)
+query_answered representation text actives (Err why) query is = absurd (cc)
 
 pub resolve_answered : (target : List ℕ) (actives : List ActiveValue) (query : QueryValue) → resource_of (path_in target) ≡ resource.Resolve → asked_of (query_in target) ≡ Ok query
     → IsAnswered target actives
 resolve_answered target actives query is valid head =
     subst (λ r. IsGoodIn (representation_of (query_in target) head) (resource_reply r head (path_in target) (query_in target) actives)) (sym is)
-    (query_answered (representation_of (query_in target) head) actives (asked_of (query_in target)) query valid)
+    (query_answered (representation_of (query_in target) head) (query_in target) actives (asked_of (query_in target)) query valid)
 
 placed_answered : (representation : Representation) (text : List ℕ) (actives : List ActiveValue) (query : QueryValue) (o : Option ℕ) (other : ReplyValue) → is_some o ≡ true
     → asked_of text ≡ Ok query → IsGoodIn representation (option_map_or (resolve_reply_at representation text actives) o other)
-placed_answered representation text actives query (Some place) other some valid = query_answered representation _ (asked_of text) query valid
+placed_answered representation text actives query (Some place) other some valid = query_answered representation text _ (asked_of text) query valid
 placed_answered representation text actives query None other some valid = absurd (cc)
 
 pub package_answered : (target : List ℕ) (actives : List ActiveValue) (query : QueryValue) → resource_of (path_in target) ≡ resource.Package
@@ -207,14 +207,14 @@ head_alone site keeps actives bytes asked body form head response reply is begin
 
 -- ---- /go
 
-go_reply : (head : RequestHead) (body : List ℕ) (query : QueryValue) (actives : List ActiveValue) → AsksToGo head query
-    → reply_to head body actives ≡ redirect_reply (accepted_representation head) actives query
-go_reply head body query actives asks =
+go_replied : (head : RequestHead) (body : List ℕ) (query : QueryValue) (actives : List ActiveValue) → AsksToGo head query
+    → reply_to head body actives ≡ redirect_reply (accepted_representation head) (target_query head) actives query
+go_replied head body query actives asks =
     read_reply head body actives asks.method
     ∙ ap (λ l. reply_by l false false (has_coded_body head) (query_answer head actives)) asks.host
     ∙ ap (λ c. reply_by false false false c (query_answer head actives)) asks.body
     ∙ ap (λ r. resource_reply r head (path_of head) (target_query head) actives) asks.resource
-    ∙ ap (λ q. query_reply (accepted_representation head) (redirect_reply (accepted_representation head) actives) q) asks.asked
+    ∙ ap (λ q. query_reply status.NotFound (accepted_representation head) (target_query head) (redirect_reply (accepted_representation head) (target_query head) actives) q) asks.asked
 
 -- `/go` has no tag
 untagged_go : (site : SiteValue) (head : RequestHead) (body : List ℕ) (actives : List ActiveValue) → resource_in head ≡ resource.Go
@@ -237,11 +237,11 @@ goes keeps alone hits (Some url) other best is = (refl, redirected keeps alone u
 pub goes_to_best : GoesToBest
 goes_to_best site keeps actives bytes body head query response begins asks is =
     let hits = counted (hits_among query actives) in
-    let other : ReplyValue = hits_reply status.NotFound (accepted_representation head) actives query in
+    let other : ReplyValue = hits_reply status.NotFound (accepted_representation head) (target_query head) actives query in
     let best : IsBestLink hits (best_link hits) = links.best_is hits in
     let same : response ≡ response_of keeps (is_head head) (option_map_or redirect_to (best_link hits) other) =
     reply_at site keeps bytes body actives head response begins is
-    ∙ ap (response_of keeps (is_head head)) (read_tagged site head body actives asks.method ∙ untagged_go site head body actives asks.resource ∙ go_reply head body query actives asks) in
+    ∙ ap (response_of keeps (is_head head)) (read_tagged site head body actives asks.method ∙ untagged_go site head body actives asks.resource ∙ go_replied head body query actives asks) in
     (best_link hits, best, subst (λ (v : ResponseValue). GoesTo (best_link hits) v) (sym same) (goes keeps (is_head head) hits (best_link hits) other best refl))
 
 -- ---- forms
@@ -285,7 +285,7 @@ answer_by resource.Home named accepted path query actives = reply_with status.Go
 answer_by resource.Status named accepted path query actives = reply_with status.Good named (status_body named actives)
 answer_by resource.Resolve named accepted path query actives = resolve_reply named query actives
 answer_by resource.Package named accepted path query actives = package_reply named (package_in path) query actives
-answer_by resource.Go named accepted path query actives = query_reply accepted (redirect_reply accepted actives) (asked_of query)
+answer_by resource.Go named accepted path query actives = go_reply accepted query actives
 answer_by resource.Unknown named accepted path query actives = refusal status.NotFound accepted (codes "NoTarget")
 
 answered_by : (r : Resource) (head : RequestHead) (path query : List ℕ) (actives : List ActiveValue)

@@ -130,7 +130,7 @@ texts_whole query earlier (active ∷ actives) few all =
 
 pub whole_text : WholeTextIsWritten
 unfolding answers_body
-whole_text query actives all =
+whole_text text query actives all =
     let hits = hits_among query actives in
     let few : length hits ≤ count_limit = all_counted count_limit shown_limit text_limit hits all in
     let same : counted hits ≡ hits = take_all count_limit hits few in

@@ -8,7 +8,8 @@ use Rattle.feed_releases.specs.Actives.{ActiveValue}
 use Rattle.feed_resolver_request.specs.declared.representation.Representation.{Representation}
 use Rattle.feed_resolver_request.specs.declared.representation.Representation.TheVariants.{Text, Json, Html}
 use Rattle.feed_resolver_hits.specs.Hits.{ReleaseHitValue, release_hit}
-use Rattle.feed_resolver_hits.specs.HitsJson.{hits_json}
+use Rattle.feed_resolver_hits.specs.AnswerJson.{answer_json}
+use Rattle.feed_resolver_hits.specs.Asks.{ask_of}
 use Rattle.feed_resolver_hits.specs.HitsPage.{hits_page}
 use Rattle.feed_resolver_hits.specs.HitsText.{release_text}
 use Rattle.feed_resolver_hits.specs.Tallies.{TallyValue, tally_of}
@@ -36,8 +37,8 @@ texts_behind query earlier (active ∷ actives) =
     release_text (tally_of earlier) (tally_of (earlier ++ release_hits query active)) active.name
     ++ texts_behind query (earlier ++ release_hits query active) actives
 
--- the body of an answer from these releases
-unfoldable pub answers_body : Representation → QueryValue → List ActiveValue → List ℕ
-answers_body Text query actives = texts_behind query [] actives
-answers_body Json query actives = hits_json (tally_among query actives)
-answers_body Html query actives = hits_page (tally_among query actives)
+-- the body of an answer from these releases, for what this text asks; the text of an answer does not tell of the query
+unfoldable pub answers_body : Representation → List ℕ → QueryValue → List ActiveValue → List ℕ
+answers_body Text text query actives = texts_behind query [] actives
+answers_body Json text query actives = answer_json (ask_of text) [] (tally_among query actives)
+answers_body Html text query actives = hits_page (ask_of text) (tally_among query actives)

@@ -49,5 +49,5 @@ written_answer query active = answer_text (text_of active.name) (answer_of activ
 -- a reply that shows all hits has, as text, the answers that `Answer::write` prints
 abbrev pub WholeTextIsWritten : Type 0
 WholeTextIsWritten =
-    (query : QueryValue) (actives : List ActiveValue) → (tally_among query actives).shown ≡ hits_among query actives
-    → answers_body Text query actives ≡ flat_map (written_answer query) actives
+    (text : List ℕ) (query : QueryValue) (actives : List ActiveValue) → (tally_among query actives).shown ≡ hits_among query actives
+    → answers_body Text text query actives ≡ flat_map (written_answer query) actives

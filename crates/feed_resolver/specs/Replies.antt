@@ -23,24 +23,26 @@ use Rattle.feed_resolver_reply.specs.Replies.{ReplyValue, ResponseValue, reply_w
 use Rattle.feed_resolver_reply.specs.declared.status.Status.{Status}
 use Rattle.feed_resolver_reply.specs.declared.status.Status.TheVariants as status
 use Rattle.feed_resolver_hits.specs.Asked.{asked_of}
-use Rattle.feed_resolver_hits.specs.QueryRefusals.{query_refusal}
+use Rattle.feed_resolver_hits.specs.Asks.{ask_of}
+use Rattle.feed_resolver_hits.specs.QueryRefusals.{unasked_reply}
 use Rattle.feed_resolver.specs.Answers.{is_of, tally_among, answers_body}
 use Rattle.feed_resolver_tag.specs.Tags.{SiteValue}
 use Rattle.feed_resolver.specs.Status.{status_body, home_page}
 use Rattle.feed_resolver.specs.Validators.{final_reply, tag_to}
 
--- the reply to what a query asks for, or the reason if it is rejected
-abbrev pub query_reply : Representation → (QueryValue → ReplyValue) → Result QueryValue Refusal → ReplyValue
-query_reply representation reply (Ok query) = reply query
-query_reply representation reply (Err reason) = query_refusal representation reason
+-- the reply to what a query asks for, or the one that says why nothing is looked up
+abbrev pub query_reply : Status → Representation → List ℕ → (QueryValue → ReplyValue) → Result QueryValue Refusal → ReplyValue
+query_reply code representation text reply (Ok query) = reply query
+query_reply code representation text reply (Err reason) = unasked_reply code representation (ask_of text) reason
 
 -- the hits in the given releases
-abbrev pub hits_reply : Status → Representation → List ActiveValue → QueryValue → ReplyValue
-hits_reply code representation actives query = reply_with code representation (answers_body representation query actives)
+abbrev pub hits_reply : Status → Representation → List ℕ → List ActiveValue → QueryValue → ReplyValue
+hits_reply code representation text actives query = reply_with code representation (answers_body representation text query actives)
 
 -- the answer of all packages, by package
 abbrev pub resolve_reply : Representation → List ℕ → List ActiveValue → ReplyValue
-resolve_reply representation text actives = query_reply representation (hits_reply status.Good representation actives) (asked_of text)
+resolve_reply representation text actives =
+    query_reply status.Good representation text (hits_reply status.Good representation text actives) (asked_of text)
 
 -- the answer of the release at a place
 abbrev pub resolve_reply_at : Representation → List ℕ → List ActiveValue → ℕ → ReplyValue
@@ -52,9 +54,14 @@ package_reply representation stem text actives = option_map_or (resolve_reply_at
     (position (is_of stem) actives) (refusal status.NotFound representation (codes "NoRelease"))
 
 -- a redirect to the best hit of those that are counted, or the answer if none has a link
-abbrev pub redirect_reply : Representation → List ActiveValue → QueryValue → ReplyValue
-redirect_reply representation actives query = option_map_or redirect_to
-    (tally_among query actives).best (hits_reply status.NotFound representation actives query)
+abbrev pub redirect_reply : Representation → List ℕ → List ActiveValue → QueryValue → ReplyValue
+redirect_reply representation text actives query = option_map_or redirect_to
+    (tally_among query actives).best (hits_reply status.NotFound representation text actives query)
+
+-- the same for what a text asks
+abbrev pub go_reply : Representation → List ℕ → List ActiveValue → ReplyValue
+go_reply representation text actives =
+    query_reply status.NotFound representation text (redirect_reply representation text actives) (asked_of text)
 
 -- the reply by the kind of path, to this query
 abbrev pub resource_reply : Resource → RequestHead → List ℕ → List ℕ → List ActiveValue → ReplyValue
@@ -63,8 +70,7 @@ resource_reply resource.Status head path query actives =
     reply_with status.Good (representation_of query head) (status_body (representation_of query head) actives)
 resource_reply resource.Resolve head path query actives = resolve_reply (representation_of query head) query actives
 resource_reply resource.Package head path query actives = package_reply (representation_of query head) (package_in path) query actives
-resource_reply resource.Go head path query actives =
-    query_reply (accepted_representation head) (redirect_reply (accepted_representation head) actives) (asked_of query)
+resource_reply resource.Go head path query actives = go_reply (accepted_representation head) query actives
 resource_reply resource.Unknown head path query actives = refusal status.NotFound (accepted_representation head) (codes "NoTarget")
 
 -- the path of a request's target, and the query in it

@@ -6,7 +6,7 @@ ghost use Rattle.feed_resolver.specs.AnswerTexts.{texts_from};
 
 use feed_answer::Query;
 use feed_releases::ActiveRelease;
-use feed_resolver_hits::{Tally, put_hits_json, put_hits_page, put_release};
+use feed_resolver_hits::{Ask, Tally, put_answer_json, put_hits_page, put_release};
 use feed_resolver_request::Representation;
 use std::alloc::{AllocError, Global};
 
@@ -61,10 +61,12 @@ fn put_texts(
 fn put_text(
     alloc: Global,
     out: &mut Vec<u8>,
+    text: &[u8],
     actives: &[ActiveRelease<'_>],
     query: &Query,
 ) -> Result<(), AllocError>
-    ensures { OnOk result (out.new.items ≡ out.old.items ++ answers_body Representation.Text query.now actives.now) }
+    ensures { OnOk result (out.new.items
+        ≡ out.old.items ++ answers_body Representation.Text text.now query.now actives.now) }
 {
     put_texts(alloc, out, actives, query)
 }
@@ -72,38 +74,48 @@ fn put_text(
 fn put_json(
     alloc: Global,
     out: &mut Vec<u8>,
+    text: &[u8],
     actives: &[ActiveRelease<'_>],
     query: &Query,
 ) -> Result<(), AllocError>
-    ensures { OnOk result (out.new.items ≡ out.old.items ++ answers_body Representation.Json query.now actives.now) }
+    ensures { OnOk result (out.new.items
+        ≡ out.old.items ++ answers_body Representation.Json text.now query.now actives.now) }
 {
-    put_hits_json(out, &tally_among(alloc, actives, query)?)
+    let ask = Ask::read(alloc, text)?;
+    let tally = tally_among(alloc, actives, query)?;
+    put_answer_json(out, &ask, b"", &tally)
 }
 
 fn put_page(
     alloc: Global,
     out: &mut Vec<u8>,
+    text: &[u8],
     actives: &[ActiveRelease<'_>],
     query: &Query,
 ) -> Result<(), AllocError>
-    ensures { OnOk result (out.new.items ≡ out.old.items ++ answers_body Representation.Html query.now actives.now) }
+    ensures { OnOk result (out.new.items
+        ≡ out.old.items ++ answers_body Representation.Html text.now query.now actives.now) }
 {
-    put_hits_page(out, &tally_among(alloc, actives, query)?)
+    let ask = Ask::read(alloc, text)?;
+    let tally = tally_among(alloc, actives, query)?;
+    put_hits_page(out, &ask, &tally)
 }
 
-/// Writes the answer of the given releases to a query.
+/// Writes the answer of the given releases to a query, which is what the text asks for.
 pub(crate) fn put_answer(
     alloc: Global,
     out: &mut Vec<u8>,
     representation: Representation,
+    text: &[u8],
     actives: &[ActiveRelease<'_>],
     query: &Query,
 ) -> Result<(), AllocError>
-    ensures { OnOk result (out.new.items ≡ out.old.items ++ answers_body representation query.now actives.now) }
+    ensures { OnOk result (out.new.items
+        ≡ out.old.items ++ answers_body representation text.now query.now actives.now) }
 {
     match representation {
-        Representation::Text => put_text(alloc, out, actives, query),
-        Representation::Json => put_json(alloc, out, actives, query),
-        Representation::Html => put_page(alloc, out, actives, query),
+        Representation::Text => put_text(alloc, out, text, actives, query),
+        Representation::Json => put_json(alloc, out, text, actives, query),
+        Representation::Html => put_page(alloc, out, text, actives, query),
     }
 }

@@ -8,16 +8,17 @@ ghost use Rattle.feed_model.specs.History.{History};
 ghost use Rattle.feed_model.specs.Content.{IsContent};
 ghost use Rattle.feed_releases.specs.Feeds.{recorded, releases_of};
 ghost use Rattle.feed_resolver_request.specs.Targets.{resource_of};
-ghost use Rattle.feed_resolver_hits.specs.Asked.{asked_of};
+ghost use Rattle.feed_resolver_hits.specs.Asks.{ask_of};
+ghost use Rattle.feed_resolver_hits.specs.QueryRefusals.{unasked_reply};
 ghost use Rattle.feed_resolver_reply.specs.Replies.{reply_with};
 ghost use Rattle.feed_resolver_reply.specs.Messages.{IsMessageFor};
 ghost use Rattle.feed_resolver_reply.specs.declared.status.Status.TheVariants as status;
 ghost use Rattle.feed_resolver.specs.Answers.{is_of, tally_among};
-ghost use Rattle.feed_resolver.specs.Replies.{IsResponse, IsResponseAt, hits_reply, query_reply, resolve_reply};
+ghost use Rattle.feed_resolver.specs.Replies.{IsResponse, IsResponseAt, hits_reply, go_reply, resolve_reply};
 ghost use Rattle.feed_resolver.specs.Replies.{package_reply, redirect_reply, resource_reply, target_reply};
 ghost use Rattle.feed_resolver.specs.Replies.{method_refusal, plain_reply, form_refusal, form_reply};
 ghost use Rattle.feed_resolver.specs.Replies.{reply_to, response_to};
-ghost use Rattle.feed_resolver.specs.Validators.{final_reply};
+ghost use Rattle.feed_resolver.specs.Validators.{unless_preflight};
 ghost use Rattle.feed_resolver.specs.Messages.{IsMessageTo};
 ghost use Rattle.feed_resolver.specs.Status.{home_page, status_body};
 
@@ -27,8 +28,9 @@ use crate::validators::{preflight_status, tag_to, validated_reply};
 use feed_answer::Query;
 use feed_http_heads::{FIELD_LIMIT, Request, origin_form};
 use feed_keep::Keep;
+use feed_openurl::Refusal;
 use feed_releases::{ActiveRelease, Feed};
-use feed_resolver_hits::{query_refusal, read_query};
+use feed_resolver_hits::{Ask, read_query};
 use feed_resolver_reply::{Reply, Response, Status, bad_head_response, refusal};
 use feed_resolver_request::{
     FormFault, Representation, Resource, accepted_representation, find_request, form_of,
@@ -43,14 +45,28 @@ fn hits_reply(
     alloc: Global,
     status: Status,
     representation: Representation,
+    text: &[u8],
     actives: &[ActiveRelease<'_>],
     query: &Query,
 ) -> Result<Reply<'static>, AllocError>
-    ensures { IfOk result (λ reply. reply ≡ hits_reply status representation actives.now query.now) }
+    ensures { IfOk result (λ reply. reply ≡ hits_reply status representation text.now actives.now query.now) }
 {
     let mut body = Vec::new(alloc);
-    put_answer(alloc, &mut body, representation, actives, query)?;
+    put_answer(alloc, &mut body, representation, text, actives, query)?;
     Ok(Reply::new(status, representation, body))
+}
+
+fn unasked_reply(
+    alloc: Global,
+    status: Status,
+    representation: Representation,
+    text: &[u8],
+    reason: Refusal,
+) -> Result<Reply<'static>, AllocError>
+    ensures { IfOk result (λ reply. reply ≡ unasked_reply status representation (ask_of text.now) reason) }
+{
+    let ask = Ask::read(alloc, text)?;
+    feed_resolver_hits::unasked_reply(alloc, status, representation, &ask, reason)
 }
 
 fn resolve_reply(
@@ -62,8 +78,8 @@ fn resolve_reply(
     ensures { IfOk result (λ reply. reply ≡ resolve_reply representation text.now actives.now) }
 {
     match read_query(alloc, text)? {
-        Ok(query) => hits_reply(alloc, Status::Good, representation, actives, &query),
-        Err(reason) => query_refusal(alloc, representation, reason),
+        Ok(query) => hits_reply(alloc, Status::Good, representation, text, actives, &query),
+        Err(reason) => unasked_reply(alloc, Status::Good, representation, text, reason),
     }
 }
 
@@ -104,14 +120,22 @@ fn best_link<'a>(
 fn redirect_reply<'a>(
     alloc: Global,
     representation: Representation,
+    text: &[u8],
     actives: &[ActiveRelease<'a>],
     query: &Query,
 ) -> Result<Reply<'a>, AllocError>
-    ensures { IfOk result (λ reply. reply ≡ redirect_reply representation actives.now query.now) }
+    ensures { IfOk result (λ reply. reply ≡ redirect_reply representation text.now actives.now query.now) }
 {
     match best_link(alloc, actives, query)? {
         Some(url) => Ok(Reply::redirect(alloc, url)),
-        None => hits_reply(alloc, Status::NotFound, representation, actives, query),
+        None => hits_reply(
+            alloc,
+            Status::NotFound,
+            representation,
+            text,
+            actives,
+            query,
+        ),
     }
 }
 
@@ -121,12 +145,11 @@ fn go_reply<'a>(
     text: &[u8],
     actives: &[ActiveRelease<'a>],
 ) -> Result<Reply<'a>, AllocError>
-    ensures { IfOk result (λ reply. reply
-        ≡ query_reply representation (redirect_reply representation actives.now) (asked_of text.now)) }
+    ensures { IfOk result (λ reply. reply ≡ go_reply representation text.now actives.now) }
 {
     match read_query(alloc, text)? {
-        Ok(query) => redirect_reply(alloc, representation, actives, &query),
-        Err(reason) => query_refusal(alloc, representation, reason),
+        Ok(query) => redirect_reply(alloc, representation, text, actives, &query),
+        Err(reason) => unasked_reply(alloc, Status::NotFound, representation, text, reason),
     }
 }
 
@@ -281,21 +304,14 @@ pub(crate) fn reply_to<'a>(
     }
 }
 
-fn final_reply<'a>(
-    alloc: Global,
-    request: &Request<'_>,
-    body: &[u8],
-    tag: Vec<u8>,
-    max_age: u32,
-    actives: &[ActiveRelease<'a>],
-) -> Result<Reply<'a>, AllocError>
+// Returns the reply, or that to a preflight.
+fn unless_preflight<'a>(alloc: Global, request: &Request<'_>, reply: Reply<'a>) -> Reply<'a>
     requires { IsInBuffer request.now }
-    ensures { IfOk result (λ reply. (head : RequestHead) → HasHead request.now head
-        → reply ≡ final_reply head tag.items max_age (reply_to head body.now actives.now)) }
+    ensures { (head : RequestHead) → HasHead request.now head → result ≡ unless_preflight head reply.entry }
 {
     match preflight_status(request) {
-        Some(status) => Ok(Reply::new(status, Representation::Text, Vec::new(alloc))),
-        None => validated_reply(alloc, request, body, tag, max_age, actives),
+        Some(status) => Reply::new(status, Representation::Text, Vec::new(alloc)),
+        None => reply,
     }
 }
 
@@ -314,8 +330,9 @@ pub(crate) fn response_to(
         → IsMessageFor keeps (is_head head) response) }
 {
     let tag = tag_to(alloc, request, site, actives)?;
-    let reply = final_reply(alloc, request, body, tag, site.max_age(), actives)?;
-    reply.response(alloc, keeps, request.is_head())
+    let reply = validated_reply(alloc, request, body, tag, site.max_age(), actives)?;
+    let last = unless_preflight(alloc, request, reply);
+    last.response(alloc, keeps, request.is_head())
 }
 
 /// Returns the reply to the head at the front of the bytes, from the given releases. The reply says

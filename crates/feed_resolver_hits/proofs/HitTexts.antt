@@ -1,5 +1,5 @@
 -- The object of a hit parses to its value.
-use Rattle.std.proofs.Common.{◌≡◌, ◌<◌, ◌≤◌, ◌^◌, ◌+◌, ◌⊎◌, inl, inr, ℕ, suc, List, [], ◌∷◌, ◌++◌, Bool, true, false, Some, refl, sym, ap, ◌∙◌, arith, append_assoc, codes, length, map, lit≤}
+use Rattle.std.proofs.Common.{◌≡◌, ◌<◌, ◌≤◌, ◌^◌, ◌+◌, ◌⊎◌, inl, inr, ℕ, suc, List, [], ◌∷◌, ◌++◌, Bool, true, false, Some, refl, sym, ap, ◌∙◌, subst, arith, append_assoc, codes, length, map, lit≤}
 use Rattle.std.specs.Prelude.{All, ◌==◌, if◌then◌else◌}
 use Rattle.std.proofs.lemmas.List.{append-nil}
 use Rattle.json.specs.Json.{Json, array, document}
@@ -12,7 +12,7 @@ use Rattle.std.proofs.lemmas.List.Elements.{recursion_from_All}
 use Rattle.json.specs.Token.{Token}
 use Rattle.json.specs.Text.{content}
 use Rattle.json.specs.Lex.{Lexeme, token, comma, colon, lex, between, punctuate, fresh, after_value, after_comma, after_key}
-use Rattle.json.specs.Tree.{depth}
+use Rattle.json.specs.Tree.{depth, items_depth}
 use Rattle.json.proofs.Printed.Decimals.{IsNumber-decimal}
 use Rattle.json.proofs.Printed.Numbers.{lex-number}
 use Rattle.feed_names.specs.ReleaseName.{Name}
@@ -20,13 +20,13 @@ use Rattle.feed_kbart.specs.RowValue.{RowValue}
 use Rattle.feed_answer.specs.HitValue.{HitValue}
 use Rattle.feed_answer.specs.Grades.{grade_text}
 use Rattle.feed_resolver_reply.specs.JsonStrings.{json_string}
-use Rattle.feed_resolver_reply.proofs.JsonTexts.{Lexes, lexes_then, lexes_string, IsText, AreOf, text_of_lexemes, list_read}
+use Rattle.feed_resolver_reply.proofs.JsonTexts.{Lexes, lexes_then, lexes_string, IsText, AreOf, text_of_lexemes, list_read, list_in, items_shallow}
 use Rattle.feed_resolver_hits.specs.Hits.{ReleaseHitValue, name_text}
 use Rattle.feed_resolver_hits.specs.HitsJson.{release_members, grade_members, row_members, hit_object, more_start, more_object, more_items, hits_json, hit_value, more_value, item_values}
 use Rattle.feed_resolver_hits.specs.Laws.{HitsAreJson}
 
 -- a key, behind a comma, and a string
-abbrev string_lexemes : List ℕ → List ℕ → List Lexeme → List Lexeme
+abbrev pub string_lexemes : List ℕ → List ℕ → List Lexeme → List Lexeme
 string_lexemes key text more = comma ∷ token (Token.string key) ∷ colon ∷ token (Token.string text) ∷ more
 
 -- a text that is read as constant lexemes, and then a string
@@ -254,6 +254,30 @@ flat_items : (hits : List ReleaseHitValue) (last : List Item) → AllByRecursion
     → AllByRecursion (λ item. depth (item_value item) ≤ 1) (hit_items hits ++ last)
 flat_items [] last rest = rest
 flat_items (found ∷ more) last rest = (lit≤ tt, flat_items more last rest)
+
+each_of : (tally : TallyValue) → All (λ (found : ReleaseHitValue). found.hit.row.number < 2 ^ 64) tally.shown → tally.count < 2 ^ 64
+    → AllByRecursion (λ item. IsText (item_text item) (item_value item)) (items_in tally)
+each_of tally small counts =
+    let fits : left_out tally < 2 ^ 64 = omega arith in
+    each_item tally.shown (last_items (left_out tally == 0) (left_out tally) tally.is_whole)
+    (recursion_from_All (λ (found : ReleaseHitValue). found.hit.row.number < 2 ^ 64) tally.shown small)
+    (each_last (left_out tally == 0) (left_out tally) tally.is_whole fits)
+
+-- the hits in another text
+pub hits_in : (tally : TallyValue) → All (λ (found : ReleaseHitValue). found.hit.row.number < 2 ^ 64) tally.shown → tally.count < 2 ^ 64
+    → IsText (hits_json tally) (array (items_of (item_values tally)))
+hits_in tally small counts =
+    subst (λ (t : List ℕ). IsText t (array (items_of (item_values tally)))) (text_is tally)
+    (subst (λ (vs : List Json). IsText (json_list item_text (items_in tally)) (array (items_of vs)))
+    (values_of tally.shown (left_out tally == 0) (left_out tally) tally.is_whole)
+    (list_in item_text item_value (items_in tally) (each_of tally small counts)))
+
+-- and they are as deep as an object
+pub hits_flat : (tally : TallyValue) → items_depth (items_of (item_values tally)) ≤ 1
+hits_flat tally =
+    subst (λ (vs : List Json). items_depth (items_of vs) ≤ 1) (values_of tally.shown (left_out tally == 0) (left_out tally) tally.is_whole)
+    (items_shallow item_value (items_in tally)
+    (flat_items tally.shown (last_items (left_out tally == 0) (left_out tally) tally.is_whole) (flat_last (left_out tally == 0) (left_out tally) tally.is_whole)))
 
 pub hits_read : HitsAreJson
 hits_read tally small counts =

@@ -1,4 +1,5 @@
 pub mod HitTexts
+pub mod AnswerTexts
 pub mod BestLinks
 pub mod Redirects
 pub mod Written

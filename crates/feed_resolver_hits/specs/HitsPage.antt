@@ -12,6 +12,8 @@ use Rattle.feed_resolver_reply.specs.Escapes.{escaped}
 use Rattle.feed_resolver_reply.specs.Pieces.{joined}
 use Rattle.feed_resolver_reply.specs.Pages.{page_start, page_end}
 use Rattle.feed_resolver_hits.specs.declared.hits_page.TheConstants.{TABLE_HEAD, TABLE_END}
+use Rattle.feed_resolver_hits.specs.Asks.{AskValue}
+use Rattle.feed_resolver_hits.specs.CitationPage.{citation_part}
 use Rattle.feed_resolver_hits.specs.Links.{is_link}
 use Rattle.feed_resolver_hits.specs.Hits.{ReleaseHitValue}
 use Rattle.feed_resolver_hits.specs.Tallies.{TallyValue, left_out}
@@ -99,6 +101,10 @@ abbrev pub hits_part : TallyValue → List ℕ
 hits_part tally =
     if tally.count == 0 then codes "<p>No holdings match.</p>\n" else hits_table tally.shown ++ more_part tally
 
+-- the citation of the query, and its hits
+unfoldable pub answer_part : AskValue → TallyValue → List ℕ
+answer_part ask tally = citation_part ask ++ hits_part tally
+
 -- the hits that are shown, as an HTML page
-unfoldable pub hits_page : TallyValue → List ℕ
-hits_page tally = page_start (codes "Holdings") ++ (hits_part tally ++ page_end)
+unfoldable pub hits_page : AskValue → TallyValue → List ℕ
+hits_page ask tally = page_start (codes "Holdings") ++ (answer_part ask tally ++ page_end)

@@ -2,6 +2,8 @@
 use Rattle.std.specs.Prelude.{◌≡◌, ◌<◌, ◌^◌, ℕ, List, Some, true, All, map}
 use Rattle.json.specs.Json.{document, array}
 use Rattle.json.specs.Value.{items_of}
+use Rattle.feed_resolver_hits.specs.AnswerJson.{answer_json, answer_value}
+use Rattle.feed_resolver_hits.specs.Asks.{AskValue}
 use Rattle.feed_resolver_hits.specs.Links.{is_link}
 use Rattle.feed_resolver_hits.specs.Hits.{ReleaseHitValue, best_link}
 use Rattle.feed_resolver_hits.specs.HitsJson.{hits_json, item_values}
@@ -26,3 +28,9 @@ TallyTellsOfHits = (hits : List ReleaseHitValue) → tally_from (with_hits no_hi
 abbrev pub HitsAreJson : Type 0
 HitsAreJson = (tally : TallyValue) → All (λ found. found.hit.row.number < 2 ^ 64) tally.shown → tally.count < 2 ^ 64
     → document (hits_json tally) ≡ Some (array (items_of (item_values tally)))
+
+-- an answer in JSON is an object with the citation, the query that is looked up, the reason why none is, and the hits
+abbrev pub AnswerIsJson : Type 0
+AnswerIsJson = (ask : AskValue) (refused : List ℕ) (tally : TallyValue)
+    → All (λ found. found.hit.row.number < 2 ^ 64) tally.shown → tally.count < 2 ^ 64
+    → document (answer_json ask refused tally) ≡ Some (answer_value ask refused tally)

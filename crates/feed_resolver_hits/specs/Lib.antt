@@ -6,7 +6,10 @@ pub mod Tallies
 pub mod Tallying
 pub mod HitsText
 pub mod HitsJson
+pub mod Asks
+pub mod CitationPage
 pub mod HitsPage
+pub mod AnswerJson
 pub mod Asked
 pub mod QueryRefusals
 pub mod Laws

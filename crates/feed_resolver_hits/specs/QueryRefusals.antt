@@ -1,10 +1,19 @@
 -- The replies to queries for which nothing is looked up.
-use Rattle.std.specs.Prelude.{ℕ, List, codes}
+use Rattle.std.specs.Prelude.{ℕ, Bool, true, false, if◌then◌else◌, List, [], ◌∷◌, ◌++◌, codes}
 use Rattle.feed_openurl.specs.declared.fault.Refusal.{Refusal}
 use Rattle.feed_openurl.specs.declared.fault.Refusal.TheVariants as reason
 use Rattle.feed_resolver_request.specs.declared.representation.Representation.{Representation}
-use Rattle.feed_resolver_reply.specs.Replies.{ReplyValue, refusal}
+use Rattle.feed_resolver_request.specs.declared.representation.Representation.TheVariants.{Text, Json, Html}
+use Rattle.feed_resolver_reply.specs.Pages.{fault_body, page_start, page_end}
+use Rattle.feed_resolver_reply.specs.Pieces.{joined}
+use Rattle.feed_resolver_reply.specs.Replies.{ReplyValue, refusal, reply_with}
+use Rattle.feed_resolver_reply.specs.declared.status.Status.{Status}
 use Rattle.feed_resolver_reply.specs.declared.status.Status.TheVariants as status
+use Rattle.feed_resolver_hits.specs.AnswerJson.{answer_json}
+use Rattle.feed_resolver_hits.specs.Asks.{AskValue, names_work}
+use Rattle.feed_resolver_hits.specs.CitationPage.{citation_part}
+use Rattle.feed_resolver_hits.specs.Tallies.{tally_of}
+use Rattle.feed_resolver_hits.specs.declared.refusals.TheConstants.{NOTHING}
 
 -- the name of a reason
 abbrev pub reason_text : Refusal → List ℕ
@@ -14,6 +23,33 @@ reason_text reason.NoIssn = codes "NoIssn"
 reason_text reason.NoIsbn = codes "NoIsbn"
 reason_text reason.TooMany = codes "TooMany"
 
--- the reply to a query that is rejected
-abbrev pub query_refusal : Representation → Refusal → ReplyValue
-query_refusal representation reason = refusal status.BadRequest representation (reason_text reason)
+-- the query is read, and has no number that is looked up
+abbrev pub is_numberless : Refusal → Bool
+is_numberless reason.NoIssn = true
+is_numberless reason.NoIsbn = true
+is_numberless reason = false
+
+-- the citation of the query, and that nothing is looked up
+unfoldable pub nothing_part : AskValue → List ℕ
+nothing_part ask = citation_part ask ++ NOTHING.now
+
+-- the body for such a query, by whether its citation names a work
+unfoldable pub numberless_body : Bool → Representation → AskValue → Refusal → List ℕ
+numberless_body named Html ask why = page_start (codes "Nothing to look up") ++ (nothing_part ask ++ page_end)
+numberless_body true Text ask why = joined (codes "nothing to look up: " ∷ reason_text why ∷ codes "\n" ∷ [])
+numberless_body true Json ask why = answer_json ask (reason_text why) (tally_of [])
+numberless_body false Text ask why = fault_body Text (reason_text why)
+numberless_body false Json ask why = fault_body Json (reason_text why)
+
+-- the status of the reply to such a query
+abbrev pub numberless_status : Bool → Status → Status
+numberless_status named code = if named then code else status.BadRequest
+
+-- the reply to a query for which nothing is looked up: with this status, if it has no number and its citation names a work;
+-- otherwise it is rejected
+abbrev pub unasked_reply : Status → Representation → AskValue → Refusal → ReplyValue
+unasked_reply code representation ask why =
+    if is_numberless why
+    then reply_with (numberless_status (names_work ask.citation) code) representation
+    (numberless_body (names_work ask.citation) representation ask why)
+    else refusal status.BadRequest representation (reason_text why)

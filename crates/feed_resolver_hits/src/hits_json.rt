@@ -137,7 +137,7 @@ fn put_more(out: &mut Vec<u8>, tally: &Tally<'_>) -> Result<(), AllocError>
 
 /// Writes the hits that a tally shows as a list of objects. If others are left out, the last item says how many.
 #[tactic(auto, unfolding(crate::specs::HitsJson::hits_json))]
-pub fn put_hits_json(out: &mut Vec<u8>, tally: &Tally<'_>) -> Result<(), AllocError>
+pub(crate) fn put_hits_json(out: &mut Vec<u8>, tally: &Tally<'_>) -> Result<(), AllocError>
     ensures { OnOk result (out.new.items ≡ out.old.items ++ hits_json (tally_from tally.now)) }
 {
     put_list_start(out)?;

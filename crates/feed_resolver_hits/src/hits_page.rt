@@ -7,9 +7,12 @@ ghost use Rattle.feed_dates.specs.Days.{date_of_day};
 ghost use Rattle.feed_resolver_reply.specs.Pieces.{joined, piece_text};
 ghost use Rattle.feed_resolver_hits.specs.HitsPage.{grade_words, title_cell, or_nothing, dates_text, volumes_text};
 ghost use Rattle.feed_resolver_hits.specs.HitsPage.{coverage_cells, text_cells, hit_row, table_head, table_end};
-ghost use Rattle.feed_resolver_hits.specs.HitsPage.{hits_table, at_least, more_text, more_part, hits_part, hits_page};
+ghost use Rattle.feed_resolver_hits.specs.HitsPage.{hits_table, at_least, more_text, more_part, hits_part};
+ghost use Rattle.feed_resolver_hits.specs.HitsPage.{answer_part, hits_page};
 ghost use Rattle.feed_resolver_hits.specs.Tallying.{tally_from};
 
+use crate::ask::Ask;
+use crate::citation_page::put_citation;
 use crate::hits::ReleaseHit;
 use crate::link::is_link;
 use crate::tally::Tally;
@@ -228,12 +231,21 @@ fn put_hits(out: &mut Vec<u8>, tally: &Tally<'_>) -> Result<(), AllocError>
     put_more(out, tally)
 }
 
-/// Writes the page that lists the hits that a tally shows. If others are left out, it says how many.
+#[tactic(auto, unfolding(crate::specs::HitsPage::answer_part))]
+fn put_answer(out: &mut Vec<u8>, ask: &Ask, tally: &Tally<'_>) -> Result<(), AllocError>
+    ensures { OnOk result (out.new.items ≡ out.old.items ++ answer_part ask.now (tally_from tally.now)) }
+{
+    put_citation(out, ask)?;
+    put_hits(out, tally)
+}
+
+/// Writes the page with the citation of a query and the hits that a tally shows. If others are left out, it says how
+/// many.
 #[tactic(auto, unfolding(crate::specs::HitsPage::hits_page))]
-pub fn put_hits_page(out: &mut Vec<u8>, tally: &Tally<'_>) -> Result<(), AllocError>
-    ensures { OnOk result (out.new.items ≡ out.old.items ++ hits_page (tally_from tally.now)) }
+pub fn put_hits_page(out: &mut Vec<u8>, ask: &Ask, tally: &Tally<'_>) -> Result<(), AllocError>
+    ensures { OnOk result (out.new.items ≡ out.old.items ++ hits_page ask.now (tally_from tally.now)) }
 {
     put_page_start(out, b"Holdings")?;
-    put_hits(out, tally)?;
+    put_answer(out, ask, tally)?;
     put_page_end(out)
 }

@@ -1,5 +1,5 @@
 //! Laws of hits, each stated as the contract of a function with an empty body.
-ghost use Rattle.feed_resolver_hits.specs.Laws.{BestLinkRanksHighest, HitsAreJson, RedirectsToLink};
+ghost use Rattle.feed_resolver_hits.specs.Laws.{AnswerIsJson, BestLinkRanksHighest, HitsAreJson, RedirectsToLink};
 ghost use Rattle.feed_resolver_hits.specs.Laws.{TallyTellsOfHits};
 
 /// The URL of a redirect is one of `http` or `https` in at most 8,000 bytes of visible ASCII, so no byte of a file can
@@ -22,4 +22,10 @@ pub fn tally_tells_of_hits()
 /// order, and one more if others are left out.
 pub fn hits_are_json()
     ensures { HitsAreJson }
+{}
+
+/// An answer in JSON is, by its grammar, an object with the citation, the query that is looked up, the reason why none
+/// is, and the hits.
+pub fn answer_is_json()
+    ensures { AnswerIsJson }
 {}

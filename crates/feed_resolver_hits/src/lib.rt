@@ -2,8 +2,11 @@
 //! the best link among them; and how they are written as text, as JSON and as an HTML page.
 #![tactic(auto)]
 
+mod answer_json;
+mod ask;
 mod asked;
 mod candidates;
+mod citation_page;
 mod hits;
 mod hits_json;
 mod hits_page;
@@ -15,11 +18,15 @@ mod refusals;
 mod shown;
 mod tally;
 
+pub use answer_json::put_answer_json;
+pub use ask::Ask;
 pub use asked::read_query;
 pub use hits::{ReleaseHit, name_text};
-pub use hits_json::{put_hits_json, put_release_members};
+pub use hits_json::put_release_members;
 pub use hits_page::put_hits_page;
 pub use hits_text::put_release;
-pub use laws::{best_link_ranks_highest, hits_are_json, redirects_to_link, tally_tells_of_hits};
-pub use refusals::query_refusal;
+pub use laws::{
+    answer_is_json, best_link_ranks_highest, hits_are_json, redirects_to_link, tally_tells_of_hits,
+};
+pub use refusals::unasked_reply;
 pub use tally::Tally;

@@ -165,7 +165,7 @@ whole_tokens : (text : List ℕ) (ls : List Lexeme) → Lexes text ls → tokens
 unfolding lex
 whole_tokens text ls lexes = ap (λ t. punctuate fresh (lex between t)) (sym (append-nil text)) ∙ ap (punctuate fresh) (lexes.lexed [] ∙ append-nil ls)
 
-parsed : (text : List ℕ) (value : Json) → tokens text ≡ json_tokens value → depth value ≤ 128 → document text ≡ Some value
+pub parsed : (text : List ℕ) (value : Json) → tokens text ≡ json_tokens value → depth value ≤ 128 → document text ≡ Some value
 parsed text value same shallow =
     ap (option_and_then (λ p. if_last p.0 p.1)) (ap (json.value max_depth) (same ∙ sym (append-nil (json_tokens value))) ∙ value-json_tokens value max_depth [] shallow)
 
@@ -196,7 +196,7 @@ all_items {A} item value (x ∷ xs) each = let more = items_from item 1 xs in
     ∙ each.0 fresh refl (more ++ closing)
     ∙ ap (λ ts. json_tokens (value x) ++ ts) (more_items item value xs 1 refl each.1)
 
-items_shallow : {A : Type 0} → (value : A → Json) (xs : List A) → AllByRecursion (λ x. depth (value x) ≤ 1) xs → items_depth (items_of (map value xs)) ≤ 1
+pub items_shallow : {A : Type 0} → (value : A → Json) (xs : List A) → AllByRecursion (λ x. depth (value x) ≤ 1) xs → items_depth (items_of (map value xs)) ≤ 1
 items_shallow {A} value [] flat = omega arith
 items_shallow {A} value (x ∷ xs) flat = let one : depth (value x) ≤ 1 = flat.0 in let more = items_shallow value xs flat.1 in omega arith
 
@@ -206,6 +206,41 @@ pub list_read : {A : Type 0} → (item : A → List ℕ) (value : A → Json) (x
 unfolding lex punctuate closing
 list_read {A} item value xs each flat = let shallow = items_shallow value xs flat in
     parsed (json_list item xs) (array (items_of (map value xs))) (ap (λ ts. Token.begin_array ∷ ts) (all_items item value xs each)) (omega arith)
+
+-- the items that are left of a list, with what follows the list
+items_in : {A : Type 0} → (item : A → List ℕ) (value : A → Json) (xs : List A) (place : ℕ) (rest : List ℕ) → (place == 0) ≡ false
+    → AllByRecursion (λ x. IsText (item x) (value x)) xs
+    → punctuate after_value (lex between (items_from item place xs ++ (closing ++ rest))) ≡ items_tokens (items_of (map value xs)) ++ punctuate after_value (lex between rest)
+unfolding lex punctuate closing
+items_in {A} item value [] place rest some each = refl
+items_in {A} item value (x ∷ xs) place rest some each = let more = items_from item (place + 1) xs in
+    rw some (ap (λ t. punctuate after_comma (lex between t)) (append_assoc (item x) more (closing ++ rest))
+    ∙ each.0 after_comma refl (more ++ (closing ++ rest))
+    ∙ ap (λ ts. json_tokens (value x) ++ ts) (items_in item value xs (place + 1) rest (ne_eqb (place + 1) 0 (λ e. omega arith)) each.1)
+    ∙ sym (append_assoc (json_tokens (value x)) (items_tokens (items_of (map value xs))) (punctuate after_value (lex between rest))))
+
+all_items_in : {A : Type 0} → (item : A → List ℕ) (value : A → Json) (xs : List A) (rest : List ℕ) → AllByRecursion (λ x. IsText (item x) (value x)) xs
+    → punctuate fresh (lex between (items_from item 0 xs ++ (closing ++ rest))) ≡ items_tokens (items_of (map value xs)) ++ punctuate after_value (lex between rest)
+unfolding lex punctuate closing
+all_items_in {A} item value [] rest each = refl
+all_items_in {A} item value (x ∷ xs) rest each = let more = items_from item 1 xs in
+    ap (λ t. punctuate fresh (lex between t)) (append_assoc (item x) more (closing ++ rest))
+    ∙ each.0 fresh refl (more ++ (closing ++ rest))
+    ∙ ap (λ ts. json_tokens (value x) ++ ts) (items_in item value xs 1 rest refl each.1)
+    ∙ sym (append_assoc (json_tokens (value x)) (items_tokens (items_of (map value xs))) (punctuate after_value (lex between rest)))
+
+-- a list in another text is the array of its values too
+pub list_in : {A : Type 0} → (item : A → List ℕ) (value : A → Json) (xs : List A) → AllByRecursion (λ x. IsText (item x) (value x)) xs
+    → IsText (json_list item xs) (array (items_of (map value xs)))
+unfolding lex punctuate closing
+list_in {A} item value xs each fresh may rest =
+    ap (λ t. Token.begin_array ∷ punctuate fresh (lex between t)) (append_assoc (items_from item 0 xs) closing rest)
+    ∙ ap (λ ts. Token.begin_array ∷ ts) (all_items_in item value xs rest each)
+list_in {A} item value xs each after_value may rest = absurd (cc)
+list_in {A} item value xs each after_comma may rest =
+    ap (λ t. Token.begin_array ∷ punctuate fresh (lex between t)) (append_assoc (items_from item 0 xs) closing rest)
+    ∙ ap (λ ts. Token.begin_array ∷ ts) (all_items_in item value xs rest each)
+list_in {A} item value xs each after_key may rest = absurd (cc)
 
 -- ---- the body of an error reply
 

@@ -37,8 +37,9 @@ fn put_fault_page(out: &mut Vec<u8>, name: &[u8]) -> Result<(), AllocError>
     put_page_end(out)
 }
 
+/// Writes the body of an error reply.
 #[tactic(auto, unfolding(crate::specs::Pages::fault_body))]
-fn put_fault(
+pub fn put_fault(
     out: &mut Vec<u8>,
     representation: Representation,
     name: &[u8],

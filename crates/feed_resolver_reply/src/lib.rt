@@ -15,7 +15,7 @@ mod response;
 mod status;
 
 pub use escape::put;
-pub use fault::{bad_head_response, refusal};
+pub use fault::{bad_head_response, put_fault, refusal};
 pub use fetch_replies::fetch_reply;
 pub use form::put_form;
 pub use json_text::{put_comma, put_list_end, put_list_start};

@@ -1,0 +1,107 @@
+//! What a reply tells of a query beside its hits.
+ghost use Rattle.std.specs.Prelude.{◌≡◌, IfOk};
+ghost use Rattle.feed_resolver_hits.specs.Asks.{ask_by, is_blank, is_nameless, is_placeless, names_work, query_text};
+
+use feed_openurl::{Citation, Understanding};
+use std::alloc::{AllocError, Global};
+use std::marker::Model;
+
+/// What a reply tells of a query beside its hits.
+#[derive(Drop)]
+pub struct Ask {
+    pub(crate) citation: Citation,
+    /// The query that is looked up, as an OpenURL 1.0. It is empty if nothing is looked up.
+    pub(crate) query: Vec<u8>,
+    /// Whether a date is read, and a volume.
+    pub(crate) has_date: bool,
+    pub(crate) has_volume: bool,
+}
+
+impl Model for Ask {
+    ghost use Rattle.feed_resolver_hits.specs.Asks.{AskValue};
+
+    ghost Value = { AskValue };
+
+    ghost view = { λ a. record {
+      citation = a.citation;
+      query = a.query.items;
+      has_date = a.has_date;
+      has_volume = a.has_volume;
+    } };
+}
+
+fn query_text(alloc: Global, understood: &Understanding) -> Result<Vec<u8>, AllocError>
+    ensures { IfOk result (λ text. text.items ≡ query_text understood.now) }
+{
+    match understood.refusal() {
+        Some(_) => Ok(Vec::new(alloc)),
+        None => understood.write(alloc),
+    }
+}
+
+fn ask_by(alloc: Global, citation: Citation, understood: &Understanding) -> Result<Ask, AllocError>
+    ensures { IfOk result (λ ask. ask ≡ ask_by citation understood.now) }
+{
+    Ok(Ask {
+        citation,
+        query: query_text(alloc, understood)?,
+        has_date: understood.date().is_some(),
+        has_volume: understood.volume().is_some(),
+    })
+}
+
+/// Returns whether a citation names a work: by its DOI, its PMID or a title.
+pub(crate) fn names_work(citation: &Citation) -> bool
+    ensures { result ≡ names_work citation.now }
+{
+    !citation.doi.as_bytes().is_empty()
+        || !citation.pmid.as_bytes().is_empty()
+        || !citation.title.as_bytes().is_empty()
+        || !citation.article.as_bytes().is_empty()
+}
+
+fn is_nameless(citation: &Citation) -> bool
+    ensures { result ≡ is_nameless citation.now }
+{
+    citation.article.as_bytes().is_empty()
+        && citation.title.as_bytes().is_empty()
+        && citation.author.as_bytes().is_empty()
+        && citation.doi.as_bytes().is_empty()
+        && citation.pmid.as_bytes().is_empty()
+}
+
+fn is_placeless(citation: &Citation) -> bool
+    ensures { result ≡ is_placeless citation.now }
+{
+    citation.date.as_bytes().is_empty()
+        && citation.volume.as_bytes().is_empty()
+        && citation.issue.as_bytes().is_empty()
+        && citation.page.as_bytes().is_empty()
+}
+
+/// Returns whether there is nothing in a citation.
+pub(crate) fn is_blank(citation: &Citation) -> bool
+    ensures { result ≡ is_blank citation.now }
+{
+    is_nameless(citation) && is_placeless(citation)
+}
+
+impl Ask {
+    ghost use Rattle.feed_resolver_hits.specs.Asks.{ask_of};
+
+    /// Reads what a reply tells of a query, which may have any length.
+    ///
+    /// # Errors
+    ///
+    /// Running out of memory.
+    #[tactic(auto, unfolding(crate::specs::Asks::ask_of))]
+    pub fn read(alloc: Global, text: &[u8]) -> Result<Ask, AllocError>
+        ensures { IfOk result (λ ask. ask ≡ ask_of text.now) }
+    {
+        let citation = Citation::read(alloc, text)?;
+        match Understanding::read(alloc, text) {
+            Ok(understood) => ask_by(alloc, citation, &understood),
+            Err(_) => Err(AllocError),
+        }
+    }
+}
