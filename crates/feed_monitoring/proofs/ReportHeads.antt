@@ -106,7 +106,8 @@ length_valid n small = All-from_recursion IsField (length_field n ∷ []) (
 
 fields_valid : (kind : ReportKind) (keeps : Bool) (n : ℕ) → n < 2 ^ 64 → All IsField (fields kind keeps n)
 fields_valid kind keeps n small =
-    All-append IsField (start_fields kind) ((length_field n ∷ []) ++ end_fields keeps) (start_valid kind) (All-append IsField (length_field n ∷ []) (end_fields keeps) (length_valid n small) (end_valid keeps))
+    All-append IsField (start_fields kind) ((length_field n ∷ []) ++ end_fields keeps) (start_valid kind)
+    (All-append IsField (length_field n ∷ []) (end_fields keeps) (length_valid n small) (end_valid keeps))
 
 code_valid : (kind : ReportKind) → (length (code kind) ≡ 3) × AllPass is_ascii_digit (code kind)
 code_valid Metrics = (refl, AllPass-from_list_all is_ascii_digit (codes "200") refl)

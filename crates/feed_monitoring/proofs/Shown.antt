@@ -9,8 +9,8 @@ use Rattle.feed_monitoring.specs.declared.log_line.LogPolicy.{LogPolicy}
 use Rattle.feed_monitoring.specs.Exchanges.{entry_of, line_of, is_hidden}
 
 pub hidden : (policy : LogPolicy) (e : Exchange) (head : RequestHead) (old : List ℕ) (b : Bool) → b ≡ is_hidden policy head → b ≡ true → old ≡ old ++ line_of policy e head
-hidden policy e head old b is yes = rw (← is, yes) (sym (append-nil old))
+hidden policy e head old b is true_is = rw (← is, true_is) (sym (append-nil old))
 
 pub shown : (policy : LogPolicy) (e : Exchange) (head : RequestHead) (old new : List ℕ) (b : Bool) → b ≡ is_hidden policy head → b ≡ false
     → new ≡ old ++ line_text (entry_of policy e head.fields) → new ≡ old ++ line_of policy e head
-shown policy e head old new b is no written = rw (← is, no) written
+shown policy e head old new b is false_is written = rw (← is, false_is) written

@@ -9,21 +9,21 @@ returns-in-Some-clause-counted c = let found = c.in-Some.ensures.found in
     record {
       named = target_of found.head;
       is = inr (found.head, found.begins, refl);
-      requests = c.record_request-in-Some.ensures.requests found.head found.has;
-      times = c.record_request-in-Some.ensures.times;
+      requests = c.record_request.ensures.requests found.head found.has;
+      times = c.record_request.ensures.times;
     }
 
 pub returns-in-Some-clause-line : goal.returns-in-Some-clause-line
 returns-in-Some-clause-line c = let found = c.in-Some.ensures.found in
-    on_ok_weaker c.record_request-in-Some.result (λ written. inr (found.head, found.begins, written found.head found.has)) c.record_request-in-Some.ensures.line
+    on_ok_weaker c.record_request.result (λ written. inr (found.head, found.begins, written found.head found.has)) c.record_request.ensures.line
 
 pub returns-in-None-clause-counted : goal.returns-in-None-clause-counted
 returns-in-None-clause-counted c = record {
   named = target.Other;
   is = inl (c.in-None.ensures.found, refl);
-  requests = c.count_exchange-in-None.ensures.requests;
-  times = c.count_exchange-in-None.ensures.times;
+  requests = c.count_exchange.ensures.requests;
+  times = c.count_exchange.ensures.times;
 }
 
 pub returns-in-None-clause-line : goal.returns-in-None-clause-line
-returns-in-None-clause-line c = on_ok_weaker c.put_entry-in-None.result (λ written. inl (c.in-None.ensures.found, written [] refl)) c.put_entry-in-None.ensures
+returns-in-None-clause-line c = on_ok_weaker c.put_entry.result (λ written. inl (c.in-None.ensures.found, written [] refl)) c.put_entry.ensures
