@@ -221,7 +221,8 @@ def main():
         removed, changed = rng.randint(0, 100), rng.randint(0, 100)
         ran = subprocess.run(["kbfeed", "diff", OLD, NEW, "--json", "--max-removed", str(removed), "--max-changed",
                               str(changed)], capture_output=True, text=True, check=False)
-        status = max(status_with(len(old[0]), len(result[2]), removed), status_with(len(old[0]), len(result[1]), changed))
+        rows = len(old[0])
+        status = max(status_with(rows, len(result[2]), removed), status_with(rows, len(result[1]), changed))
         if ran.returncode != status or ran.stderr or json.loads(ran.stdout) != object_of(old, new, result):
             differ += 1
             print(f"pair {at} of seed {seed} differs: status {ran.returncode} for {status}")

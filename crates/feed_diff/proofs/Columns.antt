@@ -45,8 +45,12 @@ numbers = option_decides nat_eq Decides-eqb
 
 forth : (one other : RowValue) → ((label : Label) → is_same label one other ≡ true) → content one ≡ content other
 forth one other h =
-    let print = both_true (option_eq bytes_eq (print_issn one.identifiers) (print_issn other.identifiers)) (option_eq bytes_eq (print_isbn one.identifiers) (print_isbn other.identifiers)) (h PrintIdentifier) in
-    let online = both_true (option_eq bytes_eq (online_issn one.identifiers) (online_issn other.identifiers)) (option_eq bytes_eq (online_isbn one.identifiers) (online_isbn other.identifiers)) (h OnlineIdentifier) in
+    let print =
+    both_true (option_eq bytes_eq (print_issn one.identifiers) (print_issn other.identifiers)) (option_eq bytes_eq (print_isbn one.identifiers) (print_isbn other.identifiers))
+    (h PrintIdentifier) in
+    let online =
+    both_true (option_eq bytes_eq (online_issn one.identifiers) (online_issn other.identifiers)) (option_eq bytes_eq (online_isbn one.identifiers) (online_isbn other.identifiers))
+    (h OnlineIdentifier) in
     same_content one other
     (record {
       title_id = (bytes_decides one.title_id other.title_id).0 (h TitleId);

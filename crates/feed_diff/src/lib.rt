@@ -1,7 +1,7 @@
 //! Compares two holdings lists: the rows that a new list removes, changes and adds.
 //!
-//! `compare` pairs the rows of both lists and returns a `Comparison`. Rows that are equal in the thirteen columns that a
-//! list is read by are in no part of it, whatever their order.
+//! `compare` pairs the rows of both lists and returns a `Comparison`. It does not mention rows that are equal in the
+//! thirteen columns that a list is read by, whatever their order.
 #![tactic(auto)]
 
 mod change;

@@ -1,4 +1,5 @@
-//! The commands of kbfeed that need no database: `check`, `diff`, `answer` and `serve` on files, and `openurl` on a query.
+//! The commands of kbfeed that need no database: `check`, `diff`, `answer` and `serve` on files, and `openurl` on a
+//! query.
 #![tactic(auto)]
 
 mod answer;
