@@ -275,7 +275,7 @@ fn write_identifier<O: Write>(
 }
 
 fn write_day<O: Write>(out: &mut O, day: Option<i32>) -> io::Result<()> {
-    match day.and_then(write_date) {
+    match day.and_then(|day| write_date(day)) {
         Some(date) => write_quoted(out, &date),
         None => out.write_all(b"null"),
     }
