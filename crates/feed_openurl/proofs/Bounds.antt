@@ -1,18 +1,18 @@
 -- The texts of identifiers, dates and volumes are short, and a form writes each of their bytes as it is.
 use Rattle.std.proofs.Common.{◌≡◌, ◌<◌, ◌≤◌, ◌+◌, ◌-◌, ◌*◌, ◌%◌, ◌==◌, ℕ, Bool, true, false, ◌&&◌, ◌||◌, List, [], ◌∷◌, ◌++◌, length}
 use Rattle.std.proofs.Common.{Option, Some, None, if◌then◌else◌, is_some, codes, refl, sym, ap, subst, ◌∙◌, map, reverse, arith, length-append, mul-suc, nat_le, filter}
-use Rattle.std.specs.Prelude.{IfSome, option_map}
+use Rattle.std.specs.Prelude.{IfSome, option_map, slice_index, take}
 use Rattle.std.specs.Char.{is_ascii_digit}
 use Rattle.std.specs.List.{All, list_all}
 use Rattle.std.proofs.lemmas.Bool.{and_parts, cond-false, cond-true, leb-true}
 use Rattle.std.proofs.lemmas.Bool.Decides.{nat_tests}
-use Rattle.std.proofs.lemmas.List.{reverse-append, reverse-reverse}
-use Rattle.std.proofs.lemmas.List.Elements.{All-cons, All-from_recursion, All-head, All-nil, All-push, All-tail, All-weaker, recursion_from_All}
+use Rattle.std.proofs.lemmas.List.{length-take-le, reverse-append, reverse-reverse}
+use Rattle.std.proofs.lemmas.List.Elements.{All-append, All-cons, All-from_recursion, All-head, All-nil, All-push, All-tail, All-weaker, recursion_from_All}
 use Rattle.form_urlencoded.specs.Form.{IsUnchanged, append_pair, byte_serialize, extend_pairs, is_nonempty, is_unchanged}
 use Rattle.form_urlencoded.proofs.FormLemmas.{byte_serialize-cons, byte_serialize-nil}
-use Rattle.feed_identifiers.specs.Check.{are_seven_digits, capital, is_check, is_x}
-use Rattle.feed_identifiers.specs.Isbn.{are_nine_digits, check_digit, is_no_hyphen, isbn_of_characters, of_ten, of_thirteen, sum_of_twelve, thirteen}
-use Rattle.feed_identifiers.specs.Issn.{issn_of_characters, issn_of_digits}
+use Rattle.feed_identifiers.specs.Check.{capital, is_check, is_x, weighted_sum}
+use Rattle.feed_identifiers.specs.Isbn.{check_digit, has_prefix, is_isbn_10, is_isbn_13, is_no_hyphen, isbn_13_of, isbn_of_characters, weights_of_thirteen}
+use Rattle.feed_identifiers.specs.Issn.{issn_of_characters, issn_of_digits, printed}
 use Rattle.feed_identifiers.specs.Text.{skip_spaces, trimmed}
 use Rattle.feed_dates.specs.Days.{day_of_date, day_of_parts, four_digits, two_digits}
 use Rattle.feed_dates.specs.DayRanges.{days_of, days_of_month, days_of_year, query_days_of, single_day, with_hyphens}
@@ -66,108 +66,86 @@ capital_of b false e = digit_kept b (or_none (is_ascii_digit b) e)
 capital_kept : (b : ℕ) → is_check b ≡ true → IsUnchanged (capital b)
 capital_kept b e = capital_of b (is_x b) e
 
-last_kept : (b : ℕ) → ((b == 56) || (b == 57)) ≡ true → IsUnchanged b
-last_kept b e = grind (arith, nat_tests)
-
-check_kept : (sum : ℕ) → IsUnchanged (check_digit sum)
+check_kept : (sum : ℕ) → IsUnchanged (48 + (10 - sum % 10) % 10)
 check_kept sum = small ((10 - sum % 10) % 10) (omega arith)
   where
     small : (n : ℕ) → n ≤ 9 → IsUnchanged (48 + n)
     small n h = grind (arith, nat_tests)
 
--- the digits of an identifier
-record AreKept (a b c d e f g : ℕ) : Type 0 where
-  first : IsUnchanged a
-  second : IsUnchanged b
-  third : IsUnchanged c
-  fourth : IsUnchanged d
-  fifth : IsUnchanged e
-  sixth : IsUnchanged f
-  seventh : IsUnchanged g
-
-seven_kept : (a b c d e f g : ℕ) → are_seven_digits a b c d e f g ≡ true → AreKept a b c d e f g
-seven_kept a b c d e f g t7 =
-    let t6 = and_parts _ (is_ascii_digit g) t7 in
-    let t5 = and_parts _ (is_ascii_digit f) t6.0 in
-    let t4 = and_parts _ (is_ascii_digit e) t5.0 in
-    let t3 = and_parts _ (is_ascii_digit d) t4.0 in
-    let t2 = and_parts _ (is_ascii_digit c) t3.0 in
-    let t1 = and_parts (is_ascii_digit a) (is_ascii_digit b) t2.0 in
-    record {
-      first = digit_kept a t1.0;
-      second = digit_kept b t1.1;
-      third = digit_kept c t2.1;
-      fourth = digit_kept d t3.1;
-      fifth = digit_kept e t4.1;
-      sixth = digit_kept f t5.1;
-      seventh = digit_kept g t6.1;
-    }
+digits_kept : (digits : List ℕ) → list_all is_ascii_digit digits ≡ true → All IsUnchanged digits
+digits_kept [] all = All-nil IsUnchanged
+digits_kept (b ∷ digits) all =
+    let parts = and_parts (is_ascii_digit b) (list_all is_ascii_digit digits) all in
+    All-cons IsUnchanged b digits (digit_kept b parts.0) (digits_kept digits parts.1)
 
 -- an ISSN has nine bytes
-abbrev issn_text : ℕ → ℕ → ℕ → ℕ → ℕ → ℕ → ℕ → ℕ → List ℕ
-issn_text a b c d e f g check = a ∷ b ∷ c ∷ d ∷ 45 ∷ e ∷ f ∷ g ∷ capital check ∷ []
-
-issn_short : (a b c d e f g check : ℕ) → AreKept a b c d e f g → is_check check ≡ true → IsShort 9 (issn_text a b c d e f g check)
-issn_short a b c d e f g check k is = record {
-  bound = omega arith;
-  kept = All-from_recursion IsUnchanged (issn_text a b c d e f g check)
-      (k.first, (k.second, (k.third, (k.fourth, (refl, (k.fifth, (k.sixth, (k.seventh, (capital_kept check is, tt)))))))));
-}
-
-digits_short : (a b c d e f g check : ℕ) (text : List ℕ) → issn_of_digits a b c d e f g check ≡ Some text → IsShort 9 text
+digits_short : (a b c d e f g check : ℕ) (text : List ℕ) → issn_of_digits (a ∷ b ∷ c ∷ d ∷ e ∷ f ∷ g ∷ []) check ≡ Some text → IsShort 9 text
 digits_short a b c d e f g check text made =
-    let test = passes _ _ text made in
-    let front = and_parts (are_seven_digits a b c d e f g && is_check check) _ test in
-    let parts = and_parts (are_seven_digits a b c d e f g) (is_check check) front.0 in
-    subst (IsShort 9) (sym (value_is _ (issn_text a b c d e f g check) text made)) (issn_short a b c d e f g check (seven_kept a b c d e f g parts.0) parts.1)
+    let digits = a ∷ b ∷ c ∷ d ∷ e ∷ f ∷ g ∷ [] in
+    let front = and_parts (list_all is_ascii_digit digits && is_check check) _ (passes _ _ text made) in
+    let parts = and_parts (list_all is_ascii_digit digits) (is_check check) front.0 in
+    let all = digits_kept digits parts.0 in
+    let first = a ∷ b ∷ c ∷ d ∷ [] in
+    let last = e ∷ f ∷ g ∷ [] in
+    let r = recursion_from_All IsUnchanged digits all in
+    let front_kept = All-from_recursion IsUnchanged first (r.0, (r.1.0, (r.1.1.0, (r.1.1.1.0, tt)))) in
+    let last_kept = All-from_recursion IsUnchanged last (r.1.1.1.1.0, (r.1.1.1.1.1.0, (r.1.1.1.1.1.1.0, tt))) in
+    let end = All-append IsUnchanged last (capital check ∷ []) last_kept (All-cons IsUnchanged (capital check) [] (capital_kept check parts.1) (All-nil IsUnchanged)) in
+    let kept = All-append IsUnchanged first (45 ∷ (last ++ capital check ∷ [])) front_kept (All-cons IsUnchanged 45 (last ++ capital check ∷ []) refl end) in
+    subst (IsShort 9) (sym (value_is _ (printed digits check) text made)) (record { bound = omega arith; kept = kept })
 
 characters_short : (characters text : List ℕ) → issn_of_characters characters ≡ Some text → IsShort 9 text
 characters_short (a ∷ b ∷ c ∷ d ∷ e ∷ f ∷ g ∷ check ∷ []) text made = digits_short a b c d e f g check text made
 characters_short (a ∷ b ∷ c ∷ d ∷ hyphen ∷ e ∷ f ∷ g ∷ check ∷ []) text made =
-    digits_short a b c d e f g check text (chosen (hyphen == 45) (issn_of_digits a b c d e f g check) text made)
+    digits_short a b c d e f g check text (chosen (hyphen == 45) (issn_of_digits (a ∷ b ∷ c ∷ d ∷ e ∷ f ∷ g ∷ []) check) text made)
 characters_short _ text made = absurd (cc)
 
 pub issn_is_short : (text : List ℕ) → IsIssnText text → IsShort 9 text
 issn_is_short text is = characters_short (trimmed text) text is
 
 -- an ISBN has thirteen bytes
-isbn_short : (last a b c d e f g h i check : ℕ) → IsUnchanged last → AreKept a b c d e f g → IsUnchanged h → IsUnchanged i → IsUnchanged check
-    → IsShort 13 (thirteen last a b c d e f g h i check)
-isbn_short last a b c d e f g h i check l k eighth ninth c_kept = record {
-  bound = omega arith;
-  kept = All-from_recursion IsUnchanged (thirteen last a b c d e f g h i check)
-      (refl, (refl, (l, (k.first, (k.second, (k.third, (k.fourth, (k.fifth, (k.sixth, (k.seventh, (eighth, (ninth, (c_kept, tt)))))))))))));
-}
+is_thirteen : (n : ℕ) → (n == 13) ≡ true → n ≤ 13
+is_thirteen n e = grind (arith, nat_tests)
 
-ten_short : (a b c d e f g h i check : ℕ) (text : List ℕ) → of_ten a b c d e f g h i check ≡ Some text → IsShort 13 text
-ten_short a b c d e f g h i check text made =
-    let test = passes _ _ text made in
-    let front = and_parts (are_nine_digits a b c d e f g h i && is_check check) _ test in
-    let nine = and_parts (are_nine_digits a b c d e f g h i) (is_check check) front.0 in
-    let eight = and_parts (are_seven_digits a b c d e f g && is_ascii_digit h) (is_ascii_digit i) nine.0 in
-    let seven = and_parts (are_seven_digits a b c d e f g) (is_ascii_digit h) eight.0 in
-    let sum = sum_of_twelve 56 a b c d e f g h i in
-    subst (IsShort 13) (sym (value_is _ (thirteen 56 a b c d e f g h i (check_digit sum)) text made))
-    (isbn_short 56 a b c d e f g h i (check_digit sum) refl (seven_kept a b c d e f g seven.0) (digit_kept h seven.1) (digit_kept i eight.1) (check_kept sum))
+is_ten : (n : ℕ) → (n == 10) ≡ true → 9 ≤ n
+is_ten n e = grind (arith, nat_tests)
 
-thirteen_short : (first second last a b c d e f g h i check : ℕ) (text : List ℕ) → of_thirteen first second last a b c d e f g h i check ≡ Some text
-    → IsShort 13 text
-thirteen_short first second last a b c d e f g h i check text made =
-    let test = passes _ _ text made in
-    let t4 = and_parts ((first == 57) && (second == 55) && ((last == 56) || (last == 57)) && are_nine_digits a b c d e f g h i && is_ascii_digit check) _ test in
-    let t3 = and_parts ((first == 57) && (second == 55) && ((last == 56) || (last == 57)) && are_nine_digits a b c d e f g h i) (is_ascii_digit check) t4.0 in
-    let t2 = and_parts ((first == 57) && (second == 55) && ((last == 56) || (last == 57))) (are_nine_digits a b c d e f g h i) t3.0 in
-    let t1 = and_parts ((first == 57) && (second == 55)) ((last == 56) || (last == 57)) t2.0 in
-    let eight = and_parts (are_seven_digits a b c d e f g && is_ascii_digit h) (is_ascii_digit i) t2.1 in
-    let seven = and_parts (are_seven_digits a b c d e f g) (is_ascii_digit h) eight.0 in
-    subst (IsShort 13) (sym (value_is _ (thirteen last a b c d e f g h i check) text made))
-    (isbn_short last a b c d e f g h i check (last_kept last t1.1) (seven_kept a b c d e f g seven.0) (digit_kept h seven.1) (digit_kept i eight.1) (digit_kept check t3.1))
+thirteen_short : (characters : List ℕ) → is_isbn_13 characters ≡ true → IsShort 13 characters
+thirteen_short characters is =
+    let digits = (length characters == 13) && list_all is_ascii_digit characters in
+    let front = and_parts (digits && has_prefix characters) _ is in
+    let both = and_parts digits (has_prefix characters) front.0 in
+    let parts = and_parts (length characters == 13) (list_all is_ascii_digit characters) both.0 in
+    record { bound = is_thirteen (length characters) parts.0; kept = digits_kept characters parts.1 }
+
+converted_short : (nine : List ℕ) → length nine ≡ 9 → list_all is_ascii_digit nine ≡ true → IsShort 13 (isbn_13_of nine)
+converted_short nine size all =
+    let front = codes "978" in
+    let check = check_digit (front ++ nine) in
+    let end = All-append IsUnchanged nine (check ∷ []) (digits_kept nine all)
+    (All-cons IsUnchanged check [] (check_kept (weighted_sum weights_of_thirteen (front ++ nine))) (All-nil IsUnchanged)) in
+    record {
+      bound = omega (arith, size, length-append nine (check ∷ []));
+      kept = All-append IsUnchanged front (nine ++ check ∷ []) (digits_kept front refl) end;
+    }
+
+ten_short : (characters : List ℕ) → is_isbn_10 characters ≡ true → IsShort 13 (isbn_13_of (take 9 characters))
+ten_short characters is =
+    let parts = and_parts (length characters == 10) _ is in
+    let front = and_parts (list_all is_ascii_digit (take 9 characters) && is_check (slice_index characters 9)) _ parts.1 in
+    let digits = and_parts (list_all is_ascii_digit (take 9 characters)) (is_check (slice_index characters 9)) front.0 in
+    converted_short (take 9 characters) (length-take-le 9 characters (is_ten (length characters) parts.0)) digits.0
+
+either_short : (long short : Bool) (one other text : List ℕ) → (long ≡ true → IsShort 13 one) → (short ≡ true → IsShort 13 other)
+    → (if long then Some one else if short then Some other else None) ≡ Some text → IsShort 13 text
+either_short true short one other text first second made = subst (IsShort 13) (sym (value_is true one text made)) (first refl)
+either_short false true one other text first second made = subst (IsShort 13) (sym (value_is true other text made)) (second refl)
+either_short false false one other text first second made = absurd (cc)
 
 isbn_characters_short : (characters text : List ℕ) → isbn_of_characters characters ≡ Some text → IsShort 13 text
-isbn_characters_short (a ∷ b ∷ c ∷ d ∷ e ∷ f ∷ g ∷ h ∷ i ∷ check ∷ []) text made = ten_short a b c d e f g h i check text made
-isbn_characters_short (first ∷ second ∷ last ∷ a ∷ b ∷ c ∷ d ∷ e ∷ f ∷ g ∷ h ∷ i ∷ check ∷ []) text made =
-    thirteen_short first second last a b c d e f g h i check text made
-isbn_characters_short _ text made = absurd (cc)
+isbn_characters_short characters text made =
+    either_short (is_isbn_13 characters) (is_isbn_10 characters) characters (isbn_13_of (take 9 characters)) text
+    (thirteen_short characters) (ten_short characters) made
 
 pub isbn_is_short : (text : List ℕ) → IsIsbnText text → IsShort 13 text
 isbn_is_short text is = isbn_characters_short (filter is_no_hyphen (trimmed text)) text is
@@ -239,12 +217,6 @@ date_is_short text is =
     days_short text (subst (λ t. is_some (days_of t) ≡ true) (sym same) some)
 
 -- a volume has at most nine bytes
-digits_kept : (text : List ℕ) → list_all is_ascii_digit text ≡ true → All IsUnchanged text
-digits_kept [] e = All-nil IsUnchanged
-digits_kept (b ∷ bytes) e =
-    let parts = and_parts (is_ascii_digit b) (list_all is_ascii_digit bytes) e in
-    All-cons IsUnchanged b bytes (digit_kept b parts.0) (digits_kept bytes parts.1)
-
 pub volume_is_short : (text : List ℕ) → IsVolumeText text → IsShort 9 text
 volume_is_short text is =
     let some = passes (is_some (volume_of text)) text text is in
