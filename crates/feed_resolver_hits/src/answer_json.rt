@@ -8,7 +8,8 @@ use crate::ask::Ask;
 use crate::hits_json::put_hits_json;
 use crate::tally::Tally;
 use feed_openurl::Citation;
-use feed_resolver_reply::{Piece, put, put_all};
+use feed_pieces::put_all;
+use feed_resolver_reply::{Piece, put};
 use std::alloc::AllocError;
 
 #[tactic(auto, unfolding(crate::specs::AnswerJson::citation_front))]

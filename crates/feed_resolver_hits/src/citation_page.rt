@@ -7,7 +7,8 @@ ghost use Rattle.feed_resolver_hits.specs.CitationPage.{work_rows, place_rows, n
 
 use crate::ask::{Ask, is_blank};
 use feed_openurl::Citation;
-use feed_resolver_reply::{Piece, put, put_all};
+use feed_pieces::put_all;
+use feed_resolver_reply::{Piece, put};
 use std::alloc::AllocError;
 
 // Writes a text of the citation, if there is one.

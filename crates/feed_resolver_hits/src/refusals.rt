@@ -10,8 +10,9 @@ use crate::ask::{Ask, names_work};
 use crate::citation_page::put_citation;
 use crate::tally::Tally;
 use feed_openurl::Refusal;
+use feed_pieces::put_all;
 use feed_resolver_reply::{
-    Piece, Reply, Status, put, put_all, put_fault, put_page_end, put_page_start, refusal,
+    Piece, Reply, Status, put, put_fault, put_page_end, put_page_start, refusal,
 };
 use feed_resolver_request::Representation;
 use std::alloc::{AllocError, Global};
