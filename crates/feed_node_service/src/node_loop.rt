@@ -144,7 +144,7 @@ impl<'a, O: Write> RunningNode<'a, O> {
     // allow it.
     fn answer<K: Keep + Drop>(
         &mut self,
-        feed: &Feed<K>,
+        feed: &mut Feed<K>,
         server: &mut Server,
         events: &mut Events,
     ) -> io::Result<()> {
