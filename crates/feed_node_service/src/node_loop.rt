@@ -140,11 +140,9 @@ impl<'a, O: Write> RunningNode<'a, O> {
         Some(now.saturating_duration_since(switched).as_secs())
     }
 
-    // Serves the connections. Clients on the same machine may have reports of the node, and others if the settings
-    // allow it.
     fn answer<K: Keep + Drop>(
         &mut self,
-        feed: &mut Feed<K>,
+        feed: &Feed<K>,
         server: &mut Server,
         events: &mut Events,
     ) -> io::Result<()> {
@@ -157,20 +155,14 @@ impl<'a, O: Write> RunningNode<'a, O> {
             version: self.version.as_bytes(),
             has_reports: true,
         };
-        let remote = FeedResponder {
-            feed,
-            token: self.fetcher.token(),
-            is_busy: self.fetcher.is_busy(),
-            state: self.state,
-            site: &self.site,
-            version: self.version.as_bytes(),
-            has_reports: self.has_open_reports,
-        };
-        let responders = Responders {
-            local: &local,
-            remote: &remote,
-        };
-        server.turn(self.rt, &responders, events, &mut self.log)
+        serve(
+            self.rt,
+            server,
+            events,
+            &mut self.log,
+            local,
+            self.has_open_reports,
+        )
     }
 
     // Keeps the digest of the active releases, and the time if they have changed.
@@ -184,4 +176,22 @@ impl<'a, O: Write> RunningNode<'a, O> {
             self.switched = Instant::now(self.rt).ok();
         }
     }
+}
+
+// Serves the connections. Clients on the same machine may have reports of the node, and others if the settings allow
+// it.
+fn serve<K: Keep + Drop, O: Write>(
+    rt: &HostRuntime,
+    server: &mut Server,
+    events: &mut Events,
+    log: &mut AccessLog<'_, O>,
+    local: FeedResponder<'_, K>,
+    has_open_reports: bool,
+) -> io::Result<()> {
+    let remote = local.with_reports(has_open_reports);
+    let responders = Responders {
+        local: &local,
+        remote: &remote,
+    };
+    server.turn(rt, &responders, events, log)
 }

@@ -37,6 +37,19 @@ pub struct FeedResponder<'a, K: Keep + Drop> {
 }
 
 impl<'a, K: Keep + Drop> FeedResponder<'a, K> {
+    /// Returns the same responder for clients that may have reports of the node, or may not.
+    pub fn with_reports(&self, has_reports: bool) -> FeedResponder<'a, K> {
+        FeedResponder {
+            feed: self.feed,
+            token: self.token,
+            is_busy: self.is_busy,
+            state: self.state,
+            site: self.site,
+            version: self.version,
+            has_reports,
+        }
+    }
+
     // Returns who may make the node fetch now: a fetch that was requested in the same turn excludes another one, too.
     fn policy(&self) -> FetchPolicy<'a>
         ensures { IsPolicyIn self.now result }
