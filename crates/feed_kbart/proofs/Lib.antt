@@ -3,3 +3,5 @@ pub mod Steps
 pub mod Readings
 pub mod Columns
 pub mod Listed
+pub mod Stored
+pub mod Drafts

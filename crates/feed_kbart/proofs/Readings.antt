@@ -1,8 +1,8 @@
 -- The holdings of a file are those kept of the records of its text.
-use Rattle.std.proofs.Common.{◌≡◌, ◌≤◌, ◌∙◌, ℕ, List, Result, length, refl, arith, inl, inr}
+use Rattle.std.proofs.Common.{◌≡◌, ◌≤◌, ◌∙◌, ℕ, List, [], Result, length, refl, arith, inl, inr}
 use Rattle.std.specs.Prelude.{Ok, Err}
 use Rattle.std.proofs.lemmas.Bool.{cases_Bool}
-use Rattle.std.proofs.lemmas.List.{length-drop}
+use Rattle.std.proofs.lemmas.List.{append-nil, length-drop}
 use Rattle.feed_limits.specs.Limits.{file_limit}
 use Rattle.feed_text.specs.Checks.{IsTextFaultOf, IsValidText}
 use Rattle.feed_text.specs.Records.{drop_mark, has_mark, records_of}
@@ -11,9 +11,11 @@ use Rattle.feed_text.specs.declared.fault.TextFault.TheVariants as text
 use Rattle.feed_kbart.specs.Faults.{file_fault}
 use Rattle.feed_kbart.specs.Files.{IsFaultOf, IsReadOf, bad_of, holdings_of}
 use Rattle.feed_kbart.specs.HoldingsValue.{HoldingsValue}
-use Rattle.feed_kbart.specs.Kept.{IsBuilt, IsKeptOf}
+use Rattle.feed_kbart.specs.Kept.{HasFewRows, IsBuilt, IsKeptOf}
 use Rattle.feed_kbart.specs.RowValue.{RowValue}
+use Rattle.feed_kbart.specs.Store.{AreStored, stored_rows}
 use Rattle.feed_kbart.specs.declared.holdings.HoldingsBuilder.{HoldingsBuilder}
+use Rattle.feed_kbart.specs.declared.row_store.RowStore.{RowStore}
 use Rattle.feed_kbart.specs.declared.fault.KbartFault.{KbartFault}
 use Rattle.feed_kbart.specs.declared.fault.KbartFault.TheVariants as fault
 
@@ -46,7 +48,15 @@ pub kept_of_text : {K : Type 0} (keeps : List RowValue → K → Type 0) (text :
     → (length (drop_mark text) ≤ file_limit → IsBuilt keeps (records_of text) result) → IsKeptOf keeps text result
 kept_of_text keeps text result is built = kept-valid keeps text result is (built (omega (arith, is.0, length-drop_mark text)))
 
+-- the rows of a store
+pub rows_of_store : (rows : List RowValue) (store : RowStore) → AreStored rows store → stored_rows store ≡ rows
+rows_of_store rows store are = rw (append-nil store.block.items) at (are [])
+
+-- a store has no more rows than a file can have
+pub few_of_kept : (kept : HoldingsBuilder RowStore) → HasFewRows AreStored kept → length (stored_rows kept.rows) ≤ file_limit
+few_of_kept kept h = rw (rows_of_store h.0.rows kept.rows h.1.0) h.2
+
 -- the rows that are kept are those of a holdings list
-pub read_of_kept : {K : Type 0} (items : K → List RowValue) (text : List ℕ) (kept : HoldingsBuilder K) (holdings : HoldingsValue)
-    → IsKeptOf (λ rows k. items k ≡ rows) text (Ok kept) → holdings ≡ record { rows = items kept.rows; aside = kept.aside.items } → IsReadOf text (Ok holdings)
-read_of_kept items text kept holdings k is = (k.0, k.1, is ∙ rw (k.2.0, k.2.1) refl)
+pub read_of_kept : (text : List ℕ) (kept : HoldingsBuilder RowStore) (holdings : HoldingsValue)
+    → IsKeptOf AreStored text (Ok kept) → holdings ≡ record { rows = stored_rows kept.rows; aside = kept.aside.items } → IsReadOf text (Ok holdings)
+read_of_kept text kept holdings k is = (k.0, k.1, is ∙ rw (rows_of_store (holdings_of text).rows kept.rows k.2.0, k.2.1) refl)

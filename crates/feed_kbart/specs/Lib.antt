@@ -9,6 +9,9 @@ pub mod RowValue
 pub mod Places
 pub mod Index
 pub mod Rows
+pub mod Stored
+pub mod RecordValue
+pub mod Store
 pub mod HoldingsValue
 pub mod Holdings
 pub mod CountValue

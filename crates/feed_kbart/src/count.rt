@@ -1,7 +1,6 @@
 //! Counting the rows of a file without keeping them.
 ghost use Rattle.std.specs.Prelude.{◌≡◌, length};
 
-use crate::coverage::Coverage;
 use crate::header::Columns;
 use crate::holdings::{Aside, HoldingsBuilder, KeepRows};
 use csv::ByteRecord;
@@ -36,7 +35,6 @@ impl KeepRows for RowCount {
         &mut self,
         _alloc: Global,
         _number: u32,
-        _coverage: Coverage,
         _columns: &Columns,
         _fields: &ByteRecord,
     ) -> Result<(), AllocError> {

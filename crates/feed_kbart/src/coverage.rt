@@ -1,9 +1,11 @@
 //! The identifiers, days and volumes that a record covers, and the reasons to skip a record.
 ghost use Rattle.std.specs.Prelude.{◌≡◌, true, false, MatchResult};
 ghost use Rattle.csv.specs.Records.{fields_of};
-ghost use Rattle.feed_kbart.specs.Coverage.{book_coverage, book_reason, coverage_days, coverage_of, coverage_volumes};
+ghost use Rattle.feed_kbart.specs.Coverage.{book_coverage, book_reason, coverage_days, coverage_of, volumes};
 ghost use Rattle.feed_kbart.specs.Coverage.{is_coverage_date, is_reversed, kind_of, reason_of};
 ghost use Rattle.feed_kbart.specs.Coverage.{serial_coverage, serial_reason};
+ghost use Rattle.feed_identifiers.specs.Text.{trimmed};
+ghost use Rattle.feed_kbart.specs.Volumes.{volume_of};
 ghost use Rattle.feed_kbart.specs.declared.fault.Reason.TheVariants as reason;
 
 use crate::fault::Reason;
@@ -24,8 +26,8 @@ pub(crate) struct Coverage {
     pub(crate) last_volume: Option<u32>,
 }
 
-// The kind of a publication type: a serial if it is empty or `serial`, a book if it is `monograph`.
-fn read_kind(text: &[u8]) -> Option<Kind>
+/// Returns the kind of a publication type: a serial if it is empty or `serial`, a book if it is `monograph`.
+pub(crate) fn read_kind(text: &[u8]) -> Option<Kind>
     ensures { result ≡ kind_of text.now }
 {
     let kind = trim_spaces(text);
@@ -36,6 +38,13 @@ fn read_kind(text: &[u8]) -> Option<Kind>
     } else {
         None
     }
+}
+
+/// Parses a coverage date. The result is `None` if it is empty or invalid.
+pub(crate) fn read_days(text: &[u8]) -> Option<DayRange>
+    ensures { result ≡ coverage_days text.now }
+{
+    DayRange::of_text(trim_spaces(text))
 }
 
 // The days of a coverage date. An empty date leaves its side open.
@@ -64,12 +73,12 @@ fn is_reversed(first: Option<DayRange>, last: Option<DayRange>) -> bool
     }
 }
 
-// The volumes. Neither counts if the first exceeds the last.
-fn volumes_of(columns: &Columns, fields: &ByteRecord) -> (Option<u32>, Option<u32>)
-    ensures { result ≡ coverage_volumes columns.now (fields_of fields.now) }
+/// Parses the texts of the first and the last volume. Neither counts if the first exceeds the last.
+pub(crate) fn read_volumes(first: &[u8], last: &[u8]) -> (Option<u32>, Option<u32>)
+    ensures { result ≡ volumes (volume_of (trimmed first.now)) (volume_of (trimmed last.now)) }
 {
-    let first = read_volume(trim_spaces(cell_of(fields, columns.first_volume)));
-    let last = read_volume(trim_spaces(cell_of(fields, columns.last_volume)));
+    let first = read_volume(trim_spaces(first));
+    let last = read_volume(trim_spaces(last));
     match (first, last) {
         (Some(low), Some(high)) if low > high => (None, None),
         _ => (first, last),
@@ -108,7 +117,10 @@ impl Coverage {
         if is_reversed(first, last) {
             return Err(Reason::Reversed);
         }
-        let (first_volume, last_volume) = volumes_of(columns, fields);
+        let (first_volume, last_volume) = read_volumes(
+            cell_of(fields, columns.first_volume),
+            cell_of(fields, columns.last_volume),
+        );
         Ok(Coverage {
             identifiers: Identifiers::Serial { print, online },
             first_day: first.map(|days| days.first),

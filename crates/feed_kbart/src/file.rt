@@ -7,7 +7,7 @@ use crate::count::{FileCount, RowCount};
 use crate::fault::KbartFault;
 use crate::holdings::{Holdings, HoldingsBuilder, KeepRows};
 use crate::records::read_records;
-use crate::row::Row;
+use crate::row_store::RowStore;
 use feed_text::{Given, TextReader, check_text, record_reader};
 use std::alloc::Global;
 use std::io::Read;
@@ -44,7 +44,7 @@ fn read_rows<R: Read + Drop, K: KeepRows + Drop, G: Given>(
 pub fn read_file<R: Read + Drop>(alloc: Global, reader: R) -> Result<Holdings, KbartFault>
     ensures { IfSome (R.remaining reader) (λ text. IsReadOf text result) }
 {
-    let kept = read_rows::<R, Vec<Row>, Brand>(alloc, reader, Vec::new(alloc))?;
+    let kept = read_rows::<R, RowStore, Brand>(alloc, reader, RowStore::new(alloc))?;
     Ok(Holdings::of(alloc, kept)?)
 }
 
@@ -66,6 +66,6 @@ pub fn read_parts<R: Read + Drop>(alloc: Global, check: R, read: R) -> Result<Ho
 {
     check_text(alloc, check)?;
     let mut records = record_reader(alloc, read)?;
-    let kept = read_records(alloc, &mut records, Vec::new(alloc))?;
+    let kept = read_records(alloc, &mut records, RowStore::new(alloc))?;
     Ok(Holdings::of(alloc, kept)?)
 }

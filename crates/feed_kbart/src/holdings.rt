@@ -10,6 +10,7 @@ use crate::header::Columns;
 use crate::identifiers::isbn_number;
 use crate::index::Index;
 use crate::row::Row;
+use crate::row_store::RowStore;
 use csv::ByteRecord;
 use feed_identifiers::{Isbn, Issn};
 use std::alloc::{AllocError, Global};
@@ -44,8 +45,8 @@ impl Model for Holdings {
 
 /// A collector of a file's rows, which are added in file order.
 pub(crate) trait KeepRows {
-    ghost use Rattle.feed_kbart.specs.RowValue.{RowValue, row_with};
-    ghost use Rattle.feed_kbart.specs.Rows.{texts_of};
+    ghost use Rattle.feed_kbart.specs.RowValue.{RowValue};
+    ghost use Rattle.feed_kbart.specs.Rows.{row_of};
 
     /// These rows were added, and no others.
     ghost keeps: { List RowValue → Self → Type 0 };
@@ -54,27 +55,11 @@ pub(crate) trait KeepRows {
         &mut self,
         alloc: Global,
         number: u32,
-        coverage: Coverage,
         columns: &Columns,
         fields: &ByteRecord,
     ) -> Result<(), AllocError>
         ensures { OnOk result ((rows : List RowValue) → length rows < file_limit → keeps rows self.old
-            → keeps (rows ++ row_with number coverage (texts_of columns.now (fields_of fields.now)) ∷ []) self.new) };
-}
-
-impl KeepRows for Vec<Row> {
-    ghost keeps = { λ rows v. v.items ≡ rows };
-
-    fn add(
-        &mut self,
-        alloc: Global,
-        number: u32,
-        coverage: Coverage,
-        columns: &Columns,
-        fields: &ByteRecord,
-    ) -> Result<(), AllocError> {
-        Ok(self.push(Row::of(alloc, number, coverage, columns, fields)?)?)
-    }
+            → keeps (rows ++ row_of columns.now number (fields_of fields.now) ∷ []) self.new) };
 }
 
 /// The rows and the skipped records so far.
@@ -111,7 +96,7 @@ impl<K: KeepRows> HoldingsBuilder<K> {
             (join_holdings held (holdings_from columns.now number (fields_of fields.now ∷ []))) self.new) }
     {
         match Coverage::of(columns, fields) {
-            Ok(coverage) => self.rows.add(alloc, number, coverage, columns, fields)?,
+            Ok(_) => self.rows.add(alloc, number, columns, fields)?,
             Err(reason) => self.aside.push(Aside { number, reason })?,
         }
         Ok(())
@@ -120,14 +105,16 @@ impl<K: KeepRows> HoldingsBuilder<K> {
 
 impl Holdings {
     ghost use Rattle.feed_kbart.specs.Places.{places_with, places_with_isbn};
+    ghost use Rattle.feed_kbart.specs.Store.{stored_rows};
 
     /// Builds holdings from rows and skipped records, and indexes the rows.
-    pub(crate) fn of(alloc: Global, kept: HoldingsBuilder<Vec<Row>>) -> Result<Holdings, AllocError>
-        requires { length kept.rows.items ≤ file_limit }
+    pub(crate) fn of(alloc: Global, kept: HoldingsBuilder<RowStore>) -> Result<Holdings, AllocError>
+        requires { length (stored_rows kept.rows) ≤ file_limit }
         ensures { IfOk result (λ holdings. holdings
-            ≡ record { rows = kept.rows.items; aside = kept.aside.items }) }
+            ≡ record { rows = stored_rows kept.rows; aside = kept.aside.items }) }
     {
         let HoldingsBuilder { rows, aside } = kept;
+        let rows = rows.finish(alloc)?;
         let index = Index::of(alloc, &rows)?;
         Ok(Holdings { rows, aside, index })
     }

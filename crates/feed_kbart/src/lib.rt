@@ -17,7 +17,9 @@ mod label;
 mod law;
 mod records;
 mod row;
-mod texts;
+mod row_store;
+mod stored_record;
+mod stored_text;
 mod volume;
 
 pub use crate::count::FileCount;

@@ -1,0 +1,18 @@
+-- The rows of a file while it is read.
+use Rattle.std.specs.Prelude.{◌≡◌, ℕ, List, ◌++◌, drop, map}
+use Rattle.feed_kbart.specs.RowValue.{RowValue}
+use Rattle.feed_kbart.specs.Stored.{row_at}
+use Rattle.feed_kbart.specs.declared.row_store.Draft.{Draft}
+use Rattle.feed_kbart.specs.declared.row_store.RowStore.{RowStore}
+
+-- the row of a draft in a block
+abbrev pub row_in : List ℕ → Draft → RowValue
+row_in block draft = row_at draft.number (drop draft.start block)
+
+-- the rows of a store: those that have a block, and the drafts of the block that is being filled
+abbrev pub stored_rows : RowStore → List RowValue
+stored_rows store = store.rows.items ++ map (row_in store.block.items) store.drafts.items
+
+-- a store has these rows, whatever is added to its block
+abbrev pub AreStored : List RowValue → RowStore → Type 0
+AreStored rows store = (more : List ℕ) → store.rows.items ++ map (row_in (store.block.items ++ more)) store.drafts.items ≡ rows

@@ -1,0 +1,80 @@
+-- The cells of a row in a block of bytes, each behind its length.
+use Rattle.std.specs.Prelude.{ℕ, zero, suc, ◌<◌, ◌^◌, ◌==◌, nat_lt, List, [], ◌∷◌, ◌++◌, length, take, drop, map, Option, Some, if◌then◌else◌}
+use Rattle.std.specs.Int.{from_le_bytes, to_le_bytes, w32}
+use Rattle.std.specs.List.{flat_map}
+use Rattle.feed_kbart.specs.Columns.{cell}
+use Rattle.feed_kbart.specs.RowValue.{RowValue}
+use Rattle.feed_kbart.specs.Rows.{row_of}
+use Rattle.feed_kbart.specs.declared.header.Columns.{Columns}
+
+-- a length is one byte, or the byte 255 and four bytes, the lowest first
+abbrev pub length_bytes : ℕ → List ℕ
+length_bytes n = if nat_lt n 255 then n ∷ [] else 255 ∷ to_le_bytes w32 n
+
+-- a text behind its length
+abbrev pub text_bytes : List ℕ → List ℕ
+text_bytes text = length_bytes (length text) ++ text
+
+-- the length of a text fits in four bytes
+abbrev pub IsShort : List ℕ → Type 0
+IsShort text = length text < 2 ^ 32
+
+-- the first bytes, and the others
+abbrev pub cut : ℕ → List ℕ → List ℕ × List ℕ
+cut n bytes = (take n bytes, drop n bytes)
+
+-- the text behind a length of four bytes, and the bytes after it
+abbrev pub split_long : List ℕ → List ℕ × List ℕ
+split_long (a ∷ b ∷ c ∷ d ∷ bytes) = cut (from_le_bytes w32 (a ∷ b ∷ c ∷ d ∷ [])) bytes
+split_long _ = ([], [])
+
+-- the first text, and the bytes after it
+abbrev pub split_text : List ℕ → List ℕ × List ℕ
+split_text [] = ([], [])
+split_text (n ∷ bytes) = if n == 255 then split_long bytes else cut n bytes
+
+-- the text after so many others
+unfoldable pub text_at : ℕ → List ℕ → List ℕ
+text_at zero bytes = (split_text bytes).0
+text_at (suc place) bytes = text_at place (split_text bytes).1
+
+-- the first texts
+unfoldable pub texts_in : ℕ → List ℕ → List (List ℕ)
+texts_in zero bytes = []
+texts_in (suc n) bytes = (split_text bytes).0 ∷ texts_in n (split_text bytes).1
+
+-- the columns of the labels in use, in the order of the labels
+abbrev pub in_order : Columns → List (Option ℕ)
+in_order columns =
+    columns.title ∷ columns.print ∷ columns.online ∷ columns.first_date ∷ columns.first_volume ∷ columns.last_date ∷ columns.last_volume
+    ∷ columns.url ∷ columns.title_id ∷ columns.embargo ∷ columns.depth ∷ columns.publication_type ∷ columns.access ∷ []
+
+-- the cells of a record, in the order of the labels
+abbrev pub cells_of : Columns → List (List ℕ) → List (List ℕ)
+cells_of columns fields = map (λ column. cell column fields) (in_order columns)
+
+-- the columns of a record that has its cells in this order
+abbrev pub stored_columns : Columns
+stored_columns = record {
+  title = Some 0;
+  print = Some 1;
+  online = Some 2;
+  first_date = Some 3;
+  first_volume = Some 4;
+  last_date = Some 5;
+  last_volume = Some 6;
+  url = Some 7;
+  title_id = Some 8;
+  embargo = Some 9;
+  depth = Some 10;
+  publication_type = Some 11;
+  access = Some 12;
+}
+
+-- the row with these cells
+abbrev pub row_with_cells : ℕ → List (List ℕ) → RowValue
+row_with_cells number cells = row_of stored_columns number cells
+
+-- the row whose cells are at the front of bytes
+abbrev pub row_at : ℕ → List ℕ → RowValue
+row_at number bytes = row_with_cells number (texts_in 13 bytes)

@@ -1,0 +1,111 @@
+//! The rows of a file while it is read. The records of many rows are collected in a block, which the rows then share.
+ghost use Rattle.std.specs.Prelude.{◌≡◌, ◌<◌, ◌++◌, List, [], IfOk, OnOk, length, map};
+ghost use Rattle.std.specs.Rc.{rc_slice_items};
+ghost use Rattle.csv.specs.Records.{fields_of};
+ghost use Rattle.feed_kbart.specs.RowValue.{RowValue};
+ghost use Rattle.feed_kbart.specs.Store.{AreStored, row_in, stored_rows};
+
+use crate::header::Columns;
+use crate::holdings::KeepRows;
+use crate::row::Row;
+use crate::stored_record::{StoredRecord, put_cells};
+use csv::ByteRecord;
+use std::alloc::{AllocError, Global};
+use std::rc::RcSlice;
+
+// The number of bytes from which on a block is full.
+const BLOCK_SIZE: usize = 65_536;
+
+/// A row whose block is still being filled: the place of its record, and its number.
+#[derive(Clone, Copy)]
+pub(crate) struct Draft {
+    start: u32,
+    number: u32,
+}
+
+/// The rows so far. The last ones are drafts.
+#[derive(Drop)]
+pub(crate) struct RowStore {
+    rows: Vec<Row>,
+    block: Vec<u8>,
+    drafts: Vec<Draft>,
+}
+
+// Appends the rows of drafts.
+fn add_rows(rows: &mut Vec<Row>, drafts: &[Draft], block: &RcSlice<u8>) -> Result<(), AllocError>
+    ensures { OnOk result (rows.new.items ≡ rows.old.items ++ map (row_in (rc_slice_items block.now)) drafts.now) }
+{
+    for draft in drafts {
+        let record = StoredRecord::new(block.clone()?, draft.start, draft.number);
+        rows.push(Row::of(record))?;
+    }
+    Ok(())
+}
+
+impl RowStore {
+    pub(crate) fn new(alloc: Global) -> RowStore
+        ensures { AreStored [] result }
+    {
+        RowStore {
+            rows: Vec::new(alloc),
+            block: Vec::new(alloc),
+            drafts: Vec::new(alloc),
+        }
+    }
+
+    // Makes rows of the drafts, and begins a new block.
+    fn seal(&mut self, alloc: Global) -> Result<(), AllocError>
+        ensures rows { OnOk result (self.new.rows.items ≡ stored_rows self.old) }
+        ensures block { OnOk result (self.new.block.items ≡ []) }
+        ensures drafts { OnOk result (self.new.drafts.items ≡ []) }
+    {
+        let block = RcSlice::from_slice(alloc, &self.block)?;
+        add_rows(&mut self.rows, &self.drafts, &block)?;
+        self.block.clear();
+        self.drafts.clear();
+        Ok(())
+    }
+
+    // Begins a new block if this one is full.
+    fn make_room(&mut self, alloc: Global) -> Result<(), AllocError>
+        ensures same { OnOk result ((rows : List RowValue) → AreStored rows self.old → AreStored rows self.new) }
+        ensures room { OnOk result (length self.new.block.items < BLOCK_SIZE) }
+    {
+        if self.block.len() < BLOCK_SIZE {
+            return Ok(());
+        }
+        self.seal(alloc)?;
+        Ok(())
+    }
+
+    /// Returns the rows.
+    pub(crate) fn finish(mut self, alloc: Global) -> Result<Vec<Row>, AllocError>
+        ensures { IfOk result (λ rows. rows.items ≡ stored_rows self) }
+    {
+        self.seal(alloc)?;
+        let RowStore {
+            rows,
+            block: _,
+            drafts: _,
+        } = self;
+        Ok(rows)
+    }
+}
+
+impl KeepRows for RowStore {
+    ghost keeps = { AreStored };
+
+    fn add(
+        &mut self,
+        alloc: Global,
+        number: u32,
+        columns: &Columns,
+        fields: &ByteRecord,
+    ) -> Result<(), AllocError> {
+        self.make_room(alloc)?;
+        let start = self.block.len() as u32;
+        put_cells(&mut self.block, columns, fields)?;
+        self.drafts.push(Draft { start, number })?;
+        Ok(())
+    }
+}

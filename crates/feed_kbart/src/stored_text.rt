@@ -1,0 +1,93 @@
+//! Texts in a block of bytes, each behind its length.
+ghost use Rattle.std.specs.Prelude.{◌≡◌, ◌++◌, IfOk, OnOk, length, take, drop};
+ghost use Rattle.feed_kbart.specs.Stored.{IsShort, length_bytes, split_long, split_text, text_at, text_bytes};
+
+use std::alloc::AllocError;
+
+// The byte before a length of four bytes.
+const LONG: u8 = 255;
+
+// Returns the length of a text. No text of a file is so long that its length does not fit.
+fn length_of(text: &[u8]) -> Result<u32, AllocError>
+    ensures { IfOk result (λ size. size ≡ length text.now) }
+{
+    match u32::try_from(text.len()) {
+        Ok(size) => Ok(size),
+        Err(_) => Err(AllocError),
+    }
+}
+
+// Appends a length.
+fn put_length(block: &mut Vec<u8>, size: u32) -> Result<(), AllocError>
+    ensures { OnOk result (block.new.items ≡ block.old.items ++ length_bytes size) }
+{
+    if size < LONG as u32 {
+        block.push(size as u8)?;
+    } else {
+        block.push(LONG)?;
+        block.extend_from_slice(&size.to_le_bytes())?;
+    }
+    Ok(())
+}
+
+/// Appends a text behind its length.
+pub(crate) fn put_text(block: &mut Vec<u8>, text: &[u8]) -> Result<(), AllocError>
+    ensures added { OnOk result (block.new.items ≡ block.old.items ++ text_bytes text.now) }
+    ensures short { OnOk result (IsShort text.now) }
+{
+    let size = length_of(text)?;
+    put_length(block, size)?;
+    block.extend_from_slice(text)?;
+    Ok(())
+}
+
+// Splits bytes after so many, or at their end.
+fn cut(bytes: &[u8], size: usize) -> (&[u8], &[u8])
+    ensures front { result.0.now ≡ take size bytes.now }
+    ensures back { result.1.now ≡ drop size bytes.now }
+{
+    if size <= bytes.len() {
+        bytes.split_at(size)
+    } else {
+        (bytes, &[])
+    }
+}
+
+// Returns the text behind a length of four bytes, and the bytes after it.
+fn split_long(bytes: &[u8]) -> (&[u8], &[u8])
+    ensures front { result.0.now ≡ (split_long bytes.now).0 }
+    ensures back { result.1.now ≡ (split_long bytes.now).1 }
+{
+    match bytes {
+        [a, b, c, d, text @ ..] => cut(text, u32::from_le_bytes([*a, *b, *c, *d]) as usize),
+        _ => (&[], &[]),
+    }
+}
+
+// Returns the first text, and the bytes after it.
+fn split_text(bytes: &[u8]) -> (&[u8], &[u8])
+    ensures front { result.0.now ≡ (split_text bytes.now).0 }
+    ensures back { result.1.now ≡ (split_text bytes.now).1 }
+{
+    match bytes {
+        [] => (&[], &[]),
+        [size, text @ ..] => {
+            if *size == LONG {
+                split_long(text)
+            } else {
+                cut(text, *size as usize)
+            }
+        }
+    }
+}
+
+/// Returns the text after so many others.
+pub(crate) fn text_at(bytes: &[u8], place: usize) -> &[u8]
+    ensures { result.now ≡ text_at place bytes.now }
+{
+    let mut left = bytes;
+    for _passed in 0..place {
+        left = split_text(left).1;
+    }
+    split_text(left).0
+}
