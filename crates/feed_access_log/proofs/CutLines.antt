@@ -1,6 +1,6 @@
 -- A request line without its query.
-use Rattle.std.proofs.Common.{◌≡◌, ◌<◌, ◌+◌, ◌-◌, ℕ, List, [], ◌∷◌, ◌++◌, length, take, drop, codes, true, false, Some, refl, ap, ◌∙◌, inl, inr, arith, length-append, All, subst, sym}
-use Rattle.std.specs.Prelude.{◌==◌, ◌⊎◌, nat_lt}
+use Rattle.std.proofs.Common.{◌≡◌, ◌<◌, ◌-◌, ℕ, List, [], ◌∷◌, ◌++◌, length, drop, codes, true, false, Some, refl, ap, ◌∙◌, inl, inr, arith, length-append, All}
+use Rattle.std.specs.Prelude.{◌==◌, ◌⊎◌}
 use Rattle.std.specs.List.{AllByRecursion, position, position_or_len}
 use Rattle.std.proofs.lemmas.List.Elements.{recursion_from_All}
 use Rattle.std.proofs.Math.Seq.{take-append_seam, drop-append_seam}

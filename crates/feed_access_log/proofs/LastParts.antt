@@ -1,6 +1,6 @@
 -- The last part of a text is the last part of what follows its first one.
 use Rattle.std.proofs.Common.{◌≡◌, ◌<◌, ◌==◌, ℕ, List, [], ◌∷◌, length, Bool, true, false, cond, refl, ap, sym, ◌∙◌, arith}
-use Rattle.std.specs.List.{slice_split, onto_first}
+use Rattle.std.specs.List.{onto_first}
 use Rattle.feed_range.specs.Parts.{IsFirstPart, parts_at}
 use Rattle.feed_access_log.specs.Forwarded.{last_of, last_part}
 

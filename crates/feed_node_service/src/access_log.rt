@@ -5,7 +5,7 @@ use feed_node_connection::{Connection, ReplySummary};
 use feed_node_server::{CloseCause, Log, is_local};
 use std::io;
 use std::io::Write;
-use std::net::SocketAddr;
+use std::net::{IpAddr, SocketAddr};
 use std::time::{SystemTime, UNIX_EPOCH};
 
 /// What a log shows, and who may have reports of the node.
@@ -28,6 +28,9 @@ pub struct AccessLog<'o, O: Write> {
     settings: LogSettings,
     /// The lines of this turn.
     lines: Vec<u8>,
+    /// The address of the peer before, and its text: most lines of a node behind a proxy have the same.
+    peer: Option<IpAddr>,
+    peer_text: Vec<u8>,
 }
 
 impl<'o, O: Write> AccessLog<'o, O> {
@@ -43,6 +46,8 @@ impl<'o, O: Write> AccessLog<'o, O> {
             state,
             settings,
             lines: Vec::new(rt.alloc()),
+            peer: None,
+            peer_text: Vec::new(rt.alloc()),
         }
     }
 
@@ -65,11 +70,18 @@ impl<'o, O: Write> AccessLog<'o, O> {
         }
     }
 
-    // Returns the address of a peer as text. It is empty if memory runs out.
-    fn text_of(&self, addr: SocketAddr) -> Vec<u8> {
-        let mut text = Vec::new(self.rt.alloc());
-        let _ = write!(&mut text, "{}", addr.ip().to_canonical());
-        text
+    // Keeps the address of a peer as text. If memory runs out, the text is not whole, and is made again for its next
+    // line.
+    fn note_peer(&mut self, addr: SocketAddr) {
+        let ip = addr.ip().to_canonical();
+        if self.peer == Some(ip) {
+            return;
+        }
+        self.peer_text.clear();
+        self.peer = match write!(&mut self.peer_text, "{ip}") {
+            Ok(()) => Some(ip),
+            Err(_) => None,
+        };
     }
 
     // Counts a request whose reply was sent, in whole or in part, and adds its line. If memory runs out, there is no
@@ -82,18 +94,19 @@ impl<'o, O: Write> AccessLog<'o, O> {
         micros: u64,
     ) {
         let unsent = connection.unsent_len();
-        let peer = self.text_of(addr);
+        self.note_peer(addr);
+        let seconds = self.seconds();
+        let policy = self.policy(addr);
+        let start = self.lines.len();
         let exchange = Exchange {
-            peer: &peer,
-            seconds: self.seconds(),
+            peer: &self.peer_text,
+            seconds,
             request: connection.request_bytes(),
             status: summary.status,
             sent: connection.sent_len() as u64,
             body_sent: summary.body_len.saturating_sub(unsent) as u64,
             micros,
         };
-        let policy = self.policy(addr);
-        let start = self.lines.len();
         if self
             .state
             .record(&mut self.lines, policy, &exchange)
@@ -105,18 +118,19 @@ impl<'o, O: Write> AccessLog<'o, O> {
 
     // Adds the line of a connection that timed out before its request was whole (RFC 9110, section 15.5.9).
     fn put_timeout(&mut self, addr: SocketAddr, request: &[u8]) {
-        let peer = self.text_of(addr);
+        self.note_peer(addr);
+        let seconds = self.seconds();
+        let policy = self.policy(addr);
+        let start = self.lines.len();
         let exchange = Exchange {
-            peer: &peer,
-            seconds: self.seconds(),
+            peer: &self.peer_text,
+            seconds,
             request,
             status: 408,
             sent: 0,
             body_sent: 0,
             micros: 0,
         };
-        let policy = self.policy(addr);
-        let start = self.lines.len();
         if put_exchange(&mut self.lines, policy, &exchange).is_err() {
             self.lines.truncate(start);
         }
