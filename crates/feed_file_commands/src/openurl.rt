@@ -5,9 +5,11 @@ use std::alloc::{AllocError, Global};
 use std::io;
 use std::io::{ErrorKind, Write};
 
-// A query with how it is understood, the query that asks the core for the same, and the keys that nobody reads.
+// A query: its citation, how it is understood, the query that asks the core for the same, and the keys that nobody
+// reads.
 #[derive(Drop)]
 struct Reading {
+    citation: Citation,
     understood: Understanding,
     written: Vec<u8>,
     dropped: Vec<Dropped>,
@@ -44,12 +46,14 @@ pub fn explain_query<O: Write, F: Write + Drop>(
 }
 
 fn read(alloc: Global, query: &str) -> Result<Reading, AllocError> {
+    let citation = Citation::read(alloc, query.as_bytes())?;
     let Ok(understood) = Understanding::read(alloc, query.as_bytes()) else {
         return Err(AllocError);
     };
     let written = understood.write(alloc)?;
     let dropped = dropped_keys(alloc, query.as_bytes())?;
     Ok(Reading {
+        citation,
         understood,
         written,
         dropped,
@@ -91,9 +95,9 @@ fn print_lines<O: Write>(reading: &Reading, out: &mut O) -> io::Result<()> {
     for isbn in understood.isbns() {
         print_line(out, "isbn", &isbn.text())?;
     }
-    print_date(understood, out)?;
-    print_volume(understood, out)?;
-    print_citation(understood.citation(), out)?;
+    print_date(reading, out)?;
+    print_volume(reading, out)?;
+    print_citation(&reading.citation, out)?;
     if understood.refusal().is_none() {
         print_line(out, "query", &reading.written)?;
     }
@@ -106,18 +110,18 @@ fn print_lines<O: Write>(reading: &Reading, out: &mut O) -> io::Result<()> {
 }
 
 // Prints the date, or the text from which no date was read.
-fn print_date<O: Write>(understood: &Understanding, out: &mut O) -> io::Result<()> {
-    match understood.date() {
+fn print_date<O: Write>(reading: &Reading, out: &mut O) -> io::Result<()> {
+    match reading.understood.date() {
         Some(date) => print_line(out, "date", date),
-        None => print_part(out, "unread date", &understood.citation().date),
+        None => print_part(out, "unread date", &reading.citation.date),
     }
 }
 
 // Prints the volume, or the text from which no volume was read.
-fn print_volume<O: Write>(understood: &Understanding, out: &mut O) -> io::Result<()> {
-    match understood.volume() {
+fn print_volume<O: Write>(reading: &Reading, out: &mut O) -> io::Result<()> {
+    match reading.understood.volume() {
         Some(volume) => print_line(out, "volume", volume),
-        None => print_part(out, "unread volume", &understood.citation().volume),
+        None => print_part(out, "unread volume", &reading.citation.volume),
     }
 }
 
@@ -150,7 +154,7 @@ fn write_member<O: Write>(alloc: Global, out: &mut O, name: &str, value: &[u8]) 
 fn print_json<O: Write>(alloc: Global, reading: &Reading, out: &mut O) -> io::Result<()> {
     write_identifiers(&reading.understood, out)?;
     write_values(alloc, reading, out)?;
-    write_citation(alloc, reading.understood.citation(), out)?;
+    write_citation(alloc, &reading.citation, out)?;
     write_dropped(alloc, &reading.dropped, out)?;
     out.write_all(b"}\n")
 }

@@ -1,4 +1,4 @@
--- What the counters have counted.
+-- The amounts that the counters have counted.
 use Rattle.std.specs.Prelude.{◌≡◌, ◌<◌, ◌+◌, ◌-◌, ◌*◌, ◌^◌, ◌==◌, ℕ, min, nat_lt, List, length, sum_by, slice_index, if◌then◌else◌}
 use Rattle.feed_metrics.specs.declared.counter.Counter.{Counter}
 use Rattle.feed_metrics.specs.declared.counter.Counter.TheVariants as counter
@@ -24,9 +24,9 @@ total_at k history = sum_by (amount_at k) history
 abbrev pub capped : ℕ → ℕ
 capped n = min n (2 ^ 64 - 1)
 
--- each counter has the sum of what was added to it
+-- each counter has the sum of what was added to it; a place without a counter has 0, so nothing was added there
 abbrev pub HasCounted : List ℕ → List Added → Type 0
-HasCounted counts history = (k : ℕ) → k < length counts → slice_index counts k ≡ capped (total_at k history)
+HasCounted counts history = (k : ℕ) → slice_index counts k ≡ capped (total_at k history)
 
 -- the place of a counter
 abbrev pub place_of : Counter → ℕ

@@ -3,7 +3,7 @@ use Rattle.std.specs.Prelude.{◌≡◌, ◌<◌, ◌+◌, ℕ, nat_le, List, le
 use Rattle.feed_metrics.specs.declared.histogram.TheConstants.{BOUNDS}
 use Rattle.feed_metrics.specs.Counts.{capped}
 
--- the counts of the buckets, of all times, and the sum of these
+-- the counts of the buckets, the count of all times, and their sum
 pub record HistogramValue : Type 0 where
   pub buckets : List ℕ
   pub count : ℕ

@@ -19,7 +19,7 @@ use Rattle.feed_metrics.specs.Histograms.{HistogramValue}
 use Rattle.feed_metrics.specs.Labels.{label_text}
 use Rattle.feed_metrics.specs.Pieces.{joined, seconds_text}
 
--- the counts of the counters and of the requests, and the times of these
+-- the counts of the counters and of the requests, and the times of the requests
 pub record MetricsValue : Type 0 where
   pub counters : List ℕ
   pub requests : List ℕ

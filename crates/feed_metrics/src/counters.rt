@@ -32,13 +32,12 @@ impl Counters {
 
     /// Adds an amount to the counter at a place.
     pub(crate) fn add(&mut self, place: usize, amount: u64)
+        requires { place < length self.now }
         ensures size { length self.new ≡ length self.old }
         ensures counted { (history : List Added) → HasCounted self.old history
             → HasCounted self.new (record { place = place; amount = amount } ∷ history) }
     {
-        if place < self.counts.len() {
-            self.counts[place] = self.counts[place].saturating_add(amount);
-        }
+        self.counts[place] = self.counts[place].saturating_add(amount);
     }
 
     /// Returns the value of the counter at a place, and 0 if there is none.

@@ -1,5 +1,6 @@
 //! The histogram of the microseconds that requests take.
-ghost use Rattle.std.specs.Prelude.{◌≡◌, ◌<◌, ℕ, IfOk, List, [], ◌∷◌, IsTrue, length, nat_le, slice_index};
+ghost use Rattle.std.specs.Prelude.{◌≡◌, ◌<◌, ℕ, IfOk, List, [], ◌∷◌};
+ghost use Rattle.std.specs.Prelude.{IsTrue, length, nat_le, slice_index};
 ghost use Rattle.feed_metrics.specs.Histograms.{HasObserved, one_more};
 
 use std::alloc::{AllocError, Global};
@@ -62,7 +63,8 @@ impl Histogram {
 
     /// Observes a time.
     pub(crate) fn observe(&mut self, micros: u64)
-        ensures { (observed : List ℕ) → HasObserved self.old observed → HasObserved self.new (micros ∷ observed) }
+        ensures { (observed : List ℕ) → HasObserved self.old observed
+            → HasObserved self.new (micros ∷ observed) }
     {
         count_in(&mut self.buckets, micros);
         self.count = self.count.saturating_add(1);

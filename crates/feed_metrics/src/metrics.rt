@@ -1,4 +1,4 @@
-//! What a node counts.
+//! The counters of a node, and the times that its requests took.
 ghost use Rattle.std.specs.Prelude.{◌≡◌, ◌<◌, ℕ, IfOk, List, [], ◌∷◌, slice_index};
 ghost use Rattle.feed_metrics.specs.Counts.{Added, HasCounted, place_of, request_place};
 ghost use Rattle.feed_metrics.specs.Histograms.{HasObserved};
@@ -19,16 +19,20 @@ pub struct Metrics {
 }
 
 impl Model for Metrics {
+    ghost use Rattle.std.specs.Prelude.{◌≡◌, length};
     ghost use Rattle.feed_metrics.specs.Texts.{MetricsValue};
 
     ghost Value = { MetricsValue };
 
     ghost view = { λ m. record { counters = m.counters; requests = m.requests; times = m.times } };
+
+    ghost invariant = { λ m. (length m.counters ≡ 12) × (length m.requests ≡ 32) };
 }
 
 // Returns the place of the counter of a target and a class.
 fn request_place(target: Target, class: StatusClass) -> usize
-    ensures { result ≡ request_place target class }
+    ensures value { result ≡ request_place target class }
+    ensures below { result < 32 }
 {
     target.place() * 4 + class.place()
 }

@@ -3,7 +3,7 @@ ghost use Rattle.std.specs.Prelude.{◌≡◌, ◌<◌};
 ghost use Rattle.feed_metrics.specs.Counts.{class_of, class_place, target_place};
 ghost use Rattle.feed_metrics.specs.Texts.{class_name, target_name};
 
-/// What the target of a request names.
+/// The resource or the report that the target of a request names.
 #[derive(Clone, Copy, Debug, PartialEq, Eq)]
 pub enum Target {
     Home,

@@ -14,7 +14,7 @@ use crate::request_kind::{CLASSES, StatusClass, TARGETS, Target};
 use feed_pieces::put_all;
 use std::alloc::AllocError;
 
-/// What a node is now, beside what it has counted.
+/// The state of a node, beside its counters.
 #[derive(Clone, Copy)]
 pub struct Gauges<'a> {
     /// The version of the program.

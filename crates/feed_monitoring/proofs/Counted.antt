@@ -1,4 +1,4 @@
--- What was added to the counters, with the tokens that were refused.
+-- The amounts added to the counters, with the tokens that were refused.
 use Rattle.std.proofs.Common.{◌≡◌, ◌∷◌, ◌++◌, ℕ, List, length}
 use Rattle.std.proofs.lemmas.Bool.{ne_eqb}
 use Rattle.feed_metrics.specs.Counts.{Added, HasCounted, place_of}

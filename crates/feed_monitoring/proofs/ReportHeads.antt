@@ -1,18 +1,21 @@
 -- The head of a reply about a node, as the grammar reads it.
-use Rattle.std.proofs.Common.{◌≡◌, ◌<◌, ◌^◌, ℕ, List, [], ◌∷◌, ◌++◌, length, codes, Some, Bool, true, false, refl, ap, sym, ◌∙◌, arith, append_assoc, All}
+use Rattle.std.proofs.Common.{◌≡◌, ◌<◌, ◌^◌, ℕ, List, [], ◌∷◌, ◌++◌, length, reverse, codes, Some, Bool, true, false, refl, ap, sym, ◌∙◌, arith, append_assoc, All}
 use Rattle.std.specs.Prelude.{IsTrue}
-use Rattle.std.specs.List.{list_all, flat_map}
+use Rattle.std.specs.List.{AllByRecursion, list_all, flat_map}
 use Rattle.std.specs.Char.{is_ascii_digit}
 use Rattle.std.specs.Fmt.{decimal}
 use Rattle.std.proofs.lemmas.Fmt.{decimal_is_IsNumeral}
-use Rattle.std.proofs.lemmas.List.Elements.{All-append, All-weaker, All-from_recursion}
+use Rattle.std.proofs.lemmas.List.Elements.{All-append, All-weaker, All-from_recursion, recursion_from_All}
 use Rattle.std.proofs.lemmas.List.Sums.{AllPass-from_list_all}
 use Rattle.std.proofs.lemmas.Bool.Decides.{nat_tests}
-use Rattle.httparse.specs.Grammar.{AllPass, ResponseHead, IsResponseHead, print_response, Field, IsField, crlf, print_field, is_value_byte, is_token_byte}
+use Rattle.httparse.specs.Grammar.{AllPass, ResponseHead, IsResponseHead, print_response, status_code, Field, IsField, crlf, print_field}
+use Rattle.httparse.specs.Grammar.{is_ows, is_value_byte, is_token_byte, skip_ows, trim_ows}
 use Rattle.httparse.proofs.OnLiterals.{httparse_on_literals}
+use Rattle.httparse.proofs.TrimLemmas.{trim_ows_space, AllPass-reverse}
 use Rattle.feed_range.proofs.Digits.{numerals}
+use Rattle.feed_http_heads.specs.Fields.{values_named}
 use Rattle.feed_http_heads.specs.Options.{lacks_close, SaysWhetherItKeeps}
-use Rattle.feed_monitoring.specs.ReportTexts.{start_text, end_text, sent_body, report_text}
+use Rattle.feed_monitoring.specs.ReportTexts.{start_text, end_text, status_of, sent_body, report_text, IsReportMessage}
 use Rattle.feed_monitoring.specs.declared.report_text.ReportKind.{ReportKind}
 use Rattle.feed_monitoring.specs.declared.report_text.ReportKind.TheVariants.{Metrics, Well, Unready, BadMethod}
 
@@ -160,14 +163,63 @@ closes Unready false n = refl
 closes BadMethod true n = refl
 closes BadMethod false n = refl
 
-pub report_says : (kind : ReportKind) (keeps head_alone : Bool) (body text : List ℕ) → length body < 2 ^ 64 → text ≡ report_text kind keeps head_alone body → SaysWhetherItKeeps keeps text
+-- ---- it states the status and the length of the body, and that no cache keeps it
+
+digit_visible : (b : ℕ) → is_ascii_digit b ≡ true → is_ows b ≡ false
+digit_visible b digit = grind (arith, nat_tests)
+
+visible_front : (text : List ℕ) → AllByRecursion (λ b. is_ascii_digit b ≡ true) text → skip_ows text ≡ text
+visible_front [] all = refl
+visible_front (b ∷ text) all = let stays : is_ows b ≡ false = digit_visible b all.0 in rw stays refl
+
+length_trimmed : (n : ℕ) → n < 2 ^ 64 → trim_ows (32 ∷ decimal n) ≡ decimal n
+length_trimmed n small =
+    let digits : AllPass is_ascii_digit (decimal n) = AllPass-from_list_all is_ascii_digit (decimal n) (numerals.from (decimal n) (decimal_is_IsNumeral n small).0.1) in
+    trim_ows_space (decimal n)
+    (visible_front (decimal n) (recursion_from_All (λ b. is_ascii_digit b ≡ true) (decimal n) digits))
+    (visible_front (reverse (decimal n)) (recursion_from_All (λ b. is_ascii_digit b ≡ true) (reverse (decimal n)) (AllPass-reverse is_ascii_digit (decimal n) digits)))
+
+lengths : (kind : ReportKind) (keeps : Bool) (n : ℕ) → values_named (codes "content-length") (fields kind keeps n) ≡ trim_ows (32 ∷ decimal n) ∷ []
+lengths Metrics true n = refl
+lengths Metrics false n = refl
+lengths Well true n = refl
+lengths Well false n = refl
+lengths Unready true n = refl
+lengths Unready false n = refl
+lengths BadMethod true n = refl
+lengths BadMethod false n = refl
+
+caching : (kind : ReportKind) (keeps : Bool) (n : ℕ) → values_named (codes "cache-control") (fields kind keeps n) ≡ codes "no-store" ∷ []
+unfolding httparse_on_literals
+caching Metrics true n = refl
+caching Metrics false n = refl
+caching Well true n = refl
+caching Well false n = refl
+caching Unready true n = refl
+caching Unready false n = refl
+caching BadMethod true n = refl
+caching BadMethod false n = refl
+
+status : (kind : ReportKind) (keeps : Bool) (n : ℕ) → status_code (head_of kind keeps n) ≡ status_of kind
+status Metrics keeps n = refl
+status Well keeps n = refl
+status Unready keeps n = refl
+status BadMethod keeps n = refl
+
+pub report_message : (kind : ReportKind) (keeps head_alone : Bool) (body text : List ℕ) → length body < 2 ^ 64 → text ≡ report_text kind keeps head_alone body
+    → IsReportMessage kind keeps head_alone body text
 unfolding report_text
-report_says kind keeps head_alone body text small is = record {
+report_message kind keeps head_alone body text small is = record {
   head = head_of kind keeps (length body);
-  rest = sent_body head_alone body;
   reads = (valid kind keeps (length body) small, is ∙ printed kind keeps (length body) (sent_body head_alone body));
-  says = closes kind keeps (length body);
+  status = status kind keeps (length body);
+  size = lengths kind keeps (length body) ∙ ap (λ (value : List ℕ). value ∷ []) (length_trimmed (length body) small);
+  caching = caching kind keeps (length body);
+  connection = closes kind keeps (length body);
 }
+
+pub report_says : (kind : ReportKind) (keeps head_alone : Bool) (body text : List ℕ) → IsReportMessage kind keeps head_alone body text → SaysWhetherItKeeps keeps text
+report_says kind keeps head_alone body text message = record { head = message.head; rest = sent_body head_alone body; reads = message.reads; says = message.connection }
 
 -- ---- it is written in four steps
 

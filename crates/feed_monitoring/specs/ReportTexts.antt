@@ -1,6 +1,9 @@
 -- The bytes of a reply about a node.
-use Rattle.std.specs.Prelude.{ℕ, Bool, if◌then◌else◌, List, [], ◌++◌, length}
+use Rattle.std.specs.Prelude.{◌≡◌, ℕ, Bool, if◌then◌else◌, List, [], ◌∷◌, ◌++◌, length, codes}
 use Rattle.std.specs.Fmt.{decimal}
+use Rattle.httparse.specs.Grammar.{ResponseHead, ReadsResponse, status_code}
+use Rattle.feed_http_heads.specs.Fields.{values_named}
+use Rattle.feed_http_heads.specs.Options.{lacks_close}
 use Rattle.feed_monitoring.specs.declared.report_text.TheConstants.{METRICS_START, WELL_START, UNREADY_START, BAD_METHOD_START, KEPT_END, CLOSED_END}
 use Rattle.feed_monitoring.specs.declared.report_text.ReportKind.{ReportKind}
 use Rattle.feed_monitoring.specs.declared.report_text.ReportKind.TheVariants.{Metrics, Well, Unready, BadMethod}
@@ -31,3 +34,13 @@ sent_body head_alone body = if head_alone then [] else body
 unfoldable pub report_text : ReportKind → Bool → Bool → List ℕ → List ℕ
 report_text kind keeps head_alone body =
     start_text kind ++ (decimal (length body) ++ (end_text keeps ++ sent_body head_alone body))
+
+-- the text is one head and then the body, or the head alone; the head states the status and the length of the body, that
+-- no cache keeps the reply (RFC 9111, section 5.2.2.5), and whether the connection is closed
+pub record IsReportMessage (kind : ReportKind) (keeps head_alone : Bool) (body text : List ℕ) : Type 0 where
+  pub head : ResponseHead
+  pub reads : ReadsResponse text head (sent_body head_alone body)
+  pub status : status_code head ≡ status_of kind
+  pub size : values_named (codes "content-length") head.fields ≡ decimal (length body) ∷ []
+  pub caching : values_named (codes "cache-control") head.fields ≡ codes "no-store" ∷ []
+  pub connection : lacks_close head.fields ≡ keeps

@@ -1,4 +1,4 @@
--- What a request asks a node to report of itself, and the reply.
+-- The report that a request asks of a node, and the reply.
 use Rattle.std.specs.Prelude.{◌≡◌, ◌⊎◌, ◌||◌, ℕ, Bool, true, false, if◌then◌else◌, List, [], length, nat_lt, codes, Option, Some, None, is_some}
 use Rattle.std.specs.Str.{bytes_eq}
 use Rattle.httparse.specs.Grammar.{RequestHead}
@@ -14,7 +14,7 @@ use Rattle.feed_monitoring.specs.declared.report_reply.TheConstants.{WELL, UNREA
 use Rattle.feed_monitoring.specs.declared.report_text.ReportKind.{ReportKind}
 use Rattle.feed_monitoring.specs.declared.report_text.ReportReply.{ReportReply}
 use Rattle.feed_monitoring.specs.declared.report_text.ReportKind.TheVariants as kind
-use Rattle.feed_monitoring.specs.ReportTexts.{status_of, sent_body, report_text}
+use Rattle.feed_monitoring.specs.ReportTexts.{status_of, sent_body, report_text, IsReportMessage}
 
 -- what a path names
 abbrev pub report_at : List ℕ → Option Report
@@ -70,6 +70,7 @@ pub record IsReportTo (metrics : MetricsValue) (gauges : Gauges) (head : Request
   pub text : reply.bytes.items ≡ report_text (kind_to head (is_ready gauges) asked) keeps (is_head head) (body_of metrics gauges (kind_to head (is_ready gauges) asked))
   pub status : reply.status ≡ status_of (kind_to head (is_ready gauges) asked)
   pub size : reply.body_len ≡ length (sent_body (is_head head) (body_of metrics gauges (kind_to head (is_ready gauges) asked)))
+  pub message : IsReportMessage (kind_to head (is_ready gauges) asked) keeps (is_head head) (body_of metrics gauges (kind_to head (is_ready gauges) asked)) reply.bytes.items
 
 -- the bytes are a request for a report, and this is the reply to it
 pub record IsReportAnswer (metrics : MetricsValue) (gauges : Gauges) (bytes : List ℕ) (keeps : Bool) (reply : ReportReply) : Type 0 where

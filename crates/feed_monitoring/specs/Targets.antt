@@ -1,4 +1,4 @@
--- What the target of a request names, as the counters of requests have it.
+-- The target of a request, as the counters of requests name it.
 use Rattle.std.specs.Prelude.{◌||◌, ℕ, Bool, if◌then◌else◌, List, codes, is_some, Option, Some, None}
 use Rattle.std.specs.Str.{bytes_eq}
 use Rattle.feed_range.specs.Text.{strip_prefix}

@@ -24,7 +24,8 @@ fn value_or<'b>(buffer: &'b [u8], header: HeaderSpan, name: &[u8], value: &'b [u
 /// Returns the value of the last field of this name. It is empty if there is none.
 pub(crate) fn last_value<'b>(fields: &Fields<'b>, name: &[u8]) -> &'b [u8]
     requires { AreWithin fields.now }
-    ensures { (list : List Field) → AreFieldsOf fields.now list → result.now ≡ last_of (values_named name.now list) }
+    ensures { (list : List Field) → AreFieldsOf fields.now list
+        → result.now ≡ last_of (values_named name.now list) }
 {
     let mut value: &'b [u8] = b"";
     for header in fields.headers {

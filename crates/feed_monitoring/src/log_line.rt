@@ -11,7 +11,7 @@ use feed_http_heads::Fields;
 use std::alloc::AllocError;
 use std::marker::Model;
 
-/// What the log shows of the requests of a peer.
+/// The parts that the log shows of the requests of a peer.
 #[derive(Clone, Copy)]
 pub struct LogPolicy {
     /// Whether the peer is a proxy, which states the address of its client.
@@ -34,7 +34,7 @@ pub struct Exchange<'a> {
     pub status: u16,
     /// How many bytes of the reply were sent.
     pub sent: u64,
-    /// How many of these are of its body.
+    /// How many bytes of its body were sent.
     pub body_sent: u64,
     /// The microseconds from the last byte of the head of the request to the last byte of the reply.
     pub micros: u64,

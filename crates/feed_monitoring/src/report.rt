@@ -1,4 +1,4 @@
-//! What a request asks a node to report of itself.
+//! The report that a request asks of a node.
 ghost use Rattle.std.specs.Prelude.{◌≡◌, MatchBool};
 ghost use Rattle.httparse.specs.Grammar.{RequestHead};
 ghost use Rattle.feed_http_heads.specs.Requests.{IsInBuffer, HasHead};
@@ -8,7 +8,7 @@ use feed_http_heads::{FIELD_LIMIT, Request, origin_form};
 use feed_resolver_request::{find_request, path_in};
 use httparse::spans::EMPTY_HEADER_SPAN;
 
-/// What a node reports of itself.
+/// A report of a node about itself.
 #[derive(Clone, Copy, Debug, PartialEq, Eq)]
 pub enum Report {
     /// `/metrics`: what it has counted.

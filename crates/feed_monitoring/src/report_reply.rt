@@ -4,7 +4,8 @@ ghost use Rattle.httparse.specs.Grammar.{RequestHead};
 ghost use Rattle.feed_http_heads.specs.Options.{SaysWhetherItKeeps};
 ghost use Rattle.feed_http_heads.specs.Requests.{IsInBuffer, HasHead, is_get, is_head};
 ghost use Rattle.feed_monitoring.specs.ReportTexts.{status_of, report_text};
-ghost use Rattle.feed_monitoring.specs.Reports.{kind_of, kind_to, fixed_body, body_of, IsReportTo, IsReportReply};
+ghost use Rattle.feed_monitoring.specs.Reports.{kind_of, kind_to, fixed_body, body_of, is_ready};
+ghost use Rattle.feed_monitoring.specs.Reports.{IsReportTo, IsReportReply};
 
 use crate::report::{Report, report_of};
 use crate::report_text::{ReportKind, ReportReply, report_reply};
@@ -44,6 +45,13 @@ fn kind_to(request: &Request<'_>, is_ready: bool, report: Report) -> ReportKind
     ensures { (head : RequestHead) → HasHead request.now head → result ≡ kind_to head is_ready report }
 {
     kind_of(request.is_get() || request.is_head(), is_ready, report)
+}
+
+// Returns whether the node has an active release.
+fn is_ready(gauges: &Gauges<'_>) -> bool
+    ensures { result ≡ is_ready gauges.now }
+{
+    !gauges.releases.is_empty()
 }
 
 fn fixed_body(kind: ReportKind) -> &'static [u8]
@@ -86,7 +94,7 @@ fn reply_to(
         → IsReportTo metrics.now gauges.now head keeps report reply) }
     ensures says { IfOk result (λ reply. SaysWhetherItKeeps keeps reply.bytes.items) }
 {
-    let kind = kind_to(request, !gauges.releases.is_empty(), report);
+    let kind = kind_to(request, is_ready(gauges), report);
     let body = body_of(alloc, kind, metrics, gauges)?;
     report_reply(alloc, kind, keeps, request.is_head(), &body)
 }

@@ -3,11 +3,12 @@ ghost use Rattle.std.specs.Prelude.{◌≡◌, ◌<◌, ◌^◌, ◌++◌, IfOk,
 ghost use Rattle.std.specs.Fmt.{decimal};
 ghost use Rattle.feed_http_heads.specs.Options.{SaysWhetherItKeeps};
 ghost use Rattle.feed_monitoring.specs.ReportTexts.{start_text, end_text, status_of, sent_body, report_text};
+ghost use Rattle.feed_monitoring.specs.ReportTexts.{IsReportMessage};
 
 use std::alloc::{AllocError, Global};
 use std::io::Write;
 
-/// What a reply about a node says.
+/// The content of a reply about a node.
 #[derive(Clone, Copy, Debug, PartialEq, Eq)]
 pub enum ReportKind {
     /// 200, with the metrics.
@@ -127,6 +128,7 @@ pub(crate) fn report_reply(
     ensures text { IfOk result (λ reply. reply.bytes.items ≡ report_text kind keeps head_alone body.now) }
     ensures status { IfOk result (λ reply. reply.status ≡ status_of kind) }
     ensures size { IfOk result (λ reply. reply.body_len ≡ length (sent_body head_alone body.now)) }
+    ensures message { IfOk result (λ reply. IsReportMessage kind keeps head_alone body.now reply.bytes.items) }
     ensures says { IfOk result (λ reply. SaysWhetherItKeeps keeps reply.bytes.items) }
 {
     Ok(ReportReply {

@@ -1,4 +1,4 @@
-//! What the target of a request names, as the counters of requests have it.
+//! The target of a request, as the counters of requests name it.
 ghost use Rattle.std.specs.Prelude.{◌≡◌};
 ghost use Rattle.httparse.specs.Grammar.{RequestHead};
 ghost use Rattle.feed_http_heads.specs.Requests.{IsInBuffer, HasHead};

@@ -1,4 +1,4 @@
--- What is written is understood as the query was for which it is written.
+-- The written query is understood as the query for which it is written.
 use Rattle.std.proofs.Common.{◌≡◌, ℕ, false, ◌||◌, List, [], ◌∷◌, Option}
 use Rattle.std.proofs.Common.{Some, None, if◌then◌else◌, codes, refl, ap, ◌∙◌, map, arith}
 use Rattle.std.specs.Prelude.{IfSome}

@@ -25,7 +25,7 @@ use Rattle.feed_openurl.specs.Written.{date_pairs, isbn_pairs, issn_pairs, volum
 use Rattle.feed_openurl.specs.declared.fault.Refusal.{Refusal}
 use Rattle.feed_openurl.proofs.Sizes.{written_steps}
 
--- a text of at most n bytes, each of which a form writes as it is
+-- a text of at most n bytes, and a form writes each of them as it is
 pub record IsShort (n : ℕ) (text : List ℕ) : Type 0 where
   pub bound : length text ≤ n
   pub kept : All IsUnchanged text
@@ -206,7 +206,8 @@ days_short (a ∷ b ∷ c ∷ d ∷ h ∷ e ∷ f ∷ k ∷ i ∷ j ∷ []) some
     let all = parts_some (four_digits a b c d) (two_digits e f) (two_digits i j) test.1 in
     record {
       bound = omega arith;
-      kept = four_kept a b c d (h ∷ e ∷ f ∷ k ∷ i ∷ j ∷ []) all.first (two_kept h e f (k ∷ i ∷ j ∷ []) hyphens.0 all.second (two_kept k i j [] hyphens.1 all.third (All-nil IsUnchanged)));
+      kept = four_kept a b c d (h ∷ e ∷ f ∷ k ∷ i ∷ j ∷ []) all.first
+          (two_kept h e f (k ∷ i ∷ j ∷ []) hyphens.0 all.second (two_kept k i j [] hyphens.1 all.third (All-nil IsUnchanged)));
     }
 days_short _ some = absurd (cc)
 

@@ -7,3 +7,4 @@ pub mod Plains
 pub mod Bounds
 pub mod Again
 pub mod Shows
+pub mod Steps

@@ -1,4 +1,4 @@
--- What is read of the characters of a value, one by one.
+-- The characters of a value, read one by one.
 use Rattle.std.proofs.Common.{◌≡◌, ℕ, Bool, true, false, List, [], ◌∷◌, ◌++◌, Some, None, if◌then◌else◌, refl, sym, ap, ◌∙◌}
 use Rattle.std.specs.List.{cons_option, filter_map, list_all}
 use Rattle.std.specs.Str.{IsUtf8, chars, is_utf8}
@@ -27,7 +27,7 @@ pub plain_of_text : (value text : List ℕ) → list_all is_ascii_byte value ≡
 plain_of_text value text other same utf8 =
     ap (λ t. filter_map plain_byte (chars t)) same ∙ ap (λ b. plain_if false b value) (sym (is_utf8-from_IsUtf8 value utf8)) ∙ ap (λ b. plain_if b (is_utf8 value) value) (sym other)
 
--- what is no text is not tested as one
+-- bytes that are not a text are not tested as one
 pub no_text : (value : List ℕ) (b : Bool) → is_utf8 value ≡ b → (IsUtf8 value → ⊥) → is_utf8 value ≡ false
 no_text value true e not = absurd (not (IsUtf8-from_is_utf8 value e))
 no_text value false e not = e

@@ -1,5 +1,6 @@
--- What is looked up for a query: identifiers that parse, ascending, and within the limit.
-use Rattle.std.proofs.Common.{◌≡◌, ◌<◌, ℕ, Bool, true, false, ◌&&◌, ◌||◌, List, [], ◌∷◌, ◌++◌, take, drop, Option, Some, None, if◌then◌else◌, codes, refl, map, arith}
+-- The identifiers that are looked up for a query parse, ascend, and are within the limit.
+use Rattle.std.proofs.Common.{◌≡◌, ◌<◌, ℕ, Bool, true, false, ◌&&◌, ◌||◌, List, [], ◌∷◌, ◌++◌, take, drop, Option, Some, None, if◌then◌else◌}
+use Rattle.std.proofs.Common.{codes, refl, map, arith}
 use Rattle.std.specs.Prelude.{IfSome, fold, nat_lt}
 use Rattle.std.specs.BTreeSet.{insert_key}
 use Rattle.std.specs.List.{All, concat, cons_option, filter_map, flat_map, list_any}
@@ -20,7 +21,7 @@ use Rattle.feed_openurl.specs.Identifiers.{reason_without, refused, within_limit
 use Rattle.feed_openurl.specs.Keys.{keyed}
 use Rattle.feed_openurl.specs.Kinds.{formats_of, names_other_format, names_other_version}
 use Rattle.feed_openurl.specs.Numbers.{begins_with_digit, first_number, first_spaced_isbn, found_or, isbn_number, is_number, number_of_word, number_onto, number_or}
-use Rattle.feed_openurl.specs.Numbers.{numbers_after, numbers_in, spaced_isbn, spaced_issn, taken, words_from}
+use Rattle.feed_openurl.specs.Numbers.{isbn_of_words, issn_of_halves, numbers_after, numbers_in, spaced_isbn, spaced_issn, taken, words_from}
 use Rattle.feed_openurl.specs.Plain.{plain}
 use Rattle.feed_openurl.specs.Values.{AreIdentifiers, IsCounted, IsIsbnText, IsIssnText}
 use Rattle.feed_openurl.specs.declared.fault.Refusal.{Refusal}
@@ -72,19 +73,23 @@ module _ (issn_law : PrintedFormParses issn_of) (isbn_law : PrintedFormParses is
   isbn_valid text = parsed isbn_of isbn_law text (isbn_of text) refl
 
   word_valid : (word : List ℕ) → IfSome (number_of_word word) IsValid
+  unfolding number_of_word
   word_valid word = number_or_valid (issn_of word) (isbn_number (isbn_of word)) (issn_valid word) (isbn_number_valid (isbn_of word) (isbn_valid word))
 
   spaced_issn_valid : (words : List (List ℕ)) → IfSome (spaced_issn words) IsIssnText
+  unfolding issn_of_halves
   spaced_issn_valid [] = tt
   spaced_issn_valid (front ∷ []) = tt
   spaced_issn_valid (front ∷ back ∷ words) = if_valid IsIssnText _ (issn_of (front ++ back)) None (issn_valid (front ++ back)) tt
 
   spaced_isbn_valid : (n : ℕ) (words : List (List ℕ)) → IfSome (isbn_number (spaced_isbn n words)) IsValid
+  unfolding isbn_of_words
   spaced_isbn_valid n words =
       isbn_number_valid (spaced_isbn n words)
       (if_valid IsIsbnText (list_any is_number (take n words)) None (isbn_of (concat (take n words))) tt (isbn_valid (concat (take n words))))
 
   first_valid : (words : List (List ℕ)) → IfSome (first_number words) IsFound
+  unfolding first_spaced_isbn
   first_valid [] = tt
   first_valid (word ∷ words) =
       found_or_valid (number_of_word word) 0 _ (word_valid word)
@@ -106,6 +111,7 @@ module _ (issn_law : PrintedFormParses issn_of) (isbn_law : PrintedFormParses is
       (onto_valid (first_number (word ∷ words)) _ (first_valid (word ∷ words)) (after_valid words (taken (first_number (word ∷ words)))))
 
   all_valid : (texts : List (List ℕ)) → All IsValid (flat_map numbers_in texts)
+  unfolding numbers_in
   all_valid [] = All-nil IsValid
   all_valid (text ∷ texts) = All-append IsValid (numbers_in text) (flat_map numbers_in texts) (after_valid (words_from [] (plain text)) 0) (all_valid texts)
 

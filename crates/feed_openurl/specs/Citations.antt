@@ -28,7 +28,7 @@ pub record CitationValue : Type 0 where
   pub doi : List ℕ
   pub pmid : List ℕ
 
--- the number of a part; a range of pages tells the first page
+-- the number of a part; a range of pages has the number of the first page
 abbrev pub place_of : Part → ℕ
 place_of Article = 0
 place_of Title = 1
@@ -82,7 +82,7 @@ named_after None name = named Old name
 abbrev pub part_of : List ℕ → Option (Part × ℕ)
 part_of key = named_after (after_prefix (codes "rft.") (mended key)) (mended key)
 
--- a byte of the first page of a range: none of those behind it, as in `10-15`
+-- a byte of the first page of a range: not a hyphen, a comma or a space, which come behind it, as in `10-15`
 abbrev pub is_in_page : ℕ → Bool
 is_in_page b = not (b == 45) && not (b == 44) && not (b == 32)
 

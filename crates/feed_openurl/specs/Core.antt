@@ -1,4 +1,4 @@
--- What the core reads of the pairs of a query, whatever its length (Z39.88-2004, key/value formats).
+-- The parts of a query that the core reads from its pairs, whatever its length (Z39.88-2004, key/value formats).
 use Rattle.std.specs.Prelude.{ℕ, Bool, ◌||◌, List, [], Option, None, if◌then◌else◌, codes}
 use Rattle.std.specs.List.{filter_map, list_any}
 use Rattle.feed_identifiers.specs.Text.{trimmed}

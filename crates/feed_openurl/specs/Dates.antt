@@ -1,4 +1,5 @@
--- The first date in a value that is no date of the core, as `20 Oct 2005`, `Oct-Nov 2005`, `1996-1997` and `Spring 2004`.
+-- The first date in a value that has another form than the core's, such as `20 Oct 2005`, `Oct-Nov 2005`, `1996-1997` and
+-- `Spring 2004`.
 use Rattle.std.specs.Prelude.{ℕ, Bool, true, false, ◌+◌, ◌-◌, ◌*◌, ◌/◌, ◌%◌, ◌||◌, ◌&&◌, ◌==◌, not, nat_lt}
 use Rattle.std.specs.Prelude.{min, List, [], ◌∷◌, ◌++◌, length, take, drop, filter, Option, Some, None, is_some, if◌then◌else◌, codes}
 use Rattle.std.specs.Char.{is_ascii_digit}
@@ -86,7 +87,7 @@ abbrev pub joins : List ℕ → ℕ → Bool
 joins [] b = false
 joins (a ∷ run) b = (is_ascii_digit a && is_ascii_digit b) || (is_letter a && is_letter b)
 
--- the tokens of a text, of which the first run has begun
+-- the tokens of a text whose first run has begun
 abbrev pub tokens_from : List ℕ → List ℕ → List Token
 tokens_from run [] = cons_option (token_of run) []
 tokens_from run (b ∷ bytes) =
@@ -148,7 +149,8 @@ is_before month _ = false
 abbrev pub has_year : Token → Bool
 has_year token = is_some (year_of token)
 
--- the months pass the end of a year of which only one is named, as in `Dec-Jan 2006`: which of them it is of is unknown
+-- the months pass the end of a year, and only one year is named, as in `Dec-Jan 2006`: the month that it belongs to is
+-- unknown
 abbrev pub pass_a_year : List Token → ℕ → Bool
 pass_a_year tokens month = list_any (is_before month) tokens && (length (filter has_year tokens) == 1)
 
@@ -205,8 +207,8 @@ abbrev pub is_season : Token → Bool
 is_season Season = true
 is_season _ = false
 
--- the first date among some tokens: there is none without a year; the name of a month counts before numbers, and beside
--- the name of a season they are no month, as in `Winter 2005-06`
+-- the first date among some tokens: there is none without a year; the name of a month counts before numbers; beside the
+-- name of a season the numbers do not give a month, as in `Winter 2005-06`
 abbrev pub date_of_named : List Token → List ℕ → Option (ℕ × ℕ) → Option (List ℕ)
 date_of_named tokens year (Some named) = named_date tokens year named
 date_of_named tokens year None = if list_any is_season tokens then date_of_parts year 0 0 else numeric_date tokens

@@ -33,7 +33,7 @@ or_else None other = other
 abbrev pub without_front : List ℕ → List ℕ
 without_front key = or_else (after_prefix (codes "?") key) (or_else (after_prefix (codes "amp;") key) key)
 
--- a key without spaces at its ends, and without up to two of these, as an ampersand may be escaped twice
+-- a key without spaces at its ends, and without up to two such fronts, as an ampersand may be escaped twice
 abbrev pub mended : List ℕ → List ℕ
 mended key = without_front (without_front (trimmed key))
 

@@ -19,7 +19,7 @@ abbrev pub without : List ℕ → List ℕ → List ℕ
 without front text = or_else (after_prefix front text) text
 
 -- a word without a label that is written onto it, as in `ISSN2434-561X`
-abbrev pub unlabelled : List ℕ → List ℕ
+unfoldable pub unlabelled : List ℕ → List ℕ
 unlabelled word =
     without (codes "-") (without (codes "ISSN") (without (codes "ISBN") word))
 
@@ -31,7 +31,7 @@ onto word words = if is_empty word then words else word ∷ words
 abbrev pub sign_onto : ℕ → List (List ℕ) → List (List ℕ)
 sign_onto b words = if b == 32 then words else (b ∷ []) ∷ words
 
--- the words of a text, of which the first has begun; a hyphen begins none
+-- the words of a text whose first word has begun; no word begins with a hyphen
 abbrev pub words_from : List ℕ → List ℕ → List (List ℕ)
 words_from begun [] = onto (unlabelled begun) []
 words_from begun (b ∷ bytes) =
@@ -48,20 +48,28 @@ abbrev pub number_or : Option (List ℕ) → Option Number → Option Number
 number_or (Some issn) other = Some (Issn issn)
 number_or None other = other
 
-abbrev pub number_of_word : List ℕ → Option Number
+unfoldable pub number_of_word : List ℕ → Option Number
 number_of_word word = number_or (issn_of word) (isbn_number (isbn_of word))
 
 -- a word is a number by itself
 abbrev pub is_number : List ℕ → Bool
 is_number word = is_some (number_of_word word)
 
--- the ISSN of two words of four characters, as a space stands for its hyphen, or follows it
+-- two words have the lengths of the halves of an ISSN; the first may end in the hyphen
+abbrev pub are_halves : List ℕ → List ℕ → Bool
+are_halves front back = (length back == 4) && ((length front == 4) || (length front == 5))
+
+-- the ISSN of two words, if a space appears in place of its hyphen, or behind it
+unfoldable pub issn_of_halves : List ℕ → List ℕ → Option (List ℕ)
+issn_of_halves front back = if are_halves front back then issn_of (front ++ back) else None
+
+-- the ISSN of the first two words
 abbrev pub spaced_issn : List (List ℕ) → Option (List ℕ)
-spaced_issn (front ∷ back ∷ words) = if (length back == 4) && ((length front == 4) || (length front == 5)) then issn_of (front ++ back) else None
+spaced_issn (front ∷ back ∷ words) = issn_of_halves front back
 spaced_issn _ = None
 
--- the ISBN of the first words together, as spaces stand for its hyphens; none of them is a number by itself
-abbrev pub isbn_of_words : List (List ℕ) → Option (List ℕ)
+-- the ISBN of words together, if spaces appear in place of its hyphens, and none of them is a number by itself
+unfoldable pub isbn_of_words : List (List ℕ) → Option (List ℕ)
 isbn_of_words words = if list_any is_number words then None else isbn_of (concat words)
 
 abbrev pub spaced_isbn : ℕ → List (List ℕ) → Option (List ℕ)
@@ -73,7 +81,7 @@ found_or (Some number) more other = Some (number, more)
 found_or None more other = other
 
 -- the ISBN of the first five words, or else of four, of three, or of two
-abbrev pub first_spaced_isbn : List (List ℕ) → Option (Number × ℕ)
+unfoldable pub first_spaced_isbn : List (List ℕ) → Option (Number × ℕ)
 first_spaced_isbn words =
     found_or (isbn_number (spaced_isbn 5 words)) 4
     (found_or (isbn_number (spaced_isbn 4 words)) 3
@@ -104,7 +112,7 @@ abbrev pub taken : Option (Number × ℕ) → ℕ
 taken (Some found) = found.1
 taken None = 0
 
--- the numbers of some words, of which the first belong to a number already
+-- the numbers of some words, if the first ones belong to a number already
 abbrev pub numbers_after : ℕ → List (List ℕ) → List Number
 numbers_after skipped [] = []
 numbers_after skipped (word ∷ words) =
@@ -112,5 +120,5 @@ numbers_after skipped (word ∷ words) =
     else number_onto (first_number (word ∷ words)) (numbers_after (taken (first_number (word ∷ words))) words)
 
 -- the numbers of a value, from its front to its end
-abbrev pub numbers_in : List ℕ → List Number
+unfoldable pub numbers_in : List ℕ → List Number
 numbers_in value = numbers_after 0 (words_from [] (plain value))

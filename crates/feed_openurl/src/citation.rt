@@ -1,4 +1,4 @@
-//! What a reader looked for: the citation of a query.
+//! The citation of a query: the article, the chapter or the volume that a reader looks for.
 ghost use Rattle.std.specs.Prelude.{◌≡◌, ◌≤◌, length, option_copied};
 ghost use Rattle.feed_openurl.specs.Fronts.{front_len};
 ghost use Rattle.feed_openurl.specs.Citations.{is_in_page, first_page, name_offer, named, number_part, offer_by};
@@ -54,13 +54,13 @@ impl Model for Citation {
 }
 
 /// A part of a citation, and how its value is read.
-#[derive(Clone, Copy, Debug, PartialEq, Eq)]
+#[derive(Clone, Copy)]
 pub(crate) enum Part {
     Article,
     Title,
     Author,
     Page,
-    /// Some pages, of which the first is the page.
+    /// Some pages. The first one is the page.
     Pages,
     Issue,
     Date,
@@ -85,7 +85,7 @@ fn place_of(part: Part) -> u8
     }
 }
 
-// The rank of a key, of which the least is the best: the keys of OpenURL 1.0 before those of 0.1.
+// The rank of a key: the keys of OpenURL 1.0 before those of 0.1. The least rank is the best.
 fn rank(tier: Tier, order: u8) -> u16
     ensures { result ≡ rank tier order }
 {
@@ -186,7 +186,7 @@ fn first_page(pages: &[u8]) -> &[u8]
     &pages[..page_len(pages)]
 }
 
-// What a value says of a part.
+// The text that a value has for a part.
 fn value_for(part: Part, value: &[u8]) -> Option<&[u8]>
     ensures { option_copied result ≡ value_for part value.now }
 {
@@ -264,7 +264,7 @@ fn offer_by<'a>(key: Key, name: &[u8], value: &'a [u8]) -> Option<Offer<'a>>
     }
 }
 
-// What a pair says of a citation.
+// The part of a citation that a pair offers.
 fn offer_of<'a>(pair: &'a Pair<'_>) -> Option<Offer<'a>>
     ensures { result ≡ offer_of pair.now }
 {
@@ -425,8 +425,8 @@ impl Citation {
     ghost use Rattle.std.specs.Prelude.{IfOk};
     ghost use Rattle.feed_openurl.specs.Citations.{citation_of, citation_of_pairs};
 
-    /// Reads the citation of the pairs of a query. Of several values of a part, the first of the best key counts.
-    pub(crate) fn of(alloc: Global, pairs: &[Pair<'_>]) -> Result<Citation, AllocError>
+    // Reads the citation of the pairs of a query. Of several values of a part, the first of the best key counts.
+    fn of(alloc: Global, pairs: &[Pair<'_>]) -> Result<Citation, AllocError>
         ensures { IfOk result (λ c. c ≡ citation_of_pairs pairs.now) }
     {
         let mut choices = Choices::new();

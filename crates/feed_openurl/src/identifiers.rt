@@ -18,7 +18,7 @@ use feed_identifiers::{Isbn, Issn};
 use std::alloc::{AllocError, Global};
 use std::marker::Model;
 
-/// What is looked up: identifiers, or none and the reason.
+/// The identifiers that are looked up, or none and the reason.
 #[derive(Drop)]
 pub(crate) struct LookedUp {
     pub(crate) issns: Vec<Issn>,
@@ -152,7 +152,7 @@ fn reason_without(formats: FormatNames) -> Refusal
     }
 }
 
-// What is looked up for a query that names no other version or format.
+// The identifiers of a query that names no other version or format.
 fn found_among(alloc: Global, values: &[Value<'_>]) -> Result<LookedUp, AllocError>
     ensures { IfOk result (λ found. found
         ≡ within_or (reason_without (formats_of values.now)) (other_identifiers (formats_of values.now) values.now)) }
@@ -165,7 +165,7 @@ fn found_among(alloc: Global, values: &[Value<'_>]) -> Result<LookedUp, AllocErr
     Ok(within_limit(alloc, found))
 }
 
-// What is looked up for a query that the core does not answer.
+// The identifiers of a query that the core does not answer.
 fn looked_up_of_others(alloc: Global, values: &[Value<'_>]) -> Result<LookedUp, AllocError>
     ensures { IfOk result (λ found. found ≡ looked_up_of_others values.now) }
 {
@@ -178,7 +178,7 @@ fn looked_up_of_others(alloc: Global, values: &[Value<'_>]) -> Result<LookedUp, 
     found_among(alloc, values)
 }
 
-/// Returns what is looked up for a query: the pairs, and what their keys ask for.
+/// Returns the identifiers of a query, by its pairs and their values.
 pub(crate) fn looked_up(
     alloc: Global,
     pairs: &[Pair<'_>],

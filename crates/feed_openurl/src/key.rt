@@ -7,7 +7,7 @@ ghost use Rattle.feed_openurl.specs.Keys.{without_front};
 use feed_identifiers::trim_spaces;
 
 /// Whether a key is one of the referent in OpenURL 1.0, such as `rft.issn`, or the same of OpenURL 0.1, such as `issn`.
-#[derive(Clone, Copy, Debug, PartialEq, Eq)]
+#[derive(Clone, Copy)]
 pub(crate) enum Tier {
     Rft,
     Old,
@@ -30,8 +30,8 @@ impl Tier {
     }
 }
 
-/// What the value of a key says.
-#[derive(Clone, Copy, Debug, PartialEq, Eq)]
+/// The meaning of a key for the value behind it.
+#[derive(Clone, Copy)]
 pub(crate) enum Key {
     /// `url_ver`, `ctx_ver`.
     Version,

@@ -25,7 +25,7 @@ pub fn written_is_understood()
     ensures { WrittenIsUnderstood }
 {}
 
-/// What is written for the query that is written is the same text.
+/// A written query, understood and written again, is the same text.
 pub fn written_is_itself()
     ensures { WrittenIsItself }
 {}

@@ -1,4 +1,4 @@
-//! The first date in a value that is no date of the core.
+//! The first date in a value that has another form than the core's.
 ghost use Rattle.std.specs.Prelude.{◌≡◌, ◌≤◌, IfOk, filter, length};
 ghost use Rattle.std.specs.List.{list_any};
 ghost use Rattle.feed_openurl.specs.Fronts.{front_len};
@@ -47,7 +47,7 @@ fn first_year(tokens: &[Token]) -> Option<[u8; 4]>
     None
 }
 
-// Whether a mark stands between the parts of a date.
+// Whether a mark separates the parts of a date.
 fn is_between(mark: u8) -> bool
     ensures { result ≡ is_between mark }
 {
@@ -158,7 +158,7 @@ fn count_of_years(tokens: &[Token]) -> usize
     count
 }
 
-// Whether the months pass the end of a year of which only one is named, as in `Dec-Jan 2006`.
+// Whether the months pass the end of a year, and only one year is named, as in `Dec-Jan 2006`.
 fn pass_a_year(tokens: &[Token], month: u8) -> bool
     ensures { result ≡ pass_a_year tokens.now month }
 {
@@ -256,7 +256,7 @@ fn date_after_year(year: [u8; 4], tokens: &[Token]) -> Option<DateText>
     }
 }
 
-// The date of a token and of those behind it, if the token has a year.
+// The date of a token and of the tokens behind it, if the token has a year.
 fn year_first(token: Token, tokens: &[Token]) -> Option<DateText>
     ensures { result ≡ year_first_of (year_of token) token tokens.now }
 {

@@ -1,8 +1,8 @@
-//! Understands the OpenURLs that real sources send: the citation of a query, and the query for the core that it stands
-//! for (ANSI/NISO Z39.88-2004, and OpenURL 0.1 before it).
+//! Understands the OpenURLs that real sources send: the citation of a query, and the query of the core that means the
+//! same (ANSI/NISO Z39.88-2004, and OpenURL 0.1 before it).
 //!
-//! `Understanding::read` reads a query in any of these forms, and `Understanding::write` writes the OpenURL 1.0 query
-//! that `feed_answer` reads.
+//! `Citation::read` and `Understanding::read` read a query in any of these forms, and `Understanding::write` writes the
+//! OpenURL 1.0 query that `feed_answer` reads.
 #![tactic(auto)]
 
 mod citation;

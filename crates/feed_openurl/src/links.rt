@@ -97,8 +97,8 @@ fn is_doi(name: &[u8]) -> bool
     }
 }
 
-/// Returns the DOI of a value, with or without what makes it a URI, of which up to three parts follow one another:
-/// `10.`, digits and dots, a slash, and something after it (ISO 26324).
+/// Returns the DOI of a value, without up to three fronts that make it a URI: `10.`, digits and dots, a slash, and
+/// something after it (ISO 26324).
 pub(crate) fn doi_of(value: &[u8]) -> Option<&[u8]>
     ensures { option_copied result ≡ doi_of value.now }
 {

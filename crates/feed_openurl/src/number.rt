@@ -1,8 +1,9 @@
 //! An ISSN or an ISBN at the front of some words.
-ghost use Rattle.std.specs.Prelude.{◌≡◌, ◌∷◌, [], IfOk};
+ghost use Rattle.std.specs.Prelude.{◌≡◌, ◌++◌, IfOk};
 ghost use Rattle.std.specs.List.{concat, list_any};
-ghost use Rattle.feed_openurl.specs.Numbers.{begins_with_digit, first_number, first_spaced_isbn, is_number};
-ghost use Rattle.feed_openurl.specs.Numbers.{isbn_of_words, number_of_word, spaced_isbn, spaced_issn};
+ghost use Rattle.feed_openurl.specs.Numbers.{are_halves, begins_with_digit, first_number, first_spaced_isbn};
+ghost use Rattle.feed_openurl.specs.Numbers.{is_number, isbn_of_words, issn_of_halves, number_of_word};
+ghost use Rattle.feed_openurl.specs.Numbers.{spaced_isbn, spaced_issn};
 
 use crate::words::Word;
 use feed_identifiers::{Isbn, Issn};
@@ -16,6 +17,7 @@ pub(crate) enum Number {
 }
 
 // The number that a word is by itself.
+#[tactic(auto, unfolding(crate::specs::Numbers::number_of_word))]
 fn number_of_word(word: &[u8]) -> Option<Number>
     ensures { result ≡ number_of_word word.now }
 {
@@ -46,26 +48,41 @@ fn has_number(words: &[Word]) -> bool
     false
 }
 
-// The ISSN of the first two words, as a space stands for its hyphen, or follows it.
-fn spaced_issn(words: &[Word]) -> Option<Issn>
-    ensures { result ≡ spaced_issn words.now }
+// Whether two words have the lengths of the halves of an ISSN. The first may end in the hyphen.
+fn are_halves(front: &[u8], back: &[u8]) -> bool
+    ensures { result ≡ are_halves front.now back.now }
 {
-    match words {
-        [front, back, ..] => spaced_issn_of(front.text(), back.text()),
-        _ => None,
-    }
+    back.len() == 4 && (front.len() == 4 || front.len() == 5)
 }
 
-fn spaced_issn_of(front: &[u8], back: &[u8]) -> Option<Issn>
-    ensures { result ≡ spaced_issn (front.now ∷ back.now ∷ []) }
+// The text of two words together.
+fn joined_halves(alloc: Global, front: &[u8], back: &[u8]) -> Result<Vec<u8>, AllocError>
+    ensures { IfOk result (λ text. text.items ≡ front.now ++ back.now) }
 {
-    match back {
-        [e, f, g, h] => match front {
-            [a, b, c, d] => Issn::parse(&[*a, *b, *c, *d, *e, *f, *g, *h]),
-            [a, b, c, d, i] => Issn::parse(&[*a, *b, *c, *d, *i, *e, *f, *g, *h]),
-            _ => None,
-        },
-        _ => None,
+    let mut text = Vec::from_slice(alloc, front)?;
+    text.extend_from_slice(back)?;
+    Ok(text)
+}
+
+// The ISSN of two words, if a space appears in place of its hyphen, or behind it.
+#[tactic(auto, unfolding(crate::specs::Numbers::issn_of_halves))]
+fn issn_of_halves(alloc: Global, front: &[u8], back: &[u8]) -> Result<Option<Issn>, AllocError>
+    ensures { IfOk result (λ issn. issn ≡ issn_of_halves front.now back.now) }
+{
+    if !are_halves(front, back) {
+        return Ok(None);
+    }
+    let text = joined_halves(alloc, front, back)?;
+    Ok(Issn::parse(&text))
+}
+
+// The ISSN of the first two words.
+fn spaced_issn(alloc: Global, words: &[Word]) -> Result<Option<Issn>, AllocError>
+    ensures { IfOk result (λ issn. issn ≡ spaced_issn words.now) }
+{
+    match words {
+        [front, back, ..] => issn_of_halves(alloc, front.text(), back.text()),
+        _ => Ok(None),
     }
 }
 
@@ -80,7 +97,8 @@ fn joined(alloc: Global, words: &[Word]) -> Result<Vec<u8>, AllocError>
     Ok(text)
 }
 
-// The ISBN of words together, none of which is a number by itself.
+// The ISBN of words together, if none of them is a number by itself.
+#[tactic(auto, unfolding(crate::specs::Numbers::isbn_of_words))]
 fn isbn_of_words(alloc: Global, words: &[Word]) -> Result<Option<Isbn>, AllocError>
     ensures { IfOk result (λ isbn. isbn ≡ isbn_of_words words.now) }
 {
@@ -91,7 +109,7 @@ fn isbn_of_words(alloc: Global, words: &[Word]) -> Result<Option<Isbn>, AllocErr
     Ok(Isbn::parse(&text))
 }
 
-// The ISBN of the first words together, as spaces stand for its hyphens.
+// The ISBN of the first words together, if spaces appear in place of its hyphens.
 fn spaced_isbn(alloc: Global, words: &[Word], count: usize) -> Result<Option<Isbn>, AllocError>
     ensures { IfOk result (λ isbn. isbn ≡ spaced_isbn count words.now) }
 {
@@ -103,6 +121,7 @@ fn spaced_isbn(alloc: Global, words: &[Word], count: usize) -> Result<Option<Isb
 }
 
 // The ISBN of two to five words, with the number of words after the first. The longest one counts.
+#[tactic(auto, unfolding(crate::specs::Numbers::first_spaced_isbn))]
 fn first_spaced_isbn(alloc: Global, words: &[Word]) -> Result<Option<(Number, usize)>, AllocError>
     ensures { IfOk result (λ found. found ≡ first_spaced_isbn words.now) }
 {
@@ -138,13 +157,13 @@ pub(crate) fn first_number(
 ) -> Result<Option<(Number, usize)>, AllocError>
     ensures { IfOk result (λ found. found ≡ first_number words.now) }
 {
-    let Some(first) = words.first() else {
+    let [first, ..] = words else {
         return Ok(None);
     };
     if let Some(number) = number_of_word(first.text()) {
         return Ok(Some((number, 0)));
     }
-    if let Some(issn) = spaced_issn(words) {
+    if let Some(issn) = spaced_issn(alloc, words)? {
         return Ok(Some((Number::Issn(issn), 1)));
     }
     if !begins_with_digit(first.text()) {

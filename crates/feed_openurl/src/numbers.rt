@@ -40,6 +40,7 @@ fn push_numbers(alloc: Global, words: &[Word], numbers: &mut Vec<Number>) -> Res
 }
 
 // Appends the numbers in a value.
+#[tactic(auto, unfolding(crate::specs::Numbers::numbers_in))]
 fn push_value(alloc: Global, value: &[u8], numbers: &mut Vec<Number>) -> Result<(), AllocError>
     ensures { OnOk result (numbers.new.items ≡ numbers.old.items ++ numbers_in value.now) }
 {

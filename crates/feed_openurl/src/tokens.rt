@@ -10,7 +10,7 @@ use crate::key::is_name;
 use std::alloc::{AllocError, Global};
 
 /// A part of a date.
-#[derive(Clone, Copy, PartialEq, Eq, Debug)]
+#[derive(Clone, Copy)]
 pub(crate) enum Token {
     /// One or two digits, as a number.
     Small(u8),

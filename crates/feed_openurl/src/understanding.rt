@@ -1,5 +1,4 @@
-//! How a query is understood: its citation, and what of it the core looks up.
-use crate::citation::Citation;
+//! How a query is understood: the identifiers, the date and the volume by which the core looks it up.
 use crate::date::DateText;
 use crate::dates::date_of;
 use crate::fault::{ReadFault, Refusal};
@@ -17,7 +16,6 @@ use std::marker::Model;
 /// How a query is understood.
 #[derive(Drop)]
 pub struct Understanding {
-    citation: Citation,
     issns: Vec<Issn>,
     isbns: Vec<Isbn>,
     date: Option<DateText>,
@@ -52,7 +50,7 @@ impl Understanding {
     ///
     /// # Errors
     ///
-    /// `Memory`. A query with nothing to look up is no error: `refusal` says why.
+    /// `Memory`. A query with nothing to look up is not an error: `refusal` returns the reason.
     pub fn read(alloc: Global, text: &[u8]) -> Result<Understanding, ReadFault>
         ensures { IfOk result (λ u. u ≡ understood text.now) }
     {
@@ -60,24 +58,17 @@ impl Understanding {
         printed_issn_parses();
         printed_isbn_parses();
         let pairs = decode_pairs(alloc, text)?;
-        let citation = Citation::of(alloc, &pairs)?;
         let values = values_of(alloc, &pairs)?;
         let date = date_of(alloc, &pairs, &values)?;
         let volume = volume_of(alloc, &pairs, &values)?;
         let found = looked_up(alloc, &pairs, &values)?;
         Ok(Understanding {
-            citation,
             issns: found.issns,
             isbns: found.isbns,
             date,
             volume,
             refusal: found.refusal,
         })
-    }
-
-    /// Returns what the reader looked for.
-    pub fn citation(&self) -> &Citation {
-        &self.citation
     }
 
     /// Returns the ISSNs to look up, ascending by their printed bytes, each once.

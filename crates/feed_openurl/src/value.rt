@@ -8,7 +8,7 @@ use feed_answer::Pair;
 use std::alloc::{AllocError, Global};
 use std::marker::Model;
 
-/// What the key of a pair asks for, and its value. It need not be UTF-8.
+/// A pair: the meaning of its key, and its value, which need not be UTF-8.
 #[derive(Drop)]
 pub(crate) struct Value<'a> {
     pub(crate) key: Key,

@@ -48,6 +48,7 @@ fn without<'a>(text: &'a [u8], prefix: &str) -> &'a [u8]
 }
 
 // The word without a label that is written onto it, as in `ISSN2434-561X`.
+#[tactic(auto, unfolding(crate::specs::Numbers::unlabelled))]
 fn unlabelled(word: &[u8]) -> &[u8]
     ensures { result.now ≡ unlabelled word.now }
 {

@@ -1,0 +1,48 @@
+-- One more element of a list that a loop goes over.
+use Rattle.std.proofs.Common.{◌≡◌, ◌<◌, ◌+◌, ℕ, List, [], ◌∷◌, ◌++◌, length, drop, get_or, Option, Some, None, sym, ap, ◌∙◌, append_assoc}
+use Rattle.std.specs.List.{concat, cons_option, filter_map, flat_map}
+use Rattle.std.proofs.lemmas.List.{drop_more}
+
+module _ {A B : Type 0} (f : A → Option B) (xs : List A) (i : ℕ) (x : A) where
+  next : (o : Option B) → i < length xs → x ≡ get_or xs i x → f x ≡ o → cons_option o (filter_map f (drop (i + 1) xs)) ≡ filter_map f (drop i xs)
+  next o within at is =
+      ap (λ a. cons_option a (filter_map f (drop (i + 1) xs))) (sym is ∙ ap f at) ∙ ap (filter_map f) (sym (drop_more xs i x within))
+
+  -- an element that is kept, and one that is not
+  pub kept_next : (old new all : List B) (y : B) → i < length xs → x ≡ get_or xs i x → f x ≡ Some y → new ≡ old ++ y ∷ []
+      → old ++ filter_map f (drop i xs) ≡ all → new ++ filter_map f (drop (i + 1) xs) ≡ all
+  kept_next old new all y within at is pushed was =
+      ap (λ l. l ++ filter_map f (drop (i + 1) xs)) pushed
+      ∙ append_assoc old (y ∷ []) (filter_map f (drop (i + 1) xs))
+      ∙ ap (λ l. old ++ l) (next (Some y) within at is)
+      ∙ was
+
+  pub left_next : (old new all : List B) → i < length xs → x ≡ get_or xs i x → f x ≡ None → new ≡ old
+      → old ++ filter_map f (drop i xs) ≡ all → new ++ filter_map f (drop (i + 1) xs) ≡ all
+  left_next old new all within at is same was =
+      ap (λ l. l ++ filter_map f (drop (i + 1) xs)) same ∙ ap (λ l. old ++ l) (next None within at is) ∙ was
+
+  -- the same for a list of each element that is kept
+  module _ {C : Type 0} (g : B → List C) where
+    pub all_next : (old new all : List C) (y : B) → i < length xs → x ≡ get_or xs i x → f x ≡ Some y → new ≡ old ++ g y
+        → old ++ flat_map g (filter_map f (drop i xs)) ≡ all → new ++ flat_map g (filter_map f (drop (i + 1) xs)) ≡ all
+    all_next old new all y within at is written was =
+        ap (λ l. l ++ flat_map g (filter_map f (drop (i + 1) xs))) written
+        ∙ append_assoc old (g y) (flat_map g (filter_map f (drop (i + 1) xs)))
+        ∙ ap (λ l. old ++ flat_map g l) (next (Some y) within at is)
+        ∙ was
+
+    pub none_next : (old new all : List C) → i < length xs → x ≡ get_or xs i x → f x ≡ None → new ≡ old
+        → old ++ flat_map g (filter_map f (drop i xs)) ≡ all → new ++ flat_map g (filter_map f (drop (i + 1) xs)) ≡ all
+    none_next old new all within at is same was =
+        ap (λ l. l ++ flat_map g (filter_map f (drop (i + 1) xs))) same ∙ ap (λ l. old ++ flat_map g l) (next None within at is) ∙ was
+
+-- a text that is appended
+pub text_next : (xs : List (List ℕ)) (i : ℕ) (x old new all : List ℕ) → i < length xs → x ≡ get_or xs i x → new ≡ old ++ x
+    → old ++ concat (drop i xs) ≡ all → new ++ concat (drop (i + 1) xs) ≡ all
+text_next xs i x old new all within at written was =
+    ap (λ l. l ++ concat (drop (i + 1) xs)) written
+    ∙ append_assoc old x (concat (drop (i + 1) xs))
+    ∙ ap (λ t. old ++ (t ++ concat (drop (i + 1) xs))) at
+    ∙ ap (λ l. old ++ concat l) (sym (drop_more xs i x within))
+    ∙ was
