@@ -42,6 +42,17 @@ def check(shop):
         yield bench
 
 
+def diff(shop):
+    """A list and its next release, beside the checks of both and an answer from the first."""
+    for mib in shop.sizes:
+        old, new = shop.list_of(mib), shop.edited_list(mib)
+        bench = Benchmark(f"diff-{mib}", "ms")
+        bench.add(KBFEED, "=", shop.command(shop.program, "diff", "--summary", old, new), needs=())
+        bench.add("checks of both", "-", shop.command(shop.program, "check", "--summary", old, new), needs=())
+        bench.add("answer", "-", shop.command(shop.program, "answer", old, "rft.issn=2434561x"), needs=())
+        yield bench
+
+
 def requested_ranges(shop, server, path, piece, rounds):
     """Starts a server, requests the ranges of a file one after another, and returns the figures of one request."""
     size, port = path.stat().st_size, free_port()
@@ -411,6 +422,6 @@ def node_switch(shop):
             yield bench
 
 
-GROUPS = {"start": start, "check": check, "serve": serve, "fetch": fetch, "store": store, "ask": ask, "load": ask,
-          "replay": replay, "node-start": node_start, "node-requests": node_requests, "node-closing": node_requests,
-          "node-switch": node_switch}
+GROUPS = {"start": start, "check": check, "diff": diff, "serve": serve, "fetch": fetch, "store": store, "ask": ask,
+          "load": ask, "replay": replay, "node-start": node_start, "node-requests": node_requests,
+          "node-closing": node_requests, "node-switch": node_switch}

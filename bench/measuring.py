@@ -118,6 +118,22 @@ class Workshop:
         args = ["--bytes", mib * MIB, "--seed", mib * 31 + int(day[5:7])]
         return self.once(path, lambda: self.generated(path, "make_list.py", *args))
 
+    def edited_list(self, mib):
+        """Returns the list of so many MiB with edits: of 200 rows one is replaced, and two have another URL."""
+        path = self.shelf / f"Edited{mib}_All_2024-02-01.txt"
+        if not path.exists():
+            with open(self.list_of(mib), "rb") as old, open(self.list_of(1, "2024-02-01"), "rb") as other:
+                rows, new_rows = iter(old), iter(other)
+                lines = [next(rows)]
+                next(new_rows)
+                for number, row in enumerate(rows):
+                    if number % 200 == 100:
+                        lines.append(next(new_rows))
+                    else:
+                        lines.append(row.replace(b"https://", b"http://", 1) if number % 100 == 1 else row)
+                path.write_bytes(b"".join(lines))
+        return path
+
     def odd_list(self, kind):
         """Returns a list of a million short records, which are all skipped, or of one record with 16 million fields."""
         path = self.shelf / f"Odd{kind}_All_2024-01-01.txt"

@@ -3,14 +3,14 @@ _kbfeed() {
   local commands='replay check diff answer openurl serve node fetch ask status why help'
   local word=${COMP_WORDS[COMP_CWORD]} has_options=yes command= places=0 options= index
   COMPREPLY=()
-  case ${COMP_WORDS[COMP_CWORD - 1]} in '<' | '>' | '>>' | --token) compopt -o default; return ;; esac
+  case ${COMP_WORDS[COMP_CWORD - 1]} in '<' | '>' | '>>' | --token | --db) compopt -o default; return ;; esac
 
   # The command, and how many words stand behind it before the cursor. Bash splits --name=VALUE at its =.
   for ((index = 1; index < COMP_CWORD; index++)); do
     case $has_options${COMP_WORDS[index]} in
       yes--) has_options= ;;
       yes--name | yes--count | yes--timeout | yes--idle | yes--max-age | yes--metrics | yes--log-queries | yes--piece | \
-        yes--clients | yes--from | yes--token | yes--max-removed | yes--max-changed)
+        yes--clients | yes--from | yes--token | yes--max-removed | yes--max-changed | yes--db)
         [[ ${COMP_WORDS[index + 1]} == = ]] && ((index++))
         ((index++)) ;;
       yes-?*) ;;
@@ -22,7 +22,7 @@ _kbfeed() {
   case $command in
     '') options='-h --help -V --version -v --verbose' ;;
     check) options='-h --help -v --verbose --name --strict --summary --explain --json' ;;
-    diff) options='-h --help -v --verbose --summary --json --max-removed --max-changed' ;;
+    diff) options='-h --help -v --verbose --db --summary --json --max-removed --max-changed' ;;
     openurl) options='-h --help -v --verbose --json' ;;
     serve) options='-h --help -v --verbose --count --timeout' ;;
     node)

@@ -15,7 +15,7 @@ function __kbfeed_place
                 case --
                     set has_options no
                 case --name --count --timeout --idle --max-age --metrics --log-queries --piece --clients --from --token \
-                        --max-removed --max-changed
+                        --max-removed --max-changed --db
                     set is_value yes
                 case '-?*'
                 case '*'
@@ -62,6 +62,7 @@ complete -c kbfeed -n $check -l explain -d 'Prints the line, the title and the r
 complete -c kbfeed -n $check -l json -d 'Prints a JSON object for each file'
 
 set -l diff '__kbfeed_at "diff/*"'
+complete -c kbfeed -n $diff -r -F -l db -d 'The database of a node, whose active release is the old list'
 complete -c kbfeed -n $diff -l summary -d 'Prints the counts alone'
 complete -c kbfeed -n $diff -l json -d 'Prints a JSON object'
 complete -c kbfeed -n $diff -x -l max-removed -d 'The most rows that may be removed, in percent of the old list'

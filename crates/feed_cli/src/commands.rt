@@ -162,16 +162,24 @@ static CHECK: [Argument; 6] = [
     },
 ];
 
-static DIFF: [Argument; 6] = [
+static DIFF: [Argument; 7] = [
     Argument {
         id: "OLD",
         kind: Kind::Positional,
-        help: "The path of the old list",
+        help: "The path of the old list, or with --db the package",
     },
     Argument {
         id: "NEW",
         kind: Kind::Positional,
         help: "The path of the new list",
+    },
+    Argument {
+        id: "db",
+        kind: Kind::Text {
+            value: "DB",
+            needs: &[],
+        },
+        help: "The database of a node, whose active release is the old list",
     },
     Argument {
         id: "summary",

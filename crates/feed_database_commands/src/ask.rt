@@ -1,7 +1,7 @@
 //! `kbfeed ask`: what a node answers to a query.
-use crate::database::{Database, close_keeper, open_feed};
+use crate::database::{Database, close_keeper, open_existing_feed, report_no_release};
 use feed_answer::{Query, WriteFault};
-use feed_command::{DONE, FAILED, Faults, REFUSED, parse_query};
+use feed_command::{DONE, FAILED, Faults, parse_query};
 use feed_keep::Keep;
 use feed_releases::{AnswerFault, Feed};
 use std::alloc::Global;
@@ -23,34 +23,13 @@ pub fn print_answer<D: Database, O: Write, F: Write + Drop>(
         Ok(query) => query,
         Err(status) => return status,
     };
-    if !database.is_there() {
-        return faults.report_with(
-            AnswerFault::NoRelease,
-            database.name(),
-            "it is not there",
-            REFUSED,
-        );
-    }
-    let feed = match open_feed(alloc, database, faults) {
+    let feed = match open_existing_feed(alloc, database, faults) {
         Ok(feed) => feed,
         Err(status) => return status,
     };
     let status = print_feed_answer(&feed, package, &query, out, faults);
     close_keeper(database, feed.restart(), faults);
     status
-}
-
-fn report_no_release<F: Write + Drop>(
-    faults: &mut Faults<F>,
-    fault: AnswerFault,
-    package: &str,
-) -> u8 {
-    faults.report_with(
-        fault,
-        package,
-        "no release of it is whole and good",
-        REFUSED,
-    )
 }
 
 fn print_feed_answer<K: Keep + Drop, O: Write, F: Write + Drop>(
@@ -63,10 +42,10 @@ fn print_feed_answer<K: Keep + Drop, O: Write, F: Write + Drop>(
     let answer = match feed.answer(package.as_bytes(), query) {
         Ok(answer) => answer,
         Err(AnswerFault::Memory) => return faults.report(AnswerFault::Memory, FAILED),
-        Err(fault) => return report_no_release(faults, fault, package),
+        Err(AnswerFault::NoRelease) => return report_no_release(faults, package),
     };
     let Some(name) = feed.report(package.as_bytes()) else {
-        return report_no_release(faults, AnswerFault::NoRelease, package);
+        return report_no_release(faults, package);
     };
     match answer.write(out, name) {
         Ok(()) => faults.check_print(out.flush(), DONE),

@@ -1,10 +1,12 @@
 //! The commands that need only a database, and the function that runs one.
 use crate::ask::print_answer;
 use crate::database::Database;
+use crate::diff::compare_active;
 use crate::fetch::fetch_release;
 use crate::status::print_status;
 use crate::why::print_reason;
 use feed_command::Faults;
+use feed_file_commands::Diff;
 use std::io::Write;
 use std::time::Duration;
 
@@ -22,6 +24,11 @@ pub enum DatabaseCommand<'a> {
     Ask {
         package: &'a str,
         query: &'a str,
+    },
+    /// Compare a new list with the active release of a package.
+    Diff {
+        package: &'a str,
+        diff: Diff<'a>,
     },
     /// List the releases.
     Status,
@@ -48,6 +55,9 @@ pub fn run_database_command<D: Database, O: Write, F: Write + Drop>(
         } => fetch_release(rt, database, addr, name, piece, time, out, faults),
         DatabaseCommand::Ask { package, query } => {
             print_answer(rt.alloc(), database, package, query, out, faults)
+        }
+        DatabaseCommand::Diff { package, diff } => {
+            compare_active(rt, database, package, diff, out, faults)
         }
         DatabaseCommand::Status => print_status(rt.alloc(), database, out, faults),
         DatabaseCommand::Why { name } => print_reason(rt.alloc(), database, name, out, faults),

@@ -2,7 +2,7 @@
 use feed_command::{FAILED, Faults, REFUSED};
 use feed_keep::Keep;
 use feed_model::KeepFault;
-use feed_releases::Feed;
+use feed_releases::{AnswerFault, Feed};
 use std::alloc::Global;
 use std::io::Write;
 
@@ -51,6 +51,35 @@ pub fn open_feed<D: Database, F: Write + Drop>(
         Ok(feed) => Ok(feed),
         Err(fault) => Err(report_keeper(faults, fault.cause, database.name())),
     }
+}
+
+/// Opens the feed on a database that exists, as `open_feed` does. One that is not there has no release: it is not
+/// created, `NoRelease` is reported, and the status is 1.
+pub fn open_existing_feed<D: Database, F: Write + Drop>(
+    alloc: Global,
+    database: &D,
+    faults: &mut Faults<F>,
+) -> Result<Feed<D::Keeper>, u8> {
+    if database.is_there() {
+        open_feed(alloc, database, faults)
+    } else {
+        Err(faults.report_with(
+            AnswerFault::NoRelease,
+            database.name(),
+            "it is not there",
+            REFUSED,
+        ))
+    }
+}
+
+/// Reports that a package has no active release, and returns the status.
+pub fn report_no_release<F: Write + Drop>(faults: &mut Faults<F>, package: &str) -> u8 {
+    faults.report_with(
+        AnswerFault::NoRelease,
+        package,
+        "no release of it is whole and good",
+        REFUSED,
+    )
 }
 
 /// Closes a database. A failure is only noted: the database still has everything that was committed.

@@ -1,9 +1,11 @@
-//! The commands of kbfeed that work on the database of a node and need no server: `fetch`, `ask`, `status` and `why`.
+//! The commands of kbfeed that work on the database of a node and need no server: `fetch`, `ask`, `diff --db`, `status`
+//! and `why`.
 #![tactic(auto)]
 
 mod ask;
 mod command;
 mod database;
+mod diff;
 mod fetch;
 mod progress;
 mod status;

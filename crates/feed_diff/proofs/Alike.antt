@@ -1,4 +1,4 @@
--- The orders are total, and rows that one does not tell apart are alike.
+-- The orders are total, and rows that are equal in one are alike.
 use Rattle.std.proofs.Common.{◌≡◌, ◌∙◌, ℕ, ℤ, Bool, true, false, List, [], ◌∷◌, Option, Some, None, refl, sym, ap, subst}
 use Rattle.std.proofs.lemmas.Cmp.{int_ranked, nat_list_cmp_total, on_total, ranked, then_total, tied_itself, int_cmp_total, nat_cmp_total}
 use Rattle.std.specs.Borrow.{Bor}
@@ -15,7 +15,7 @@ use Rattle.feed_kbart.specs.declared.identifiers.Identifiers.TheVariants.{Serial
 use Rattle.feed_diff.specs.Columns.{is_book}
 use Rattle.feed_diff.specs.Comparison.{HasSameTitle, HasSameUrl, content}
 use Rattle.feed_diff.specs.Pairing.{order}
-use Rattle.feed_diff.specs.Ranking.{content_cmp, coverage_cmp, identifiers_cmp, ranking, text_cmp, texts_cmp}
+use Rattle.feed_diff.specs.Ranking.{content_cmp, coverage_cmp, first_number, further_cmp, identifiers_cmp, number_cmp, ranking, text_cmp, texts_cmp}
 use Rattle.feed_diff.specs.declared.order.By.{By}
 use Rattle.feed_diff.specs.declared.order.By.TheVariants.{Content, TitleId, Url}
 
@@ -44,15 +44,18 @@ texts_total =
 content_total : IsTotalOrder content_cmp
 content_total = then_total (then_total texts_total coverage_total) (on_total (λ (row : RowValue). row.identifiers) identifiers_total)
 
+further_total : (by : By) → IsTotalOrder (further_cmp by)
+further_total Content = content_total
+further_total TitleId = then_total (on_total (λ (row : RowValue). row.title_id) nat_list_cmp_total) (on_total (λ (row : RowValue). row.identifiers) identifiers_total)
+further_total Url = then_total (on_total (λ (row : RowValue). row.url) nat_list_cmp_total) (on_total (λ (row : RowValue). row.identifiers) identifiers_total)
+
 pub ranking_total : (by : By) → IsTotalOrder (ranking by)
-ranking_total Content = content_total
-ranking_total TitleId = then_total (on_total (λ (row : RowValue). row.title_id) nat_list_cmp_total) (on_total (λ (row : RowValue). row.identifiers) identifiers_total)
-ranking_total Url = then_total (on_total (λ (row : RowValue). row.url) nat_list_cmp_total) (on_total (λ (row : RowValue). row.identifiers) identifiers_total)
+ranking_total by = then_total (on_total (λ (row : RowValue). first_number row.identifiers) nat_cmp_total) (further_total by)
 
 pub order_total : (by : By) → IsTotalOrder (order by)
 order_total by = on_total (λ (row : Bor RowValue). row.now) (ranking_total by)
 
--- values that an order does not tell apart are equal
+-- values that an order has as equal are equal
 then_tied : (r s : Ordering) → ordering_then r s ≡ Equal → (r ≡ Equal) × (s ≡ Equal)
 then_tied Less s e = absurd (cc)
 then_tied Equal s e = (refl, e)
@@ -180,24 +183,33 @@ same_content x y t c k = λ i. record {
   access = t.access i;
 }
 
--- rows that an order does not tell apart are alike, and the other way round
+-- rows that are equal in an order are so in its further part
+further_tied : (by : By) (x y : RowValue) → ranking by x y ≡ Equal → further_cmp by x y ≡ Equal
+further_tied by x y e = (then_tied (number_cmp x y) (further_cmp by x y) e).1
+
+tied_further : (by : By) (x y : RowValue) → x.identifiers ≡ y.identifiers → further_cmp by x y ≡ Equal → ranking by x y ≡ Equal
+tied_further by x y k e =
+    let same : number_cmp x y ≡ Equal = subst (λ z. nat_cmp (first_number x.identifiers) (first_number z) ≡ Equal) k (tied_itself nat_cmp_total (first_number x.identifiers)) in
+    both_tied (number_cmp x y) (further_cmp by x y) same e
+
+-- rows that are equal in an order are alike, and the other way round
 pub content_tied : (x y : RowValue) → ranking Content x y ≡ Equal → content x ≡ content y
 content_tied x y e =
-    let three = then_tied (ordering_then (texts_cmp x y) (coverage_cmp x y)) (identifiers_cmp x.identifiers y.identifiers) e in
+    let three = then_tied (ordering_then (texts_cmp x y) (coverage_cmp x y)) (identifiers_cmp x.identifiers y.identifiers) (further_tied Content x y e) in
     let two = then_tied (texts_cmp x y) (coverage_cmp x y) three.0 in
     same_content x y (texts_tied x y two.0) (coverage_tied x y two.1) (identifiers_tied x.identifiers y.identifiers three.1)
 
 pub tied_content : (x y : RowValue) → content x ≡ content y → ranking Content x y ≡ Equal
-tied_content x y e = subst (λ z. content_cmp (content x) z ≡ Equal) e (tied_itself content_total (content x))
+tied_content x y e = subst (λ z. ranking Content (content x) z ≡ Equal) e (tied_itself (ranking_total Content) (content x))
 
 pub title_tied : (x y : RowValue) → ranking TitleId x y ≡ Equal → HasSameTitle x y
 title_tied x y e =
-    let two = then_tied (text_cmp x.title_id y.title_id) (identifiers_cmp x.identifiers y.identifiers) e in
+    let two = then_tied (text_cmp x.title_id y.title_id) (identifiers_cmp x.identifiers y.identifiers) (further_tied TitleId x y e) in
     (text_tied x.title_id y.title_id two.0, identifiers_tied x.identifiers y.identifiers two.1)
 
 pub url_tied : (x y : RowValue) → ranking Url x y ≡ Equal → HasSameUrl x y
 url_tied x y e =
-    let two = then_tied (text_cmp x.url y.url) (identifiers_cmp x.identifiers y.identifiers) e in
+    let two = then_tied (text_cmp x.url y.url) (identifiers_cmp x.identifiers y.identifiers) (further_tied Url x y e) in
     (text_tied x.url y.url two.0, identifiers_tied x.identifiers y.identifiers two.1)
 
 tied_text : (xs ys : List ℕ) → xs ≡ ys → text_cmp xs ys ≡ Equal
@@ -208,10 +220,10 @@ tied_identifiers x y e = subst (λ z. identifiers_cmp x z ≡ Equal) e (tied_its
 
 pub tied_title : (x y : RowValue) → HasSameTitle x y → ranking TitleId x y ≡ Equal
 tied_title x y e =
-    both_tied (text_cmp x.title_id y.title_id) (identifiers_cmp x.identifiers y.identifiers) (tied_text x.title_id y.title_id e.0)
-    (tied_identifiers x.identifiers y.identifiers e.1)
+    tied_further TitleId x y e.1 (both_tied (text_cmp x.title_id y.title_id) (identifiers_cmp x.identifiers y.identifiers) (tied_text x.title_id y.title_id e.0)
+    (tied_identifiers x.identifiers y.identifiers e.1))
 
 pub tied_url : (x y : RowValue) → HasSameUrl x y → ranking Url x y ≡ Equal
 tied_url x y e =
-    both_tied (text_cmp x.url y.url) (identifiers_cmp x.identifiers y.identifiers) (tied_text x.url y.url e.0)
-    (tied_identifiers x.identifiers y.identifiers e.1)
+    tied_further Url x y e.1 (both_tied (text_cmp x.url y.url) (identifiers_cmp x.identifiers y.identifiers) (tied_text x.url y.url e.0)
+    (tied_identifiers x.identifiers y.identifiers e.1))

@@ -1,5 +1,6 @@
 -- The rows of a sorted list that no other row is alike.
-use Rattle.std.proofs.Common.{◌↔◌, IsTrue, ◌≡◌, ◌∙◌, ◌<◌, ◌≤◌, ◌+◌, ◌-◌, ℕ, Bool, true, false, not, cond, List, [], ◌∷◌, ◌++◌, length, map, take, drop, get_or, refl, sym, ap, subst, arith, nat_le}
+use Rattle.std.proofs.Common.{◌↔◌, IsTrue, ◌≡◌, ◌∙◌, ◌<◌, ◌≤◌, ◌+◌, ◌-◌, ℕ, Bool, true, false, not, cond, List, [], ◌∷◌, ◌++◌, length, map, take, drop, get_or}
+use Rattle.std.proofs.Common.{refl, sym, ap, subst, arith, nat_le}
 use Rattle.std.proofs.lemmas.Bool.{le-leb, lt-leb}
 use Rattle.std.proofs.lemmas.Cmp.{tied_back, tied_itself}
 use Rattle.std.proofs.lemmas.List.{append-nil, append_assoc, get_or-drop, get_or_default, get_or-take, length-drop, length-take-le}

@@ -1,9 +1,11 @@
 -- The orders of rows by which lists are paired. Two rows are `Equal` in one exactly if they are alike.
-use Rattle.std.specs.Prelude.{ℕ, List}
+use Rattle.std.specs.Prelude.{ℕ, List, Option, Some, None}
 use Rattle.std.specs.Cmp.Lexicographic.{slice_cmp}
 use Rattle.std.specs.Option.{option_cmp}
 use Rattle.std.specs.Ordering.{bool_cmp, int_cmp, nat_cmp, on, then_cmp}
 use Rattle.std.specs.declared.cmp.Ordering.{Ordering}
+use Rattle.feed_identifiers.specs.Isbn as isbn
+use Rattle.feed_identifiers.specs.Issn as issn
 use Rattle.feed_kbart.specs.Identifiers.{online_isbn, online_issn, print_isbn, print_issn}
 use Rattle.feed_kbart.specs.RowValue.{RowValue}
 use Rattle.feed_kbart.specs.declared.identifiers.Identifiers.{Identifiers}
@@ -38,8 +40,29 @@ texts_cmp =
 abbrev pub content_cmp : RowValue → RowValue → Ordering
 content_cmp = then_cmp (then_cmp texts_cmp coverage_cmp) (on (λ (row : RowValue). row.identifiers) identifiers_cmp)
 
--- by what rows are compared by
+-- the number of an identifier, or another number
+abbrev pub issn_or : Option (List ℕ) → ℕ → ℕ
+issn_or (Some text) other = issn.number_of text
+issn_or None other = other
+
+abbrev pub isbn_or : Option (List ℕ) → ℕ → ℕ
+isbn_or (Some text) other = isbn.number_of text
+isbn_or None other = other
+
+-- the number of the first identifier, or 0
+abbrev pub first_number : Identifiers → ℕ
+first_number identifiers =
+    issn_or (print_issn identifiers) (issn_or (online_issn identifiers) (isbn_or (print_isbn identifiers) (isbn_or (online_isbn identifiers) 0)))
+
+abbrev pub number_cmp : RowValue → RowValue → Ordering
+number_cmp = on (λ (row : RowValue). first_number row.identifiers) nat_cmp
+
+-- by the columns by which rows are compared
+abbrev pub further_cmp : By → RowValue → RowValue → Ordering
+further_cmp Content = content_cmp
+further_cmp TitleId = then_cmp (on (λ (row : RowValue). row.title_id) text_cmp) (on (λ (row : RowValue). row.identifiers) identifiers_cmp)
+further_cmp Url = then_cmp (on (λ (row : RowValue). row.url) text_cmp) (on (λ (row : RowValue). row.identifiers) identifiers_cmp)
+
+-- first by that number, since most rows differ in it
 abbrev pub ranking : By → RowValue → RowValue → Ordering
-ranking Content = content_cmp
-ranking TitleId = then_cmp (on (λ (row : RowValue). row.title_id) text_cmp) (on (λ (row : RowValue). row.identifiers) identifiers_cmp)
-ranking Url = then_cmp (on (λ (row : RowValue). row.url) text_cmp) (on (λ (row : RowValue). row.identifiers) identifiers_cmp)
+ranking by = then_cmp number_cmp (further_cmp by)

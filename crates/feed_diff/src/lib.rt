@@ -7,6 +7,7 @@
 mod change;
 mod comparison;
 mod law;
+mod numbered;
 mod order;
 mod pairing;
 mod singles;

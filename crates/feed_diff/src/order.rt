@@ -1,12 +1,13 @@
 //! The orders of rows by which lists are paired: rows that are alike are neighbors in them.
 ghost use Rattle.std.specs.Prelude.{◌≡◌};
 ghost use Rattle.feed_diff.specs.Columns.{is_book};
-ghost use Rattle.feed_diff.specs.Ranking.{content_cmp, coverage_cmp, identifiers_cmp, ranking, texts_cmp};
+ghost use Rattle.feed_diff.specs.Ranking.{content_cmp, coverage_cmp, identifiers_cmp, texts_cmp};
+ghost use Rattle.feed_diff.specs.Ranking.{first_number, further_cmp, isbn_or, issn_or, ranking};
 
 use feed_kbart::{Isbn, Issn, Kind, Row};
 use std::cmp::Ordering;
 
-/// What two rows are compared by.
+/// The columns by which rows are compared.
 #[derive(Clone, Copy, Debug)]
 pub(crate) enum By {
     /// All columns.
@@ -113,10 +114,45 @@ fn compare_content(one: &Row, other: &Row) -> Ordering
         .then_with(|| compare_identifiers(one, other))
 }
 
+fn issn_or(issn: Option<Issn>, other: u32) -> u32
+    ensures { result ≡ issn_or issn other }
+{
+    match issn {
+        Some(issn) => issn.number(),
+        None => other,
+    }
+}
+
+fn isbn_or(isbn: Option<Isbn>, other: u32) -> u32
+    ensures { result ≡ isbn_or isbn other }
+{
+    match isbn {
+        Some(isbn) => isbn.number(),
+        None => other,
+    }
+}
+
+/// Returns the number of the first identifier of a row.
+pub(crate) fn first_number(row: &Row) -> u32
+    ensures { result ≡ first_number row.now.identifiers }
+{
+    let isbn = isbn_or(row.print_isbn(), isbn_or(row.online_isbn(), 0));
+    issn_or(row.print(), issn_or(row.online(), isbn))
+}
+
 impl By {
-    /// Compares two rows. The result is `Equal` exactly if they are alike.
+    /// Compares two rows, first by their first identifiers. The result is `Equal` exactly if they are alike.
     pub(crate) fn compare(self, one: &Row, other: &Row) -> Ordering
         ensures { result ≡ ranking self one.now other.now }
+    {
+        first_number(one)
+            .cmp(&first_number(other))
+            .then_with(|| self.compare_further(one, other))
+    }
+
+    /// Compares two rows whose first identifiers have the same number.
+    pub(crate) fn compare_further(self, one: &Row, other: &Row) -> Ordering
+        ensures { result ≡ further_cmp self one.now other.now }
     {
         match self {
             By::Content => compare_content(one, other),

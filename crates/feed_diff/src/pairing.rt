@@ -1,10 +1,11 @@
 //! Pairs the rows of two lists that are alike, in one pass over both lists in order.
-ghost use Rattle.std.specs.Prelude.{◌≡◌, IfOk, OnOk};
+ghost use Rattle.std.specs.Prelude.{◌≡◌, IfOk};
 ghost use Rattle.std.specs.List.Sorted.{IsPermutation};
 ghost use Rattle.feed_diff.specs.Pairing.{AreSorted, IsPairing, IsStep};
 ghost use Rattle.feed_diff.specs.Ranking.{ranking};
 
 use crate::change::Change;
+use crate::numbered::{Numbered, number_rows, rows_of};
 use crate::order::By;
 use feed_kbart::Row;
 use std::alloc::{AllocError, Global};
@@ -27,20 +28,26 @@ pub(crate) enum Step<'a> {
 }
 
 /// Sorts rows, those that are alike in file order.
-pub(crate) fn sort(by: By, rows: &mut Vec<&Row>) -> Result<(), AllocError>
-    ensures permutation { IsPermutation rows.old.items rows.new.items }
-    ensures sorted { OnOk result (AreSorted by rows.new.items) }
+pub(crate) fn sort<'a>(
+    alloc: Global,
+    by: By,
+    mut rows: Vec<&'a Row>,
+) -> Result<Vec<&'a Row>, AllocError>
+    ensures permutation { IfOk result (λ sorted. IsPermutation rows.entry.items sorted.items) }
+    ensures sorted { IfOk result (λ sorted. AreSorted by sorted.items) }
 {
     rows.sort_by_key(
         |row: &&Row| -> u32
             ensures { result ≡ row.now.now.number }
         { row.number() },
     )?;
-    rows.sort_by(
-        |one: &&Row, other: &&Row| -> Ordering
+    let mut numbered = number_rows(alloc, &rows)?;
+    numbered.sort_by(
+        |one: &Numbered<'_>, other: &Numbered<'_>| -> Ordering
             ensures { result ≡ ranking by one.now.now other.now.now }
-        { by.compare(*one, *other) },
-    )
+        { one.compare(by, other) },
+    )?;
+    rows_of(alloc, &numbered)
 }
 
 // Returns the next rows of two sorted lists, from a place in each.
@@ -109,12 +116,12 @@ fn merge<'a>(
 pub(crate) fn pair_up<'a>(
     alloc: Global,
     by: By,
-    mut old: Vec<&'a Row>,
-    mut new: Vec<&'a Row>,
+    old: Vec<&'a Row>,
+    new: Vec<&'a Row>,
 ) -> Result<Pairing<'a>, AllocError>
     ensures { IfOk result (IsPairing by old.entry.items new.entry.items) }
 {
-    sort(by, &mut old)?;
-    sort(by, &mut new)?;
-    merge(alloc, by, &old, &new)
+    let old_rows = sort(alloc, by, old)?;
+    let new_rows = sort(alloc, by, new)?;
+    merge(alloc, by, &old_rows, &new_rows)
 }

@@ -61,16 +61,16 @@ fn split_singles<'a>(alloc: Global, by: By, rows: &[&'a Row]) -> Result<Split<'a
 pub(crate) fn pair_singles<'a>(
     alloc: Global,
     by: By,
-    mut old: Vec<&'a Row>,
-    mut new: Vec<&'a Row>,
+    old: Vec<&'a Row>,
+    new: Vec<&'a Row>,
 ) -> Result<Pairing<'a>, AllocError>
     ensures { IfOk result (IsSinglePairing by old.entry.items new.entry.items) }
 {
-    sort(by, &mut old)?;
-    sort(by, &mut new)?;
-    let Split { singles, others } = split_singles(alloc, by, &old)?;
+    let old_rows = sort(alloc, by, old)?;
+    let new_rows = sort(alloc, by, new)?;
+    let Split { singles, others } = split_singles(alloc, by, &old_rows)?;
     let (old, mut more_old) = (singles, others);
-    let Split { singles, others } = split_singles(alloc, by, &new)?;
+    let Split { singles, others } = split_singles(alloc, by, &new_rows)?;
     let (new, mut more_new) = (singles, others);
     let mut pairing = pair_up(alloc, by, old, new)?;
     pairing.old.append(&mut more_old)?;

@@ -15,10 +15,10 @@ pub struct Bounds {
     pub changed: Option<u64>,
 }
 
-/// How two lists are compared.
+/// How a new list is compared with an old one.
 #[derive(Clone, Copy)]
 pub struct Diff<'a> {
-    pub old: &'a str,
+    /// The path of the new list.
     pub new: &'a str,
     pub form: ComparisonForm,
     pub bounds: Bounds,
@@ -31,19 +31,40 @@ struct List {
     holdings: Holdings,
 }
 
-/// Reads the lists at two paths, and prints what the new one changes to `out`. The first fault is reported, and then
-/// nothing is printed to `out`. Returns the exit status: 1 for an invalid name, a file that is bad or too long, and a
-/// new list that passes a bound, 3 for a failing read or print and for running out of memory.
+impl List {
+    fn named(&self) -> NamedList<'_> {
+        NamedList {
+            name: &self.name,
+            holdings: &self.holdings,
+        }
+    }
+}
+
+/// Reads the old list at a path, and then compares the new list with it, as `compare_with` does. The first fault is
+/// reported, and then nothing is printed to `out`. Returns the exit status: 1 for an invalid name, a file that is bad
+/// or too long, and a new list that passes a bound, 3 for a failing read or print and for running out of memory.
 pub fn compare_files<O: Write, F: Write + Drop>(
     rt: &HostRuntime,
+    old: &str,
     diff: Diff<'_>,
     out: &mut O,
     faults: &mut Faults<F>,
 ) -> u8 {
-    let old = match open_list(rt, diff.old, faults) {
-        Ok(old) => old,
-        Err(status) => return status,
-    };
+    match open_list(rt, old, faults) {
+        Ok(old) => compare_with(rt, old.named(), diff, out, faults),
+        Err(status) => status,
+    }
+}
+
+/// Reads the new list, and prints to `out` what it changes in the old one. A fault of the new list is reported, and
+/// then nothing is printed to `out`. Returns the exit status, as `compare_files` does.
+pub fn compare_with<O: Write, F: Write + Drop>(
+    rt: &HostRuntime,
+    old: NamedList<'_>,
+    diff: Diff<'_>,
+    out: &mut O,
+    faults: &mut Faults<F>,
+) -> u8 {
     let new = match open_list(rt, diff.new, faults) {
         Ok(new) => new,
         Err(status) => return status,
@@ -54,7 +75,7 @@ pub fn compare_files<O: Write, F: Write + Drop>(
             "it is of another package than the old list",
         );
     }
-    compare_lists(rt.alloc(), &old, &new, diff, out, faults)
+    compare_lists(rt.alloc(), old, new.named(), diff, out, faults)
 }
 
 fn open_list<F: Write + Drop>(
@@ -84,8 +105,8 @@ fn read_list<R: Read + Drop, F: Write + Drop>(
 
 fn compare_lists<O: Write, F: Write + Drop>(
     alloc: Global,
-    old: &List,
-    new: &List,
+    old: NamedList<'_>,
+    new: NamedList<'_>,
     diff: Diff<'_>,
     out: &mut O,
     faults: &mut Faults<F>,
@@ -96,14 +117,6 @@ fn compare_lists<O: Write, F: Write + Drop>(
         return faults.report("Memory", FAILED);
     };
     let status = status_of(before.len(), &comparison, diff.bounds);
-    let old = NamedList {
-        name: &old.name,
-        holdings: &old.holdings,
-    };
-    let new = NamedList {
-        name: &new.name,
-        holdings: &new.holdings,
-    };
     let printed = print_comparison(alloc, out, old, new, &comparison, diff.form);
     faults.check_print(printed, status)
 }

@@ -10,6 +10,6 @@ mod serve;
 
 pub use answer::answer_file;
 pub use check::{Check, check_files};
-pub use diff::{Bounds, Diff, compare_files};
+pub use diff::{Bounds, Diff, compare_files, compare_with};
 pub use openurl::explain_query;
 pub use serve::serve_folder;

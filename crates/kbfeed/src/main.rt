@@ -1,7 +1,7 @@
 //! kbfeed: a feed of holdings lists of serials and books (KBART files) for a fleet of OpenURL link resolvers.
 #![tactic(auto)]
 
-use feed_cli::{Request, Source, parse, version};
+use feed_cli::{DiffOptions, OldList, Request, Source, parse, version};
 use feed_command::{FAILED, Faults, MISUSED, take_stack};
 use feed_database::run_at;
 use feed_database_commands::DatabaseCommand;
@@ -79,16 +79,16 @@ fn run_request<O: Write, F: Write + Drop>(
             return check_files(rt, &files, check, out, faults);
         }
         Request::Diff { old, new, options } => {
-            let diff = Diff {
-                old,
-                new,
-                form: options.form,
-                bounds: Bounds {
-                    removed: options.max_removed,
-                    changed: options.max_changed,
-                },
-            };
-            return compare_files(rt, diff, out, faults);
+            let diff = diff_of(new, options);
+            match old {
+                OldList::File(old) => return compare_files(rt, old, diff, out, faults),
+                OldList::Active { db, package } => {
+                    (
+                        db,
+                        Command::Database(DatabaseCommand::Diff { package, diff }),
+                    )
+                }
+            }
         }
         Request::Answer { file, query } => return answer_file(rt, file, query, out, faults),
         Request::Openurl { query, is_json } => {
@@ -144,6 +144,17 @@ fn run_request<O: Write, F: Write + Drop>(
         Request::Why { db, name } => (db, Command::Database(DatabaseCommand::Why { name })),
     };
     run_at(rt, db, command, out, faults)
+}
+
+fn diff_of(new: &str, options: DiffOptions) -> Diff<'_> {
+    Diff {
+        new,
+        form: options.form,
+        bounds: Bounds {
+            removed: options.max_removed,
+            changed: options.max_changed,
+        },
+    }
 }
 
 fn upstream_of(source: Option<Source<'_>>) -> Option<Upstream<'_>> {

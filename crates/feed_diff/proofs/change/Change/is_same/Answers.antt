@@ -1,4 +1,4 @@
-use Rattle.std.proofs.Common.{refl, ◌≡◌}
+use Rattle.std.proofs.Common.{refl}
 use Rattle.feed_diff.proofs.change.Change.is_same.Goals as goal
 
 -- src/change.rt:17:5

@@ -1,0 +1,50 @@
+//! `kbfeed diff --db`: what a new list changes in the release that a node answers from.
+use crate::database::{Database, close_keeper, open_existing_feed, report_no_release};
+use feed_command::{FAILED, Faults};
+use feed_file_commands::{Diff, compare_with};
+use feed_keep::Keep;
+use feed_releases::Feed;
+use feed_report::NamedList;
+use std::io::Write;
+
+/// Opens the database and its feed, and compares a new list with the active release of a package, as `compare_with`
+/// does. The first fault is reported, and then nothing is printed to `out`. Returns the exit status: 1 for a database
+/// that is not ours or damaged, a package without an active release (`NoRelease`), a new list with an invalid name or
+/// one that is bad or too long, and one that passes a bound; 3 for a failing device, read or print and for running out
+/// of memory.
+pub fn compare_active<D: Database, O: Write, F: Write + Drop>(
+    rt: &HostRuntime,
+    database: &D,
+    package: &str,
+    diff: Diff<'_>,
+    out: &mut O,
+    faults: &mut Faults<F>,
+) -> u8 {
+    let feed = match open_existing_feed(rt.alloc(), database, faults) {
+        Ok(feed) => feed,
+        Err(status) => return status,
+    };
+    let status = compare_with_feed(rt, &feed, package, diff, out, faults);
+    close_keeper(database, feed.restart(), faults);
+    status
+}
+
+fn compare_with_feed<K: Keep + Drop, O: Write, F: Write + Drop>(
+    rt: &HostRuntime,
+    feed: &Feed<K>,
+    package: &str,
+    diff: Diff<'_>,
+    out: &mut O,
+    faults: &mut Faults<F>,
+) -> u8 {
+    let Ok(actives) = feed.actives() else {
+        return faults.report("Memory", FAILED);
+    };
+    for active in &actives {
+        let (name, holdings) = (active.name(), active.holdings());
+        if name.package() == package.as_bytes() {
+            return compare_with(rt, NamedList { name, holdings }, diff, out, faults);
+        }
+    }
+    report_no_release(faults, package)
+}
