@@ -26,7 +26,7 @@ with_shown text (Some c) = if (c == 32) && is_empty text then text else text ++ 
 abbrev pub with_char : List ℕ → ℕ → List ℕ
 with_char text c = with_shown text (shown_char c)
 
--- the character of a byte in Windows-1252 (WHATWG Encoding, section 9)
+-- the character of a byte in Windows-1252 (WHATWG Encoding, section 9), with U+FFFD in place of its five control characters
 abbrev pub windows_1252 : ℕ → ℕ
 windows_1252 b = if nat_lt b 128 || nat_le 160 b then b else slice_index UPPER (b - 128)
 

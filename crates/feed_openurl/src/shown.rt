@@ -6,7 +6,8 @@ ghost use Rattle.feed_openurl.specs.Shown.{windows_1252, with_byte, with_char};
 
 use std::alloc::{AllocError, Global};
 
-// The characters of the bytes 128 to 159 in Windows-1252 (WHATWG Encoding, section 9). Five bytes have none there.
+// The characters of the bytes 128 to 159 in Windows-1252 (WHATWG Encoding, section 9), with U+FFFD in place of its five
+// control characters.
 const UPPER: [char; 32] = [
     '\u{20AC}', '\u{FFFD}', '\u{201A}', '\u{0192}', '\u{201E}', '\u{2026}', '\u{2020}', '\u{2021}',
     '\u{02C6}', '\u{2030}', '\u{0160}', '\u{2039}', '\u{0152}', '\u{FFFD}', '\u{017D}', '\u{FFFD}',
