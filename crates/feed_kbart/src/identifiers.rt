@@ -17,7 +17,7 @@ pub enum Kind {
 
 /// The identifiers of a row, in print and online: ISSNs for a serial, ISBNs for a book.
 #[derive(Clone, Copy, Debug)]
-pub(crate) enum Identifiers {
+pub enum Identifiers {
     Serial {
         print: Option<Issn>,
         online: Option<Issn>,

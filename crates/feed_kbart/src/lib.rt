@@ -26,7 +26,7 @@ pub use crate::count::FileCount;
 pub use crate::fault::{BadFile, KbartFault, Reason};
 pub use crate::file::{count_file, read_file, read_parts};
 pub use crate::holdings::{Aside, Holdings};
-pub use crate::identifiers::Kind;
+pub use crate::identifiers::{Identifiers, Kind};
 pub use crate::label::{Label, REQUIRED_LABELS};
 pub use crate::law::empty_file_is_bad;
 pub use crate::row::Row;
