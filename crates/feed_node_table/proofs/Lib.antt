@@ -9,3 +9,4 @@ pub mod Firsts
 pub mod Records
 pub mod Settled
 pub mod Expired
+pub mod Ended

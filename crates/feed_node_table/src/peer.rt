@@ -1,5 +1,5 @@
 //! A connection with its stream and its times.
-ghost use Rattle.std.specs.Prelude.{◌≡◌, ◌≢◌, ◌≤◌, ◌+◌, ◌⊎◌, max, ℕ, List, true, false};
+ghost use Rattle.std.specs.Prelude.{◌≡◌, ◌≢◌, ◌≤◌, ◌+◌, ◌⊎◌, max, ℕ, List, [], true, false};
 ghost use Rattle.feed_node_connection.specs.Events.{Event};
 ghost use Rattle.feed_node_connection.specs.States.{HasState, is_reply_sent_in, wants_in};
 ghost use Rattle.feed_node_table.specs.Connections.{HasServed, IsConnection, IsGiven, unsent_bytes};
@@ -45,7 +45,7 @@ pub(crate) struct Peer<T> {
 }
 
 impl<T: Stream> Peer<T> {
-    ghost use Rattle.feed_node_table.specs.Peers.{begins_stream, cause_of, micros_of, HasResumed, IsFollowed, IsLate};
+    ghost use Rattle.feed_node_table.specs.Peers.{begins_stream, cause_of, micros_of, HasElapsed, HasResumed, IsFollowed, IsLate};
 
     /// Returns a connection that was accepted now.
     pub(crate) fn new(
@@ -57,6 +57,7 @@ impl<T: Stream> Peer<T> {
     ) -> Peer<T>
         ensures addr { result.addr ≡ addr }
         ensures stream { result.stream ≡ stream }
+        ensures state { HasState result.connection [] }
         ensures unsent { unsent_bytes result.connection ≡ 0 }
     {
         Peer {
@@ -130,6 +131,7 @@ impl<T: Stream> Peer<T> {
         ensures less { unsent_bytes self.new.connection ≤ unsent_bytes self.old.connection }
         ensures late { result ≡ true → IsLate self.old now }
         ensures in_time { result ≡ false → ¬ (IsLate self.old now) }
+        ensures elapsed { HasElapsed now self.old self.new }
     {
         if self.is_over() {
             return false;

@@ -1,0 +1,4 @@
+pub mod Connections
+pub mod Replies
+pub mod Feeds
+pub mod Moments
