@@ -1,5 +1,5 @@
 -- The connections of a table after an event of the node.
-use Rattle.std.proofs.Common.{◌≡◌, ◌≢◌, ℕ, Bool, true, false, List, [], ◌∷◌, ◌++◌, Option, Some, None, ◌⊎◌, inl, inr, refl, sym, ap, subst, ◌∙◌, eqb-true, arith}
+use Rattle.std.proofs.Common.{◌≡◌, ◌≢◌, ◌<◌, ℕ, zero, suc, Bool, true, false, List, [], ◌∷◌, ◌++◌, Option, Some, None, IsSome, ◌⊎◌, inl, inr, refl, sym, ap, subst, ◌∙◌, eqb-true, arith}
 use Rattle.std.specs.Prelude.{◌==◌, IsSomeAnd, if◌then◌else◌}
 use Rattle.std.proofs.lemmas.Bool.{cases_eq, cases_Bool}
 use Rattle.feed_node_connection.specs.Events.{Event, Elapsed}
@@ -8,7 +8,7 @@ use Rattle.feed_node_table.specs.declared.peer.Peer.{Peer}
 use Rattle.feed_node_table.specs.declared.table.Table.{Table}
 use Rattle.feed_node_table.specs.Peers.{millis_of}
 use Rattle.feed_node_table.specs.Tables.{peer_at, size_of, AreElapsed, KeepsConnections, KeepsOthers}
-use Rattle.feed_node_table.proofs.Firsts.{some_there}
+use Rattle.feed_node_table.proofs.Firsts.{same_peer, some_there}
 use Rattle.feed_node_machine.specs.NodeEvents.{NodeEvent, Accepted, Served, Passed, Reopened, events_of}
 use Rattle.feed_node_machine.specs.Nodes.{AreAt}
 
@@ -82,3 +82,34 @@ module _ {T : Type 0} where
     where
       counted : (was : Peer T) → peer_at old key ≡ Some was → millis_at old now key ≡ millis_of was now
       counted was is = ap (λ slot. millis_in slot now) is
+
+  -- the connection with this key, if it is there, has the state that it had
+  pub keeps_here : (key : ℕ) (old new : Table T) (was next : Peer T) → KeepsOthers key old new → peer_at old key ≡ Some was → peer_at new key ≡ Some next
+      → next.connection ≡ was.connection → KeepsConnections old new
+  keeps_here key old new was next others there here kept other peer is = elim (cases_eq other key) [
+    | inl same ↦
+        (was, ap (peer_at old) same ∙ there, ap (λ (p : Peer T). p.connection) (sym (same_peer peer next (peer_at new key) (ap (peer_at new) (sym same) ∙ is) here)) ∙ kept)
+    | inr differs ↦ (peer, sym (others other differs) ∙ is, refl)
+  ]
+
+  -- the table is the same
+  pub keeps_same : (old new : Table T) → new ≡ old → KeepsConnections old new
+  keeps_same old new same key peer there = (peer, subst (λ (t : Table T). peer_at t key ≡ Some peer) same there, refl)
+
+  -- one connection is removed, if there is any
+  pub keeps_room : (old new : Table T) → (0 < size_of old → (key : ℕ) × KeepsOthers key old new × (peer_at new key ≡ None)) → (size_of old ≡ 0 → new ≡ old)
+      → KeepsConnections old new
+  keeps_room old new some none = by (size_of old) refl
+    where
+      by : (n : ℕ) → size_of old ≡ n → KeepsConnections old new
+      by zero is = keeps_same old new (none is)
+      by (suc n) is = let gone = some (omega (arith, is)) in keeps_others gone.0 old new gone.1 gone.2
+
+  -- the connection with this key is removed, if it is there
+  pub keeps_removed : (key : ℕ) (old new : Table T) → (IsSome (peer_at old key) → KeepsOthers key old new × (peer_at new key ≡ None))
+      → (peer_at old key ≡ None → new ≡ old) → KeepsConnections old new
+  keeps_removed key old new some none = by (peer_at old key) refl
+    where
+      by : (slot : Option (Peer T)) → peer_at old key ≡ slot → KeepsConnections old new
+      by None is = keeps_same old new (none is)
+      by (Some peer) is = let gone = some (subst (λ slot. IsSome slot) (sym is) refl) in keeps_others key old new gone.0 gone.1

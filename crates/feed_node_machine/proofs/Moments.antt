@@ -1,7 +1,7 @@
 -- The requests that made a node fetch.
 use Rattle.std.proofs.Common.{◌≡◌, ℕ, List, [], ◌∷◌, ◌++◌, Option, ◌⊎◌, inl, inr, refl, sym, ap, subst}
 use Rattle.feed_names.specs.ReleaseName.{Name}
-use Rattle.feed_node_machine.specs.NodeEvents.{NodeEvent, Accepted, Served, Passed, Asked, Took, TookPart, Reopened, WasAsked, IsMoment}
+use Rattle.feed_node_machine.specs.NodeEvents.{NodeEvent, Accepted, Served, Passed, Asked, Took, TookPart, Reopened, WasAsked, IsMoment, events_of}
 use Rattle.feed_node_machine.specs.Rules.{Rules, IsAskedBy, AreAllowed}
 use Rattle.feed_node_machine.specs.Promise.{IsAuthorized, ChangesByToken, AreOfTheMoment}
 
@@ -27,7 +27,7 @@ authorized rules token name (Asked key bytes other ∷ earlier) allowed (inl sam
   bytes = bytes;
   earlier = earlier;
   moment = ([], ap (λ n. Asked key bytes n ∷ earlier) (sym same));
-  asked = subst (λ n. IsAskedBy token bytes n) same allowed.0;
+  asked = subst (λ n. IsAskedBy token (events_of key earlier) bytes n) same allowed.0;
 }
 authorized rules token name (Asked key bytes other ∷ earlier) allowed (inr was) =
     authorized_more token name (Asked key bytes other) earlier (authorized rules token name earlier allowed.1 was)

@@ -44,13 +44,13 @@ NeverOlder history =
     → Reports (feed_history moment) stem (Some n) → Reports (feed_history history) stem report
     → (m : Name) × (report ≡ Some m) × (m.stem ≡ stem) × (n.day ≤ℤ m.day)
 
--- a request that has the token asked for this release, and a connection of the node had it
+-- a connection of the node had a request that has the token and asks for this release
 pub record IsAuthorized (token : Option (List ℕ)) (name : Name) (history : List NodeEvent) : Type 0 where
   pub key : ℕ
   pub bytes : List ℕ
   pub earlier : List NodeEvent
   pub moment : IsMoment (Asked key bytes name ∷ earlier) history
-  pub asked : IsAskedBy token bytes name
+  pub asked : IsAskedBy token (events_of key earlier) bytes name
 
 -- the feed changes only as a release is fetched that such a request asked for
 pub record ChangesByToken (token : Option (List ℕ)) (history : List NodeEvent) : Type 0 where

@@ -1,5 +1,5 @@
 -- The events that a node may have.
-use Rattle.std.specs.Prelude.{ℕ, Bool, false, List, [], ◌∷◌, ◌++◌, Option, Some, IfSome, Ok, All}
+use Rattle.std.specs.Prelude.{◌≡◌, ℕ, Bool, false, List, [], ◌∷◌, ◌++◌, Option, Some, IfSome, Ok, All}
 use Rattle.httparse.specs.Grammar.{RequestHead}
 use Rattle.feed_names.specs.ReleaseName.{Name}
 use Rattle.feed_model.specs.History.{History}
@@ -10,6 +10,7 @@ use Rattle.feed_node_connection.specs.Events.{Event}
 use Rattle.feed_node_connection.specs.Replies.{Replies}
 use Rattle.feed_node_connection.specs.States.{HasState}
 use Rattle.feed_node_connection.specs.Streams.{AreReplies}
+use Rattle.feed_node_table.specs.Connections.{request_of}
 use Rattle.feed_node_machine.specs.NodeEvents.{NodeEvent, Accepted, Served, Passed, Asked, Took, TookPart, Reopened, events_of, feed_history, WasAsked}
 
 -- the circumstances of a reply beside the feed: who may make the node fetch, and whether the client is on the same machine
@@ -39,9 +40,13 @@ pub record IsShare (rules : Rules) (token : Option (List ℕ)) (key : ℕ) (shar
   pub is_local : Bool
   pub replied : AreReplies (replies_at rules (terms_with token is_busy is_local) (feed_history earlier)) share
 
--- the bytes are a request that has the token and asks for this release
-abbrev pub IsAskedBy : Option (List ℕ) → List ℕ → Name → Type 0
-IsAskedBy token bytes name = IsFetchBy false token bytes (Some (Ok name))
+-- the bytes are a request that has the token and asks for this release, and a connection with these events sends the reply
+-- to it
+pub record IsAskedBy (token : Option (List ℕ)) (events : List Event) (bytes : List ℕ) (name : Name) : Type 0 where
+  pub connection : Connection
+  pub state : HasState connection events
+  pub request : bytes ≡ request_of connection
+  pub asks : IsFetchBy false token bytes (Some (Ok name))
 
 -- each event since the node was opened may follow those before it; an earlier run may have had another responder or token
 abbrev pub AreAllowed : Rules → Option (List ℕ) → List NodeEvent → Type 0
@@ -49,7 +54,7 @@ AreAllowed rules token [] = Unit {0}
 AreAllowed rules token (Accepted key ∷ earlier) = AreAllowed rules token earlier
 AreAllowed rules token (Served key share ∷ earlier) = IsShare rules token key share earlier × AreAllowed rules token earlier
 AreAllowed rules token (Passed millis ∷ earlier) = AreAllowed rules token earlier
-AreAllowed rules token (Asked key bytes name ∷ earlier) = IsAskedBy token bytes name × AreAllowed rules token earlier
+AreAllowed rules token (Asked key bytes name ∷ earlier) = IsAskedBy token (events_of key earlier) bytes name × AreAllowed rules token earlier
 AreAllowed rules token (Took name phase reply steps ∷ earlier) = WasAsked name earlier × AreAllowed rules token earlier
 AreAllowed rules token (TookPart name first size bytes answer ∷ earlier) = WasAsked name earlier × AreAllowed rules token earlier
 AreAllowed rules token (Reopened ∷ earlier) = Unit {0}

@@ -71,6 +71,15 @@ impl<'a, T: Stream, K: Keep + Drop, S: FeedRespond + Drop> NodeMachine<'a, T, K,
         self.table.make_room(now, log);
     }
 
+    fn make_room_if_full<L: Log>(&mut self, now: u64, log: &mut L)
+        ensures { (history : List NodeEvent) → HasHistory S.wanted S.replies self.old history
+            → HasHistory S.wanted S.replies self.new history }
+    {
+        if self.table.is_full() {
+            self.make_room(now, log);
+        }
+    }
+
     /// Adds a connection that was accepted now, and returns its key. If there are as many connections as there may be,
     /// closes another one for it. Returns none if there may be none.
     pub fn accept<L: Log>(
@@ -84,9 +93,7 @@ impl<'a, T: Stream, K: Keep + Drop, S: FeedRespond + Drop> NodeMachine<'a, T, K,
         ensures { (history : List NodeEvent) → HasHistory S.wanted S.replies self.old history
             → HasHistory S.wanted S.replies self.new (accepted_in result history) }
     {
-        if self.table.is_full() {
-            self.make_room(now, log);
-        }
+        self.make_room_if_full(now, log);
         if self.table.is_full() {
             return None;
         }

@@ -55,7 +55,7 @@ module _ {T : Type 0} where
     rest = λ key within. others key (λ same. absurd (omega (arith, within, same))) ∙ before.rest key (omega (arith, within));
   }
 
-  never_both : (peer : Peer T) (table : Table T) (key : ℕ) → peer_at table key ≡ None → peer_at table key ≡ Some peer → ⊥
+  pub never_both : (peer : Peer T) (table : Table T) (key : ℕ) → peer_at table key ≡ None → peer_at table key ≡ Some peer → ⊥
   never_both peer table key none some = cc
 
   none_past : (table : Table T) (limit key : ℕ) → length table.peers.slots ≤ limit → limit ≤ key → peer_at table key ≡ None

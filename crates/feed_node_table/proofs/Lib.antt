@@ -10,3 +10,4 @@ pub mod Records
 pub mod Settled
 pub mod Expired
 pub mod Ended
+pub mod Written

@@ -1,8 +1,8 @@
 //! A connection with its stream and its times.
-ghost use Rattle.std.specs.Prelude.{◌≡◌, ◌≢◌, ◌≤◌, ◌+◌, ◌⊎◌, max, ℕ, List, [], true, false};
+ghost use Rattle.std.specs.Prelude.{◌≡◌, ◌≢◌, ◌≤◌, ◌+◌, ◌⊎◌, max, ℕ, List, [], true, false, IfSome};
 ghost use Rattle.feed_node_connection.specs.Events.{Event};
 ghost use Rattle.feed_node_connection.specs.States.{HasState, is_reply_sent_in, wants_in};
-ghost use Rattle.feed_node_table.specs.Connections.{HasServed, IsConnection, IsGiven, unsent_bytes};
+ghost use Rattle.feed_node_table.specs.Connections.{HasServed, IsConnection, IsGiven, request_of, unsent_bytes};
 ghost use Rattle.feed_node_table.specs.Logs.{HasRecorded, Replied};
 
 use crate::log::{CloseCause, Log};
@@ -76,6 +76,21 @@ impl<T: Stream> Peer<T> {
         ensures { result ≡ unsent_bytes self.now.connection }
     {
         self.connection.pending_reply().len()
+    }
+
+    /// Returns the request whose reply is streamed, from when the reply is made.
+    pub(crate) fn streamed_request(&self) -> Option<&[u8]>
+        ensures { IfSome result (λ bytes. bytes.now ≡ request_of self.now.connection) }
+    {
+        let is_streamed = match self.connection.summary() {
+            Some(summary) => summary.is_streamed,
+            None => false,
+        };
+        if is_streamed {
+            Some(self.connection.request_bytes())
+        } else {
+            None
+        }
     }
 
     /// Returns the microseconds that its reply took up to now, or its last one if that was sent whole.

@@ -38,7 +38,7 @@ impl<T: Stream> Table<T> {
     ghost use Rattle.feed_node_table.specs.Tables.{peer_at, size_of, bytes_held, ready_keys, IsReady, KeepsOthers};
     ghost use Rattle.feed_node_table.specs.Tables.{KeepsReady};
     ghost use Rattle.feed_node_table.specs.declared.peer.Peer.{Peer};
-    ghost use Rattle.feed_node_table.specs.Connections.{AreWithin, short_len};
+    ghost use Rattle.feed_node_table.specs.Connections.{AreWithin, request_of, short_len};
     ghost use Rattle.feed_node_table.specs.Peers.{cause_of, IsFollowed, IsLate};
     ghost use Rattle.feed_node_table.specs.Tables.{IsFirstToClose, IsFirstBelow, IsRemoved, HasClosed, IsSettled};
     ghost use Rattle.feed_node_table.specs.Tables.{has_room_in, over_bytes, unsent_limit};
@@ -306,6 +306,17 @@ impl<T: Stream> Table<T> {
         };
         let cause = peer.close_cause(cause);
         let _ = self.remove(key, cause, now, log);
+    }
+
+    /// Returns the request of a connection whose reply is streamed, from when the reply is made.
+    pub fn streamed_request(&self, key: usize) -> Option<&[u8]>
+        ensures { IfSome result (λ bytes. IsSomeAnd (peer_at self.now key)
+            (λ peer. bytes.now ≡ request_of peer.connection)) }
+    {
+        match self.peers.get(key) {
+            Some(peer) => peer.streamed_request(),
+            None => None,
+        }
     }
 
     /// Does what follows `advance`, by how that ended: records a reply that was sent, marks the connection as ready if
