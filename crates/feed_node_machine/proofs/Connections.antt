@@ -1,7 +1,8 @@
 -- The connections of a table after an event of the node.
 use Rattle.std.proofs.Common.{◌≡◌, ◌≢◌, ◌<◌, ℕ, zero, suc, Bool, true, false, List, [], ◌∷◌, ◌++◌, Option, Some, None, IsSome, ◌⊎◌, inl, inr, refl, sym, ap, subst, ◌∙◌, eqb-true, arith}
 use Rattle.std.specs.Prelude.{◌==◌, IsSomeAnd, if◌then◌else◌}
-use Rattle.std.proofs.lemmas.Bool.{cases_eq, cases_Bool}
+use Rattle.std.proofs.lemmas.Bool.{cases_eq, eqb-false}
+use Rattle.slab.specs.Slab.{Slab, get}
 use Rattle.feed_node_connection.specs.Events.{Event, Elapsed}
 use Rattle.feed_node_connection.specs.States.{HasState}
 use Rattle.feed_node_table.specs.declared.peer.Peer.{Peer}
@@ -12,18 +13,18 @@ use Rattle.feed_node_table.proofs.Firsts.{same_peer, some_there}
 use Rattle.feed_node_machine.specs.NodeEvents.{NodeEvent, Accepted, Served, Passed, Reopened, events_of}
 use Rattle.feed_node_machine.specs.Nodes.{AreAt}
 
+-- the events under a key, by a test
+here_or : (key other : ℕ) (P : List Event → Type 0) (one two : List Event) → (key ≡ other → P one) → (key ≢ other → P two)
+    → P (if key == other then one else two)
+here_or key other P one two same differs = by (key == other) refl
+  where
+    by : (b : Bool) → (key == other) ≡ b → P (if b then one else two)
+    by true is = same (eqb-true key other is)
+    by false is = differs (eqb-false key other is)
+
 module _ {T : Type 0} where
   never_both : {A : Type 0} (slot : Option (Peer T)) (peer : Peer T) → slot ≡ None → slot ≡ Some peer → A
   never_both slot peer none some = absurd (cc)
-
-  -- the events under a key, by a test
-  here_or : (key other : ℕ) (P : List Event → Type 0) (one two : List Event) → (key ≡ other → P one) → (key ≢ other → P two)
-      → P (if key == other then one else two)
-  here_or key other P one two same differs = by (key == other) refl
-    where
-      by : (b : Bool) → (key == other) ≡ b → P (if b then one else two)
-      by true is = same (eqb-true key other is)
-      by false is = differs (λ e. absurd (let u : (other == other) ≡ false = subst (λ n. (n == other) ≡ false) e is in cc))
 
   -- a table without connections
   pub at_empty : (table : Table T) (history : List NodeEvent) → size_of table ≡ 0 → AreAt table history
@@ -35,7 +36,7 @@ module _ {T : Type 0} where
       let was = keeps key peer there in subst (λ c. HasState c (events_of key history)) (sym was.2) (at key was.0 was.1)
 
   pub keeps_all : (old new : Table T) → new.peers ≡ old.peers → KeepsConnections old new
-  keeps_all old new same key peer there = (peer, subst (λ peers. peer_at (record old { peers = peers }) key ≡ Some peer) same there, refl)
+  keeps_all old new same key peer there = (peer, subst (λ (peers : Slab (Peer T)). get peers key ≡ Some peer) same there, refl)
 
   -- one connection is removed
   pub keeps_others : (key : ℕ) (old new : Table T) → KeepsOthers key old new → peer_at new key ≡ None → KeepsConnections old new

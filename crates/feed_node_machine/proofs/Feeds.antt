@@ -176,9 +176,15 @@ true_step file n phases.Offered (Ok got.Missing) (Piece m first total bytes) of 
 true_step file n phases.Offered (Ok (got.Unsatisfied size)) (Piece m first total bytes) of is = absurd is.1
 true_step file n phases.Offered (Ok given) (Lost m) of is = absurd is
 true_step file n phases.Stopped (Ok given) event of is = absurd is
-true_step file n phase (Err why) (Offered m size) of is = absurd is
-true_step file n phase (Err why) (Piece m first total bytes) of is = absurd is
-true_step file n phase (Err why) (Lost m) of is = tt
+true_step file n phases.New (Err why) (Offered m size) of is = absurd is
+true_step file n phases.New (Err why) (Piece m first total bytes) of is = absurd is
+true_step file n phases.New (Err why) (Lost m) of is = tt
+true_step file n phases.Offered (Err why) (Offered m size) of is = absurd is
+true_step file n phases.Offered (Err why) (Piece m first total bytes) of is = absurd is
+true_step file n phases.Offered (Err why) (Lost m) of is = tt
+true_step file n phases.Stopped (Err why) (Offered m size) of is = absurd is
+true_step file n phases.Stopped (Err why) (Piece m first total bytes) of is = absurd is
+true_step file n phases.Stopped (Err why) (Lost m) of is = tt
 
 true_steps : (file : Name → List ℕ) (n : Name) (phase : Phase) (reply : Result Got RequestFault) (steps : History) → IsOfFile (file n) reply
     → AllByRecursion (λ (step : Event × Answer). IsReplyEvent n phase reply step.0) steps → AllByRecursion (λ (step : Event × Answer). IsTrueOf file step.0) steps

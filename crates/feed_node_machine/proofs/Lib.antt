@@ -2,3 +2,5 @@ pub mod Connections
 pub mod Replies
 pub mod Feeds
 pub mod Moments
+pub mod Shares
+pub mod Asked

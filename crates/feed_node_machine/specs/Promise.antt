@@ -73,10 +73,9 @@ pub record IsRightNode (rules : Rules) (token : Option (List ℕ)) (history : Li
 
 module _ {T K S : Type 0} {k : Ghosts K} (wanted : S → RequestHead → ℕ)
     (replies : S → Terms → History → List ℕ → List ℕ → Bool → List ℕ → Type 0) where
-  -- each node keeps the promise, after each history that it may have
-  abbrev pub NodeIsRight : Type 0
-  NodeIsRight = (node : NodeMachine T K S k) (history : List NodeEvent) → HasHistory wanted replies node history
-      → IsRightNode (rules_of wanted replies node) (option_copied node.token) history
+  -- the node keeps the promise after each history that it may have
+  abbrev pub NodeIsRight : NodeMachine T K S k → Type 0
+  NodeIsRight node = (history : List NodeEvent) → HasHistory wanted replies node history → IsRightNode (rules_of wanted replies node) (option_copied node.token) history
 
 -- the bytes from this place on are those of the file
 abbrev pub AgreeWith : List ℕ → ℕ → List ℕ → Type 0

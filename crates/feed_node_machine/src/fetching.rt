@@ -1,5 +1,5 @@
 //! The fetch of a node, and its feed.
-ghost use Rattle.std.specs.Prelude.{◌≡◌, ◌≤◌, List, Some, None, OnSome, IfSome, IfNone, OnNone};
+ghost use Rattle.std.specs.Prelude.{◌≡◌, ◌≤◌, List, None};
 ghost use Rattle.feed_limits.specs.Limits.{piece_limit};
 ghost use Rattle.feed_model.specs.Content.{IsContent};
 ghost use Rattle.feed_node_machine.specs.NodeEvents.{NodeEvent, feed_history};
@@ -109,10 +109,9 @@ impl<'a, T: Stream, K: Keep + Drop, S: FeedRespond + Drop> NodeMachine<'a, T, K,
         let Some(mut fetching) = self.fetching.take() else {
             return Err(Stop::NoProgress);
         };
-        let outcome =
-            fetching
-                .fetch
-                .take_part(&mut self.feed, &fetching.name, first, length, bytes, out);
+        let outcome = fetching
+            .fetch
+            .take_part(&mut self.feed, &fetching.name, first, length, bytes, out);
         self.fetching = Some(fetching);
         outcome
     }
@@ -131,7 +130,7 @@ impl<'a, T: Stream, K: Keep + Drop, S: FeedRespond + Drop> NodeMachine<'a, T, K,
 
     /// Closes all connections, and returns the keeper. A node that is opened over it has the same history.
     pub fn into_keeper(self) -> K
-        ensures { (history : List NodeEvent) → HasHistory S.wanted S.replies self history → K.clean result
+        ensures { (history : List NodeEvent) → HasHistory S.wanted S.replies self.entry history → K.clean result
             → IsContent (K.content result) (feed_history history) × AreGiven history }
     {
         let NodeMachine {

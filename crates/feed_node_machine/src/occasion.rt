@@ -8,11 +8,11 @@ use std::alloc::{AllocError, Global};
 
 /// What a reply is made from, beside the responder.
 #[derive(Drop)]
-pub struct Occasion<'a, K: Keep + Drop> {
+pub struct Occasion<'f, 't, K: Keep + Drop> {
     /// The feed as it is at this moment.
-    pub feed: &'a Feed<K>,
+    pub feed: &'f Feed<K>,
     /// Who may make the node fetch.
-    pub policy: FetchPolicy<'a>,
+    pub policy: FetchPolicy<'t>,
     /// Whether the client is on the same machine.
     pub is_local: bool,
 }
@@ -47,7 +47,7 @@ pub trait FeedRespond {
     fn respond<K: Keep + Drop>(
         &self,
         alloc: Global,
-        occasion: &Occasion<'_, K>,
+        occasion: &Occasion<'_, '_, K>,
         head: &[u8],
         body: &[u8],
         persists: bool,
@@ -72,12 +72,37 @@ pub trait FeedRespond {
 
 /// A responder with the feed of one moment.
 #[derive(Drop)]
-pub(crate) struct MomentResponder<'a, K: Keep + Drop, S> {
-    pub(crate) responder: &'a S,
-    pub(crate) occasion: Occasion<'a, K>,
+pub(crate) struct MomentResponder<'s, 'f, 't, K: Keep + Drop, S> {
+    responder: &'s S,
+    occasion: Occasion<'f, 't, K>,
 }
 
-impl<'a, K: Keep + Drop, S: FeedRespond> Respond for MomentResponder<'a, K, S> {
+impl<'s, 'f, 't, K: Keep + Drop, S> MomentResponder<'s, 'f, 't, K, S> {
+    ghost use Rattle.std.specs.Prelude.{◌≡◌};
+
+    pub(crate) fn new(
+        responder: &'s S,
+        feed: &'f Feed<K>,
+        policy: FetchPolicy<'t>,
+        is_local: bool,
+    ) -> MomentResponder<'s, 'f, 't, K, S>
+        ensures responder { result.responder.now ≡ responder.now }
+        ensures feed { result.occasion.feed.now ≡ feed.now }
+        ensures policy { result.occasion.policy ≡ policy.entry }
+        ensures is_local { result.occasion.is_local ≡ is_local }
+    {
+        MomentResponder {
+            responder,
+            occasion: Occasion {
+                feed,
+                policy,
+                is_local,
+            },
+        }
+    }
+}
+
+impl<'s, 'f, 't, K: Keep + Drop, S: FeedRespond> Respond for MomentResponder<'s, 'f, 't, K, S> {
     ghost use Rattle.feed_node_machine.specs.Occasions.{IsReplyOn};
 
     ghost wanted = { λ moment head. S.wanted moment.responder.now head };

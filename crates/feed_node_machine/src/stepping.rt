@@ -4,7 +4,7 @@ ghost use Rattle.feed_node_machine.specs.NodeEvents.{NodeEvent};
 ghost use Rattle.feed_node_machine.specs.Nodes.{HasHistory, HasServed, HasAsked, HasAdvanced};
 
 use crate::machine::NodeMachine;
-use crate::occasion::{FeedRespond, MomentResponder, Occasion};
+use crate::occasion::{FeedRespond, MomentResponder};
 use feed_keep::Keep;
 use feed_node_connection::{Progress, Share};
 use feed_node_table::{Log, Outcome, Stream};
@@ -33,17 +33,10 @@ impl<'a, T: Stream, K: Keep + Drop, S: FeedRespond + Drop> NodeMachine<'a, T, K,
         ensures { (history : List NodeEvent) → HasHistory S.wanted S.replies self.old history
             → HasServed S.wanted S.replies key self.new history }
     {
-        let occasion = Occasion {
-            feed: &self.feed,
-            policy: self.policy(),
-            is_local,
-        };
-        let responder = MomentResponder {
-            responder: &self.responder,
-            occasion,
-        };
+        let policy = self.policy();
+        let moment = MomentResponder::new(&self.responder, &self.feed, policy, is_local);
         self.table
-            .advance(key, self.alloc, &responder, buffer, now, share)
+            .advance(key, self.alloc, &moment, buffer, now, share)
     }
 
     // Notes the release that the request of a connection makes the node fetch, if its reply is streamed.

@@ -14,7 +14,7 @@ pub loop-key-preserved : goal.loop-key-preserved
 loop-key-preserved g c = (
   closed_both g.L.Log.records TimedOut c.args.self.now c.loop-key.self c.expire.new.self c.args.log.now c.loop-key.log c.expire.new.log c.loop-key.invariant.0 c.expire.ensures.closed,
   expired_more c.loop-key.key c.args.now c.args.self.now c.loop-key.self c.expire.new.self c.loop-key.invariant.1 c.expire.ensures.others c.expire.ensures.late c.expire.ensures.kept
-  c.expire.ensures.elapsed,
+      c.expire.ensures.elapsed,
 )
 
 pub returns-clause-expired : goal.returns-clause-expired
