@@ -12,7 +12,7 @@ use Rattle.feed_node_connection.specs.Events.{Event}
 use Rattle.feed_node_connection.specs.States.{HasState}
 use Rattle.feed_node_table.specs.declared.peer.Peer.{Peer}
 use Rattle.feed_node_table.specs.declared.table.Table.{Table}
-use Rattle.feed_node_table.specs.Tables.{peer_at}
+use Rattle.feed_node_table.specs.Tables.{peer_at, KeepsOthers}
 use Rattle.feed_node_machine.specs.declared.fetching.Fetching.{Fetching}
 use Rattle.feed_node_machine.specs.declared.machine.NodeMachine.{NodeMachine}
 use Rattle.feed_node_machine.specs.NodeEvents.{NodeEvent, Served, Asked, Took, TookPart, events_of, feed_history, WasAsked}
@@ -21,6 +21,19 @@ use Rattle.feed_node_machine.specs.Rules.{Rules, Terms, AreAllowed, AreGiven}
 -- each connection of the table has the state that the events under its key determine
 abbrev pub AreAt : {T : Type 0} → Table T → List NodeEvent → Type 0
 AreAt {T} table history = (key : ℕ) (peer : Peer T) → peer_at table key ≡ Some peer → HasState peer.connection (events_of key history)
+
+module _ {T K S : Type 0} {k : Ghosts K} where
+  -- the connections of a node
+  abbrev pub table_of : NodeMachine T K S k → Table T
+  table_of node = node.table
+
+  -- the connection with this key may have changed, and the release that is to be fetched next; nothing else did
+  pub record KeepsRest (key : ℕ) (old new : NodeMachine T K S k) : Type 0 where
+    pub others : KeepsOthers key (table_of old) (table_of new)
+    pub feed : new.feed ≡ old.feed
+    pub fetching : new.fetching ≡ old.fetching
+    pub responder : new.responder ≡ old.responder
+    pub token : new.token ≡ old.token
 
 module _ {T K S : Type 0} {k : Ghosts K} (wanted : S → RequestHead → ℕ)
     (replies : S → Terms → History → List ℕ → List ℕ → Bool → List ℕ → Type 0) where

@@ -1,4 +1,4 @@
--- What a reply is made from.
+-- The feed and the circumstances from which a responder makes a reply.
 use Rattle.std.specs.Prelude.{ℕ, Bool, List, Option, IfSome}
 use Rattle.feed_keep.specs.declared.keep.Keep.{Ghosts}
 use Rattle.feed_model.specs.History.{History}

@@ -1,11 +1,11 @@
 //! The node as a value, and its connections.
-ghost use Rattle.std.specs.Prelude.{◌≡◌, ◌∷◌, ℕ, List, None, IsSome, option_copied};
+ghost use Rattle.std.specs.Prelude.{◌≡◌, ◌<◌, ◌∷◌, ℕ, List, None, IsSome};
 ghost use Rattle.feed_model.specs.Content.{IsContent};
 ghost use Rattle.feed_releases.specs.Feeds.{recorded};
-ghost use Rattle.feed_node_table.specs.Tables.{peer_at, size_of};
+ghost use Rattle.feed_node_table.specs.Tables.{peer_at, size_of, HasClosed, IsExpired, IsFirstToClose, IsRemoved};
 ghost use Rattle.feed_node_machine.specs.NodeEvents.{NodeEvent, Accepted, Passed, Reopened, accepted_in, feed_history};
 ghost use Rattle.feed_node_machine.specs.Rules.{AreGiven};
-ghost use Rattle.feed_node_machine.specs.Nodes.{HasHistory};
+ghost use Rattle.feed_node_machine.specs.Nodes.{table_of, HasHistory};
 
 use crate::fetching::Fetching;
 use crate::occasion::FeedRespond;
@@ -65,8 +65,10 @@ impl<'a, T: Stream, K: Keep + Drop, S: FeedRespond + Drop> NodeMachine<'a, T, K,
 
     /// Closes the connection that is closed to make room, if there is any.
     pub fn make_room<L: Log>(&mut self, now: u64, log: &mut L)
-        ensures { (history : List NodeEvent) → HasHistory S.wanted S.replies self.old history
+        ensures history { (history : List NodeEvent) → HasHistory S.wanted S.replies self.old history
             → HasHistory S.wanted S.replies self.new history }
+        ensures removed { 0 < size_of (table_of self.old) → (key : ℕ) × IsFirstToClose (table_of self.old) key
+            × IsRemoved L.records key CloseCause.Evicted now (table_of self.old) (table_of self.new) log.old log.new }
     {
         self.table.make_room(now, log);
     }
@@ -127,16 +129,20 @@ impl<'a, T: Stream, K: Keep + Drop, S: FeedRespond + Drop> NodeMachine<'a, T, K,
         now: u64,
         log: &mut L,
     ) -> Option<T>
-        ensures { (history : List NodeEvent) → HasHistory S.wanted S.replies self.old history
+        ensures history { (history : List NodeEvent) → HasHistory S.wanted S.replies self.old history
             → HasHistory S.wanted S.replies self.new history }
+        ensures removed { IsSome (peer_at (table_of self.old) key)
+            → IsRemoved L.records key cause now (table_of self.old) (table_of self.new) log.old log.new }
     {
         self.table.remove(key, cause, now, log)
     }
 
     /// Advances the clocks of all connections, and removes those that are out of time.
     pub fn advance_clock<L: Log>(&mut self, now: u64, log: &mut L)
-        ensures { (history : List NodeEvent) → HasHistory S.wanted S.replies self.old history
+        ensures history { (history : List NodeEvent) → HasHistory S.wanted S.replies self.old history
             → (millis : ℕ → ℕ) × HasHistory S.wanted S.replies self.new (Passed millis ∷ history) }
+        ensures expired { IsExpired now (table_of self.old) (table_of self.new) }
+        ensures closed { HasClosed L.records CloseCause.TimedOut (table_of self.old) (table_of self.new) log.old log.new }
     {
         self.table.advance_clock(now, log);
     }

@@ -6,7 +6,7 @@ use feed_releases::Feed;
 use feed_resolver_request::FetchPolicy;
 use std::alloc::{AllocError, Global};
 
-/// What a reply is made from, beside the responder.
+/// The feed and the circumstances from which a responder makes a reply.
 #[derive(Drop)]
 pub struct Occasion<'f, 't, K: Keep + Drop> {
     /// The feed as it is at this moment.

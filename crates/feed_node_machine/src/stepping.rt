@@ -1,7 +1,8 @@
 //! A share of a turn: a connection receives, replies and sends.
 ghost use Rattle.std.specs.Prelude.{◌≡◌, List, option_copied};
 ghost use Rattle.feed_node_machine.specs.NodeEvents.{NodeEvent};
-ghost use Rattle.feed_node_machine.specs.Nodes.{HasHistory, HasServed, HasAsked, HasAdvanced};
+ghost use Rattle.feed_node_machine.specs.Nodes.{table_of, HasHistory, HasServed, HasAsked, HasAdvanced, KeepsRest};
+ghost use Rattle.feed_node_table.specs.Tables.{IsSettled};
 
 use crate::machine::NodeMachine;
 use crate::occasion::{FeedRespond, MomentResponder};
@@ -30,8 +31,9 @@ impl<'a, T: Stream, K: Keep + Drop, S: FeedRespond + Drop> NodeMachine<'a, T, K,
         now: u64,
         share: &mut Share,
     ) -> Progress
-        ensures { (history : List NodeEvent) → HasHistory S.wanted S.replies self.old history
+        ensures history { (history : List NodeEvent) → HasHistory S.wanted S.replies self.old history
             → HasServed S.wanted S.replies key self.new history }
+        ensures rest { KeepsRest key self.old self.new }
     {
         let policy = self.policy();
         let moment = MomentResponder::new(&self.responder, &self.feed, policy, is_local);
@@ -41,8 +43,9 @@ impl<'a, T: Stream, K: Keep + Drop, S: FeedRespond + Drop> NodeMachine<'a, T, K,
 
     // Notes the release that the request of a connection makes the node fetch, if its reply is streamed.
     fn note_request(&mut self, key: usize)
-        ensures { (history : List NodeEvent) → HasHistory S.wanted S.replies self.old history
+        ensures history { (history : List NodeEvent) → HasHistory S.wanted S.replies self.old history
             → HasAsked S.wanted S.replies key self.new history }
+        ensures rest { KeepsRest key self.old self.new }
     {
         let Some(bytes) = self.table.streamed_request(key) else {
             return;
@@ -63,8 +66,9 @@ impl<'a, T: Stream, K: Keep + Drop, S: FeedRespond + Drop> NodeMachine<'a, T, K,
         now: u64,
         share: &mut Share,
     ) -> Progress
-        ensures { (history : List NodeEvent) → HasHistory S.wanted S.replies self.old history
+        ensures history { (history : List NodeEvent) → HasHistory S.wanted S.replies self.old history
             → HasAdvanced S.wanted S.replies key self.new history }
+        ensures rest { KeepsRest key self.old self.new }
     {
         let replies = share.replies;
         let progress = self.serve(key, is_local, buffer, now, share);
@@ -83,8 +87,11 @@ impl<'a, T: Stream, K: Keep + Drop, S: FeedRespond + Drop> NodeMachine<'a, T, K,
         now: u64,
         log: &mut L,
     ) -> Outcome
-        ensures { (history : List NodeEvent) → HasHistory S.wanted S.replies self.old history
+        ensures history { (history : List NodeEvent) → HasHistory S.wanted S.replies self.old history
             → HasServed S.wanted S.replies key self.new history }
+        ensures rest { KeepsRest key self.old self.new }
+        ensures settled { IsSettled L.records key progress now result (table_of self.old) (table_of self.new)
+            log.old log.new }
     {
         self.table.settle(key, progress, now, log)
     }

@@ -1,4 +1,4 @@
--- What two nodes have in common that fetched from the same published files.
+-- The agreement of two nodes that fetched from the same published files.
 use Rattle.std.specs.Prelude.{◌≡◌, ◌⊎◌, ℕ, Bool, List, All, None}
 use Rattle.httparse.specs.Grammar.{RequestHead}
 use Rattle.feed_names.specs.ReleaseName.{Name}
@@ -18,7 +18,7 @@ use Rattle.feed_node_machine.specs.Promise.{AreOfFiles}
 use Rattle.feed_node_service.specs.declared.responder.FeedResponder.{FeedResponder}
 use Rattle.feed_node_service.specs.Responders.{IsTurnText}
 
--- the bytes are no request to `/feed` or below it
+-- the bytes are not a request to `/feed` or below it
 abbrev pub AsksForNoFeed : List ℕ → Type 0
 AsksForNoFeed bytes = HasNoHead bytes ⊎ ((head : RequestHead) × BeginsWith bytes head × (feed_target head ≡ None))
 
@@ -28,7 +28,7 @@ pub record IsOfReader (bytes : List ℕ) : Type 0 where
   pub no_feed : AsksForNoFeed bytes
   pub no_report : AsksForNoReport bytes
 
--- the feed of a node with this history has what replies of a knowledge base gave that serves slices of these files
+-- the knowledge base of a node with this history served slices of the files, and nothing else changed the feed
 pub record IsFromFiles (file : Name → List ℕ) (history : List NodeEvent) : Type 0 where
   pub given : AreGiven history
   pub of_files : AreOfFiles file history

@@ -39,7 +39,7 @@ impl<'a> FeedResponder<'a> {
     fn response<K: Keep + Drop>(
         &self,
         alloc: Global,
-        occasion: &Occasion<'_, K>,
+        occasion: &Occasion<'_, '_, K>,
         bytes: &[u8],
         body: &[u8],
         persists: bool,
@@ -72,7 +72,7 @@ impl<'a> FeedResponder<'a> {
     fn report<K: Keep + Drop>(
         &self,
         alloc: Global,
-        occasion: &Occasion<'_, K>,
+        occasion: &Occasion<'_, '_, K>,
         bytes: &[u8],
         persists: bool,
     ) -> Result<Option<ReportReply>, AllocError>
@@ -94,7 +94,7 @@ impl<'a> FeedResponder<'a> {
     fn reader_reply<K: Keep + Drop>(
         &self,
         alloc: Global,
-        occasion: &Occasion<'_, K>,
+        occasion: &Occasion<'_, '_, K>,
         bytes: &[u8],
         body: &[u8],
         persists: bool,
@@ -134,7 +134,7 @@ impl<'a> FeedRespond for FeedResponder<'a> {
     fn respond<K: Keep + Drop>(
         &self,
         alloc: Global,
-        occasion: &Occasion<'_, K>,
+        occasion: &Occasion<'_, '_, K>,
         head: &[u8],
         body: &[u8],
         persists: bool,

@@ -8,8 +8,8 @@ use Rattle.feed_node_machine.specs.Occasions.{IsReplyOn}
 use Rattle.feed_node_machine.proofs.Shares.{MovesBy, reply_to, serve_moves}
 use Rattle.feed_node_machine.proofs.machine.NodeMachine.serve.Goals as goal
 
-pub returns : goal.returns
-returns g c = λ history has.
+pub returns-clause-history : goal.returns-clause-history
+returns-clause-history g c = λ history has.
     let moment = c.new-moment.result in
     let token = option_copied c.args.self.now.token in
     let content = subst (λ feed. IsContent (recorded {K = g.row.K.Denot} {k = g.K.Keep} feed) (feed_history history)) (sym c.new-moment.ensures.feed) has.feed in
