@@ -1,5 +1,5 @@
-//! A node without its sockets: its connections, its feed and the fetch that is under way, as one value. Its contracts say
-//! which history it has after each step.
+//! A node without its sockets: its connections, its feed and the fetch that is under way, as one value. Its contracts
+//! say which history it has after each step.
 #![tactic(auto)]
 
 mod fetching;

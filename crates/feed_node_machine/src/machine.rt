@@ -142,7 +142,8 @@ impl<'a, T: Stream, K: Keep + Drop, S: FeedRespond + Drop> NodeMachine<'a, T, K,
         ensures history { (history : List NodeEvent) → HasHistory S.wanted S.replies self.old history
             → (millis : ℕ → ℕ) × HasHistory S.wanted S.replies self.new (Passed millis ∷ history) }
         ensures expired { IsExpired now (table_of self.old) (table_of self.new) }
-        ensures closed { HasClosed L.records CloseCause.TimedOut (table_of self.old) (table_of self.new) log.old log.new }
+        ensures closed { HasClosed L.records CloseCause.TimedOut (table_of self.old) (table_of self.new)
+            log.old log.new }
     {
         self.table.advance_clock(now, log);
     }

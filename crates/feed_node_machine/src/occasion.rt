@@ -31,8 +31,8 @@ pub trait FeedRespond {
     /// The length of the body that the responder wants after this head, or 0.
     ghost wanted: { Self → RequestHead → ℕ };
 
-    /// In these circumstances and for a feed with this history, a head of a request, or bytes that are not one, and this
-    /// body have this reply if the connection persists after it, or does not.
+    /// In these circumstances and for a feed with this history, a head of a request, or bytes that are not one, and
+    /// this body have this reply if the connection persists after it, or does not.
     ghost replies: { Self → Terms → History → List ℕ → List ℕ → Bool → List ℕ → Type 0 };
 
     /// Returns how many bytes of a body are received after the head of a request: at most 8,192, and 0 for none.

@@ -45,7 +45,8 @@ pub(crate) struct Peer<T> {
 }
 
 impl<T: Stream> Peer<T> {
-    ghost use Rattle.feed_node_table.specs.Peers.{begins_stream, cause_of, micros_of, HasElapsed, HasResumed, IsFollowed, IsLate};
+    ghost use Rattle.feed_node_table.specs.Peers.{begins_stream, cause_of, micros_of, HasElapsed, HasResumed};
+    ghost use Rattle.feed_node_table.specs.Peers.{IsFollowed, IsLate};
 
     /// Returns a connection that was accepted now.
     pub(crate) fn new(

@@ -42,7 +42,8 @@ impl<T: Stream> Table<T> {
     ghost use Rattle.feed_node_table.specs.Peers.{cause_of, IsFollowed, IsLate};
     ghost use Rattle.feed_node_table.specs.Tables.{IsFirstToClose, IsFirstBelow, IsRemoved, HasClosed, IsSettled};
     ghost use Rattle.feed_node_table.specs.Tables.{has_room_in, over_bytes, unsent_limit};
-    ghost use Rattle.feed_node_table.specs.Tables.{AreElapsed, IsElapsedAt, IsExpired, IsServed, IsWithin, KeepsConnections};
+    ghost use Rattle.feed_node_table.specs.Tables.{AreElapsed, IsElapsedAt, IsExpired, IsServed, IsWithin};
+    ghost use Rattle.feed_node_table.specs.Tables.{KeepsConnections};
 
     /// Returns an empty table for at most this many connections, with the memory for all of them.
     pub fn new(alloc: Global, clients: usize) -> Result<Table<T>, AllocError>
