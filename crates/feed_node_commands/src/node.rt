@@ -120,7 +120,7 @@ fn run_server<D: Database, O: Write, F: Write + Drop>(
         Ok(site) => site,
         Err(_) => return faults.report("Memory", FAILED),
     };
-    let mut feed = match open_feed(rt.alloc(), database, faults) {
+    let feed = match open_feed(rt.alloc(), database, faults) {
         Ok(feed) => feed,
         Err(status) => return status,
     };
@@ -142,8 +142,8 @@ fn run_server<D: Database, O: Write, F: Write + Drop>(
         version: first_line(hosting.version),
         log: hosting.log,
     };
-    let end = serve(rt, database.name(), &mut feed, &mut server, setup, out);
-    end_node(database, feed, end, faults)
+    let (end, keeper) = serve(rt, database.name(), feed, &mut server, setup, out);
+    end_node(database, keeper, end, faults)
 }
 
 // Returns the number of the version without what it was proved with.
@@ -154,22 +154,22 @@ fn first_line(version: &str) -> &str {
     }
 }
 
-// Answers readers from the feed of the database file at a path.
+// Answers readers from the feed of the database file at a path. Returns why the node ends, and the keeper of the feed.
 fn serve<K: Keep + Drop, O: Write>(
     rt: &HostRuntime,
     path: &str,
-    feed: &mut Feed<K>,
+    feed: Feed<K>,
     server: &mut Server,
     setup: NodeSetup<'_>,
     out: &mut O,
-) -> End {
+) -> (End, K) {
     let file = match WatchedFile::new(rt, path) {
         Ok(file) => file,
-        Err(_) => return End::FileGone,
+        Err(_) => return (End::FileGone, feed.restart()),
     };
     match announce(out, "listening") {
         Ok(()) => run(rt, feed, server, setup, file, out),
-        Err(error) => End::Print(error),
+        Err(error) => (End::Print(error), feed.restart()),
     }
 }
 
@@ -177,13 +177,13 @@ fn serve<K: Keep + Drop, O: Write>(
 // place, with its log beside it.
 fn end_node<D: Database, F: Write + Drop>(
     database: &D,
-    feed: Feed<D::Keeper>,
+    keeper: D::Keeper,
     end: End,
     faults: &mut Faults<F>,
 ) -> u8 {
     match &end {
         End::FileGone => {}
-        _ => close_keeper(database, feed.restart(), faults),
+        _ => close_keeper(database, keeper, faults),
     }
     report_end(end, database.name(), faults)
 }

@@ -1,11 +1,13 @@
-//! The server: the poll, the listener, the connections of clients, and the request to another server.
+//! The server: the poll and the listener of a node, the request to another server, and the replies that are streamed.
 use crate::descriptors::available_clients;
 use crate::outgoing::{Destination, OutgoingRequest};
-use crate::responders::Responders;
+use crate::local::is_local;
 use crate::socket::Socket;
 use crate::streamed_reply::StreamedReply;
-use feed_node_connection::{Respond, TURN_SHARE, TimeLimits};
-use feed_node_table::{CloseCause, Log, Outcome, Table};
+use feed_keep::Keep;
+use feed_node_connection::{TURN_SHARE, TimeLimits};
+use feed_node_machine::{FeedRespond, NodeMachine};
+use feed_node_table::{CloseCause, Log, Outcome};
 use mio::net::{TcpListener, TcpStream};
 use mio::{Events, Interest, Poll, Token};
 use std::alloc::Global;
@@ -42,18 +44,22 @@ pub struct Settings {
     pub limits: TimeLimits,
 }
 
-/// A server over its sockets, which `turn` advances.
+/// A node whose connections are sockets.
+pub type ServedNode<'a, K, S> = NodeMachine<'a, Socket, K, S>;
+
+/// The sockets of a node, over which `turn` advances it.
 #[derive(Drop)]
 pub struct Server {
     alloc: Global,
     poll: Poll,
     listener: TcpListener,
-    table: Table<Socket>,
     outgoing: Option<OutgoingRequest>,
     streams: Vec<StreamedReply>,
     buffer: Vec<u8>,
+    /// The most connections at a time.
+    clients: usize,
     limits: TimeLimits,
-    /// The moment from which the table's times count.
+    /// The moment from which the node's times count.
     start: Instant,
     last_tick: Instant,
     /// Whether connections may wait to be accepted that no event will report.
@@ -73,15 +79,15 @@ impl Server {
         let start = Instant::now(rt)?;
         let buffer = Vec::from_elem(alloc, 0, READ_BYTES)?;
         let (poll, listener) = listen(rt, addr)?;
-        let table = Table::new(alloc, available_clients(rt, settings.clients))?;
+        let clients = available_clients(rt, settings.clients);
         Ok(Server {
             alloc,
             poll,
             listener,
-            table,
             outgoing: None,
             streams: Vec::new(alloc),
             buffer,
+            clients,
             limits: settings.limits,
             start,
             last_tick: start,
@@ -92,17 +98,7 @@ impl Server {
 
     /// Returns the most connections at a time.
     pub fn clients(&self) -> usize {
-        self.table.clients()
-    }
-
-    /// Returns the number of connections.
-    pub fn connections(&self) -> usize {
-        self.table.len()
-    }
-
-    /// Returns the bytes of the replies of all connections that are not yet sent.
-    pub fn bytes_held(&self) -> usize {
-        self.table.bytes_held()
+        self.clients
     }
 
     /// Returns the address that the server listens on.
@@ -174,81 +170,81 @@ impl Server {
 
     /// Waits at most 250 ms for the sockets, gives each connection that is ready its share of the turn, and closes each
     /// one that is over.
-    pub fn turn<S: Respond, L: Log>(
+    pub fn turn<K: Keep + Drop, S: FeedRespond + Drop, L: Log>(
         &mut self,
         rt: &impl Clock,
-        responders: &Responders<'_, S>,
+        node: &mut ServedNode<'_, K, S>,
         events: &mut Events,
         log: &mut L,
     ) -> io::Result<()> {
-        let may_block = self.table.ready_len() == 0 && !self.has_more_work;
+        let may_block = node.table().ready_len() == 0 && !self.has_more_work;
         let wait = if may_block { TICK } else { 0 };
         self.poll.poll(events, Some(Duration::from_millis(wait)))?;
         let now = Instant::now(rt)?;
         for event in events.iter() {
-            self.on_event(event.token());
+            self.on_event(node, event.token());
         }
-        self.serve_ready(rt, responders, log)?;
-        let has_more_work = self.accept_waiting(rt, responders, log)?;
+        self.serve_ready(rt, node, log)?;
+        let has_more_work = self.accept_waiting(rt, node, log)?;
         self.has_more_work = self.advance_outgoing() || has_more_work;
         self.advance_streams();
-        self.advance_clock(now, log);
+        self.advance_clock(node, now, log);
         Ok(())
     }
 
-    fn on_event(&mut self, token: Token) {
+    fn on_event<K: Keep + Drop, S: FeedRespond + Drop>(
+        &mut self,
+        node: &mut ServedNode<'_, K, S>,
+        token: Token,
+    ) {
         if token == LISTENER {
             self.may_accept = true;
         } else {
-            self.table.mark_ready(token.0);
+            node.mark_ready(token.0);
         }
     }
 
     // Gives each connection that is ready one share of the turn, the last one first: one that has more to do is added
     // at the end, for the next turn.
-    fn serve_ready<S: Respond, L: Log>(
+    fn serve_ready<K: Keep + Drop, S: FeedRespond + Drop, L: Log>(
         &mut self,
         rt: &impl Clock,
-        responders: &Responders<'_, S>,
+        node: &mut ServedNode<'_, K, S>,
         log: &mut L,
     ) -> io::Result<()> {
-        for place in (0..self.table.ready_len()).rev() {
-            if let Some(key) = self.table.ready_at(place) {
-                self.serve(rt, key, responders, log)?;
+        for place in (0..node.table().ready_len()).rev() {
+            if let Some(key) = node.table().ready_at(place) {
+                self.serve(rt, node, key, log)?;
             }
         }
         Ok(())
     }
 
     // Gives a connection one share of the turn. Returns whether it is still open.
-    fn serve<S: Respond, L: Log>(
+    fn serve<K: Keep + Drop, S: FeedRespond + Drop, L: Log>(
         &mut self,
         rt: &impl Clock,
+        node: &mut ServedNode<'_, K, S>,
         key: usize,
-        responders: &Responders<'_, S>,
         log: &mut L,
     ) -> io::Result<bool> {
         let mut share = TURN_SHARE;
         let mut outcome = Outcome::Waits;
         let mut now = self.micros(Instant::now(rt)?);
-        let responder = responders.to(self.table.addr(key));
+        let is_local = match node.table().addr(key) {
+            Some(addr) => is_local(addr),
+            None => false,
+        };
         for _ in 0..2 {
-            let progress = self.table.advance(
-                key,
-                self.alloc,
-                responder,
-                &mut self.buffer,
-                now,
-                &mut share,
-            );
+            let progress = node.advance(key, is_local, &mut self.buffer, now, &mut share);
             now = self.micros(Instant::now(rt)?);
-            outcome = self.table.settle(key, progress, now, log);
+            outcome = node.settle(key, progress, now, log);
             if outcome != Outcome::Resumed {
                 break;
             }
         }
         if outcome == Outcome::Streams {
-            self.stream_to(key, now, log);
+            self.stream_to(node, key, now, log);
         }
         Ok(outcome != Outcome::Streams && outcome != Outcome::Over)
     }
@@ -262,8 +258,14 @@ impl Server {
     }
 
     // Keeps the socket of a client that has the head of its streamed reply, to send the body.
-    fn stream_to<L: Log>(&mut self, key: usize, now: u64, log: &mut L) {
-        let Some(socket) = self.table.remove(key, CloseCause::Streamed, now, log) else {
+    fn stream_to<K: Keep + Drop, S: FeedRespond + Drop, L: Log>(
+        &mut self,
+        node: &mut ServedNode<'_, K, S>,
+        key: usize,
+        now: u64,
+        log: &mut L,
+    ) {
+        let Some(socket) = node.remove(key, CloseCause::Streamed, now, log) else {
             return;
         };
         let mut stream = socket.stream;
@@ -279,10 +281,10 @@ impl Server {
 
     // Accepts connections until none waits or the system refuses one. If it has no descriptor left, a connection is
     // closed for the next one. A flood gets a bounded share of a turn. Returns whether it used all of it.
-    fn accept_waiting<S: Respond, L: Log>(
+    fn accept_waiting<K: Keep + Drop, S: FeedRespond + Drop, L: Log>(
         &mut self,
         rt: &impl Clock,
-        responders: &Responders<'_, S>,
+        node: &mut ServedNode<'_, K, S>,
         log: &mut L,
     ) -> io::Result<bool> {
         for _ in 0..ACCEPTS {
@@ -290,14 +292,14 @@ impl Server {
                 return Ok(false);
             }
             match self.listener.accept() {
-                Ok((stream, addr)) => self.admit(rt, stream, addr, responders, log)?,
+                Ok((stream, addr)) => self.admit(rt, node, stream, addr, log)?,
                 Err(fault) => match fault.kind() {
                     ErrorKind::WouldBlock => self.may_accept = false,
                     ErrorKind::Interrupted => {}
                     ErrorKind::ConnectionAborted => {}
                     _ => {
                         let now = self.micros(Instant::now(rt)?);
-                        self.table.make_room(now, log);
+                        node.make_room(now, log);
                         return Ok(false);
                     }
                 },
@@ -308,36 +310,35 @@ impl Server {
 
     // Begins a new connection, and serves it at once: its client may have sent a request already. If it remains open,
     // its socket is registered with the poll.
-    fn admit<S: Respond, L: Log>(
+    fn admit<K: Keep + Drop, S: FeedRespond + Drop, L: Log>(
         &mut self,
         rt: &impl Clock,
+        node: &mut ServedNode<'_, K, S>,
         stream: TcpStream,
         addr: SocketAddr,
-        responders: &Responders<'_, S>,
         log: &mut L,
     ) -> io::Result<()> {
         let now = self.micros(Instant::now(rt)?);
-        if self.table.is_full() {
-            self.table.make_room(now, log);
-        }
-        if self.table.is_full() {
-            return Ok(());
-        }
         // Otherwise the system holds a reply back until the client acknowledges the one before it.
         let _ = stream.set_nodelay(true);
         let socket = Socket { stream };
-        let key = self
-            .table
-            .insert(self.alloc, socket, addr, self.limits, now, log);
-        let is_open = self.serve(rt, key, responders, log)?;
-        if is_open && !self.table.register(key, self.poll.registry()) {
-            let _ = self.table.remove(key, CloseCause::PeerClosed, now, log);
+        let Some(key) = node.accept(socket, addr, self.limits, now, log) else {
+            return Ok(());
+        };
+        let is_open = self.serve(rt, node, key, log)?;
+        if is_open && !node.register(key, self.poll.registry()) {
+            let _ = node.remove(key, CloseCause::PeerClosed, now, log);
         }
         Ok(())
     }
 
     // Advances the clocks, at most once in 250 ms.
-    fn advance_clock<L: Log>(&mut self, now: Instant, log: &mut L) {
+    fn advance_clock<K: Keep + Drop, S: FeedRespond + Drop, L: Log>(
+        &mut self,
+        node: &mut ServedNode<'_, K, S>,
+        now: Instant,
+        log: &mut L,
+    ) {
         let millis = now
             .saturating_duration_since(self.last_tick)
             .as_millis()
@@ -354,7 +355,7 @@ impl Server {
         }
         self.advance_streams();
         let now = self.micros(now);
-        self.table.advance_clock(now, log);
+        node.advance_clock(now, log);
     }
 }
 

@@ -8,7 +8,7 @@ use std::net::Shutdown;
 
 /// The socket of a client.
 #[derive(Drop)]
-pub(crate) struct Socket {
+pub struct Socket {
     pub(crate) stream: TcpStream,
 }
 

@@ -1,23 +1,22 @@
 -- The reply of a node about itself, from the reply that its state makes.
 use Rattle.std.proofs.Common.{◌≡◌, ◌<◌, ◌+◌, ℕ, Bool, true, List, [], ◌∷◌, ◌++◌, length, take, get_or, map, Option, Some, None, inl, inr, ap, sym, ◌∙◌}
 use Rattle.std.proofs.lemmas.List.{take_more, map-append}
-use Rattle.feed_keep.specs.declared.keep.Keep.{Ghosts}
 use Rattle.feed_metrics.specs.Texts.{MetricsValue}
 use Rattle.feed_metrics.specs.declared.text.Gauges.{Gauges}
 use Rattle.feed_metrics.specs.declared.text.ReleaseTime.{ReleaseTime}
 use Rattle.feed_monitoring.specs.Reports.{IsReportReply}
 use Rattle.feed_monitoring.specs.declared.report_text.ReportReply.{ReportReply}
-use Rattle.feed_releases.specs.Actives.{ActiveValue, actives_of}
-use Rattle.feed_releases.specs.Feeds.{releases_of}
-use Rattle.feed_node_service.specs.Reports.{IsSomeReply, IsReportIn, time_of, active_time}
+use Rattle.feed_model.specs.History.{History}
+use Rattle.feed_releases.specs.Actives.{ActiveValue, AreReported}
+use Rattle.feed_node_service.specs.Reports.{IsSomeReply, IsReportIn, may_report, time_of, active_time}
 use Rattle.feed_node_service.specs.declared.responder.FeedResponder.{FeedResponder}
 
-pub report_in : {K : Type 0} {k : Ghosts K} (responder : FeedResponder K k) (bytes : List ℕ) (keeps : Bool) (releases : List ReleaseTime) (found : Option ReportReply)
-    → responder.has_reports ≡ true → map time_of releases ≡ map active_time (actives_of (releases_of responder.feed.now)) → IsSomeReply bytes keeps releases found
-    → IsReportIn responder bytes keeps found
-report_in responder bytes keeps releases None allowed same (metrics, gauges, of, is) = inr is
-report_in responder bytes keeps releases (Some reply) allowed same (metrics, gauges, of, is) =
-    record { allowed = allowed; metrics = metrics; gauges = gauges; releases = ap (map time_of) of ∙ same; is = is }
+pub report_in : (responder : FeedResponder) (is_local : Bool) (h : History) (bytes : List ℕ) (keeps : Bool) (actives : List ActiveValue) (releases : List ReleaseTime)
+    (found : Option ReportReply) → may_report responder is_local ≡ true → AreReported h actives → map time_of releases ≡ map active_time actives
+    → IsSomeReply bytes keeps releases found → IsReportIn responder is_local h bytes keeps found
+report_in responder is_local h bytes keeps actives releases None allowed reported same (metrics, gauges, of, is) = inr is
+report_in responder is_local h bytes keeps actives releases (Some reply) allowed reported same (metrics, gauges, of, is) =
+    record { allowed = allowed; metrics = metrics; gauges = gauges; actives = actives; reported = reported; releases = ap (map time_of) of ∙ same; is = is }
 
 pub next_times : (actives : List ActiveValue) (i : ℕ) (d : ActiveValue) (old new : List (List ℕ × ℕ)) → i < length actives
     → old ≡ map active_time (take i actives) → new ≡ old ++ active_time (get_or actives i d) ∷ [] → new ≡ map active_time (take (i + 1) actives)

@@ -9,7 +9,7 @@ use Rattle.httparse.specs.Grammar.{RequestHead}
 use Rattle.httparse.proofs.GrammarLemmas.{request_unique}
 use Rattle.feed_http_heads.specs.Options.{lacks_close, SaysWhetherItKeeps}
 use Rattle.feed_node_connection.specs.Requests.{IsPersistent, is_post, persists, states_len, body_len_of}
-use Rattle.feed_releases.specs.Actives.{ActiveValue}
+use Rattle.feed_model.specs.History.{History}
 use Rattle.feed_http_heads.specs.Fields.{values_named, has_any}
 use Rattle.feed_http_heads.specs.Requests.{lacks_host}
 use Rattle.feed_http_heads.specs.Targets.{origin_form}
@@ -20,14 +20,14 @@ use Rattle.feed_resolver_request.specs.declared.target.Resource.TheVariants.{Hom
 use Rattle.feed_resolver_request.specs.declared.form.FormFault.{FormFault}
 use Rattle.feed_resolver_request.specs.declared.form.FormFault.TheVariants.{Coding}
 use Rattle.feed_resolver_reply.specs.Replies.{ResponseValue}
-use Rattle.feed_resolver.specs.NodeReplies.{IsNodeReply, SaysOfConnection}
+use Rattle.feed_resolver.specs.NodeReplies.{IsNodeReplyAt, SaysOfConnection}
 use Rattle.feed_resolver_tag.specs.Tags.{SiteValue}
 use Rattle.feed_resolver.specs.FeedReplies.{IsFeedResponse}
 use Rattle.feed_node_service.specs.Responders.{IsReplyBy}
 
-pub as_node : (site : SiteValue) (policy : FetchPolicyValue) (bytes body : List ℕ) (keeps : Bool) (actives : List ActiveValue) (response : ResponseValue) → IsFeedResponse policy bytes keeps None
-    → IsNodeReply site policy bytes body keeps actives response → IsReplyBy site policy bytes body keeps actives response
-as_node site policy bytes body keeps actives response other is = inr (other, is)
+pub as_node : (site : SiteValue) (policy : FetchPolicyValue) (bytes body : List ℕ) (keeps : Bool) (h : History) (response : ResponseValue) → IsFeedResponse policy bytes keeps None
+    → IsNodeReplyAt site policy h bytes body keeps response → IsReplyBy site policy h bytes body keeps response
+as_node site policy bytes body keeps h response other is = inr (other, is)
 
 -- a response with these parts
 pub same_response : (r : ResponseValue) (bytes : List ℕ) (status size : ℕ) → bytes ≡ r.bytes → status ≡ r.status → size ≡ r.body_length

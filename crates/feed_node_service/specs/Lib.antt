@@ -2,3 +2,4 @@ pub mod FetchEnds
 pub mod NodeCounts
 pub mod Reports
 pub mod Responders
+pub mod Agreement

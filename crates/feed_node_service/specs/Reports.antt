@@ -1,11 +1,10 @@
 -- The replies of a node about itself.
-use Rattle.std.specs.Prelude.{◌≡◌, ◌⊎◌, ◌*◌, ℕ, ℤ, pos, unsigned_abs, int_lt, if◌then◌else◌, Bool, true, false, List, map, Option, Some, None}
-use Rattle.feed_keep.specs.declared.keep.Keep.{Ghosts}
+use Rattle.std.specs.Prelude.{◌≡◌, ◌⊎◌, ◌*◌, ◌||◌, ℕ, ℤ, pos, unsigned_abs, int_lt, if◌then◌else◌, Bool, true, false, List, map, Option, Some, None}
 use Rattle.feed_metrics.specs.Texts.{MetricsValue}
 use Rattle.feed_metrics.specs.declared.text.Gauges.{Gauges}
 use Rattle.feed_metrics.specs.declared.text.ReleaseTime.{ReleaseTime}
-use Rattle.feed_releases.specs.Actives.{ActiveValue, actives_of}
-use Rattle.feed_releases.specs.Feeds.{releases_of}
+use Rattle.feed_model.specs.History.{History}
+use Rattle.feed_releases.specs.Actives.{ActiveValue, AreReported}
 use Rattle.feed_monitoring.specs.declared.report_text.ReportReply.{ReportReply}
 use Rattle.feed_monitoring.specs.Reports.{AsksForNoReport, IsReportAnswer, IsReportReply}
 use Rattle.feed_node_service.specs.declared.responder.FeedResponder.{FeedResponder}
@@ -28,20 +27,26 @@ time_of time = (time.package.now, time.seconds)
 abbrev pub active_time : ActiveValue → List ℕ × ℕ
 active_time active = (active.name.stem, seconds_of active.name.day)
 
+-- whether the client may have a report: if it is on the same machine, or the settings allow it to all
+abbrev pub may_report : FeedResponder → Bool → Bool
+may_report responder is_local = is_local || responder.has_open_reports
+
 -- the bytes are a request for a report that the client may have, and this is the reply to it: by some counters, and by
--- gauges that have the packages and the days of the active releases
-pub record IsReportFor {K : Type 0} {k : Ghosts K} (responder : FeedResponder K k) (bytes : List ℕ) (keeps : Bool) (reply : ReportReply) : Type 0 where
-  pub allowed : responder.has_reports ≡ true
+-- gauges that have the packages and the days of the releases that a feed with this history reports
+pub record IsReportFor (responder : FeedResponder) (is_local : Bool) (h : History) (bytes : List ℕ) (keeps : Bool) (reply : ReportReply) : Type 0 where
+  pub allowed : may_report responder is_local ≡ true
   pub metrics : MetricsValue
   pub gauges : Gauges
-  pub releases : map time_of gauges.releases.now ≡ map active_time (actives_of (releases_of responder.feed.now))
+  pub actives : List ActiveValue
+  pub reported : AreReported h actives
+  pub releases : map time_of gauges.releases.now ≡ map active_time actives
   pub is : IsReportAnswer metrics gauges bytes keeps reply
 
 -- the client may not have a report, or the bytes are no request for one
-abbrev pub HasNoReport : {K : Type 0} {k : Ghosts K} → FeedResponder K k → List ℕ → Type 0
-HasNoReport responder bytes = (responder.has_reports ≡ false) ⊎ AsksForNoReport bytes
+abbrev pub HasNoReport : FeedResponder → Bool → List ℕ → Type 0
+HasNoReport responder is_local bytes = (may_report responder is_local ≡ false) ⊎ AsksForNoReport bytes
 
 -- the reply, exactly if the client may have it and the bytes are such a request
-abbrev pub IsReportIn : {K : Type 0} {k : Ghosts K} → FeedResponder K k → List ℕ → Bool → Option ReportReply → Type 0
-IsReportIn responder bytes keeps None = HasNoReport responder bytes
-IsReportIn responder bytes keeps (Some reply) = IsReportFor responder bytes keeps reply
+abbrev pub IsReportIn : FeedResponder → Bool → History → List ℕ → Bool → Option ReportReply → Type 0
+IsReportIn responder is_local h bytes keeps None = HasNoReport responder is_local bytes
+IsReportIn responder is_local h bytes keeps (Some reply) = IsReportFor responder is_local h bytes keeps reply

@@ -3,16 +3,17 @@ use crate::exchange::{Arrival, Exchange, WholePart};
 use crate::fetch_end::{FetchEnd, print_end, print_name_fault};
 use crate::node_state::NodeState;
 use crate::recorded_reply::RecordedReply;
+use crate::responder::FeedResponder;
 use crate::source_addrs::SourceAddrs;
 use crate::watched_file::WatchedFile;
 use feed_dial::DialFault;
-use feed_fetch::{Fetch, Next, Printer, Request, RequestFault, Stop};
+use feed_fetch::{Next, Printer, Request, RequestFault, Stop};
 use feed_http::{Got, Method, is_host, read_reply, write_head_request, write_request};
 use feed_http_heads::HttpFault;
 use feed_keep::Keep;
 use feed_limits::PIECE_LIMIT;
-use feed_names::{NameFault, ReleaseName};
-use feed_node_server::{Destination, OutgoingRequest, Server};
+use feed_node_machine::Fetching;
+use feed_node_server::{Destination, OutgoingRequest, ServedNode, Server};
 use feed_releases::Feed;
 use std::alloc::AllocError;
 use std::io;
@@ -33,7 +34,10 @@ pub struct Source<'a> {
 // The most parts of a whole file that are taken in one turn, which is all that are kept at a time.
 const PARTS: usize = 4;
 
-/// Fetches releases for a node, one at a time.
+/// A node that replies from its feed.
+pub type FeedNode<'a, K> = ServedNode<'a, K, FeedResponder<'a>>;
+
+/// Carries the requests of the fetches of a node, and their replies, one at a time.
 #[derive(Drop)]
 pub struct Fetcher<'a> {
     rt: &'a HostRuntime,
@@ -42,15 +46,12 @@ pub struct Fetcher<'a> {
     /// The file of the database.
     file: WatchedFile<'a>,
     state: &'a NodeState,
-    fetch: Option<RunningFetch>,
+    running: Option<RunningExchange>,
 }
 
-// A fetch that is under way.
-#[derive(Drop)]
-struct RunningFetch {
-    name: ReleaseName,
-    fetch: Fetch,
-    /// The place of the address in use.
+// The last request of the fetch that is under way, and the place of the address in use.
+#[derive(Clone, Copy)]
+struct RunningExchange {
     at: usize,
     exchange: Exchange,
 }
@@ -83,50 +84,29 @@ impl<'a> Fetcher<'a> {
             addrs,
             file,
             state,
-            fetch: None,
+            running: None,
         }
     }
 
-    /// Returns the token that authorizes a fetch.
-    pub fn token(&self) -> Option<&'a [u8]> {
-        match self.source {
-            Some(source) => Some(source.token),
-            None => None,
-        }
-    }
-
-    /// Returns whether a fetch is under way.
-    pub fn is_busy(&self) -> bool {
-        self.fetch.is_some()
-    }
-
-    /// Begins to fetch a release. The client that asked for it receives a line for each event.
-    pub fn begin<K: Keep + Drop>(
-        &mut self,
-        server: &mut Server,
-        feed: &Feed<K>,
-        name: Result<ReleaseName, NameFault>,
-    ) {
+    /// Begins to fetch the release that a client asked for, if one did. The client receives a line for each event.
+    pub fn begin<K: Keep + Drop>(&mut self, server: &mut Server, node: &mut FeedNode<'_, K>) {
         let Some(source) = self.source else {
-            return server.finish_streams();
+            return;
         };
-        let name = match name {
-            Ok(name) => name,
-            Err(fault) => {
+        let piece = source.piece.max(1).min(PIECE_LIMIT as u64);
+        match node.begin_fetch(piece) {
+            None => {}
+            Some(Ok(())) => {
+                self.addrs.renew(self.rt, source.addr);
+                let exchange = Exchange::new(Method::Head, piece);
+                self.send_next(server, node, RunningExchange { at: 0, exchange });
+            }
+            Some(Err(fault)) => {
                 let mut lines = self.lines();
                 self.state.end_fetch(print_name_fault(fault, &mut lines));
-                return finish(server, lines);
+                finish(server, lines);
             }
-        };
-        self.addrs.renew(self.rt, source.addr);
-        let fetch = Fetch::new(source.piece.max(1).min(PIECE_LIMIT as u64));
-        let fetch = RunningFetch {
-            name,
-            fetch,
-            at: 0,
-            exchange: Exchange::new(Method::Head, fetch.piece),
-        };
-        self.send_next(server, feed, fetch);
+        }
     }
 
     fn lines(&self) -> Printer<Vec<u8>> {
@@ -137,12 +117,14 @@ impl<'a> Fetcher<'a> {
     fn end<K: Keep + Drop>(
         &self,
         server: &mut Server,
-        feed: &Feed<K>,
-        name: &ReleaseName,
+        node: &mut FeedNode<'_, K>,
         end: FetchEnd,
     ) {
         let mut lines = self.lines();
-        self.state.end_fetch(print_end(feed, name, end, &mut lines));
+        if let Some(name) = node.end_fetch() {
+            self.state
+                .end_fetch(print_end(node.feed(), &name, end, &mut lines));
+        }
         finish(server, lines);
     }
 
@@ -150,19 +132,19 @@ impl<'a> Fetcher<'a> {
     fn send_next<K: Keep + Drop>(
         &mut self,
         server: &mut Server,
-        feed: &Feed<K>,
-        mut fetch: RunningFetch,
+        node: &mut FeedNode<'_, K>,
+        mut running: RunningExchange,
     ) {
-        match self.try_send_next(server, feed, &mut fetch) {
-            Ok(true) => self.fetch = Some(fetch),
-            Ok(false) => self.end(server, feed, &fetch.name, FetchEnd::Done),
+        match self.try_send_next(server, node, &mut running) {
+            Ok(true) => self.running = Some(running),
+            Ok(false) => self.end(server, node, FetchEnd::Done),
             Err(error) => {
                 let fault = match error.kind() {
                     ErrorKind::OutOfMemory => DialFault::Memory,
                     _ => DialFault::Connect,
                 };
                 let stop = Stop::Request(RequestFault::Dial(fault));
-                self.end(server, feed, &fetch.name, FetchEnd::Stopped(stop));
+                self.end(server, node, FetchEnd::Stopped(stop));
             }
         }
     }
@@ -170,23 +152,26 @@ impl<'a> Fetcher<'a> {
     fn try_send_next<K: Keep + Drop>(
         &self,
         server: &mut Server,
-        feed: &Feed<K>,
-        fetch: &mut RunningFetch,
+        node: &FeedNode<'_, K>,
+        running: &mut RunningExchange,
     ) -> io::Result<bool> {
         let Some(source) = self.source else {
             return Ok(false);
         };
-        let Some(addr) = self.addrs.get(fetch.at) else {
+        let Some(addr) = self.addrs.get(running.at) else {
             return Err(io::Error::from(ErrorKind::NotFound));
         };
-        let Some((method, text)) = next_request(self.rt, feed, fetch, source)? else {
+        let Some(fetching) = node.fetching() else {
             return Ok(false);
         };
-        fetch.exchange = Exchange::new(method, fetch.fetch.piece);
+        let Some((method, text)) = next_request(self.rt, node.feed(), fetching, source)? else {
+            return Ok(false);
+        };
+        running.exchange = Exchange::new(method, fetching.fetch.piece);
         let destination = Destination {
             addr,
             limit: source.limit,
-            reply_limit: fetch.exchange.limit(),
+            reply_limit: running.exchange.limit(),
         };
         server.begin_request(self.rt, destination, text)?;
         Ok(true)
@@ -195,38 +180,42 @@ impl<'a> Fetcher<'a> {
     /// Takes what has arrived of the reply to the last request. Once it is complete, sends the next request of the
     /// fetch. Returns whether the file of the database is still at its path. If not, what was stored is lost, and not
     /// reported.
-    pub fn advance<K: Keep + Drop>(&mut self, server: &mut Server, feed: &mut Feed<K>) -> bool {
-        let Some(mut fetch) = self.fetch.take() else {
+    pub fn advance<K: Keep + Drop>(
+        &mut self,
+        server: &mut Server,
+        node: &mut FeedNode<'_, K>,
+    ) -> bool {
+        let Some(mut running) = self.running.take() else {
             return true;
         };
         let mut lines = self.lines();
-        let step = self.take_arrived(server, feed, &mut fetch, &mut lines);
+        let step = self.take_arrived(server, node, &mut running, &mut lines);
         let lines = lines.into_writer();
         if !lines.is_empty() && !self.file.is_there() {
             return false;
         }
         server.send_to_streams(&lines);
-        self.follow(server, feed, fetch, step);
+        self.follow(server, node, running, step);
         true
     }
 
     fn follow<K: Keep + Drop>(
         &mut self,
         server: &mut Server,
-        feed: &Feed<K>,
-        mut fetch: RunningFetch,
+        node: &mut FeedNode<'_, K>,
+        mut running: RunningExchange,
         step: Step,
     ) {
         match step {
-            Step::Wait | Step::Again => self.fetch = Some(fetch),
-            Step::Send => self.send_next(server, feed, fetch),
+            Step::Wait | Step::Again => self.running = Some(running),
+            Step::Send => self.send_next(server, node, running),
             Step::Retry => {
-                fetch.at = fetch.at.saturating_add(1);
-                self.send_next(server, feed, fetch);
+                running.at = running.at.saturating_add(1);
+                self.send_next(server, node, running);
             }
             Step::End(end) => {
                 let _ = server.take_request();
-                self.end(server, feed, &fetch.name, end);
+                self.end(server, node, end);
             }
         }
     }
@@ -235,15 +224,15 @@ impl<'a> Fetcher<'a> {
     fn take_arrived<K: Keep + Drop>(
         &self,
         server: &mut Server,
-        feed: &mut Feed<K>,
-        fetch: &mut RunningFetch,
+        node: &mut FeedNode<'_, K>,
+        running: &mut RunningExchange,
         lines: &mut Printer<Vec<u8>>,
     ) -> Step {
         let Some(outgoing) = server.outgoing() else {
             return Step::Wait;
         };
         for _ in 0..PARTS {
-            match self.take_next(feed, fetch, outgoing, lines) {
+            match self.take_next(node, running, outgoing, lines) {
                 Step::Again => {}
                 step => return step,
             }
@@ -253,39 +242,39 @@ impl<'a> Fetcher<'a> {
 
     fn take_next<K: Keep + Drop>(
         &self,
-        feed: &mut Feed<K>,
-        fetch: &mut RunningFetch,
+        node: &mut FeedNode<'_, K>,
+        running: &mut RunningExchange,
         outgoing: &mut OutgoingRequest,
         lines: &mut Printer<Vec<u8>>,
     ) -> Step {
         if outgoing.is_over() && !outgoing.has_sent() {
             return Step::Retry;
         }
-        match fetch.exchange.look(outgoing.reply(), outgoing.is_over()) {
+        match running.exchange.look(outgoing.reply(), outgoing.is_over()) {
             Arrival::Unfinished => {
-                outgoing.set_reply_limit(fetch.exchange.limit());
+                outgoing.set_reply_limit(running.exchange.limit());
                 Step::Wait
             }
-            Arrival::Part(part) => take_part(feed, fetch, outgoing, part, lines),
+            Arrival::Part(part) => take_part(node, running, outgoing, part, lines),
             Arrival::Whole { is_new: true } => Step::Send,
             Arrival::Whole { is_new: false } => Step::End(FetchEnd::Stopped(Stop::NoProgress)),
             Arrival::Complete => {
-                let reply = self.parse_reply(fetch.exchange.method(), outgoing);
-                take_reply(feed, fetch, &reply, lines)
+                let reply = self.parse_reply(running.exchange.method(), outgoing);
+                take_reply(node, &reply, lines)
             }
             Arrival::Cut => {
                 let fault = match outgoing.fault() {
                     Some(_) => HttpFault::Read,
                     None => HttpFault::Short,
                 };
-                take_reply(feed, fetch, &Err(RequestFault::Http(fault)), lines)
+                take_reply(node, &Err(RequestFault::Http(fault)), lines)
             }
             Arrival::TooLong(fault) => {
-                take_reply(feed, fetch, &Err(RequestFault::Http(fault)), lines)
+                take_reply(node, &Err(RequestFault::Http(fault)), lines)
             }
             Arrival::NoRanges => {
                 let fault = RequestFault::Http(HttpFault::BodyTooLong);
-                let _ = take_reply(feed, fetch, &Err(fault), lines);
+                let _ = take_reply(node, &Err(fault), lines);
                 Step::End(FetchEnd::NoRanges)
             }
         }
@@ -302,12 +291,11 @@ impl<'a> Fetcher<'a> {
 
 // Takes the reply, or why there is none.
 fn take_reply<K: Keep + Drop>(
-    feed: &mut Feed<K>,
-    fetch: &mut RunningFetch,
+    node: &mut FeedNode<'_, K>,
     reply: &Result<Got, RequestFault>,
     lines: &mut Printer<Vec<u8>>,
 ) -> Step {
-    match fetch.fetch.take(feed, &fetch.name, reply, lines) {
+    match node.take_reply(reply, lines) {
         Ok(()) => Step::Send,
         Err(stop) => Step::End(FetchEnd::Stopped(stop)),
     }
@@ -315,8 +303,8 @@ fn take_reply<K: Keep + Drop>(
 
 // Takes a part of a whole file, and discards its bytes. No more parts are taken once nothing is missing.
 fn take_part<K: Keep + Drop>(
-    feed: &mut Feed<K>,
-    fetch: &mut RunningFetch,
+    node: &mut FeedNode<'_, K>,
+    running: &mut RunningExchange,
     outgoing: &mut OutgoingRequest,
     part: WholePart,
     lines: &mut Printer<Vec<u8>>,
@@ -325,20 +313,21 @@ fn take_part<K: Keep + Drop>(
         return Step::Wait;
     };
     let WholePart { first, length, .. } = part;
-    match fetch
-        .fetch
-        .take_part(feed, &fetch.name, first, length, bytes, lines)
-    {
+    match node.take_part(first, length, bytes, lines) {
         Ok(is_new) => {
             outgoing.discard(part.to);
-            fetch.exchange.pass(part, is_new);
-            if fetch.fetch.next(feed, &fetch.name) == Next::Done {
-                Step::Send
-            } else {
-                Step::Again
-            }
+            running.exchange.pass(part, is_new);
+            if is_done(node) { Step::Send } else { Step::Again }
         }
         Err(stop) => Step::End(FetchEnd::Stopped(stop)),
+    }
+}
+
+// Returns whether nothing is missing of the release that is fetched.
+fn is_done<K: Keep + Drop>(node: &FeedNode<'_, K>) -> bool {
+    match node.fetching() {
+        Some(fetching) => fetching.fetch.next(node.feed(), &fetching.name) == Next::Done,
+        None => true,
     }
 }
 
@@ -346,7 +335,7 @@ fn take_part<K: Keep + Drop>(
 fn next_request<K: Keep + Drop>(
     rt: &HostRuntime,
     feed: &Feed<K>,
-    running: &RunningFetch,
+    fetching: &Fetching,
     source: Source<'_>,
 ) -> Result<Option<(Method, Vec<u8>)>, AllocError> {
     let host = source.addr.as_bytes();
@@ -354,13 +343,14 @@ fn next_request<K: Keep + Drop>(
         return Ok(None);
     }
     let mut text = Vec::new(rt.alloc());
-    let (method, written) = match running.fetch.next(feed, &running.name) {
+    let name = &fetching.name;
+    let (method, written) = match fetching.fetch.next(feed, name) {
         Next::Ask(Request::Length) => {
-            let written = write_head_request(&mut text, host, &running.name);
+            let written = write_head_request(&mut text, host, name);
             (Method::Head, written)
         }
         Next::Ask(Request::Range { first, last }) => {
-            let written = write_request(&mut text, host, &running.name, first, last);
+            let written = write_request(&mut text, host, name, first, last);
             (Method::Get, written)
         }
         Next::Done => return Ok(None),

@@ -1,14 +1,15 @@
 //! Runs a node: the loop that ends only when its sockets, its log or the file of its database fail.
 use crate::access_log::{AccessLog, LogSettings};
-use crate::fetcher::{Fetcher, Source};
+use crate::fetcher::{FeedNode, Fetcher, Source};
 use crate::node_state::{NodeState, TurnFacts};
 use crate::responder::FeedResponder;
 use crate::source_addrs::SourceAddrs;
 use crate::watched_file::WatchedFile;
 use feed_keep::Keep;
-use feed_node_server::{Responders, Server};
+use feed_node_machine::NodeMachine;
+use feed_node_server::Server;
+use feed_node_table::Table;
 use feed_releases::Feed;
-use feed_resolver::keep_releases;
 use feed_resolver_tag::Site;
 use mio::Events;
 use std::io;
@@ -42,57 +43,68 @@ pub struct NodeSetup<'a> {
 
 /// Answers readers from a feed, until the poll or a print fails, or the file of the database is gone as a fetch stores
 /// in it. If there is a source, a client that has the token can have a release fetched from there. Prints the lines of
-/// the log after each turn.
+/// the log after each turn. Returns why the node ends, and the keeper of the feed.
 pub fn run<K: Keep + Drop, O: Write>(
     rt: &HostRuntime,
-    feed: &mut Feed<K>,
+    feed: Feed<K>,
     server: &mut Server,
     setup: NodeSetup<'_>,
     file: WatchedFile<'_>,
     out: &mut O,
-) -> End {
-    let Ok(state) = NodeState::new(rt.alloc()) else {
-        return End::Memory;
+) -> (End, K) {
+    let alloc = rt.alloc();
+    let Ok(state) = NodeState::new(alloc) else {
+        return (End::Memory, feed.restart());
     };
-    let mut site = setup.site;
-    let _ = keep_releases(rt.alloc(), &mut site, feed);
-    let fetcher = Fetcher::new(rt, setup.source, setup.addrs, file, &state);
-    let log = AccessLog::new(rt, out, &state, setup.log);
-    let mut node = RunningNode {
+    let Ok(table) = Table::new(alloc, server.clients()) else {
+        return (End::Memory, feed.restart());
+    };
+    let responder = FeedResponder {
+        state: &state,
+        site: setup.site,
+        version: setup.version.as_bytes(),
+        has_open_reports: setup.log.has_open_reports,
+    };
+    let mut node = NodeMachine::new(alloc, table, feed, responder, token_of(setup.source));
+    let _ = node.keep_releases();
+    let mut running = RunningNode {
         rt,
         state: &state,
-        site,
-        fetcher,
-        log,
-        version: setup.version,
-        has_open_reports: setup.log.has_open_reports,
+        fetcher: Fetcher::new(rt, setup.source, setup.addrs, file, &state),
+        log: AccessLog::new(rt, out, &state, setup.log),
         switched: None,
     };
-    node.run(feed, server)
+    let end = running.run(&mut node, server);
+    (end, node.into_keeper())
 }
 
-// A node that runs.
+// Returns the token that authorizes a fetch.
+fn token_of<'a>(source: Option<Source<'a>>) -> Option<&'a [u8]> {
+    match source {
+        Some(source) => Some(source.token),
+        None => None,
+    }
+}
+
+// What a node that runs has beside its connections and its feed.
 #[derive(Drop)]
 struct RunningNode<'a, O: Write> {
     rt: &'a HostRuntime,
     state: &'a NodeState,
-    site: Site,
     fetcher: Fetcher<'a>,
     log: AccessLog<'a, O>,
-    version: &'a str,
-    has_open_reports: bool,
     /// When the active releases last changed.
     switched: Option<Instant>,
 }
 
 impl<'a, O: Write> RunningNode<'a, O> {
-    fn run<K: Keep + Drop>(&mut self, feed: &mut Feed<K>, server: &mut Server) -> End {
+    fn run<K: Keep + Drop>(&mut self, node: &mut FeedNode<'_, K>, server: &mut Server) -> End {
         let mut events = match server.events() {
             Ok(events) => events,
             Err(_) => return End::Memory,
         };
         for _ in 0..u64::MAX {
-            if let Some(end) = self.turn(feed, server, &mut events) {
+            if let Some(end) = self.turn(node, server, &mut events) {
                 return end;
             }
         }
@@ -102,33 +114,31 @@ impl<'a, O: Write> RunningNode<'a, O> {
     // Runs a turn: the connections, the log, and the fetch that is under way. Returns why the node ends.
     fn turn<K: Keep + Drop>(
         &mut self,
-        feed: &mut Feed<K>,
+        node: &mut FeedNode<'_, K>,
         server: &mut Server,
         events: &mut Events,
     ) -> Option<End> {
-        self.state.begin_turn(self.facts(server));
-        if let Err(fault) = self.answer(feed, server, events) {
+        self.state.begin_turn(self.facts(node.table().bytes_held()));
+        if let Err(fault) = server.turn(self.rt, node, events, &mut self.log) {
             return Some(End::Sockets(fault));
         }
         if let Err(fault) = self.log.flush() {
             return Some(End::Print(fault));
         }
-        let was_busy = self.fetcher.is_busy();
-        if !self.fetcher.advance(server, feed) {
+        let was_busy = node.fetching().is_some();
+        if !self.fetcher.advance(server, node) {
             return Some(End::FileGone);
         }
-        if was_busy && !self.fetcher.is_busy() {
-            self.note_switch(feed);
+        if was_busy && node.fetching().is_none() {
+            self.note_switch(node);
         }
-        if let Some(name) = self.state.take_fetch() {
-            self.fetcher.begin(server, feed, name);
-        }
+        self.fetcher.begin(server, node);
         None
     }
 
-    fn facts(&self, server: &Server) -> TurnFacts {
+    fn facts(&self, held_bytes: usize) -> TurnFacts {
         TurnFacts {
-            held_bytes: server.bytes_held() as u64,
+            held_bytes: held_bytes as u64,
             since_switch: self.since_switch(),
         }
     }
@@ -140,58 +150,10 @@ impl<'a, O: Write> RunningNode<'a, O> {
         Some(now.saturating_duration_since(switched).as_secs())
     }
 
-    fn answer<K: Keep + Drop>(
-        &mut self,
-        feed: &Feed<K>,
-        server: &mut Server,
-        events: &mut Events,
-    ) -> io::Result<()> {
-        let local = FeedResponder {
-            feed,
-            token: self.fetcher.token(),
-            is_busy: self.fetcher.is_busy(),
-            state: self.state,
-            site: &self.site,
-            version: self.version.as_bytes(),
-            has_reports: true,
-        };
-        serve(
-            self.rt,
-            server,
-            events,
-            &mut self.log,
-            local,
-            self.has_open_reports,
-        )
-    }
-
     // Keeps the digest of the active releases, and the time if they have changed.
-    fn note_switch<K: Keep + Drop>(&mut self, feed: &Feed<K>) {
-        let alloc = self.rt.alloc();
-        let before = Vec::from_slice(alloc, self.site.releases().text());
-        let _ = keep_releases(alloc, &mut self.site, feed);
-        if let Ok(before) = before
-            && before.as_slice() != self.site.releases().text()
-        {
+    fn note_switch<K: Keep + Drop>(&mut self, node: &mut FeedNode<'_, K>) {
+        if let Ok(true) = node.keep_releases() {
             self.switched = Instant::now(self.rt).ok();
         }
     }
-}
-
-// Serves the connections. Clients on the same machine may have reports of the node, and others if the settings allow
-// it.
-fn serve<K: Keep + Drop, O: Write>(
-    rt: &HostRuntime,
-    server: &mut Server,
-    events: &mut Events,
-    log: &mut AccessLog<'_, O>,
-    local: FeedResponder<'_, K>,
-    has_open_reports: bool,
-) -> io::Result<()> {
-    let remote = local.with_reports(has_open_reports);
-    let responders = Responders {
-        local: &local,
-        remote: &remote,
-    };
-    server.turn(rt, &responders, events, log)
 }

@@ -1,4 +1,4 @@
-//! The state that the replies and the log of a node share: the release to fetch, and what the node counts.
+//! The state that the replies and the log of a node share: what the node counts.
 ghost use Rattle.std.specs.Prelude.{IfOk, IfSome};
 ghost use Rattle.feed_http_heads.specs.Options.{SaysWhetherItKeeps};
 ghost use Rattle.feed_node_service.specs.Reports.{IsSomeReply};
@@ -6,7 +6,6 @@ ghost use Rattle.feed_node_service.specs.Reports.{IsSomeReply};
 use crate::counts::NodeCounts;
 use feed_metrics::{Gauges, ReleaseTime};
 use feed_monitoring::{Exchange, LogPolicy, ReportReply, record_exchange, respond_about_node};
-use feed_names::{NameFault, ReleaseName};
 use feed_node_server::CloseCause;
 use std::alloc::{AllocError, Global};
 use std::cell::{Cell, RefCell};
@@ -23,8 +22,6 @@ pub struct TurnFacts {
 /// The state that the replies and the log of a node share.
 #[derive(Drop)]
 pub struct NodeState {
-    /// The release that a client asked to fetch, or why its name is invalid.
-    requested: RefCell<Option<Result<ReleaseName, NameFault>>>,
     counts: RefCell<NodeCounts>,
     facts: Cell<TurnFacts>,
 }
@@ -32,43 +29,12 @@ pub struct NodeState {
 impl NodeState {
     pub fn new(alloc: Global) -> Result<NodeState, AllocError> {
         Ok(NodeState {
-            requested: RefCell::new(None),
             counts: RefCell::new(NodeCounts::new(alloc)?),
             facts: Cell::new(TurnFacts {
                 held_bytes: 0,
                 since_switch: None,
             }),
         })
-    }
-
-    /// Records the release to fetch, unless there is one already. Returns whether it did.
-    pub fn request_fetch(&self, name: Result<ReleaseName, NameFault>) -> bool {
-        match self.requested.try_borrow_mut() {
-            Ok(mut requested) => {
-                if requested.is_some() {
-                    return false;
-                }
-                *requested = Some(name);
-                true
-            }
-            Err(_) => false,
-        }
-    }
-
-    /// Returns whether a client has asked to fetch a release in this turn.
-    pub fn is_requested(&self) -> bool {
-        match self.requested.try_borrow() {
-            Ok(requested) => requested.is_some(),
-            Err(_) => true,
-        }
-    }
-
-    /// Takes the release to fetch.
-    pub fn take_fetch(&self) -> Option<Result<ReleaseName, NameFault>> {
-        match self.requested.try_borrow_mut() {
-            Ok(mut requested) => requested.take(),
-            Err(_) => None,
-        }
     }
 
     /// Keeps what the node is at the beginning of a turn.

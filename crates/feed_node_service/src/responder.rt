@@ -1,115 +1,89 @@
 //! The replies of a node to its requests.
-ghost use Rattle.std.specs.Prelude.{◌≡◌, IfOk, IfSome, MatchBool, true};
-ghost use Rattle.feed_releases.specs.Actives.{actives_of};
-ghost use Rattle.feed_releases.specs.Feeds.{releases_of};
+ghost use Rattle.std.specs.Prelude.{◌≡◌, ◌||◌, IfOk, IfSome, MatchBool, true};
+ghost use Rattle.feed_model.specs.History.{History};
+ghost use Rattle.feed_model.specs.Content.{IsContent};
+ghost use Rattle.feed_releases.specs.Feeds.{recorded};
 ghost use Rattle.feed_resolver.specs.NodeReplies.{SaysOfConnection};
 ghost use Rattle.feed_http_heads.specs.Options.{SaysWhetherItKeeps};
-ghost use Rattle.feed_node_service.specs.Reports.{HasNoReport, IsReportIn};
-ghost use Rattle.feed_node_service.specs.Responders.{IsPolicyIn, IsReplyBy, IsTurnReply, response_in};
+ghost use Rattle.feed_node_machine.specs.Occasions.{terms_of};
+ghost use Rattle.feed_node_service.specs.Reports.{may_report, HasNoReport, IsReportIn};
+ghost use Rattle.feed_node_service.specs.Responders.{IsReplyBy, IsTurnReply, response_in};
 
 use crate::node_state::NodeState;
 use crate::release_times::release_times;
 use feed_http_heads::Request;
 use feed_keep::Keep;
 use feed_monitoring::{ReportReply, asks_for_report};
-use feed_node_connection::{BODY_LIMIT, Reply, ReplySummary, Respond, RespondFault};
+use feed_node_connection::{BODY_LIMIT, Reply, ReplySummary, RespondFault};
+use feed_node_machine::{FeedRespond, Occasion};
 use feed_releases::Feed;
-use feed_resolver::{respond_about_feed, respond_as_node};
+use feed_resolver::{keep_releases, respond_about_feed, respond_as_node};
 use feed_resolver_reply::Response;
-use feed_resolver_request::{FetchPolicy, fetch_to_begin, form_length};
+use feed_resolver_request::{fetch_to_begin, form_length};
 use feed_resolver_tag::Site;
 use std::alloc::{AllocError, Global};
 
-/// A responder that replies from a feed.
+/// A responder that replies from the feed of a node.
 #[derive(Drop)]
-pub struct FeedResponder<'a, K: Keep + Drop> {
-    pub feed: &'a Feed<K>,
-    pub token: Option<&'a [u8]>,
-    /// Whether a release is being fetched.
-    pub is_busy: bool,
+pub struct FeedResponder<'a> {
     pub state: &'a NodeState,
     /// What the replies depend on beside the releases.
-    pub site: &'a Site,
+    pub site: Site,
     /// The version of the program.
     pub version: &'a [u8],
-    /// Whether the client may have reports of the node.
-    pub has_reports: bool,
+    /// Whether clients on other machines may have reports of the node, too.
+    pub has_open_reports: bool,
 }
 
-impl<'a, K: Keep + Drop> FeedResponder<'a, K> {
-    /// Returns the same responder for clients that may have reports of the node, or may not.
-    pub fn with_reports(&self, has_reports: bool) -> FeedResponder<'a, K> {
-        FeedResponder {
-            feed: self.feed,
-            token: self.token,
-            is_busy: self.is_busy,
-            state: self.state,
-            site: self.site,
-            version: self.version,
-            has_reports,
-        }
-    }
-
-    // Returns who may make the node fetch now: a fetch that was requested in the same turn excludes another one, too.
-    fn policy(&self) -> FetchPolicy<'a>
-        ensures { IsPolicyIn self.now result }
-    {
-        if self.state.is_requested() {
-            return FetchPolicy {
-                token: self.token,
-                is_busy: true,
-            };
-        }
-        FetchPolicy {
-            token: self.token,
-            is_busy: self.is_busy,
-        }
-    }
-
-    fn response(
+impl<'a> FeedResponder<'a> {
+    fn response<K: Keep + Drop>(
         &self,
         alloc: Global,
+        occasion: &Occasion<'_, '_, K>,
         bytes: &[u8],
         body: &[u8],
         persists: bool,
-        policy: &FetchPolicy<'_>,
     ) -> Result<Response, AllocError>
-        ensures reply { IfOk result (λ response. IsReplyBy self.now.site.now policy.now bytes.now body.now persists
-            (actives_of (releases_of self.now.feed.now)) response) }
+        ensures reply { IfOk result (λ response. (h : History) → IsContent (recorded occasion.now.feed.now) h
+            → IsReplyBy self.now.site occasion.now.policy h bytes.now body.now persists response) }
         ensures says { IfOk result (λ response. SaysOfConnection bytes.now persists response) }
     {
-        match respond_about_feed(alloc, bytes, persists, policy, self.feed)? {
+        let policy = &occasion.policy;
+        let feed = occasion.feed;
+        match respond_about_feed(alloc, bytes, persists, policy, feed)? {
             Some(response) => Ok(response),
             None => {
-                let response = respond_as_node(
-                    alloc, bytes, body, persists, policy, self.site, self.feed,
-                )?;
+                let response =
+                    respond_as_node(alloc, bytes, body, persists, policy, &self.site, feed)?;
                 Ok(response)
             }
         }
     }
 
     // Returns whether the request asks for a reply about the node and the client may have it.
-    fn may_report(&self, bytes: &[u8]) -> bool
-        ensures { MatchBool result (self.now.has_reports ≡ true) (HasNoReport self.now bytes.now) }
+    fn may_report(&self, is_local: bool, bytes: &[u8]) -> bool
+        ensures { MatchBool result ((is_local || self.now.has_open_reports) ≡ true)
+            (HasNoReport self.now is_local bytes.now) }
     {
-        self.has_reports && asks_for_report(bytes)
+        (is_local || self.has_open_reports) && asks_for_report(bytes)
     }
 
     // Returns the reply about the node, if the request asks for one and the client may have it.
-    fn report(
+    fn report<K: Keep + Drop>(
         &self,
         alloc: Global,
+        occasion: &Occasion<'_, '_, K>,
         bytes: &[u8],
         persists: bool,
     ) -> Result<Option<ReportReply>, AllocError>
-        ensures value { IfOk result (IsReportIn self.now bytes.now persists) }
+        ensures value { IfOk result (λ found. (h : History) → IsContent (recorded occasion.now.feed.now) h
+            → IsReportIn self.now occasion.now.is_local h bytes.now persists found) }
         ensures says { IfOk result (λ found. IfSome found (λ reply. SaysWhetherItKeeps persists reply.bytes.items)) }
     {
-        if !self.may_report(bytes) {
+        if !self.may_report(occasion.is_local, bytes) {
             return Ok(None);
         }
-        let actives = self.feed.actives()?;
+        let actives = occasion.feed.actives()?;
         let releases = release_times(alloc, &actives)?;
         self.state
             .report(alloc, bytes, persists, self.version, &releases)
@@ -117,26 +91,21 @@ impl<'a, K: Keep + Drop> FeedResponder<'a, K> {
 
     // Returns the reply to a reader, or to a client that has the token. It is streamed exactly if the request makes the
     // node begin to fetch.
-    fn reader_reply(
+    fn reader_reply<K: Keep + Drop>(
         &self,
         alloc: Global,
+        occasion: &Occasion<'_, '_, K>,
         bytes: &[u8],
         body: &[u8],
         persists: bool,
-    ) -> Result<Reply, RespondFault>
-        ensures turn { IfOk result (λ reply. IsTurnReply self.now bytes.now body.now persists (response_in reply)
+    ) -> Result<Reply, AllocError>
+        ensures turn { IfOk result (λ reply. (h : History) → IsContent (recorded occasion.now.feed.now) h
+            → IsTurnReply self.now.site occasion.now.policy h bytes.now body.now persists (response_in reply)
             reply.summary.is_streamed) }
         ensures says { IfOk result (λ reply. SaysOfConnection bytes.now persists (response_in reply)) }
     {
-        let policy = self.policy();
-        let asked = fetch_to_begin(alloc, bytes, &policy);
-        let is_streamed = asked.is_some();
-        let response = self.response(alloc, bytes, body, persists, &policy)?;
-        if let Some(name) = asked {
-            if !self.state.request_fetch(name) {
-                return Err(RespondFault::Busy);
-            }
-        }
+        let is_streamed = fetch_to_begin(alloc, bytes, &occasion.policy).is_some();
+        let response = self.response(alloc, occasion, bytes, body, persists)?;
         let summary = ReplySummary {
             status: response.status(),
             body_len: response.body_length(),
@@ -150,29 +119,39 @@ impl<'a, K: Keep + Drop> FeedResponder<'a, K> {
     }
 }
 
-impl<'a, K: Keep + Drop> Respond for FeedResponder<'a, K> {
-    ghost use Rattle.std.specs.Prelude.{IfSome};
+impl<'a> FeedRespond for FeedResponder<'a> {
     ghost use Rattle.feed_resolver_request.specs.Forms.{form_length};
     ghost use Rattle.feed_node_service.specs.Responders.{IsTurnText};
 
     ghost wanted = { λ responder head. form_length head };
 
-    ghost replies = { λ responder head body persists reply. IfSome reply (IsTurnText responder head body persists) };
+    ghost replies = { IsTurnText };
 
     fn body_len(&self, request: &Request<'_>) -> usize {
         (form_length(request) as usize).min(BODY_LIMIT)
     }
 
-    fn respond(
+    fn respond<K: Keep + Drop>(
         &self,
         alloc: Global,
+        occasion: &Occasion<'_, '_, K>,
         head: &[u8],
         body: &[u8],
         persists: bool,
     ) -> Result<Reply, RespondFault> {
-        match self.report(alloc, head, persists)? {
+        match self.report(alloc, occasion, head, persists)? {
             Some(reply) => Ok(Reply::new(reply.bytes, reply.status, reply.body_len)),
-            None => self.reader_reply(alloc, head, body, persists),
+            None => Ok(self.reader_reply(alloc, occasion, head, body, persists)?),
         }
+    }
+
+    fn keep_releases<K: Keep + Drop>(
+        &mut self,
+        alloc: Global,
+        feed: &Feed<K>,
+    ) -> Result<bool, AllocError> {
+        let before = Vec::from_slice(alloc, self.site.releases().text())?;
+        keep_releases(alloc, &mut self.site, feed)?;
+        Ok(before.as_slice() != self.site.releases().text())
     }
 }

@@ -9,3 +9,5 @@ pub mod Firsts
 pub mod Records
 pub mod Settled
 pub mod Expired
+pub mod Ended
+pub mod Written

@@ -1,5 +1,5 @@
 -- What the table needs to know of a connection.
-use Rattle.std.specs.Prelude.{◌≡◌, ◌≢◌, ◌≤◌, ◌<◌, ◌+◌, ◌⊎◌, max, ℕ, Bool, true, false, List, ◌++◌, length, Option, Some, None}
+use Rattle.std.specs.Prelude.{◌≡◌, ◌≢◌, ◌≤◌, ◌<◌, ◌+◌, ◌⊎◌, max, ℕ, Bool, true, false, List, ◌++◌, length, take, Option, Some, None}
 use Rattle.feed_node_connection.specs.declared.connection.Connection.{Connection}
 use Rattle.feed_node_connection.specs.declared.streams.Share.{Share}
 use Rattle.feed_node_connection.specs.declared.streams.Progress.{Progress}
@@ -12,6 +12,10 @@ use Rattle.feed_node_connection.specs.Streams.{AreReplies, IsStopped}
 -- the connection has the state that some history determines
 abbrev pub IsConnection : Connection → Type 0
 IsConnection connection = ∥ ((history : List Event) × HasState connection history) ∥₁
+
+-- the bytes of the request whose reply it sends
+abbrev pub request_of : Connection → List ℕ
+request_of connection = take connection.request_len connection.received.items
 
 -- the number of bytes of its reply that are not yet sent
 abbrev pub unsent_bytes : Connection → ℕ

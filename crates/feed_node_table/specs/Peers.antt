@@ -5,7 +5,7 @@ use Rattle.feed_node_connection.specs.declared.connection.Connection.{Connection
 use Rattle.feed_node_connection.specs.declared.connection.Wants.TheVariants as wants
 use Rattle.feed_node_connection.specs.declared.streams.Progress.{Progress}
 use Rattle.feed_node_connection.specs.declared.streams.Progress.TheVariants.{Blocked}
-use Rattle.feed_node_connection.specs.Events.{Event, Resumed}
+use Rattle.feed_node_connection.specs.Events.{Event, Elapsed, Resumed}
 use Rattle.feed_node_connection.specs.States.{HasState, is_idle_in, is_reply_sent_in, limit_in, rest_of, wants_in}
 use Rattle.feed_node_table.specs.declared.log.CloseCause.{CloseCause}
 use Rattle.feed_node_table.specs.declared.peer.Outcome.{Outcome}
@@ -54,6 +54,15 @@ module _ {T : Type 0} where
   IsLate peer now =
       (wants_in peer.connection.phase ≢ wants.Close)
       × (limit_in (is_idle_in peer.connection.phase) peer.connection.limits ≤ peer.connection.elapsed + (now - peer.clock) / 1000)
+
+  -- the milliseconds up to now that the connection's clock has not counted
+  abbrev pub millis_of : Peer T → ℕ → ℕ
+  millis_of peer now = (now - peer.clock) / 1000
+
+  -- its clock was advanced to now
+  abbrev pub HasElapsed : ℕ → Peer T → Peer T → Type 0
+  HasElapsed now old new =
+      (history : List Event) → HasState old.connection history → HasState new.connection (Elapsed (millis_of old now) ∷ history)
 
   module _ {L : Type 0} (records : L → Entry → L → Type 0) where
     -- what follows a share of a turn, by how that ended. The connection waits for its stream, or has more to do; the log

@@ -15,7 +15,7 @@ use Rattle.feed_node_table.specs.declared.table.Table.{Table}
 use Rattle.feed_node_table.specs.Connections.{HasServed}
 use Rattle.feed_node_table.specs.Lists.{IsListed, KeepsBefore}
 use Rattle.feed_node_table.specs.Logs.{Entry, Closed, HasRecorded}
-use Rattle.feed_node_table.specs.Peers.{micros_of, over_in, unsent_in, IsFollowed, IsLate}
+use Rattle.feed_node_table.specs.Peers.{micros_of, over_in, unsent_in, HasElapsed, IsFollowed, IsLate}
 
 -- the connection has more to do
 abbrev pub has_more : Outcome → Bool
@@ -81,6 +81,21 @@ module _ {T : Type 0} where
   pub record IsExpired (now : ℕ) (old new : Table T) : Type 0 where
     pub late : (key : ℕ) (peer : Peer T) → peer_at old key ≡ Some peer → IsLate peer now → peer_at new key ≡ None
     pub kept : (key : ℕ) (peer : Peer T) → peer_at old key ≡ Some peer → ¬ (IsLate peer now) → IsSome (peer_at new key)
+
+  -- if there is a connection with this key, it was there before, and its clock was advanced
+  abbrev pub IsElapsedAt : ℕ → ℕ → Table T → Table T → Type 0
+  IsElapsedAt now key old new =
+      (peer : Peer T) → peer_at new key ≡ Some peer → (was : Peer T) × (peer_at old key ≡ Some was) × HasElapsed now was peer
+
+  -- no connection was added, and the clocks of those that remain were advanced
+  abbrev pub AreElapsed : ℕ → Table T → Table T → Type 0
+  AreElapsed now old new = (key : ℕ) → IsElapsedAt now key old new
+
+  -- no connection was added, and those that remain are as they were
+  abbrev pub KeepsConnections : Table T → Table T → Type 0
+  KeepsConnections old new =
+      (key : ℕ) (peer : Peer T) → peer_at new key ≡ Some peer
+      → (was : Peer T) × (peer_at old key ≡ Some was) × (peer.connection ≡ was.connection)
 
   -- the connection with this key is closed to make room: none is closed before it
   pub record IsFirstToClose (table : Table T) (key : ℕ) : Type 0 where

@@ -1,8 +1,8 @@
 //! A connection with its stream and its times.
-ghost use Rattle.std.specs.Prelude.{◌≡◌, ◌≢◌, ◌≤◌, ◌+◌, ◌⊎◌, max, ℕ, List, true, false};
+ghost use Rattle.std.specs.Prelude.{◌≡◌, ◌≢◌, ◌≤◌, ◌+◌, ◌⊎◌, max, ℕ, List, [], true, false, IfSome};
 ghost use Rattle.feed_node_connection.specs.Events.{Event};
 ghost use Rattle.feed_node_connection.specs.States.{HasState, is_reply_sent_in, wants_in};
-ghost use Rattle.feed_node_table.specs.Connections.{HasServed, IsConnection, IsGiven, unsent_bytes};
+ghost use Rattle.feed_node_table.specs.Connections.{HasServed, IsConnection, IsGiven, request_of, unsent_bytes};
 ghost use Rattle.feed_node_table.specs.Logs.{HasRecorded, Replied};
 
 use crate::log::{CloseCause, Log};
@@ -45,7 +45,8 @@ pub(crate) struct Peer<T> {
 }
 
 impl<T: Stream> Peer<T> {
-    ghost use Rattle.feed_node_table.specs.Peers.{begins_stream, cause_of, micros_of, HasResumed, IsFollowed, IsLate};
+    ghost use Rattle.feed_node_table.specs.Peers.{begins_stream, cause_of, micros_of, HasElapsed, HasResumed};
+    ghost use Rattle.feed_node_table.specs.Peers.{IsFollowed, IsLate};
 
     /// Returns a connection that was accepted now.
     pub(crate) fn new(
@@ -57,6 +58,7 @@ impl<T: Stream> Peer<T> {
     ) -> Peer<T>
         ensures addr { result.addr ≡ addr }
         ensures stream { result.stream ≡ stream }
+        ensures state { HasState result.connection [] }
         ensures unsent { unsent_bytes result.connection ≡ 0 }
     {
         Peer {
@@ -75,6 +77,21 @@ impl<T: Stream> Peer<T> {
         ensures { result ≡ unsent_bytes self.now.connection }
     {
         self.connection.pending_reply().len()
+    }
+
+    /// Returns the request whose reply is streamed, from when the reply is made.
+    pub(crate) fn streamed_request(&self) -> Option<&[u8]>
+        ensures { IfSome result (λ bytes. bytes.now ≡ request_of self.now.connection) }
+    {
+        let is_streamed = match self.connection.summary() {
+            Some(summary) => summary.is_streamed,
+            None => false,
+        };
+        if is_streamed {
+            Some(self.connection.request_bytes())
+        } else {
+            None
+        }
     }
 
     /// Returns the microseconds that its reply took up to now, or its last one if that was sent whole.
@@ -130,6 +147,7 @@ impl<T: Stream> Peer<T> {
         ensures less { unsent_bytes self.new.connection ≤ unsent_bytes self.old.connection }
         ensures late { result ≡ true → IsLate self.old now }
         ensures in_time { result ≡ false → ¬ (IsLate self.old now) }
+        ensures elapsed { HasElapsed now self.old self.new }
     {
         if self.is_over() {
             return false;

@@ -33,16 +33,17 @@ pub struct Table<T> {
 }
 
 impl<T: Stream> Table<T> {
-    ghost use Rattle.feed_node_connection.specs.States.{is_closed_before};
+    ghost use Rattle.feed_node_connection.specs.States.{is_closed_before, HasState};
     ghost use Rattle.feed_node_table.specs.Logs.{Accepted, HasRecorded};
     ghost use Rattle.feed_node_table.specs.Tables.{peer_at, size_of, bytes_held, ready_keys, IsReady, KeepsOthers};
     ghost use Rattle.feed_node_table.specs.Tables.{KeepsReady};
     ghost use Rattle.feed_node_table.specs.declared.peer.Peer.{Peer};
-    ghost use Rattle.feed_node_table.specs.Connections.{AreWithin, short_len};
+    ghost use Rattle.feed_node_table.specs.Connections.{AreWithin, request_of, short_len};
     ghost use Rattle.feed_node_table.specs.Peers.{cause_of, IsFollowed, IsLate};
     ghost use Rattle.feed_node_table.specs.Tables.{IsFirstToClose, IsFirstBelow, IsRemoved, HasClosed, IsSettled};
     ghost use Rattle.feed_node_table.specs.Tables.{has_room_in, over_bytes, unsent_limit};
-    ghost use Rattle.feed_node_table.specs.Tables.{IsExpired, IsServed, IsWithin};
+    ghost use Rattle.feed_node_table.specs.Tables.{AreElapsed, IsElapsedAt, IsExpired, IsServed, IsWithin};
+    ghost use Rattle.feed_node_table.specs.Tables.{KeepsConnections};
 
     /// Returns an empty table for at most this many connections, with the memory for all of them.
     pub fn new(alloc: Global, clients: usize) -> Result<Table<T>, AllocError>
@@ -111,6 +112,7 @@ impl<T: Stream> Table<T> {
         requires { size_of self.old < self.old.clients }
         ensures vacant { peer_at self.old result ≡ None }
         ensures added { IsSomeAnd (peer_at self.new result) (λ peer. peer.addr ≡ addr) }
+        ensures fresh { IsSomeAnd (peer_at self.new result) (λ peer. HasState peer.connection []) }
         ensures others { KeepsOthers result self.old self.new }
         ensures size { size_of self.new ≡ size_of self.old + 1 }
         ensures held { bytes_held self.new ≡ bytes_held self.old }
@@ -126,6 +128,7 @@ impl<T: Stream> Table<T> {
 
     /// Registers the stream of a connection for events under its key. Returns whether that succeeded.
     pub fn register(&mut self, key: usize, registry: &T::Registry) -> bool
+        ensures connections { KeepsConnections self.old self.new }
         ensures others { KeepsOthers key self.old self.new }
         ensures size { size_of self.new ≡ size_of self.old }
         ensures held { bytes_held self.new ≡ bytes_held self.old }
@@ -247,6 +250,7 @@ impl<T: Stream> Table<T> {
             self.old self.new }
         ensures within { (longest : ℕ) → AreWithin (S.wanted responder.now, S.replies responder.now) longest
             → IsWithin longest self.old → IsWithin longest self.new }
+        ensures absent { peer_at self.old key ≡ None → peer_at self.new key ≡ None }
         ensures others { KeepsOthers key self.old self.new }
         ensures size { size_of self.new ≡ size_of self.old }
         ensures clients { self.new.clients ≡ self.old.clients }
@@ -274,6 +278,7 @@ impl<T: Stream> Table<T> {
     ) -> Outcome
         ensures followed { (peer : Peer T) → peer_at self.old key ≡ Some peer → (next : Peer T)
             × (peer_at self.new key ≡ Some next) × IsFollowed L.records result progress now peer next log.old log.new }
+        ensures absent { peer_at self.old key ≡ None → peer_at self.new key ≡ None }
         ensures others { KeepsOthers key self.old self.new }
         ensures size { size_of self.new ≡ size_of self.old }
         ensures clients { self.new.clients ≡ self.old.clients }
@@ -304,6 +309,17 @@ impl<T: Stream> Table<T> {
         let _ = self.remove(key, cause, now, log);
     }
 
+    /// Returns the request of a connection whose reply is streamed, from when the reply is made.
+    pub fn streamed_request(&self, key: usize) -> Option<&[u8]>
+        ensures { IfSome result (λ bytes. IsSomeAnd (peer_at self.now key)
+            (λ peer. bytes.now ≡ request_of peer.connection)) }
+    {
+        match self.peers.get(key) {
+            Some(peer) => peer.streamed_request(),
+            None => None,
+        }
+    }
+
     /// Does what follows `advance`, by how that ended: records a reply that was sent, marks the connection as ready if
     /// it has more to do, and removes it if it is over. A reply that was sent ended now.
     pub fn settle<L: Log>(
@@ -313,7 +329,8 @@ impl<T: Stream> Table<T> {
         now: u64,
         log: &mut L,
     ) -> Outcome
-        ensures { IsSettled L.records key progress now result self.old self.new log.old log.new }
+        ensures settled { IsSettled L.records key progress now result self.old self.new log.old log.new }
+        ensures absent { peer_at self.old key ≡ None → peer_at self.new key ≡ None }
     {
         let outcome = self.settle_peer(key, progress, now, log);
         match outcome {
@@ -340,6 +357,7 @@ impl<T: Stream> Table<T> {
         ensures in_time { (peer : Peer T) → peer_at self.old key ≡ Some peer → result ≡ false
             → (¬ (IsLate peer now)) × IsSome (peer_at self.new key) }
         ensures there { result ≡ true → IsSome (peer_at self.new key) }
+        ensures elapsed { IsElapsedAt now key self.old self.new }
         ensures others { KeepsOthers key self.old self.new }
         ensures size { size_of self.new ≡ size_of self.old }
         ensures clients { self.new.clients ≡ self.old.clients }
@@ -364,6 +382,7 @@ impl<T: Stream> Table<T> {
             → peer_at self.new key ≡ None }
         ensures kept { (peer : Peer T) → peer_at self.old key ≡ Some peer → ¬ (IsLate peer now)
             → IsSome (peer_at self.new key) }
+        ensures elapsed { IsElapsedAt now key self.old self.new }
     {
         if self.advance_clock_of(key, now) {
             self.close(key, CloseCause::TimedOut, now, log);
@@ -373,6 +392,7 @@ impl<T: Stream> Table<T> {
     /// Advances the clocks of all connections, and removes those that are out of time.
     pub fn advance_clock<L: Log>(&mut self, now: u64, log: &mut L)
         ensures expired { IsExpired now self.old self.new }
+        ensures elapsed { AreElapsed now self.old self.new }
         ensures closed { HasClosed L.records CloseCause.TimedOut self.old self.new log.old log.new }
     {
         for key in 0..self.peers.capacity() {

@@ -1,6 +1,4 @@
 use Rattle.std.proofs.Common.{rules, subst}
-use Rattle.feed_releases.specs.Actives.{actives_of}
-use Rattle.feed_releases.specs.Feeds.{releases_of}
 use Rattle.feed_resolver.specs.NodeReplies.{SaysOfConnection}
 use Rattle.feed_resolver_reply.specs.Replies.{ResponseValue}
 use Rattle.feed_node_service.specs.Responders.{IsReplyBy}
@@ -8,13 +6,11 @@ use Rattle.feed_node_service.proofs.Turns.{same_response}
 use Rattle.feed_node_service.proofs.responder.FeedResponder.reader_reply.Goals as goal
 
 pub returns-clause-turn : goal.returns-clause-turn
-returns-clause-turn g c = (
-  c.policy-policy.result,
-  c.policy-policy.ensures,
-  subst (λ (r : ResponseValue). IsReplyBy c.args.self.now.site.now c.policy-policy.result c.args.bytes.now c.args.body.now c.args.persists (actives_of (releases_of c.args.self.now.feed.now)) r)
+returns-clause-turn g c = λ h is. (
+  subst (λ (r : ResponseValue). IsReplyBy c.args.self.now.site c.args.occasion.now.policy h c.args.bytes.now c.args.body.now c.args.persists r)
       (same_response c.in_ok-response.response c.into_bytes.result.items c.status.result c.body_length.result c.into_bytes.ensures c.status.ensures c.body_length.ensures)
-      c.in_ok-response.ensures.reply,
-  (c.fetch_to_begin-asked.result, c.fetch_to_begin-asked.ensures, search rules),
+      (c.in_ok-response.ensures.reply h is),
+  (c.fetch_to_begin.result, c.fetch_to_begin.ensures, search rules),
 )
 
 pub returns-clause-says : goal.returns-clause-says

@@ -1,6 +1,7 @@
 use Rattle.std.proofs.Common.{◌≡◌, IsSome, arith, refl, sym, subst}
 use Rattle.slab.proofs.SlabLemmas.{Updates-with_value}
 use Rattle.feed_node_table.proofs.Invariants.{counted_after_less, known_after_write, less_is_within, over_after_write}
+use Rattle.feed_node_table.proofs.Written.{elapsed_written}
 use Rattle.feed_node_table.proofs.table.Table.advance_clock_of.Goals as goal
 
 pub overflow_sub-freed : goal.overflow_sub-freed
@@ -23,3 +24,8 @@ invariant_of-self-2-clause-known g c =
 
 pub returns-clause-over : goal.returns-clause-over
 returns-clause-over g c = over_after_write c.args.self.now.peers.slots c.args.key c.in-Some.peer.now c.advance_clock-is_late.new.self (sym c.in-Some.ensures.value) c.advance_clock-is_late.ensures.less
+
+pub returns-clause-elapsed : goal.returns-clause-elapsed
+returns-clause-elapsed g c = λ peer is.
+    elapsed_written c.args.self.now.peers c.args.key c.in-Some.peer.now c.advance_clock-is_late.new.self (sym c.in-Some.ensures.value) c.args.now
+    c.advance_clock-is_late.ensures.elapsed peer is

@@ -1,7 +1,7 @@
 use Rattle.std.proofs.Common.{◌≡◌, ◌∙◌, refl, ap}
 use Rattle.feed_node_table.specs.declared.log.CloseCause.TheVariants.{TimedOut}
 use Rattle.feed_node_table.proofs.Records.{closed_none, closed_both, closed_removed, recorded_none}
-use Rattle.feed_node_table.proofs.Expired.{peer_there}
+use Rattle.feed_node_table.proofs.Expired.{peer_there, never_both}
 use Rattle.feed_node_table.proofs.table.Table.expire.Goals as goal
 
 pub returns-then-advance_clock_of-clause-closed : goal.returns-then-advance_clock_of-clause-closed
@@ -21,3 +21,8 @@ pub returns-then-advance_clock_of-clause-late : goal.returns-then-advance_clock_
 returns-then-advance_clock_of-clause-late g c = λ peer is late.
     let it = peer_there c.advance_clock_of.new.self c.args.key (c.advance_clock_of.ensures.there c.if-advance_clock_of.true) in
     (c.close.ensures.removed it.0 it.1).gone
+
+pub returns-then-advance_clock_of-clause-elapsed : goal.returns-then-advance_clock_of-clause-elapsed
+returns-then-advance_clock_of-clause-elapsed g c = λ peer is.
+    let it = peer_there c.advance_clock_of.new.self c.args.key (c.advance_clock_of.ensures.there c.if-advance_clock_of.true) in
+    absurd (never_both peer c.close.new.self c.args.key (c.close.ensures.removed it.0 it.1).gone is)

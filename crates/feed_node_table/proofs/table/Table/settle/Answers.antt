@@ -6,8 +6,8 @@ use Rattle.feed_node_table.proofs.Records.{closed_none}
 use Rattle.feed_node_table.proofs.Settled.{IsNext, settled_still, settled_ready, settled_over}
 use Rattle.feed_node_table.proofs.table.Table.settle.Goals as goal
 
-pub returns-in-Waits : goal.returns-in-Waits
-returns-in-Waits g c =
+pub returns-in-Waits-clause-settled : goal.returns-in-Waits-clause-settled
+returns-in-Waits-clause-settled g c =
     settled_still g.L.Log.records c.args.key c.args.progress c.args.now Waits c.args.self.now c.settle_peer-outcome.new.self c.args.log.now c.settle_peer-outcome.new.log refl
     c.settle_peer-outcome.ensures.others (ap (λ set. set.keys.items) c.settle_peer-outcome.ensures.ready)
     (closed_none g.L.Log.records PeerClosed c.args.self.now c.settle_peer-outcome.new.self c.args.log.now c.settle_peer-outcome.new.log c.settle_peer-outcome.ensures.recorded
@@ -15,8 +15,8 @@ returns-in-Waits g c =
     (subst (λ o. IsNext g.L.Log.records c.args.key c.args.progress c.args.now o c.args.self.now c.settle_peer-outcome.new.self c.args.log.now c.settle_peer-outcome.new.log)
     c.in-Waits.is c.settle_peer-outcome.ensures.followed)
 
-pub returns-in-Streams : goal.returns-in-Streams
-returns-in-Streams g c =
+pub returns-in-Streams-clause-settled : goal.returns-in-Streams-clause-settled
+returns-in-Streams-clause-settled g c =
     settled_still g.L.Log.records c.args.key c.args.progress c.args.now Streams c.args.self.now c.settle_peer-outcome.new.self c.args.log.now c.settle_peer-outcome.new.log refl
     c.settle_peer-outcome.ensures.others (ap (λ set. set.keys.items) c.settle_peer-outcome.ensures.ready)
     (closed_none g.L.Log.records PeerClosed c.args.self.now c.settle_peer-outcome.new.self c.args.log.now c.settle_peer-outcome.new.log c.settle_peer-outcome.ensures.recorded
@@ -24,8 +24,8 @@ returns-in-Streams g c =
     (subst (λ o. IsNext g.L.Log.records c.args.key c.args.progress c.args.now o c.args.self.now c.settle_peer-outcome.new.self c.args.log.now c.settle_peer-outcome.new.log)
     c.in-Streams.is c.settle_peer-outcome.ensures.followed)
 
-pub returns-in-Ready : goal.returns-in-Ready
-returns-in-Ready g c =
+pub returns-in-Ready-clause-settled : goal.returns-in-Ready-clause-settled
+returns-in-Ready-clause-settled g c =
     settled_ready g.L.Log.records c.args.key c.args.progress c.args.now Ready c.args.self.now c.settle_peer-outcome.new.self c.mark_ready.new.self c.args.log.now c.settle_peer-outcome.new.log
     c.settle_peer-outcome.ensures.others (ap (λ set. set.keys.items) c.settle_peer-outcome.ensures.ready)
     (closed_none g.L.Log.records PeerClosed c.args.self.now c.settle_peer-outcome.new.self c.args.log.now c.settle_peer-outcome.new.log c.settle_peer-outcome.ensures.recorded
@@ -36,8 +36,8 @@ returns-in-Ready g c =
     (next.0, ap (λ slab. get slab c.args.key) c.mark_ready.ensures.peers ∙ next.1, next.2))
     c.mark_ready.ensures.peers c.mark_ready.ensures.clients c.mark_ready.ensures.ready c.mark_ready.ensures.marked
 
-pub returns-in-Resumed : goal.returns-in-Resumed
-returns-in-Resumed g c =
+pub returns-in-Resumed-clause-settled : goal.returns-in-Resumed-clause-settled
+returns-in-Resumed-clause-settled g c =
     settled_ready g.L.Log.records c.args.key c.args.progress c.args.now Resumed c.args.self.now c.settle_peer-outcome.new.self c.mark_ready-in-Resumed.new.self
     c.args.log.now c.settle_peer-outcome.new.log
     c.settle_peer-outcome.ensures.others (ap (λ set. set.keys.items) c.settle_peer-outcome.ensures.ready)
@@ -49,8 +49,8 @@ returns-in-Resumed g c =
     (next.0, ap (λ slab. get slab c.args.key) c.mark_ready-in-Resumed.ensures.peers ∙ next.1, next.2))
     c.mark_ready-in-Resumed.ensures.peers c.mark_ready-in-Resumed.ensures.clients c.mark_ready-in-Resumed.ensures.ready c.mark_ready-in-Resumed.ensures.marked
 
-pub returns-in-Over : goal.returns-in-Over
-returns-in-Over g c =
+pub returns-in-Over-clause-settled : goal.returns-in-Over-clause-settled
+returns-in-Over-clause-settled g c =
     settled_over g.L.Log.records c.args.key c.args.progress c.args.now c.args.self.now c.settle_peer-outcome.new.self c.close.new.self c.args.log.now c.settle_peer-outcome.new.log c.close.new.log
     c.settle_peer-outcome.ensures.others (ap (λ set. set.keys.items) c.settle_peer-outcome.ensures.ready)
     (closed_none g.L.Log.records PeerClosed c.args.self.now c.settle_peer-outcome.new.self c.args.log.now c.settle_peer-outcome.new.log c.settle_peer-outcome.ensures.recorded

@@ -1,0 +1,220 @@
+-- The history of a node's feed: what it knows of a release stays, and agrees with the published file.
+use Rattle.std.proofs.Common.{◌≡◌, ◌<◌, ◌≤◌, ◌+◌, ◌-◌, ℕ, zero, suc, Bool, true, false, ◌≤ℤ◌, cond, nat_le, List, [], ◌∷◌, ◌++◌, length, take, drop}
+use Rattle.std.proofs.Common.{Option, Some, None, Result, Ok, Err, slice_get, refl, sym, ◌∙◌, ap, subst, arith}
+use Rattle.std.specs.Prelude.{All, slice_range}
+use Rattle.std.specs.List.{AllByRecursion}
+use Rattle.std.proofs.lemmas.List.Elements.{recursion_from_All}
+use Rattle.std.proofs.lemmas.Bool.Decides.{nat_tests}
+use Rattle.feed_names.specs.ReleaseName.{Name, name_eq}
+use Rattle.feed_model.specs.History.{Event, Offered, Piece, Lost, History, Answer, is_noted, is_taken, or_else, byte_at, size_of, kept, IsFile, IsGood, Reports}
+use Rattle.feed_model.specs.Reply.{IsRight, IsLegal}
+use Rattle.feed_model.proofs.Names.{name_is}
+use Rattle.feed_model.proofs.Limits.{noted_by, unsized}
+use Rattle.feed_http.specs.declared.fetching.got.Got.{Got}
+use Rattle.feed_http.specs.declared.fetching.got.Got.TheVariants as got
+use Rattle.feed_fetch.specs.declared.machine.Phase.{Phase}
+use Rattle.feed_fetch.specs.declared.machine.Phase.TheVariants as phases
+use Rattle.feed_fetch.specs.declared.stop.RequestFault.{RequestFault}
+use Rattle.feed_fetch.specs.Steps.{IsReplyEvent}
+use Rattle.feed_node_machine.specs.NodeEvents.{NodeEvent, Accepted, Served, Passed, Asked, Took, TookPart, Reopened, feed_history, IsMoment}
+use Rattle.feed_node_machine.specs.Rules.{AreGiven}
+use Rattle.feed_node_machine.specs.Promise.{AgreeWith, IsOfFile, AreOfFiles, FilesArePublished, NeverOlder}
+
+-- ---- what is known of a release stays
+
+record Keeps (h k : History) : Type 0 where
+  size : (n : Name) (s : ℕ) → size_of h n ≡ Some s → size_of k n ≡ Some s
+  bytes : (n : Name) (place b : ℕ) → kept h n place ≡ Some b → kept k n place ≡ Some b
+
+keeps_all : (h : History) → Keeps h h
+keeps_all h = record { size = λ n s e. e; bytes = λ n place b e. e }
+
+keeps_on : (h k l : History) → Keeps h k → Keeps k l → Keeps h l
+keeps_on h k l x y = record { size = λ n s e. y.size n s (x.size n s e); bytes = λ n place b e. y.bytes n place b (x.bytes n place b e) }
+
+-- a release that has a size is not recorded again
+keeps_more : (h : History) (e : Event) (a : Answer) → IsRight h e a → Keeps h ((e, a) ∷ h)
+keeps_more h (Offered m s) a right = record { size = λ n q. by n q (is_noted a) (name_eq m n) refl refl; bytes = λ n place b e. e }
+  where
+    by : (n : Name) (q : ℕ) (x y : Bool) → is_noted a ≡ x → name_eq m n ≡ y → size_of h n ≡ Some q → size_of ((Offered m s, a) ∷ h) n ≡ Some q
+    by n q true true u v e =
+        let none : size_of h n ≡ None = subst (λ (z : Name). size_of h z ≡ None) (name_is m n v) (unsized h m s (noted_by h m s a u right)) in
+        absurd (let w : None ≡ Some q = sym none ∙ e in cc)
+    by n q true false u v e = rw (u, v) e
+    by n q false y u v e = rw u e
+keeps_more h (Piece m f total bs) a right = record { size = λ n s e. e; bytes = λ n place b. by n place b (is_taken a) (name_eq m n) refl refl }
+  where
+    by : (n : Name) (place b : ℕ) (x y : Bool) → is_taken a ≡ x → name_eq m n ≡ y → kept h n place ≡ Some b → kept ((Piece m f total bs, a) ∷ h) n place ≡ Some b
+    by n place b true true u v e = rw (u, v, e) refl
+    by n place b true false u v e = rw (u, v) e
+    by n place b false y u v e = rw u e
+keeps_more h (Lost m) a right = record { size = λ n s e. e; bytes = λ n place b e. e }
+
+legal_before : (steps h : History) → IsLegal (steps ++ h) → IsLegal h
+legal_before [] h legal = legal
+legal_before ((event, answer) ∷ steps) h legal = legal_before steps h legal.1
+
+keeps_steps : (steps h : History) → IsLegal (steps ++ h) → Keeps h (steps ++ h)
+keeps_steps [] h legal = keeps_all h
+keeps_steps ((event, answer) ∷ steps) h legal =
+    keeps_on h (steps ++ h) (((event, answer) ∷ steps) ++ h) (keeps_steps steps h legal.1) (keeps_more (steps ++ h) event answer legal.0)
+
+keeps_moment : (later moment : List NodeEvent) → IsLegal (feed_history (later ++ moment)) → Keeps (feed_history moment) (feed_history (later ++ moment))
+keeps_moment [] moment legal = keeps_all (feed_history moment)
+keeps_moment (Accepted key ∷ later) moment legal = keeps_moment later moment legal
+keeps_moment (Served key share ∷ later) moment legal = keeps_moment later moment legal
+keeps_moment (Passed millis ∷ later) moment legal = keeps_moment later moment legal
+keeps_moment (Asked key bytes name ∷ later) moment legal = keeps_moment later moment legal
+keeps_moment (Took name phase reply steps ∷ later) moment legal =
+    let h = feed_history (later ++ moment) in
+    keeps_on (feed_history moment) h (steps ++ h) (keeps_moment later moment (legal_before steps h legal)) (keeps_steps steps h legal)
+keeps_moment (TookPart name first size bytes answer ∷ later) moment legal =
+    let h = feed_history (later ++ moment) in
+    keeps_on (feed_history moment) h ((Piece name first (Some size) bytes, answer) ∷ h) (keeps_moment later moment legal.1)
+    (keeps_more h (Piece name first (Some size) bytes) answer legal.0)
+keeps_moment (Reopened ∷ later) moment legal = keeps_moment later moment legal
+
+get_some : (xs : List ℕ) (i : ℕ) → i < length xs → (x : ℕ) × (slice_get xs i ≡ Some x)
+get_some [] i lt = absurd (omega arith)
+get_some (y ∷ ys) zero lt = (y, refl)
+get_some (y ∷ ys) (suc i) lt = get_some ys i (omega arith)
+
+file_kept : (h k : History) (n : Name) (text : List ℕ) → Keeps h k → IsFile h n text → IsFile k n text
+file_kept h k n text s f = (s.size n (length text) f.0, λ place lt. (let g = get_some text place lt in s.bytes n place g.0 (f.1 place lt ∙ g.1) ∙ sym g.1))
+
+good_kept : (h k : History) (n : Name) → Keeps h k → IsGood h n → IsGood k n
+good_kept h k n s g = (g.0, file_kept h k n g.0 s g.1, g.2)
+
+later_report : (h k : History) (stem : List ℕ) (n : Name) (report : Option Name) → Keeps h k → Reports h stem (Some n) → Reports k stem report
+    → (m : Name) × (report ≡ Some m) × (m.stem ≡ stem) × (n.day ≤ℤ m.day)
+later_report h k stem n None s x y = absurd (y n x.0 (good_kept h k n s x.1.0))
+later_report h k stem n (Some m) s x y = (m, refl, y.0, y.1.1 n (x.0 ∙ sym y.0) (good_kept h k n s x.1.0))
+
+-- no report names an older release than one before
+pub never_older : (history : List NodeEvent) → IsLegal (feed_history history) → NeverOlder history
+never_older history legal moment stem n report (later, is) before now =
+    let kept_so : Keeps (feed_history moment) (feed_history history) = subst (λ (all : List NodeEvent). Keeps (feed_history moment) (feed_history all)) is
+    (keeps_moment later moment (subst (λ (all : List NodeEvent). IsLegal (feed_history all)) (sym is) legal)) in
+    later_report (feed_history moment) (feed_history history) stem n report kept_so before now
+
+-- ---- what is known of a release agrees with the published file
+
+record IsOver (file : Name → List ℕ) (h : History) : Type 0 where
+  size : (n : Name) (s : ℕ) → size_of h n ≡ Some s → s ≡ length (file n)
+  bytes : (n : Name) (place b : ℕ) → kept h n place ≡ Some b → slice_get (file n) place ≡ Some b
+
+abbrev IsTrueOf : (Name → List ℕ) → Event → Type 0
+IsTrueOf file (Offered n s) = s ≡ length (file n)
+IsTrueOf file (Piece n first total bytes) = AgreeWith (file n) first bytes
+IsTrueOf file (Lost n) = Unit {0}
+
+over_more : (file : Name → List ℕ) (h : History) (e : Event) (a : Answer) → IsOver file h → IsTrueOf file e → IsOver file ((e, a) ∷ h)
+over_more file h (Offered m s) a o t = record { size = λ n q. by n q (is_noted a) (name_eq m n) refl refl; bytes = o.bytes }
+  where
+    by : (n : Name) (q : ℕ) (x y : Bool) → is_noted a ≡ x → name_eq m n ≡ y → size_of ((Offered m s, a) ∷ h) n ≡ Some q → q ≡ length (file n)
+    by n q true true u v e = let w : Some s ≡ Some q = rw (u, v) at e in let same : s ≡ q = cc in sym same ∙ t ∙ ap (λ (z : Name). length (file z)) (name_is m n v)
+    by n q true false u v e = o.size n q (rw (u, v) at e)
+    by n q false y u v e = o.size n q (rw u at e)
+over_more file h (Piece m f total bs) a o t = record { size = o.size; bytes = λ n place b. by n place b (is_taken a) (name_eq m n) refl refl }
+  where
+    first : (n : Name) (place b : ℕ) → m ≡ n → (x : Option ℕ) → kept h n place ≡ x → or_else x (byte_at f bs place) ≡ Some b → slice_get (file n) place ≡ Some b
+    first n place b same None at e = subst (λ (z : Name). slice_get (file z) place ≡ Some b) same (t place b e)
+    first n place b same (Some x) at e = o.bytes n place b (at ∙ e)
+
+    by : (n : Name) (place b : ℕ) (x y : Bool) → is_taken a ≡ x → name_eq m n ≡ y → kept ((Piece m f total bs, a) ∷ h) n place ≡ Some b → slice_get (file n) place ≡ Some b
+    by n place b true true u v e = first n place b (name_is m n v) (kept h n place) refl (rw (u, v) at e)
+    by n place b true false u v e = o.bytes n place b (rw (u, v) at e)
+    by n place b false y u v e = o.bytes n place b (rw u at e)
+over_more file h (Lost m) a o t = record { size = o.size; bytes = o.bytes }
+
+over_steps : (file : Name → List ℕ) (steps h : History) → AllByRecursion (λ (step : Event × Answer). IsTrueOf file step.0) steps → IsOver file h → IsOver file (steps ++ h)
+over_steps file [] h all o = o
+over_steps file ((event, answer) ∷ steps) h all o = over_more file (steps ++ h) event answer (over_steps file steps h all.1 o) all.0
+
+get_take : (xs : List ℕ) (count i y : ℕ) → slice_get (take count xs) i ≡ Some y → slice_get xs i ≡ Some y
+get_take [] zero i y e = e
+get_take [] (suc count) i y e = e
+get_take (x ∷ xs) zero i y e = absurd (let u : None ≡ Some y = e in cc)
+get_take (x ∷ xs) (suc count) zero y e = e
+get_take (x ∷ xs) (suc count) (suc i) y e = get_take xs count i y e
+
+get_drop : (xs : List ℕ) (at i y : ℕ) → slice_get (drop at xs) i ≡ Some y → slice_get xs (at + i) ≡ Some y
+get_drop xs zero i y e = let same : 0 + i ≡ i = omega arith in rw same e
+get_drop [] (suc at) i y e = absurd (let u : None ≡ Some y = e in cc)
+get_drop (x ∷ xs) (suc at) i y e = let same : suc at + i ≡ suc (at + i) = omega arith in rw same (get_drop xs at i y e)
+
+-- a slice has the bytes of its file
+slice_agrees : (file : List ℕ) (first end : ℕ) → AgreeWith file first (slice_range file first end)
+slice_agrees file first end place y e = by (nat_le first place) refl e
+  where
+    by : (b : Bool) → nat_le first place ≡ b → cond b (slice_get (slice_range file first end) (place - first)) None ≡ Some y → slice_get file place ≡ Some y
+    by true le s =
+        let low : first ≤ place = grind (arith, nat_tests) in
+        let same : first + (place - first) ≡ place = omega arith in
+        subst (λ (p : ℕ). slice_get file p ≡ Some y) same (get_drop file first (place - first) y (get_take (drop first file) (end - first) (place - first) y s))
+    by false le s = absurd (cc)
+
+at_name : (file : Name → List ℕ) (m n : Name) (first : ℕ) (bytes : List ℕ) → m ≡ n → AgreeWith (file n) first bytes → AgreeWith (file m) first bytes
+at_name file m n first bytes same agree = subst (λ (z : Name). AgreeWith (file z) first bytes) (sym same) agree
+
+-- the event of a reply that agrees with the file agrees with it
+true_step : (file : Name → List ℕ) (n : Name) (phase : Phase) (reply : Result Got RequestFault) (event : Event) → IsOfFile (file n) reply → IsReplyEvent n phase reply event
+    → IsTrueOf file event
+true_step file n phases.New (Ok given) (Offered m size) of is =
+    let stated : size ≡ length (file n) = subst (λ (g : Got). IsOfFile (file n) (Ok g)) is.1 of in stated ∙ ap (λ (z : Name). length (file z)) (sym is.0)
+true_step file n phases.New (Ok given) (Piece m first total bytes) of is = absurd is
+true_step file n phases.New (Ok given) (Lost m) of is = absurd is
+true_step file n phases.Offered (Ok given) (Offered m size) of is = absurd is
+true_step file n phases.Offered (Ok (got.Piece place total all)) (Piece m first size bytes) of is =
+    at_name file m n first bytes is.0 (subst (λ (p : ℕ). AgreeWith (file n) p bytes) (sym is.1.0) (subst (λ (b : List ℕ). AgreeWith (file n) place b) (sym is.1.2) of))
+true_step file n phases.Offered (Ok (got.Whole all)) (Piece m first size bytes) of is =
+    at_name file m n first bytes is.0
+    (subst (λ (b : List ℕ). AgreeWith (file n) first b) (sym (is.1.2 ∙ ap (λ (whole : List ℕ). slice_range whole first (first + length bytes)) of))
+    (slice_agrees (file n) first (first + length bytes)))
+true_step file n phases.Offered (Ok (got.Size size)) (Piece m first total bytes) of is = absurd is.1
+true_step file n phases.Offered (Ok got.Missing) (Piece m first total bytes) of is = absurd is.1
+true_step file n phases.Offered (Ok (got.Unsatisfied size)) (Piece m first total bytes) of is = absurd is.1
+true_step file n phases.Offered (Ok given) (Lost m) of is = absurd is
+true_step file n phases.Stopped (Ok given) event of is = absurd is
+true_step file n phases.New (Err why) (Offered m size) of is = absurd is
+true_step file n phases.New (Err why) (Piece m first total bytes) of is = absurd is
+true_step file n phases.New (Err why) (Lost m) of is = tt
+true_step file n phases.Offered (Err why) (Offered m size) of is = absurd is
+true_step file n phases.Offered (Err why) (Piece m first total bytes) of is = absurd is
+true_step file n phases.Offered (Err why) (Lost m) of is = tt
+true_step file n phases.Stopped (Err why) (Offered m size) of is = absurd is
+true_step file n phases.Stopped (Err why) (Piece m first total bytes) of is = absurd is
+true_step file n phases.Stopped (Err why) (Lost m) of is = tt
+
+true_steps : (file : Name → List ℕ) (n : Name) (phase : Phase) (reply : Result Got RequestFault) (steps : History) → IsOfFile (file n) reply
+    → AllByRecursion (λ (step : Event × Answer). IsReplyEvent n phase reply step.0) steps → AllByRecursion (λ (step : Event × Answer). IsTrueOf file step.0) steps
+true_steps file n phase reply [] of all = tt
+true_steps file n phase reply (step ∷ steps) of all = (true_step file n phase reply step.0 of all.0, true_steps file n phase reply steps of all.1)
+
+over_history : (file : Name → List ℕ) (history : List NodeEvent) → AreGiven history → AreOfFiles file history → IsOver file (feed_history history)
+over_history file [] given of = record { size = λ n s e. absurd (cc); bytes = λ n place b e. absurd (cc) }
+over_history file (Accepted key ∷ earlier) given of = over_history file earlier given of
+over_history file (Served key share ∷ earlier) given of = over_history file earlier given of
+over_history file (Passed millis ∷ earlier) given of = over_history file earlier given of
+over_history file (Asked key bytes name ∷ earlier) given of = over_history file earlier given of
+over_history file (Took name phase reply steps ∷ earlier) given of =
+    over_steps file steps (feed_history earlier) (true_steps file name phase reply steps of.0 (recursion_from_All _ steps given.0)) (over_history file earlier given.1 of.1)
+over_history file (TookPart name first size bytes answer ∷ earlier) given of =
+    over_more file (feed_history earlier) (Piece name first (Some size) bytes) answer (over_history file earlier given of.1) of.0
+over_history file (Reopened ∷ earlier) given of = over_history file earlier given of
+
+same_list : (xs ys : List ℕ) → length xs ≡ length ys → ((i : ℕ) → i < length xs → slice_get xs i ≡ slice_get ys i) → xs ≡ ys
+same_list [] [] e f = refl
+same_list [] (y ∷ ys) e f = absurd (omega (arith, e))
+same_list (x ∷ xs) [] e f = absurd (omega (arith, e))
+same_list (x ∷ xs) (y ∷ ys) e f =
+    let head : Some x ≡ Some y = f 0 (omega arith) in
+    let tail : xs ≡ ys = same_list xs ys (omega (arith, e)) (λ i lt. f (suc i) (omega (arith, lt))) in
+    cc
+
+-- each complete file is the published one
+pub files_published : FilesArePublished
+files_published file history n text given of is =
+    let over = over_history file history given of in
+    let size : length text ≡ length (file n) = over.size n (length text) is.0 in
+    same_list text (file n) size (λ i lt. (let byte = get_some text i lt in byte.1 ∙ sym (over.bytes n i byte.0 (is.1 i lt ∙ byte.1))))

@@ -1,0 +1,6 @@
+pub mod Connections
+pub mod Replies
+pub mod Feeds
+pub mod Moments
+pub mod Shares
+pub mod Asked

@@ -1,0 +1,17 @@
+use Rattle.std.proofs.Common.{◌∙◌, inl, inr}
+use Rattle.feed_node_machine.proofs.machine.NodeMachine.advance.Goals as goal
+
+pub returns-then-share-replies-clause-history : goal.returns-then-share-replies-clause-history
+returns-then-share-replies-clause-history g c = λ history has. elim (c.serve-progress.ensures.history history has) [
+  | inl same ↦ inl (c.note_request.ensures.history history same)
+  | inr (share, is) ↦ inr (share, c.note_request.ensures.history _ is)
+]
+
+pub returns-then-share-replies-clause-rest : goal.returns-then-share-replies-clause-rest
+returns-then-share-replies-clause-rest g c = record {
+  others = λ other differs. c.note_request.ensures.rest.others other differs ∙ c.serve-progress.ensures.rest.others other differs;
+  feed = c.note_request.ensures.rest.feed ∙ c.serve-progress.ensures.rest.feed;
+  fetching = c.note_request.ensures.rest.fetching ∙ c.serve-progress.ensures.rest.fetching;
+  responder = c.note_request.ensures.rest.responder ∙ c.serve-progress.ensures.rest.responder;
+  token = c.note_request.ensures.rest.token ∙ c.serve-progress.ensures.rest.token;
+}

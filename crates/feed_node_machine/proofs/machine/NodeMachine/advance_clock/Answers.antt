@@ -1,0 +1,15 @@
+use Rattle.feed_node_machine.proofs.Connections.{at_passed, millis_at}
+use Rattle.feed_node_machine.proofs.machine.NodeMachine.advance_clock.Goals as goal
+
+pub returns-clause-history : goal.returns-clause-history
+returns-clause-history g c = λ history has. (
+  millis_at c.args.self.now.table c.args.now,
+  record {
+    connections = at_passed c.args.now c.args.self.now.table c.advance_clock.new.self history c.advance_clock.ensures.elapsed has.connections;
+    feed = has.feed;
+    fetching = has.fetching;
+    requested = has.requested;
+    allowed = has.allowed;
+    given = has.given;
+  },
+)

@@ -1,0 +1,42 @@
+use Rattle.std.proofs.Common.{◌≡◌, ◌∙◌, ap, sym, subst, inl, inr}
+use Rattle.std.specs.Prelude.{option_copied}
+use Rattle.feed_model.specs.Content.{IsContent}
+use Rattle.feed_releases.specs.Feeds.{recorded}
+use Rattle.feed_resolver_request.specs.FetchRequests.{FetchPolicyValue}
+use Rattle.feed_node_machine.specs.NodeEvents.{feed_history}
+use Rattle.feed_node_machine.specs.Occasions.{IsReplyOn}
+use Rattle.feed_node_machine.proofs.Shares.{MovesBy, reply_to, serve_moves}
+use Rattle.feed_node_machine.proofs.machine.NodeMachine.serve.Goals as goal
+
+pub returns-clause-history : goal.returns-clause-history
+returns-clause-history g c = λ history has.
+    let moment = c.new-moment.result in
+    let token = option_copied c.args.self.now.token in
+    let content = subst (λ feed. IsContent (recorded {K = g.row.K.Denot} {k = g.K.Keep} feed) (feed_history history)) (sym c.new-moment.ensures.feed) has.feed in
+    let named : moment.occasion.policy.token ≡ token = ap (λ (policy : FetchPolicyValue). policy.token) c.new-moment.ensures.policy ∙ c.policy-policy.ensures in
+    let moves = serve_moves (g.S.FeedRespond.wanted moment.responder.now, g.S.FeedRespond.replies moment.responder.now)
+    (IsReplyOn (g.S.FeedRespond.replies moment.responder.now) moment.occasion) token moment.occasion.policy.is_busy moment.occasion.is_local c.args.key c.advance.result
+    c.args.share.now c.advance.new.share c.args.self.now.table c.advance.new.self history
+    (reply_to (g.S.FeedRespond.replies moment.responder.now) moment.occasion token (feed_history history) named content)
+    c.advance.ensures.served c.advance.ensures.others c.advance.ensures.absent has.connections in
+    elim (subst (λ responder. MovesBy (g.S.FeedRespond.wanted responder, g.S.FeedRespond.replies responder) token c.args.key c.advance.new.self history) c.new-moment.ensures.responder moves) [
+      | inl at ↦ inl (record {
+        connections = at;
+        feed = has.feed;
+        fetching = has.fetching;
+        requested = has.requested;
+        allowed = has.allowed;
+        given = has.given;
+      })
+      | inr (share, at, is) ↦ inr (
+        share,
+        record {
+          connections = at;
+          feed = has.feed;
+          fetching = has.fetching;
+          requested = has.requested;
+          allowed = (is, has.allowed);
+          given = has.given;
+        },
+      )
+    ]

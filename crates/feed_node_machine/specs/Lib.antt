@@ -1,0 +1,5 @@
+pub mod NodeEvents
+pub mod Rules
+pub mod Occasions
+pub mod Nodes
+pub mod Promise

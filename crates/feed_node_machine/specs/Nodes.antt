@@ -1,0 +1,76 @@
+-- The node after a history.
+use Rattle.std.specs.Prelude.{◌≡◌, ◌⊎◌, ◌∷◌, ℕ, Bool, List, Option, Some, Ok, Result, option_copied}
+use Rattle.httparse.specs.Grammar.{RequestHead}
+use Rattle.feed_names.specs.ReleaseName.{Name}
+use Rattle.feed_keep.specs.declared.keep.Keep.{Ghosts}
+use Rattle.feed_model.specs.History.{History, Answer}
+use Rattle.feed_model.specs.Content.{IsContent}
+use Rattle.feed_releases.specs.Feeds.{recorded}
+use Rattle.feed_http.specs.declared.fetching.got.Got.{Got}
+use Rattle.feed_fetch.specs.declared.stop.RequestFault.{RequestFault}
+use Rattle.feed_node_connection.specs.Events.{Event}
+use Rattle.feed_node_connection.specs.States.{HasState}
+use Rattle.feed_node_table.specs.declared.peer.Peer.{Peer}
+use Rattle.feed_node_table.specs.declared.table.Table.{Table}
+use Rattle.feed_node_table.specs.Tables.{peer_at, KeepsOthers}
+use Rattle.feed_node_machine.specs.declared.fetching.Fetching.{Fetching}
+use Rattle.feed_node_machine.specs.declared.machine.NodeMachine.{NodeMachine}
+use Rattle.feed_node_machine.specs.NodeEvents.{NodeEvent, Served, Asked, Took, TookPart, events_of, feed_history, WasAsked}
+use Rattle.feed_node_machine.specs.Rules.{Rules, Terms, AreAllowed, AreGiven}
+
+-- each connection of the table has the state that the events under its key determine
+abbrev pub AreAt : {T : Type 0} → Table T → List NodeEvent → Type 0
+AreAt {T} table history = (key : ℕ) (peer : Peer T) → peer_at table key ≡ Some peer → HasState peer.connection (events_of key history)
+
+module _ {T K S : Type 0} {k : Ghosts K} where
+  -- the connections of a node
+  abbrev pub table_of : NodeMachine T K S k → Table T
+  table_of node = node.table
+
+  -- the connection with this key may have changed, and the release that is to be fetched next; nothing else did
+  pub record KeepsRest (key : ℕ) (old new : NodeMachine T K S k) : Type 0 where
+    pub others : KeepsOthers key (table_of old) (table_of new)
+    pub feed : new.feed ≡ old.feed
+    pub fetching : new.fetching ≡ old.fetching
+    pub responder : new.responder ≡ old.responder
+    pub token : new.token ≡ old.token
+
+module _ {T K S : Type 0} {k : Ghosts K} (wanted : S → RequestHead → ℕ)
+    (replies : S → Terms → History → List ℕ → List ℕ → Bool → List ℕ → Type 0) where
+  -- the replies of the node's responder
+  abbrev pub rules_of : NodeMachine T K S k → Rules
+  rules_of node = (wanted node.responder, replies node.responder)
+
+  -- the node has this history: each connection has the state that its events determine, the feed holds what its events gave
+  -- it, a request asked for the release that it fetches or is to fetch, and each event was allowed
+  pub record HasHistory (node : NodeMachine T K S k) (history : List NodeEvent) : Type 0 where
+    pub connections : AreAt node.table history
+    pub feed : IsContent (recorded node.feed) (feed_history history)
+    pub fetching : (fetching : Fetching) → node.fetching ≡ Some fetching → WasAsked fetching.name history
+    pub requested : (name : Name) → node.requested ≡ Some (Ok name) → WasAsked name history
+    pub allowed : AreAllowed (rules_of node) (option_copied node.token) history
+    pub given : AreGiven history
+
+  -- the node has this history, with one more share of a turn of the connection with this key if it is there
+  abbrev pub HasServed : ℕ → NodeMachine T K S k → List NodeEvent → Type 0
+  HasServed key node history = HasHistory node history ⊎ ((share : List Event) × HasHistory node (Served key share ∷ history))
+
+  -- the node has this history, and the request of the connection with this key may have asked for a release
+  abbrev pub HasAsked : ℕ → NodeMachine T K S k → List NodeEvent → Type 0
+  HasAsked key node history = HasHistory node history ⊎ ((bytes : List ℕ) × (name : Name) × HasHistory node (Asked key bytes name ∷ history))
+
+  -- both, in this order
+  abbrev pub HasAdvanced : ℕ → NodeMachine T K S k → List NodeEvent → Type 0
+  HasAdvanced key node history = HasAsked key node history ⊎ ((share : List Event) × HasAsked key node (Served key share ∷ history))
+
+  -- the fetch that is under way took this reply: the node has this history with the events that the feed handled
+  abbrev pub HasTaken : Result Got RequestFault → NodeMachine T K S k → NodeMachine T K S k → List NodeEvent → Type 0
+  HasTaken reply old new history =
+      (fetching : Fetching) → old.fetching ≡ Some fetching
+      → (steps : History) × HasHistory new (Took fetching.name fetching.fetch.phase reply steps ∷ history)
+
+  -- it took a part of a whole file
+  abbrev pub HasTakenPart : ℕ → ℕ → List ℕ → NodeMachine T K S k → NodeMachine T K S k → List NodeEvent → Type 0
+  HasTakenPart first size bytes old new history =
+      (fetching : Fetching) → old.fetching ≡ Some fetching
+      → (answer : Answer) × HasHistory new (TookPart fetching.name first size bytes answer ∷ history)

@@ -1,0 +1,106 @@
+-- The promise of a node that runs.
+use Rattle.std.specs.Prelude.{◌≡◌, ◌≤ℤ◌, ℕ, Bool, List, [], ◌∷◌, length, slice_get, Option, Some, IfSome, Result, Ok, option_copied}
+use Rattle.httparse.specs.Grammar.{RequestHead}
+use Rattle.feed_names.specs.ReleaseName.{Name}
+use Rattle.feed_keep.specs.declared.keep.Keep.{Ghosts}
+use Rattle.feed_model.specs.History.{History, Answer, IsFile, Reports, byte_at}
+use Rattle.feed_model.specs.Reply.{IsLegal}
+use Rattle.feed_http.specs.declared.fetching.got.Got.{Got}
+use Rattle.feed_http.specs.declared.fetching.got.Got.TheVariants as got
+use Rattle.feed_fetch.specs.declared.machine.Phase.{Phase}
+use Rattle.feed_fetch.specs.declared.stop.RequestFault.{RequestFault}
+use Rattle.feed_node_connection.specs.Events.{Event, received_bytes, sent_bytes}
+use Rattle.feed_node_connection.specs.Replies.{Replies, IsServed}
+use Rattle.feed_node_connection.specs.Streams.{AreReplies}
+use Rattle.feed_node_machine.specs.declared.machine.NodeMachine.{NodeMachine}
+use Rattle.feed_node_machine.specs.NodeEvents.{NodeEvent, Accepted, Served, Passed, Asked, Took, TookPart, Reopened, events_of, feed_history, IsMoment}
+use Rattle.feed_node_machine.specs.Rules.{Rules, Terms, replies_at, terms_with, IsAskedBy, AreGiven}
+use Rattle.feed_node_machine.specs.Nodes.{HasHistory, rules_of}
+
+-- in a share of a turn that the connection with this key had, the responder had this reply to the feed as it was then
+pub record IsMadeFor (rules : Rules) (token : Option (List ℕ)) (key : ℕ) (history : List NodeEvent) (head body : List ℕ) (keeps : Bool)
+    (reply : Option (List ℕ)) : Type 0 where
+  pub share : List Event
+  pub earlier : List NodeEvent
+  pub moment : IsMoment (Served key share ∷ earlier) history
+  pub is_busy : Bool
+  pub is_local : Bool
+  pub made : IfSome reply (rules.1 (terms_with token is_busy is_local) (feed_history earlier) head body keeps)
+
+-- the replies of all these shares
+abbrev pub replies_in : Rules → Option (List ℕ) → ℕ → List NodeEvent → Replies
+replies_in rules token key history = (rules.0, IsMadeFor rules token key history)
+
+-- each reply in the last share of a turn is one of the responder to the feed as it was then
+abbrev pub AreOfTheMoment : Rules → Option (List ℕ) → List NodeEvent → Type 0
+AreOfTheMoment rules token history =
+    (key : ℕ) (share : List Event) (earlier : List NodeEvent) → history ≡ Served key share ∷ earlier
+    → (is_busy : Bool) × (is_local : Bool) × AreReplies (replies_at rules (terms_with token is_busy is_local) (feed_history earlier)) share
+
+-- a report of a package names no older release than one at an earlier moment, in this run or before
+abbrev pub NeverOlder : List NodeEvent → Type 0
+NeverOlder history =
+    (moment : List NodeEvent) (stem : List ℕ) (n : Name) (report : Option Name) → IsMoment moment history
+    → Reports (feed_history moment) stem (Some n) → Reports (feed_history history) stem report
+    → (m : Name) × (report ≡ Some m) × (m.stem ≡ stem) × (n.day ≤ℤ m.day)
+
+-- a connection of the node had a request that has the token and asks for this release
+pub record IsAuthorized (token : Option (List ℕ)) (name : Name) (history : List NodeEvent) : Type 0 where
+  pub key : ℕ
+  pub bytes : List ℕ
+  pub earlier : List NodeEvent
+  pub moment : IsMoment (Asked key bytes name ∷ earlier) history
+  pub asked : IsAskedBy token (events_of key earlier) bytes name
+
+-- the feed changes only as a release is fetched that such a request asked for
+pub record ChangesByToken (token : Option (List ℕ)) (history : List NodeEvent) : Type 0 where
+  pub reply : (name : Name) (phase : Phase) (reply : Result Got RequestFault) (steps : History) (earlier : List NodeEvent)
+      → history ≡ Took name phase reply steps ∷ earlier → IsAuthorized token name earlier
+  pub part : (name : Name) (first size : ℕ) (bytes : List ℕ) (answer : Answer) (earlier : List NodeEvent)
+      → history ≡ TookPart name first size bytes answer ∷ earlier → IsAuthorized token name earlier
+
+-- the promise, of a node whose responder has these rules and that has this token: on each connection the bytes sent are the
+-- beginning of the replies, in order, to the requests in the bytes received; each reply is one of the responder to the feed
+-- as it was when the reply was made; the feed has a legal history, which the replies of the knowledge base gave; it reports
+-- no older release than before; and only requests that have the token change it
+pub record IsRightNode (rules : Rules) (token : Option (List ℕ)) (history : List NodeEvent) : Type 0 where
+  pub served : (key : ℕ) → IsServed (replies_in rules token key history) (received_bytes (events_of key history)) (sent_bytes (events_of key history))
+  pub moment : AreOfTheMoment rules token history
+  pub legal : IsLegal (feed_history history)
+  pub given : AreGiven history
+  pub later : NeverOlder history
+  pub authorized : ChangesByToken token history
+
+module _ {T K S : Type 0} {k : Ghosts K} (wanted : S → RequestHead → ℕ)
+    (replies : S → Terms → History → List ℕ → List ℕ → Bool → List ℕ → Type 0) where
+  -- the node keeps the promise after each history that it may have
+  abbrev pub NodeIsRight : NodeMachine T K S k → Type 0
+  NodeIsRight node = (history : List NodeEvent) → HasHistory wanted replies node history → IsRightNode (rules_of wanted replies node) (option_copied node.token) history
+
+-- the bytes from this place on are those of the file
+abbrev pub AgreeWith : List ℕ → ℕ → List ℕ → Type 0
+AgreeWith file first bytes = (place byte : ℕ) → byte_at first bytes place ≡ Some byte → slice_get file place ≡ Some byte
+
+-- a reply of the knowledge base has the length of the file, or bytes of it
+abbrev pub IsOfFile : List ℕ → Result Got RequestFault → Type 0
+IsOfFile file (Ok (got.Size size)) = size ≡ length file
+IsOfFile file (Ok (got.Piece first total bytes)) = AgreeWith file first bytes
+IsOfFile file (Ok (got.Whole bytes)) = bytes ≡ file
+IsOfFile file reply = Unit {0}
+
+-- the knowledge bases of a node served slices of the same published files, one for each release
+abbrev pub AreOfFiles : (Name → List ℕ) → List NodeEvent → Type 0
+AreOfFiles file [] = Unit {0}
+AreOfFiles file (Accepted key ∷ earlier) = AreOfFiles file earlier
+AreOfFiles file (Served key share ∷ earlier) = AreOfFiles file earlier
+AreOfFiles file (Passed millis ∷ earlier) = AreOfFiles file earlier
+AreOfFiles file (Asked key bytes name ∷ earlier) = AreOfFiles file earlier
+AreOfFiles file (Took name phase reply steps ∷ earlier) = IsOfFile (file name) reply × AreOfFiles file earlier
+AreOfFiles file (TookPart name first size bytes answer ∷ earlier) = AgreeWith (file name) first bytes × AreOfFiles file earlier
+AreOfFiles file (Reopened ∷ earlier) = AreOfFiles file earlier
+
+-- each complete file of such a node is the published one
+abbrev pub FilesArePublished : Type 0
+FilesArePublished =
+    (file : Name → List ℕ) (history : List NodeEvent) (n : Name) (text : List ℕ)
+    → AreGiven history → AreOfFiles file history → IsFile (feed_history history) n text → text ≡ file n

@@ -1,0 +1,71 @@
+-- The events that a node may have.
+use Rattle.std.specs.Prelude.{◌≡◌, ℕ, Bool, false, List, [], ◌∷◌, ◌++◌, Option, Some, IfSome, Ok, All}
+use Rattle.httparse.specs.Grammar.{RequestHead}
+use Rattle.feed_names.specs.ReleaseName.{Name}
+use Rattle.feed_model.specs.History.{History}
+use Rattle.feed_fetch.specs.Steps.{IsReplyEvent}
+use Rattle.feed_resolver_request.specs.FetchRequests.{FetchPolicyValue, IsFetchBy}
+use Rattle.feed_node_connection.specs.declared.connection.Connection.{Connection}
+use Rattle.feed_node_connection.specs.Events.{Event}
+use Rattle.feed_node_connection.specs.Replies.{Replies}
+use Rattle.feed_node_connection.specs.States.{HasState}
+use Rattle.feed_node_connection.specs.Streams.{AreReplies}
+use Rattle.feed_node_table.specs.Connections.{request_of}
+use Rattle.feed_node_machine.specs.NodeEvents.{NodeEvent, Accepted, Served, Passed, Asked, Took, TookPart, Reopened, events_of, feed_history, WasAsked}
+
+-- the circumstances of a reply beside the feed: who may make the node fetch, and whether the client is on the same machine
+pub record Terms : Type 0 where
+  pub policy : FetchPolicyValue
+  pub is_local : Bool
+
+-- the replies of a responder to a feed: the length of the body that is wanted after a head; and a relation between the
+-- circumstances, the history of the feed, the bytes of a head, a body, whether the connection persists, and the reply
+abbrev pub Rules : Type 1
+Rules = (RequestHead → ℕ) × (Terms → History → List ℕ → List ℕ → Bool → List ℕ → Type 0)
+
+-- the replies in these circumstances to a feed with this history; the responder may make none
+abbrev pub replies_at : Rules → Terms → History → Replies
+replies_at rules terms h = (rules.0, λ head body keeps reply. IfSome reply (rules.1 terms h head body keeps))
+
+-- the circumstances in a node with this token
+abbrev pub terms_with : Option (List ℕ) → Bool → Bool → Terms
+terms_with token is_busy is_local = record { policy = record { token = token; is_busy = is_busy }; is_local = is_local }
+
+-- a share of a turn is right for the connection with this key: with it, its events are those of some connection; and each
+-- reply that was made in it is one to its request, of a feed that has the history of this moment
+pub record IsShare (rules : Rules) (token : Option (List ℕ)) (key : ℕ) (share : List Event) (earlier : List NodeEvent) : Type 0 where
+  pub connection : Connection
+  pub state : HasState connection (share ++ events_of key earlier)
+  pub is_busy : Bool
+  pub is_local : Bool
+  pub replied : AreReplies (replies_at rules (terms_with token is_busy is_local) (feed_history earlier)) share
+
+-- the bytes are a request that has the token and asks for this release, and a connection with these events sends the reply
+-- to it
+pub record IsAskedBy (token : Option (List ℕ)) (events : List Event) (bytes : List ℕ) (name : Name) : Type 0 where
+  pub connection : Connection
+  pub state : HasState connection events
+  pub request : bytes ≡ request_of connection
+  pub asks : IsFetchBy false token bytes (Some (Ok name))
+
+-- each event since the node was opened may follow those before it; an earlier run may have had another responder or token
+abbrev pub AreAllowed : Rules → Option (List ℕ) → List NodeEvent → Type 0
+AreAllowed rules token [] = Unit {0}
+AreAllowed rules token (Accepted key ∷ earlier) = AreAllowed rules token earlier
+AreAllowed rules token (Served key share ∷ earlier) = IsShare rules token key share earlier × AreAllowed rules token earlier
+AreAllowed rules token (Passed millis ∷ earlier) = AreAllowed rules token earlier
+AreAllowed rules token (Asked key bytes name ∷ earlier) = IsAskedBy token (events_of key earlier) bytes name × AreAllowed rules token earlier
+AreAllowed rules token (Took name phase reply steps ∷ earlier) = WasAsked name earlier × AreAllowed rules token earlier
+AreAllowed rules token (TookPart name first size bytes answer ∷ earlier) = WasAsked name earlier × AreAllowed rules token earlier
+AreAllowed rules token (Reopened ∷ earlier) = Unit {0}
+
+-- in this run and the earlier ones, the feed handled the events that a reply of the knowledge base gives, and no others
+abbrev pub AreGiven : List NodeEvent → Type 0
+AreGiven [] = Unit {0}
+AreGiven (Accepted key ∷ earlier) = AreGiven earlier
+AreGiven (Served key share ∷ earlier) = AreGiven earlier
+AreGiven (Passed millis ∷ earlier) = AreGiven earlier
+AreGiven (Asked key bytes name ∷ earlier) = AreGiven earlier
+AreGiven (Took name phase reply steps ∷ earlier) = All (λ step. IsReplyEvent name phase reply step.0) steps × AreGiven earlier
+AreGiven (TookPart name first size bytes answer ∷ earlier) = AreGiven earlier
+AreGiven (Reopened ∷ earlier) = AreGiven earlier

@@ -1,0 +1,23 @@
+//! Laws of nodes, each stated as the contract of a function with an empty body.
+ghost use Rattle.feed_node_machine.specs.Promise.{FilesArePublished, NodeIsRight};
+
+use crate::machine::NodeMachine;
+use crate::occasion::FeedRespond;
+use feed_keep::Keep;
+use feed_node_table::Stream;
+
+/// On each connection of a node the bytes sent are the beginning of the replies, in order, to the requests received.
+/// Each reply is one of the responder to the feed as it was when the reply was made. The feed has what the replies of
+/// the knowledge base gave it, and nothing else; it changes only for requests that have the token; and it never reports
+/// an older release, over any number of stops.
+pub fn node_is_right<T: Stream, K: Keep + Drop, S: FeedRespond + Drop>(
+    _node: &NodeMachine<'_, T, K, S>,
+)
+    ensures { NodeIsRight S.wanted S.replies _node.now }
+{}
+
+/// If the knowledge base of a node serves slices of published files, each complete file of the node is the published
+/// one.
+pub fn published_files_are_kept()
+    ensures { FilesArePublished }
+{}

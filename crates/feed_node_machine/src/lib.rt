@@ -1,0 +1,14 @@
+//! A node without its sockets: its connections, its feed and the fetch that is under way, as one value. Its contracts
+//! say which history it has after each step.
+#![tactic(auto)]
+
+mod fetching;
+mod laws;
+mod machine;
+mod occasion;
+mod stepping;
+
+pub use fetching::Fetching;
+pub use laws::{node_is_right, published_files_are_kept};
+pub use machine::NodeMachine;
+pub use occasion::{FeedRespond, Occasion};

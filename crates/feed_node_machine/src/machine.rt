@@ -1,0 +1,150 @@
+//! The node as a value, and its connections.
+ghost use Rattle.std.specs.Prelude.{◌≡◌, ◌<◌, ◌∷◌, ℕ, List, None, IsSome};
+ghost use Rattle.feed_model.specs.Content.{IsContent};
+ghost use Rattle.feed_releases.specs.Feeds.{recorded};
+ghost use Rattle.feed_node_table.specs.Tables.{peer_at, size_of, HasClosed, IsExpired, IsFirstToClose, IsRemoved};
+ghost use Rattle.feed_node_machine.specs.NodeEvents.{NodeEvent, Accepted, Passed, Reopened, accepted_in, feed_history};
+ghost use Rattle.feed_node_machine.specs.Rules.{AreGiven};
+ghost use Rattle.feed_node_machine.specs.Nodes.{table_of, HasHistory};
+
+use crate::fetching::Fetching;
+use crate::occasion::FeedRespond;
+use feed_keep::Keep;
+use feed_names::{NameFault, ReleaseName};
+use feed_node_connection::TimeLimits;
+use feed_node_table::{CloseCause, Log, Stream, Table};
+use feed_releases::Feed;
+use std::alloc::Global;
+use std::net::SocketAddr;
+
+/// A node without its sockets. Times are in microseconds since a moment that the caller chooses.
+#[derive(Drop)]
+pub struct NodeMachine<'a, T, K: Keep + Drop, S> {
+    pub(crate) alloc: Global,
+    pub(crate) table: Table<T>,
+    pub(crate) feed: Feed<K>,
+    pub(crate) responder: S,
+    /// The token that authorizes a fetch. Without one, no client may make the node fetch.
+    pub(crate) token: Option<&'a [u8]>,
+    /// The fetch that is under way.
+    pub(crate) fetching: Option<Fetching>,
+    /// The release that a client asked to fetch next, or why its name is invalid.
+    pub(crate) requested: Option<Result<ReleaseName, NameFault>>,
+}
+
+impl<'a, T: Stream, K: Keep + Drop, S: FeedRespond + Drop> NodeMachine<'a, T, K, S> {
+    /// Opens a node over a feed, with a table that has no connection.
+    pub fn new(
+        alloc: Global,
+        table: Table<T>,
+        feed: Feed<K>,
+        responder: S,
+        token: Option<&'a [u8]>,
+    ) -> NodeMachine<'a, T, K, S>
+        requires { size_of table ≡ 0 }
+        ensures { (history : List NodeEvent) → IsContent (recorded feed) (feed_history history) → AreGiven history
+            → HasHistory S.wanted S.replies result (Reopened ∷ history) }
+    {
+        NodeMachine {
+            alloc,
+            table,
+            feed,
+            responder,
+            token,
+            fetching: None,
+            requested: None,
+        }
+    }
+
+    /// Returns the connections.
+    pub fn table(&self) -> &Table<T>
+        ensures { result.now ≡ self.now.table }
+    {
+        &self.table
+    }
+
+    /// Closes the connection that is closed to make room, if there is any.
+    pub fn make_room<L: Log>(&mut self, now: u64, log: &mut L)
+        ensures history { (history : List NodeEvent) → HasHistory S.wanted S.replies self.old history
+            → HasHistory S.wanted S.replies self.new history }
+        ensures removed { 0 < size_of (table_of self.old) → (key : ℕ) × IsFirstToClose (table_of self.old) key
+            × IsRemoved L.records key CloseCause.Evicted now (table_of self.old) (table_of self.new) log.old log.new }
+    {
+        self.table.make_room(now, log);
+    }
+
+    fn make_room_if_full<L: Log>(&mut self, now: u64, log: &mut L)
+        ensures { (history : List NodeEvent) → HasHistory S.wanted S.replies self.old history
+            → HasHistory S.wanted S.replies self.new history }
+    {
+        if self.table.is_full() {
+            self.make_room(now, log);
+        }
+    }
+
+    /// Adds a connection that was accepted now, and returns its key. If there are as many connections as there may be,
+    /// closes another one for it. Returns none if there may be none.
+    pub fn accept<L: Log>(
+        &mut self,
+        stream: T,
+        addr: SocketAddr,
+        limits: TimeLimits,
+        now: u64,
+        log: &mut L,
+    ) -> Option<usize>
+        ensures { (history : List NodeEvent) → HasHistory S.wanted S.replies self.old history
+            → HasHistory S.wanted S.replies self.new (accepted_in result history) }
+    {
+        self.make_room_if_full(now, log);
+        if self.table.is_full() {
+            return None;
+        }
+        let key = self
+            .table
+            .insert(self.alloc, stream, addr, limits, now, log);
+        Some(key)
+    }
+
+    /// Registers the stream of a connection for events under its key. Returns whether that succeeded.
+    pub fn register(&mut self, key: usize, registry: &T::Registry) -> bool
+        ensures { (history : List NodeEvent) → HasHistory S.wanted S.replies self.old history
+            → HasHistory S.wanted S.replies self.new history }
+    {
+        self.table.register(key, registry)
+    }
+
+    /// Has the next turn serve a connection.
+    pub fn mark_ready(&mut self, key: usize)
+        ensures { (history : List NodeEvent) → HasHistory S.wanted S.replies self.old history
+            → HasHistory S.wanted S.replies self.new history }
+    {
+        self.table.mark_ready(key);
+    }
+
+    /// Removes a connection for a cause, and records that. Returns its stream.
+    pub fn remove<L: Log>(
+        &mut self,
+        key: usize,
+        cause: CloseCause,
+        now: u64,
+        log: &mut L,
+    ) -> Option<T>
+        ensures history { (history : List NodeEvent) → HasHistory S.wanted S.replies self.old history
+            → HasHistory S.wanted S.replies self.new history }
+        ensures removed { IsSome (peer_at (table_of self.old) key)
+            → IsRemoved L.records key cause now (table_of self.old) (table_of self.new) log.old log.new }
+    {
+        self.table.remove(key, cause, now, log)
+    }
+
+    /// Advances the clocks of all connections, and removes those that are out of time.
+    pub fn advance_clock<L: Log>(&mut self, now: u64, log: &mut L)
+        ensures history { (history : List NodeEvent) → HasHistory S.wanted S.replies self.old history
+            → (millis : ℕ → ℕ) × HasHistory S.wanted S.replies self.new (Passed millis ∷ history) }
+        ensures expired { IsExpired now (table_of self.old) (table_of self.new) }
+        ensures closed { HasClosed L.records CloseCause.TimedOut (table_of self.old) (table_of self.new)
+            log.old log.new }
+    {
+        self.table.advance_clock(now, log);
+    }
+}

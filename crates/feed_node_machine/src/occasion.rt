@@ -1,0 +1,126 @@
+//! The trait `FeedRespond`, which makes the replies of a node from its feed.
+use feed_http_heads::Request;
+use feed_keep::Keep;
+use feed_node_connection::{BODY_LIMIT, Reply, Respond, RespondFault};
+use feed_releases::Feed;
+use feed_resolver_request::FetchPolicy;
+use std::alloc::{AllocError, Global};
+
+/// The feed and the circumstances from which a responder makes a reply.
+#[derive(Drop)]
+pub struct Occasion<'f, 't, K: Keep + Drop> {
+    /// The feed as it is at this moment.
+    pub feed: &'f Feed<K>,
+    /// Who may make the node fetch.
+    pub policy: FetchPolicy<'t>,
+    /// Whether the client is on the same machine.
+    pub is_local: bool,
+}
+
+/// Makes the replies of a node from its feed.
+pub trait FeedRespond {
+    ghost use Rattle.std.specs.Prelude.{◌≡◌, ◌≤◌, List, ℕ, Bool, true, Some, IfOk};
+    ghost use Rattle.httparse.specs.Grammar.{RequestHead};
+    ghost use Rattle.feed_http_heads.specs.Options.{SaysWhetherItKeeps};
+    ghost use Rattle.feed_http_heads.specs.Requests.{IsInBuffer, HasHead};
+    ghost use Rattle.feed_model.specs.History.{History};
+    ghost use Rattle.feed_node_connection.specs.Requests.{IsPersistent};
+    ghost use Rattle.feed_node_machine.specs.Rules.{Terms};
+    ghost use Rattle.feed_node_machine.specs.Occasions.{IsReplyOn};
+
+    /// The length of the body that the responder wants after this head, or 0.
+    ghost wanted: { Self → RequestHead → ℕ };
+
+    /// In these circumstances and for a feed with this history, a head of a request, or bytes that are not one, and
+    /// this body have this reply if the connection persists after it, or does not.
+    ghost replies: { Self → Terms → History → List ℕ → List ℕ → Bool → List ℕ → Type 0 };
+
+    /// Returns how many bytes of a body are received after the head of a request: at most 8,192, and 0 for none.
+    fn body_len(&self, request: &Request<'_>) -> usize
+        requires { IsInBuffer request.now }
+        ensures wanted { (head : RequestHead) → HasHead request.now head → result ≡ wanted self.now head }
+        ensures limit { result ≤ BODY_LIMIT };
+
+    /// Returns the reply to the head of a request and the body after it, or to bytes that are not the head of a
+    /// request, whatever follows. The reply says `Connection: close` exactly if the connection does not persist
+    /// (RFC 9112, section 9.6).
+    fn respond<K: Keep + Drop>(
+        &self,
+        alloc: Global,
+        occasion: &Occasion<'_, '_, K>,
+        head: &[u8],
+        body: &[u8],
+        persists: bool,
+    ) -> Result<Reply, RespondFault>
+        requires allowed { persists ≡ true → IsPersistent (wanted self.now) head.now body.now }
+        ensures reply { IfOk result (λ reply.
+            IsReplyOn (replies self.now) occasion.now head.now body.now persists (Some reply.bytes.items)) }
+        ensures says { IfOk result (λ reply. SaysWhetherItKeeps persists reply.bytes.items) };
+
+    /// Keeps what it computes of the active releases alone, which changes no reply. Returns whether that changed.
+    ///
+    /// # Errors
+    ///
+    /// Running out of memory.
+    fn keep_releases<K: Keep + Drop>(
+        &mut self,
+        alloc: Global,
+        feed: &Feed<K>,
+    ) -> Result<bool, AllocError>
+        ensures { self.new ≡ self.old };
+}
+
+/// A responder with the feed of one moment.
+#[derive(Drop)]
+pub(crate) struct MomentResponder<'s, 'f, 't, K: Keep + Drop, S> {
+    responder: &'s S,
+    occasion: Occasion<'f, 't, K>,
+}
+
+impl<'s, 'f, 't, K: Keep + Drop, S> MomentResponder<'s, 'f, 't, K, S> {
+    ghost use Rattle.std.specs.Prelude.{◌≡◌};
+
+    pub(crate) fn new(
+        responder: &'s S,
+        feed: &'f Feed<K>,
+        policy: FetchPolicy<'t>,
+        is_local: bool,
+    ) -> MomentResponder<'s, 'f, 't, K, S>
+        ensures responder { result.responder.now ≡ responder.now }
+        ensures feed { result.occasion.feed.now ≡ feed.now }
+        ensures policy { result.occasion.policy ≡ policy.entry }
+        ensures is_local { result.occasion.is_local ≡ is_local }
+    {
+        MomentResponder {
+            responder,
+            occasion: Occasion {
+                feed,
+                policy,
+                is_local,
+            },
+        }
+    }
+}
+
+impl<'s, 'f, 't, K: Keep + Drop, S: FeedRespond> Respond for MomentResponder<'s, 'f, 't, K, S> {
+    ghost use Rattle.feed_node_machine.specs.Occasions.{IsReplyOn};
+
+    ghost wanted = { λ moment head. S.wanted moment.responder.now head };
+
+    ghost replies = { λ moment. IsReplyOn (S.replies moment.responder.now) moment.occasion };
+
+    fn body_len(&self, request: &Request<'_>) -> usize {
+        self.responder.body_len(request)
+    }
+
+    fn respond(
+        &self,
+        alloc: Global,
+        head: &[u8],
+        body: &[u8],
+        persists: bool,
+    ) -> Result<Reply, RespondFault> {
+        self.responder
+            .respond(alloc, &self.occasion, head, body, persists)
+    }
+}

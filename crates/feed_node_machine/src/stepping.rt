@@ -1,0 +1,98 @@
+//! A share of a turn: a connection receives, replies and sends.
+ghost use Rattle.std.specs.Prelude.{◌≡◌, List, option_copied};
+ghost use Rattle.feed_node_machine.specs.NodeEvents.{NodeEvent};
+ghost use Rattle.feed_node_machine.specs.Nodes.{table_of, HasHistory, HasServed, HasAsked, HasAdvanced, KeepsRest};
+ghost use Rattle.feed_node_table.specs.Tables.{IsSettled};
+
+use crate::machine::NodeMachine;
+use crate::occasion::{FeedRespond, MomentResponder};
+use feed_keep::Keep;
+use feed_node_connection::{Progress, Share};
+use feed_node_table::{Log, Outcome, Stream};
+use feed_resolver_request::{FetchPolicy, fetch_to_begin};
+
+impl<'a, T: Stream, K: Keep + Drop, S: FeedRespond + Drop> NodeMachine<'a, T, K, S> {
+    // Returns who may make the node fetch now: a fetch that was requested excludes another one, too.
+    fn policy(&self) -> FetchPolicy<'a>
+        ensures { result.token ≡ option_copied self.now.token }
+    {
+        FetchPolicy {
+            token: self.token,
+            is_busy: self.fetching.is_some() || self.requested.is_some(),
+        }
+    }
+
+    // Gives a connection a share of the turn.
+    fn serve(
+        &mut self,
+        key: usize,
+        is_local: bool,
+        buffer: &mut [u8],
+        now: u64,
+        share: &mut Share,
+    ) -> Progress
+        ensures history { (history : List NodeEvent) → HasHistory S.wanted S.replies self.old history
+            → HasServed S.wanted S.replies key self.new history }
+        ensures rest { KeepsRest key self.old self.new }
+    {
+        let policy = self.policy();
+        let moment = MomentResponder::new(&self.responder, &self.feed, policy, is_local);
+        self.table
+            .advance(key, self.alloc, &moment, buffer, now, share)
+    }
+
+    // Notes the release that the request of a connection makes the node fetch, if its reply is streamed.
+    fn note_request(&mut self, key: usize)
+        ensures history { (history : List NodeEvent) → HasHistory S.wanted S.replies self.old history
+            → HasAsked S.wanted S.replies key self.new history }
+        ensures rest { KeepsRest key self.old self.new }
+    {
+        let Some(bytes) = self.table.streamed_request(key) else {
+            return;
+        };
+        if let Some(asked) = fetch_to_begin(self.alloc, bytes, &self.policy()) {
+            self.requested = Some(asked);
+        }
+    }
+
+    /// Gives a connection a share of the turn: it receives, replies and sends until its stream would block, a reply was
+    /// sent, or the share is used. The replies are those to the feed as it is. A request that has the token may ask for
+    /// a release, which is to be fetched next.
+    pub fn advance(
+        &mut self,
+        key: usize,
+        is_local: bool,
+        buffer: &mut [u8],
+        now: u64,
+        share: &mut Share,
+    ) -> Progress
+        ensures history { (history : List NodeEvent) → HasHistory S.wanted S.replies self.old history
+            → HasAdvanced S.wanted S.replies key self.new history }
+        ensures rest { KeepsRest key self.old self.new }
+    {
+        let replies = share.replies;
+        let progress = self.serve(key, is_local, buffer, now, share);
+        if share.replies < replies {
+            self.note_request(key);
+        }
+        progress
+    }
+
+    /// Does what follows `advance`, by how that ended: records a reply that was sent, marks the connection as ready if
+    /// it has more to do, and removes it if it is over.
+    pub fn settle<L: Log>(
+        &mut self,
+        key: usize,
+        progress: Progress,
+        now: u64,
+        log: &mut L,
+    ) -> Outcome
+        ensures history { (history : List NodeEvent) → HasHistory S.wanted S.replies self.old history
+            → HasServed S.wanted S.replies key self.new history }
+        ensures rest { KeepsRest key self.old self.new }
+        ensures settled { IsSettled L.records key progress now result (table_of self.old) (table_of self.new)
+            log.old log.new }
+    {
+        self.table.settle(key, progress, now, log)
+    }
+}
