@@ -1,4 +1,7 @@
 //! The server: the poll and the listener of a node, the request to another server, and the replies that are streamed.
+ghost use Rattle.std.specs.Prelude.{OnOk};
+ghost use Rattle.feed_node_machine.specs.Promise.{NodeIsRight};
+
 use crate::descriptors::available_clients;
 use crate::outgoing::{Destination, OutgoingRequest};
 use crate::local::is_local;
@@ -6,7 +9,7 @@ use crate::socket::Socket;
 use crate::streamed_reply::StreamedReply;
 use feed_keep::Keep;
 use feed_node_connection::{TURN_SHARE, TimeLimits};
-use feed_node_machine::{FeedRespond, NodeMachine};
+use feed_node_machine::{FeedRespond, NodeMachine, node_is_right};
 use feed_node_table::{CloseCause, Log, Outcome};
 use mio::net::{TcpListener, TcpStream};
 use mio::{Events, Interest, Poll, Token};
@@ -169,14 +172,16 @@ impl Server {
     }
 
     /// Waits at most 250 ms for the sockets, gives each connection that is ready its share of the turn, and closes each
-    /// one that is over.
+    /// one that is over. The node then keeps its promise, whatever its history is.
     pub fn turn<K: Keep + Drop, S: FeedRespond + Drop, L: Log>(
         &mut self,
         rt: &impl Clock,
         node: &mut ServedNode<'_, K, S>,
         events: &mut Events,
         log: &mut L,
-    ) -> io::Result<()> {
+    ) -> io::Result<()>
+        ensures { OnOk result (NodeIsRight S.wanted S.replies node.new) }
+    {
         let may_block = node.table().ready_len() == 0 && !self.has_more_work;
         let wait = if may_block { TICK } else { 0 };
         self.poll.poll(events, Some(Duration::from_millis(wait)))?;
@@ -189,6 +194,7 @@ impl Server {
         self.has_more_work = self.advance_outgoing() || has_more_work;
         self.advance_streams();
         self.advance_clock(node, now, log);
+        node_is_right(node);
         Ok(())
     }
 

@@ -1,5 +1,5 @@
 //! The replies of a node to its requests.
-ghost use Rattle.std.specs.Prelude.{◌≡◌, ◌||◌, IfOk, IfSome, MatchBool, true};
+ghost use Rattle.std.specs.Prelude.{◌≡◌, IfOk, IfSome, MatchBool, true};
 ghost use Rattle.feed_model.specs.History.{History};
 ghost use Rattle.feed_model.specs.Content.{IsContent};
 ghost use Rattle.feed_releases.specs.Feeds.{recorded};
@@ -60,12 +60,18 @@ impl<'a> FeedResponder<'a> {
         }
     }
 
-    // Returns whether the request asks for a reply about the node and the client may have it.
-    fn may_report(&self, is_local: bool, bytes: &[u8]) -> bool
-        ensures { MatchBool result ((is_local || self.now.has_open_reports) ≡ true)
-            (HasNoReport self.now is_local bytes.now) }
+    // Returns whether a client may have reports of the node.
+    fn allows_reports(&self, is_local: bool) -> bool
+        ensures { result ≡ may_report self.now is_local }
     {
-        (is_local || self.has_open_reports) && asks_for_report(bytes)
+        is_local || self.has_open_reports
+    }
+
+    // Returns whether the request asks for a reply about the node and the client may have it.
+    fn is_report(&self, is_local: bool, bytes: &[u8]) -> bool
+        ensures { MatchBool result (may_report self.now is_local ≡ true) (HasNoReport self.now is_local bytes.now) }
+    {
+        self.allows_reports(is_local) && asks_for_report(bytes)
     }
 
     // Returns the reply about the node, if the request asks for one and the client may have it.
@@ -80,7 +86,7 @@ impl<'a> FeedResponder<'a> {
             → IsReportIn self.now occasion.now.is_local h bytes.now persists found) }
         ensures says { IfOk result (λ found. IfSome found (λ reply. SaysWhetherItKeeps persists reply.bytes.items)) }
     {
-        if !self.may_report(occasion.is_local, bytes) {
+        if !self.is_report(occasion.is_local, bytes) {
             return Ok(None);
         }
         let actives = occasion.feed.actives()?;
