@@ -6,7 +6,7 @@ use feed_http::{HttpFault, ShelfFault};
 use feed_range::{RangeFault, WriteFault};
 use std::fmt::{Debug, Display};
 
-// More than any of these types has values.
+// More values than any of the types has.
 const MOST: usize = 20;
 
 /// A type of faults whose values can be listed. A value that is added to the type has to be added to `next`, which has

@@ -37,7 +37,7 @@ fn name_faults(rt: &HostRuntime) -> Result<(), Fault> {
         NameFault::Memory,
     ];
     for fault in faults {
-        // Each of these matches names every value, so that a new value does not compile before it is in this file.
+        // Each match below names every value, so that a new value does not compile before it is in this file.
         let place = match fault {
             NameFault::BadStem => 1,
             NameFault::BadDate => 2,

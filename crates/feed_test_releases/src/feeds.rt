@@ -44,7 +44,7 @@ impl Sent {
     }
 }
 
-// What a command asks a feed.
+// A question of a command to a feed.
 #[derive(Clone, Copy)]
 enum Question {
     Next,

@@ -6,7 +6,7 @@
 //!     feed_test_releases failing KEEPER..         replays a script
 //!     feed_test_releases holding KEEPER..         the same
 //!     feed_test_releases again KEEPER..           the same, twice
-//!     feed_test_releases full KEEPER..            replays it, and writes the transcript where there is no room
+//!     feed_test_releases full KEEPER..            replays it, and writes the transcript into short buffers
 //!     feed_test_releases names                    prints names
 //!
 //! If an argument, a command or the script is wrong, the last line says so, and the status is 2.
@@ -134,7 +134,7 @@ fn run_command(rt: &HostRuntime, command: &str, keepers: &[String]) -> Result<()
     }
 }
 
-// What the commands are on.
+// The object that commands work on.
 #[derive(Drop)]
 enum Subject {
     Feeds(Feeds),

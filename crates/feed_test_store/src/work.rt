@@ -1,10 +1,10 @@
-//! What is done with databases.
+//! Does the work of a command with the databases that its arguments name.
 use crate::database::Database;
 use crate::steps::take_steps;
 use crate::worlds::{load, replay_over};
 use std::test::Fail;
 
-/// What is done with databases.
+/// The work of a command with databases.
 #[derive(Clone, Copy)]
 pub enum Work<'a> {
     /// Takes the steps in these arguments with a feed over each.

@@ -7,7 +7,7 @@ use feed_test_support::{print_content, print_text, read_events};
 use std::alloc::Global;
 use std::test::Fail;
 
-/// Replays the script on standard input, with a node over each of these databases. Prints the transcript, and then the
+/// Replays the script on standard input, with a node over each database. Prints the transcript, and then the
 /// records of each keeper.
 pub fn replay_over<D: Database>(rt: &HostRuntime, databases: &[D]) -> Result<(), Fail> {
     let events = read_events(rt)?;

@@ -1,4 +1,4 @@
-//! What the drivers of feeds and worlds share: names, records as text, a keeper whose device fails, scripts and errors.
+//! Shared by the drivers of feeds and worlds: names, records as text, a keeper whose device fails, scripts and errors.
 #![tactic(auto)]
 
 mod events;
