@@ -3,8 +3,8 @@ ghost use Rattle.std.specs.Prelude.{OnOk};
 ghost use Rattle.feed_node_machine.specs.Promise.{NodeIsRight};
 
 use crate::descriptors::available_clients;
-use crate::outgoing::{Destination, OutgoingRequest};
 use crate::local::is_local;
+use crate::outgoing::{Destination, OutgoingRequest};
 use crate::socket::Socket;
 use crate::streamed_reply::StreamedReply;
 use feed_keep::Keep;

@@ -67,11 +67,14 @@ agree files bytes_same file one other here there moment another bytes body keeps
 
 pub hits : FilesArePublished → HitsArePublished
 hits files file responder terms moment bytes body keeps text from reader is =
-    let mine = read_by responder terms (feed_history moment) bytes body keeps text reader is in
-    (mine.response, mine.same, record {
-      actives = mine.is.0;
-      reported = mine.is.1;
-      published = λ i d within. (let active = mine.is.1.each i d within in
-          active.holdings ∙ ap holdings_of (files file moment _ active.text from.given from.of_files active.file));
-      is = mine.is.2;
-    })
+    let mine = read_by responder terms (feed_history moment) bytes body keeps text reader is in (
+      mine.response,
+      mine.same,
+      record {
+        actives = mine.is.0;
+        reported = mine.is.1;
+        published = λ i d within. (let active = mine.is.1.each i d within in
+            active.holdings ∙ ap holdings_of (files file moment _ active.text from.given from.of_files active.file));
+        is = mine.is.2;
+      },
+    )

@@ -114,12 +114,7 @@ impl<'a> Fetcher<'a> {
     }
 
     // Reports the end of a fetch, and completes the reply to its client.
-    fn end<K: Keep + Drop>(
-        &self,
-        server: &mut Server,
-        node: &mut FeedNode<'_, K>,
-        end: FetchEnd,
-    ) {
+    fn end<K: Keep + Drop>(&self, server: &mut Server, node: &mut FeedNode<'_, K>, end: FetchEnd) {
         let mut lines = self.lines();
         if let Some(name) = node.end_fetch() {
             self.state
@@ -269,9 +264,7 @@ impl<'a> Fetcher<'a> {
                 };
                 take_reply(node, &Err(RequestFault::Http(fault)), lines)
             }
-            Arrival::TooLong(fault) => {
-                take_reply(node, &Err(RequestFault::Http(fault)), lines)
-            }
+            Arrival::TooLong(fault) => { take_reply(node, &Err(RequestFault::Http(fault)), lines) }
             Arrival::NoRanges => {
                 let fault = RequestFault::Http(HttpFault::BodyTooLong);
                 let _ = take_reply(node, &Err(fault), lines);
@@ -317,7 +310,11 @@ fn take_part<K: Keep + Drop>(
         Ok(is_new) => {
             outgoing.discard(part.to);
             running.exchange.pass(part, is_new);
-            if is_done(node) { Step::Send } else { Step::Again }
+            if is_done(node) {
+                Step::Send
+            } else {
+                Step::Again
+            }
         }
         Err(stop) => Step::End(FetchEnd::Stopped(stop)),
     }

@@ -53,8 +53,9 @@ impl<'a> FeedResponder<'a> {
         match respond_about_feed(alloc, bytes, persists, policy, feed)? {
             Some(response) => Ok(response),
             None => {
-                let response =
-                    respond_as_node(alloc, bytes, body, persists, policy, &self.site, feed)?;
+                let response = respond_as_node(
+                    alloc, bytes, body, persists, policy, &self.site, feed,
+                )?;
                 Ok(response)
             }
         }
