@@ -4,4 +4,4 @@ use Rattle.feed_node_service.proofs.Turns.{form_within}
 use Rattle.feed_node_service.proofs.responder.FeedResponderFeedRespond.body_len.Goals as goal
 
 pub returns-clause-wanted : goal.returns-clause-wanted
-returns-clause-wanted g c = λ head has. c.min.ensures ∙ ap (λ n. min n 8192) (c.form_length.ensures head has) ∙ min-eq_left (form_within head)
+returns-clause-wanted c = λ head has. c.min.ensures ∙ ap (λ n. min n 8192) (c.form_length.ensures head has) ∙ min-eq_left (form_within head)
