@@ -9,6 +9,6 @@ returns-clause-message c =
 pub returns-clause-says : goal.returns-clause-says
 returns-clause-says c =
     report_says c.args.kind c.args.keeps c.args.head_alone c.args.body.now c.in_ok-report_bytes.field-0.items (
-      report_message c.args.kind c.args.keeps c.args.head_alone c.args.body.now c.in_ok-report_bytes.field-0.items
-          c.in_ok-report_bytes.ensures.size c.in_ok-report_bytes.ensures.text
+    report_message c.args.kind c.args.keeps c.args.head_alone c.args.body.now c.in_ok-report_bytes.field-0.items
+    c.in_ok-report_bytes.ensures.size c.in_ok-report_bytes.ensures.text
     )
