@@ -23,6 +23,9 @@
 //!     rows FILE WORD          the places, from 0, of the rows that have an ISSN or an ISBN
 //!     write ROOM NAME TEXT    whether the answer to a query is written, from the list in the file NAME, to a writer
 //!                             that accepts ROOM bytes and then fails
+//!     embargo TODAY FIRST LAST DATE TEXT
+//!                             the first and the last of the covered days that an embargo leaves open on a day, and
+//!                             how the days of a date lie in them; a date of no form is absent
 //!     values ENUM             each value of an enum, with its place, its name in the source and its printed text
 //!
 //! With a `+` at the end of CALLS, the reader fails once, at the call after the first CALLS, and then continues.
@@ -31,6 +34,7 @@
 #![tactic(auto)]
 
 mod cuts;
+mod embargoes;
 mod fault;
 mod lists;
 mod shown;
@@ -85,6 +89,7 @@ fn run_words(rt: &HostRuntime, command: &str, words: Words<'_>) -> Result<(), Fa
         "count" => lists::count(rt, words),
         "parts" => lists::parts(rt, words),
         "rows" => lists::rows(rt, words),
+        "embargo" => embargoes::embargo(rt, words),
         "write" => lists::write(rt, words),
         _ => Err(Fault::UnknownCommand),
     }
