@@ -6,12 +6,12 @@ use feed_dates::{DayRange, read_date, write_date};
 use feed_embargo::{Embargo, OpenDays, Today, availability_of};
 
 pub fn embargo(rt: &HostRuntime, mut words: Words<'_>) -> Result<(), Fault> {
-    let today = read_date(words.word()?.as_bytes());
+    let today = today_of(words.word()?);
     let first = DayRange::of_text(words.word()?.as_bytes()).map(|days| days.first);
     let last = DayRange::of_text(words.word()?.as_bytes()).map(|days| days.last);
     let asked = DayRange::of_text(words.word()?.as_bytes());
     let text = words.rest.as_bytes();
-    let Some(today) = today.and_then(Today::new) else {
+    let Some(today) = today else {
         return Ok(println!(rt; "none")?);
     };
     match Embargo::read(text) {
@@ -20,6 +20,10 @@ pub fn embargo(rt: &HostRuntime, mut words: Words<'_>) -> Result<(), Fault> {
     }
     let availability = availability_of(&today, text, first, last, asked);
     Ok(println!(rt; "\t{availability:?}")?)
+}
+
+fn today_of(word: &str) -> Option<Today> {
+    Today::new(read_date(word.as_bytes())?)
 }
 
 // Prints the first and the last of the open days. Days before the year 1 do not count.
