@@ -6,7 +6,7 @@ use feed_database_commands::{Database, close_keeper, open_feed};
 use feed_http::is_host;
 use feed_keep::Keep;
 use feed_node_server::{Server, Settings, TimeLimits};
-use feed_node_service::{End, LogSettings, NodeSetup, Source, SourceAddrs, WatchedFile, run};
+use feed_node_service::{End, LogSettings, NodeSetup, Source, SourceAddrs, WatchedFile, run, today};
 use feed_range::read_number;
 use feed_releases::Feed;
 use feed_resolver_tag::Site;
@@ -116,7 +116,8 @@ fn run_server<D: Database, O: Write, F: Write + Drop>(
     out: &mut O,
     faults: &mut Faults<F>,
 ) -> u8 {
-    let site = match Site::new(rt.alloc(), hosting.version.as_bytes(), hosting.max_age) {
+    let version = hosting.version.as_bytes();
+    let site = match Site::new(rt.alloc(), version, hosting.max_age, today(rt)) {
         Ok(site) => site,
         Err(_) => return faults.report("Memory", FAILED),
     };

@@ -4,6 +4,7 @@ use crate::fetcher::{Fetcher, Source};
 use crate::node_state::{NodeState, TurnFacts};
 use crate::responder::FeedResponder;
 use crate::source_addrs::SourceAddrs;
+use crate::today::today;
 use crate::watched_file::WatchedFile;
 use feed_keep::Keep;
 use feed_node_server::{Responders, Server};
@@ -106,6 +107,7 @@ impl<'a, O: Write> RunningNode<'a, O> {
         server: &mut Server,
         events: &mut Events,
     ) -> Option<End> {
+        self.begin_day();
         self.state.begin_turn(self.facts(server));
         if let Err(fault) = self.answer(feed, server, events) {
             return Some(End::Sockets(fault));
@@ -124,6 +126,14 @@ impl<'a, O: Write> RunningNode<'a, O> {
             self.fetcher.begin(server, feed, name);
         }
         None
+    }
+
+    // Begins another day at midnight (UTC). If memory runs out, the next turn tries again.
+    fn begin_day(&mut self) {
+        let today = today(self.rt);
+        if today.day() != self.site.today().day() {
+            let _ = self.site.set_today(self.rt.alloc(), today);
+        }
     }
 
     fn facts(&self, server: &Server) -> TurnFacts {

@@ -10,7 +10,7 @@ use Rattle.feed_model.specs.History.{History, IsFile}
 use Rattle.feed_releases.specs.Actives.{ActiveValue, ReportAlike}
 use Rattle.feed_resolver_request.specs.declared.representation.Representation.TheVariants.{Text, Json}
 use Rattle.feed_resolver_reply.specs.Replies.{ResponseValue}
-use Rattle.feed_resolver.specs.Answers.{hits_among, tally_among, answers_body}
+use Rattle.feed_resolver.specs.Answers.{Dated, hits_among, tally_among, answers_body}
 use Rattle.feed_resolver.specs.Status.{status_body, active_value}
 use Rattle.feed_resolver_tag.specs.Tags.{SiteValue}
 use Rattle.feed_resolver.specs.Replies.{IsResponseAt}
@@ -21,16 +21,16 @@ use Rattle.feed_resolver_request.specs.FetchRequests.{FetchPolicyValue}
 abbrev pub KeepsPublished : (Name → List ℕ) → History → Type 0
 KeepsPublished file h = (n : Name) (text : List ℕ) → IsFile h n text → text ≡ file n
 
--- two nodes of the same version and settings that report the same releases, and have stored their published files, give
--- each request the same bytes
+-- two nodes of the same version, settings and day that report the same releases, and have stored their published files,
+-- give each request the same bytes
 abbrev pub SameReleasesSameBytes : Type 0
 SameReleasesSameBytes =
     (file : Name → List ℕ) (site : SiteValue) (h k : History) (bytes body : List ℕ) (keeps : Bool) (response reply : ResponseValue)
     → KeepsPublished file h → KeepsPublished file k → ReportAlike h k
     → IsResponseAt site h bytes body keeps response → IsResponseAt site k bytes body keeps reply → response ≡ reply
 
--- two nodes of the same version and settings that report the same releases, and have stored the published files, reply with
--- the same bytes to each request that does not ask them to fetch, whatever their tokens are and whether they are fetching
+-- two nodes of the same version, settings and day that report the same releases, and have stored the published files, reply
+-- with the same bytes to each request that does not ask them to fetch, whatever their tokens are and whether they are fetching
 abbrev pub SameReleasesSameNodeBytes : Type 0
 SameReleasesSameNodeBytes =
     (file : Name → List ℕ) (site : SiteValue) (h k : History) (policy other : FetchPolicyValue) (bytes body : List ℕ) (keeps : Bool)
@@ -49,5 +49,5 @@ written_answer query active = answer_text (text_of active.name) (answer_of activ
 -- a reply that shows all hits has, as text, the answers that `Answer::write` prints
 abbrev pub WholeTextIsWritten : Type 0
 WholeTextIsWritten =
-    (text : List ℕ) (query : QueryValue) (actives : List ActiveValue) → (tally_among query actives).shown ≡ hits_among query actives
-    → answers_body Text text query actives ≡ flat_map (written_answer query) actives
+    (text : List ℕ) (query : QueryValue) (actives : Dated) → (tally_among query actives).shown ≡ hits_among query actives
+    → answers_body Text text query actives ≡ flat_map (written_answer query) actives.actives

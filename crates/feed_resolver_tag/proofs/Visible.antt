@@ -10,9 +10,8 @@ use Rattle.httparse.specs.Grammar.{AllPass, is_uri_byte}
 use Rattle.hex.specs.Hex.{encode_lower, is_hex_digit, IsBytes}
 use Rattle.hex.proofs.HexLemmas.{decode_of-encode_lower, decode_of-ok}
 use Rattle.sha2.specs.Sha256.{digest_bytes, final_hash, initial_hash_256, sha256}
-use Rattle.std.specs.Fmt.{decimal}
 use Rattle.feed_resolver_request.specs.declared.representation.Representation.{Representation}
-use Rattle.feed_resolver_tag.specs.Tags.{SiteValue, TagInputs, entity_tag, inputs_of, tag_message, quoted_hex}
+use Rattle.feed_resolver_tag.specs.Tags.{SiteValue, TagInputs, entity_tag, inputs_of, settings_of, tag_message, quoted_hex}
 
 abbrev IsByte : ℕ → Type 0
 IsByte b = b < 256
@@ -55,7 +54,7 @@ tag_visible inputs =
     (AllPass-from_list_all is_uri_byte (34 ∷ []) refl))
 
 -- a tag from the digest of its inputs
-pub tag_made : (site : SiteValue) (settings releases : List ℕ) (representation : Representation) (digest : List ℕ) → settings ≡ decimal site.max_age
+pub tag_made : (site : SiteValue) (settings releases : List ℕ) (representation : Representation) (digest : List ℕ) → settings ≡ settings_of site.max_age site.today.day
     → digest ≡ sha256 (tag_message site.version settings releases representation) → quoted_hex digest ≡ entity_tag (inputs_of site releases representation)
 unfolding entity_tag
 tag_made site settings releases representation digest is made =

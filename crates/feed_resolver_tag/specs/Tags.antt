@@ -1,19 +1,25 @@
 -- Entity tags (RFC 9110, section 8.8.3).
-use Rattle.std.specs.Prelude.{ℕ, List, [], ◌∷◌, ◌++◌}
-use Rattle.std.specs.Fmt.{decimal}
+use Rattle.std.specs.Prelude.{ℕ, ℤ, List, [], ◌∷◌, ◌++◌}
+use Rattle.std.specs.Fmt.{decimal, signed_decimal}
+use Rattle.feed_embargo.specs.Today.{TodayValue}
 use Rattle.sha2.specs.Sha256.{sha256}
 use Rattle.hex.specs.Hex.{encode_lower}
 use Rattle.feed_resolver_request.specs.declared.representation.Representation.{Representation}
 use Rattle.feed_resolver_request.specs.declared.representation.Representation.TheVariants.{Text, Json, Html}
 
--- what the replies of a node depend on beside its releases: the version of the program, and for how many seconds a cache
--- may use a reply
+-- what the replies of a node depend on beside its releases: the version of the program, for how many seconds a cache may
+-- use a reply, and the day on which embargoes are evaluated
 pub record SiteValue : Type 0 where
   pub version : List ℕ
   pub max_age : ℕ
+  pub today : TodayValue
 
--- all that the body of a reply depends on beside its request; a further setting, a day or a file that replies come to
--- depend on goes into the settings
+-- the settings as a text: the seconds and the day's number
+abbrev pub settings_of : ℕ → ℤ → List ℕ
+settings_of max_age day = decimal max_age ++ (32 ∷ signed_decimal day)
+
+-- all that the body of a reply depends on beside its request; a further setting or a file that replies come to depend
+-- on goes into the settings
 pub record TagInputs : Type 0 where
   pub version : List ℕ
   pub settings : List ℕ
@@ -23,7 +29,7 @@ pub record TagInputs : Type 0 where
 -- the inputs of a node, with a text that determines its active releases
 abbrev pub inputs_of : SiteValue → List ℕ → Representation → TagInputs
 inputs_of site releases representation =
-    record { version = site.version; settings = decimal site.max_age; releases = releases; representation = representation }
+    record { version = site.version; settings = settings_of site.max_age site.today.day; releases = releases; representation = representation }
 
 -- the byte that stands for a representation
 abbrev pub kind_of : Representation → ℕ

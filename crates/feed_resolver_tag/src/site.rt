@@ -1,38 +1,40 @@
 //! What the replies of a node depend on beside its releases, and the tags that follow from it.
-ghost use Rattle.std.specs.Prelude.{◌≡◌, IfOk};
-ghost use Rattle.std.specs.Fmt.{decimal};
-ghost use Rattle.feed_resolver_tag.specs.Tags.{entity_tag, inputs_of, kind_of, tag_message, quoted_hex};
+ghost use Rattle.std.specs.Prelude.{◌≡◌, IfOk, OnErr, OnOk};
+ghost use Rattle.feed_resolver_tag.specs.Tags.{entity_tag, inputs_of, kind_of, settings_of, tag_message};
+ghost use Rattle.feed_resolver_tag.specs.Tags.{quoted_hex};
 ghost use Rattle.sha2.specs.Sha256.{sha256};
 
 use crate::digested::Digested;
+use feed_embargo::Today;
 use feed_resolver_request::Representation;
 use sha2::{Digest, Sha256};
 use std::alloc::{AllocError, Global};
 use std::io::Write;
 use std::marker::Model;
 
-/// What the replies of a node depend on beside its releases: the version of the program and the settings.
+/// What the replies of a node depend on beside its releases: the version of the program, the settings and the day.
 #[derive(Drop)]
 pub struct Site {
     version: Digested,
-    /// The settings as a text.
+    /// The settings and the day as a text.
     settings: Digested,
     /// The text about the releases whose digest was computed last.
     releases: Digested,
     /// For how many seconds a cache may use a reply without asking again; 0 if it always has to ask.
     max_age: u32,
+    /// The day on which embargoes are evaluated.
+    today: Today,
 }
 
 impl Model for Site {
     ghost use Rattle.std.specs.Prelude.{◌≡◌};
-    ghost use Rattle.std.specs.Fmt.{decimal};
-    ghost use Rattle.feed_resolver_tag.specs.Tags.{SiteValue};
+    ghost use Rattle.feed_resolver_tag.specs.Tags.{SiteValue, settings_of};
 
     ghost Value = { SiteValue };
 
-    ghost view = { λ s. record { version = s.version; max_age = s.max_age } };
+    ghost view = { λ s. record { version = s.version; max_age = s.max_age; today = s.today } };
 
-    ghost invariant = { λ s. s.settings ≡ decimal s.max_age };
+    ghost invariant = { λ s. s.settings ≡ settings_of s.max_age s.today.day };
 }
 
 fn kind_of(representation: Representation) -> u8
@@ -45,11 +47,11 @@ fn kind_of(representation: Representation) -> u8
     }
 }
 
-fn decimal(alloc: Global, number: u32) -> Result<Vec<u8>, AllocError>
-    ensures { IfOk result (λ text. text.items ≡ decimal number) }
+fn settings_of(alloc: Global, max_age: u32, day: i32) -> Result<Vec<u8>, AllocError>
+    ensures { IfOk result (λ text. text.items ≡ settings_of max_age day) }
 {
     let mut text = Vec::new(alloc);
-    match write!(&mut text, "{number}") {
+    match write!(&mut text, "{max_age} {day}") {
         Ok(()) => Ok(text),
         Err(_) => Err(AllocError),
     }
@@ -83,17 +85,25 @@ fn quoted_hex(alloc: Global, digest: &[u8]) -> Result<Vec<u8>, AllocError>
 }
 
 impl Site {
-    /// Begins with the version of the program, and for how many seconds a cache may use a reply without asking again.
-    pub fn new(alloc: Global, version: &[u8], max_age: u32) -> Result<Site, AllocError>
-        ensures { IfOk result (λ site. (site.version ≡ version.now) × (site.max_age ≡ max_age)) }
+    /// Begins with the version of the program, for how many seconds a cache may use a reply without asking again, and
+    /// the day on which embargoes are evaluated.
+    pub fn new(
+        alloc: Global,
+        version: &[u8],
+        max_age: u32,
+        today: Today,
+    ) -> Result<Site, AllocError>
+        ensures { IfOk result (λ site. site
+            ≡ record { version = version.now; max_age = max_age; today = today }) }
     {
-        let settings = Digested::new(decimal(alloc, max_age)?);
+        let settings = Digested::new(settings_of(alloc, max_age, today.day())?);
         let version = Digested::new(Vec::from_slice(alloc, version)?);
         Ok(Site {
             version,
             settings,
             releases: Digested::new(Vec::new(alloc)),
             max_age,
+            today,
         })
     }
 
@@ -114,6 +124,28 @@ impl Site {
         ensures { result ≡ self.now.max_age }
     {
         self.max_age
+    }
+
+    /// Returns the day on which embargoes are evaluated.
+    pub fn today(&self) -> Today
+        ensures { result ≡ self.now.today }
+    {
+        self.today
+    }
+
+    /// Begins another day. Changes all tags.
+    ///
+    /// # Errors
+    ///
+    /// Running out of memory, after which the day is the one before.
+    pub fn set_today(&mut self, alloc: Global, today: Today) -> Result<(), AllocError>
+        ensures ok { OnOk result (self.new ≡ record self.old { today = today }) }
+        ensures err { OnErr result (self.new ≡ self.old) }
+    {
+        let text = settings_of(alloc, self.max_age, today.day())?;
+        self.settings = Digested::new(text);
+        self.today = today;
+        Ok(())
     }
 
     /// Returns the entity tag of a representation that this text about the active releases determines.
