@@ -22,7 +22,7 @@ use Rattle.feed_resolver_reply.specs.JsonStrings.{json_string}
 use Rattle.feed_resolver_reply.proofs.JsonTexts.{Lexes, lexes_then, lexes_string, IsText, AreOf, text_of_lexemes, list_read, list_in, items_shallow}
 use Rattle.feed_resolver_hits.specs.EmbargoWords.{embargo_words}
 use Rattle.feed_resolver_hits.specs.Hits.{ReleaseHitValue, name_text}
-use Rattle.feed_resolver_hits.specs.HitsJson.{availability_text, release_members, grade_members, row_members, hit_object}
+use Rattle.feed_resolver_hits.specs.HitsJson.{availability_text, release_members, grade_members, title_members, access_members, hit_object}
 use Rattle.feed_resolver_hits.specs.HitsJson.{more_start, more_object, more_items, hits_json, hit_value, more_value, item_values}
 use Rattle.feed_resolver_hits.specs.Laws.{HitsAreJson}
 
@@ -118,31 +118,43 @@ last_brace : Lexes (codes "}" ++ []) (token Token.end_object ∷ [])
 unfolding lex
 last_brace = record { lexed = λ rest. refl }
 
-abbrev row_lexemes : RowValue → List ℕ → List Lexeme
-row_lexemes row words =
-    string_lexemes (codes "title") row.title (string_lexemes (codes "url") row.url (string_lexemes (codes "title_id") row.title_id (string_lexemes (codes "depth") row.depth
-    (string_lexemes (codes "embargo") row.embargo (string_lexemes (codes "embargo_words") words
-    (string_lexemes (codes "access") row.access (token Token.end_object ∷ [])))))))
+abbrev title_lexemes : RowValue → List Lexeme
+title_lexemes row =
+    string_lexemes (codes "title") row.title (string_lexemes (codes "url") row.url (string_lexemes (codes "title_id") row.title_id
+    (string_lexemes (codes "depth") row.depth [])))
 
-lexes_row : (row : RowValue) (words : List ℕ) → Lexes (row_members row words) (row_lexemes row words)
-unfolding row_members
-lexes_row row words =
+lexes_title : (row : RowValue) → Lexes (title_members row) (title_lexemes row)
+unfolding title_members
+lexes_title row =
     with_string (codes ",\"title\":") row.title _ _ _ title_key
     (with_string (codes ",\"url\":") row.url _ _ _ url_key
     (with_string (codes ",\"title_id\":") row.title_id _ _ _ title_id_key
-    (with_string (codes ",\"depth\":") row.depth _ _ _ depth_key
-    (with_string (codes ",\"embargo\":") row.embargo _ _ _ embargo_key
+    (with_string (codes ",\"depth\":") row.depth [] _ _ depth_key nothing)))
+
+abbrev access_lexemes : RowValue → List ℕ → List Lexeme
+access_lexemes row words =
+    string_lexemes (codes "embargo") row.embargo (string_lexemes (codes "embargo_words") words
+    (string_lexemes (codes "access") row.access (token Token.end_object ∷ [])))
+
+lexes_access : (row : RowValue) (words : List ℕ) → Lexes (access_members row words) (access_lexemes row words)
+unfolding access_members
+lexes_access row words =
+    with_string (codes ",\"embargo\":") row.embargo _ _ _ embargo_key
     (with_string (codes ",\"embargo_words\":") words _ _ _ words_key
-    (with_string (codes ",\"access\":") row.access _ _ _ access_key last_brace))))))
+    (with_string (codes ",\"access\":") row.access _ _ _ access_key last_brace))
 
 abbrev hit_lexemes : ReleaseHitValue → List Lexeme
-hit_lexemes found = release_lexemes found.name ++ (grade_lexemes found ++ row_lexemes found.hit.row (embargo_words found.hit.row.embargo))
+hit_lexemes found =
+    release_lexemes found.name
+    ++ (grade_lexemes found ++ (title_lexemes found.hit.row ++ access_lexemes found.hit.row (embargo_words found.hit.row.embargo)))
 
 lexes_hit : (found : ReleaseHitValue) → found.hit.row.number < 2 ^ 64 → Lexes (hit_object found) (hit_lexemes found)
 unfolding hit_object
 lexes_hit found small = lexes_then (release_members found.name) _ (release_lexemes found.name) _ (lexes_release found.name)
-    (lexes_then (grade_members found) (row_members found.hit.row (embargo_words found.hit.row.embargo)) (grade_lexemes found)
-    (row_lexemes found.hit.row (embargo_words found.hit.row.embargo)) (lexes_grade found small) (lexes_row found.hit.row (embargo_words found.hit.row.embargo)))
+    (lexes_then (grade_members found) _ (grade_lexemes found) _ (lexes_grade found small)
+    (lexes_then (title_members found.hit.row) (access_members found.hit.row (embargo_words found.hit.row.embargo)) (title_lexemes found.hit.row)
+    (access_lexemes found.hit.row (embargo_words found.hit.row.embargo)) (lexes_title found.hit.row)
+    (lexes_access found.hit.row (embargo_words found.hit.row.embargo))))
 
 hit_is : (found : ReleaseHitValue) → AreOf (hit_lexemes found) (hit_value found)
 unfolding punctuate

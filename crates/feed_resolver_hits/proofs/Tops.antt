@@ -105,6 +105,28 @@ kept rank high low g h =
     ∙ ap reverse (not_skipped rank (reverse high) (above_back rank high g))
     ∙ reverse_twice high
 
+-- by the last hit
+kept_last : (rank : ℕ) (front : List ReleaseHitValue) (last : ReleaseHitValue)
+    → kept_above rank (front ++ last ∷ []) ≡ (if nat_lt (rank_of last) rank then kept_above rank front else front ++ last ∷ [])
+kept_last rank front last = ap (λ l. reverse (skip_below rank l)) (reverse-append front (last ∷ [])) ∙ go (nat_lt (rank_of last) rank)
+  where
+    go : (b : Bool) → reverse (if b then skip_below rank (reverse front) else last ∷ reverse front) ≡ (if b then kept_above rank front else front ++ last ∷ [])
+    go true = refl
+    go false = reverse-append (last ∷ []) (reverse front) ∙ ap (λ l. l ++ last ∷ []) (reverse_twice front)
+
+pub place_before : (rank : ℕ) (hits front : List ReleaseHitValue) (last : ReleaseHitValue) (place : ℕ) → hits ≡ front ++ last ∷ [] → rank_of last < rank
+    → place ≡ length (kept_above rank front) → place ≡ length (kept_above rank hits)
+place_before rank hits front last place same lower is =
+    is ∙ sym (ap (λ l. length (kept_above rank l)) same ∙ ap length (kept_last rank front last)
+    ∙ ap (λ b. length (if b then kept_above rank front else front ++ last ∷ [])) (lt-ltb (rank_of last) rank lower))
+
+pub place_here : (rank : ℕ) (hits front : List ReleaseHitValue) (last : ReleaseHitValue) → hits ≡ front ++ last ∷ [] → rank ≤ rank_of last → length hits ≡ length (kept_above rank hits)
+place_here rank hits front last same above =
+    let test : nat_lt (rank_of last) rank ≡ false = grind (arith, nat_tests) in
+    ap length same
+    ∙ sym (ap (λ l. length (kept_above rank l)) same ∙ ap length (kept_last rank front last)
+    ∙ ap (λ b. length (if b then kept_above rank front else front ++ last ∷ [])) test)
+
 -- ---- one hit more in the order of ranks
 
 in_rank_above : (rank n : ℕ) (hits : List ReleaseHitValue) → rank ≤ n → AllAbove rank (in_rank n hits)
@@ -270,6 +292,17 @@ within_first (suc places) bytes (found ∷ more) =
         (ap (λ n. first_within n (bytes - text_size found) (take places more)) fewer
         ∙ rest
         ∙ ap (λ n. first_within n (bytes - text_size found) more) (sym fewer))
+
+pub within_front : (places bytes : ℕ) (hits : List ReleaseHitValue) → take (length (first_within places bytes hits)) hits ≡ first_within places bytes hits
+within_front places bytes [] = refl
+within_front places bytes (found ∷ more) =
+    go (nat_lt 0 places && nat_lt 0 (bytes - text_size found)) (within_front (places - 1) (bytes - text_size found) more)
+  where
+    go : (b : Bool) → take (length (first_within (places - 1) (bytes - text_size found) more)) more ≡ first_within (places - 1) (bytes - text_size found) more
+        → take (length (if b then found ∷ first_within (places - 1) (bytes - text_size found) more else [])) (found ∷ more)
+        ≡ (if b then found ∷ first_within (places - 1) (bytes - text_size found) more else [])
+    go true rest = ap (λ l. found ∷ l) rest
+    go false rest = refl
 
 -- ---- the order of ranks is that of availability, grade and text
 

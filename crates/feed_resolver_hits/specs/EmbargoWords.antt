@@ -6,6 +6,7 @@ use Rattle.feed_embargo.specs.declared.embargo.Embargo.{Embargo}
 use Rattle.feed_embargo.specs.declared.wall.Span.{Span}
 use Rattle.feed_embargo.specs.declared.wall.Span.TheVariants.{Days, Months, Years}
 use Rattle.feed_resolver_reply.specs.Pieces.{joined}
+use Rattle.feed_resolver_hits.specs.declared.embargo_words.TheConstants.{OPENED_START}
 
 -- a number of things: one, or many with their number
 unfoldable pub words_of : ℕ → List ℕ → List ℕ → List ℕ
@@ -17,24 +18,19 @@ span_words (Days number) = words_of number (codes "day") (codes " days")
 span_words (Months number) = words_of number (codes "month") (codes " months")
 span_words (Years number) = words_of number (codes "year") (codes " years")
 
--- what type R opens
-abbrev pub opened_words : Option Span → List ℕ
-opened_words None = []
-opened_words (Some span) = codes "Only the most recent " ++ span_words span
+-- a span with the words before it, if there is one
+abbrev pub phrase : List ℕ → Option Span → List ℕ
+phrase front None = []
+phrase front (Some span) = front ++ span_words span
 
 -- the words before what type P hides
 abbrev pub hidden_start : Option Span → List ℕ
 hidden_start None = codes "Not the most recent "
 hidden_start (Some begins) = codes ", and not the most recent "
 
--- what type P hides
-abbrev pub hidden_words : List ℕ → Option Span → List ℕ
-hidden_words front None = []
-hidden_words front (Some span) = front ++ span_words span
-
--- both
+-- what type R opens and what type P hides
 abbrev pub limits_words : Embargo → List ℕ
-limits_words embargo = opened_words embargo.begins ++ hidden_words (hidden_start embargo.begins) embargo.ends
+limits_words embargo = phrase OPENED_START.now embargo.begins ++ phrase (hidden_start embargo.begins) embargo.ends
 
 -- an embargo, if there is one and it has the form
 abbrev pub words_by : Option Embargo → List ℕ

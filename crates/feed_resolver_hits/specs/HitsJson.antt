@@ -18,14 +18,18 @@ use Rattle.feed_resolver_hits.specs.Tallies.{TallyValue, left_out}
 unfoldable pub release_members : Name → List ℕ
 release_members name = joined (codes "{\"package\":" ∷ json_string name.stem ∷ codes ",\"release\":" ∷ json_string (name_text name) ∷ [])
 
--- the members for its row, with its embargo in words
-unfoldable pub row_members : RowValue → List ℕ → List ℕ
-row_members row words = joined (
+-- the members for its row
+unfoldable pub title_members : RowValue → List ℕ
+title_members row = joined (
     codes ",\"title\":" ∷ json_string row.title
     ∷ codes ",\"url\":" ∷ json_string row.url
     ∷ codes ",\"title_id\":" ∷ json_string row.title_id
-    ∷ codes ",\"depth\":" ∷ json_string row.depth
-    ∷ codes ",\"embargo\":" ∷ json_string row.embargo
+    ∷ codes ",\"depth\":" ∷ json_string row.depth ∷ [])
+
+-- those for its embargo, also in words, and its access
+unfoldable pub access_members : RowValue → List ℕ → List ℕ
+access_members row words = joined (
+    codes ",\"embargo\":" ∷ json_string row.embargo
     ∷ codes ",\"embargo_words\":" ∷ json_string words
     ∷ codes ",\"access\":" ∷ json_string row.access
     ∷ codes "}" ∷ [])
@@ -46,7 +50,9 @@ grade_members found = joined (
 
 -- a hit as a JSON object
 unfoldable pub hit_object : ReleaseHitValue → List ℕ
-hit_object found = release_members found.name ++ (grade_members found ++ row_members found.hit.row (embargo_words found.hit.row.embargo))
+hit_object found =
+    release_members found.name
+    ++ (grade_members found ++ (title_members found.hit.row ++ access_members found.hit.row (embargo_words found.hit.row.embargo)))
 
 -- the beginning of the object that counts the hits that are left out: whether there may be still more
 abbrev pub more_start : Bool → List ℕ

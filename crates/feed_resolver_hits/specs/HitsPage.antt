@@ -70,20 +70,24 @@ coverage_cells hit =
     ++ (dates_text hit.row ++ (codes "</td><td>" ++ volumes_text hit.row))
 
 -- the cells after them, with the embargo in words, or as it is if there are none
-unfoldable pub text_cells : ReleaseHitValue → List ℕ → List ℕ
-text_cells found words = joined (
-    codes "</td><td>" ∷ availability_words found.availability
-    ∷ codes "</td><td>" ∷ escaped found.hit.row.depth
-    ∷ codes "</td><td>" ∷ escaped (text_or words found.hit.row.embargo)
-    ∷ codes "</td><td>" ∷ escaped found.hit.row.access
-    ∷ codes "</td><td>" ∷ escaped found.name.stem
-    ∷ codes "</td></tr>\n" ∷ [])
+unfoldable pub text_cells : Availability → RowValue → List ℕ → List ℕ
+text_cells availability row words = joined (
+    codes "</td><td>" ∷ availability_words availability
+    ∷ codes "</td><td>" ∷ escaped row.depth
+    ∷ codes "</td><td>" ∷ escaped (text_or words row.embargo)
+    ∷ codes "</td><td>" ∷ escaped row.access ∷ [])
+
+-- the last cell
+unfoldable pub package_cell : List ℕ → List ℕ
+package_cell stem = joined (codes "</td><td>" ∷ escaped stem ∷ codes "</td></tr>\n" ∷ [])
 
 -- the row of a hit in the table
 unfoldable pub hit_row : ReleaseHitValue → List ℕ
 hit_row found =
     codes "<tr><th scope=\"row\">"
-    ++ (title_cell found.hit.row.url found.hit.row.title ++ (coverage_cells found.hit ++ text_cells found (embargo_words found.hit.row.embargo)))
+    ++ (title_cell found.hit.row.url found.hit.row.title
+    ++ (coverage_cells found.hit
+    ++ (text_cells found.availability found.hit.row (embargo_words found.hit.row.embargo) ++ package_cell found.name.stem)))
 
 -- the head of the table of hits
 unfoldable pub table_head : List ℕ

@@ -1,12 +1,14 @@
 //! Writes an embargo in words.
 ghost use Rattle.std.specs.Prelude.{◌≡◌, ◌++◌, IfOk, OnOk};
-ghost use Rattle.feed_resolver_hits.specs.EmbargoWords.{embargo_words, hidden_start, hidden_words, limits_words};
-ghost use Rattle.feed_resolver_hits.specs.EmbargoWords.{opened_words, span_words, words_of};
+ghost use Rattle.feed_resolver_hits.specs.EmbargoWords.{embargo_words, hidden_start, limits_words, phrase};
+ghost use Rattle.feed_resolver_hits.specs.EmbargoWords.{span_words, words_of};
 
 use feed_embargo::{Embargo, Span};
 use feed_pieces::put_all;
 use feed_resolver_reply::{Piece, put};
 use std::alloc::{AllocError, Global};
+
+const OPENED_START: &[u8] = b"Only the most recent ";
 
 #[tactic(auto, unfolding(crate::specs::EmbargoWords::words_of))]
 fn put_number_of(
@@ -36,18 +38,6 @@ fn put_span(out: &mut Vec<u8>, span: Span) -> Result<(), AllocError>
     }
 }
 
-fn put_opened(out: &mut Vec<u8>, begins: Option<Span>) -> Result<(), AllocError>
-    ensures { OnOk result (out.new.items ≡ out.old.items ++ opened_words begins) }
-{
-    match begins {
-        Some(span) => {
-            put(out, b"Only the most recent ")?;
-            put_span(out, span)
-        }
-        None => Ok(()),
-    }
-}
-
 fn hidden_start(begins: Option<Span>) -> &'static [u8]
     ensures { result.now ≡ hidden_start begins }
 {
@@ -57,10 +47,10 @@ fn hidden_start(begins: Option<Span>) -> &'static [u8]
     }
 }
 
-fn put_hidden(out: &mut Vec<u8>, front: &[u8], ends: Option<Span>) -> Result<(), AllocError>
-    ensures { OnOk result (out.new.items ≡ out.old.items ++ hidden_words front.now ends) }
+fn put_phrase(out: &mut Vec<u8>, front: &[u8], span: Option<Span>) -> Result<(), AllocError>
+    ensures { OnOk result (out.new.items ≡ out.old.items ++ phrase front.now span) }
 {
-    match ends {
+    match span {
         Some(span) => {
             put(out, front)?;
             put_span(out, span)
@@ -72,8 +62,8 @@ fn put_hidden(out: &mut Vec<u8>, front: &[u8], ends: Option<Span>) -> Result<(),
 fn put_limits(out: &mut Vec<u8>, embargo: Embargo) -> Result<(), AllocError>
     ensures { OnOk result (out.new.items ≡ out.old.items ++ limits_words embargo) }
 {
-    put_opened(out, embargo.begins)?;
-    put_hidden(out, hidden_start(embargo.begins), embargo.ends)
+    put_phrase(out, OPENED_START, embargo.begins)?;
+    put_phrase(out, hidden_start(embargo.begins), embargo.ends)
 }
 
 /// Returns the embargo of a row in words. The text is empty if the row has none, or one of another form.

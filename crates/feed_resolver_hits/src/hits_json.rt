@@ -2,8 +2,8 @@
 ghost use Rattle.std.specs.Prelude.{◌≡◌, ◌++◌, OnOk};
 ghost use Rattle.feed_answer.specs.Grades.{grade_text};
 ghost use Rattle.feed_resolver_reply.specs.JsonLists.{items_from};
-ghost use Rattle.feed_resolver_hits.specs.HitsJson.{availability_text, release_members, grade_members, row_members};
-ghost use Rattle.feed_resolver_hits.specs.HitsJson.{hit_object};
+ghost use Rattle.feed_resolver_hits.specs.HitsJson.{availability_text, release_members, grade_members, title_members};
+ghost use Rattle.feed_resolver_hits.specs.HitsJson.{access_members, hit_object};
 ghost use Rattle.feed_resolver_hits.specs.HitsJson.{more_start, more_object, more_items, hits_json};
 ghost use Rattle.feed_resolver_hits.specs.Tallying.{tally_from};
 
@@ -72,13 +72,9 @@ fn put_grade_members(out: &mut Vec<u8>, found: &ReleaseHit<'_>) -> Result<(), Al
     )
 }
 
-#[tactic(auto, unfolding(crate::specs::HitsJson::row_members))]
-fn put_row_members<'a>(
-    out: &mut Vec<u8>,
-    row: &'a Row,
-    words: &'a [u8],
-) -> Result<(), AllocError>
-    ensures { OnOk result (out.new.items ≡ out.old.items ++ row_members row.now words.now) }
+#[tactic(auto, unfolding(crate::specs::HitsJson::title_members))]
+fn put_title_members(out: &mut Vec<u8>, row: &Row) -> Result<(), AllocError>
+    ensures { OnOk result (out.new.items ≡ out.old.items ++ title_members row.now) }
 {
     put_all(
         out,
@@ -91,6 +87,21 @@ fn put_row_members<'a>(
             Piece::Quoted(row.title_id()),
             Piece::Plain(b",\"depth\":"),
             Piece::Quoted(row.depth()),
+        ],
+    )
+}
+
+#[tactic(auto, unfolding(crate::specs::HitsJson::access_members))]
+fn put_access_members<'a>(
+    out: &mut Vec<u8>,
+    row: &'a Row,
+    words: &'a [u8],
+) -> Result<(), AllocError>
+    ensures { OnOk result (out.new.items ≡ out.old.items ++ access_members row.now words.now) }
+{
+    put_all(
+        out,
+        &[
             Piece::Plain(b",\"embargo\":"),
             Piece::Quoted(row.embargo()),
             Piece::Plain(b",\"embargo_words\":"),
@@ -110,7 +121,8 @@ fn put_object(out: &mut Vec<u8>, found: &ReleaseHit<'_>) -> Result<(), AllocErro
     let words = embargo_words(*out.allocator(), row.embargo())?;
     put_release_members(out, found.name())?;
     put_grade_members(out, found)?;
-    put_row_members(out, row, &words)
+    put_title_members(out, row)?;
+    put_access_members(out, row, &words)
 }
 
 fn put_objects(out: &mut Vec<u8>, hits: &[ReleaseHit<'_>]) -> Result<(), AllocError>

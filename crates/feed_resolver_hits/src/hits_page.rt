@@ -5,7 +5,7 @@ ghost use Rattle.std.specs.Fmt.{decimal};
 ghost use Rattle.std.specs.Option.{option_and_then};
 ghost use Rattle.feed_dates.specs.Days.{date_of_day};
 ghost use Rattle.feed_resolver_reply.specs.Pieces.{joined, piece_text};
-ghost use Rattle.feed_resolver_hits.specs.HitsPage.{availability_words, text_or};
+ghost use Rattle.feed_resolver_hits.specs.HitsPage.{availability_words, package_cell, text_or};
 ghost use Rattle.feed_resolver_hits.specs.HitsPage.{grade_words, title_cell, or_nothing, dates_text, volumes_text};
 ghost use Rattle.feed_resolver_hits.specs.HitsPage.{coverage_cells, text_cells, hit_row, table_head, table_end};
 ghost use Rattle.feed_resolver_hits.specs.HitsPage.{hits_table, at_least, more_text, more_part, hits_part};
@@ -156,31 +156,41 @@ fn text_or<'a>(text: &'a [u8], other: &'a [u8]) -> &'a [u8]
 #[tactic(auto, unfolding(crate::specs::HitsPage::text_cells))]
 fn put_text_cells<'a>(
     out: &mut Vec<u8>,
-    found: &ReleaseHit<'a>,
+    availability: Availability,
+    row: &'a Row,
     words: &'a [u8],
 ) -> Result<(), AllocError>
-    ensures { OnOk result (out.new.items ≡ out.old.items ++ text_cells found.now words.now) }
+    ensures { OnOk result (out.new.items ≡ out.old.items ++ text_cells availability row.now words.now) }
 {
-    let row = found.row();
     put_all(
         out,
         &[
             Piece::Plain(b"</td><td>"),
-            Piece::Plain(availability_words(found.availability())),
+            Piece::Plain(availability_words(availability)),
             Piece::Plain(b"</td><td>"),
             Piece::Escaped(row.depth()),
             Piece::Plain(b"</td><td>"),
             Piece::Escaped(text_or(words, row.embargo())),
             Piece::Plain(b"</td><td>"),
             Piece::Escaped(row.access()),
+        ],
+    )
+}
+
+#[tactic(auto, unfolding(crate::specs::HitsPage::package_cell))]
+fn put_package_cell(out: &mut Vec<u8>, package: &[u8]) -> Result<(), AllocError>
+    ensures { OnOk result (out.new.items ≡ out.old.items ++ package_cell «package».now) }
+{
+    put_all(
+        out,
+        &[
             Piece::Plain(b"</td><td>"),
-            Piece::Escaped(found.name().package()),
+            Piece::Escaped(package),
             Piece::Plain(b"</td></tr>\n"),
         ],
     )
 }
 
-#[tactic(auto, unfolding(crate::specs::HitsPage::hit_row))]
 fn put_row(out: &mut Vec<u8>, found: &ReleaseHit<'_>) -> Result<(), AllocError>
     ensures { OnOk result (out.new.items ≡ out.old.items ++ hit_row found.now) }
 {
@@ -189,7 +199,8 @@ fn put_row(out: &mut Vec<u8>, found: &ReleaseHit<'_>) -> Result<(), AllocError>
     put(out, b"<tr><th scope=\"row\">")?;
     put_title(out, row)?;
     put_coverage(out, found)?;
-    put_text_cells(out, found, &words)
+    put_text_cells(out, found.availability(), row, &words)?;
+    put_package_cell(out, found.name().package())
 }
 
 fn put_rows(out: &mut Vec<u8>, hits: &[ReleaseHit<'_>]) -> Result<(), AllocError>

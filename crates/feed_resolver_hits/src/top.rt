@@ -1,5 +1,5 @@
 //! The hits of the highest ranks.
-ghost use Rattle.std.specs.Prelude.{◌≡◌, [], OnOk};
+ghost use Rattle.std.specs.Prelude.{◌≡◌, ◌≤◌, [], OnOk, length};
 ghost use Rattle.feed_resolver_hits.specs.Tallies.{first_within, shown_limit, text_limit};
 ghost use Rattle.feed_resolver_hits.specs.Tallying.{kept_above, with_top};
 
@@ -24,17 +24,21 @@ impl<'a> Model for Top<'a> {
     ghost view = { λ t. t.hits.items };
 }
 
-// The hits without those at the end that rank below a rank.
-fn kept_above<'a, 'b>(hits: &'b [ReleaseHit<'a>], rank: u8) -> &'b [ReleaseHit<'a>]
-    ensures { result.now ≡ kept_above rank hits.now }
+// The place behind the last hit that does not rank below a rank.
+fn place_of(hits: &[ReleaseHit<'_>], rank: u8) -> usize
+    ensures value { result ≡ length (kept_above rank hits.now) }
+    ensures bound { result ≤ length hits.now }
 {
-    let mut rest = hits;
-    while let Some((last, front)) = rest.split_last()
-        && rank_of(last) < rank
-    {
-        rest = front;
+    match hits.split_last() {
+        Some((last, front)) => {
+            if rank_of(last) < rank {
+                place_of(front, rank)
+            } else {
+                hits.len()
+            }
+        }
+        None => 0,
     }
-    rest
 }
 
 impl<'a> Top<'a> {
@@ -57,7 +61,7 @@ impl<'a> Top<'a> {
     pub(crate) fn add(&mut self, found: ReleaseHit<'a>) -> Result<(), AllocError>
         ensures { OnOk result (self.new ≡ with_top self.old found.entry) }
     {
-        let place = kept_above(&self.hits, rank_of(&found)).len();
+        let place = place_of(&self.hits, rank_of(&found));
         self.hits.insert(place, found)?;
         self.hits.truncate(SHOWN_LIMIT);
         Ok(())
