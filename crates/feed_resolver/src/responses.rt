@@ -55,7 +55,15 @@ fn hits_reply(
         ≡ hits_reply status representation text.now (dated today.now actives.now) query.now) }
 {
     let mut body = Vec::new(alloc);
-    put_answer(alloc, &mut body, representation, text, today, actives, query)?;
+    put_answer(
+        alloc,
+        &mut body,
+        representation,
+        text,
+        today,
+        actives,
+        query,
+    )?;
     Ok(Reply::new(status, representation, body))
 }
 
@@ -82,7 +90,15 @@ fn resolve_reply(
     ensures { IfOk result (λ reply. reply ≡ resolve_reply representation text.now (dated today.now actives.now)) }
 {
     match read_query(alloc, text)? {
-        Ok(query) => hits_reply(alloc, Status::Good, representation, text, today, actives, &query),
+        Ok(query) => hits_reply(
+            alloc,
+            Status::Good,
+            representation,
+            text,
+            today,
+            actives,
+            &query,
+        ),
         Err(reason) => unasked_reply(alloc, Status::Good, representation, text, reason),
     }
 }
@@ -108,7 +124,13 @@ fn package_reply(
 {
     match position_of(actives, package) {
         Some(place) => {
-            resolve_reply(alloc, representation, text, today, &actives[place..place + 1])
+            resolve_reply(
+                alloc,
+                representation,
+                text,
+                today,
+                &actives[place..place + 1],
+            )
         },
         None => refusal(alloc, Status::NotFound, representation, b"NoRelease"),
     }
@@ -144,7 +166,8 @@ fn redirect_reply<'a>(
             Status::NotFound,
             representation,
             text,
-            today, actives,
+            today,
+            actives,
             query,
         ),
     }
@@ -205,7 +228,14 @@ fn resource_reply<'a>(
         Resource::Home => home_reply(alloc, actives),
         Resource::Status => status_reply(alloc, representation, actives),
         Resource::Resolve => resolve_reply(alloc, representation, query, today, actives),
-        Resource::Package => package_reply(alloc, representation, package_in(path), query, today, actives),
+        Resource::Package => package_reply(
+            alloc,
+            representation,
+            package_in(path),
+            query,
+            today,
+            actives,
+        ),
         Resource::Go => go_reply(alloc, accepted, query, today, actives),
         Resource::Unknown => refusal(alloc, Status::NotFound, accepted, b"NoTarget"),
     }

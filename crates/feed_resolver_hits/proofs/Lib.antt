@@ -6,3 +6,4 @@ pub mod Written
 pub mod Tops
 pub mod Tallies
 pub mod SolePlaces
+pub mod NothingTold

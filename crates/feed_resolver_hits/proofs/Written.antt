@@ -19,6 +19,15 @@ release_named old new key text name stem reads is = is
     ∙ ap (λ k. old ++ joined (codes "{\"package\":" ∷ json_string k ∷ codes ",\"release\":" ∷ json_string text ∷ [])) stem
     ∙ ap (λ n. old ++ joined (codes "{\"package\":" ∷ json_string name.stem ∷ codes ",\"release\":" ∷ json_string n ∷ [])) reads
 
+-- the members for the embargo and the access of a row
+pub access_written : (old new embargo access : List ℕ) (row : RowValue) (words : List ℕ) → embargo ≡ row.embargo → access ≡ row.access
+    → new ≡ old ++ joined (codes ",\"embargo\":" ∷ json_string embargo ∷ codes ",\"embargo_words\":" ∷ json_string words ∷ codes ",\"access\":" ∷ json_string access ∷ codes "}" ∷ [])
+    → new ≡ old ++ access_members row words
+unfolding access_members
+access_written old new embargo access row words same also is = is
+    ∙ ap (λ e. old ++ joined (codes ",\"embargo\":" ∷ json_string e ∷ codes ",\"embargo_words\":" ∷ json_string words ∷ codes ",\"access\":" ∷ json_string access ∷ codes "}" ∷ [])) same
+    ∙ ap (λ a. old ++ joined (codes ",\"embargo\":" ∷ json_string row.embargo ∷ codes ",\"embargo_words\":" ∷ json_string words ∷ codes ",\"access\":" ∷ json_string a ∷ codes "}" ∷ [])) also
+
 -- the row of a hit
 pub row_written : (old one two three four new : List ℕ) (row : RowValue) (words stem : List ℕ) (availability : Availability) (found : ReleaseHitValue)
     → row ≡ found.hit.row → words ≡ embargo_words row.embargo → availability ≡ found.availability → stem ≡ found.name.stem

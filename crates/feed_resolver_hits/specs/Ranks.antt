@@ -44,4 +44,4 @@ IsPreferred one other =
     (availability_rank other.availability < availability_rank one.availability)
     ⊎ ((availability_rank other.availability ≡ availability_rank one.availability) × (grade_rank other.hit.grade < grade_rank one.hit.grade))
     ⊎ ((availability_rank other.availability ≡ availability_rank one.availability) × (grade_rank other.hit.grade ≡ grade_rank one.hit.grade)
-      × (text_rank other.hit.row < text_rank one.hit.row))
+    × (text_rank other.hit.row < text_rank one.hit.row))

@@ -11,21 +11,13 @@ use std::alloc::{AllocError, Global};
 const OPENED_START: &[u8] = b"Only the most recent ";
 
 #[tactic(auto, unfolding(crate::specs::EmbargoWords::words_of))]
-fn put_number_of(
-    out: &mut Vec<u8>,
-    number: u32,
-    one: &[u8],
-    many: &[u8],
-) -> Result<(), AllocError>
+fn put_number_of(out: &mut Vec<u8>, number: u32, one: &[u8], many: &[u8]) -> Result<(), AllocError>
     ensures { OnOk result (out.new.items ≡ out.old.items ++ words_of number one.now many.now) }
 {
     if number == 1 {
         return put(out, one);
     }
-    put_all(
-        out,
-        &[Piece::Number(u64::from(number)), Piece::Plain(many)],
-    )
+    put_all(out, &[Piece::Number(u64::from(number)), Piece::Plain(many)])
 }
 
 fn put_span(out: &mut Vec<u8>, span: Span) -> Result<(), AllocError>

@@ -24,9 +24,9 @@ impl<'a> Model for ReleaseHit<'a> {
     ghost Value = { ReleaseHitValue };
 
     ghost view = { λ f. record {
-        name = f.name.now;
-        hit = record { row = f.row.now; grade = f.grade };
-        availability = f.availability;
+      name = f.name.now;
+      hit = record { row = f.row.now; grade = f.grade };
+      availability = f.availability;
     } };
 }
 

@@ -91,7 +91,6 @@ fn put_title_members(out: &mut Vec<u8>, row: &Row) -> Result<(), AllocError>
     )
 }
 
-#[tactic(auto, unfolding(crate::specs::HitsJson::access_members))]
 fn put_access_members<'a>(
     out: &mut Vec<u8>,
     row: &'a Row,

@@ -41,11 +41,11 @@ impl<'a> Model for Tally<'a> {
     ghost Value = { RunningValue };
 
     ghost view = { λ t. record {
-        left = t.left;
-        is_whole = t.is_whole;
-        shown = t.shown;
-        top = t.top;
-        link = t.links;
+      left = t.left;
+      is_whole = t.is_whole;
+      shown = t.shown;
+      top = t.top;
+      link = t.links;
     } };
 }
 
