@@ -1,0 +1,5 @@
+pub mod Urls
+pub mod Kinds
+pub mod Schema
+pub mod Lookups
+pub mod Faults
