@@ -3,3 +3,10 @@ pub mod Kinds
 pub mod Schema
 pub mod Lookups
 pub mod Faults
+pub mod Limits
+pub mod Positions
+pub mod Syntax
+pub mod KeyFaults
+pub mod Site
+pub mod Reading
+pub mod Proxies

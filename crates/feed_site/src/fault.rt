@@ -102,7 +102,7 @@ impl<'a> Model for Misfit<'a> {
 }
 
 impl<'a> Misfit<'a> {
-    ghost use Rattle.std.specs.Prelude.{◌≡◌};
+    ghost use Rattle.std.specs.Prelude.{◌≡◌, option_copied};
     ghost use Rattle.feed_site.specs.Faults.{at_key, at_table, place_of};
 
     pub(crate) fn at_key(
@@ -132,5 +132,35 @@ impl<'a> Misfit<'a> {
             item: None,
             reason,
         }
+    }
+
+    pub(crate) fn section(&self) -> &'a str
+        ensures { result.now ≡ self.now.place.section }
+    {
+        self.section
+    }
+
+    pub(crate) fn row(&self) -> Option<usize>
+        ensures { result ≡ self.now.place.row }
+    {
+        self.row
+    }
+
+    pub(crate) fn key(&self) -> Option<&'a str>
+        ensures { option_copied result ≡ self.now.key }
+    {
+        self.key
+    }
+
+    pub(crate) fn item(&self) -> Option<usize>
+        ensures { result ≡ self.now.item }
+    {
+        self.item
+    }
+
+    pub(crate) fn reason(&self) -> Reason
+        ensures { result ≡ self.now.reason }
+    {
+        self.reason
     }
 }
