@@ -10,3 +10,4 @@ pub mod KeyFaults
 pub mod Site
 pub mod Reading
 pub mod Proxies
+pub mod Laws

@@ -5,6 +5,7 @@ mod checks;
 mod cuts;
 mod fault;
 mod kind;
+mod laws;
 mod links;
 mod lookup;
 mod position;
@@ -17,6 +18,10 @@ mod url;
 mod values;
 
 pub use fault::Reason;
+pub use laws::{
+    excepted_is_direct, free_is_direct, no_proxy_is_direct, others_go_through,
+    subdomains_are_within,
+};
 pub use links::proxied;
 pub use position::Position;
 pub use site_fault::{KeyFault, SiteFault};
