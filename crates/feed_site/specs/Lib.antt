@@ -8,6 +8,7 @@ pub mod Positions
 pub mod Syntax
 pub mod KeyFaults
 pub mod Site
+pub mod Valid
 pub mod Reading
 pub mod Proxies
 pub mod Laws

@@ -1,5 +1,4 @@
 //! Why a site file is refused, and at which of its keys.
-use std::fmt;
 use std::marker::Model;
 
 /// Why the value of a key is not accepted.
@@ -37,9 +36,10 @@ pub enum Reason {
     Order,
 }
 
-impl fmt::Display for Reason {
-    fn fmt<W: fmt::Write>(&self, f: &mut fmt::Formatter<W>) -> fmt::Result {
-        f.write_str(match self {
+impl Reason {
+    /// Returns the reason in words.
+    pub fn words(self) -> &'static str {
+        match self {
             Reason::UnknownKey => "the key is unknown",
             Reason::Missing => "the key is missing",
             Reason::NotTable => "it is not a table",
@@ -49,24 +49,26 @@ impl fmt::Display for Reason {
             Reason::Empty => "the text is empty",
             Reason::Language => "it is not a tag of a language, as en-GB",
             Reason::Color => "it is not a colour, as #00539f",
-            Reason::Url =>
-                "it is not a URL of http or https with a host, as https://library.example/",
+            Reason::Url => {
+                "it is not a URL of http or https with a host, as https://library.example/"
+            }
             Reason::Template => {
                 "it is not a URL of http or https with parts of a citation in braces, \
                 as https://library.example/ill?issn={issn}"
             }
             Reason::Package => {
-                "it is not the name of a package: 1 to 100 letters, digits, -, _ and ., and no . at first"
+                "it is not the name of a package: 1 to 100 letters, digits, -, _ and ., not beginning with ."
             }
-            Reason::Date =>
-                "it is not a year, a month or a day, as \"1996\", \"1996-03\" or \"1996-03-01\"",
+            Reason::Date => {
+                "it is not a year, a month or a day, as \"1996\", \"1996-03\" or \"1996-03-01\""
+            }
             Reason::Host => "it is not the name of a host, as library.example",
             Reason::Order => "it is before the first day",
-        })
+        }
     }
 }
 
-/// What is wrong with a value, and with which item of its list, counted from 1.
+/// The reason why a value is not accepted, and the number of the item if it is a list, counted from 1.
 #[derive(Clone, Copy, Debug, PartialEq, Eq)]
 pub(crate) struct Flaw {
     pub(crate) item: Option<usize>,

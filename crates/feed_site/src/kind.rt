@@ -6,7 +6,7 @@ use crate::template::is_template;
 use crate::text::{is_color, is_date, is_language, is_package};
 use crate::url::is_url;
 
-/// What the value of a key has to be.
+/// A kind of value.
 #[derive(Clone, Copy, Debug, PartialEq, Eq)]
 pub enum Kind {
     /// A text that is not empty.
@@ -30,7 +30,7 @@ pub enum Kind {
 }
 
 impl Kind {
-    /// Returns whether a text is a value of this kind. A switch and a list are no texts.
+    /// Returns whether a text is a value of this kind. A text is never a switch or a list.
     pub(crate) fn has(self, text: &[u8]) -> bool
         ensures { result ≡ is_of self text.now }
     {

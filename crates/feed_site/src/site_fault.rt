@@ -94,20 +94,36 @@ pub enum SiteFault {
     Memory,
 }
 
+impl SiteFault {
+    /// Returns what is wrong, in words.
+    pub fn words(&self) -> &'static str {
+        match self {
+            SiteFault::TooLong => "it is longer than 65,536 bytes",
+            SiteFault::NotUtf8 => "it is not UTF-8",
+            SiteFault::Syntax(_) => "it is not TOML there",
+            SiteFault::Key(fault) => fault.reason().words(),
+            SiteFault::Memory => "out of memory",
+        }
+    }
+}
+
+/// Writes where the fault is: `line 3, column 5`, or the path of a key, in which `?` stands for a control character.
 impl fmt::Display for SiteFault {
     fn fmt<W: fmt::Write>(&self, f: &mut fmt::Formatter<W>) -> fmt::Result {
         match self {
-            SiteFault::TooLong => f.write_str("it is longer than 65536 bytes"),
-            SiteFault::NotUtf8 => f.write_str("it is not UTF-8"),
+            SiteFault::TooLong => f.write_str("TooLong"),
+            SiteFault::NotUtf8 => f.write_str("NotUtf8"),
             SiteFault::Syntax(at) => {
                 let (line, column) = (at.line, at.column);
-                write!(f, "line {line}, column {column}: it is not TOML")
+                write!(f, "line {line}, column {column}")
             }
             SiteFault::Key(fault) => {
-                let (path, reason) = (fault.path(), fault.reason());
-                write!(f, "{path}: {reason}")
+                for c in fault.path().chars() {
+                    f.write_char(if c.is_control() { '?' } else { c })?;
+                }
+                Ok(())
             }
-            SiteFault::Memory => f.write_str("out of memory"),
+            SiteFault::Memory => f.write_str("Memory"),
         }
     }
 }

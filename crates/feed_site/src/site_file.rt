@@ -115,6 +115,7 @@ fn text_of(value: &Value) -> &str
 impl SiteFile {
     ghost use Rattle.std.specs.Prelude.{IfErr, IfOk};
     ghost use Rattle.feed_site.specs.Reading.{IsSiteFault, IsSiteOf};
+    ghost use Rattle.feed_site.specs.Valid.{IsSite};
 
     /// Reads a site file.
     ///
@@ -124,6 +125,7 @@ impl SiteFile {
     /// fails.
     pub fn read(alloc: Global, bytes: &[u8]) -> Result<SiteFile, SiteFault>
         ensures read { IfOk result (IsSiteOf bytes.now) }
+        ensures valid { IfOk result IsSite }
         ensures refused { IfErr result (IsSiteFault bytes.now) }
     {
         if bytes.len() > SITE_LIMIT {

@@ -28,7 +28,7 @@ fn is_all_visible(url: &[u8]) -> bool
     url.iter().all(|byte| is_visible(*byte))
 }
 
-// What follows `http://` or `https://`.
+// Returns the rest of a URL after `http://` or `https://`.
 fn after_scheme(url: &[u8]) -> Option<&[u8]>
     ensures { option_copied result ≡ after_scheme url.now }
 {
