@@ -11,12 +11,15 @@ use std::alloc::{AllocError, Global};
 use std::io::Write;
 use std::marker::Model;
 
-/// What the replies of a node depend on beside its releases: the version of the program and the settings.
+/// All that the replies of a node depend on beside its releases: the version of the program, the settings and the site
+/// file.
 #[derive(Drop)]
 pub struct Site {
     version: Digested,
     /// The settings as a text.
     settings: Digested,
+    /// The bytes of the site file.
+    file: Digested,
     /// The text about the releases whose digest was computed last.
     releases: Digested,
     /// For how many seconds a cache may use a reply without asking again; 0 if it always has to ask.
@@ -30,7 +33,7 @@ impl Model for Site {
 
     ghost Value = { SiteValue };
 
-    ghost view = { λ s. record { version = s.version; max_age = s.max_age } };
+    ghost view = { λ s. record { version = s.version; max_age = s.max_age; file = s.file } };
 
     ghost invariant = { λ s. s.settings ≡ decimal s.max_age };
 }
@@ -58,14 +61,16 @@ fn decimal(alloc: Global, number: u32) -> Result<Vec<u8>, AllocError>
 fn digest_of(
     version: &Digested,
     settings: &Digested,
+    file: &Digested,
     releases: &Digested,
     representation: Representation,
 ) -> [u8; 32]
-    ensures { result ≡ sha256 (tag_message version.now settings.now releases.now representation) }
+    ensures { result ≡ sha256 (tag_message version.now settings.now file.now releases.now representation) }
 {
     let mut hasher = Sha256::new();
     hasher.update(version.digest().as_slice());
     hasher.update(settings.digest().as_slice());
+    hasher.update(file.digest().as_slice());
     hasher.update(releases.digest().as_slice());
     hasher.update([kind_of(representation)].as_slice());
     hasher.finalize()
@@ -83,15 +88,23 @@ fn quoted_hex(alloc: Global, digest: &[u8]) -> Result<Vec<u8>, AllocError>
 }
 
 impl Site {
-    /// Begins with the version of the program, and for how many seconds a cache may use a reply without asking again.
-    pub fn new(alloc: Global, version: &[u8], max_age: u32) -> Result<Site, AllocError>
-        ensures { IfOk result (λ site. (site.version ≡ version.now) × (site.max_age ≡ max_age)) }
+    /// Begins with the version of the program, for how many seconds a cache may use a reply without asking again, and
+    /// the bytes of the site file, which are none if there is no such file.
+    pub fn new(
+        alloc: Global,
+        version: &[u8],
+        max_age: u32,
+        file: Vec<u8>,
+    ) -> Result<Site, AllocError>
+        ensures { IfOk result (λ site. site
+            ≡ record { version = version.now; max_age = max_age; file = file.items }) }
     {
         let settings = Digested::new(decimal(alloc, max_age)?);
         let version = Digested::new(Vec::from_slice(alloc, version)?);
         Ok(Site {
             version,
             settings,
+            file: Digested::new(file),
             releases: Digested::new(Vec::new(alloc)),
             max_age,
         })
@@ -129,7 +142,13 @@ impl Site {
     ) -> Result<Vec<u8>, AllocError>
         ensures { IfOk result (λ tag. tag.items ≡ entity_tag (inputs_of self.now releases.now representation)) }
     {
-        let digest = digest_of(&self.version, &self.settings, releases, representation);
+        let digest = digest_of(
+            &self.version,
+            &self.settings,
+            &self.file,
+            releases,
+            representation,
+        );
         quoted_hex(alloc, &digest)
     }
 }

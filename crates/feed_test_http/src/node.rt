@@ -27,7 +27,7 @@ pub struct Node<'a> {
 
 impl<'a> Node<'a> {
     pub fn new(rt: &'a HostRuntime, step: usize) -> Result<Node<'a>, Fault> {
-        let site = Site::new(rt.alloc(), b"1.0", 0)?;
+        let site = Site::new(rt.alloc(), b"1.0", 0, Vec::new(rt.alloc()))?;
         match Feed::open(rt.alloc(), ListKeep::new(rt.alloc())) {
             Ok(feed) => Ok(Node {
                 rt,
@@ -75,6 +75,7 @@ impl<'a> Node<'a> {
             self.rt.alloc(),
             version,
             max_age.min(u64::from(u32::MAX)) as u32,
+            line.text(self.rt.alloc())?,
         )?;
         Ok(())
     }
