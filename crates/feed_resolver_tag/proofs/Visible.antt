@@ -49,14 +49,14 @@ hex_visible bytes small = All-weaker (λ c. is_hex_digit c ≡ true) (λ c. is_u
 pub tag_visible : (inputs : TagInputs) → AllPass is_uri_byte (entity_tag inputs)
 unfolding entity_tag
 tag_visible inputs =
-    let digest : List ℕ = sha256 (tag_message inputs.version inputs.settings inputs.releases inputs.representation) in
+    let digest : List ℕ = sha256 (tag_message inputs.version inputs.settings inputs.file inputs.releases inputs.representation) in
     All-append (λ c. is_uri_byte c ≡ true) (34 ∷ []) (encode_lower digest ++ 34 ∷ []) (AllPass-from_list_all is_uri_byte (34 ∷ []) refl)
-    (All-append (λ c. is_uri_byte c ≡ true) (encode_lower digest) (34 ∷ []) (hex_visible digest (sha_small (tag_message inputs.version inputs.settings inputs.releases inputs.representation)))
+    (All-append (λ c. is_uri_byte c ≡ true) (encode_lower digest) (34 ∷ []) (hex_visible digest (sha_small (tag_message inputs.version inputs.settings inputs.file inputs.releases inputs.representation)))
     (AllPass-from_list_all is_uri_byte (34 ∷ []) refl))
 
 -- a tag from the digest of its inputs
 pub tag_made : (site : SiteValue) (settings releases : List ℕ) (representation : Representation) (digest : List ℕ) → settings ≡ decimal site.max_age
-    → digest ≡ sha256 (tag_message site.version settings releases representation) → quoted_hex digest ≡ entity_tag (inputs_of site releases representation)
+    → digest ≡ sha256 (tag_message site.version settings site.file releases representation) → quoted_hex digest ≡ entity_tag (inputs_of site releases representation)
 unfolding entity_tag
 tag_made site settings releases representation digest is made =
-    ap quoted_hex (made ∙ ap (λ t. sha256 (tag_message site.version t releases representation)) is)
+    ap quoted_hex (made ∙ ap (λ t. sha256 (tag_message site.version t site.file releases representation)) is)
