@@ -5,8 +5,8 @@ use std::alloc::Global;
 use std::fmt;
 use std::io::Write;
 
-/// Returns the bytes of the site file at a path, if it is a good one, or none without a path. Otherwise reports the fault
-/// and returns the exit status.
+/// Returns the bytes of the site file at a path, if it is a good one, or none without a path. Otherwise reports the
+/// fault and returns the exit status.
 pub fn read_site_file<F: Write + Drop>(
     rt: &HostRuntime,
     path: Option<&str>,

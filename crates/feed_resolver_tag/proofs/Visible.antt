@@ -51,7 +51,8 @@ unfolding entity_tag
 tag_visible inputs =
     let digest : List ℕ = sha256 (tag_message inputs.version inputs.settings inputs.file inputs.releases inputs.representation) in
     All-append (λ c. is_uri_byte c ≡ true) (34 ∷ []) (encode_lower digest ++ 34 ∷ []) (AllPass-from_list_all is_uri_byte (34 ∷ []) refl)
-    (All-append (λ c. is_uri_byte c ≡ true) (encode_lower digest) (34 ∷ []) (hex_visible digest (sha_small (tag_message inputs.version inputs.settings inputs.file inputs.releases inputs.representation)))
+    (All-append (λ c. is_uri_byte c ≡ true) (encode_lower digest) (34 ∷ [])
+    (hex_visible digest (sha_small (tag_message inputs.version inputs.settings inputs.file inputs.releases inputs.representation)))
     (AllPass-from_list_all is_uri_byte (34 ∷ []) refl))
 
 -- a tag from the digest of its inputs

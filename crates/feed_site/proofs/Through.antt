@@ -22,7 +22,8 @@ pub free_is_target : (site : SiteValue) (target : List ℕ) → proxied site tar
 unfolding proxied
 free_is_target site target = refl
 
-pub excepted_is_target : (site : SiteValue) (target host : List ℕ) (is_free : Bool) → host_of target ≡ Some host → is_excepted site.except host ≡ true → proxied site target is_free ≡ target
+pub excepted_is_target : (site : SiteValue) (target host : List ℕ) (is_free : Bool) → host_of target ≡ Some host
+    → is_excepted site.except host ≡ true → proxied site target is_free ≡ target
 unfolding proxied
 excepted_is_target site target host true h e = refl
 excepted_is_target site target host false h e = rw (h, e)

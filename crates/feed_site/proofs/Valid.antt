@@ -1,5 +1,6 @@
 -- What a document without a fault has at its keys.
-use Rattle.std.proofs.Common.{◌≡◌, ℕ, ◌+◌, ℤ, ◌&&◌, Bool, true, false, not, is_some, List, [], ◌∷◌, Option, Some, None, option_map, unwrap_or, if◌then◌else◌, codes, Ordering, Less, Equal, Greater, nat_cmp, refl, sym, ◌∙◌, ap}
+use Rattle.std.proofs.Common.{◌≡◌, ℕ, ◌+◌, ℤ, ◌&&◌, Bool, true, false, not, is_some, List, [], ◌∷◌, Option, Some, None, option_map, unwrap_or, if◌then◌else◌}
+use Rattle.std.proofs.Common.{codes, Ordering, Less, Equal, Greater, nat_cmp, refl, sym, ◌∙◌, ap}
 use Rattle.std.specs.Prelude.{int_lt}
 use Rattle.std.specs.Option.{option_and_then}
 use Rattle.std.specs.List.{list_all}
@@ -19,7 +20,9 @@ use Rattle.feed_site.specs.Urls.{is_host}
 use Rattle.feed_site.specs.Kinds.{is_of}
 use Rattle.feed_site.specs.Schema.{is_list, kind_of, required, section_of}
 use Rattle.feed_site.specs.Lookups.{items_at, table_at, text_at}
-use Rattle.feed_site.specs.Faults.{MisfitValue, PlaceValue, at_key, days_at, fault_of, fields_fault, flaw, host_flaw, host_flaws, host_reason, hosts_flaw, is_backward, kind_fault, list_fault, missing_fault, or_misfit, order_fault, place_of, row_fault, rows_fault, section_fault, single_fault, table_fault, text_flaw, value_flaw, reason_of}
+use Rattle.feed_site.specs.Faults.{MisfitValue, PlaceValue, at_key, days_at, fault_of, fields_fault, flaw, host_flaw, host_flaws, host_reason, hosts_flaw, is_backward, kind_fault}
+use Rattle.feed_site.specs.Faults.{list_fault, missing_fault, or_misfit, order_fault, place_of, row_fault, rows_fault, section_fault, single_fault, table_fault, text_flaw, value_flaw}
+use Rattle.feed_site.specs.Faults.{reason_of}
 use Rattle.feed_site.specs.Site.{SiteValue, except_in, first_day, holding_of, last_day, or_empty, package_of, row_or, rows_in, rows_of, site_of, text_in, texts_in, texts_of, title_of}
 use Rattle.feed_site.specs.Valid.{IsSite, fits, is_forward, is_holding, is_package_rule, is_title_rule}
 

@@ -1,5 +1,6 @@
 -- URLs of `http` and `https`, and the hosts that they name (RFC 3986, section 3; RFC 9110, section 4.2).
-use Rattle.std.specs.Prelude.{ℕ, ◌&&◌, ◌||◌, ◌==◌, ◌+◌, ◌-◌, Bool, false, not, nat_lt, nat_le, List, [], ◌∷◌, length, codes, take, drop, Option, Some, None, if◌then◌else◌, option_map}
+use Rattle.std.specs.Prelude.{ℕ, ◌&&◌, ◌||◌, ◌==◌, ◌+◌, ◌-◌, Bool, false, not, nat_lt, nat_le, List, [], ◌∷◌, length, codes, take, drop, Option, Some, None}
+use Rattle.std.specs.Prelude.{if◌then◌else◌, option_map}
 use Rattle.std.specs.List.{list_all, list_any, before_first, after_first, slice_split}
 use Rattle.std.specs.Char.{is_ascii_alphanumeric}
 use Rattle.std.specs.Str.{str_eq_ignore_ascii_case}
