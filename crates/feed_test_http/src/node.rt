@@ -87,16 +87,7 @@ impl<'a> Node<'a> {
     fn respond(&self, mut line: Line<'_>) -> Result<(), Fault> {
         let keeps = line.flag("keep", "close")?;
         let request = line.text(self.rt.alloc())?;
-        let reply = respond(
-            self.rt.alloc(),
-            &request,
-            b"",
-            keeps,
-            &self.site,
-            &self.feed,
-        )?;
-        println!(self.rt; "{}", Escaped(reply.bytes()))?;
-        Ok(())
+        self.print_reply(&request, b"", keeps)
     }
 
     fn respond_to_form(&self, mut line: Line<'_>) -> Result<(), Fault> {
@@ -104,9 +95,13 @@ impl<'a> Node<'a> {
         let body = line.word()?.as_bytes();
         let request = line.text(self.rt.alloc())?;
         println!(self.rt; "length {}", form_length_of(&request))?;
+        self.print_reply(&request, body, keeps)
+    }
+
+    fn print_reply(&self, request: &[u8], body: &[u8], keeps: bool) -> Result<(), Fault> {
         let reply = respond(
             self.rt.alloc(),
-            &request,
+            request,
             body,
             keeps,
             &self.site,
