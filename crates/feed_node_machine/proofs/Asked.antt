@@ -27,6 +27,7 @@ module _ {T K S : Type 0} {k : Ghosts K} (wanted : S → RequestHead → ℕ)
     feed = has.feed;
     fetching = has.fetching;
     requested = λ name e. absurd (cc);
+    today = has.today;
     allowed = has.allowed;
     given = has.given;
   })
@@ -43,6 +44,7 @@ module _ {T K S : Type 0} {k : Ghosts K} (wanted : S → RequestHead → ℕ)
           feed = has.feed;
           fetching = λ fetching e. inr (has.fetching fetching e);
           requested = λ n e. inl (cc);
+          today = has.today;
           allowed = (
             record {
               connection = peer.connection;

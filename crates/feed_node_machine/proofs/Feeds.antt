@@ -16,7 +16,7 @@ use Rattle.feed_fetch.specs.declared.machine.Phase.{Phase}
 use Rattle.feed_fetch.specs.declared.machine.Phase.TheVariants as phases
 use Rattle.feed_fetch.specs.declared.stop.RequestFault.{RequestFault}
 use Rattle.feed_fetch.specs.Steps.{IsReplyEvent}
-use Rattle.feed_node_machine.specs.NodeEvents.{NodeEvent, Accepted, Served, Passed, Asked, Took, TookPart, Reopened, feed_history, IsMoment}
+use Rattle.feed_node_machine.specs.NodeEvents.{NodeEvent, Accepted, Served, Passed, DayBegan, Asked, Took, TookPart, Reopened, feed_history, IsMoment}
 use Rattle.feed_node_machine.specs.Rules.{AreGiven}
 use Rattle.feed_node_machine.specs.Promise.{AgreeWith, IsOfFile, AreOfFiles, FilesArePublished, NeverOlder}
 
@@ -64,6 +64,7 @@ keeps_moment [] moment legal = keeps_all (feed_history moment)
 keeps_moment (Accepted key ∷ later) moment legal = keeps_moment later moment legal
 keeps_moment (Served key share ∷ later) moment legal = keeps_moment later moment legal
 keeps_moment (Passed millis ∷ later) moment legal = keeps_moment later moment legal
+keeps_moment (DayBegan today ∷ later) moment legal = keeps_moment later moment legal
 keeps_moment (Asked key bytes name ∷ later) moment legal = keeps_moment later moment legal
 keeps_moment (Took name phase reply steps ∷ later) moment legal =
     let h = feed_history (later ++ moment) in
@@ -196,6 +197,7 @@ over_history file [] given of = record { size = λ n s e. absurd (cc); bytes = �
 over_history file (Accepted key ∷ earlier) given of = over_history file earlier given of
 over_history file (Served key share ∷ earlier) given of = over_history file earlier given of
 over_history file (Passed millis ∷ earlier) given of = over_history file earlier given of
+over_history file (DayBegan today ∷ earlier) given of = over_history file earlier given of
 over_history file (Asked key bytes name ∷ earlier) given of = over_history file earlier given of
 over_history file (Took name phase reply steps ∷ earlier) given of =
     over_steps file steps (feed_history earlier) (true_steps file name phase reply steps of.0 (recursion_from_All _ steps given.0)) (over_history file earlier given.1 of.1)

@@ -4,3 +4,4 @@ pub mod Feeds
 pub mod Moments
 pub mod Shares
 pub mod Asked
+pub mod Later

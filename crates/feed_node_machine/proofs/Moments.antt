@@ -1,7 +1,7 @@
 -- The requests that made a node fetch.
 use Rattle.std.proofs.Common.{◌≡◌, ℕ, List, [], ◌∷◌, ◌++◌, Option, ◌⊎◌, inl, inr, refl, sym, ap, subst}
 use Rattle.feed_names.specs.ReleaseName.{Name}
-use Rattle.feed_node_machine.specs.NodeEvents.{NodeEvent, Accepted, Served, Passed, Asked, Took, TookPart, Reopened, WasAsked, IsMoment, events_of}
+use Rattle.feed_node_machine.specs.NodeEvents.{NodeEvent, Accepted, Served, Passed, DayBegan, Asked, Took, TookPart, Reopened, WasAsked, IsMoment, events_of}
 use Rattle.feed_node_machine.specs.Rules.{Rules, IsAskedBy, AreAllowed}
 use Rattle.feed_node_machine.specs.Promise.{IsAuthorized, ChangesByToken, AreOfTheMoment}
 
@@ -22,6 +22,7 @@ authorized rules token name [] allowed was = absurd was
 authorized rules token name (Accepted key ∷ earlier) allowed was = authorized_more token name (Accepted key) earlier (authorized rules token name earlier allowed was)
 authorized rules token name (Served key share ∷ earlier) allowed was = authorized_more token name (Served key share) earlier (authorized rules token name earlier allowed.1 was)
 authorized rules token name (Passed millis ∷ earlier) allowed was = authorized_more token name (Passed millis) earlier (authorized rules token name earlier allowed was)
+authorized rules token name (DayBegan today ∷ earlier) allowed was = authorized_more token name (DayBegan today) earlier (authorized rules token name earlier allowed was)
 authorized rules token name (Asked key bytes other ∷ earlier) allowed (inl same) = record {
   key = key;
   bytes = bytes;
@@ -47,4 +48,4 @@ changes_by_token rules token history allowed = record {
 -- the replies of a share are of its moment
 pub of_the_moment : (rules : Rules) (token : Option (List ℕ)) (history : List NodeEvent) → AreAllowed rules token history → AreOfTheMoment rules token history
 of_the_moment rules token history allowed key share earlier is =
-    let so = subst (AreAllowed rules token) is allowed in (so.0.is_busy, so.0.is_local, so.0.replied)
+    let so = subst (AreAllowed rules token) is allowed in (so.0.is_busy, so.0.is_local, so.0.today, so.0.day, so.0.replied)

@@ -9,7 +9,7 @@ use Rattle.feed_node_connection.specs.States.{HasState}
 use Rattle.feed_node_connection.specs.Streams.{AreReplies}
 use Rattle.feed_node_connection.proofs.States.{all_served}
 use Rattle.feed_node_table.specs.Connections.{in_room}
-use Rattle.feed_node_machine.specs.NodeEvents.{NodeEvent, Accepted, Served, Passed, Asked, Took, TookPart, Reopened, events_of, feed_history, IsMoment}
+use Rattle.feed_node_machine.specs.NodeEvents.{NodeEvent, Accepted, Served, Passed, DayBegan, Asked, Took, TookPart, Reopened, events_of, feed_history, IsMoment}
 use Rattle.feed_node_machine.specs.Rules.{Rules, Terms, replies_at, terms_with, IsShare, AreAllowed}
 use Rattle.feed_node_machine.specs.Promise.{IsMadeFor, replies_in}
 
@@ -96,6 +96,8 @@ module _ (rules : Rules) (token : Option (List ℕ)) (key : ℕ) where
     moment = moment_more event (Served key is.share ∷ is.earlier) history is.moment;
     is_busy = is.is_busy;
     is_local = is.is_local;
+    today = is.today;
+    day = is.day;
     made = is.made;
   }
 
@@ -112,7 +114,8 @@ module _ (rules : Rules) (token : Option (List ℕ)) (key : ℕ) where
       → AreReplies (replies_in rules token key (Served key share ∷ earlier)) share
   of_share share earlier is =
       are_more rules.0 _ (IsMadeFor rules token key (Served key share ∷ earlier))
-      (λ head body keeps reply made. record { share = share; earlier = earlier; moment = ([], refl); is_busy = is.is_busy; is_local = is.is_local; made = made })
+      (λ head body keeps reply made.
+      record { share = share; earlier = earlier; moment = ([], refl); is_busy = is.is_busy; is_local = is.is_local; today = is.today; day = is.day; made = made })
       share is.replied
 
   -- what holds of the events under this key, by whether the share was its own
@@ -137,6 +140,7 @@ module _ (rules : Rules) (token : Option (List ℕ)) (key : ℕ) where
       (of_share share earlier (subst (λ n. IsShare rules token n share earlier) same allowed.0))) rest)
       rest
   all_made (Passed millis ∷ earlier) allowed = more_in (Passed millis) earlier (events_of key earlier) (all_made earlier allowed)
+  all_made (DayBegan today ∷ earlier) allowed = more_in (DayBegan today) earlier (events_of key earlier) (all_made earlier allowed)
   all_made (Asked other bytes name ∷ earlier) allowed = more_in (Asked other bytes name) earlier (events_of key earlier) (all_made earlier allowed.1)
   all_made (Took name phase reply steps ∷ earlier) allowed = more_in (Took name phase reply steps) earlier (events_of key earlier) (all_made earlier allowed.1)
   all_made (TookPart name first size bytes answer ∷ earlier) allowed =
@@ -168,6 +172,7 @@ module _ (rules : Rules) (token : Option (List ℕ)) (key : ℕ) where
           (of_share share earlier (subst (λ n. IsShare rules token n share earlier) same allowed.0)))
           (more_in (Served other share) earlier (events_of key earlier) (all_made earlier allowed.1))
   all_served_in (Passed millis ∷ earlier) allowed = served_in (Passed millis) earlier _ _ (all_served_in earlier allowed)
+  all_served_in (DayBegan today ∷ earlier) allowed = served_in (DayBegan today) earlier _ _ (all_served_in earlier allowed)
   all_served_in (Asked other bytes name ∷ earlier) allowed = served_in (Asked other bytes name) earlier _ _ (all_served_in earlier allowed.1)
   all_served_in (Took name phase reply steps ∷ earlier) allowed = served_in (Took name phase reply steps) earlier _ _ (all_served_in earlier allowed.1)
   all_served_in (TookPart name first size bytes answer ∷ earlier) allowed =

@@ -2,6 +2,7 @@
 use Rattle.std.proofs.Common.{◌≡◌, ◌≢◌, ℕ, Bool, true, false, List, [], ◌∷◌, ◌++◌, Option, Some, None, Ok, ◌⊎◌, inl, inr, refl, sym, ap, subst, ◌∙◌}
 use Rattle.std.specs.Prelude.{IfSome, ◌==◌, length}
 use Rattle.httparse.specs.Grammar.{RequestHead}
+use Rattle.feed_embargo.specs.Today.{TodayValue}
 use Rattle.feed_names.specs.ReleaseName.{Name}
 use Rattle.feed_keep.specs.declared.keep.Keep.{Ghosts}
 use Rattle.feed_model.specs.History.{History}
@@ -21,7 +22,7 @@ use Rattle.feed_node_table.specs.Logs.{Entry}
 use Rattle.feed_node_table.specs.Tables.{peer_at, has_room_in, IsServed, IsFollowedAt, KeepsConnections, KeepsOthers}
 use Rattle.feed_node_table.proofs.Firsts.{same_peer}
 use Rattle.feed_node_machine.specs.declared.occasion.Occasion.{Occasion}
-use Rattle.feed_node_machine.specs.NodeEvents.{NodeEvent, Served, events_of, feed_history}
+use Rattle.feed_node_machine.specs.NodeEvents.{NodeEvent, Served, events_of, feed_history, today_in}
 use Rattle.feed_node_machine.specs.Occasions.{terms_of, IsReplyOn}
 use Rattle.feed_node_machine.specs.Rules.{Rules, Terms, replies_at, terms_with, IsShare}
 use Rattle.feed_node_machine.specs.Nodes.{AreAt}
@@ -32,10 +33,10 @@ use Rattle.feed_node_machine.proofs.Replies.{from_room}
 pub reply_to : {K : Type 0} {k : Ghosts K} (replies : Terms → History → List ℕ → List ℕ → Bool → List ℕ → Type 0) (occasion : Occasion K k) (token : Option (List ℕ))
     (h : History) → occasion.policy.token ≡ token → IsContent (recorded occasion.feed.now) h → (head body : List ℕ) (keeps : Bool) (reply : Option (List ℕ))
     → IsReplyOn replies occasion head body keeps reply
-    → IfSome reply (replies (terms_with token occasion.policy.is_busy occasion.is_local) h head body keeps)
+    → IfSome reply (replies (terms_with token occasion.policy.is_busy occasion.is_local occasion.today) h head body keeps)
 reply_to replies occasion token h same content head body keeps None is = tt
 reply_to replies occasion token h same content head body keeps (Some text) is =
-    subst (λ (t : Option (List ℕ)). replies (terms_with t occasion.policy.is_busy occasion.is_local) h head body keeps text) same (is h content)
+    subst (λ (t : Option (List ℕ)). replies (terms_with t occasion.policy.is_busy occasion.is_local occasion.today) h head body keeps text) same (is h content)
 
 module _ {T : Type 0} where
   -- the table has this history, with one more share of this connection if it is there
@@ -43,13 +44,13 @@ module _ {T : Type 0} where
   MovesBy rules token key table history =
       AreAt table history ⊎ ((share : List Event) × AreAt table (Served key share ∷ history) × IsShare rules token key share history)
 
-  pub serve_moves : (rules : Rules) (some : List ℕ → List ℕ → Bool → Option (List ℕ) → Type 0) (token : Option (List ℕ)) (is_busy is_local : Bool)
+  pub serve_moves : (rules : Rules) (some : List ℕ → List ℕ → Bool → Option (List ℕ) → Type 0) (token : Option (List ℕ)) (is_busy is_local : Bool) (today : TodayValue)
       (key : ℕ) (progress : Progress) (share left : Share) (old new : Table T) (history : List NodeEvent)
       → ((head body : List ℕ) (keeps : Bool) (reply : Option (List ℕ)) → some head body keeps reply
-      → IfSome reply (rules.1 (terms_with token is_busy is_local) (feed_history history) head body keeps))
+      → IfSome reply (rules.1 (terms_with token is_busy is_local today) (feed_history history) head body keeps))
       → IsServed (rules.0, some) key progress share left old new → KeepsOthers key old new → (peer_at old key ≡ None → peer_at new key ≡ None)
-      → AreAt old history → MovesBy rules token key new history
-  serve_moves rules some token is_busy is_local key progress share left old new history text served others absent at = by (peer_at old key) refl
+      → AreAt old history → today_in history ≡ Some today → MovesBy rules token key new history
+  serve_moves rules some token is_busy is_local today key progress share left old new history text served others absent at day = by (peer_at old key) refl
     where
       by : (slot : Option (Peer T)) → peer_at old key ≡ slot → MovesBy rules token key new history
       by None is = inl (at_kept old new history (keeps_others key old new others (absent is)) at)
@@ -65,15 +66,18 @@ module _ {T : Type 0} where
               state = moved.state;
               is_busy = is_busy;
               is_local = is_local;
-              replied = from_room rules.0 (has_room_in old) some (rules.1 (terms_with token is_busy is_local) (feed_history history)) text moved.more moved.replies_made;
+              today = today;
+              day = day;
+              replied = from_room rules.0 (has_room_in old) some (rules.1 (terms_with token is_busy is_local today) (feed_history history)) text moved.more moved.replies_made;
             },
           )
 
   module _ {L : Type 0} (records : L → Entry → L → Type 0) where
-    pub settle_moves : (rules : Rules) (token : Option (List ℕ)) (key : ℕ) (progress : Progress) (now : ℕ) (what : Outcome) (old new : Table T) (log after : L)
+    pub settle_moves : (rules : Rules) (token : Option (List ℕ)) (today : TodayValue) (key : ℕ) (progress : Progress) (now : ℕ) (what : Outcome) (old new : Table T) (log after : L)
         (history : List NodeEvent) → ((peer : Peer T) → peer_at old key ≡ Some peer → IsFollowedAt records key progress now what peer new log after)
-        → KeepsOthers key old new → (peer_at old key ≡ None → peer_at new key ≡ None) → AreAt old history → MovesBy rules token key new history
-    settle_moves rules token key progress now what old new log after history followed others absent at = by (peer_at old key) refl
+        → KeepsOthers key old new → (peer_at old key ≡ None → peer_at new key ≡ None) → AreAt old history → today_in history ≡ Some today
+        → MovesBy rules token key new history
+    settle_moves rules token today key progress now what old new log after history followed others absent at day = by (peer_at old key) refl
       where
         same : (peer next : Peer T) → peer_at old key ≡ Some peer → peer_at new key ≡ Some next → next.connection ≡ peer.connection → MovesBy rules token key new history
         same peer next is there kept = inl (at_kept old new history (keeps_here key old new peer next others is there kept) at)
@@ -90,7 +94,7 @@ module _ {T : Type 0} where
               at_served key (Resumed (length (rest_of peer.connection) == 0) ∷ []) old new history others
                   (λ other here. subst (λ (p : Peer T). HasState p.connection (Resumed (length (rest_of peer.connection) == 0) ∷ events_of key history))
                   (same_peer other it (peer_at new key) here there) state) at,
-              record { connection = it.connection; state = state; is_busy = false; is_local = false; replied = tt },
+              record { connection = it.connection; state = state; is_busy = false; is_local = false; today = today; day = day; replied = tt },
             )
 
         by : (slot : Option (Peer T)) → peer_at old key ≡ slot → MovesBy rules token key new history

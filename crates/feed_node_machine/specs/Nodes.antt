@@ -1,5 +1,5 @@
 -- The node after a history.
-use Rattle.std.specs.Prelude.{◌≡◌, ◌⊎◌, ◌∷◌, ℕ, Bool, List, Option, Some, Ok, Result, option_copied}
+use Rattle.std.specs.Prelude.{◌≡◌, ◌⊎◌, ◌∷◌, ◌++◌, ℕ, Bool, List, Option, Some, Ok, Result, option_copied}
 use Rattle.httparse.specs.Grammar.{RequestHead}
 use Rattle.feed_names.specs.ReleaseName.{Name}
 use Rattle.feed_keep.specs.declared.keep.Keep.{Ghosts}
@@ -15,7 +15,7 @@ use Rattle.feed_node_table.specs.declared.table.Table.{Table}
 use Rattle.feed_node_table.specs.Tables.{peer_at, KeepsOthers}
 use Rattle.feed_node_machine.specs.declared.fetching.Fetching.{Fetching}
 use Rattle.feed_node_machine.specs.declared.machine.NodeMachine.{NodeMachine}
-use Rattle.feed_node_machine.specs.NodeEvents.{NodeEvent, Served, Asked, Took, TookPart, events_of, feed_history, WasAsked}
+use Rattle.feed_node_machine.specs.NodeEvents.{NodeEvent, Served, Asked, Took, TookPart, events_of, feed_history, today_in, WasAsked}
 use Rattle.feed_node_machine.specs.Rules.{Rules, Terms, AreAllowed, AreGiven}
 
 -- each connection of the table has the state that the events under its key determine
@@ -34,6 +34,7 @@ module _ {T K S : Type 0} {k : Ghosts K} where
     pub fetching : new.fetching ≡ old.fetching
     pub responder : new.responder ≡ old.responder
     pub token : new.token ≡ old.token
+  pub today : new.today ≡ old.today
 
 module _ {T K S : Type 0} {k : Ghosts K} (wanted : S → RequestHead → ℕ)
     (replies : S → Terms → History → List ℕ → List ℕ → Bool → List ℕ → Type 0) where
@@ -42,12 +43,14 @@ module _ {T K S : Type 0} {k : Ghosts K} (wanted : S → RequestHead → ℕ)
   rules_of node = (wanted node.responder, replies node.responder)
 
   -- the node has this history: each connection has the state that its events determine, the feed holds what its events gave
-  -- it, a request asked for the release that it fetches or is to fetch, and each event was allowed
+  -- it, a request asked for the release that it fetches or is to fetch, the day is the one that began last, and each event
+  -- was allowed
   pub record HasHistory (node : NodeMachine T K S k) (history : List NodeEvent) : Type 0 where
     pub connections : AreAt node.table history
     pub feed : IsContent (recorded node.feed) (feed_history history)
     pub fetching : (fetching : Fetching) → node.fetching ≡ Some fetching → WasAsked fetching.name history
     pub requested : (name : Name) → node.requested ≡ Some (Ok name) → WasAsked name history
+    pub today : today_in history ≡ Some node.today
     pub allowed : AreAllowed (rules_of node) (option_copied node.token) history
     pub given : AreGiven history
 
@@ -74,3 +77,11 @@ module _ {T K S : Type 0} {k : Ghosts K} (wanted : S → RequestHead → ℕ)
   HasTakenPart first size bytes old new history =
       (fetching : Fetching) → old.fetching ≡ Some fetching
       → (answer : Answer) × HasHistory new (TookPart fetching.name first size bytes answer ∷ history)
+
+  -- the node has each history that it had
+  abbrev pub KeepsHistory : NodeMachine T K S k → NodeMachine T K S k → Type 0
+  KeepsHistory old new = (history : List NodeEvent) → HasHistory old history → HasHistory new history
+
+  -- each history that the node had goes on with some events to one that it has
+  pub record IsLater (old new : NodeMachine T K S k) : Type 0 where
+    pub history : (history : List NodeEvent) → HasHistory old history → (later : List NodeEvent) × HasHistory new (later ++ history)

@@ -9,7 +9,7 @@ use Rattle.feed_node_machine.specs.Rules.{Terms}
 
 -- the circumstances beside the feed
 abbrev pub terms_of : {K : Type 0} {k : Ghosts K} → Occasion K k → Terms
-terms_of occasion = record { policy = occasion.policy; is_local = occasion.is_local }
+terms_of occasion = record { policy = occasion.policy; is_local = occasion.is_local; today = occasion.today }
 
 -- the reply, if there is one, is right for every history that the feed may have
 abbrev pub IsReplyOn : {K : Type 0} {k : Ghosts K} → (Terms → History → List ℕ → List ℕ → Bool → List ℕ → Type 0)

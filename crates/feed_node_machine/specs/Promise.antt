@@ -1,6 +1,7 @@
 -- The promise of a node that runs.
-use Rattle.std.specs.Prelude.{◌≡◌, ◌≤ℤ◌, ℕ, Bool, List, [], ◌∷◌, length, slice_get, Option, Some, IfSome, Result, Ok, option_copied}
+use Rattle.std.specs.Prelude.{◌≡◌, ◌≤ℤ◌, ℕ, Bool, List, [], ◌∷◌, ◌++◌, length, slice_get, Option, Some, IfSome, Result, Ok, option_copied}
 use Rattle.httparse.specs.Grammar.{RequestHead}
+use Rattle.feed_embargo.specs.Today.{TodayValue}
 use Rattle.feed_names.specs.ReleaseName.{Name}
 use Rattle.feed_keep.specs.declared.keep.Keep.{Ghosts}
 use Rattle.feed_model.specs.History.{History, Answer, IsFile, Reports, byte_at}
@@ -13,11 +14,12 @@ use Rattle.feed_node_connection.specs.Events.{Event, received_bytes, sent_bytes}
 use Rattle.feed_node_connection.specs.Replies.{Replies, IsServed}
 use Rattle.feed_node_connection.specs.Streams.{AreReplies}
 use Rattle.feed_node_machine.specs.declared.machine.NodeMachine.{NodeMachine}
-use Rattle.feed_node_machine.specs.NodeEvents.{NodeEvent, Accepted, Served, Passed, Asked, Took, TookPart, Reopened, events_of, feed_history, IsMoment}
+use Rattle.feed_node_machine.specs.NodeEvents.{NodeEvent, Accepted, Served, Passed, DayBegan, Asked, Took, TookPart, Reopened, events_of, feed_history, today_in, IsMoment}
 use Rattle.feed_node_machine.specs.Rules.{Rules, Terms, replies_at, terms_with, IsAskedBy, AreGiven}
 use Rattle.feed_node_machine.specs.Nodes.{HasHistory, rules_of}
 
--- in a share of a turn that the connection with this key had, the responder had this reply to the feed as it was then
+-- in a share of a turn that the connection with this key had, the responder had this reply to the feed as it was then, on that
+-- day
 pub record IsMadeFor (rules : Rules) (token : Option (List ℕ)) (key : ℕ) (history : List NodeEvent) (head body : List ℕ) (keeps : Bool)
     (reply : Option (List ℕ)) : Type 0 where
   pub share : List Event
@@ -25,17 +27,20 @@ pub record IsMadeFor (rules : Rules) (token : Option (List ℕ)) (key : ℕ) (hi
   pub moment : IsMoment (Served key share ∷ earlier) history
   pub is_busy : Bool
   pub is_local : Bool
-  pub made : IfSome reply (rules.1 (terms_with token is_busy is_local) (feed_history earlier) head body keeps)
+  pub today : TodayValue
+  pub day : today_in earlier ≡ Some today
+  pub made : IfSome reply (rules.1 (terms_with token is_busy is_local today) (feed_history earlier) head body keeps)
 
 -- the replies of all these shares
 abbrev pub replies_in : Rules → Option (List ℕ) → ℕ → List NodeEvent → Replies
 replies_in rules token key history = (rules.0, IsMadeFor rules token key history)
 
--- each reply in the last share of a turn is one of the responder to the feed as it was then
+-- each reply in the last share of a turn is one of the responder to the feed as it was then, on that day
 abbrev pub AreOfTheMoment : Rules → Option (List ℕ) → List NodeEvent → Type 0
 AreOfTheMoment rules token history =
     (key : ℕ) (share : List Event) (earlier : List NodeEvent) → history ≡ Served key share ∷ earlier
-    → (is_busy : Bool) × (is_local : Bool) × AreReplies (replies_at rules (terms_with token is_busy is_local) (feed_history earlier)) share
+    → (is_busy : Bool) × (is_local : Bool) × (today : TodayValue) × (today_in earlier ≡ Some today)
+    × AreReplies (replies_at rules (terms_with token is_busy is_local today) (feed_history earlier)) share
 
 -- a report of a package names no older release than one at an earlier moment, in this run or before
 abbrev pub NeverOlder : List NodeEvent → Type 0
@@ -61,7 +66,7 @@ pub record ChangesByToken (token : Option (List ℕ)) (history : List NodeEvent)
 
 -- the promise, of a node whose responder has these rules and that has this token: on each connection the bytes sent are the
 -- beginning of the replies, in order, to the requests in the bytes received; each reply is one of the responder to the feed
--- as it was when the reply was made; the feed has a legal history, which the replies of the knowledge base gave; it reports
+-- as it was when the reply was made, on that day; the feed has a legal history, which the replies of the knowledge base gave; it reports
 -- no older release than before; and only requests that have the token change it
 pub record IsRightNode (rules : Rules) (token : Option (List ℕ)) (history : List NodeEvent) : Type 0 where
   pub served : (key : ℕ) → IsServed (replies_in rules token key history) (received_bytes (events_of key history)) (sent_bytes (events_of key history))
@@ -76,6 +81,13 @@ module _ {T K S : Type 0} {k : Ghosts K} (wanted : S → RequestHead → ℕ)
   -- the node keeps the promise after each history that it may have
   abbrev pub NodeIsRight : NodeMachine T K S k → Type 0
   NodeIsRight node = (history : List NodeEvent) → HasHistory wanted replies node history → IsRightNode (rules_of wanted replies node) (option_copied node.token) history
+
+  -- each history that the node had goes on with some events to one that it has, after which it keeps the promise
+  abbrev pub IsRightAfter : NodeMachine T K S k → NodeMachine T K S k → Type 0
+  IsRightAfter old new =
+      (history : List NodeEvent) → HasHistory wanted replies old history
+      → (later : List NodeEvent) × HasHistory wanted replies new (later ++ history)
+      × IsRightNode (rules_of wanted replies new) (option_copied new.token) (later ++ history)
 
 -- the bytes from this place on are those of the file
 abbrev pub AgreeWith : List ℕ → ℕ → List ℕ → Type 0
@@ -94,6 +106,7 @@ AreOfFiles file [] = Unit {0}
 AreOfFiles file (Accepted key ∷ earlier) = AreOfFiles file earlier
 AreOfFiles file (Served key share ∷ earlier) = AreOfFiles file earlier
 AreOfFiles file (Passed millis ∷ earlier) = AreOfFiles file earlier
+AreOfFiles file (DayBegan today ∷ earlier) = AreOfFiles file earlier
 AreOfFiles file (Asked key bytes name ∷ earlier) = AreOfFiles file earlier
 AreOfFiles file (Took name phase reply steps ∷ earlier) = IsOfFile (file name) reply × AreOfFiles file earlier
 AreOfFiles file (TookPart name first size bytes answer ∷ earlier) = AgreeWith (file name) first bytes × AreOfFiles file earlier

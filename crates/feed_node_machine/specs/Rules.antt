@@ -1,6 +1,7 @@
 -- The events that a node may have.
 use Rattle.std.specs.Prelude.{◌≡◌, ℕ, Bool, false, List, [], ◌∷◌, ◌++◌, Option, Some, IfSome, Ok, All}
 use Rattle.httparse.specs.Grammar.{RequestHead}
+use Rattle.feed_embargo.specs.Today.{TodayValue}
 use Rattle.feed_names.specs.ReleaseName.{Name}
 use Rattle.feed_model.specs.History.{History}
 use Rattle.feed_fetch.specs.Steps.{IsReplyEvent}
@@ -11,12 +12,14 @@ use Rattle.feed_node_connection.specs.Replies.{Replies}
 use Rattle.feed_node_connection.specs.States.{HasState}
 use Rattle.feed_node_connection.specs.Streams.{AreReplies}
 use Rattle.feed_node_table.specs.Connections.{request_of}
-use Rattle.feed_node_machine.specs.NodeEvents.{NodeEvent, Accepted, Served, Passed, Asked, Took, TookPart, Reopened, events_of, feed_history, WasAsked}
+use Rattle.feed_node_machine.specs.NodeEvents.{NodeEvent, Accepted, Served, Passed, DayBegan, Asked, Took, TookPart, Reopened, events_of, feed_history, today_in, WasAsked}
 
--- the circumstances of a reply beside the feed: who may make the node fetch, and whether the client is on the same machine
+-- the circumstances of a reply beside the feed: who may make the node fetch, whether the client is on the same machine, and
+-- the day
 pub record Terms : Type 0 where
   pub policy : FetchPolicyValue
   pub is_local : Bool
+  pub today : TodayValue
 
 -- the replies of a responder to a feed: the length of the body that is wanted after a head; and a relation between the
 -- circumstances, the history of the feed, the bytes of a head, a body, whether the connection persists, and the reply
@@ -28,17 +31,19 @@ abbrev pub replies_at : Rules → Terms → History → Replies
 replies_at rules terms h = (rules.0, λ head body keeps reply. IfSome reply (rules.1 terms h head body keeps))
 
 -- the circumstances in a node with this token
-abbrev pub terms_with : Option (List ℕ) → Bool → Bool → Terms
-terms_with token is_busy is_local = record { policy = record { token = token; is_busy = is_busy }; is_local = is_local }
+abbrev pub terms_with : Option (List ℕ) → Bool → Bool → TodayValue → Terms
+terms_with token is_busy is_local today = record { policy = record { token = token; is_busy = is_busy }; is_local = is_local; today = today }
 
 -- a share of a turn is right for the connection with this key: with it, its events are those of some connection; and each
--- reply that was made in it is one to its request, of a feed that has the history of this moment
+-- reply that was made in it is one to its request, of a feed that has the history of this moment, on the day that it is
 pub record IsShare (rules : Rules) (token : Option (List ℕ)) (key : ℕ) (share : List Event) (earlier : List NodeEvent) : Type 0 where
   pub connection : Connection
   pub state : HasState connection (share ++ events_of key earlier)
   pub is_busy : Bool
   pub is_local : Bool
-  pub replied : AreReplies (replies_at rules (terms_with token is_busy is_local) (feed_history earlier)) share
+  pub today : TodayValue
+  pub day : today_in earlier ≡ Some today
+  pub replied : AreReplies (replies_at rules (terms_with token is_busy is_local today) (feed_history earlier)) share
 
 -- the bytes are a request that has the token and asks for this release, and a connection with these events sends the reply
 -- to it
@@ -54,6 +59,7 @@ AreAllowed rules token [] = Unit {0}
 AreAllowed rules token (Accepted key ∷ earlier) = AreAllowed rules token earlier
 AreAllowed rules token (Served key share ∷ earlier) = IsShare rules token key share earlier × AreAllowed rules token earlier
 AreAllowed rules token (Passed millis ∷ earlier) = AreAllowed rules token earlier
+AreAllowed rules token (DayBegan today ∷ earlier) = AreAllowed rules token earlier
 AreAllowed rules token (Asked key bytes name ∷ earlier) = IsAskedBy token (events_of key earlier) bytes name × AreAllowed rules token earlier
 AreAllowed rules token (Took name phase reply steps ∷ earlier) = WasAsked name earlier × AreAllowed rules token earlier
 AreAllowed rules token (TookPart name first size bytes answer ∷ earlier) = WasAsked name earlier × AreAllowed rules token earlier
@@ -65,6 +71,7 @@ AreGiven [] = Unit {0}
 AreGiven (Accepted key ∷ earlier) = AreGiven earlier
 AreGiven (Served key share ∷ earlier) = AreGiven earlier
 AreGiven (Passed millis ∷ earlier) = AreGiven earlier
+AreGiven (DayBegan today ∷ earlier) = AreGiven earlier
 AreGiven (Asked key bytes name ∷ earlier) = AreGiven earlier
 AreGiven (Took name phase reply steps ∷ earlier) = All (λ step. IsReplyEvent name phase reply step.0) steps × AreGiven earlier
 AreGiven (TookPart name first size bytes answer ∷ earlier) = AreGiven earlier

@@ -4,7 +4,7 @@ ghost use Rattle.feed_limits.specs.Limits.{piece_limit};
 ghost use Rattle.feed_model.specs.Content.{IsContent};
 ghost use Rattle.feed_node_machine.specs.NodeEvents.{NodeEvent, feed_history};
 ghost use Rattle.feed_node_machine.specs.Rules.{AreGiven};
-ghost use Rattle.feed_node_machine.specs.Nodes.{HasHistory, HasTaken, HasTakenPart};
+ghost use Rattle.feed_node_machine.specs.Nodes.{HasHistory, HasTaken, HasTakenPart, IsLater, KeepsHistory};
 
 use crate::machine::NodeMachine;
 use crate::occasion::FeedRespond;
@@ -50,8 +50,8 @@ impl<'a, T: Stream, K: Keep + Drop, S: FeedRespond + Drop> NodeMachine<'a, T, K,
     pub fn begin_fetch(&mut self, piece: u64) -> Option<Result<(), NameFault>>
         requires least { 1 ≤ piece }
         requires most { piece ≤ piece_limit }
-        ensures { (history : List NodeEvent) → HasHistory S.wanted S.replies self.old history
-            → HasHistory S.wanted S.replies self.new history }
+        ensures history { KeepsHistory S.wanted S.replies self.old self.new }
+        ensures later { IsLater S.wanted S.replies self.old self.new }
     {
         match self.requested.take()? {
             Ok(name) => {
@@ -65,8 +65,8 @@ impl<'a, T: Stream, K: Keep + Drop, S: FeedRespond + Drop> NodeMachine<'a, T, K,
 
     /// Ends the fetch that is under way. Returns the release.
     pub fn end_fetch(&mut self) -> Option<ReleaseName>
-        ensures { (history : List NodeEvent) → HasHistory S.wanted S.replies self.old history
-            → HasHistory S.wanted S.replies self.new history }
+        ensures history { KeepsHistory S.wanted S.replies self.old self.new }
+        ensures later { IsLater S.wanted S.replies self.old self.new }
     {
         let fetching = self.fetching.take()?;
         Some(fetching.name)
@@ -81,6 +81,7 @@ impl<'a, T: Stream, K: Keep + Drop, S: FeedRespond + Drop> NodeMachine<'a, T, K,
     ) -> Result<(), Stop>
         ensures taken { (history : List NodeEvent) → HasHistory S.wanted S.replies self.old history
             → HasTaken S.wanted S.replies reply.now self.old self.new history }
+        ensures later { IsLater S.wanted S.replies self.old self.new }
         ensures idle { self.old.fetching ≡ None → self.new ≡ self.old }
     {
         let Some(mut fetching) = self.fetching.take() else {
@@ -104,6 +105,7 @@ impl<'a, T: Stream, K: Keep + Drop, S: FeedRespond + Drop> NodeMachine<'a, T, K,
     ) -> Result<bool, Stop>
         ensures taken { (history : List NodeEvent) → HasHistory S.wanted S.replies self.old history
             → HasTakenPart S.wanted S.replies first length bytes.now self.old self.new history }
+        ensures later { IsLater S.wanted S.replies self.old self.new }
         ensures idle { self.old.fetching ≡ None → self.new ≡ self.old }
     {
         let Some(mut fetching) = self.fetching.take() else {
@@ -141,6 +143,7 @@ impl<'a, T: Stream, K: Keep + Drop, S: FeedRespond + Drop> NodeMachine<'a, T, K,
             token: _,
             fetching: _,
             requested: _,
+            today: _,
         } = self;
         feed.restart()
     }

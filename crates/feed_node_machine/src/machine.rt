@@ -3,12 +3,14 @@ ghost use Rattle.std.specs.Prelude.{◌≡◌, ◌<◌, ◌∷◌, ℕ, List, No
 ghost use Rattle.feed_model.specs.Content.{IsContent};
 ghost use Rattle.feed_releases.specs.Feeds.{recorded};
 ghost use Rattle.feed_node_table.specs.Tables.{peer_at, size_of, HasClosed, IsExpired, IsFirstToClose, IsRemoved};
-ghost use Rattle.feed_node_machine.specs.NodeEvents.{NodeEvent, Accepted, Passed, Reopened, accepted_in, feed_history};
+ghost use Rattle.feed_node_machine.specs.NodeEvents.{NodeEvent, Accepted, Passed, DayBegan, Reopened};
+ghost use Rattle.feed_node_machine.specs.NodeEvents.{accepted_in, feed_history};
 ghost use Rattle.feed_node_machine.specs.Rules.{AreGiven};
-ghost use Rattle.feed_node_machine.specs.Nodes.{table_of, HasHistory};
+ghost use Rattle.feed_node_machine.specs.Nodes.{table_of, HasHistory, IsLater, KeepsHistory};
 
 use crate::fetching::Fetching;
 use crate::occasion::FeedRespond;
+use feed_embargo::Today;
 use feed_keep::Keep;
 use feed_names::{NameFault, ReleaseName};
 use feed_node_connection::TimeLimits;
@@ -30,20 +32,23 @@ pub struct NodeMachine<'a, T, K: Keep + Drop, S> {
     pub(crate) fetching: Option<Fetching>,
     /// The release that a client asked to fetch next, or why its name is invalid.
     pub(crate) requested: Option<Result<ReleaseName, NameFault>>,
+    /// The day, in UTC.
+    pub(crate) today: Today,
 }
 
 impl<'a, T: Stream, K: Keep + Drop, S: FeedRespond + Drop> NodeMachine<'a, T, K, S> {
-    /// Opens a node over a feed, with a table that has no connection.
+    /// Opens a node over a feed on this day, with a table that has no connection.
     pub fn new(
         alloc: Global,
         table: Table<T>,
         feed: Feed<K>,
         responder: S,
         token: Option<&'a [u8]>,
+        today: Today,
     ) -> NodeMachine<'a, T, K, S>
         requires { size_of table ≡ 0 }
         ensures { (history : List NodeEvent) → IsContent (recorded feed) (feed_history history) → AreGiven history
-            → HasHistory S.wanted S.replies result (Reopened ∷ history) }
+            → HasHistory S.wanted S.replies result (DayBegan today ∷ Reopened ∷ history) }
     {
         NodeMachine {
             alloc,
@@ -53,7 +58,17 @@ impl<'a, T: Stream, K: Keep + Drop, S: FeedRespond + Drop> NodeMachine<'a, T, K,
             token,
             fetching: None,
             requested: None,
+            today,
         }
+    }
+
+    /// Begins a day.
+    pub fn begin_day(&mut self, today: Today)
+        ensures history { (history : List NodeEvent) → HasHistory S.wanted S.replies self.old history
+            → HasHistory S.wanted S.replies self.new (DayBegan today ∷ history) }
+        ensures later { IsLater S.wanted S.replies self.old self.new }
+    {
+        self.today = today;
     }
 
     /// Returns the connections.
@@ -65,8 +80,8 @@ impl<'a, T: Stream, K: Keep + Drop, S: FeedRespond + Drop> NodeMachine<'a, T, K,
 
     /// Closes the connection that is closed to make room, if there is any.
     pub fn make_room<L: Log>(&mut self, now: u64, log: &mut L)
-        ensures history { (history : List NodeEvent) → HasHistory S.wanted S.replies self.old history
-            → HasHistory S.wanted S.replies self.new history }
+        ensures history { KeepsHistory S.wanted S.replies self.old self.new }
+        ensures later { IsLater S.wanted S.replies self.old self.new }
         ensures removed { 0 < size_of (table_of self.old) → (key : ℕ) × IsFirstToClose (table_of self.old) key
             × IsRemoved L.records key CloseCause.Evicted now (table_of self.old) (table_of self.new) log.old log.new }
     {
@@ -74,8 +89,7 @@ impl<'a, T: Stream, K: Keep + Drop, S: FeedRespond + Drop> NodeMachine<'a, T, K,
     }
 
     fn make_room_if_full<L: Log>(&mut self, now: u64, log: &mut L)
-        ensures { (history : List NodeEvent) → HasHistory S.wanted S.replies self.old history
-            → HasHistory S.wanted S.replies self.new history }
+        ensures { KeepsHistory S.wanted S.replies self.old self.new }
     {
         if self.table.is_full() {
             self.make_room(now, log);
@@ -92,8 +106,9 @@ impl<'a, T: Stream, K: Keep + Drop, S: FeedRespond + Drop> NodeMachine<'a, T, K,
         now: u64,
         log: &mut L,
     ) -> Option<usize>
-        ensures { (history : List NodeEvent) → HasHistory S.wanted S.replies self.old history
+        ensures history { (history : List NodeEvent) → HasHistory S.wanted S.replies self.old history
             → HasHistory S.wanted S.replies self.new (accepted_in result history) }
+        ensures later { IsLater S.wanted S.replies self.old self.new }
     {
         self.make_room_if_full(now, log);
         if self.table.is_full() {
@@ -107,16 +122,16 @@ impl<'a, T: Stream, K: Keep + Drop, S: FeedRespond + Drop> NodeMachine<'a, T, K,
 
     /// Registers the stream of a connection for events under its key. Returns whether that succeeded.
     pub fn register(&mut self, key: usize, registry: &T::Registry) -> bool
-        ensures { (history : List NodeEvent) → HasHistory S.wanted S.replies self.old history
-            → HasHistory S.wanted S.replies self.new history }
+        ensures history { KeepsHistory S.wanted S.replies self.old self.new }
+        ensures later { IsLater S.wanted S.replies self.old self.new }
     {
         self.table.register(key, registry)
     }
 
     /// Has the next turn serve a connection.
     pub fn mark_ready(&mut self, key: usize)
-        ensures { (history : List NodeEvent) → HasHistory S.wanted S.replies self.old history
-            → HasHistory S.wanted S.replies self.new history }
+        ensures history { KeepsHistory S.wanted S.replies self.old self.new }
+        ensures later { IsLater S.wanted S.replies self.old self.new }
     {
         self.table.mark_ready(key);
     }
@@ -129,8 +144,8 @@ impl<'a, T: Stream, K: Keep + Drop, S: FeedRespond + Drop> NodeMachine<'a, T, K,
         now: u64,
         log: &mut L,
     ) -> Option<T>
-        ensures history { (history : List NodeEvent) → HasHistory S.wanted S.replies self.old history
-            → HasHistory S.wanted S.replies self.new history }
+        ensures history { KeepsHistory S.wanted S.replies self.old self.new }
+        ensures later { IsLater S.wanted S.replies self.old self.new }
         ensures removed { IsSome (peer_at (table_of self.old) key)
             → IsRemoved L.records key cause now (table_of self.old) (table_of self.new) log.old log.new }
     {
@@ -141,6 +156,7 @@ impl<'a, T: Stream, K: Keep + Drop, S: FeedRespond + Drop> NodeMachine<'a, T, K,
     pub fn advance_clock<L: Log>(&mut self, now: u64, log: &mut L)
         ensures history { (history : List NodeEvent) → HasHistory S.wanted S.replies self.old history
             → (millis : ℕ → ℕ) × HasHistory S.wanted S.replies self.new (Passed millis ∷ history) }
+        ensures later { IsLater S.wanted S.replies self.old self.new }
         ensures expired { IsExpired now (table_of self.old) (table_of self.new) }
         ensures closed { HasClosed L.records CloseCause.TimedOut (table_of self.old) (table_of self.new)
             log.old log.new }

@@ -1,4 +1,5 @@
 //! The trait `FeedRespond`, which makes the replies of a node from its feed.
+use feed_embargo::Today;
 use feed_http_heads::Request;
 use feed_keep::Keep;
 use feed_node_connection::{BODY_LIMIT, Reply, Respond, RespondFault};
@@ -15,6 +16,8 @@ pub struct Occasion<'f, 't, K: Keep + Drop> {
     pub policy: FetchPolicy<'t>,
     /// Whether the client is on the same machine.
     pub is_local: bool,
+    /// The day, in UTC.
+    pub today: Today,
 }
 
 /// Makes the replies of a node from its feed.
@@ -85,11 +88,13 @@ impl<'s, 'f, 't, K: Keep + Drop, S> MomentResponder<'s, 'f, 't, K, S> {
         feed: &'f Feed<K>,
         policy: FetchPolicy<'t>,
         is_local: bool,
+        today: Today,
     ) -> MomentResponder<'s, 'f, 't, K, S>
         ensures responder { result.responder.now ≡ responder.now }
         ensures feed { result.occasion.feed.now ≡ feed.now }
         ensures policy { result.occasion.policy ≡ policy.entry }
         ensures is_local { result.occasion.is_local ≡ is_local }
+        ensures today { result.occasion.today ≡ today }
     {
         MomentResponder {
             responder,
@@ -97,6 +102,7 @@ impl<'s, 'f, 't, K: Keep + Drop, S> MomentResponder<'s, 'f, 't, K, S> {
                 feed,
                 policy,
                 is_local,
+                today,
             },
         }
     }

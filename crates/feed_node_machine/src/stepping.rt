@@ -1,7 +1,7 @@
 //! A share of a turn: a connection receives, replies and sends.
 ghost use Rattle.std.specs.Prelude.{◌≡◌, List, option_copied};
 ghost use Rattle.feed_node_machine.specs.NodeEvents.{NodeEvent};
-ghost use Rattle.feed_node_machine.specs.Nodes.{table_of, HasHistory, HasServed, HasAsked, HasAdvanced, KeepsRest};
+ghost use Rattle.feed_node_machine.specs.Nodes.{table_of, HasHistory, HasServed, HasAsked, HasAdvanced, IsLater, KeepsRest};
 ghost use Rattle.feed_node_table.specs.Tables.{IsSettled};
 
 use crate::machine::NodeMachine;
@@ -36,7 +36,7 @@ impl<'a, T: Stream, K: Keep + Drop, S: FeedRespond + Drop> NodeMachine<'a, T, K,
         ensures rest { KeepsRest key self.old self.new }
     {
         let policy = self.policy();
-        let moment = MomentResponder::new(&self.responder, &self.feed, policy, is_local);
+        let moment = MomentResponder::new(&self.responder, &self.feed, policy, is_local, self.today);
         self.table
             .advance(key, self.alloc, &moment, buffer, now, share)
     }
@@ -68,6 +68,7 @@ impl<'a, T: Stream, K: Keep + Drop, S: FeedRespond + Drop> NodeMachine<'a, T, K,
     ) -> Progress
         ensures history { (history : List NodeEvent) → HasHistory S.wanted S.replies self.old history
             → HasAdvanced S.wanted S.replies key self.new history }
+        ensures later { IsLater S.wanted S.replies self.old self.new }
         ensures rest { KeepsRest key self.old self.new }
     {
         let replies = share.replies;
@@ -89,6 +90,7 @@ impl<'a, T: Stream, K: Keep + Drop, S: FeedRespond + Drop> NodeMachine<'a, T, K,
     ) -> Outcome
         ensures history { (history : List NodeEvent) → HasHistory S.wanted S.replies self.old history
             → HasServed S.wanted S.replies key self.new history }
+        ensures later { IsLater S.wanted S.replies self.old self.new }
         ensures rest { KeepsRest key self.old self.new }
         ensures settled { IsSettled L.records key progress now result (table_of self.old) (table_of self.new)
             log.old log.new }

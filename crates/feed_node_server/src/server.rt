@@ -1,6 +1,6 @@
 //! The server: the poll and the listener of a node, the request to another server, and the replies that are streamed.
-ghost use Rattle.std.specs.Prelude.{OnOk};
-ghost use Rattle.feed_node_machine.specs.Promise.{NodeIsRight};
+ghost use Rattle.feed_node_machine.specs.Nodes.{IsLater};
+ghost use Rattle.feed_node_machine.specs.Promise.{IsRightAfter};
 
 use crate::descriptors::available_clients;
 use crate::local::is_local;
@@ -172,7 +172,8 @@ impl Server {
     }
 
     /// Waits at most 250 ms for the sockets, gives each connection that is ready its share of the turn, and closes each
-    /// one that is over. The node then keeps its promise, whatever its history is.
+    /// one that is over. Whatever history the node had goes on to one that it has then, and after it the node keeps its
+    /// promise. The same holds if the poll or the clock fails.
     pub fn turn<K: Keep + Drop, S: FeedRespond + Drop, L: Log>(
         &mut self,
         rt: &impl Clock,
@@ -180,7 +181,8 @@ impl Server {
         events: &mut Events,
         log: &mut L,
     ) -> io::Result<()>
-        ensures { OnOk result (NodeIsRight S.wanted S.replies node.new) }
+        ensures later { IsLater S.wanted S.replies node.old node.new }
+        ensures right { IsRightAfter S.wanted S.replies node.old node.new }
     {
         let may_block = node.table().ready_len() == 0 && !self.has_more_work;
         let wait = if may_block { TICK } else { 0 };
@@ -202,7 +204,9 @@ impl Server {
         &mut self,
         node: &mut ServedNode<'_, K, S>,
         token: Token,
-    ) {
+    )
+        ensures { IsLater S.wanted S.replies node.old node.new }
+    {
         if token == LISTENER {
             self.may_accept = true;
         } else {
@@ -217,7 +221,9 @@ impl Server {
         rt: &impl Clock,
         node: &mut ServedNode<'_, K, S>,
         log: &mut L,
-    ) -> io::Result<()> {
+    ) -> io::Result<()>
+        ensures { IsLater S.wanted S.replies node.old node.new }
+    {
         for place in (0..node.table().ready_len()).rev() {
             if let Some(key) = node.table().ready_at(place) {
                 self.serve(rt, node, key, log)?;
@@ -233,7 +239,9 @@ impl Server {
         node: &mut ServedNode<'_, K, S>,
         key: usize,
         log: &mut L,
-    ) -> io::Result<bool> {
+    ) -> io::Result<bool>
+        ensures { IsLater S.wanted S.replies node.old node.new }
+    {
         let mut share = TURN_SHARE;
         let mut outcome = Outcome::Waits;
         let mut now = self.micros(Instant::now(rt)?);
@@ -270,7 +278,9 @@ impl Server {
         key: usize,
         now: u64,
         log: &mut L,
-    ) {
+    )
+        ensures { IsLater S.wanted S.replies node.old node.new }
+    {
         let Some(socket) = node.remove(key, CloseCause::Streamed, now, log) else {
             return;
         };
@@ -292,7 +302,9 @@ impl Server {
         rt: &impl Clock,
         node: &mut ServedNode<'_, K, S>,
         log: &mut L,
-    ) -> io::Result<bool> {
+    ) -> io::Result<bool>
+        ensures { IsLater S.wanted S.replies node.old node.new }
+    {
         for _ in 0..ACCEPTS {
             if !self.may_accept {
                 return Ok(false);
@@ -323,7 +335,9 @@ impl Server {
         stream: TcpStream,
         addr: SocketAddr,
         log: &mut L,
-    ) -> io::Result<()> {
+    ) -> io::Result<()>
+        ensures { IsLater S.wanted S.replies node.old node.new }
+    {
         let now = self.micros(Instant::now(rt)?);
         // Otherwise the system holds a reply back until the client acknowledges the one before it.
         let _ = stream.set_nodelay(true);
@@ -344,7 +358,9 @@ impl Server {
         node: &mut ServedNode<'_, K, S>,
         now: Instant,
         log: &mut L,
-    ) {
+    )
+        ensures { IsLater S.wanted S.replies node.old node.new }
+    {
         let millis = now
             .saturating_duration_since(self.last_tick)
             .as_millis()

@@ -3,3 +3,4 @@ pub mod NodeCounts
 pub mod Reports
 pub mod Responders
 pub mod Agreement
+pub mod Runs

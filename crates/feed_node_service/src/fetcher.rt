@@ -1,4 +1,6 @@
 //! Fetches releases for a node, one request at a time, between the turns of its loop.
+ghost use Rattle.feed_node_service.specs.Runs.{IsLaterNode};
+
 use crate::exchange::{Arrival, Exchange, WholePart};
 use crate::fetch_end::{FetchEnd, print_end, print_name_fault};
 use crate::node_state::NodeState;
@@ -89,7 +91,9 @@ impl<'a> Fetcher<'a> {
     }
 
     /// Begins to fetch the release that a client asked for, if one did. The client receives a line for each event.
-    pub fn begin<K: Keep + Drop>(&mut self, server: &mut Server, node: &mut FeedNode<'_, K>) {
+    pub fn begin<K: Keep + Drop>(&mut self, server: &mut Server, node: &mut FeedNode<'_, K>)
+        ensures { IsLaterNode node.old node.new }
+    {
         let Some(source) = self.source else {
             return;
         };
@@ -114,7 +118,9 @@ impl<'a> Fetcher<'a> {
     }
 
     // Reports the end of a fetch, and completes the reply to its client.
-    fn end<K: Keep + Drop>(&self, server: &mut Server, node: &mut FeedNode<'_, K>, end: FetchEnd) {
+    fn end<K: Keep + Drop>(&self, server: &mut Server, node: &mut FeedNode<'_, K>, end: FetchEnd)
+        ensures { IsLaterNode node.old node.new }
+    {
         let mut lines = self.lines();
         if let Some(name) = node.end_fetch() {
             self.state
@@ -129,7 +135,9 @@ impl<'a> Fetcher<'a> {
         server: &mut Server,
         node: &mut FeedNode<'_, K>,
         mut running: RunningExchange,
-    ) {
+    )
+        ensures { IsLaterNode node.old node.new }
+    {
         match self.try_send_next(server, node, &mut running) {
             Ok(true) => self.running = Some(running),
             Ok(false) => self.end(server, node, FetchEnd::Done),
@@ -179,7 +187,9 @@ impl<'a> Fetcher<'a> {
         &mut self,
         server: &mut Server,
         node: &mut FeedNode<'_, K>,
-    ) -> bool {
+    ) -> bool
+        ensures { IsLaterNode node.old node.new }
+    {
         let Some(mut running) = self.running.take() else {
             return true;
         };
@@ -200,7 +210,9 @@ impl<'a> Fetcher<'a> {
         node: &mut FeedNode<'_, K>,
         mut running: RunningExchange,
         step: Step,
-    ) {
+    )
+        ensures { IsLaterNode node.old node.new }
+    {
         match step {
             Step::Wait | Step::Again => self.running = Some(running),
             Step::Send => self.send_next(server, node, running),
@@ -222,7 +234,9 @@ impl<'a> Fetcher<'a> {
         node: &mut FeedNode<'_, K>,
         running: &mut RunningExchange,
         lines: &mut Printer<Vec<u8>>,
-    ) -> Step {
+    ) -> Step
+        ensures { IsLaterNode node.old node.new }
+    {
         let Some(outgoing) = server.outgoing() else {
             return Step::Wait;
         };
@@ -241,7 +255,9 @@ impl<'a> Fetcher<'a> {
         running: &mut RunningExchange,
         outgoing: &mut OutgoingRequest,
         lines: &mut Printer<Vec<u8>>,
-    ) -> Step {
+    ) -> Step
+        ensures { IsLaterNode node.old node.new }
+    {
         if outgoing.is_over() && !outgoing.has_sent() {
             return Step::Retry;
         }
@@ -287,7 +303,9 @@ fn take_reply<K: Keep + Drop>(
     node: &mut FeedNode<'_, K>,
     reply: &Result<Got, RequestFault>,
     lines: &mut Printer<Vec<u8>>,
-) -> Step {
+) -> Step
+    ensures { IsLaterNode node.old node.new }
+{
     match node.take_reply(reply, lines) {
         Ok(()) => Step::Send,
         Err(stop) => Step::End(FetchEnd::Stopped(stop)),
@@ -301,7 +319,9 @@ fn take_part<K: Keep + Drop>(
     outgoing: &mut OutgoingRequest,
     part: WholePart,
     lines: &mut Printer<Vec<u8>>,
-) -> Step {
+) -> Step
+    ensures { IsLaterNode node.old node.new }
+{
     let Some(bytes) = outgoing.reply().get(part.from..part.to) else {
         return Step::Wait;
     };

@@ -1,9 +1,13 @@
 //! Runs a node: the loop that ends only when its sockets, its log or the file of its database fail.
+ghost use Rattle.std.specs.Prelude.{◌≡◌};
+ghost use Rattle.feed_node_service.specs.Runs.{HasGoneOn, IsLaterNode};
+
 use crate::access_log::{AccessLog, LogSettings};
 use crate::fetcher::{FeedNode, Fetcher, Source};
 use crate::node_state::{NodeState, TurnFacts};
 use crate::responder::FeedResponder;
 use crate::source_addrs::SourceAddrs;
+use crate::today::today;
 use crate::watched_file::WatchedFile;
 use feed_keep::Keep;
 use feed_node_machine::NodeMachine;
@@ -51,7 +55,9 @@ pub fn run<K: Keep + Drop, O: Write>(
     setup: NodeSetup<'_>,
     file: WatchedFile<'_>,
     out: &mut O,
-) -> (End, K) {
+) -> (End, K)
+    ensures { HasGoneOn feed result }
+{
     let alloc = rt.alloc();
     let Ok(state) = NodeState::new(alloc) else {
         return (End::Memory, feed.restart());
@@ -65,7 +71,8 @@ pub fn run<K: Keep + Drop, O: Write>(
         version: setup.version.as_bytes(),
         has_open_reports: setup.log.has_open_reports,
     };
-    let mut node = NodeMachine::new(alloc, table, feed, responder, token_of(setup.source));
+    let token = token_of(setup.source);
+    let mut node = NodeMachine::new(alloc, table, feed, responder, token, today(rt));
     let _ = node.keep_releases();
     let mut running = RunningNode {
         rt,
@@ -98,7 +105,9 @@ struct RunningNode<'a, O: Write> {
 }
 
 impl<'a, O: Write> RunningNode<'a, O> {
-    fn run<K: Keep + Drop>(&mut self, node: &mut FeedNode<'_, K>, server: &mut Server) -> End {
+    fn run<K: Keep + Drop>(&mut self, node: &mut FeedNode<'_, K>, server: &mut Server) -> End
+        ensures { IsLaterNode node.old node.new }
+    {
         let mut events = match server.events() {
             Ok(events) => events,
             Err(_) => return End::Memory,
@@ -117,7 +126,10 @@ impl<'a, O: Write> RunningNode<'a, O> {
         node: &mut FeedNode<'_, K>,
         server: &mut Server,
         events: &mut Events,
-    ) -> Option<End> {
+    ) -> Option<End>
+        ensures { IsLaterNode node.old node.new }
+    {
+        node.begin_day(today(self.rt));
         self.state.begin_turn(self.facts(node.table().bytes_held()));
         if let Err(fault) = server.turn(self.rt, node, events, &mut self.log) {
             return Some(End::Sockets(fault));
@@ -151,7 +163,9 @@ impl<'a, O: Write> RunningNode<'a, O> {
     }
 
     // Keeps the digest of the active releases, and the time if they have changed.
-    fn note_switch<K: Keep + Drop>(&mut self, node: &mut FeedNode<'_, K>) {
+    fn note_switch<K: Keep + Drop>(&mut self, node: &mut FeedNode<'_, K>)
+        ensures { node.new ≡ node.old }
+    {
         if let Ok(true) = node.keep_releases() {
             self.switched = Instant::now(self.rt).ok();
         }

@@ -1,4 +1,5 @@
 use Rattle.std.proofs.Common.{◌∙◌, inl, inr}
+use Rattle.feed_node_machine.proofs.Later.{later_advanced}
 use Rattle.feed_node_machine.proofs.machine.NodeMachine.advance.Goals as goal
 
 pub returns-then-share-replies-clause-history : goal.returns-then-share-replies-clause-history
@@ -14,4 +15,9 @@ returns-then-share-replies-clause-rest g c = record {
   fetching = c.note_request.ensures.rest.fetching ∙ c.serve-progress.ensures.rest.fetching;
   responder = c.note_request.ensures.rest.responder ∙ c.serve-progress.ensures.rest.responder;
   token = c.note_request.ensures.rest.token ∙ c.serve-progress.ensures.rest.token;
+  today = c.note_request.ensures.rest.today ∙ c.serve-progress.ensures.rest.today;
 }
+
+pub returns-then-share-replies-clause-later : goal.returns-then-share-replies-clause-later
+returns-then-share-replies-clause-later g c =
+    later_advanced g.S.FeedRespond.wanted g.S.FeedRespond.replies c.args.key _ _ (returns-then-share-replies-clause-history g c)

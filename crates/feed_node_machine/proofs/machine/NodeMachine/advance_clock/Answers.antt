@@ -1,4 +1,6 @@
 use Rattle.feed_node_machine.proofs.Connections.{at_passed, millis_at}
+use Rattle.feed_node_machine.specs.NodeEvents.{Passed}
+use Rattle.feed_node_machine.proofs.Later.{later_by}
 use Rattle.feed_node_machine.proofs.machine.NodeMachine.advance_clock.Goals as goal
 
 pub returns-clause-history : goal.returns-clause-history
@@ -9,7 +11,12 @@ returns-clause-history g c = λ history has. (
     feed = has.feed;
     fetching = has.fetching;
     requested = has.requested;
+    today = has.today;
     allowed = has.allowed;
     given = has.given;
   },
 )
+
+pub returns-clause-later : goal.returns-clause-later
+returns-clause-later g c =
+    later_by g.S.FeedRespond.wanted g.S.FeedRespond.replies (Passed (millis_at c.args.self.now.table c.args.now)) _ _ (λ history has. (returns-clause-history g c history has).1)

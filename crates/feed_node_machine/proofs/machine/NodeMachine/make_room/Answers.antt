@@ -1,4 +1,5 @@
 use Rattle.feed_node_machine.proofs.Connections.{at_kept, keeps_room}
+use Rattle.feed_node_machine.proofs.Later.{later_kept}
 use Rattle.feed_node_machine.proofs.machine.NodeMachine.make_room.Goals as goal
 
 pub returns-clause-history : goal.returns-clause-history
@@ -10,6 +11,10 @@ returns-clause-history g c = λ history has. record {
   feed = has.feed;
   fetching = has.fetching;
   requested = has.requested;
+  today = has.today;
   allowed = has.allowed;
   given = has.given;
 }
+
+pub returns-clause-later : goal.returns-clause-later
+returns-clause-later g c = later_kept g.S.FeedRespond.wanted g.S.FeedRespond.replies _ _ (returns-clause-history g c)

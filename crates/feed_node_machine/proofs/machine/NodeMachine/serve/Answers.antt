@@ -1,9 +1,10 @@
 use Rattle.std.proofs.Common.{◌≡◌, ◌∙◌, ap, sym, subst, inl, inr}
-use Rattle.std.specs.Prelude.{option_copied}
+use Rattle.std.specs.Prelude.{Some, option_copied}
+use Rattle.feed_embargo.specs.Today.{TodayValue}
 use Rattle.feed_model.specs.Content.{IsContent}
 use Rattle.feed_releases.specs.Feeds.{recorded}
 use Rattle.feed_resolver_request.specs.FetchRequests.{FetchPolicyValue}
-use Rattle.feed_node_machine.specs.NodeEvents.{feed_history}
+use Rattle.feed_node_machine.specs.NodeEvents.{feed_history, today_in}
 use Rattle.feed_node_machine.specs.Occasions.{IsReplyOn}
 use Rattle.feed_node_machine.proofs.Shares.{MovesBy, reply_to, serve_moves}
 use Rattle.feed_node_machine.proofs.machine.NodeMachine.serve.Goals as goal
@@ -14,17 +15,19 @@ returns-clause-history g c = λ history has.
     let token = option_copied c.args.self.now.token in
     let content = subst (λ feed. IsContent (recorded {K = g.row.K.Denot} {k = g.K.Keep} feed) (feed_history history)) (sym c.new-moment.ensures.feed) has.feed in
     let named : moment.occasion.policy.token ≡ token = ap (λ (policy : FetchPolicyValue). policy.token) c.new-moment.ensures.policy ∙ c.policy-policy.ensures in
+    let day : today_in history ≡ Some moment.occasion.today = has.today ∙ ap (λ (today : TodayValue). Some today) (sym c.new-moment.ensures.today) in
     let moves = serve_moves (g.S.FeedRespond.wanted moment.responder.now, g.S.FeedRespond.replies moment.responder.now)
-    (IsReplyOn (g.S.FeedRespond.replies moment.responder.now) moment.occasion) token moment.occasion.policy.is_busy moment.occasion.is_local c.args.key c.advance.result
+    (IsReplyOn (g.S.FeedRespond.replies moment.responder.now) moment.occasion) token moment.occasion.policy.is_busy moment.occasion.is_local moment.occasion.today c.args.key c.advance.result
     c.args.share.now c.advance.new.share c.args.self.now.table c.advance.new.self history
     (reply_to (g.S.FeedRespond.replies moment.responder.now) moment.occasion token (feed_history history) named content)
-    c.advance.ensures.served c.advance.ensures.others c.advance.ensures.absent has.connections in
+    c.advance.ensures.served c.advance.ensures.others c.advance.ensures.absent has.connections day in
     elim (subst (λ responder. MovesBy (g.S.FeedRespond.wanted responder, g.S.FeedRespond.replies responder) token c.args.key c.advance.new.self history) c.new-moment.ensures.responder moves) [
       | inl at ↦ inl (record {
         connections = at;
         feed = has.feed;
         fetching = has.fetching;
         requested = has.requested;
+        today = has.today;
         allowed = has.allowed;
         given = has.given;
       })
@@ -35,6 +38,7 @@ returns-clause-history g c = λ history has.
           feed = has.feed;
           fetching = has.fetching;
           requested = has.requested;
+          today = has.today;
           allowed = (is, has.allowed);
           given = has.given;
         },

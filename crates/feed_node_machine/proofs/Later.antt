@@ -1,0 +1,60 @@
+-- Histories that go on.
+use Rattle.std.proofs.Common.{◌≡◌, ℕ, Bool, List, [], ◌∷◌, ◌++◌, Option, Some, None, ◌⊎◌, inl, inr, refl, sym, subst}
+use Rattle.httparse.specs.Grammar.{RequestHead}
+use Rattle.feed_keep.specs.declared.keep.Keep.{Ghosts}
+use Rattle.feed_model.specs.History.{History}
+use Rattle.feed_http.specs.declared.fetching.got.Got.{Got}
+use Rattle.std.specs.Prelude.{Result}
+use Rattle.feed_fetch.specs.declared.stop.RequestFault.{RequestFault}
+use Rattle.feed_node_connection.specs.Events.{Event}
+use Rattle.feed_node_machine.specs.declared.fetching.Fetching.{Fetching}
+use Rattle.feed_node_machine.specs.declared.machine.NodeMachine.{NodeMachine}
+use Rattle.feed_node_machine.specs.NodeEvents.{NodeEvent, Accepted, Served, Asked, Took, TookPart, accepted_in}
+use Rattle.feed_node_machine.specs.Rules.{Terms}
+use Rattle.feed_node_machine.specs.Nodes.{HasHistory, HasServed, HasAsked, HasAdvanced, HasTaken, HasTakenPart, IsLater, KeepsHistory}
+
+module _ {T K S : Type 0} {k : Ghosts K} (wanted : S → RequestHead → ℕ)
+    (replies : S → Terms → History → List ℕ → List ℕ → Bool → List ℕ → Type 0) where
+  pub later_kept : (old new : NodeMachine T K S k) → KeepsHistory wanted replies old new → IsLater wanted replies old new
+  later_kept old new keeps = record { history = λ history has. ([], keeps history has) }
+
+  pub later_by : (event : NodeEvent) (old new : NodeMachine T K S k)
+      → ((history : List NodeEvent) → HasHistory wanted replies old history → HasHistory wanted replies new (event ∷ history)) → IsLater wanted replies old new
+  later_by event old new has = record { history = λ history was. (event ∷ [], has history was) }
+
+  pub later_same : (old new : NodeMachine T K S k) → new ≡ old → IsLater wanted replies old new
+  later_same old new same = record { history = λ history has. ([], subst (λ node. HasHistory wanted replies node history) (sym same) has) }
+
+  pub later_accepted : (result : Option ℕ) (old new : NodeMachine T K S k)
+      → ((history : List NodeEvent) → HasHistory wanted replies old history → HasHistory wanted replies new (accepted_in result history))
+      → IsLater wanted replies old new
+  later_accepted None old new has = record { history = λ history was. ([], has history was) }
+  later_accepted (Some key) old new has = record { history = λ history was. (Accepted key ∷ [], has history was) }
+
+  pub later_served : (key : ℕ) (old new : NodeMachine T K S k)
+      → ((history : List NodeEvent) → HasHistory wanted replies old history → HasServed wanted replies key new history) → IsLater wanted replies old new
+  later_served key old new has = record { history = λ history was. elim (has history was) [
+    | inl same ↦ ([], same)
+    | inr (share, is) ↦ (Served key share ∷ [], is)
+  ] }
+
+  pub later_advanced : (key : ℕ) (old new : NodeMachine T K S k)
+      → ((history : List NodeEvent) → HasHistory wanted replies old history → HasAdvanced wanted replies key new history) → IsLater wanted replies old new
+  later_advanced key old new has = record { history = λ history was. by history (has history was) }
+    where
+      by : (history : List NodeEvent) → HasAdvanced wanted replies key new history → (later : List NodeEvent) × HasHistory wanted replies new (later ++ history)
+      by history (inl (inl same)) = ([], same)
+      by history (inl (inr (bytes, name, is))) = (Asked key bytes name ∷ [], is)
+      by history (inr (share, inl is)) = (Served key share ∷ [], is)
+      by history (inr (share, inr (bytes, name, is))) = (Asked key bytes name ∷ Served key share ∷ [], is)
+
+  pub later_taken : (reply : Result Got RequestFault) (fetching : Fetching) (old new : NodeMachine T K S k) → old.fetching ≡ Some fetching
+      → ((history : List NodeEvent) → HasHistory wanted replies old history → HasTaken wanted replies reply old new history) → IsLater wanted replies old new
+  later_taken reply fetching old new is has = record { history = λ history was.
+      (let now = has history was fetching is in (Took fetching.name fetching.fetch.phase reply now.0 ∷ [], now.1)) }
+
+  pub later_taken_part : (first size : ℕ) (bytes : List ℕ) (fetching : Fetching) (old new : NodeMachine T K S k) → old.fetching ≡ Some fetching
+      → ((history : List NodeEvent) → HasHistory wanted replies old history → HasTakenPart wanted replies first size bytes old new history)
+      → IsLater wanted replies old new
+  later_taken_part first size bytes fetching old new is has = record { history = λ history was.
+      (let now = has history was fetching is in (TookPart fetching.name first size bytes now.0 ∷ [], now.1)) }
