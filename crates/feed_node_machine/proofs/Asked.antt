@@ -1,5 +1,5 @@
 -- A request that makes a node fetch.
-use Rattle.std.proofs.Common.{◌≡◌, ℕ, Bool, false, List, ◌∷◌, Option, Some, None, Result, Ok, Err, inl, inr, refl, sym, subst}
+use Rattle.std.proofs.Common.{◌≡◌, ℕ, Bool, false, List, Option, Some, None, Result, Ok, Err, inl, inr, refl, subst}
 use Rattle.std.specs.Prelude.{IsSomeAnd, option_copied}
 use Rattle.httparse.specs.Grammar.{RequestHead}
 use Rattle.feed_names.specs.ReleaseName.{Name}

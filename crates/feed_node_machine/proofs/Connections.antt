@@ -1,5 +1,5 @@
 -- The connections of a table after an event of the node.
-use Rattle.std.proofs.Common.{◌≡◌, ◌≢◌, ◌<◌, ℕ, zero, suc, Bool, true, false, List, [], ◌∷◌, ◌++◌, Option, Some, None, IsSome, ◌⊎◌, inl, inr, refl, sym, ap, subst, ◌∙◌, eqb-true, arith}
+use Rattle.std.proofs.Common.{◌≡◌, ◌≢◌, ◌<◌, ℕ, zero, suc, Bool, true, false, List, [], ◌∷◌, ◌++◌, Option, Some, None, IsSome, inl, inr, refl, sym, ap, subst, ◌∙◌, eqb-true, arith}
 use Rattle.std.specs.Prelude.{◌==◌, IsSomeAnd, if◌then◌else◌}
 use Rattle.std.proofs.lemmas.Bool.{cases_eq, eqb-false}
 use Rattle.slab.specs.Slab.{Slab, get}
@@ -10,7 +10,7 @@ use Rattle.feed_node_table.specs.declared.table.Table.{Table}
 use Rattle.feed_node_table.specs.Peers.{millis_of}
 use Rattle.feed_node_table.specs.Tables.{peer_at, size_of, AreElapsed, KeepsConnections, KeepsOthers}
 use Rattle.feed_node_table.proofs.Firsts.{same_peer, some_there}
-use Rattle.feed_node_machine.specs.NodeEvents.{NodeEvent, Accepted, Served, Passed, Reopened, events_of}
+use Rattle.feed_node_machine.specs.NodeEvents.{NodeEvent, Accepted, Served, Passed, events_of}
 use Rattle.feed_node_machine.specs.Nodes.{AreAt}
 
 -- the events under a key, by a test

@@ -1,17 +1,16 @@
 -- Histories that go on.
-use Rattle.std.proofs.Common.{◌≡◌, ℕ, Bool, List, [], ◌∷◌, ◌++◌, Option, Some, None, ◌⊎◌, inl, inr, refl, sym, subst}
+use Rattle.std.proofs.Common.{◌≡◌, ℕ, Bool, List, [], ◌∷◌, ◌++◌, Option, Some, None, inl, inr, sym, subst}
 use Rattle.httparse.specs.Grammar.{RequestHead}
 use Rattle.feed_keep.specs.declared.keep.Keep.{Ghosts}
 use Rattle.feed_model.specs.History.{History}
 use Rattle.feed_http.specs.declared.fetching.got.Got.{Got}
 use Rattle.std.specs.Prelude.{Result}
 use Rattle.feed_fetch.specs.declared.stop.RequestFault.{RequestFault}
-use Rattle.feed_node_connection.specs.Events.{Event}
 use Rattle.feed_node_machine.specs.declared.fetching.Fetching.{Fetching}
 use Rattle.feed_node_machine.specs.declared.machine.NodeMachine.{NodeMachine}
 use Rattle.feed_node_machine.specs.NodeEvents.{NodeEvent, Accepted, Served, Asked, Took, TookPart, accepted_in}
 use Rattle.feed_node_machine.specs.Rules.{Terms}
-use Rattle.feed_node_machine.specs.Nodes.{HasHistory, HasServed, HasAsked, HasAdvanced, HasTaken, HasTakenPart, IsLater, KeepsHistory}
+use Rattle.feed_node_machine.specs.Nodes.{HasHistory, HasServed, HasAdvanced, HasTaken, HasTakenPart, IsLater, KeepsHistory}
 
 module _ {T K S : Type 0} {k : Ghosts K} (wanted : S → RequestHead → ℕ)
     (replies : S → Terms → History → List ℕ → List ℕ → Bool → List ℕ → Type 0) where
@@ -33,10 +32,12 @@ module _ {T K S : Type 0} {k : Ghosts K} (wanted : S → RequestHead → ℕ)
 
   pub later_served : (key : ℕ) (old new : NodeMachine T K S k)
       → ((history : List NodeEvent) → HasHistory wanted replies old history → HasServed wanted replies key new history) → IsLater wanted replies old new
-  later_served key old new has = record { history = λ history was. elim (has history was) [
-    | inl same ↦ ([], same)
-    | inr (share, is) ↦ (Served key share ∷ [], is)
-  ] }
+  later_served key old new has = record {
+    history = λ history was. elim (has history was) [
+      | inl same ↦ ([], same)
+      | inr (share, is) ↦ (Served key share ∷ [], is)
+    ];
+  }
 
   pub later_advanced : (key : ℕ) (old new : NodeMachine T K S k)
       → ((history : List NodeEvent) → HasHistory wanted replies old history → HasAdvanced wanted replies key new history) → IsLater wanted replies old new
@@ -50,11 +51,15 @@ module _ {T K S : Type 0} {k : Ghosts K} (wanted : S → RequestHead → ℕ)
 
   pub later_taken : (reply : Result Got RequestFault) (fetching : Fetching) (old new : NodeMachine T K S k) → old.fetching ≡ Some fetching
       → ((history : List NodeEvent) → HasHistory wanted replies old history → HasTaken wanted replies reply old new history) → IsLater wanted replies old new
-  later_taken reply fetching old new is has = record { history = λ history was.
-      (let now = has history was fetching is in (Took fetching.name fetching.fetch.phase reply now.0 ∷ [], now.1)) }
+  later_taken reply fetching old new is has = record {
+    history = λ history was.
+        (let now = has history was fetching is in (Took fetching.name fetching.fetch.phase reply now.0 ∷ [], now.1));
+  }
 
   pub later_taken_part : (first size : ℕ) (bytes : List ℕ) (fetching : Fetching) (old new : NodeMachine T K S k) → old.fetching ≡ Some fetching
       → ((history : List NodeEvent) → HasHistory wanted replies old history → HasTakenPart wanted replies first size bytes old new history)
       → IsLater wanted replies old new
-  later_taken_part first size bytes fetching old new is has = record { history = λ history was.
-      (let now = has history was fetching is in (TookPart fetching.name first size bytes now.0 ∷ [], now.1)) }
+  later_taken_part first size bytes fetching old new is has = record {
+    history = λ history was.
+        (let now = has history was fetching is in (TookPart fetching.name first size bytes now.0 ∷ [], now.1));
+  }

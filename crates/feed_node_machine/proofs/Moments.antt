@@ -1,7 +1,7 @@
 -- The requests that made a node fetch.
-use Rattle.std.proofs.Common.{◌≡◌, ℕ, List, [], ◌∷◌, ◌++◌, Option, ◌⊎◌, inl, inr, refl, sym, ap, subst}
+use Rattle.std.proofs.Common.{ℕ, List, [], ◌∷◌, Option, inl, inr, sym, ap, subst}
 use Rattle.feed_names.specs.ReleaseName.{Name}
-use Rattle.feed_node_machine.specs.NodeEvents.{NodeEvent, Accepted, Served, Passed, DayBegan, Asked, Took, TookPart, Reopened, WasAsked, IsMoment, events_of}
+use Rattle.feed_node_machine.specs.NodeEvents.{NodeEvent, Accepted, Served, Passed, DayBegan, Asked, Took, TookPart, Reopened, WasAsked, events_of}
 use Rattle.feed_node_machine.specs.Rules.{Rules, IsAskedBy, AreAllowed}
 use Rattle.feed_node_machine.specs.Promise.{IsAuthorized, ChangesByToken, AreOfTheMoment}
 

@@ -1,5 +1,5 @@
 -- The replies of a node to the requests of its connections.
-use Rattle.std.proofs.Common.{◌≡◌, ℕ, Bool, true, false, List, [], ◌∷◌, ◌++◌, Option, Some, None, ◌⊎◌, inl, inr, refl, sym, ap, subst, ◌∙◌, eqb-true}
+use Rattle.std.proofs.Common.{◌≡◌, ℕ, Bool, true, false, List, [], ◌∷◌, ◌++◌, Option, Some, None, inl, inr, refl, sym, ap, subst, eqb-true}
 use Rattle.std.specs.Prelude.{◌==◌, if◌then◌else◌, IfSome}
 use Rattle.httparse.specs.Grammar.{RequestHead}
 use Rattle.feed_node_connection.specs.Requests.{Request, Persistent, Last, Invalid}
@@ -9,8 +9,8 @@ use Rattle.feed_node_connection.specs.States.{HasState}
 use Rattle.feed_node_connection.specs.Streams.{AreReplies}
 use Rattle.feed_node_connection.proofs.States.{all_served}
 use Rattle.feed_node_table.specs.Connections.{in_room}
-use Rattle.feed_node_machine.specs.NodeEvents.{NodeEvent, Accepted, Served, Passed, DayBegan, Asked, Took, TookPart, Reopened, events_of, feed_history, IsMoment}
-use Rattle.feed_node_machine.specs.Rules.{Rules, Terms, replies_at, terms_with, IsShare, AreAllowed}
+use Rattle.feed_node_machine.specs.NodeEvents.{NodeEvent, Accepted, Served, Passed, DayBegan, Asked, Took, TookPart, Reopened, events_of, IsMoment}
+use Rattle.feed_node_machine.specs.Rules.{Rules, IsShare, AreAllowed}
 use Rattle.feed_node_machine.specs.Promise.{IsMadeFor, replies_in}
 
 -- a relation of replies that has more of them

@@ -1,30 +1,28 @@
 -- A share of a turn, and what follows it.
-use Rattle.std.proofs.Common.{◌≡◌, ◌≢◌, ℕ, Bool, true, false, List, [], ◌∷◌, ◌++◌, Option, Some, None, Ok, ◌⊎◌, inl, inr, refl, sym, ap, subst, ◌∙◌}
+use Rattle.std.proofs.Common.{◌≡◌, ℕ, Bool, true, false, List, [], ◌∷◌, ◌++◌, Option, Some, None, Ok, ◌⊎◌, inl, inr, refl, subst}
 use Rattle.std.specs.Prelude.{IfSome, ◌==◌, length}
-use Rattle.httparse.specs.Grammar.{RequestHead}
 use Rattle.feed_embargo.specs.Today.{TodayValue}
 use Rattle.feed_names.specs.ReleaseName.{Name}
 use Rattle.feed_keep.specs.declared.keep.Keep.{Ghosts}
 use Rattle.feed_model.specs.History.{History}
 use Rattle.feed_model.specs.Content.{IsContent}
 use Rattle.feed_releases.specs.Feeds.{recorded}
-use Rattle.feed_resolver_request.specs.FetchRequests.{FetchPolicyValue, IsFetchBy}
+use Rattle.feed_resolver_request.specs.FetchRequests.{IsFetchBy}
 use Rattle.feed_node_connection.specs.declared.streams.Progress.{Progress}
 use Rattle.feed_node_connection.specs.declared.streams.Share.{Share}
 use Rattle.feed_node_connection.specs.Events.{Event, Resumed}
 use Rattle.feed_node_connection.specs.States.{HasState, rest_of}
-use Rattle.feed_node_connection.specs.Streams.{AreReplies}
 use Rattle.feed_node_table.specs.declared.peer.Outcome.{Outcome}
 use Rattle.feed_node_table.specs.declared.peer.Outcome.TheVariants as outcome
 use Rattle.feed_node_table.specs.declared.peer.Peer.{Peer}
 use Rattle.feed_node_table.specs.declared.table.Table.{Table}
 use Rattle.feed_node_table.specs.Logs.{Entry}
-use Rattle.feed_node_table.specs.Tables.{peer_at, has_room_in, IsServed, IsFollowedAt, KeepsConnections, KeepsOthers}
+use Rattle.feed_node_table.specs.Tables.{peer_at, has_room_in, IsServed, IsFollowedAt, KeepsOthers}
 use Rattle.feed_node_table.proofs.Firsts.{same_peer}
 use Rattle.feed_node_machine.specs.declared.occasion.Occasion.{Occasion}
 use Rattle.feed_node_machine.specs.NodeEvents.{NodeEvent, Served, events_of, feed_history, today_in}
-use Rattle.feed_node_machine.specs.Occasions.{terms_of, IsReplyOn}
-use Rattle.feed_node_machine.specs.Rules.{Rules, Terms, replies_at, terms_with, IsShare}
+use Rattle.feed_node_machine.specs.Occasions.{IsReplyOn}
+use Rattle.feed_node_machine.specs.Rules.{Rules, Terms, terms_with, IsShare}
 use Rattle.feed_node_machine.specs.Nodes.{AreAt}
 use Rattle.feed_node_machine.proofs.Connections.{at_kept, at_served, keeps_here, keeps_others}
 use Rattle.feed_node_machine.proofs.Replies.{from_room}

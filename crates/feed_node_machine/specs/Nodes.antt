@@ -1,5 +1,5 @@
 -- The node after a history.
-use Rattle.std.specs.Prelude.{◌≡◌, ◌⊎◌, ◌∷◌, ◌++◌, ℕ, Bool, List, Option, Some, Ok, Result, option_copied}
+use Rattle.std.specs.Prelude.{◌≡◌, ◌⊎◌, ◌∷◌, ◌++◌, ℕ, Bool, List, Some, Ok, Result, option_copied}
 use Rattle.httparse.specs.Grammar.{RequestHead}
 use Rattle.feed_names.specs.ReleaseName.{Name}
 use Rattle.feed_keep.specs.declared.keep.Keep.{Ghosts}
@@ -34,7 +34,7 @@ module _ {T K S : Type 0} {k : Ghosts K} where
     pub fetching : new.fetching ≡ old.fetching
     pub responder : new.responder ≡ old.responder
     pub token : new.token ≡ old.token
-  pub today : new.today ≡ old.today
+    pub today : new.today ≡ old.today
 
 module _ {T K S : Type 0} {k : Ghosts K} (wanted : S → RequestHead → ℕ)
     (replies : S → Terms → History → List ℕ → List ℕ → Bool → List ℕ → Type 0) where

@@ -36,7 +36,13 @@ impl<'a, T: Stream, K: Keep + Drop, S: FeedRespond + Drop> NodeMachine<'a, T, K,
         ensures rest { KeepsRest key self.old self.new }
     {
         let policy = self.policy();
-        let moment = MomentResponder::new(&self.responder, &self.feed, policy, is_local, self.today);
+        let moment = MomentResponder::new(
+            &self.responder,
+            &self.feed,
+            policy,
+            is_local,
+            self.today,
+        );
         self.table
             .advance(key, self.alloc, &moment, buffer, now, share)
     }

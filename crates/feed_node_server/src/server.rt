@@ -8,7 +8,7 @@ use crate::outgoing::{Destination, OutgoingRequest};
 use crate::socket::Socket;
 use crate::streamed_reply::StreamedReply;
 use feed_keep::Keep;
-use feed_node_connection::{TURN_SHARE, TimeLimits};
+use feed_node_connection::{Share, TURN_SHARE, TimeLimits};
 use feed_node_machine::{FeedRespond, NodeMachine, node_is_right};
 use feed_node_table::{CloseCause, Log, Outcome};
 use mio::net::{TcpListener, TcpStream};
@@ -184,6 +184,21 @@ impl Server {
         ensures later { IsLater S.wanted S.replies node.old node.new }
         ensures right { IsRightAfter S.wanted S.replies node.old node.new }
     {
+        let outcome = self.run_turn(rt, node, events, log);
+        node_is_right(node);
+        outcome
+    }
+
+    #[tactic(auto, using(crate::proofs::Later::later_after, crate::proofs::Later::later_same))]
+    fn run_turn<K: Keep + Drop, S: FeedRespond + Drop, L: Log>(
+        &mut self,
+        rt: &impl Clock,
+        node: &mut ServedNode<'_, K, S>,
+        events: &mut Events,
+        log: &mut L,
+    ) -> io::Result<()>
+        ensures { IsLater S.wanted S.replies node.old node.new }
+    {
         let may_block = node.table().ready_len() == 0 && !self.has_more_work;
         let wait = if may_block { TICK } else { 0 };
         self.poll.poll(events, Some(Duration::from_millis(wait)))?;
@@ -196,10 +211,10 @@ impl Server {
         self.has_more_work = self.advance_outgoing() || has_more_work;
         self.advance_streams();
         self.advance_clock(node, now, log);
-        node_is_right(node);
         Ok(())
     }
 
+    #[tactic(auto, using(crate::proofs::Later::later_after, crate::proofs::Later::later_same))]
     fn on_event<K: Keep + Drop, S: FeedRespond + Drop>(
         &mut self,
         node: &mut ServedNode<'_, K, S>,
@@ -216,6 +231,7 @@ impl Server {
 
     // Gives each connection that is ready one share of the turn, the last one first: one that has more to do is added
     // at the end, for the next turn.
+    #[tactic(auto, using(crate::proofs::Later::later_after, crate::proofs::Later::later_same))]
     fn serve_ready<K: Keep + Drop, S: FeedRespond + Drop, L: Log>(
         &mut self,
         rt: &impl Clock,
@@ -233,6 +249,7 @@ impl Server {
     }
 
     // Gives a connection one share of the turn. Returns whether it is still open.
+    #[tactic(auto, using(crate::proofs::Later::later_after, crate::proofs::Later::later_same))]
     fn serve<K: Keep + Drop, S: FeedRespond + Drop, L: Log>(
         &mut self,
         rt: &impl Clock,
@@ -243,24 +260,33 @@ impl Server {
         ensures { IsLater S.wanted S.replies node.old node.new }
     {
         let mut share = TURN_SHARE;
-        let mut outcome = Outcome::Waits;
-        let mut now = self.micros(Instant::now(rt)?);
-        let is_local = match node.table().addr(key) {
-            Some(addr) => is_local(addr),
-            None => false,
-        };
-        for _ in 0..2 {
-            let progress = node.advance(key, is_local, &mut self.buffer, now, &mut share);
-            now = self.micros(Instant::now(rt)?);
-            outcome = node.settle(key, progress, now, log);
-            if outcome != Outcome::Resumed {
-                break;
-            }
+        match self.advance(rt, node, key, &mut share, log)? {
+            Outcome::Resumed => Ok(is_open(self.advance(rt, node, key, &mut share, log)?)),
+            outcome => Ok(is_open(outcome)),
         }
+    }
+
+    // Has a connection use its share until a reply was sent.
+    #[tactic(auto, using(crate::proofs::Later::later_after, crate::proofs::Later::later_same))]
+    fn advance<K: Keep + Drop, S: FeedRespond + Drop, L: Log>(
+        &mut self,
+        rt: &impl Clock,
+        node: &mut ServedNode<'_, K, S>,
+        key: usize,
+        share: &mut Share,
+        log: &mut L,
+    ) -> io::Result<Outcome>
+        ensures { IsLater S.wanted S.replies node.old node.new }
+    {
+        let is_local = node.table().addr(key).is_some_and(is_local);
+        let now = self.micros(Instant::now(rt)?);
+        let progress = node.advance(key, is_local, &mut self.buffer, now, share);
+        let now = self.micros(Instant::now(rt)?);
+        let outcome = node.settle(key, progress, now, log);
         if outcome == Outcome::Streams {
             self.stream_to(node, key, now, log);
         }
-        Ok(outcome != Outcome::Streams && outcome != Outcome::Over)
+        Ok(outcome)
     }
 
     // Advances the request to another server. Returns whether it used all of its share of the turn.
@@ -272,6 +298,7 @@ impl Server {
     }
 
     // Keeps the socket of a client that has the head of its streamed reply, to send the body.
+    #[tactic(auto, using(crate::proofs::Later::later_after, crate::proofs::Later::later_same))]
     fn stream_to<K: Keep + Drop, S: FeedRespond + Drop, L: Log>(
         &mut self,
         node: &mut ServedNode<'_, K, S>,
@@ -297,6 +324,7 @@ impl Server {
 
     // Accepts connections until none waits or the system refuses one. If it has no descriptor left, a connection is
     // closed for the next one. A flood gets a bounded share of a turn. Returns whether it used all of it.
+    #[tactic(auto, using(crate::proofs::Later::later_after, crate::proofs::Later::later_same))]
     fn accept_waiting<K: Keep + Drop, S: FeedRespond + Drop, L: Log>(
         &mut self,
         rt: &impl Clock,
@@ -309,25 +337,46 @@ impl Server {
             if !self.may_accept {
                 return Ok(false);
             }
-            match self.listener.accept() {
-                Ok((stream, addr)) => self.admit(rt, node, stream, addr, log)?,
-                Err(fault) => match fault.kind() {
-                    ErrorKind::WouldBlock => self.may_accept = false,
-                    ErrorKind::Interrupted => {}
-                    ErrorKind::ConnectionAborted => {}
-                    _ => {
-                        let now = self.micros(Instant::now(rt)?);
-                        node.make_room(now, log);
-                        return Ok(false);
-                    }
-                },
+            if !self.accept_next(rt, node, log)? {
+                return Ok(false);
             }
         }
         Ok(true)
     }
 
+    // Accepts a connection. Returns whether another may be accepted now.
+    #[tactic(auto, using(crate::proofs::Later::later_after, crate::proofs::Later::later_same))]
+    fn accept_next<K: Keep + Drop, S: FeedRespond + Drop, L: Log>(
+        &mut self,
+        rt: &impl Clock,
+        node: &mut ServedNode<'_, K, S>,
+        log: &mut L,
+    ) -> io::Result<bool>
+        ensures { IsLater S.wanted S.replies node.old node.new }
+    {
+        match self.listener.accept() {
+            Ok((stream, addr)) => {
+                self.admit(rt, node, stream, addr, log)?;
+                Ok(true)
+            }
+            Err(fault) => match fault.kind() {
+                ErrorKind::WouldBlock => {
+                    self.may_accept = false;
+                    Ok(false)
+                }
+                ErrorKind::Interrupted | ErrorKind::ConnectionAborted => Ok(true),
+                _ => {
+                    let now = self.micros(Instant::now(rt)?);
+                    node.make_room(now, log);
+                    Ok(false)
+                }
+            },
+        }
+    }
+
     // Begins a new connection, and serves it at once: its client may have sent a request already. If it remains open,
     // its socket is registered with the poll.
+    #[tactic(auto, using(crate::proofs::Later::later_after, crate::proofs::Later::later_same))]
     fn admit<K: Keep + Drop, S: FeedRespond + Drop, L: Log>(
         &mut self,
         rt: &impl Clock,
@@ -345,14 +394,30 @@ impl Server {
         let Some(key) = node.accept(socket, addr, self.limits, now, log) else {
             return Ok(());
         };
-        let is_open = self.serve(rt, node, key, log)?;
-        if is_open && !node.register(key, self.poll.registry()) {
-            let _ = node.remove(key, CloseCause::PeerClosed, now, log);
+        if self.serve(rt, node, key, log)? {
+            self.register(node, key, now, log);
         }
         Ok(())
     }
 
+    // Registers the socket of a connection with the poll. If that fails, the connection is removed.
+    #[tactic(auto, using(crate::proofs::Later::later_after, crate::proofs::Later::later_same))]
+    fn register<K: Keep + Drop, S: FeedRespond + Drop, L: Log>(
+        &mut self,
+        node: &mut ServedNode<'_, K, S>,
+        key: usize,
+        now: u64,
+        log: &mut L,
+    )
+        ensures { IsLater S.wanted S.replies node.old node.new }
+    {
+        if !node.register(key, self.poll.registry()) {
+            let _ = node.remove(key, CloseCause::PeerClosed, now, log);
+        }
+    }
+
     // Advances the clocks, at most once in 250 ms.
+    #[tactic(auto, using(crate::proofs::Later::later_after, crate::proofs::Later::later_same))]
     fn advance_clock<K: Keep + Drop, S: FeedRespond + Drop, L: Log>(
         &mut self,
         node: &mut ServedNode<'_, K, S>,
@@ -378,6 +443,14 @@ impl Server {
         self.advance_streams();
         let now = self.micros(now);
         node.advance_clock(now, log);
+    }
+}
+
+// Returns whether a connection is still open after an outcome.
+fn is_open(outcome: Outcome) -> bool {
+    match outcome {
+        Outcome::Waits | Outcome::Ready | Outcome::Resumed => true,
+        Outcome::Streams | Outcome::Over => false,
     }
 }
 

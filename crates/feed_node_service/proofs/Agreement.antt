@@ -2,6 +2,7 @@
 use Rattle.std.proofs.Common.{◌≡◌, ℕ, Bool, List, Option, Some, None, inl, inr, refl, sym, ap, ◌∙◌, subst}
 use Rattle.httparse.specs.Grammar.{RequestHead}
 use Rattle.httparse.proofs.GrammarLemmas.{request_unique}
+use Rattle.feed_embargo.specs.Today.{TodayValue}
 use Rattle.feed_names.specs.ReleaseName.{Name}
 use Rattle.feed_kbart.specs.Files.{holdings_of}
 use Rattle.feed_model.specs.History.{History}
@@ -44,7 +45,7 @@ no_feed policy bytes keeps response (inr (head, begins, none)) is =
 -- what a reader gets
 pub record IsRead (responder : FeedResponder) (terms : Terms) (h : History) (bytes body : List ℕ) (keeps : Bool) (text : List ℕ) : Type 0 where
   pub response : ResponseValue
-  pub is : IsNodeReplyAt responder.site terms.policy h bytes body keeps response
+  pub is : IsNodeReplyAt responder.site terms.policy terms.today h bytes body keeps response
   pub same : text ≡ response.bytes
 
 read_by : (responder : FeedResponder) (terms : Terms) (h : History) (bytes body : List ℕ) (keeps : Bool) (text : List ℕ) → IsOfReader bytes
@@ -56,13 +57,14 @@ read_by responder terms h bytes body keeps text reader (inr (none, (response, st
     record { response = response; is = is; same = same }
 
 pub agree : FilesArePublished → SameReleasesSameNodeBytes → NodesAgree
-agree files bytes_same file one other here there moment another bytes body keeps text reply site first second alike reader is also =
+agree files bytes_same file one other here there moment another bytes body keeps text reply site day first second alike reader is also =
     let mine = read_by one here (feed_history moment) bytes body keeps text reader is in
     let theirs = read_by other there (feed_history another) bytes body keeps reply reader also in
-    let same : mine.response ≡ theirs.response = bytes_same file other.site (feed_history moment) (feed_history another) here.policy there.policy bytes body keeps
+    let same : mine.response ≡ theirs.response = bytes_same file other.site there.today (feed_history moment) (feed_history another) here.policy there.policy bytes body keeps
     mine.response theirs.response (λ n whole of. files file moment n whole first.given first.of_files of) (λ n whole of. files file another n whole second.given second.of_files of)
     alike reader.no_fetch
-    (subst (λ (s : SiteValue). IsNodeReplyAt s here.policy (feed_history moment) bytes body keeps mine.response) site mine.is) theirs.is in
+    (subst (λ (t : TodayValue). IsNodeReplyAt other.site here.policy t (feed_history moment) bytes body keeps mine.response) day
+    (subst (λ (s : SiteValue). IsNodeReplyAt s here.policy here.today (feed_history moment) bytes body keeps mine.response) site mine.is)) theirs.is in
     mine.same ∙ ap (λ (r : ResponseValue). r.bytes) same ∙ sym theirs.same
 
 pub hits : FilesArePublished → HitsArePublished

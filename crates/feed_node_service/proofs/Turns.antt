@@ -9,6 +9,7 @@ use Rattle.httparse.specs.Grammar.{RequestHead}
 use Rattle.httparse.proofs.GrammarLemmas.{request_unique}
 use Rattle.feed_http_heads.specs.Options.{lacks_close, SaysWhetherItKeeps}
 use Rattle.feed_node_connection.specs.Requests.{IsPersistent, is_post, persists, states_len, body_len_of}
+use Rattle.feed_embargo.specs.Today.{TodayValue}
 use Rattle.feed_model.specs.History.{History}
 use Rattle.feed_http_heads.specs.Fields.{values_named, has_any}
 use Rattle.feed_http_heads.specs.Requests.{lacks_host}
@@ -25,9 +26,9 @@ use Rattle.feed_resolver_tag.specs.Tags.{SiteValue}
 use Rattle.feed_resolver.specs.FeedReplies.{IsFeedResponse}
 use Rattle.feed_node_service.specs.Responders.{IsReplyBy}
 
-pub as_node : (site : SiteValue) (policy : FetchPolicyValue) (bytes body : List ℕ) (keeps : Bool) (h : History) (response : ResponseValue) → IsFeedResponse policy bytes keeps None
-    → IsNodeReplyAt site policy h bytes body keeps response → IsReplyBy site policy h bytes body keeps response
-as_node site policy bytes body keeps h response other is = inr (other, is)
+pub as_node : (site : SiteValue) (policy : FetchPolicyValue) (today : TodayValue) (bytes body : List ℕ) (keeps : Bool) (h : History) (response : ResponseValue) → IsFeedResponse policy bytes keeps None
+    → IsNodeReplyAt site policy today h bytes body keeps response → IsReplyBy site policy today h bytes body keeps response
+as_node site policy today bytes body keeps h response other is = inr (other, is)
 
 -- a response with these parts
 pub same_response : (r : ResponseValue) (bytes : List ℕ) (status size : ℕ) → bytes ≡ r.bytes → status ≡ r.status → size ≡ r.body_length

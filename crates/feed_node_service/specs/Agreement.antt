@@ -1,6 +1,7 @@
 -- The agreement of two nodes that fetched from the same published files.
 use Rattle.std.specs.Prelude.{◌≡◌, ◌⊎◌, ℕ, Bool, List, All, None}
 use Rattle.httparse.specs.Grammar.{RequestHead}
+use Rattle.feed_embargo.specs.Today.{TodayValue}
 use Rattle.feed_names.specs.ReleaseName.{Name}
 use Rattle.feed_kbart.specs.Files.{holdings_of}
 use Rattle.feed_model.specs.History.{History}
@@ -9,6 +10,7 @@ use Rattle.feed_resolver_request.specs.FetchRequests.{FetchPolicyValue}
 use Rattle.feed_resolver_request.specs.FoundRequests.{BeginsWith, HasNoHead}
 use Rattle.feed_resolver_reply.specs.Replies.{ResponseValue}
 use Rattle.feed_resolver_tag.specs.Tags.{SiteValue}
+use Rattle.feed_resolver.specs.Answers.{dated}
 use Rattle.feed_resolver.specs.FeedReplies.{feed_target}
 use Rattle.feed_resolver.specs.NodeReplies.{AsksForNoFetch, IsNodeReply, IsNodeReplyAt}
 use Rattle.feed_monitoring.specs.Reports.{AsksForNoReport}
@@ -34,24 +36,24 @@ pub record IsFromFiles (file : Name → List ℕ) (history : List NodeEvent) : T
   pub of_files : AreOfFiles file history
 
 -- two nodes of the same version and settings, whose knowledge bases serve slices of the same published files: two replies to
--- the same request of a reader, each made as its node reported the same releases, are the same bytes. Whatever else the
--- nodes did, and whatever their tokens are
+-- the same request of a reader, each made on the same day as its node reported the same releases, are the same bytes.
+-- Whatever else the nodes did, and whatever their tokens are
 abbrev pub NodesAgree : Type 0
 NodesAgree =
     (file : Name → List ℕ) (one other : FeedResponder) (here there : Terms) (moment another : List NodeEvent)
     (bytes body : List ℕ) (keeps : Bool) (text reply : List ℕ)
-    → one.site ≡ other.site → IsFromFiles file moment → IsFromFiles file another
+    → one.site ≡ other.site → here.today ≡ there.today → IsFromFiles file moment → IsFromFiles file another
     → ReportAlike (feed_history moment) (feed_history another) → IsOfReader bytes
     → IsTurnText one here (feed_history moment) bytes body keeps text → IsTurnText other there (feed_history another) bytes body keeps reply
     → text ≡ reply
 
 -- the reply is made from exactly the releases that the node reports, with the holdings of their whole published files
-pub record IsOfPublished (file : Name → List ℕ) (site : SiteValue) (policy : FetchPolicyValue) (h : History) (bytes body : List ℕ) (keeps : Bool)
-    (response : ResponseValue) : Type 0 where
+pub record IsOfPublished (file : Name → List ℕ) (site : SiteValue) (policy : FetchPolicyValue) (today : TodayValue) (h : History) (bytes body : List ℕ)
+    (keeps : Bool) (response : ResponseValue) : Type 0 where
   pub actives : List ActiveValue
   pub reported : AreReported h actives
   pub published : All (λ active. active.holdings ≡ holdings_of (file active.name)) actives
-  pub is : IsNodeReply site policy bytes body keeps actives response
+  pub is : IsNodeReply site policy bytes body keeps (dated today actives) response
 
 -- each reply of a node to a reader is such a reply
 abbrev pub HitsArePublished : Type 0
@@ -59,4 +61,4 @@ HitsArePublished =
     (file : Name → List ℕ) (responder : FeedResponder) (terms : Terms) (moment : List NodeEvent) (bytes body : List ℕ) (keeps : Bool) (text : List ℕ)
     → IsFromFiles file moment → IsOfReader bytes → IsTurnText responder terms (feed_history moment) bytes body keeps text
     → (response : ResponseValue) × (text ≡ response.bytes)
-    × IsOfPublished file responder.site terms.policy (feed_history moment) bytes body keeps response
+    × IsOfPublished file responder.site terms.policy terms.today (feed_history moment) bytes body keeps response

@@ -1,5 +1,6 @@
 -- The replies of a responder, and the parts of a reply that the resolver's definitions speak of.
 use Rattle.std.specs.Prelude.{◌≡◌, ◌⊎◌, ℕ, Bool, List, Some, None}
+use Rattle.feed_embargo.specs.Today.{TodayValue}
 use Rattle.feed_model.specs.History.{History}
 use Rattle.feed_node_connection.specs.declared.respond.Reply.{Reply}
 use Rattle.feed_resolver_request.specs.FetchRequests.{FetchPolicyValue, IsWhetherToBegin}
@@ -12,22 +13,23 @@ use Rattle.feed_node_machine.specs.Rules.{Terms}
 use Rattle.feed_node_service.specs.declared.responder.FeedResponder.{FeedResponder}
 use Rattle.feed_node_service.specs.Reports.{IsReportFor, HasNoReport}
 
--- the reply about the recorded releases, if the bytes ask for them, and otherwise that of a node whose feed has this history
-abbrev pub IsReplyBy : SiteValue → FetchPolicyValue → History → List ℕ → List ℕ → Bool → ResponseValue → Type 0
-IsReplyBy site policy h bytes body keeps response =
+-- the reply about the recorded releases, if the bytes ask for them, and otherwise that of a node whose feed has this history,
+-- on this day
+abbrev pub IsReplyBy : SiteValue → FetchPolicyValue → TodayValue → History → List ℕ → List ℕ → Bool → ResponseValue → Type 0
+IsReplyBy site policy today h bytes body keeps response =
     IsFeedResponse policy bytes keeps (Some response)
-    ⊎ (IsFeedResponse policy bytes keeps None × IsNodeReplyAt site policy h bytes body keeps response)
+    ⊎ (IsFeedResponse policy bytes keeps None × IsNodeReplyAt site policy today h bytes body keeps response)
 
 -- the same; it is streamed exactly if the node begins to fetch by this policy
-abbrev pub IsTurnReply : SiteValue → FetchPolicyValue → History → List ℕ → List ℕ → Bool → ResponseValue → Bool → Type 0
-IsTurnReply site policy h bytes body keeps response is_streamed =
-    IsReplyBy site policy h bytes body keeps response × IsWhetherToBegin policy bytes is_streamed
+abbrev pub IsTurnReply : SiteValue → FetchPolicyValue → TodayValue → History → List ℕ → List ℕ → Bool → ResponseValue → Bool → Type 0
+IsTurnReply site policy today h bytes body keeps response is_streamed =
+    IsReplyBy site policy today h bytes body keeps response × IsWhetherToBegin policy bytes is_streamed
 
 -- the bytes of such a reply
 abbrev pub IsReaderText : FeedResponder → Terms → History → List ℕ → List ℕ → Bool → List ℕ → Type 0
 IsReaderText responder terms h bytes body keeps text =
     (response : ResponseValue) × (is_streamed : Bool)
-    × IsTurnReply responder.site terms.policy h bytes body keeps response is_streamed × (text ≡ response.bytes)
+    × IsTurnReply responder.site terms.policy terms.today h bytes body keeps response is_streamed × (text ≡ response.bytes)
 
 -- the bytes of a reply about the node
 abbrev pub IsReportText : FeedResponder → Terms → History → List ℕ → Bool → List ℕ → Type 0

@@ -45,7 +45,7 @@ impl<'a> FeedResponder<'a> {
         persists: bool,
     ) -> Result<Response, AllocError>
         ensures reply { IfOk result (λ response. (h : History) → IsContent (recorded occasion.now.feed.now) h
-            → IsReplyBy self.now.site occasion.now.policy h bytes.now body.now persists response) }
+            → IsReplyBy self.now.site occasion.now.policy occasion.now.today h bytes.now body.now persists response) }
         ensures says { IfOk result (λ response. SaysOfConnection bytes.now persists response) }
     {
         let policy = &occasion.policy;
@@ -54,7 +54,14 @@ impl<'a> FeedResponder<'a> {
             Some(response) => Ok(response),
             None => {
                 let response = respond_as_node(
-                    alloc, bytes, body, persists, policy, &self.site, feed,
+                    alloc,
+                    bytes,
+                    body,
+                    persists,
+                    policy,
+                    &self.site,
+                    &occasion.today,
+                    feed,
                 )?;
                 Ok(response)
             }
@@ -107,8 +114,8 @@ impl<'a> FeedResponder<'a> {
         persists: bool,
     ) -> Result<Reply, AllocError>
         ensures turn { IfOk result (λ reply. (h : History) → IsContent (recorded occasion.now.feed.now) h
-            → IsTurnReply self.now.site occasion.now.policy h bytes.now body.now persists (response_in reply)
-            reply.summary.is_streamed) }
+            → IsTurnReply self.now.site occasion.now.policy occasion.now.today h bytes.now body.now persists
+            (response_in reply) reply.summary.is_streamed) }
         ensures says { IfOk result (λ reply. SaysOfConnection bytes.now persists (response_in reply)) }
     {
         let is_streamed = fetch_to_begin(alloc, bytes, &occasion.policy).is_some();

@@ -1,5 +1,5 @@
 use Rattle.std.proofs.Common.{◌∙◌, inl, inr}
-use Rattle.feed_node_machine.proofs.Later.{later_advanced}
+use Rattle.feed_node_machine.proofs.Later.{later_advanced, later_served}
 use Rattle.feed_node_machine.proofs.machine.NodeMachine.advance.Goals as goal
 
 pub returns-then-share-replies-clause-history : goal.returns-then-share-replies-clause-history
@@ -21,3 +21,6 @@ returns-then-share-replies-clause-rest g c = record {
 pub returns-then-share-replies-clause-later : goal.returns-then-share-replies-clause-later
 returns-then-share-replies-clause-later g c =
     later_advanced g.S.FeedRespond.wanted g.S.FeedRespond.replies c.args.key _ _ (returns-then-share-replies-clause-history g c)
+
+pub returns-else-share-replies-clause-later : goal.returns-else-share-replies-clause-later
+returns-else-share-replies-clause-later g c = later_served g.S.FeedRespond.wanted g.S.FeedRespond.replies c.args.key _ _ c.serve-progress.ensures.history

@@ -18,5 +18,6 @@ returns-clause-history g c = λ history has. (
 )
 
 pub returns-clause-later : goal.returns-clause-later
+unfolding returns-clause-history
 returns-clause-later g c =
     later_by g.S.FeedRespond.wanted g.S.FeedRespond.replies (Passed (millis_at c.args.self.now.table c.args.now)) _ _ (λ history has. (returns-clause-history g c history has).1)

@@ -1,4 +1,4 @@
-use Rattle.std.proofs.Common.{◌≡◌, ◌∷◌, refl}
+use Rattle.std.proofs.Common.{◌∷◌, refl}
 use Rattle.feed_node_machine.specs.NodeEvents.{DayBegan, Reopened}
 use Rattle.feed_node_machine.proofs.Connections.{at_empty}
 use Rattle.feed_node_machine.proofs.machine.NodeMachine.new.Goals as goal
