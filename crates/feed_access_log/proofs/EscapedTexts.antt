@@ -5,7 +5,7 @@ use Rattle.std.specs.List.{AllByRecursion}
 use Rattle.std.proofs.lemmas.Bool.{cases_Bool}
 use Rattle.std.proofs.lemmas.Bool.Decides.{nat_tests}
 use Rattle.std.proofs.lemmas.List.Elements.{All-from_recursion, All-append, recursion_from_All}
-use Rattle.feed_access_log.specs.Escapes.{hex_digit, hex_value, is_plain, is_visible, escape_byte, escaped, with_byte, undone, unescaped}
+use Rattle.feed_access_log.specs.Escapes.{upper_digit, hex_value, is_plain, is_visible, escape_byte, escaped, with_byte, undone, unescaped}
 use Rattle.feed_access_log.specs.Escapes as escapes
 use Rattle.feed_access_log.specs.Lines.{IsByte}
 
@@ -18,13 +18,13 @@ plain_visible b plain = grind (arith, nat_tests)
 plain_unmarked : (b : ℕ) → is_plain b ≡ true → (b == 92) ≡ false
 plain_unmarked b plain = grind (arith, nat_tests)
 
-digit_visible : (n : ℕ) → n < 16 → is_visible (hex_digit n) ≡ true
+digit_visible : (n : ℕ) → n < 16 → is_visible (upper_digit n) ≡ true
 digit_visible n small = elim (cases_Bool (nat_lt n 10)) [
   | inl low ↦ rw low (grind (arith, nat_tests))
   | inr high ↦ rw high (grind (arith, nat_tests))
 ]
 
-digit_value : (n : ℕ) → n < 16 → hex_value (hex_digit n) ≡ n
+digit_value : (n : ℕ) → n < 16 → hex_value (upper_digit n) ≡ n
 digit_value n small = elim (cases_Bool (nat_lt n 10)) [
   | inl low ↦ rw low (grind (arith, nat_tests))
   | inr high ↦ rw high (grind (arith, nat_tests))
@@ -34,7 +34,7 @@ digit_value n small = elim (cases_Bool (nat_lt n 10)) [
 byte_visible : (b : ℕ) → b < 256 → All Visible (escape_byte b)
 byte_visible b small = elim (cases_Bool (is_plain b)) [
   | inl plain ↦ rw plain (All-from_recursion Visible (b ∷ []) (plain_visible b plain, tt))
-  | inr other ↦ rw other (All-from_recursion Visible (92 ∷ 120 ∷ hex_digit (b / 16) ∷ hex_digit (b % 16) ∷ [])
+  | inr other ↦ rw other (All-from_recursion Visible (92 ∷ 120 ∷ upper_digit (b / 16) ∷ upper_digit (b % 16) ∷ [])
       (refl, (refl, (digit_visible (b / 16) (omega arith), (digit_visible (b % 16) (omega arith), tt)))))
 ]
 
@@ -45,7 +45,7 @@ visible_all (b ∷ text) small = All-append Visible (escape_byte b) (escaped tex
 pub visible : (text : List ℕ) → All IsByte text → All (λ b. is_visible b ≡ true) (escaped text)
 visible text small = visible_all text (recursion_from_All IsByte text small)
 
-two_digits : (b : ℕ) → b < 256 → 16 * hex_value (hex_digit (b / 16)) + hex_value (hex_digit (b % 16)) ≡ b
+two_digits : (b : ℕ) → b < 256 → 16 * hex_value (upper_digit (b / 16)) + hex_value (upper_digit (b % 16)) ≡ b
 two_digits b small = rw (digit_value (b / 16) (omega arith), digit_value (b % 16) (omega arith)) (omega arith)
 
 -- one byte is undone

@@ -1,10 +1,11 @@
 -- Escaping the text of a client between two quotes, and how a reader decodes it.
-use Rattle.std.specs.Prelude.{ℕ, ◌+◌, ◌-◌, ◌*◌, ◌/◌, ◌%◌, ◌==◌, ◌&&◌, not, Bool, nat_lt, nat_le, if◌then◌else◌, List, [], ◌∷◌, Option, Some, None, option_map}
+use Rattle.std.specs.Prelude.{ℕ, ◌+◌, ◌-◌, ◌*◌, ◌/◌, ◌%◌, ◌==◌, ◌&&◌, not, Bool, nat_le, if◌then◌else◌, List, [], ◌∷◌, Option, Some, None, option_map}
 use Rattle.std.specs.List.{flat_map}
+use Rattle.feed_pieces.specs.Hexadecimal.{hex_digit}
 
--- the digit of a number below 16
-abbrev pub hex_digit : ℕ → ℕ
-hex_digit n = if nat_lt n 10 then 48 + n else 55 + n
+-- the uppercase digit of a number below 16
+abbrev pub upper_digit : ℕ → ℕ
+upper_digit n = hex_digit 65 n
 
 -- visible ASCII or a space, and neither `"` nor `\`
 abbrev pub is_plain : ℕ → Bool
@@ -12,7 +13,7 @@ is_plain b = nat_le 32 b && nat_le b 126 && not (b == 34) && not (b == 92)
 
 -- a byte of a text: itself, or `\xHH`
 abbrev pub escape_byte : ℕ → List ℕ
-escape_byte b = if is_plain b then b ∷ [] else 92 ∷ 120 ∷ hex_digit (b / 16) ∷ hex_digit (b % 16) ∷ []
+escape_byte b = if is_plain b then b ∷ [] else 92 ∷ 120 ∷ upper_digit (b / 16) ∷ upper_digit (b % 16) ∷ []
 
 -- a text, escaped
 abbrev pub escaped : List ℕ → List ℕ

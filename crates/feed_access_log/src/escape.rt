@@ -1,7 +1,8 @@
 //! Writes bytes, and texts of clients escaped for a pair of quotes.
-ghost use Rattle.std.specs.Prelude.{◌≡◌, ◌<◌, ◌≤◌, ◌++◌, OnOk, length, take};
-ghost use Rattle.feed_access_log.specs.Escapes.{escape_byte, escaped, hex_digit, is_plain};
+ghost use Rattle.std.specs.Prelude.{◌≡◌, ◌≤◌, ◌++◌, OnOk, length, take};
+ghost use Rattle.feed_access_log.specs.Escapes.{escape_byte, escaped, is_plain};
 
+use feed_pieces::hex_digit;
 use std::alloc::AllocError;
 
 /// Writes the bytes of a text.
@@ -9,17 +10,6 @@ pub(crate) fn put(out: &mut Vec<u8>, text: &[u8]) -> Result<(), AllocError>
     ensures { OnOk result (out.new.items ≡ out.old.items ++ text.now) }
 {
     Ok(out.extend_from_slice(text)?)
-}
-
-fn hex_digit(number: u8) -> u8
-    requires { number < 16 }
-    ensures { result ≡ hex_digit number }
-{
-    if number < 10 {
-        48 + number
-    } else {
-        55 + number
-    }
 }
 
 fn is_plain(byte: u8) -> bool
@@ -34,10 +24,9 @@ fn put_escaped_byte(out: &mut Vec<u8>, byte: u8) -> Result<(), AllocError>
     if is_plain(byte) {
         Ok(out.push(byte)?)
     } else {
-        put(
-            out,
-            &[b'\\', b'x', hex_digit(byte / 16), hex_digit(byte % 16)],
-        )
+        let high = hex_digit(b'A', byte / 16);
+        let low = hex_digit(b'A', byte % 16);
+        put(out, &[b'\\', b'x', high, low])
     }
 }
 

@@ -119,7 +119,7 @@ get_drop [] (suc at) i y e = absurd (let u : None ≡ Some y = e in cc)
 get_drop (x ∷ xs) (suc at) i y e = let same : suc at + i ≡ suc (at + i) = omega arith in rw same (get_drop xs at i y e)
 
 -- a slice has the bytes of its file
-slice_at : (file : List ℕ) (first end place y : ℕ) → byte_at first (slice_range file first end) place ≡ Some y → slice_get file place ≡ Some y
+pub slice_at : (file : List ℕ) (first end place y : ℕ) → byte_at first (slice_range file first end) place ≡ Some y → slice_get file place ≡ Some y
 slice_at file first end place y e = by (nat_le first place) refl e
   where
     by : (b : Bool) → nat_le first place ≡ b → cond b (slice_get (slice_range file first end) (place - first)) None ≡ Some y → slice_get file place ≡ Some y

@@ -38,7 +38,7 @@ ghost use Rattle.feed_fetch.specs.Printing.{has_failed};
 ghost use Rattle.feed_http.specs.RequestTexts.{is_host};
 ghost use Rattle.feed_limits.specs.Limits.{piece_limit};
 
-use crate::machine::{Fetch, Next, Request};
+use crate::machine::{Fetch, Next, Phase, Request};
 use crate::printer::{Printer, Unprinted};
 use crate::requests::{request_range, request_size};
 use crate::stop::{RequestFault, Stop};
@@ -70,20 +70,19 @@ fn send<D: Dial>(
     }
 }
 
-/// Fetches the file of a release: runs a `Fetch` over a dial, with one connection for each request. Prints each answer
-/// of the feed to `out`, as a line.
+/// Fetches the file of a release: runs a new `Fetch` over a dial, with one connection for each request. Prints each
+/// answer of the feed to `out`, as a line.
 pub fn fetch_file<D: Dial, K: Keep + Drop, O: Write>(
     alloc: Global,
     dial: &mut D,
     feed: &mut Feed<K>,
     host: &[u8],
     name: &ReleaseName,
-    piece: u64,
+    mut fetch: Fetch,
     out: &mut Printer<O>,
 ) -> Result<(), Stop>
     requires host { IsTrue (is_host host.now) }
-    requires least { 1 ≤ piece }
-    requires most { piece ≤ piece_limit }
+    requires new { fetch.phase ≡ Phase.New }
     ensures extends { IsExtension (IsFetchEvent D.replies host.now name.now)
         (λ k. IfErr result (λ stop. IsStoppedAt name.now stop k)) (recorded feed.old) (recorded feed.new) }
     ensures gets { (file : List ℕ) → ServesFile D.replies name.now file → IsFetchable file
@@ -91,7 +90,6 @@ pub fn fetch_file<D: Dial, K: Keep + Drop, O: Write>(
     ensures done { OnOk result ((h : History) → IsContent (recorded feed.new) h → IsAllFetched name.now h) }
     ensures caused { IfErr result (λ stop. HasCause (has_failed out.new) (D.last_fault dial.new) stop) }
 {
-    let mut fetch = Fetch::new(piece);
     // Each round but the first fills a place, so a file needs no more rounds than this.
     'rounds: for _ in 0..FILE_LIMIT + 2 {
         let Next::Ask(request) = fetch.next(feed, name) else {
@@ -160,7 +158,8 @@ pub fn fetch_with<D: Dial, K: Keep + Drop, O: Write, F: Write>(
     ensures gets { (file : List ℕ) → ServesFile D.replies name.now file → IsFetchable file → (h : History)
         → IsContent (recorded feed.old) h → IsOpenTo name.now file h → (result ≡ 0) ⊎ (result ≡ 3) }
 {
-    let outcome = fetch_file(alloc, dial, feed, host, name, piece, out);
+    let fetch = Fetch::new(piece);
+    let outcome = fetch_file(alloc, dial, feed, host, name, fetch, out);
     let Ok(()) = out.flush() else {
         return 3;
     };

@@ -1,14 +1,13 @@
 //! A fetch from a server over files in memory.
-ghost use Rattle.std.specs.Prelude.{ℕ, List, [], ◌≡◌, ◌≤◌, ◌⊎◌, ◌||◌, IsTrue, Some, None};
+ghost use Rattle.std.specs.Prelude.{ℕ, List, [], ◌≡◌, ◌⊎◌, ◌||◌, Some, None};
 ghost use Rattle.feed_http.specs.MemoryShelves.{file_named};
-ghost use Rattle.feed_http.specs.RequestTexts.{is_host};
-ghost use Rattle.feed_limits.specs.Limits.{piece_limit};
 ghost use Rattle.feed_model.specs.Content.{IsContent};
 ghost use Rattle.feed_model.specs.History.{History};
 ghost use Rattle.feed_releases.specs.Feeds.{recorded};
 ghost use Rattle.feed_dial.specs.Replies.{Known};
 ghost use Rattle.feed_fetch.specs.Printing.{has_failed};
 ghost use Rattle.feed_fetch.specs.Servers.{IsServed};
+ghost use Rattle.feed_fetch.specs.Orders.{IsOrder};
 ghost use Rattle.feed_fetch.specs.Effects.{IsExtension, IsFetchEvent, EndsWithStatus, IsFetchable, IsOpenTo};
 
 use crate::fetch_loop::fetch_with;
@@ -22,30 +21,43 @@ use std::alloc::Global;
 use std::io::Write;
 use std::marker::Brand;
 
+/// What to fetch: the release, from which host, and by requests for how many places at most.
+#[derive(Clone, Copy)]
+pub struct Order<'a> {
+    pub host: &'a [u8],
+    pub name: &'a ReleaseName,
+    pub piece: u64,
+}
+
 fn fetch_from<A: Archive, K: Keep + Drop, O: Write, F: Write>(
     alloc: Global,
-    files: &[NamedFile],
+    archive: &[NamedFile],
     feed: &mut Feed<K>,
-    host: &[u8],
-    name: &ReleaseName,
-    piece: u64,
+    order: &Order<'_>,
     out: &mut Printer<O>,
     faults: &mut Printer<F>,
 ) -> u8
-    requires archive { file_named files.now ≡ A.files }
-    requires host { IsTrue (is_host host.now) }
-    requires least { 1 ≤ piece }
-    requires most { piece ≤ piece_limit }
-    ensures extends { IsExtension (IsFetchEvent (Known (IsServed A.files)) host.now name.now)
-        (EndsWithStatus name.now result (has_failed out.new || has_failed faults.new) None)
+    requires archive { file_named archive.now ≡ A.files }
+    requires order { IsOrder order.now }
+    ensures extends { IsExtension (IsFetchEvent (Known (IsServed A.files)) order.now.host.now order.now.name.now)
+        (EndsWithStatus order.now.name.now result (has_failed out.new || has_failed faults.new) None)
         (recorded feed.old) (recorded feed.new) }
-    ensures gets { (file : List ℕ) → A.files name.now ≡ Some file → IsFetchable file → (h : History)
-        → IsContent (recorded feed.old) h → IsOpenTo name.now file h → (result ≡ 0) ⊎ (result ≡ 3) }
+    ensures gets { (file : List ℕ) → A.files order.now.name.now ≡ Some file → IsFetchable file → (h : History)
+        → IsContent (recorded feed.old) h → IsOpenTo order.now.name.now file h → (result ≡ 0) ⊎ (result ≡ 3) }
 {
     // The requests have this text, which names the release.
-    let _text = name.text();
-    let mut dial = MemoryDial::<A>::new(alloc, files);
-    fetch_with(alloc, &mut dial, feed, host, name, piece, out, faults)
+    let _text = order.name.text();
+    let mut dial = MemoryDial::<A>::new(alloc, archive);
+    fetch_with(
+        alloc,
+        &mut dial,
+        feed,
+        order.host,
+        order.name,
+        order.piece,
+        out,
+        faults,
+    )
 }
 
 /// Fetches the file of a release with `fetch_with` from a server over these files. If a name appears twice, the first
@@ -54,26 +66,24 @@ pub fn fetch_from_memory<K: Keep + Drop, O: Write, F: Write>(
     alloc: Global,
     files: &[NamedFile],
     feed: &mut Feed<K>,
-    host: &[u8],
-    name: &ReleaseName,
-    piece: u64,
+    order: &Order<'_>,
     out: &mut Printer<O>,
     faults: &mut Printer<F>,
 ) -> u8
-    requires host { IsTrue (is_host host.now) }
-    requires least { 1 ≤ piece }
-    requires most { piece ≤ piece_limit }
-    ensures extends { IsExtension (IsFetchEvent (Known (IsServed (file_named files.now))) host.now name.now)
-        (EndsWithStatus name.now result (has_failed out.new || has_failed faults.new) None)
+    requires { IsOrder order.now }
+    ensures extends { IsExtension
+        (IsFetchEvent (Known (IsServed (file_named files.now))) order.now.host.now order.now.name.now)
+        (EndsWithStatus order.now.name.now result (has_failed out.new || has_failed faults.new) None)
         (recorded feed.old) (recorded feed.new) }
 
     // If the file is there and good and the feed is open to it, the fetch ends with 0, or with 3 for a failure.
-    ensures gets { (file : List ℕ) → file_named files.now name.now ≡ Some file → IsFetchable file → (h : History)
-        → IsContent (recorded feed.old) h → IsOpenTo name.now file h → (result ≡ 0) ⊎ (result ≡ 3) }
+    ensures gets { (file : List ℕ) → file_named files.now order.now.name.now ≡ Some file → IsFetchable file
+        → (h : History) → IsContent (recorded feed.old) h → IsOpenTo order.now.name.now file h
+        → (result ≡ 0) ⊎ (result ≡ 3) }
 
     // An empty feed is open to each good file.
-    ensures first { (file : List ℕ) → file_named files.now name.now ≡ Some file → IsFetchable file
+    ensures first { (file : List ℕ) → file_named files.now order.now.name.now ≡ Some file → IsFetchable file
         → recorded feed.old ≡ [] → (result ≡ 0) ⊎ (result ≡ 3) }
 {
-    fetch_from::<Brand, K, O, F>(alloc, files, feed, host, name, piece, out, faults)
+    fetch_from::<Brand, K, O, F>(alloc, files, feed, order, out, faults)
 }

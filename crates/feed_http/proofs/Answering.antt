@@ -1,11 +1,12 @@
 -- The reply that is written is the one that the request is owed.
-use Rattle.std.proofs.Common.{◌≡◌, ℕ, List, length, Option, Some, None, IfSome, IfOk, OnOk, Result, Ok, Err, true, false, sym, ◌∙◌, subst}
+use Rattle.std.proofs.Common.{◌≡◌, ℕ, List, length, Option, Some, None, IfSome, IfOk, OnOk, Result, Ok, Err, true, false, sym, ap, ◌∙◌, subst}
 use Rattle.std.specs.Prelude.{IsOkUnless, IsSomeAnd}
 use Rattle.std.specs.Option.{option_map, option_map_or}
 use Rattle.std.specs.Io.KnownBytes.{Appends}
 use Rattle.std.proofs.lemmas.List.{append-nil}
 use Rattle.httparse.specs.Grammar.{RequestHead}
 use Rattle.feed_names.specs.ReleaseName.{Name}
+use Rattle.feed_range.specs.declared.ask.RangeAsk.{RangeAsk}
 use Rattle.feed_http_heads.specs.declared.http_fault.HttpFault.{HttpFault}
 use Rattle.feed_http_heads.specs.declared.http_fault.HttpFault.TheVariants.{Write}
 use Rattle.feed_http.specs.declared.serving.reply_head.ReplyHead.{ReplyHead}
@@ -14,9 +15,9 @@ use Rattle.feed_http_heads.specs.declared.request.Request.{Request}
 use Rattle.feed_http.specs.Shelves.{Files}
 use Rattle.feed_http_heads.specs.RequestHeads.{BeginsWithHead, NeverBeginsWithHead}
 use Rattle.feed_http_heads.specs.Requests.{lacks_host, is_head, HasHead}
-use Rattle.feed_http.specs.Requests.{is_unsupported, IsNamedBy}
+use Rattle.feed_http.specs.Requests.{is_unsupported, ask_for, IsNamedBy}
 use Rattle.feed_http.specs.Replies.{status_of, head_text}
-use Rattle.feed_http.specs.ServerReplies.{Reply, server_reply, reply_without_file, file_reply, head_alone, IsOutcomeOf, IsRefusalOf}
+use Rattle.feed_http.specs.ServerReplies.{Reply, server_reply, reply_without_file, file_reply, part_reply, head_alone, IsOutcomeOf, IsRefusalOf}
 use Rattle.feed_http.proofs.Targets.{named_is}
 
 -- a head that was written alone
@@ -45,6 +46,32 @@ answered_head (Some files) request name size result old new there is_head_asked 
     at_file : (head : RequestHead) → true ≡ is_head head → (found : Option (List ℕ)) → IsSomeAnd found (λ file. length file ≡ size) → IsOutcomeOf (file_reply head found) result old new
     at_file head asked None gone = absurd gone
     at_file head asked (Some file) len = rw (← asked, len) outcome
+
+-- a file has the size that the shelf stated
+pub has_size : (told : Option Files) (name : Name) (stated : Option ℕ) (size : ℕ) → IfSome told (λ files. stated ≡ option_map length (files name)) → stated ≡ Some size
+    → IfSome told (λ files. IsSomeAnd (files name) (λ file. length file ≡ size))
+has_size None name stated size there is = tt
+has_size (Some files) name stated size there is = by (files name) (sym is ∙ there)
+  where
+    by : (found : Option (List ℕ)) → Some size ≡ option_map length found → IsSomeAnd found (λ file. length file ≡ size)
+    by None e = cc
+    by (Some file) e = cc
+
+-- another request is answered with the part of the file that it asks for
+pub answered_part : (told : Option Files) (request : Request) (name : Name) (size : ℕ) (ask : RangeAsk) (result : Result ℕ HttpFault) (old new : Option (List ℕ))
+    → IfSome told (λ files. IsSomeAnd (files name) (λ file. length file ≡ size)) → ((head : RequestHead) → HasHead request head → false ≡ is_head head)
+    → ((head : RequestHead) → HasHead request head → ask ≡ ask_for head size)
+    → IfSome told (λ files. IfSome (files name) (λ file. IsOutcomeOf (part_reply ask file) result old new))
+    → IfSome told (λ files. (head : RequestHead) → HasHead request head → IsOutcomeOf (file_reply head (files name)) result old new)
+answered_part None request name size ask result old new there is_get asks outcome = tt
+answered_part (Some files) request name size ask result old new there is_get asks outcome = λ head has. at_file head (is_get head has) (asks head has) (files name) there outcome
+  where
+    at_file : (head : RequestHead) → false ≡ is_head head → ask ≡ ask_for head size → (found : Option (List ℕ)) → IsSomeAnd found (λ file. length file ≡ size)
+        → IfSome found (λ file. IsOutcomeOf (part_reply ask file) result old new) → IsOutcomeOf (file_reply head found) result old new
+    at_file head got asked None gone out = absurd gone
+    at_file head got asked (Some file) len out =
+        let e : ask ≡ ask_for head (length file) = asked ∙ ap (λ (n : ℕ). ask_for head n) (sym len) in
+        rw (← got) (subst (λ (a : RangeAsk). IsOutcomeOf (part_reply a file) result old new) e out)
 
 -- a file that is not there is not found
 pub answered_missing : (told : Option Files) (request : Request) (name : Name) (size : Option ℕ) (result : Result ℕ HttpFault) (old new : Option (List ℕ))

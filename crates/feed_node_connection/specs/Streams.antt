@@ -35,6 +35,11 @@ pub record HasAdvanced (replies : Replies) (share left : Share) (new : Connectio
   pub replies_covered : length (requests_in more) + left.replies ≤ share.replies
   pub replies_counted : (length (requests_in more) + left.replies ≡ share.replies) ⊎ LacksReply replies
 
+-- the same whatever occurred before
+abbrev pub Advances : Replies → Share → Share → Connection → Connection → Option (List ℕ) → Option (List ℕ) → Option (List ℕ) → Option (List ℕ) → Type 0
+Advances replies share left old new unread read unwritten written =
+    (history : List Event) → HasState old history → HasAdvanced replies share left new history unread read unwritten written
+
 -- the same for the reader alone; nothing is sent, and no reply is made
 pub record HasRead (share left : Share) (new : Connection) (history : List Event) (unread read : Option (List ℕ)) : Type 0 where
   pub more : List Event

@@ -2,7 +2,7 @@
 ghost use Rattle.std.specs.Prelude.{◌≡◌, ◌≢◌, ◌⊎◌, ℕ, List, Option};
 ghost use Rattle.feed_node_connection.specs.Events.{Event};
 ghost use Rattle.feed_node_connection.specs.States.{HasState, wants_in};
-ghost use Rattle.feed_node_connection.specs.Streams.{HasAdvanced, HasRead, HasWritten, IsStopped, WaitsFor};
+ghost use Rattle.feed_node_connection.specs.Streams.{Advances, HasAdvanced, HasRead, HasWritten, IsStopped, WaitsFor};
 
 use crate::connection::{Connection, Wants};
 use crate::respond::Respond;
@@ -48,9 +48,8 @@ pub fn advance<S: Respond, R: Receive, W: Transmit>(
 ) -> Progress
     requires may_read { R.may_read reader.old }
     requires may_write { W.may_write writer.old }
-    ensures advanced { (history : List Event) → HasState connection.old history
-        → HasAdvanced (S.wanted responder.now, S.replies responder.now) share.old share.new connection.new history
-        (R.remaining reader.old) (R.remaining reader.new) (W.contents writer.old) (W.contents writer.new) }
+    ensures advanced { Advances (S.wanted responder.now, S.replies responder.now) share.old share.new connection.old
+        connection.new (R.remaining reader.old) (R.remaining reader.new) (W.contents writer.old) (W.contents writer.new) }
     ensures still { result ≢ Progress.Moved }
     ensures stopped { IsStopped result share.new connection.new }
     ensures receives { result ≡ Progress.Blocked → wants_in connection.new.phase ≡ Wants.Bytes
@@ -59,7 +58,7 @@ pub fn advance<S: Respond, R: Receive, W: Transmit>(
         → W.has_blocked writer.new }
 {
     for _ in 0..u64::MAX {
-        let progress = step(connection, alloc, responder, reader, writer, buffer, share);
+        let progress = step(connection, alloc, responder, reader, writer, share, buffer);
         if progress != Progress::Moved {
             return progress;
         }
@@ -68,20 +67,20 @@ pub fn advance<S: Respond, R: Receive, W: Transmit>(
     Progress::Blocked
 }
 
+// Does the next thing that the connection wants.
 fn step<S: Respond, R: Receive, W: Transmit>(
     connection: &mut Connection,
     alloc: Global,
     responder: &S,
     reader: &mut R,
     writer: &mut W,
-    buffer: &mut [u8],
     share: &mut Share,
+    buffer: &mut [u8],
 ) -> Progress
     requires may_read { R.may_read reader.old }
     requires may_write { W.may_write writer.old }
-    ensures advanced { (history : List Event) → HasState connection.old history
-        → HasAdvanced (S.wanted responder.now, S.replies responder.now) share.old share.new connection.new history
-        (R.remaining reader.old) (R.remaining reader.new) (W.contents writer.old) (W.contents writer.new) }
+    ensures advanced { Advances (S.wanted responder.now, S.replies responder.now) share.old share.new connection.old
+        connection.new (R.remaining reader.old) (R.remaining reader.new) (W.contents writer.old) (W.contents writer.new) }
     ensures stopped { IsStopped result share.new connection.new }
     ensures receives { result ≡ Progress.Blocked → wants_in connection.new.phase ≡ Wants.Bytes
         → R.has_blocked reader.new }

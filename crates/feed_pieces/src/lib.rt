@@ -1,9 +1,10 @@
 //! Appends a text to a buffer piece by piece. Each kind of text has pieces of its own.
 #![tactic(auto)]
 
-ghost use Rattle.std.specs.Prelude.{◌≡◌, ◌++◌, OnOk};
+ghost use Rattle.std.specs.Prelude.{◌≡◌, ◌<◌, ◌≤◌, ◌++◌, OnOk};
 ghost use Rattle.std.specs.List.{flat_map};
 ghost use Rattle.std.specs.Fmt.{decimal};
+ghost use Rattle.feed_pieces.specs.Hexadecimal.{hex_digit};
 
 use std::alloc::AllocError;
 use std::io::Write;
@@ -27,6 +28,19 @@ pub fn put_number(out: &mut Vec<u8>, number: u64) -> Result<(), AllocError>
     match write!(out, "{number}") {
         Ok(()) => Ok(()),
         Err(_) => Err(AllocError),
+    }
+}
+
+/// Returns the hexadecimal digit of a number. `ten` is the digit of ten: `b'A'` or `b'a'`.
+pub fn hex_digit(ten: u8, number: u8) -> u8
+    requires letter { ten ≤ 97 }
+    requires digit { number < 16 }
+    ensures { result ≡ hex_digit ten number }
+{
+    if number < 10 {
+        b'0' + number
+    } else {
+        ten + (number - 10)
     }
 }
 

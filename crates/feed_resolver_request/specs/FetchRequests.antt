@@ -26,7 +26,7 @@ name_after_feed path = if bytes_eq (take 6 path) (codes "/feed/") then Some (dro
 abbrev pub name_to_fetch : RequestHead → Option (List ℕ)
 name_to_fetch head = if bytes_eq head.method (codes "POST") then name_after_feed (path_in (origin_form head.target)) else None
 
--- the value is `Bearer` and the token (RFC 6750, section 2.1)
+-- the value is `Bearer`, in any case (RFC 9110, section 11.1), a space and the token (RFC 6750, section 2.1)
 abbrev pub has_token : List ℕ → List ℕ → Bool
 has_token token value = option_map_or (λ rest. bytes_eq (trimmed rest) token) (strip_prefix (codes "Bearer ") value) false
 

@@ -1,4 +1,5 @@
-//! Checks the bearer token of a fetch request (RFC 6750, section 2.1).
+//! Checks the bearer token of a fetch request (RFC 6750, section 2.1). The case of `Bearer` does not count, that of the
+//! token does (RFC 9110, section 11.1).
 ghost use Rattle.std.specs.Prelude.{◌≡◌};
 ghost use Rattle.httparse.specs.Grammar.{RequestHead};
 ghost use Rattle.feed_http_heads.specs.Requests.{IsInBuffer, HasHead};

@@ -3,7 +3,7 @@ use crate::server::{Server, Turn};
 use crate::sink::Sink;
 use feed_answer::Query;
 use feed_dial::DialFault;
-use feed_fetch::{Printer, fetch_from_memory, fetch_with, header_is_fetchable};
+use feed_fetch::{Order, Printer, fetch_from_memory, fetch_with, header_is_fetchable};
 use feed_http::{NamedFile, is_host};
 use feed_keep::{Keep, ListKeep, Record};
 use feed_limits::PIECE_LIMIT;
@@ -216,16 +216,12 @@ fn law_outcome(
     let calls = Cell::new(0);
     let mut out = Printer::new(Sink::new(alloc, &calls, 0));
     let mut faults = Printer::new(Sink::new(alloc, &calls, 0));
-    let status = fetch_from_memory(
-        alloc,
-        files,
-        feed,
-        HOST,
-        &name,
+    let order = Order {
+        host: HOST,
+        name: &name,
         piece,
-        &mut out,
-        &mut faults,
-    );
+    };
+    let status = fetch_from_memory(alloc, files, feed, &order, &mut out, &mut faults);
     Ok(Outcome {
         printed: out.into_writer().text,
         faults: faults.into_writer().text,

@@ -91,17 +91,17 @@ fn serve_file<W: Write, S: Shelf>(
     shelf: &mut S,
     request: &Request<'_>,
     name: &ReleaseName,
-    size: u64,
 ) -> Result<u16, HttpFault>
-    requires request { IsInBuffer request.now }
-    requires there { IfSome (S.files shelf.old) (λ files.
-        IsSomeAnd (files name.now) (λ file. length file ≡ size)) }
+    requires { IsInBuffer request.now }
     ensures reply { IfSome (S.files shelf.old) (λ files. (head : RequestHead) → HasHead request.now head
         → IsOutcomeOf (file_reply head (files name.now)) result (W.contents writer.old) (W.contents writer.new)) }
     ensures faults { IfErr result IsReplyFault }
     ensures shelf { IsShelfKept (S.files shelf.old) (S.files shelf.new) (S.failed shelf.old) (S.failed shelf.new)
         result }
 {
+    let Some(size) = shelf.size(name)? else {
+        return ReplyHead::NotFound.write(writer);
+    };
     if request.is_head() {
         return ReplyHead::Whole { length: size }.write(writer);
     }
@@ -142,10 +142,7 @@ fn respond<W: Write, S: Shelf>(
     let Some(name) = request::name(alloc, request)? else {
         return ReplyHead::NotFound.write(writer);
     };
-    match shelf.size(&name)? {
-        Some(size) => serve_file(alloc, writer, shelf, request, &name, size),
-        None => ReplyHead::NotFound.write(writer),
-    }
+    serve_file(alloc, writer, shelf, request, &name)
 }
 
 /// Reads the head of one request, writes one reply, and returns its status. May read past the head, and does not read

@@ -11,9 +11,9 @@ use Rattle.feed_fetch.proofs.fetch_loop.fetch_file.Goals as goal
 
 pub rounds-init : goal.rounds-init
 rounds-init g c = record {
-  running = λ e. let new = c.new-fetch.ensures.phase in cc;
+  running = λ e. let new = c.requires.new in cc;
   extends = extends_none (IsFetchEvent g.D.Dial.replies c.args.host.now c.args.name.now) (λ k. Unit {0}) (content_of c.args.feed.now.releases.items) (λ h. tt);
-  fills = λ file serves fit. run_start c.args.name.now file c.new-fetch.result.piece c.new-fetch.result.phase (content_of c.args.feed.now.releases.items) c.new-fetch.ensures.phase;
+  fills = λ file serves fit. run_start c.args.name.now file c.args.fetch.piece c.args.fetch.phase (content_of c.args.feed.now.releases.items) c.requires.new;
 }
 
 pub returns-in_default-clause-gets : goal.returns-in_default-clause-gets

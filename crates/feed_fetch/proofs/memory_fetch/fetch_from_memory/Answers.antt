@@ -6,4 +6,4 @@ use Rattle.feed_fetch.proofs.memory_fetch.fetch_from_memory.Goals as goal
 pub returns-clause-first : goal.returns-clause-first
 returns-clause-first g c file there fit empty =
     c.fetch_from.ensures.gets file there fit [] (subst (λ (content : Content). IsContent content []) (sym empty) IsContent-nothing)
-    (IsOpenTo-nothing c.args.name.now file)
+    (IsOpenTo-nothing c.args.order.now.name.now file)
