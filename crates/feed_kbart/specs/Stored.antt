@@ -1,11 +1,14 @@
 -- The cells of a row in a block of bytes, each behind its length.
-use Rattle.std.specs.Prelude.{ℕ, zero, suc, ◌<◌, ◌^◌, ◌==◌, nat_lt, List, [], ◌∷◌, ◌++◌, length, take, drop, map, Option, Some, if◌then◌else◌}
+use Rattle.std.specs.Prelude.{ℕ, zero, suc, ◌<◌, ◌^◌, ◌==◌, nat_lt, List, [], ◌∷◌, ◌++◌, length, take, drop, map, Option, Some, None, if◌then◌else◌}
 use Rattle.std.specs.Int.{from_le_bytes, to_le_bytes, w32}
-use Rattle.std.specs.List.{flat_map}
+use Rattle.feed_dates.specs.declared.day_range.DayRange.{DayRange}
 use Rattle.feed_kbart.specs.Columns.{cell}
+use Rattle.feed_kbart.specs.Coverage.{coverage_days, kind_of}
 use Rattle.feed_kbart.specs.RowValue.{RowValue}
 use Rattle.feed_kbart.specs.Rows.{row_of}
 use Rattle.feed_kbart.specs.declared.header.Columns.{Columns}
+use Rattle.feed_kbart.specs.declared.identifiers.Kind.{Kind}
+use Rattle.feed_kbart.specs.declared.identifiers.Kind.TheVariants as of
 
 -- a length is one byte, or the byte 255 and four bytes, the lowest first
 abbrev pub length_bytes : ℕ → List ℕ
@@ -78,3 +81,13 @@ row_with_cells number cells = row_of stored_columns number cells
 -- the row whose cells are at the front of bytes
 abbrev pub row_at : ℕ → List ℕ → RowValue
 row_at number bytes = row_with_cells number (texts_in 13 bytes)
+
+-- the days of a date by the kind of its row; those of a book are ignored
+abbrev pub days_by : Option Kind → List ℕ → Option DayRange
+days_by (Some of.Book) date = None
+days_by (Some of.Serial) date = coverage_days date
+days_by None date = coverage_days date
+
+-- the days of the date in a cell
+abbrev pub days_at : ℕ → List (List ℕ) → Option DayRange
+days_at place cells = days_by (kind_of (cell stored_columns.publication_type cells)) (cell (Some place) cells)

@@ -1,5 +1,5 @@
 //! A record that is stored in a block of bytes, which it shares with other records.
-ghost use Rattle.std.specs.Prelude.{◌≡◌, ◌<◌, ◌++◌, OnOk, Some, drop, map};
+ghost use Rattle.std.specs.Prelude.{◌≡◌, ◌↔◌, ◌<◌, ◌++◌, IsTrue, OnOk, Some, drop, map};
 ghost use Rattle.std.specs.List.{All, flat_map};
 ghost use Rattle.std.specs.Rc.{rc_slice_items};
 ghost use Rattle.csv.specs.Records.{fields_of};
@@ -7,7 +7,7 @@ ghost use Rattle.feed_kbart.specs.Columns.{cell};
 ghost use Rattle.feed_kbart.specs.Stored.{IsShort, cells_of, in_order, text_bytes, texts_in};
 
 use crate::header::{Columns, cell_of};
-use crate::stored_text::{put_text, text_at};
+use crate::stored_text::{has_same_texts, put_text, text_at};
 use csv::ByteRecord;
 use std::alloc::AllocError;
 use std::marker::Model;
@@ -83,6 +83,17 @@ impl StoredRecord {
         ensures { result.now ≡ cell (Some place) self.now.cells }
     {
         text_at(rest_of(&self.block, self.start as usize), place)
+    }
+
+    /// Returns whether another record has the same cells.
+    pub(crate) fn has_same_cells(&self, other: &StoredRecord) -> bool
+        ensures { IsTrue result ↔ (self.now.cells ≡ other.now.cells) }
+    {
+        has_same_texts(
+            rest_of(&self.block, self.start as usize),
+            rest_of(&other.block, other.start as usize),
+            13,
+        )
     }
 }
 
