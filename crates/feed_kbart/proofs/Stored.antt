@@ -79,11 +79,11 @@ module _ (number : ℕ) (cells : List (List ℕ)) where
       go (Some of.Serial) e = rw e refl
       go (Some of.Book) e = rw e refl
 
-  pub last_day_of_cells : option_map (λ days. days.last) (days_at 5 cells) ≡ (row_with_cells number cells).last_day
+  pub last_day_of_cells : option_map (λ days. days.last) (days_at 4 cells) ≡ (row_with_cells number cells).last_day
   last_day_of_cells = go (kind_of (cell stored_columns.publication_type cells)) refl
     where
       go : (kind : Option Kind) → kind_of (cell stored_columns.publication_type cells) ≡ kind
-          → option_map (λ days. days.last) (days_at 5 cells) ≡ (row_with_cells number cells).last_day
+          → option_map (λ days. days.last) (days_at 4 cells) ≡ (row_with_cells number cells).last_day
       go None e = rw e refl
       go (Some of.Serial) e = rw e refl
       go (Some of.Book) e = rw e refl

@@ -46,31 +46,31 @@ unfoldable pub texts_in : ℕ → List ℕ → List (List ℕ)
 texts_in zero bytes = []
 texts_in (suc n) bytes = (split_text bytes).0 ∷ texts_in n (split_text bytes).1
 
--- the columns of the labels in use, in the order of the labels
+-- the columns of the labels in use, in the order in which a record's cells are stored
 abbrev pub in_order : Columns → List (Option ℕ)
 in_order columns =
-    columns.title ∷ columns.print ∷ columns.online ∷ columns.first_date ∷ columns.first_volume ∷ columns.last_date ∷ columns.last_volume
-    ∷ columns.url ∷ columns.title_id ∷ columns.embargo ∷ columns.depth ∷ columns.publication_type ∷ columns.access ∷ []
+    columns.publication_type ∷ columns.print ∷ columns.online ∷ columns.first_date ∷ columns.last_date ∷ columns.first_volume ∷ columns.last_volume
+    ∷ columns.title_id ∷ columns.url ∷ columns.title ∷ columns.depth ∷ columns.embargo ∷ columns.access ∷ []
 
--- the cells of a record, in the order of the labels
+-- the cells of a record, in that order
 abbrev pub cells_of : Columns → List (List ℕ) → List (List ℕ)
 cells_of columns fields = map (λ column. cell column fields) (in_order columns)
 
 -- the columns of a record that has its cells in this order
 abbrev pub stored_columns : Columns
 stored_columns = record {
-  title = Some 0;
+  publication_type = Some 0;
   print = Some 1;
   online = Some 2;
   first_date = Some 3;
-  first_volume = Some 4;
-  last_date = Some 5;
+  last_date = Some 4;
+  first_volume = Some 5;
   last_volume = Some 6;
-  url = Some 7;
-  title_id = Some 8;
-  embargo = Some 9;
+  title_id = Some 7;
+  url = Some 8;
+  title = Some 9;
   depth = Some 10;
-  publication_type = Some 11;
+  embargo = Some 11;
   access = Some 12;
 }
 

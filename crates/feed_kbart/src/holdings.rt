@@ -6,6 +6,7 @@ ghost use Rattle.feed_limits.specs.Limits.{file_limit};
 
 use crate::coverage::check_record;
 use crate::fault::Reason;
+use crate::file_rows::FileRows;
 use crate::header::Columns;
 use crate::identifiers::isbn_number;
 use crate::index::Index;
@@ -113,8 +114,7 @@ impl Holdings {
         ensures { IfOk result (λ holdings. holdings
             ≡ record { rows = stored_rows kept.rows; aside = kept.aside.items }) }
     {
-        let HoldingsBuilder { rows, aside } = kept;
-        let rows = rows.finish(alloc)?;
+        let FileRows { rows, aside } = FileRows::of(alloc, kept)?;
         let index = Index::of(alloc, &rows)?;
         Ok(Holdings { rows, aside, index })
     }
