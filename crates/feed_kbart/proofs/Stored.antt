@@ -1,17 +1,16 @@
 -- The cells that are read from a block are those that were stored.
-use Rattle.std.proofs.Common.{◌≡◌, ◌<◌, ◌≤◌, ◌+◌, ◌^◌, ◌∙◌, ℕ, zero, suc, Bool, true, false, ltb, eqb, List, [], ◌∷◌, ◌++◌, length, take, drop, map, Option, Some, None, if◌then◌else◌, refl, sym, ap, arith, append_assoc}
-use Rattle.std.specs.Int.{from_le_bytes, to_le_bytes, w32}
+use Rattle.std.proofs.Common.{◌≡◌, ◌↔◌, ◌<◌, ◌+◌, ◌-◌, ◌∙◌, ℕ, zero, suc, true, false, ltb, eqb, List, [], ◌∷◌, ◌++◌, length, drop, get_or}
+use Rattle.std.proofs.Common.{Option, Some, None, option_map, refl, sym, ap, arith, append_assoc}
+use Rattle.std.specs.Int.{to_le_bytes, w32}
 use Rattle.std.specs.List.{All, flat_map}
 use Rattle.std.proofs.Math.Seq.{drop-append_seam, take-append_seam}
 use Rattle.std.proofs.lemmas.Bool.Decides.{nat_tests}
 use Rattle.std.proofs.lemmas.Nat.{from_le_bytes-to_le_bytes_4}
-use Rattle.std.proofs.lemmas.List.{append-nil, map-append}
 use Rattle.csv.specs.Records.{field_at}
 use Rattle.feed_kbart.specs.Columns.{cell}
-use Rattle.feed_kbart.specs.Coverage.{coverage_by, kind_of}
-use Rattle.feed_kbart.specs.RowValue.{RowValue}
+use Rattle.feed_kbart.specs.Coverage.{kind_of}
 use Rattle.feed_kbart.specs.Rows.{row_of}
-use Rattle.feed_kbart.specs.Stored.{IsShort, cells_of, cut, length_bytes, row_at, row_with_cells, split_long, split_text, stored_columns, text_at, text_bytes, texts_in}
+use Rattle.feed_kbart.specs.Stored.{IsShort, cells_of, cut, days_at, row_at, row_with_cells, split_long, split_text, stored_columns, text_at, text_bytes, texts_in}
 use Rattle.feed_kbart.specs.declared.header.Columns.{Columns}
 use Rattle.feed_kbart.specs.declared.identifiers.Kind.{Kind}
 use Rattle.feed_kbart.specs.declared.identifiers.Kind.TheVariants as of
@@ -68,3 +67,58 @@ row_stored before more columns number fields short =
     ∙ ap (row_at number) (drop-append_seam before (flat_map text_bytes cells ++ more))
     ∙ ap (row_with_cells number) (texts_stored cells more short)
     ∙ row_of_cells columns number fields
+
+-- the days of a row are those of its cells
+module _ (number : ℕ) (cells : List (List ℕ)) where
+  pub first_day_of_cells : option_map (λ days. days.first) (days_at 3 cells) ≡ (row_with_cells number cells).first_day
+  first_day_of_cells = go (kind_of (cell stored_columns.publication_type cells)) refl
+    where
+      go : (kind : Option Kind) → kind_of (cell stored_columns.publication_type cells) ≡ kind
+          → option_map (λ days. days.first) (days_at 3 cells) ≡ (row_with_cells number cells).first_day
+      go None e = rw e refl
+      go (Some of.Serial) e = rw e refl
+      go (Some of.Book) e = rw e refl
+
+  pub last_day_of_cells : option_map (λ days. days.last) (days_at 4 cells) ≡ (row_with_cells number cells).last_day
+  last_day_of_cells = go (kind_of (cell stored_columns.publication_type cells)) refl
+    where
+      go : (kind : Option Kind) → kind_of (cell stored_columns.publication_type cells) ≡ kind
+          → option_map (λ days. days.last) (days_at 4 cells) ≡ (row_with_cells number cells).last_day
+      go None e = rw e refl
+      go (Some of.Serial) e = rw e refl
+      go (Some of.Book) e = rw e refl
+
+-- blocks have the same texts exactly if their first texts are the same, and those after them
+texts_split : (n : ℕ) (bytes : List ℕ) → texts_in (suc n) bytes ≡ (split_text bytes).0 ∷ texts_in n (split_text bytes).1
+unfolding texts_in
+texts_split n bytes = refl
+
+module _ (n : ℕ) (left right : List ℕ) where
+  joined : (split_text left).0 ≡ (split_text right).0 → texts_in n (split_text left).1 ≡ texts_in n (split_text right).1 → texts_in (suc n) left ≡ texts_in (suc n) right
+  joined first rest = texts_split n left ∙ (λ i. first i ∷ rest i) ∙ sym (texts_split n right)
+
+  parted : texts_in (suc n) left ≡ texts_in (suc n) right → (split_text left).0 ∷ texts_in n (split_text left).1 ≡ (split_text right).0 ∷ texts_in n (split_text right).1
+  parted same = sym (texts_split n left) ∙ same ∙ texts_split n right
+
+-- the comparison of texts goes on after a text that both blocks have, and ends at one that they do not
+module _ (count k : ℕ) (left right : List ℕ) (W : Type 0) (within : k < count) (so_far : (texts_in (count - k) left ≡ texts_in (count - k) right) ↔ W) where
+  more : count - k ≡ suc (count - (k + 1))
+  more = omega (arith, within)
+
+  these : (texts_in (suc (count - (k + 1))) left ≡ texts_in (suc (count - (k + 1))) right) ↔ W
+  these = rw more at so_far
+
+  pub same_next : (split_text left).0 ≡ (split_text right).0
+      → (texts_in (count - (k + 1)) (split_text left).1 ≡ texts_in (count - (k + 1)) (split_text right).1) ↔ W
+  same_next first = (
+    λ rest. these.0 (joined (count - (k + 1)) left right first rest),
+    λ whole. ap (drop 1) (parted (count - (k + 1)) left right (these.1 whole)),
+  )
+
+  pub differ_here : ((split_text left).0 ≡ (split_text right).0 → ⊥) → W → ⊥
+  differ_here other whole = other (ap (λ texts. get_or texts 0 []) (parted (count - (k + 1)) left right (these.1 whole)))
+
+-- blocks without texts have the same
+pub none_left : (left right : List ℕ) → texts_in 0 left ≡ texts_in 0 right
+unfolding texts_in
+none_left left right = refl

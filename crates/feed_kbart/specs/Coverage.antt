@@ -1,5 +1,5 @@
 -- The identifiers, days and volumes that a record covers, and the reasons to skip a record.
-use Rattle.std.specs.Prelude.{◌||◌, ◌&&◌, not, nat_lt, ℕ, Bool, true, false, List, [], ◌∷◌, Option, Some, None, if◌then◌else◌, is_none, is_some, option_map, codes, int_lt}
+use Rattle.std.specs.Prelude.{◌||◌, ◌&&◌, not, nat_lt, ℕ, ℤ, Bool, true, false, List, [], ◌∷◌, Option, Some, None, if◌then◌else◌, is_none, is_some, option_map, codes, int_lt}
 use Rattle.std.specs.Str.{str_eq_ignore_ascii_case}
 use Rattle.feed_identifiers.specs.Text.{trimmed}
 use Rattle.feed_kbart.specs.Volumes.{volume_of}
@@ -7,14 +7,22 @@ use Rattle.feed_identifiers.specs.Issn.{issn_of}
 use Rattle.feed_identifiers.specs.Isbn.{isbn_of}
 use Rattle.feed_dates.specs.DayRanges.{days_of}
 use Rattle.feed_kbart.specs.Columns.{cell}
-use Rattle.feed_kbart.specs.declared.coverage.Coverage.{Coverage}
 use Rattle.feed_dates.specs.declared.day_range.DayRange.{DayRange}
 use Rattle.feed_kbart.specs.declared.header.Columns.{Columns}
 use Rattle.feed_kbart.specs.declared.fault.Reason.{Reason}
 use Rattle.feed_kbart.specs.declared.fault.Reason.TheVariants.{OtherType, NoIssn, NoIsbn, BadDate, Reversed}
+use Rattle.feed_kbart.specs.declared.identifiers.Identifiers.{Identifiers}
 use Rattle.feed_kbart.specs.declared.identifiers.Identifiers.TheVariants.{Serial, Book}
 use Rattle.feed_kbart.specs.declared.identifiers.Kind.{Kind}
 use Rattle.feed_kbart.specs.declared.identifiers.Kind.TheVariants as of
+
+-- the identifiers, the days and the volumes that a record covers
+pub record CoverageValue : Type 0 where
+  pub identifiers : Identifiers
+  pub first_day : Option ℤ
+  pub last_day : Option ℤ
+  pub first_volume : Option ℕ
+  pub last_volume : Option ℕ
 
 -- whether a text is empty
 abbrev pub is_empty : List ℕ → Bool
@@ -78,7 +86,7 @@ coverage_volumes columns fields =
     volumes (volume_of (trimmed (cell columns.first_volume fields))) (volume_of (trimmed (cell columns.last_volume fields)))
 
 -- the ISSNs, the days and the volumes of a serial's record
-abbrev pub serial_coverage : Columns → List (List ℕ) → Coverage
+abbrev pub serial_coverage : Columns → List (List ℕ) → CoverageValue
 serial_coverage columns fields = record {
   identifiers = Serial (issn_of (cell columns.print fields)) (issn_of (cell columns.online fields));
   first_day = option_map (λ days. days.first) (coverage_days (cell columns.first_date fields));
@@ -88,7 +96,7 @@ serial_coverage columns fields = record {
 }
 
 -- the ISBNs of a book's record; its dates and volumes are ignored
-abbrev pub book_coverage : Columns → List (List ℕ) → Coverage
+abbrev pub book_coverage : Columns → List (List ℕ) → CoverageValue
 book_coverage columns fields = record {
   identifiers = Book (isbn_of (cell columns.print fields)) (isbn_of (cell columns.online fields));
   first_day = None;
@@ -98,11 +106,11 @@ book_coverage columns fields = record {
 }
 
 -- what a record of this kind covers
-abbrev pub coverage_by : Option Kind → Columns → List (List ℕ) → Coverage
+abbrev pub coverage_by : Option Kind → Columns → List (List ℕ) → CoverageValue
 coverage_by (Some of.Book) columns fields = book_coverage columns fields
 coverage_by (Some of.Serial) columns fields = serial_coverage columns fields
 coverage_by None columns fields = serial_coverage columns fields
 
 -- the identifiers, the days and the volumes of a record that is a row
-abbrev pub coverage_of : Columns → List (List ℕ) → Coverage
+abbrev pub coverage_of : Columns → List (List ℕ) → CoverageValue
 coverage_of columns fields = coverage_by (kind_of (cell columns.publication_type fields)) columns fields

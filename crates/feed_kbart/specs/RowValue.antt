@@ -1,7 +1,7 @@
 -- The model value of a row.
 use Rattle.std.specs.Prelude.{ℕ, List, Option, ℤ}
+use Rattle.feed_kbart.specs.Coverage.{CoverageValue}
 use Rattle.feed_kbart.specs.Texts.{TextsValue}
-use Rattle.feed_kbart.specs.declared.coverage.Coverage.{Coverage}
 use Rattle.feed_kbart.specs.declared.identifiers.Identifiers.{Identifiers}
 
 -- a row: its number, its texts and the printed bytes of its identifiers
@@ -19,8 +19,12 @@ pub record RowValue : Type 0 where
   pub embargo : List ℕ
   pub access : List ℕ
 
+-- a row without its number: the values of its columns
+abbrev pub content : RowValue → RowValue
+content row = record row { number = 0 }
+
 -- the row with these parts
-abbrev pub row_with : ℕ → Coverage → TextsValue → RowValue
+abbrev pub row_with : ℕ → CoverageValue → TextsValue → RowValue
 row_with number coverage texts = record {
   number = number;
   title = texts.title;

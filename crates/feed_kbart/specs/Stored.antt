@@ -1,11 +1,14 @@
 -- The cells of a row in a block of bytes, each behind its length.
-use Rattle.std.specs.Prelude.{ℕ, zero, suc, ◌<◌, ◌^◌, ◌==◌, nat_lt, List, [], ◌∷◌, ◌++◌, length, take, drop, map, Option, Some, if◌then◌else◌}
+use Rattle.std.specs.Prelude.{ℕ, zero, suc, ◌<◌, ◌^◌, ◌==◌, nat_lt, List, [], ◌∷◌, ◌++◌, length, take, drop, map, Option, Some, None, if◌then◌else◌}
 use Rattle.std.specs.Int.{from_le_bytes, to_le_bytes, w32}
-use Rattle.std.specs.List.{flat_map}
+use Rattle.feed_dates.specs.declared.day_range.DayRange.{DayRange}
 use Rattle.feed_kbart.specs.Columns.{cell}
+use Rattle.feed_kbart.specs.Coverage.{coverage_days, kind_of}
 use Rattle.feed_kbart.specs.RowValue.{RowValue}
 use Rattle.feed_kbart.specs.Rows.{row_of}
 use Rattle.feed_kbart.specs.declared.header.Columns.{Columns}
+use Rattle.feed_kbart.specs.declared.identifiers.Kind.{Kind}
+use Rattle.feed_kbart.specs.declared.identifiers.Kind.TheVariants as of
 
 -- a length is one byte, or the byte 255 and four bytes, the lowest first
 abbrev pub length_bytes : ℕ → List ℕ
@@ -43,31 +46,31 @@ unfoldable pub texts_in : ℕ → List ℕ → List (List ℕ)
 texts_in zero bytes = []
 texts_in (suc n) bytes = (split_text bytes).0 ∷ texts_in n (split_text bytes).1
 
--- the columns of the labels in use, in the order of the labels
+-- the columns of the labels in use, in the order in which a record's cells are stored
 abbrev pub in_order : Columns → List (Option ℕ)
 in_order columns =
-    columns.title ∷ columns.print ∷ columns.online ∷ columns.first_date ∷ columns.first_volume ∷ columns.last_date ∷ columns.last_volume
-    ∷ columns.url ∷ columns.title_id ∷ columns.embargo ∷ columns.depth ∷ columns.publication_type ∷ columns.access ∷ []
+    columns.publication_type ∷ columns.print ∷ columns.online ∷ columns.first_date ∷ columns.last_date ∷ columns.first_volume ∷ columns.last_volume
+    ∷ columns.title_id ∷ columns.url ∷ columns.title ∷ columns.depth ∷ columns.embargo ∷ columns.access ∷ []
 
--- the cells of a record, in the order of the labels
+-- the cells of a record, in that order
 abbrev pub cells_of : Columns → List (List ℕ) → List (List ℕ)
 cells_of columns fields = map (λ column. cell column fields) (in_order columns)
 
 -- the columns of a record that has its cells in this order
 abbrev pub stored_columns : Columns
 stored_columns = record {
-  title = Some 0;
+  publication_type = Some 0;
   print = Some 1;
   online = Some 2;
   first_date = Some 3;
-  first_volume = Some 4;
-  last_date = Some 5;
+  last_date = Some 4;
+  first_volume = Some 5;
   last_volume = Some 6;
-  url = Some 7;
-  title_id = Some 8;
-  embargo = Some 9;
+  title_id = Some 7;
+  url = Some 8;
+  title = Some 9;
   depth = Some 10;
-  publication_type = Some 11;
+  embargo = Some 11;
   access = Some 12;
 }
 
@@ -78,3 +81,13 @@ row_with_cells number cells = row_of stored_columns number cells
 -- the row whose cells are at the front of bytes
 abbrev pub row_at : ℕ → List ℕ → RowValue
 row_at number bytes = row_with_cells number (texts_in 13 bytes)
+
+-- the days of a date by the kind of its row; those of a book are ignored
+abbrev pub days_by : Option Kind → List ℕ → Option DayRange
+days_by (Some of.Book) date = None
+days_by (Some of.Serial) date = coverage_days date
+days_by None date = coverage_days date
+
+-- the days of the date in a cell
+abbrev pub days_at : ℕ → List (List ℕ) → Option DayRange
+days_at place cells = days_by (kind_of (cell stored_columns.publication_type cells)) (cell (Some place) cells)

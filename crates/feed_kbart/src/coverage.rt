@@ -1,30 +1,19 @@
-//! The identifiers, days and volumes that a record covers, and the reasons to skip a record.
-ghost use Rattle.std.specs.Prelude.{◌≡◌, true, false, MatchResult};
+//! Parsing the kind, the days and the volumes of a record, and the reasons to skip a record.
+ghost use Rattle.std.specs.Prelude.{◌≡◌, true, false, None, Some, MatchResult};
 ghost use Rattle.csv.specs.Records.{fields_of};
-ghost use Rattle.feed_kbart.specs.Coverage.{book_coverage, book_reason, coverage_days, coverage_of, volumes};
-ghost use Rattle.feed_kbart.specs.Coverage.{is_coverage_date, is_reversed, kind_of, reason_of};
-ghost use Rattle.feed_kbart.specs.Coverage.{serial_coverage, serial_reason};
+ghost use Rattle.feed_kbart.specs.Coverage.{book_reason, coverage_days, is_coverage_date, is_reversed, kind_of};
+ghost use Rattle.feed_kbart.specs.Coverage.{reason_of, serial_reason, volumes};
 ghost use Rattle.feed_identifiers.specs.Text.{trimmed};
 ghost use Rattle.feed_kbart.specs.Volumes.{volume_of};
 ghost use Rattle.feed_kbart.specs.declared.fault.Reason.TheVariants as reason;
 
 use crate::fault::Reason;
 use crate::header::{Columns, cell_of};
-use crate::identifiers::{Identifiers, Kind};
+use crate::identifiers::Kind;
 use crate::volume::read_volume;
 use csv::ByteRecord;
 use feed_dates::DayRange;
 use feed_identifiers::{Isbn, Issn, trim_spaces};
-
-/// The identifiers, the days and the volumes of a record.
-#[derive(Clone, Copy, Debug)]
-pub(crate) struct Coverage {
-    pub(crate) identifiers: Identifiers,
-    pub(crate) first_day: Option<i32>,
-    pub(crate) last_day: Option<i32>,
-    pub(crate) first_volume: Option<u32>,
-    pub(crate) last_volume: Option<u32>,
-}
 
 /// Returns the kind of a publication type: a serial if it is empty or `serial`, a book if it is `monograph`.
 pub(crate) fn read_kind(text: &[u8]) -> Option<Kind>
@@ -85,69 +74,48 @@ pub(crate) fn read_volumes(first: &[u8], last: &[u8]) -> (Option<u32>, Option<u3
     }
 }
 
-impl Coverage {
-    /// Returns what a record covers, or the first reason to skip it.
-    pub(crate) fn of(columns: &Columns, fields: &ByteRecord) -> Result<Coverage, Reason>
-        ensures { MatchResult result
-            (λ coverage. (reason_of columns.now (fields_of fields.now) ≡ None)
-            × (coverage ≡ coverage_of columns.now (fields_of fields.now)))
-            (λ why. reason_of columns.now (fields_of fields.now) ≡ Some why) }
-    {
-        match read_kind(cell_of(fields, columns.publication_type)) {
-            Some(Kind::Serial) => Coverage::of_serial(columns, fields),
-            Some(Kind::Book) => Coverage::of_book(columns, fields),
-            None => Err(Reason::OtherType),
-        }
+// Checks a serial's record. The error is the first reason to skip it.
+fn check_serial(columns: &Columns, fields: &ByteRecord) -> Result<(), Reason>
+    ensures { MatchResult result
+        (λ _. serial_reason columns.now (fields_of fields.now) ≡ None)
+        (λ why. serial_reason columns.now (fields_of fields.now) ≡ Some why) }
+{
+    let print = Issn::parse(cell_of(fields, columns.print));
+    let online = Issn::parse(cell_of(fields, columns.online));
+    if print.is_none() && online.is_none() {
+        return Err(Reason::NoIssn);
     }
-
-    // Returns what a serial's record covers, or the first reason to skip it.
-    fn of_serial(columns: &Columns, fields: &ByteRecord) -> Result<Coverage, Reason>
-        ensures { MatchResult result
-            (λ coverage. (serial_reason columns.now (fields_of fields.now) ≡ None)
-            × (coverage ≡ serial_coverage columns.now (fields_of fields.now)))
-            (λ why. serial_reason columns.now (fields_of fields.now) ≡ Some why) }
-    {
-        let print = Issn::parse(cell_of(fields, columns.print));
-        let online = Issn::parse(cell_of(fields, columns.online));
-        if print.is_none() && online.is_none() {
-            return Err(Reason::NoIssn);
-        }
-        let first = read_date(cell_of(fields, columns.first_date))?;
-        let last = read_date(cell_of(fields, columns.last_date))?;
-        if is_reversed(first, last) {
-            return Err(Reason::Reversed);
-        }
-        let (first_volume, last_volume) = read_volumes(
-            cell_of(fields, columns.first_volume),
-            cell_of(fields, columns.last_volume),
-        );
-        Ok(Coverage {
-            identifiers: Identifiers::Serial { print, online },
-            first_day: first.map(|days| days.first),
-            last_day: last.map(|days| days.last),
-            first_volume,
-            last_volume,
-        })
+    let first = read_date(cell_of(fields, columns.first_date))?;
+    let last = read_date(cell_of(fields, columns.last_date))?;
+    if is_reversed(first, last) {
+        return Err(Reason::Reversed);
     }
+    Ok(())
+}
 
-    // Returns what a book's record covers, or the first reason to skip it. Ignores its dates and volumes.
-    fn of_book(columns: &Columns, fields: &ByteRecord) -> Result<Coverage, Reason>
-        ensures { MatchResult result
-            (λ coverage. (book_reason columns.now (fields_of fields.now) ≡ None)
-            × (coverage ≡ book_coverage columns.now (fields_of fields.now)))
-            (λ why. book_reason columns.now (fields_of fields.now) ≡ Some why) }
-    {
-        let print = Isbn::parse(cell_of(fields, columns.print));
-        let online = Isbn::parse(cell_of(fields, columns.online));
-        if print.is_none() && online.is_none() {
-            return Err(Reason::NoIsbn);
-        }
-        Ok(Coverage {
-            identifiers: Identifiers::Book { print, online },
-            first_day: None,
-            last_day: None,
-            first_volume: None,
-            last_volume: None,
-        })
+// Checks a book's record. The error is the first reason to skip it. Ignores its dates and volumes.
+fn check_book(columns: &Columns, fields: &ByteRecord) -> Result<(), Reason>
+    ensures { MatchResult result
+        (λ _. book_reason columns.now (fields_of fields.now) ≡ None)
+        (λ why. book_reason columns.now (fields_of fields.now) ≡ Some why) }
+{
+    let print = Isbn::parse(cell_of(fields, columns.print));
+    let online = Isbn::parse(cell_of(fields, columns.online));
+    if print.is_none() && online.is_none() {
+        return Err(Reason::NoIsbn);
+    }
+    Ok(())
+}
+
+/// Checks that a record is a row. The error is the first reason to skip it.
+pub(crate) fn check_record(columns: &Columns, fields: &ByteRecord) -> Result<(), Reason>
+    ensures { MatchResult result
+        (λ _. reason_of columns.now (fields_of fields.now) ≡ None)
+        (λ why. reason_of columns.now (fields_of fields.now) ≡ Some why) }
+{
+    match read_kind(cell_of(fields, columns.publication_type)) {
+        Some(Kind::Serial) => check_serial(columns, fields),
+        Some(Kind::Book) => check_book(columns, fields),
+        None => Err(Reason::OtherType),
     }
 }

@@ -5,6 +5,7 @@ ghost use Rattle.feed_kbart.specs.Kept.{HasFewRows, IsKeptOf};
 
 use crate::count::{FileCount, RowCount};
 use crate::fault::KbartFault;
+use crate::file_rows::FileRows;
 use crate::holdings::{Holdings, HoldingsBuilder, KeepRows};
 use crate::records::read_records;
 use crate::row_store::RowStore;
@@ -46,6 +47,14 @@ pub fn read_file<R: Read + Drop>(alloc: Global, reader: R) -> Result<Holdings, K
 {
     let kept = read_rows::<R, RowStore, Brand>(alloc, reader, RowStore::new(alloc))?;
     Ok(Holdings::of(alloc, kept)?)
+}
+
+/// Reads a file like `read_file`, but builds no index.
+pub fn list_file<R: Read + Drop>(alloc: Global, reader: R) -> Result<FileRows, KbartFault>
+    ensures { IfSome (R.remaining reader) (λ text. IsReadOf text result) }
+{
+    let kept = read_rows::<R, RowStore, Brand>(alloc, reader, RowStore::new(alloc))?;
+    Ok(FileRows::of(alloc, kept)?)
 }
 
 /// Reads a file like `read_file`, but counts the rows and does not keep them. Apart from the skipped records it

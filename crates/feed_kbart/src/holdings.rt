@@ -4,8 +4,9 @@ ghost use Rattle.csv.specs.Records.{fields_of};
 ghost use Rattle.feed_kbart.specs.Kept.{IsKept};
 ghost use Rattle.feed_limits.specs.Limits.{file_limit};
 
-use crate::coverage::Coverage;
+use crate::coverage::check_record;
 use crate::fault::Reason;
+use crate::file_rows::FileRows;
 use crate::header::Columns;
 use crate::identifiers::isbn_number;
 use crate::index::Index;
@@ -95,8 +96,8 @@ impl<K: KeepRows> HoldingsBuilder<K> {
             → IsKept K.keeps
             (join_holdings held (holdings_from columns.now number (fields_of fields.now ∷ []))) self.new) }
     {
-        match Coverage::of(columns, fields) {
-            Ok(_) => self.rows.add(alloc, number, columns, fields)?,
+        match check_record(columns, fields) {
+            Ok(()) => self.rows.add(alloc, number, columns, fields)?,
             Err(reason) => self.aside.push(Aside { number, reason })?,
         }
         Ok(())
@@ -113,8 +114,7 @@ impl Holdings {
         ensures { IfOk result (λ holdings. holdings
             ≡ record { rows = stored_rows kept.rows; aside = kept.aside.items }) }
     {
-        let HoldingsBuilder { rows, aside } = kept;
-        let rows = rows.finish(alloc)?;
+        let FileRows { rows, aside } = FileRows::of(alloc, kept)?;
         let index = Index::of(alloc, &rows)?;
         Ok(Holdings { rows, aside, index })
     }

@@ -9,6 +9,7 @@ mod count;
 mod coverage;
 mod fault;
 mod file;
+mod file_rows;
 mod header;
 mod holdings;
 mod identifiers;
@@ -24,7 +25,8 @@ mod volume;
 
 pub use crate::count::FileCount;
 pub use crate::fault::{BadFile, KbartFault, Reason};
-pub use crate::file::{count_file, read_file, read_parts};
+pub use crate::file::{count_file, list_file, read_file, read_parts};
+pub use crate::file_rows::FileRows;
 pub use crate::holdings::{Aside, Holdings};
 pub use crate::identifiers::{Identifiers, Kind};
 pub use crate::label::{Label, REQUIRED_LABELS};

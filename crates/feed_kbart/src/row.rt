@@ -1,5 +1,7 @@
 //! A row of a file: the holdings of one title.
-ghost use Rattle.std.specs.Prelude.{◌≡◌};
+ghost use Rattle.std.specs.Prelude.{◌≡◌, ◌<◌};
+ghost use Rattle.std.specs.Bool.{OnTrue};
+ghost use Rattle.feed_kbart.specs.Stored.{days_at};
 
 use crate::coverage::{read_days, read_kind, read_volumes};
 use crate::identifiers::{Identifiers, Kind};
@@ -7,6 +9,7 @@ use crate::stored_record::{
     ACCESS, DEPTH, EMBARGO, FIRST_DATE, FIRST_VOLUME, LAST_DATE, LAST_VOLUME, ONLINE, PRINT,
     PUBLICATION_TYPE, StoredRecord, TITLE, TITLE_ID, URL,
 };
+use feed_dates::DayRange;
 use feed_identifiers::{Isbn, Issn};
 use std::marker::Model;
 use std::mem::size_of;
@@ -33,9 +36,21 @@ impl Model for Row {
     ghost view = { λ r. row_with_cells r.record.number r.record.cells };
 }
 
+// Returns the days of the date in a cell of a record. Those of a book are ignored.
+fn days_at(stored: &StoredRecord, place: usize) -> Option<DayRange>
+    requires { place < 13 }
+    ensures { result ≡ days_at place stored.now.cells }
+{
+    match read_kind(stored.cell(PUBLICATION_TYPE)) {
+        Some(Kind::Book) => None,
+        Some(Kind::Serial) | None => read_days(stored.cell(place)),
+    }
+}
+
 impl Row {
     ghost use Rattle.feed_kbart.specs.Identifiers.{AreIdentifiers, kind, numbers, online_isbn, online_issn, print_isbn};
     ghost use Rattle.feed_kbart.specs.Identifiers.{print_issn};
+    ghost use Rattle.feed_kbart.specs.RowValue.{content};
     ghost use Rattle.feed_kbart.specs.Stored.{row_with_cells};
 
     /// Returns the row of a record. The record must not be one that is skipped.
@@ -125,12 +140,7 @@ impl Row {
     pub fn first_day(&self) -> Option<i32>
         ensures { result ≡ self.now.first_day }
     {
-        match read_kind(self.record.cell(PUBLICATION_TYPE)) {
-            Some(Kind::Book) => None,
-            Some(Kind::Serial) | None => {
-                read_days(self.record.cell(FIRST_DATE)).map(|days| days.first)
-            }
-        }
+        days_at(&self.record, FIRST_DATE).map(|days| days.first)
     }
 
     /// Returns the last day of `date_last_issue_online`, counted from 1970-01-01, or `None` if coverage extends to the
@@ -138,11 +148,19 @@ impl Row {
     pub fn last_day(&self) -> Option<i32>
         ensures { result ≡ self.now.last_day }
     {
+        days_at(&self.record, LAST_DATE).map(|days| days.last)
+    }
+
+    // Returns the first and the last volume.
+    fn volumes(&self) -> (Option<u32>, Option<u32>)
+        ensures { result ≡ (self.now.first_volume, self.now.last_volume) }
+    {
         match read_kind(self.record.cell(PUBLICATION_TYPE)) {
-            Some(Kind::Book) => None,
-            Some(Kind::Serial) | None => {
-                read_days(self.record.cell(LAST_DATE)).map(|days| days.last)
-            }
+            Some(Kind::Book) => (None, None),
+            Some(Kind::Serial) | None => read_volumes(
+                self.record.cell(FIRST_VOLUME),
+                self.record.cell(LAST_VOLUME),
+            ),
         }
     }
 
@@ -150,32 +168,14 @@ impl Row {
     pub fn first_volume(&self) -> Option<u32>
         ensures { result ≡ self.now.first_volume }
     {
-        match read_kind(self.record.cell(PUBLICATION_TYPE)) {
-            Some(Kind::Book) => None,
-            Some(Kind::Serial) | None => {
-                read_volumes(
-                    self.record.cell(FIRST_VOLUME),
-                    self.record.cell(LAST_VOLUME),
-                )
-                .0
-            }
-        }
+        self.volumes().0
     }
 
     /// Returns the number of `num_last_vol_online`, at most 999,999,999.
     pub fn last_volume(&self) -> Option<u32>
         ensures { result ≡ self.now.last_volume }
     {
-        match read_kind(self.record.cell(PUBLICATION_TYPE)) {
-            Some(Kind::Book) => None,
-            Some(Kind::Serial) | None => {
-                read_volumes(
-                    self.record.cell(FIRST_VOLUME),
-                    self.record.cell(LAST_VOLUME),
-                )
-                .1
-            }
-        }
+        self.volumes().1
     }
 
     /// Returns `title_url`.
@@ -211,5 +211,13 @@ impl Row {
         ensures { result.now ≡ self.now.access }
     {
         self.record.cell(ACCESS)
+    }
+
+    /// Returns whether both rows have the same bytes in each column by which a list is read. They are then equal but
+    /// for their numbers. Rows with other bytes may be equal as well: `1995` and `1995-01-01` begin on the same day.
+    pub fn has_same_cells(&self, other: &Row) -> bool
+        ensures { OnTrue result (content self.now ≡ content other.now) }
+    {
+        self.record.has_same_cells(&other.record)
     }
 }

@@ -1,5 +1,5 @@
 //! A record that is stored in a block of bytes, which it shares with other records.
-ghost use Rattle.std.specs.Prelude.{◌≡◌, ◌<◌, ◌++◌, OnOk, Some, drop, map};
+ghost use Rattle.std.specs.Prelude.{◌≡◌, ◌↔◌, ◌<◌, ◌++◌, IsTrue, OnOk, Some, drop, map};
 ghost use Rattle.std.specs.List.{All, flat_map};
 ghost use Rattle.std.specs.Rc.{rc_slice_items};
 ghost use Rattle.csv.specs.Records.{fields_of};
@@ -7,14 +7,14 @@ ghost use Rattle.feed_kbart.specs.Columns.{cell};
 ghost use Rattle.feed_kbart.specs.Stored.{IsShort, cells_of, in_order, text_bytes, texts_in};
 
 use crate::header::{Columns, cell_of};
-use crate::stored_text::{put_text, text_at};
+use crate::stored_text::{has_same_texts, put_text, text_at};
 use csv::ByteRecord;
 use std::alloc::AllocError;
 use std::marker::Model;
 use std::rc::RcSlice;
 
-// The places of the cells.
-pub(crate) const TITLE: usize = 0;
+// The places of the cells. Finding one takes longer the higher its place: those that are asked for most come first.
+pub(crate) const PUBLICATION_TYPE: usize = 0;
 
 pub(crate) const PRINT: usize = 1;
 
@@ -22,25 +22,25 @@ pub(crate) const ONLINE: usize = 2;
 
 pub(crate) const FIRST_DATE: usize = 3;
 
-pub(crate) const FIRST_VOLUME: usize = 4;
+pub(crate) const LAST_DATE: usize = 4;
 
-pub(crate) const LAST_DATE: usize = 5;
+pub(crate) const FIRST_VOLUME: usize = 5;
 
 pub(crate) const LAST_VOLUME: usize = 6;
 
-pub(crate) const URL: usize = 7;
+pub(crate) const TITLE_ID: usize = 7;
 
-pub(crate) const TITLE_ID: usize = 8;
+pub(crate) const URL: usize = 8;
 
-pub(crate) const EMBARGO: usize = 9;
+pub(crate) const TITLE: usize = 9;
 
 pub(crate) const DEPTH: usize = 10;
 
-pub(crate) const PUBLICATION_TYPE: usize = 11;
+pub(crate) const EMBARGO: usize = 11;
 
 pub(crate) const ACCESS: usize = 12;
 
-/// The number of a record, and its cells in the order of the labels. They begin at a place in a block.
+/// The number of a record, and its cells in their places. They begin at a place in a block.
 #[derive(Debug, Drop)]
 pub(crate) struct StoredRecord {
     block: RcSlice<u8>,
@@ -84,6 +84,17 @@ impl StoredRecord {
     {
         text_at(rest_of(&self.block, self.start as usize), place)
     }
+
+    /// Returns whether another record has the same cells.
+    pub(crate) fn has_same_cells(&self, other: &StoredRecord) -> bool
+        ensures { IsTrue result ↔ (self.now.cells ≡ other.now.cells) }
+    {
+        has_same_texts(
+            rest_of(&self.block, self.start as usize),
+            rest_of(&other.block, other.start as usize),
+            13,
+        )
+    }
 }
 
 // Returns the bytes from a place on.
@@ -98,23 +109,23 @@ fn rest_of(block: &[u8], start: usize) -> &[u8]
 }
 
 impl Columns {
-    // The columns in the order of the labels.
+    // The columns in the order of the places of their cells.
     fn in_order(&self) -> [Option<usize>; 13]
         ensures { result ≡ in_order self.now }
     {
         [
-            self.title,
+            self.publication_type,
             self.print,
             self.online,
             self.first_date,
-            self.first_volume,
             self.last_date,
+            self.first_volume,
             self.last_volume,
-            self.url,
             self.title_id,
-            self.embargo,
+            self.url,
+            self.title,
             self.depth,
-            self.publication_type,
+            self.embargo,
             self.access,
         ]
     }

@@ -1,6 +1,6 @@
 //! Texts in a block of bytes, each behind its length.
-ghost use Rattle.std.specs.Prelude.{◌≡◌, ◌++◌, IfOk, OnOk, length, take, drop};
-ghost use Rattle.feed_kbart.specs.Stored.{IsShort, length_bytes, split_long, split_text, text_at, text_bytes};
+ghost use Rattle.std.specs.Prelude.{◌≡◌, ◌↔◌, ◌++◌, IfOk, IsTrue, OnOk, length, take, drop};
+ghost use Rattle.feed_kbart.specs.Stored.{IsShort, length_bytes, split_long, split_text, text_at, text_bytes, texts_in};
 
 use std::alloc::AllocError;
 
@@ -90,4 +90,22 @@ pub(crate) fn text_at(bytes: &[u8], place: usize) -> &[u8]
         left = split_text(left).1;
     }
     split_text(left).0
+}
+
+/// Returns whether the first texts of one block are those of another, so many of them.
+pub(crate) fn has_same_texts(one: &[u8], other: &[u8], count: usize) -> bool
+    ensures { IsTrue result ↔ (texts_in count one.now ≡ texts_in count other.now) }
+{
+    let mut left = one;
+    let mut right = other;
+    for _compared in 0..count {
+        let (first, next_left) = split_text(left);
+        let (second, next_right) = split_text(right);
+        if first != second {
+            return false;
+        }
+        left = next_left;
+        right = next_right;
+    }
+    true
 }

@@ -1,4 +1,4 @@
-use Rattle.std.proofs.Common.{◌≡◌, ◌+◌, ◌∙◌, ℕ, zero, suc, List, ap, arith, refl, sym}
+use Rattle.std.proofs.Common.{◌≡◌, ◌+◌, ◌∙◌, ℕ, suc, List, ap, arith, refl, sym}
 use Rattle.feed_kbart.specs.Stored.{split_text, text_at}
 use Rattle.feed_kbart.proofs.stored_text.text_at.Goals as goal
 

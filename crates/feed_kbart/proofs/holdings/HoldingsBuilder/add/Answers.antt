@@ -20,7 +20,7 @@ holdings_from-aside columns number fields reason e = rw e refl
 
 pub returns-in_ok-add-in-Ok : goal.returns-in_ok-add-in-Ok
 returns-in_ok-add-in-Ok g c held few kept =
-    rw (holdings_from-row c.args.columns.now c.args.number (fields_of c.args.fields.now) c.in-Ok.ensures.0)
+    rw (holdings_from-row c.args.columns.now c.args.number (fields_of c.args.fields.now) c.in-Ok.ensures)
     (c.in_ok-add-in-Ok.ensures held.rows few kept.0, kept.1 ∙ sym (append-nil held.aside))
 
 pub returns-in_ok-push-in-Err : goal.returns-in_ok-push-in-Err
