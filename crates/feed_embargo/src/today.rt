@@ -1,5 +1,5 @@
 //! The day on which embargoes are evaluated.
-ghost use Rattle.std.specs.Prelude.{◌≡◌, ◌<◌, ℕ, MatchOption};
+ghost use Rattle.std.specs.Prelude.{◌≡◌, ◌<◌, ℕ, MatchOption, pos};
 
 use jiff_core::civil::Date;
 use std::marker::Model;
@@ -42,6 +42,16 @@ impl Today {
         }
         let month = date.year as u32 * 12 + u32::from(date.month) - 1;
         Some(Today { day, month })
+    }
+
+    /// Returns 1970-01-01.
+    pub fn epoch() -> Today
+        ensures { result ≡ record { day = pos 0; month = 23_640 } }
+    {
+        Today {
+            day: 0,
+            month: 23_640,
+        }
     }
 
     /// Returns the day's number, counted from 1970-01-01.

@@ -116,7 +116,8 @@ fn run_server<D: Database, O: Write, F: Write + Drop>(
     out: &mut O,
     faults: &mut Faults<F>,
 ) -> u8 {
-    let site = match Site::new(rt.alloc(), hosting.version.as_bytes(), hosting.max_age) {
+    let version = hosting.version.as_bytes();
+    let site = match Site::new(rt.alloc(), version, hosting.max_age, Vec::new(rt.alloc())) {
         Ok(site) => site,
         Err(_) => return faults.report("Memory", FAILED),
     };
