@@ -15,7 +15,7 @@ function __kbfeed_place
                 case --
                     set has_options no
                 case --name --count --timeout --idle --max-age --metrics --log-queries --piece --clients --from --token \
-                        --max-removed --max-changed --db
+                        --site --max-removed --max-changed --db
                     set is_value yes
                 case '-?*'
                 case '*'
@@ -75,6 +75,7 @@ complete -c kbfeed -n '__kbfeed_at "serve/*"' -x -l count -d 'How many connectio
 complete -c kbfeed -n '__kbfeed_at "node/*"' -l check -d 'Opens all that the node needs, prints ok, and ends'
 complete -c kbfeed -n '__kbfeed_at "node/*"' -x -l from -d 'The server to fetch releases from'
 complete -c kbfeed -n '__kbfeed_at "node/*"' -r -F -l token -d 'The file with the token that authorizes a fetch'
+complete -c kbfeed -n '__kbfeed_at "node/*"' -r -F -l site -d 'The site file of the library'
 complete -c kbfeed -n '__kbfeed_at "node/*"' -x -l clients -d 'The most connections at a time'
 complete -c kbfeed -n '__kbfeed_at "node/*" "fetch/*"' -x -l piece -d 'The most bytes in one request'
 complete -c kbfeed -n '__kbfeed_at "node/*"' -x -l idle -d 'Seconds that a connection may wait between two requests'

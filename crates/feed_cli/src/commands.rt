@@ -244,7 +244,7 @@ static SERVE: [Argument; 4] = [
     CLIENT_TIMEOUT,
 ];
 
-static NODE: [Argument; 13] = [
+static NODE: [Argument; 14] = [
     DATABASE,
     LISTENING_ADDRESS,
     Argument {
@@ -267,6 +267,14 @@ static NODE: [Argument; 13] = [
             needs: &["from"],
         },
         help: "The file whose first line is the token that authorizes a fetch",
+    },
+    Argument {
+        id: "site",
+        kind: Kind::Text {
+            value: "FILE",
+            needs: &[],
+        },
+        help: "The site file of the library: its page, its proxy and what it has",
     },
     PIECE,
     Argument {

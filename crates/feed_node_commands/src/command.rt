@@ -22,6 +22,8 @@ pub enum Command<'a> {
         version: &'a str,
         log: LogSettings,
         is_check: bool,
+        /// The path of the site file.
+        site: Option<&'a str>,
         upstream: Option<Upstream<'a>>,
     },
     /// A command that needs no server.
@@ -56,6 +58,7 @@ pub fn run_command<D: Database, O: Write, F: Write + Drop>(
             version,
             log,
             is_check,
+            site,
             upstream,
         } => {
             let hosting = Hosting {
@@ -67,6 +70,7 @@ pub fn run_command<D: Database, O: Write, F: Write + Drop>(
                 version,
                 log,
                 is_check,
+                site,
             };
             run_node(rt, database, hosting, upstream, out, faults)
         }

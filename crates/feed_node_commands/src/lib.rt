@@ -3,6 +3,7 @@
 
 mod command;
 mod node;
+mod site;
 mod token;
 
 pub use command::{Command, Upstream, run_command};

@@ -1,5 +1,6 @@
 //! `kbfeed node`: a link resolver that answers readers over HTTP from the database of a node, and fetches releases.
 use crate::command::Upstream;
+use crate::site::read_site_file;
 use crate::token::read_token;
 use feed_command::{DONE, FAILED, Faults, MISUSED, REFUSED, open_file};
 use feed_database_commands::{Database, close_keeper, open_feed};
@@ -31,15 +32,17 @@ pub struct Hosting<'a> {
     pub version: &'a str,
     pub log: LogSettings,
     pub is_check: bool,
+    /// The path of the site file.
+    pub site: Option<&'a str>,
 }
 
 /// Runs a node: opens the feed of a database and answers readers at an address, without end. If it has a source, a
 /// client that has the token can make it fetch a release from there. It prints a line for each request, at once. The
-/// first fault is reported: of the source (`Host`, `Read`, `Token`), of the database, of the address (`Bind`), of the
-/// sockets (`Poll`), of the print, and of a database whose file is gone (`Device`). A host that has no address yet is
-/// reported too (`Resolve`), and the node runs. If there are too few descriptors for all clients, that is reported
-/// (`Descriptors`), and the node answers fewer at a time, or does not start with fewer than 16. A check answers no
-/// reader, and prints `ok` if all is well.
+/// first fault is reported: of the source (`Host`, `Read`, `Token`), of the site file (`Read`, `Site`), of the
+/// database, of the address (`Bind`), of the sockets (`Poll`), of the print, and of a database whose file is gone
+/// (`Device`). A host that has no address yet is reported too (`Resolve`), and the node runs. If there are too few
+/// descriptors for all clients, that is reported (`Descriptors`), and the node answers fewer at a time, or does not
+/// start with fewer than 16. A check answers no reader, and prints `ok` if all is well.
 pub fn run_node<D: Database, O: Write, F: Write + Drop>(
     rt: &HostRuntime,
     database: &D,
@@ -116,7 +119,12 @@ fn run_server<D: Database, O: Write, F: Write + Drop>(
     out: &mut O,
     faults: &mut Faults<F>,
 ) -> u8 {
-    let site = match Site::new(rt.alloc(), hosting.version.as_bytes(), hosting.max_age) {
+    let file = match read_site_file(rt, hosting.site, faults) {
+        Ok(file) => file,
+        Err(status) => return status,
+    };
+    let version = hosting.version.as_bytes();
+    let site = match Site::new(rt.alloc(), version, hosting.max_age, file) {
         Ok(site) => site,
         Err(_) => return faults.report("Memory", FAILED),
     };

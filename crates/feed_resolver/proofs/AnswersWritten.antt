@@ -1,55 +1,47 @@
 -- The answers that are written are those of the definition.
-use Rattle.std.proofs.Common.{◌≡◌, ℕ, List, [], ◌∷◌, ◌++◌, refl, sym, ap, ◌∙◌}
+use Rattle.std.proofs.Common.{◌≡◌, ℕ, Bool, List, [], ◌∷◌, ◌++◌, refl, sym, ap, ◌∙◌}
 use Rattle.std.proofs.lemmas.List.Sums.{fold-append}
+use Rattle.feed_embargo.specs.Today.{TodayValue}
 use Rattle.feed_answer.specs.QueryValue.{QueryValue}
 use Rattle.feed_releases.specs.Actives.{ActiveValue}
-use Rattle.feed_resolver_request.specs.declared.representation.Representation.TheVariants.{Text, Json, Html}
+use Rattle.feed_resolver_request.specs.declared.representation.Representation.TheVariants.{Text}
 use Rattle.feed_resolver_hits.specs.Hits.{ReleaseHitValue}
 use Rattle.feed_resolver_hits.specs.HitsText.{release_text}
-use Rattle.feed_resolver_hits.specs.AnswerJson.{answer_json}
 use Rattle.feed_resolver_hits.specs.Asks.{AskValue, ask_of}
-use Rattle.feed_resolver_hits.specs.HitsPage.{hits_page}
 use Rattle.feed_resolver_hits.specs.Tallies.{TallyValue, tally_of}
 use Rattle.feed_resolver_hits.specs.Tallying.{RunningValue, with_hit, with_hits, no_hits, tally_from}
 use Rattle.feed_resolver_hits.proofs.Tallies.{tally_is}
-use Rattle.feed_resolver.specs.Answers.{release_hits, hits_among, texts_behind, answers_body}
+use Rattle.feed_resolver.specs.Answers.{Dated, release_hits, hits_among, tally_among, tally_body, texts_behind, answers_body}
 use Rattle.feed_resolver.specs.AnswerTexts.{texts_from}
 
 abbrev after : List ReleaseHitValue → RunningValue
 after hits = with_hits no_hits hits
 
-texts_are : (query : QueryValue) (earlier : List ReleaseHitValue) (actives : List ActiveValue) → texts_from query (after earlier) actives ≡ texts_behind query earlier actives
-texts_are query earlier [] = refl
-texts_are query earlier (active ∷ actives) =
-    let more = release_hits query active in
+texts_are : (today : TodayValue) (query : QueryValue) (earlier : List ReleaseHitValue) (actives : List ActiveValue)
+    → texts_from today query (after earlier) actives ≡ texts_behind today query earlier actives
+texts_are today query earlier [] = refl
+texts_are today query earlier (active ∷ actives) =
+    let more = release_hits today query active in
     let joint : with_hits (after earlier) more ≡ after (earlier ++ more) = sym (fold-append with_hit no_hits earlier more) in
-    ap (λ (r : RunningValue). release_text (tally_from (after earlier)) (tally_from r) active.name ++ texts_from query r actives) joint
-    ∙ ap (λ (t : TallyValue). release_text t (tally_from (after (earlier ++ more))) active.name ++ texts_from query (after (earlier ++ more)) actives) (tally_is earlier)
-    ∙ ap (λ (t : TallyValue). release_text (tally_of earlier) t active.name ++ texts_from query (after (earlier ++ more)) actives) (tally_is (earlier ++ more))
-    ∙ ap (λ t. release_text (tally_of earlier) (tally_of (earlier ++ more)) active.name ++ t) (texts_are query (earlier ++ more) actives)
+    ap (λ (r : RunningValue). release_text (tally_from (after earlier)) (tally_from r) active.name ++ texts_from today query r actives) joint
+    ∙ ap (λ (t : TallyValue). release_text t (tally_from (after (earlier ++ more))) active.name ++ texts_from today query (after (earlier ++ more)) actives) (tally_is earlier)
+    ∙ ap (λ (t : TallyValue). release_text (tally_of earlier) t active.name ++ texts_from today query (after (earlier ++ more)) actives) (tally_is (earlier ++ more))
+    ∙ ap (λ t. release_text (tally_of earlier) (tally_of (earlier ++ more)) active.name ++ t) (texts_are today query (earlier ++ more) actives)
 
-pub text_written : (text : List ℕ) (query : QueryValue) (actives : List ActiveValue) (old new : List ℕ) → new ≡ old ++ texts_from query no_hits actives
+pub text_written : (text : List ℕ) (query : QueryValue) (actives : Dated) (old new : List ℕ) → new ≡ old ++ texts_from actives.today query no_hits actives.actives
     → new ≡ old ++ answers_body Text text query actives
 unfolding answers_body
-text_written text query actives old new is = is ∙ ap (λ t. old ++ t) (texts_are query [] actives)
+text_written text query actives old new is = is ∙ ap (λ t. old ++ t) (texts_are actives.today query [] actives.actives)
 
-pub json_written : (text : List ℕ) (ask : AskValue) (query : QueryValue) (actives : List ActiveValue) (running : RunningValue) (old new : List ℕ) → ask ≡ ask_of text
-    → running ≡ with_hits no_hits (hits_among query actives) → new ≡ old ++ answer_json ask [] (tally_from running) → new ≡ old ++ answers_body Json text query actives
-unfolding answers_body
-json_written text ask query actives running old new read made is =
-    is ∙ ap (λ (a : AskValue). old ++ answer_json a [] (tally_from running)) read
-    ∙ ap (λ (r : RunningValue). old ++ answer_json (ask_of text) [] (tally_from r)) made
-    ∙ ap (λ (t : TallyValue). old ++ answer_json (ask_of text) [] t) (tally_is (hits_among query actives))
-
-pub page_written : (text : List ℕ) (ask : AskValue) (query : QueryValue) (actives : List ActiveValue) (running : RunningValue) (old new : List ℕ) → ask ≡ ask_of text
-    → running ≡ with_hits no_hits (hits_among query actives) → new ≡ old ++ hits_page ask (tally_from running) → new ≡ old ++ answers_body Html text query actives
-unfolding answers_body
-page_written text ask query actives running old new read made is =
-    is ∙ ap (λ (a : AskValue). old ++ hits_page a (tally_from running)) read
-    ∙ ap (λ (r : RunningValue). old ++ hits_page (ask_of text) (tally_from r)) made
-    ∙ ap (λ (t : TallyValue). old ++ hits_page (ask_of text) t) (tally_is (hits_among query actives))
+pub tally_written : (text : List ℕ) (ask : AskValue) (is_page : Bool) (query : QueryValue) (actives : Dated) (running : RunningValue) (old new : List ℕ) → ask ≡ ask_of text
+    → running ≡ with_hits no_hits (hits_among query actives) → new ≡ old ++ tally_body is_page ask (tally_from running)
+    → new ≡ old ++ tally_body is_page (ask_of text) (tally_among query actives)
+tally_written text ask is_page query actives running old new read made is =
+    is ∙ ap (λ (a : AskValue). old ++ tally_body is_page a (tally_from running)) read
+    ∙ ap (λ (r : RunningValue). old ++ tally_body is_page (ask_of text) (tally_from r)) made
+    ∙ ap (λ (t : TallyValue). old ++ tally_body is_page (ask_of text) t) (tally_is (hits_among query actives))
 
 -- the link that a tally chooses
-pub best_made : (query : QueryValue) (actives : List ActiveValue) (running : RunningValue) → running ≡ with_hits no_hits (hits_among query actives)
+pub best_made : (query : QueryValue) (actives : Dated) (running : RunningValue) → running ≡ with_hits no_hits (hits_among query actives)
     → (tally_from running).best ≡ (tally_of (hits_among query actives)).best
 best_made query actives running made = ap (λ (r : RunningValue). (tally_from r).best) made ∙ ap (λ (t : TallyValue). t.best) (tally_is (hits_among query actives))

@@ -13,7 +13,6 @@ use Rattle.feed_http_heads.specs.Requests.{lacks_host, is_get, is_head}
 use Rattle.feed_http_heads.specs.Targets.{origin_form}
 use Rattle.feed_answer.specs.QueryValue.{QueryValue}
 use Rattle.feed_openurl.specs.declared.fault.Refusal.{Refusal}
-use Rattle.feed_releases.specs.Actives.{ActiveValue}
 use Rattle.feed_resolver_request.specs.FoundRequests.{BeginsWith}
 use Rattle.feed_resolver_request.specs.FetchRequests.{FetchPolicyValue, name_to_fetch, name_after_feed}
 use Rattle.feed_resolver_reply.specs.FetchReplies.{fetch_reply, IsFetchMessage}
@@ -38,7 +37,7 @@ use Rattle.feed_resolver_hits.specs.Links.{is_link}
 use Rattle.feed_resolver_hits.specs.Tallies.{counted}
 use Rattle.feed_resolver_hits.proofs.BestLinks as links
 use Rattle.feed_resolver_tag.specs.Tags.{SiteValue}
-use Rattle.feed_resolver.specs.Answers.{is_of, hits_among}
+use Rattle.feed_resolver.specs.Answers.{Dated, is_of, hits_among}
 use Rattle.feed_resolver.specs.Replies.{resource_reply, resolve_reply, package_reply, redirect_reply, go_reply, hits_reply, query_reply, target_reply, target_query, path_of}
 use Rattle.feed_resolver.specs.Replies.{method_refusal, has_coded_body, resolve_reply_at, reply_by_form, reply_to, tagged_reply, response_to, IsResponse}
 use Rattle.feed_resolver.specs.Answered.{IsGoodIn, IsAnswered, IsAnsweredTo}
@@ -50,7 +49,7 @@ use Rattle.feed_resolver.proofs.Tagged.{final_by, tag_asked, tagged_cases, no_pr
 use Rattle.feed_resolver.proofs.SameBytes.{one_reply}
 
 -- the reply to a request with this head
-reply_at : (site : SiteValue) (keeps : Bool) (bytes body : List ℕ) (actives : List ActiveValue) (head : RequestHead) (response : ResponseValue) → BeginsWith bytes head
+reply_at : (site : SiteValue) (keeps : Bool) (bytes body : List ℕ) (actives : Dated) (head : RequestHead) (response : ResponseValue) → BeginsWith bytes head
     → IsResponse site bytes body keeps actives response → response ≡ response_to site keeps head body actives
 reply_at site keeps bytes body actives head response begins is = one_reply site keeps bytes body actives response (response_to site keeps head body actives) is (inl (head, begins, refl))
 
@@ -65,7 +64,7 @@ reply_by lacks unsupported unknown coded reply =
     else reply)))
 
 -- the reply to a query in the target
-abbrev pub query_answer : RequestHead → List ActiveValue → ReplyValue
+abbrev pub query_answer : RequestHead → Dated → ReplyValue
 query_answer head actives = target_reply head (target_query head) actives
 
 or_right : (a b : Bool) → a ≡ false → (a || b) ≡ true → b ≡ true
@@ -94,7 +93,7 @@ formless : (head : RequestHead) → (is_get head || is_head head) ≡ true → f
 formless head read = ap (λ b. if b && (not (lacks_host head) && takes_form (resource_of (path_of head))) then Some (form_in head) else None) (not_post head read)
 
 -- the reply to a GET or a HEAD without a body
-pub read_reply : (head : RequestHead) (body : List ℕ) (actives : List ActiveValue) → (is_get head || is_head head) ≡ true
+pub read_reply : (head : RequestHead) (body : List ℕ) (actives : Dated) → (is_get head || is_head head) ≡ true
     → reply_to head body actives ≡ reply_by (lacks_host head) false false (has_coded_body head) (query_answer head actives)
 read_reply head body actives read =
     ap (λ o. if lacks_host head then refusal status.BadRequest Text (codes "NoHost") else reply_by_form head body actives o) (formless head read)
@@ -106,7 +105,7 @@ read_reply head body actives read =
 -- ---- a target with a tag
 
 -- the reply to such a request is that to its target
-pub answered_to : (head : RequestHead) (actives : List ActiveValue) → lacks_host head ≡ false → has_coded_body head ≡ false → is_tagged head ≡ true
+pub answered_to : (head : RequestHead) (actives : Dated) → lacks_host head ≡ false → has_coded_body head ≡ false → is_tagged head ≡ true
     → IsAnswered (origin_form head.target) actives → IsAnsweredTo head actives
 answered_to head actives host plain tagged answered body =
     subst (IsGoodIn (representation_of (query_in (origin_form head.target)) head))
@@ -120,36 +119,36 @@ answered_to head actives host plain tagged answered body =
     and_left false b e = absurd (cc)
 
 -- the reply to each request of a target whose query is valid
-pub status_answered : (target : List ℕ) (actives : List ActiveValue) → resource_of (path_in target) ≡ resource.Status → IsAnswered target actives
+pub status_answered : (target : List ℕ) (actives : Dated) → resource_of (path_in target) ≡ resource.Status → IsAnswered target actives
 status_answered target actives is head =
     subst (λ r. IsGoodIn (representation_of (query_in target) head) (resource_reply r head (path_in target) (query_in target) actives)) (sym is) (refl, refl)
 
-query_answered : (representation : Representation) (text : List ℕ) (actives : List ActiveValue) (o : Result QueryValue Refusal) (query : QueryValue) → o ≡ Ok query
+query_answered : (representation : Representation) (text : List ℕ) (actives : Dated) (o : Result QueryValue Refusal) (query : QueryValue) → o ≡ Ok query
     → IsGoodIn representation (query_reply status.Good representation text (hits_reply status.Good representation text actives) o)
 query_answered representation text actives (Ok other) query is = (refl, refl)
 query_answered representation text actives (Err why) query is = absurd (cc)
 
-pub resolve_answered : (target : List ℕ) (actives : List ActiveValue) (query : QueryValue) → resource_of (path_in target) ≡ resource.Resolve → asked_of (query_in target) ≡ Ok query
+pub resolve_answered : (target : List ℕ) (actives : Dated) (query : QueryValue) → resource_of (path_in target) ≡ resource.Resolve → asked_of (query_in target) ≡ Ok query
     → IsAnswered target actives
 resolve_answered target actives query is valid head =
     subst (λ r. IsGoodIn (representation_of (query_in target) head) (resource_reply r head (path_in target) (query_in target) actives)) (sym is)
     (query_answered (representation_of (query_in target) head) (query_in target) actives (asked_of (query_in target)) query valid)
 
-placed_answered : (representation : Representation) (text : List ℕ) (actives : List ActiveValue) (query : QueryValue) (o : Option ℕ) (other : ReplyValue) → is_some o ≡ true
+placed_answered : (representation : Representation) (text : List ℕ) (actives : Dated) (query : QueryValue) (o : Option ℕ) (other : ReplyValue) → is_some o ≡ true
     → asked_of text ≡ Ok query → IsGoodIn representation (option_map_or (resolve_reply_at representation text actives) o other)
 placed_answered representation text actives query (Some place) other some valid = query_answered representation text _ (asked_of text) query valid
 placed_answered representation text actives query None other some valid = absurd (cc)
 
-pub package_answered : (target : List ℕ) (actives : List ActiveValue) (query : QueryValue) → resource_of (path_in target) ≡ resource.Package
-    → is_some (position (is_of (package_in (path_in target))) actives) ≡ true → asked_of (query_in target) ≡ Ok query → IsAnswered target actives
+pub package_answered : (target : List ℕ) (actives : Dated) (query : QueryValue) → resource_of (path_in target) ≡ resource.Package
+    → is_some (position (is_of (package_in (path_in target))) actives.actives) ≡ true → asked_of (query_in target) ≡ Ok query → IsAnswered target actives
 package_answered target actives query is some valid head =
     subst (λ r. IsGoodIn (representation_of (query_in target) head) (resource_reply r head (path_in target) (query_in target) actives)) (sym is)
-    (placed_answered (representation_of (query_in target) head) (query_in target) actives query (position (is_of (package_in (path_in target))) actives) _ some valid)
+    (placed_answered (representation_of (query_in target) head) (query_in target) actives query (position (is_of (package_in (path_in target))) actives.actives) _ some valid)
 
 -- ---- HEAD
 
 -- a reply depends on the fields only by the representation that they prefer
-pub same_parts : (r : Resource) (head other : RequestHead) (path query : List ℕ) (actives : List ActiveValue)
+pub same_parts : (r : Resource) (head other : RequestHead) (path query : List ℕ) (actives : Dated)
     → representation_of query head ≡ representation_of query other → accepted_representation head ≡ accepted_representation other
     → resource_reply r head path query actives ≡ resource_reply r other path query actives
 same_parts resource.Home head other path query actives wants accepts = refl
@@ -159,10 +158,10 @@ same_parts resource.Package head other path query actives wants accepts = rw wan
 same_parts resource.Go head other path query actives wants accepts = rw accepts refl
 same_parts resource.Unknown head other path query actives wants accepts = rw accepts refl
 
-same_resource : (r : Resource) (head : RequestHead) (path query : List ℕ) (actives : List ActiveValue) → resource_reply r (as_get head) path query actives ≡ resource_reply r head path query actives
+same_resource : (r : Resource) (head : RequestHead) (path query : List ℕ) (actives : Dated) → resource_reply r (as_get head) path query actives ≡ resource_reply r head path query actives
 same_resource r head path query actives = same_parts r (as_get head) head path query actives refl refl
 
-same_reply : (head : RequestHead) (body other : List ℕ) (actives : List ActiveValue) → is_head head ≡ true → reply_to (as_get head) other actives ≡ reply_to head body actives
+same_reply : (head : RequestHead) (body other : List ℕ) (actives : Dated) → is_head head ≡ true → reply_to (as_get head) other actives ≡ reply_to head body actives
 same_reply head body other actives is =
     read_reply (as_get head) other actives refl
     ∙ ap (λ t. reply_by (lacks_host head) false false (has_coded_body head) t) (same_resource (resource_of (path_of head)) head (path_of head) (target_query head) actives)
@@ -176,14 +175,14 @@ not_options head read = elim (cases_Bool (is_get head)) [
 ]
 
 -- the reply to a GET or a HEAD, with its tag
-pub read_tagged : (site : SiteValue) (head : RequestHead) (body : List ℕ) (actives : List ActiveValue) → (is_get head || is_head head) ≡ true
+pub read_tagged : (site : SiteValue) (head : RequestHead) (body : List ℕ) (actives : Dated) → (is_get head || is_head head) ≡ true
     → tagged_reply site head body actives ≡ final_by (has_validator (resource_in head)) None head (tag_asked site actives head) site.max_age (reply_to head body actives)
 read_tagged site head body actives read =
     tagged_cases site head body actives
     ∙ ap (λ p. final_by (is_tagged head) p head (tag_asked site actives head) site.max_age (reply_to head body actives)) (no_preflight head (not_options head read))
     ∙ ap (λ r. final_by (r && has_validator (resource_in head)) None head (tag_asked site actives head) site.max_age (reply_to head body actives)) read
 
-same_tagged : (site : SiteValue) (head : RequestHead) (body other : List ℕ) (actives : List ActiveValue) → is_head head ≡ true
+same_tagged : (site : SiteValue) (head : RequestHead) (body other : List ℕ) (actives : Dated) → is_head head ≡ true
     → tagged_reply site (as_get head) other actives ≡ tagged_reply site head body actives
 same_tagged site head body other actives is =
     read_tagged site (as_get head) other actives refl
@@ -207,7 +206,7 @@ head_alone site keeps actives bytes asked body form head response reply is begin
 
 -- ---- /go
 
-go_replied : (head : RequestHead) (body : List ℕ) (query : QueryValue) (actives : List ActiveValue) → AsksToGo head query
+go_replied : (head : RequestHead) (body : List ℕ) (query : QueryValue) (actives : Dated) → AsksToGo head query
     → reply_to head body actives ≡ redirect_reply (accepted_representation head) (target_query head) actives query
 go_replied head body query actives asks =
     read_reply head body actives asks.method
@@ -217,8 +216,9 @@ go_replied head body query actives asks =
     ∙ ap (λ q. query_reply status.NotFound (accepted_representation head) (target_query head) (redirect_reply (accepted_representation head) (target_query head) actives) q) asks.asked
 
 -- `/go` has no tag
-untagged_go : (site : SiteValue) (head : RequestHead) (body : List ℕ) (actives : List ActiveValue) → resource_in head ≡ resource.Go
-    → final_by (has_validator (resource_in head)) None head (tag_asked site actives head) site.max_age (reply_to head body actives) ≡ reply_to head body actives
+untagged_go : (site : SiteValue) (head : RequestHead) (body : List ℕ) (actives : Dated) → resource_in head ≡ resource.Go
+    → final_by (has_validator (resource_in head)) None head (tag_asked site actives head) site.max_age (reply_to head body actives)
+    ≡ reply_to head body actives
 untagged_go site head body actives is = ap (λ r. final_by (has_validator r) None head (tag_asked site actives head) site.max_age (reply_to head body actives)) is
 
 redirect_sent : (keeps : Bool) (url : List ℕ) → is_link url ≡ true → IsSentAs keeps (redirect_to url) (head_of keeps (redirect_to url))
@@ -241,7 +241,8 @@ goes_to_best site keeps actives bytes body head query response begins asks is =
     let best : IsBestLink hits (best_link hits) = links.best_is hits in
     let same : response ≡ response_of keeps (is_head head) (option_map_or redirect_to (best_link hits) other) =
     reply_at site keeps bytes body actives head response begins is
-    ∙ ap (response_of keeps (is_head head)) (read_tagged site head body actives asks.method ∙ untagged_go site head body actives asks.resource ∙ go_replied head body query actives asks) in
+    ∙ ap (response_of keeps (is_head head)) (read_tagged site head body actives asks.method ∙ untagged_go site head body actives asks.resource
+    ∙ go_replied head body query actives asks) in
     (best_link hits, best, subst (λ (v : ResponseValue). GoesTo (best_link hits) v) (sym same) (goes keeps (is_head head) hits (best_link hits) other best refl))
 
 -- ---- forms
@@ -280,15 +281,15 @@ read_form post n is =
     }
 
 -- the answer by the representations that a request names and accepts
-abbrev answer_by : Resource → Representation → Representation → List ℕ → List ℕ → List ActiveValue → ReplyValue
-answer_by resource.Home named accepted path query actives = reply_with status.Good Html (home_page actives)
-answer_by resource.Status named accepted path query actives = reply_with status.Good named (status_body named actives)
+abbrev answer_by : Resource → Representation → Representation → List ℕ → List ℕ → Dated → ReplyValue
+answer_by resource.Home named accepted path query actives = reply_with status.Good Html (home_page actives.actives)
+answer_by resource.Status named accepted path query actives = reply_with status.Good named (status_body named actives.actives)
 answer_by resource.Resolve named accepted path query actives = resolve_reply named query actives
 answer_by resource.Package named accepted path query actives = package_reply named (package_in path) query actives
 answer_by resource.Go named accepted path query actives = go_reply accepted query actives
 answer_by resource.Unknown named accepted path query actives = refusal status.NotFound accepted (codes "NoTarget")
 
-answered_by : (r : Resource) (head : RequestHead) (path query : List ℕ) (actives : List ActiveValue)
+answered_by : (r : Resource) (head : RequestHead) (path query : List ℕ) (actives : Dated)
     → resource_reply r head path query actives ≡ answer_by r (representation_of query head) (accepted_representation head) path query actives
 answered_by resource.Home head path query actives = refl
 answered_by resource.Status head path query actives = refl
@@ -298,7 +299,7 @@ answered_by resource.Go head path query actives = refl
 answered_by resource.Unknown head path query actives = refl
 
 -- a reply depends on no more of a head than its fields
-same_fields : (r : Resource) (get post : RequestHead) (path query : List ℕ) (actives : List ActiveValue) → get.fields ≡ post.fields
+same_fields : (r : Resource) (get post : RequestHead) (path query : List ℕ) (actives : Dated) → get.fields ≡ post.fields
     → resource_reply r get path query actives ≡ resource_reply r post path query actives
 same_fields r get post path query actives fields =
     let accepts : accepted_representation get ≡ accepted_representation post = ap (λ fs. option_map_or preferred_in (only (values_named (codes "accept") fs)) Text) fields in
@@ -309,7 +310,7 @@ same_fields r get post path query actives fields =
     ∙ sym (answered_by r post path query actives)
 
 -- a POST has no tag, and is no preflight
-untagged_post : (site : SiteValue) (head : RequestHead) (body : List ℕ) (actives : List ActiveValue) → is_get head ≡ false → is_head head ≡ false
+untagged_post : (site : SiteValue) (head : RequestHead) (body : List ℕ) (actives : Dated) → is_get head ≡ false → is_head head ≡ false
     → bytes_eq head.method (codes "OPTIONS") ≡ false → tagged_reply site head body actives ≡ reply_to head body actives
 untagged_post site head body actives get alone other =
     tagged_cases site head body actives
@@ -355,12 +356,12 @@ plain_chosen false None fetch plain other = refl
 plain_chosen false (Some name) fetch plain (inl e) = absurd (cc)
 plain_chosen false (Some name) fetch plain (inr e) = absurd (cc)
 
-resolves : (site : SiteValue) (policy : FetchPolicyValue) (keeps : Bool) (actives : List ActiveValue) (head : RequestHead) (body : List ℕ) → (lacks_host head ≡ true) ⊎ (name_to_fetch head ≡ None)
+resolves : (site : SiteValue) (policy : FetchPolicyValue) (keeps : Bool) (actives : Dated) (head : RequestHead) (body : List ℕ) → (lacks_host head ≡ true) ⊎ (name_to_fetch head ≡ None)
     → node_reply site policy keeps actives head body ≡ response_to site keeps head body actives
 resolves site policy keeps actives head body other = plain_chosen (lacks_host head) (name_to_fetch head) (fetch_reply policy keeps head) (response_to site keeps head body actives) other
 
 -- a node replies as a resolver to a request that does not ask it to fetch
-pub as_resolver : (site : SiteValue) (policy : FetchPolicyValue) (bytes body : List ℕ) (keeps : Bool) (actives : List ActiveValue) (response : ResponseValue) → AsksForNoFetch bytes
+pub as_resolver : (site : SiteValue) (policy : FetchPolicyValue) (bytes body : List ℕ) (keeps : Bool) (actives : Dated) (response : ResponseValue) → AsksForNoFetch bytes
     → IsNodeReply site policy bytes body keeps actives response → IsResponse site bytes body keeps actives response
 as_resolver site policy bytes body keeps actives response plain (inl (head, begins, is)) = inl (head, begins, is ∙ resolves site policy keeps actives head body (plain head begins))
 as_resolver site policy bytes body keeps actives response plain (inr none) = inr none

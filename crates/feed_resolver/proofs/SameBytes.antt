@@ -5,6 +5,7 @@ use Rattle.std.specs.List.{AllByRecursion}
 use Rattle.std.proofs.lemmas.List.Elements.{recursion_from_All}
 use Rattle.httparse.specs.Grammar.{RequestHead}
 use Rattle.httparse.proofs.GrammarLemmas.{request_unique}
+use Rattle.feed_embargo.specs.Today.{TodayValue}
 use Rattle.feed_names.specs.ReleaseName.{Name}
 use Rattle.feed_kbart.specs.HoldingsValue.{HoldingsValue}
 use Rattle.feed_kbart.specs.Files.{holdings_of}
@@ -12,12 +13,13 @@ use Rattle.feed_model.specs.History.{History}
 use Rattle.feed_releases.specs.Actives.{ActiveValue, IsReported, names_of, ReportAlike}
 use Rattle.feed_releases.proofs.ByPackage.{listed_alike}
 use Rattle.feed_resolver_reply.specs.Replies.{ResponseValue}
+use Rattle.feed_resolver.specs.Answers.{Dated, dated}
 use Rattle.feed_resolver.specs.Replies.{IsResponse, IsResponseAt, response_to}
 use Rattle.feed_resolver_tag.specs.Tags.{SiteValue}
 use Rattle.feed_resolver.specs.Laws.{KeepsPublished}
 
 -- two replies to the same bytes
-pub one_reply : (site : SiteValue) (keeps : Bool) (bytes body : List ℕ) (actives : List ActiveValue) (response reply : ResponseValue) → IsResponse site bytes body keeps actives response
+pub one_reply : (site : SiteValue) (keeps : Bool) (bytes body : List ℕ) (actives : Dated) (response reply : ResponseValue) → IsResponse site bytes body keeps actives response
     → IsResponse site bytes body keeps actives reply → response ≡ reply
 one_reply site keeps bytes body actives response reply (inl (head, begins, is)) (inl (other, also, same)) =
     let heads : head ≡ other = (request_unique bytes head other begins.rest also.rest begins.reads also.reads).0 in
@@ -53,9 +55,10 @@ same_actives file h k one other first second here there names =
     given_by_names file one (recursion_from_All _ one (published file h one first here)) ∙ ap (from_names file) names
     ∙ sym (given_by_names file other (recursion_from_All _ other (published file k other second there)))
 
-pub same_bytes : (file : Name → List ℕ) (site : SiteValue) (h k : History) (bytes body : List ℕ) (keeps : Bool) (response reply : ResponseValue) → KeepsPublished file h → KeepsPublished file k
-    → ReportAlike h k → IsResponseAt site h bytes body keeps response → IsResponseAt site k bytes body keeps reply → response ≡ reply
-same_bytes file site h k bytes body keeps response reply first second alike (one, here, is) (other, there, also) =
+pub same_bytes : (file : Name → List ℕ) (site : SiteValue) (today : TodayValue) (h k : History) (bytes body : List ℕ) (keeps : Bool) (response reply : ResponseValue)
+    → KeepsPublished file h → KeepsPublished file k → ReportAlike h k → IsResponseAt site today h bytes body keeps response → IsResponseAt site today k bytes body keeps reply → response ≡ reply
+same_bytes file site today h k bytes body keeps response reply first second alike (one, here, is) (other, there, also) =
     let names : names_of one ≡ names_of other = listed_alike h k one other alike here there in
     let same : one ≡ other = same_actives file h k one other first second here.each there.each names in
-    one_reply site keeps bytes body other response reply (subst (λ (actives : List ActiveValue). IsResponse site bytes body keeps actives response) same is) also
+    one_reply site keeps bytes body (dated today other) response reply
+    (subst (λ (actives : List ActiveValue). IsResponse site bytes body keeps (dated today actives) response) same is) also

@@ -6,6 +6,7 @@ use Rattle.feed_releases.specs.Actives.{ActiveValue, names_of}
 use Rattle.feed_releases.proofs.ByPackage.{listed_alike}
 use Rattle.feed_resolver_hits.specs.Hits.{name_text}
 use Rattle.feed_resolver_tag.specs.Tags.{entity_tag, inputs_of}
+use Rattle.feed_resolver.specs.Answers.{dated}
 use Rattle.feed_resolver.specs.Replies.{IsResponse}
 use Rattle.feed_resolver.specs.Status.{active_line}
 use Rattle.feed_resolver.specs.TagLaws.{SameReleasesSameTag, SameInputsSameBytes}
@@ -21,11 +22,11 @@ lines_of_names [] = refl
 lines_of_names (active ∷ actives) = ap (λ t. name_line active.name ++ t) (lines_of_names actives)
 
 pub same_tag : SameReleasesSameTag
-same_tag site h k one other representation alike here there =
-    ap (λ t. entity_tag (inputs_of site t representation))
+same_tag site today h k one other representation alike here there =
+    ap (λ t. entity_tag (inputs_of site today t representation))
     (lines_of_names one ∙ ap (flat_map name_line) (listed_alike h k one other alike here there) ∙ sym (lines_of_names other))
 
 pub same_inputs : SameInputsSameBytes
-same_inputs file site h k one other bytes body keeps response reply first second here there names is also =
-    one_reply site keeps bytes body other response reply
-    (subst (λ (actives : List ActiveValue). IsResponse site bytes body keeps actives response) (same_actives file h k one other first second here there names) is) also
+same_inputs file site today h k one other bytes body keeps response reply first second here there names is also =
+    one_reply site keeps bytes body (dated today other) response reply
+    (subst (λ (actives : List ActiveValue). IsResponse site bytes body keeps (dated today actives) response) (same_actives file h k one other first second here there names) is) also

@@ -7,7 +7,6 @@ use Rattle.std.proofs.lemmas.List.Elements.{All-nil}
 use Rattle.httparse.specs.Grammar.{RequestHead, AllPass, is_uri_byte}
 use Rattle.feed_http_heads.specs.Targets.{origin_form}
 use Rattle.feed_http_heads.specs.Requests.{lacks_host}
-use Rattle.feed_releases.specs.Actives.{ActiveValue}
 use Rattle.feed_resolver_request.specs.Conditions.{has_tag}
 use Rattle.feed_resolver_request.specs.Representations.{representation_of}
 use Rattle.feed_resolver_request.specs.Targets.{query_in}
@@ -18,13 +17,14 @@ use Rattle.feed_resolver_reply.specs.Messages.{IsLocation}
 use Rattle.feed_resolver_reply.specs.declared.status.Status.{Status}
 use Rattle.feed_resolver_tag.specs.Tags.{SiteValue}
 use Rattle.feed_resolver_tag.proofs.Visible.{tag_visible}
+use Rattle.feed_resolver.specs.Answers.{Dated}
 use Rattle.feed_resolver.specs.Answered.{IsGoodIn, IsAnsweredTo}
 use Rattle.feed_resolver.specs.Replies.{reply_to, tagged_reply}
 use Rattle.feed_resolver.specs.Validators.{is_tagged, tag_of, validated_by, validated, preflight_status}
 use Rattle.feed_resolver.proofs.Locations.{IsLocated, nowhere, reply_located}
 
 -- the tag of what a request asks for, whether it has one or not
-abbrev pub tag_asked : SiteValue → List ActiveValue → RequestHead → List ℕ
+abbrev pub tag_asked : SiteValue → Dated → RequestHead → List ℕ
 tag_asked site actives head = tag_of site actives (representation_of (query_in (origin_form head.target)) head)
 
 -- a reply by whether its target has a tag, and by the status of a preflight
@@ -32,7 +32,7 @@ abbrev pub final_by : Bool → Option Status → RequestHead → List ℕ → �
 final_by tagged preflight head tag max_age reply = option_map_or (λ code. reply_with code Text [])
     preflight (if tagged then validated_by (has_tag (if tagged then tag else []) head) (if tagged then tag else []) max_age reply else reply)
 
-pub tagged_cases : (site : SiteValue) (head : RequestHead) (body : List ℕ) (actives : List ActiveValue)
+pub tagged_cases : (site : SiteValue) (head : RequestHead) (body : List ℕ) (actives : Dated)
     → tagged_reply site head body actives ≡ final_by (is_tagged head) (preflight_status head) head (tag_asked site actives head) site.max_age (reply_to head body actives)
 tagged_cases site head body actives = refl
 
@@ -65,7 +65,7 @@ final_statable tagged (Some code) head tag max_age reply located passes = (nowhe
 final_statable true None head tag max_age reply located passes = validated_statable (is_good reply.status) (has_tag tag head) tag max_age reply located passes
 final_statable false None head tag max_age reply located passes = (located.0, subst (λ t. AllPass is_uri_byte t) (sym located.1) untagged)
 
-pub tagged_statable : (site : SiteValue) (head : RequestHead) (body : List ℕ) (actives : List ActiveValue) → IsStatable (tagged_reply site head body actives)
+pub tagged_statable : (site : SiteValue) (head : RequestHead) (body : List ℕ) (actives : Dated) → IsStatable (tagged_reply site head body actives)
 tagged_statable site head body actives = final_statable (is_tagged head) (preflight_status head) head (tag_asked site actives head) site.max_age (reply_to head body actives)
     (reply_located head body actives) (tag_visible _)
 
@@ -88,7 +88,7 @@ final_young tagged (Some code) head tag max_age reply located young = lit< tt
 final_young true None head tag max_age reply located young = validated_young (is_good reply.status) (has_tag tag head) tag max_age reply located young
 final_young false None head tag max_age reply located young = plain_young reply located
 
-pub tagged_young : (site : SiteValue) (head : RequestHead) (body : List ℕ) (actives : List ActiveValue) → site.max_age < 2 ^ 64 → IsYoung (tagged_reply site head body actives)
+pub tagged_young : (site : SiteValue) (head : RequestHead) (body : List ℕ) (actives : Dated) → site.max_age < 2 ^ 64 → IsYoung (tagged_reply site head body actives)
 tagged_young site head body actives young = final_young (is_tagged head) (preflight_status head) head (tag_asked site actives head) site.max_age (reply_to head body actives)
     (reply_located head body actives) young
 
@@ -104,7 +104,7 @@ known_reply true false tag max_age representation reply is names good = absurd (
 known_reply false has tag max_age representation reply is names good = absurd (cc)
 
 -- the same for a request with a tag, from what the code looks at
-pub known_validated : (head : RequestHead) (tag : List ℕ) (max_age : ℕ) (body : List ℕ) (actives : List ActiveValue) (reply : ReplyValue) (representation : Representation) (is has : Bool)
+pub known_validated : (head : RequestHead) (tag : List ℕ) (max_age : ℕ) (body : List ℕ) (actives : Dated) (reply : ReplyValue) (representation : Representation) (is has : Bool)
     → is ≡ true → is ≡ is_tagged head → has ≡ true → has ≡ has_tag tag head → representation ≡ representation_of (query_in (origin_form head.target)) head
     → (is_tagged head ≡ true → IsAnsweredTo head actives) → reply ≡ not_modified tag max_age representation
     → reply ≡ validated head tag max_age (reply_to head body actives)

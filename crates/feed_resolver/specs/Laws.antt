@@ -3,6 +3,7 @@ use Rattle.std.specs.Prelude.{◌≡◌, ℕ, Bool, List, Some, map}
 use Rattle.std.specs.List.{flat_map}
 use Rattle.json.specs.Json.{document, array}
 use Rattle.json.specs.Value.{items_of}
+use Rattle.feed_embargo.specs.Today.{TodayValue}
 use Rattle.feed_names.specs.ReleaseName.{Name, text_of}
 use Rattle.feed_answer.specs.Answers.{answer_of, answer_text}
 use Rattle.feed_answer.specs.QueryValue.{QueryValue}
@@ -10,7 +11,7 @@ use Rattle.feed_model.specs.History.{History, IsFile}
 use Rattle.feed_releases.specs.Actives.{ActiveValue, ReportAlike}
 use Rattle.feed_resolver_request.specs.declared.representation.Representation.TheVariants.{Text, Json}
 use Rattle.feed_resolver_reply.specs.Replies.{ResponseValue}
-use Rattle.feed_resolver.specs.Answers.{hits_among, tally_among, answers_body}
+use Rattle.feed_resolver.specs.Answers.{Dated, hits_among, tally_among, answers_body}
 use Rattle.feed_resolver.specs.Status.{status_body, active_value}
 use Rattle.feed_resolver_tag.specs.Tags.{SiteValue}
 use Rattle.feed_resolver.specs.Replies.{IsResponseAt}
@@ -21,22 +22,25 @@ use Rattle.feed_resolver_request.specs.FetchRequests.{FetchPolicyValue}
 abbrev pub KeepsPublished : (Name → List ℕ) → History → Type 0
 KeepsPublished file h = (n : Name) (text : List ℕ) → IsFile h n text → text ≡ file n
 
--- two nodes of the same version and settings that report the same releases, and have stored their published files, give
--- each request the same bytes
+-- two nodes of the same version, settings and site file that report the same releases, and have stored their published
+-- files, give each request of a day the same bytes
 abbrev pub SameReleasesSameBytes : Type 0
 SameReleasesSameBytes =
-    (file : Name → List ℕ) (site : SiteValue) (h k : History) (bytes body : List ℕ) (keeps : Bool) (response reply : ResponseValue)
+    (file : Name → List ℕ) (site : SiteValue) (today : TodayValue) (h k : History) (bytes body : List ℕ) (keeps : Bool)
+    (response reply : ResponseValue)
     → KeepsPublished file h → KeepsPublished file k → ReportAlike h k
-    → IsResponseAt site h bytes body keeps response → IsResponseAt site k bytes body keeps reply → response ≡ reply
+    → IsResponseAt site today h bytes body keeps response → IsResponseAt site today k bytes body keeps reply → response ≡ reply
 
--- two nodes of the same version and settings that report the same releases, and have stored the published files, reply with
--- the same bytes to each request that does not ask them to fetch, whatever their tokens are and whether they are fetching
+-- two nodes of the same version, settings and site file that report the same releases, and have stored the published files,
+-- reply on a day with the same bytes to each request that does not ask them to fetch, whatever their tokens are and whether
+-- they are fetching
 abbrev pub SameReleasesSameNodeBytes : Type 0
 SameReleasesSameNodeBytes =
-    (file : Name → List ℕ) (site : SiteValue) (h k : History) (policy other : FetchPolicyValue) (bytes body : List ℕ) (keeps : Bool)
-    (response reply : ResponseValue)
+    (file : Name → List ℕ) (site : SiteValue) (today : TodayValue) (h k : History) (policy other : FetchPolicyValue)
+    (bytes body : List ℕ) (keeps : Bool) (response reply : ResponseValue)
     → KeepsPublished file h → KeepsPublished file k → ReportAlike h k → AsksForNoFetch bytes
-    → IsNodeReplyAt site policy h bytes body keeps response → IsNodeReplyAt site other k bytes body keeps reply → response ≡ reply
+    → IsNodeReplyAt site policy today h bytes body keeps response → IsNodeReplyAt site other today k bytes body keeps reply
+    → response ≡ reply
 
 -- the active releases in JSON are, by its grammar (RFC 8259), an array with one object for each, in their order
 abbrev pub StatusIsJson : Type 0
@@ -49,5 +53,5 @@ written_answer query active = answer_text (text_of active.name) (answer_of activ
 -- a reply that shows all hits has, as text, the answers that `Answer::write` prints
 abbrev pub WholeTextIsWritten : Type 0
 WholeTextIsWritten =
-    (text : List ℕ) (query : QueryValue) (actives : List ActiveValue) → (tally_among query actives).shown ≡ hits_among query actives
-    → answers_body Text text query actives ≡ flat_map (written_answer query) actives
+    (text : List ℕ) (query : QueryValue) (actives : Dated) → (tally_among query actives).shown ≡ hits_among query actives
+    → answers_body Text text query actives ≡ flat_map (written_answer query) actives.actives

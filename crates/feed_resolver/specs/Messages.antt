@@ -5,7 +5,6 @@ use Rattle.feed_http_heads.specs.Fields.{values_named}
 use Rattle.feed_http_heads.specs.Requests.{lacks_host, is_get, is_head}
 use Rattle.feed_http_heads.specs.Targets.{origin_form}
 use Rattle.feed_answer.specs.QueryValue.{QueryValue}
-use Rattle.feed_releases.specs.Actives.{ActiveValue}
 use Rattle.feed_resolver_request.specs.FoundRequests.{BeginsWith, HasNoHead}
 use Rattle.feed_resolver_request.specs.Targets.{resource_of, path_in, query_in}
 use Rattle.feed_resolver_request.specs.declared.target.Resource.TheVariants.{Go}
@@ -15,7 +14,7 @@ use Rattle.feed_resolver_hits.specs.Asked.{asked_of}
 use Rattle.feed_resolver_hits.specs.Ranks.{IsBestLink}
 use Rattle.feed_resolver_hits.specs.Tallies.{counted}
 use Rattle.feed_resolver_tag.specs.Tags.{SiteValue}
-use Rattle.feed_resolver.specs.Answers.{hits_among}
+use Rattle.feed_resolver.specs.Answers.{Dated, hits_among}
 use Rattle.feed_resolver_request.specs.Forms.{form_of}
 use Rattle.feed_resolver.specs.Replies.{IsResponse, reply_to, has_coded_body, path_of, target_query}
 
@@ -45,7 +44,7 @@ IsHeadAlone response other = (head : ResponseHead) × (body : List ℕ) × IsMes
 -- the reply to a HEAD is the head of the reply to the same request with the method GET
 abbrev pub HeadIsHeadOfGet : Type 0
 HeadIsHeadOfGet =
-    (site : SiteValue) (keeps : Bool) (actives : List ActiveValue) (bytes asked body other : List ℕ) (head : RequestHead) (response reply : ResponseValue)
+    (site : SiteValue) (keeps : Bool) (actives : Dated) (bytes asked body other : List ℕ) (head : RequestHead) (response reply : ResponseValue)
     → is_head head ≡ true → BeginsWith bytes head → BeginsWith asked (as_get head)
     → IsResponse site bytes body keeps actives response → IsResponse site asked other keeps actives reply
     → reply.body_length < 2 ^ 64 → site.max_age < 2 ^ 64
@@ -68,7 +67,7 @@ GoesTo (Some url) response =
 -- `/go` redirects to a hit above which no hit ranks, of those that are counted, that may be linked to
 abbrev pub GoesToBest : Type 0
 GoesToBest =
-    (site : SiteValue) (keeps : Bool) (actives : List ActiveValue) (bytes body : List ℕ) (head : RequestHead) (query : QueryValue) (response : ResponseValue)
+    (site : SiteValue) (keeps : Bool) (actives : Dated) (bytes body : List ℕ) (head : RequestHead) (query : QueryValue) (response : ResponseValue)
     → BeginsWith bytes head → AsksToGo head query → IsResponse site bytes body keeps actives response
     → (best : Option (List ℕ)) × IsBestLink (counted (hits_among query actives)) best × GoesTo best response
 
@@ -85,7 +84,7 @@ pub record IsGetOfForm (post get : RequestHead) (body : List ℕ) : Type 0 where
 -- alone (RFC 9110, section 13.1.2)
 abbrev pub FormIsGet : Type 0
 FormIsGet =
-    (site : SiteValue) (keeps : Bool) (actives : List ActiveValue) (bytes body other : List ℕ) (post get : RequestHead) (n : ℕ)
+    (site : SiteValue) (keeps : Bool) (actives : Dated) (bytes body other : List ℕ) (post get : RequestHead) (n : ℕ)
     (response : ResponseValue)
     → form_of post ≡ Some (Ok n) → IsGetOfForm post get body → BeginsWith bytes post
     → IsResponse site bytes body keeps actives response

@@ -4,6 +4,7 @@ use Rattle.std.specs.Option.{option_map_or}
 use Rattle.httparse.specs.Grammar.{RequestHead}
 use Rattle.feed_http_heads.specs.Options.{SaysWhetherItKeeps}
 use Rattle.feed_http_heads.specs.Requests.{lacks_host}
+use Rattle.feed_embargo.specs.Today.{TodayValue}
 use Rattle.feed_model.specs.History.{History}
 use Rattle.feed_releases.specs.Actives.{ActiveValue, AreReported}
 use Rattle.feed_resolver_request.specs.FoundRequests.{BeginsWith}
@@ -13,30 +14,32 @@ use Rattle.feed_resolver_reply.specs.FetchReplies.{fetch_reply}
 use Rattle.feed_http_heads.specs.Requests.{is_head}
 use Rattle.feed_resolver_reply.specs.Messages.{IsMessageFor, BeginsStream}
 use Rattle.feed_resolver_tag.specs.Tags.{SiteValue}
+use Rattle.feed_resolver.specs.Answers.{Dated, dated}
 use Rattle.feed_resolver.specs.Replies.{response_to, IsReplyToNone}
 use Rattle.feed_resolver.specs.Messages.{IsMessageTo}
 
 -- the reply to a request with this head and body: that to a fetch request, or else that of the resolver
-abbrev pub node_reply : SiteValue → FetchPolicyValue → Bool → List ActiveValue → RequestHead → List ℕ → ResponseValue
+abbrev pub node_reply : SiteValue → FetchPolicyValue → Bool → Dated → RequestHead → List ℕ → ResponseValue
 node_reply site policy keeps actives head body =
     if lacks_host head then response_to site keeps head body actives
     else option_map_or (λ name. fetch_reply policy keeps head) (name_to_fetch head) (response_to site keeps head body actives)
 
 -- the reply to the bytes of a request and to its body, after which the connection is kept or not
-abbrev pub IsNodeReply : SiteValue → FetchPolicyValue → List ℕ → List ℕ → Bool → List ActiveValue → ResponseValue → Type 0
+abbrev pub IsNodeReply : SiteValue → FetchPolicyValue → List ℕ → List ℕ → Bool → Dated → ResponseValue → Type 0
 IsNodeReply site policy bytes body keeps actives response =
     ((head : RequestHead) × BeginsWith bytes head × (response ≡ node_reply site policy keeps actives head body))
     ⊎ IsReplyToNone bytes keeps response
 
 -- the reply has these bytes
-abbrev pub IsNodeReplyText : SiteValue → FetchPolicyValue → List ℕ → List ℕ → Bool → List ActiveValue → List ℕ → Type 0
+abbrev pub IsNodeReplyText : SiteValue → FetchPolicyValue → List ℕ → List ℕ → Bool → Dated → List ℕ → Type 0
 IsNodeReplyText site policy bytes body keeps actives text =
     (response : ResponseValue) × IsNodeReply site policy bytes body keeps actives response × (text ≡ response.bytes)
 
--- the reply from exactly the releases that a feed with this history reports, with the holdings of their complete files
-abbrev pub IsNodeReplyAt : SiteValue → FetchPolicyValue → History → List ℕ → List ℕ → Bool → ResponseValue → Type 0
-IsNodeReplyAt site policy h bytes body keeps response =
-    (actives : List ActiveValue) × AreReported h actives × IsNodeReply site policy bytes body keeps actives response
+-- the reply on a day from exactly the releases that a feed with this history reports, with the holdings of their complete
+-- files
+abbrev pub IsNodeReplyAt : SiteValue → FetchPolicyValue → TodayValue → History → List ℕ → List ℕ → Bool → ResponseValue → Type 0
+IsNodeReplyAt site policy today h bytes body keeps response =
+    (actives : List ActiveValue) × AreReported h actives × IsNodeReply site policy bytes body keeps (dated today actives) response
 
 -- the bytes do not ask the node to fetch: they begin with no head, or the head lacks a host, or is not a POST of `/feed/`
 abbrev pub AsksForNoFetch : List ℕ → Type 0

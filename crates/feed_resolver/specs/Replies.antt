@@ -1,4 +1,4 @@
--- The reply to a request, as a function of its head and of the active releases.
+-- The reply to a request, as a function of its head, of the active releases and of the day.
 use Rattle.std.specs.Prelude.{◌≡◌, ◌⊎◌, ℕ, ◌||◌, not, Bool, if◌then◌else◌, List, codes, Option, Some, None, Result, Ok, Err, position, take, drop}
 use Rattle.std.specs.Option.{option_map_or}
 use Rattle.httparse.specs.Grammar.{RequestHead}
@@ -7,6 +7,7 @@ use Rattle.feed_http_heads.specs.Targets.{origin_form}
 use Rattle.feed_http_heads.specs.Requests.{lacks_host, is_get, is_head}
 use Rattle.feed_answer.specs.QueryValue.{QueryValue}
 use Rattle.feed_openurl.specs.declared.fault.Refusal.{Refusal}
+use Rattle.feed_embargo.specs.Today.{TodayValue}
 use Rattle.feed_model.specs.History.{History}
 use Rattle.feed_releases.specs.Actives.{ActiveValue, AreReported}
 use Rattle.feed_resolver_request.specs.FoundRequests.{BeginsWith, HasNoHead}
@@ -25,7 +26,7 @@ use Rattle.feed_resolver_reply.specs.declared.status.Status.TheVariants as statu
 use Rattle.feed_resolver_hits.specs.Asked.{asked_of}
 use Rattle.feed_resolver_hits.specs.Asks.{ask_of}
 use Rattle.feed_resolver_hits.specs.QueryRefusals.{unasked_reply}
-use Rattle.feed_resolver.specs.Answers.{is_of, tally_among, answers_body}
+use Rattle.feed_resolver.specs.Answers.{Dated, dated, is_of, tally_among, answers_body}
 use Rattle.feed_resolver_tag.specs.Tags.{SiteValue}
 use Rattle.feed_resolver.specs.Status.{status_body, home_page}
 use Rattle.feed_resolver.specs.Validators.{final_reply, tag_to}
@@ -36,38 +37,38 @@ query_reply code representation text reply (Ok query) = reply query
 query_reply code representation text reply (Err reason) = unasked_reply code representation (ask_of text) reason
 
 -- the hits in the given releases
-abbrev pub hits_reply : Status → Representation → List ℕ → List ActiveValue → QueryValue → ReplyValue
+abbrev pub hits_reply : Status → Representation → List ℕ → Dated → QueryValue → ReplyValue
 hits_reply code representation text actives query = reply_with code representation (answers_body representation text query actives)
 
 -- the answer of all packages, by package
-abbrev pub resolve_reply : Representation → List ℕ → List ActiveValue → ReplyValue
+abbrev pub resolve_reply : Representation → List ℕ → Dated → ReplyValue
 resolve_reply representation text actives =
     query_reply status.Good representation text (hits_reply status.Good representation text actives) (asked_of text)
 
 -- the answer of the release at a place
-abbrev pub resolve_reply_at : Representation → List ℕ → List ActiveValue → ℕ → ReplyValue
-resolve_reply_at representation text actives place = resolve_reply representation text (take 1 (drop place actives))
+abbrev pub resolve_reply_at : Representation → List ℕ → Dated → ℕ → ReplyValue
+resolve_reply_at representation text actives place = resolve_reply representation text (dated actives.today (take 1 (drop place actives.actives)))
 
 -- the answer of one package, if it has an active release
-abbrev pub package_reply : Representation → List ℕ → List ℕ → List ActiveValue → ReplyValue
+abbrev pub package_reply : Representation → List ℕ → List ℕ → Dated → ReplyValue
 package_reply representation stem text actives = option_map_or (resolve_reply_at representation text actives)
-    (position (is_of stem) actives) (refusal status.NotFound representation (codes "NoRelease"))
+    (position (is_of stem) actives.actives) (refusal status.NotFound representation (codes "NoRelease"))
 
 -- a redirect to the best hit of those that are counted, or the answer if none has a link
-abbrev pub redirect_reply : Representation → List ℕ → List ActiveValue → QueryValue → ReplyValue
+abbrev pub redirect_reply : Representation → List ℕ → Dated → QueryValue → ReplyValue
 redirect_reply representation text actives query = option_map_or redirect_to
     (tally_among query actives).best (hits_reply status.NotFound representation text actives query)
 
 -- the same for what a text asks
-abbrev pub go_reply : Representation → List ℕ → List ActiveValue → ReplyValue
+abbrev pub go_reply : Representation → List ℕ → Dated → ReplyValue
 go_reply representation text actives =
     query_reply status.NotFound representation text (redirect_reply representation text actives) (asked_of text)
 
 -- the reply by the kind of path, to this query
-abbrev pub resource_reply : Resource → RequestHead → List ℕ → List ℕ → List ActiveValue → ReplyValue
-resource_reply resource.Home head path query actives = reply_with status.Good Html (home_page actives)
+abbrev pub resource_reply : Resource → RequestHead → List ℕ → List ℕ → Dated → ReplyValue
+resource_reply resource.Home head path query actives = reply_with status.Good Html (home_page actives.actives)
 resource_reply resource.Status head path query actives =
-    reply_with status.Good (representation_of query head) (status_body (representation_of query head) actives)
+    reply_with status.Good (representation_of query head) (status_body (representation_of query head) actives.actives)
 resource_reply resource.Resolve head path query actives = resolve_reply (representation_of query head) query actives
 resource_reply resource.Package head path query actives = package_reply (representation_of query head) (package_in path) query actives
 resource_reply resource.Go head path query actives = go_reply (accepted_representation head) query actives
@@ -81,7 +82,7 @@ abbrev pub target_query : RequestHead → List ℕ
 target_query head = query_in (origin_form head.target)
 
 -- the reply to a query of the target's path
-abbrev pub target_reply : RequestHead → List ℕ → List ActiveValue → ReplyValue
+abbrev pub target_reply : RequestHead → List ℕ → Dated → ReplyValue
 target_reply head query actives = resource_reply (resource_of (path_of head)) head (path_of head) query actives
 
 -- a body of unknown length follows
@@ -94,7 +95,7 @@ method_refusal resource =
     if takes_form resource then refusal status.GetOrPost Text (codes "Method") else refusal status.MethodNotAllowed Text (codes "Method")
 
 -- the reply to a request that submits no form: the first case that holds
-abbrev pub plain_reply : RequestHead → List ActiveValue → ReplyValue
+abbrev pub plain_reply : RequestHead → Dated → ReplyValue
 plain_reply head actives =
     if is_unsupported_method head.method then method_refusal (resource_of (path_of head))
     else (if not (is_get head || is_head head) then refusal status.NotImplemented Text (codes "Method")
@@ -110,30 +111,30 @@ form_refusal fault.TooLong = refusal status.ContentTooLarge Text (codes "TooLong
 form_refusal fault.MediaType = refusal status.UnsupportedMediaType Text (codes "Type")
 
 -- the reply to a form: the body is the query
-abbrev pub form_reply : RequestHead → List ℕ → List ActiveValue → Result ℕ FormFault → ReplyValue
+abbrev pub form_reply : RequestHead → List ℕ → Dated → Result ℕ FormFault → ReplyValue
 form_reply head body actives (Ok n) = target_reply head body actives
 form_reply head body actives (Err fault) = form_refusal fault
 
 -- the reply to a request that submits a form, or none
-abbrev pub reply_by_form : RequestHead → List ℕ → List ActiveValue → Option (Result ℕ FormFault) → ReplyValue
+abbrev pub reply_by_form : RequestHead → List ℕ → Dated → Option (Result ℕ FormFault) → ReplyValue
 reply_by_form head body actives None = plain_reply head actives
 reply_by_form head body actives (Some form) = form_reply head body actives form
 
 -- the reply to a request with this head and this body, which only a form has
-abbrev pub reply_to : RequestHead → List ℕ → List ActiveValue → ReplyValue
+abbrev pub reply_to : RequestHead → List ℕ → Dated → ReplyValue
 reply_to head body actives =
     if lacks_host head then refusal status.BadRequest Text (codes "NoHost") else reply_by_form head body actives (form_of head)
 
 -- the reply with its tag: a preflight has its own, and a client that has the representation gets no body
-abbrev pub tagged_reply : SiteValue → RequestHead → List ℕ → List ActiveValue → ReplyValue
+abbrev pub tagged_reply : SiteValue → RequestHead → List ℕ → Dated → ReplyValue
 tagged_reply site head body actives = final_reply head (tag_to site actives head) site.max_age (reply_to head body actives)
 
 -- the same with its bytes, on a connection that is kept or not
-abbrev pub response_to : SiteValue → Bool → RequestHead → List ℕ → List ActiveValue → ResponseValue
+abbrev pub response_to : SiteValue → Bool → RequestHead → List ℕ → Dated → ResponseValue
 response_to site keeps head body actives = response_of keeps (is_head head) (tagged_reply site head body actives)
 
 -- the reply to the head at the front of the bytes, within the limits
-abbrev pub IsReplyToHead : SiteValue → List ℕ → List ℕ → Bool → List ActiveValue → ResponseValue → Type 0
+abbrev pub IsReplyToHead : SiteValue → List ℕ → List ℕ → Bool → Dated → ResponseValue → Type 0
 IsReplyToHead site bytes body keeps actives response =
     (head : RequestHead) × BeginsWith bytes head × (response ≡ response_to site keeps head body actives)
 
@@ -142,11 +143,12 @@ abbrev pub IsReplyToNone : List ℕ → Bool → ResponseValue → Type 0
 IsReplyToNone bytes keeps response = HasNoHead bytes × (response ≡ bad_head_response keeps)
 
 -- the reply to the bytes of a request and to its body, after which the connection is kept or not
-abbrev pub IsResponse : SiteValue → List ℕ → List ℕ → Bool → List ActiveValue → ResponseValue → Type 0
+abbrev pub IsResponse : SiteValue → List ℕ → List ℕ → Bool → Dated → ResponseValue → Type 0
 IsResponse site bytes body keeps actives response =
     IsReplyToHead site bytes body keeps actives response ⊎ IsReplyToNone bytes keeps response
 
--- the reply from exactly the releases that a feed with this history reports, with the holdings of their complete files
-abbrev pub IsResponseAt : SiteValue → History → List ℕ → List ℕ → Bool → ResponseValue → Type 0
-IsResponseAt site h bytes body keeps response =
-    (actives : List ActiveValue) × AreReported h actives × IsResponse site bytes body keeps actives response
+-- the reply on a day from exactly the releases that a feed with this history reports, with the holdings of their complete
+-- files
+abbrev pub IsResponseAt : SiteValue → TodayValue → History → List ℕ → List ℕ → Bool → ResponseValue → Type 0
+IsResponseAt site today h bytes body keeps response =
+    (actives : List ActiveValue) × AreReported h actives × IsResponse site bytes body keeps (dated today actives) response

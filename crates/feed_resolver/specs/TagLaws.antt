@@ -3,6 +3,7 @@ use Rattle.std.specs.Prelude.{◌≡◌, ◌&&◌, not, ℕ, Bool, true, if◌th
 use Rattle.std.specs.List.{filter}
 use Rattle.std.specs.Str.{str_eq_ignore_ascii_case}
 use Rattle.httparse.specs.Grammar.{RequestHead}
+use Rattle.feed_embargo.specs.Today.{TodayValue}
 use Rattle.feed_names.specs.ReleaseName.{Name}
 use Rattle.feed_model.specs.History.{History}
 use Rattle.feed_releases.specs.Actives.{ActiveValue, IsReported, AreReported, ReportAlike, names_of}
@@ -10,25 +11,28 @@ use Rattle.feed_resolver_request.specs.Conditions.{has_tag}
 use Rattle.feed_resolver_request.specs.declared.representation.Representation.{Representation}
 use Rattle.feed_resolver_reply.specs.Replies.{ReplyValue, ResponseValue, is_good, not_modified}
 use Rattle.feed_resolver_tag.specs.Tags.{SiteValue}
+use Rattle.feed_resolver.specs.Answers.{Dated, dated}
 use Rattle.feed_resolver.specs.Laws.{KeepsPublished}
 use Rattle.feed_resolver.specs.Replies.{IsResponse, tagged_reply}
 use Rattle.feed_resolver.specs.Validators.{is_tagged, tag_of, tag_to}
 
--- two nodes of the same version and settings that report the same releases have the same tags
+-- two nodes of the same version, settings and site file that report the same releases have the same tags on a day
 abbrev pub SameReleasesSameTag : Type 0
 SameReleasesSameTag =
-    (site : SiteValue) (h k : History) (one other : List ActiveValue) (representation : Representation)
-    → ReportAlike h k → AreReported h one → AreReported k other → tag_of site one representation ≡ tag_of site other representation
+    (site : SiteValue) (today : TodayValue) (h k : History) (one other : List ActiveValue) (representation : Representation)
+    → ReportAlike h k → AreReported h one → AreReported k other
+    → tag_of site (dated today one) representation ≡ tag_of site (dated today other) representation
 
--- what a tag is made of determines the reply: from published files of the same names, two nodes of the same version and
--- settings give each request the same bytes
+-- what a tag is made of determines the reply: from published files of the same names, two nodes of the same version,
+-- settings and site file give each request of a day the same bytes
 abbrev pub SameInputsSameBytes : Type 0
 SameInputsSameBytes =
-    (file : Name → List ℕ) (site : SiteValue) (h k : History) (one other : List ActiveValue) (bytes body : List ℕ) (keeps : Bool)
-    (response reply : ResponseValue)
+    (file : Name → List ℕ) (site : SiteValue) (today : TodayValue) (h k : History) (one other : List ActiveValue)
+    (bytes body : List ℕ) (keeps : Bool) (response reply : ResponseValue)
     → KeepsPublished file h → KeepsPublished file k → All (IsReported h) one → All (IsReported k) other
     → names_of one ≡ names_of other
-    → IsResponse site bytes body keeps one response → IsResponse site bytes body keeps other reply → response ≡ reply
+    → IsResponse site bytes body keeps (dated today one) response → IsResponse site bytes body keeps (dated today other) reply
+    → response ≡ reply
 
 -- the same request without its If-None-Match fields
 abbrev pub without_condition : RequestHead → RequestHead
@@ -49,5 +53,5 @@ conditional has reply = if has && is_good reply.status then not_modified reply.t
 
 -- a 304 replaces a 200 alone, and has the tag that the 200 would have had
 abbrev pub NotModifiedHasTagOfGood : Type 0
-NotModifiedHasTagOfGood = (site : SiteValue) (head : RequestHead) (body : List ℕ) (actives : List ActiveValue) → is_tagged head ≡ true
+NotModifiedHasTagOfGood = (site : SiteValue) (head : RequestHead) (body : List ℕ) (actives : Dated) → is_tagged head ≡ true
     → tagged_reply site head body actives ≡ conditional (has_tag (tag_to site actives head) head) (tagged_reply site (without_condition head) body actives)

@@ -7,7 +7,6 @@ use Rattle.std.specs.Str.{bytes_eq}
 use Rattle.httparse.specs.Grammar.{RequestHead}
 use Rattle.feed_http_heads.specs.Targets.{origin_form}
 use Rattle.feed_http_heads.specs.Requests.{lacks_host, is_get, is_head}
-use Rattle.feed_releases.specs.Actives.{ActiveValue}
 use Rattle.feed_resolver_request.specs.Conditions.{has_tag}
 use Rattle.feed_resolver_request.specs.Representations.{representation_of}
 use Rattle.feed_resolver_request.specs.Targets.{path_in, query_in, resource_of}
@@ -19,6 +18,7 @@ use Rattle.feed_resolver_reply.specs.Replies.{ReplyValue, reply_with, with_tag, 
 use Rattle.feed_resolver_reply.specs.declared.status.Status.{Status}
 use Rattle.feed_resolver_reply.specs.declared.status.Status.TheVariants as status
 use Rattle.feed_resolver_tag.specs.Tags.{SiteValue, entity_tag, inputs_of}
+use Rattle.feed_resolver.specs.Answers.{Dated}
 use Rattle.feed_resolver.specs.Status.{active_line}
 
 -- the resource has entity tags
@@ -38,11 +38,12 @@ is_tagged head = (is_get head || is_head head) && has_validator (resource_in hea
 
 -- the tag of a representation of all resources that have one: the names of the active releases, a line for each, stand for
 -- what their files hold
-abbrev pub tag_of : SiteValue → List ActiveValue → Representation → List ℕ
-tag_of site actives representation = entity_tag (inputs_of site (flat_map active_line actives) representation)
+abbrev pub tag_of : SiteValue → Dated → Representation → List ℕ
+tag_of site actives representation =
+    entity_tag (inputs_of site actives.today (flat_map active_line actives.actives) representation)
 
 -- the tag of what a request asks for, if it has one
-abbrev pub tag_to : SiteValue → List ActiveValue → RequestHead → List ℕ
+abbrev pub tag_to : SiteValue → Dated → RequestHead → List ℕ
 tag_to site actives head =
     if is_tagged head then tag_of site actives (representation_of (query_in (origin_form head.target)) head) else []
 

@@ -1,10 +1,15 @@
-//! Counts the hits of a query in the active releases, and writes the body that lists them.
+//! Counts the hits of a query in the active releases on a day, and writes the body that lists them.
 ghost use Rattle.std.specs.Prelude.{◌≡◌, ◌++◌, IfOk, OnOk};
 ghost use Rattle.feed_resolver_hits.specs.Tallying.{no_hits, with_hits};
-ghost use Rattle.feed_resolver.specs.Answers.{release_hits, hits_among, answers_body};
+ghost use Rattle.feed_resolver.specs.Answers.{release_hits, hits_among, answers_body, dated, tally_among};
+ghost use Rattle.feed_resolver.specs.Answers.{tally_body};
+ghost use Rattle.feed_resolver_hits.specs.Asks.{ask_of};
+ghost use Rattle.feed_resolver_hits.specs.Tallying.{tally_from};
+ghost use Rattle.std.specs.Prelude.{false, true};
 ghost use Rattle.feed_resolver.specs.AnswerTexts.{texts_from};
 
 use feed_answer::Query;
+use feed_embargo::Today;
 use feed_releases::ActiveRelease;
 use feed_resolver_hits::{Ask, Tally, put_answer_json, put_hits_page, put_release};
 use feed_resolver_request::Representation;
@@ -13,25 +18,27 @@ use std::alloc::{AllocError, Global};
 fn add_release<'a>(
     alloc: Global,
     tally: &mut Tally<'a>,
+    today: &Today,
     active: &ActiveRelease<'a>,
     query: &Query,
 ) -> Result<(), AllocError>
-    ensures { OnOk result (tally.new ≡ with_hits tally.old (release_hits query.now active.now)) }
+    ensures { OnOk result (tally.new ≡ with_hits tally.old (release_hits today.now query.now active.now)) }
 {
-    tally.add_release(alloc, active.name(), active.holdings(), query)
+    tally.add_release(alloc, today, active.name(), active.holdings(), query)
 }
 
 /// Returns the tally of the hits of a query in the releases, in their order.
 pub(crate) fn tally_among<'a>(
     alloc: Global,
+    today: &Today,
     actives: &[ActiveRelease<'a>],
     query: &Query,
 ) -> Result<Tally<'a>, AllocError>
-    ensures { IfOk result (λ tally. tally ≡ with_hits no_hits (hits_among query.now actives.now)) }
+    ensures { IfOk result (λ tally. tally ≡ with_hits no_hits (hits_among query.now (dated today.now actives.now))) }
 {
     let mut tally = Tally::new(alloc);
     for active in actives {
-        add_release(alloc, &mut tally, active, query)?;
+        add_release(alloc, &mut tally, today, active, query)?;
     }
     Ok(tally)
 }
@@ -39,10 +46,12 @@ pub(crate) fn tally_among<'a>(
 fn put_texts(
     alloc: Global,
     out: &mut Vec<u8>,
+    today: &Today,
     actives: &[ActiveRelease<'_>],
     query: &Query,
 ) -> Result<(), AllocError>
-    ensures { OnOk result (out.new.items ≡ out.old.items ++ texts_from query.now no_hits actives.now) }
+    ensures { OnOk result (out.new.items
+        ≡ out.old.items ++ texts_from today.now query.now no_hits actives.now) }
 {
     let mut tally = Tally::new(alloc);
     for active in actives {
@@ -50,6 +59,7 @@ fn put_texts(
             alloc,
             out,
             &mut tally,
+            today,
             active.name(),
             active.holdings(),
             query,
@@ -62,60 +72,66 @@ fn put_text(
     alloc: Global,
     out: &mut Vec<u8>,
     text: &[u8],
+    today: &Today,
     actives: &[ActiveRelease<'_>],
     query: &Query,
 ) -> Result<(), AllocError>
     ensures { OnOk result (out.new.items
-        ≡ out.old.items ++ answers_body Representation.Text text.now query.now actives.now) }
+        ≡ out.old.items ++ answers_body Representation.Text text.now query.now (dated today.now actives.now)) }
 {
-    put_texts(alloc, out, actives, query)
+    put_texts(alloc, out, today, actives, query)
 }
 
-fn put_json(
-    alloc: Global,
+fn put_tally(
     out: &mut Vec<u8>,
-    text: &[u8],
-    actives: &[ActiveRelease<'_>],
-    query: &Query,
+    is_page: bool,
+    ask: &Ask,
+    tally: &Tally<'_>,
 ) -> Result<(), AllocError>
-    ensures { OnOk result (out.new.items
-        ≡ out.old.items ++ answers_body Representation.Json text.now query.now actives.now) }
+    ensures { OnOk result (out.new.items ≡ out.old.items ++ tally_body is_page ask.now (tally_from tally.now)) }
 {
-    let ask = Ask::read(alloc, text)?;
-    let tally = tally_among(alloc, actives, query)?;
-    put_answer_json(out, &ask, b"", &tally)
+    if is_page {
+        put_hits_page(out, ask, tally)
+    } else {
+        put_answer_json(out, ask, b"", tally)
+    }
 }
 
-fn put_page(
+// Writes what a query asks, and the hits of highest rank, as a page or as JSON.
+fn put_ranked(
     alloc: Global,
     out: &mut Vec<u8>,
+    is_page: bool,
     text: &[u8],
+    today: &Today,
     actives: &[ActiveRelease<'_>],
     query: &Query,
 ) -> Result<(), AllocError>
-    ensures { OnOk result (out.new.items
-        ≡ out.old.items ++ answers_body Representation.Html text.now query.now actives.now) }
+    ensures { OnOk result (out.new.items ≡ out.old.items
+        ++ tally_body is_page (ask_of text.now) (tally_among query.now (dated today.now actives.now))) }
 {
     let ask = Ask::read(alloc, text)?;
-    let tally = tally_among(alloc, actives, query)?;
-    put_hits_page(out, &ask, &tally)
+    let tally = tally_among(alloc, today, actives, query)?;
+    put_tally(out, is_page, &ask, &tally)
 }
 
 /// Writes the answer of the given releases to a query, which is what the text asks for.
+#[tactic(auto, unfolding(crate::specs::Answers::answers_body))]
 pub(crate) fn put_answer(
     alloc: Global,
     out: &mut Vec<u8>,
     representation: Representation,
     text: &[u8],
+    today: &Today,
     actives: &[ActiveRelease<'_>],
     query: &Query,
 ) -> Result<(), AllocError>
     ensures { OnOk result (out.new.items
-        ≡ out.old.items ++ answers_body representation text.now query.now actives.now) }
+        ≡ out.old.items ++ answers_body representation text.now query.now (dated today.now actives.now)) }
 {
     match representation {
-        Representation::Text => put_text(alloc, out, text, actives, query),
-        Representation::Json => put_json(alloc, out, text, actives, query),
-        Representation::Html => put_page(alloc, out, text, actives, query),
+        Representation::Text => put_text(alloc, out, text, today, actives, query),
+        Representation::Json => put_ranked(alloc, out, false, text, today, actives, query),
+        Representation::Html => put_ranked(alloc, out, true, text, today, actives, query),
     }
 }

@@ -4,7 +4,8 @@ ghost use Rattle.feed_resolver.specs.Laws.{WholeTextIsWritten};
 ghost use Rattle.feed_resolver.specs.Messages.{FormIsGet, GoesToBest, HeadIsHeadOfGet};
 ghost use Rattle.feed_resolver.specs.TagLaws.{SameReleasesSameTag, SameInputsSameBytes, NotModifiedHasTagOfGood};
 
-/// Two nodes that report the same releases, and have stored their published files, give each request the same bytes.
+/// Two nodes that report the same releases, and have stored their published files, give each request of a day the same
+/// bytes.
 pub fn same_releases_same_bytes()
     ensures { SameReleasesSameBytes }
 {}
@@ -39,13 +40,14 @@ pub fn form_is_get()
     ensures { FormIsGet }
 {}
 
-/// Two nodes of the same version and settings that report the same releases have the same entity tags.
+/// Two nodes of the same version, settings and site file that report the same releases have the same entity tags on a
+/// day.
 pub fn same_releases_same_tag()
     ensures { SameReleasesSameTag }
 {}
 
-/// What an entity tag is made of determines the reply: its bytes are the same where the version, the settings and the
-/// names of the releases are, if these are published files.
+/// What an entity tag is made of determines the reply: its bytes are the same where the version, the settings, the site
+/// file, the day and the names of the releases are, if these are published files.
 pub fn same_inputs_same_bytes()
     ensures { SameInputsSameBytes }
 {}

@@ -6,10 +6,12 @@ ghost use Rattle.feed_model.specs.History.{History};
 ghost use Rattle.feed_model.specs.Content.{IsContent};
 ghost use Rattle.feed_releases.specs.Actives.{actives_of};
 ghost use Rattle.feed_releases.specs.Feeds.{recorded, releases_of};
+ghost use Rattle.feed_resolver.specs.Answers.{dated};
 ghost use Rattle.feed_resolver.specs.NodeReplies.{node_reply, IsNodeReply, IsNodeReplyText};
 ghost use Rattle.feed_resolver.specs.NodeReplies.{IsNodeReplyAt, IsNodeMessage, IsNodeMessageFor, SaysOfConnection};
 
 use crate::responses::response_to;
+use feed_embargo::Today;
 use feed_http_heads::{FIELD_LIMIT, Request};
 use feed_keep::Keep;
 use feed_releases::{ActiveRelease, Feed};
@@ -23,6 +25,7 @@ fn node_reply(
     alloc: Global,
     policy: &FetchPolicy<'_>,
     site: &Site,
+    today: &Today,
     request: &Request<'_>,
     body: &[u8],
     keeps: bool,
@@ -30,16 +33,16 @@ fn node_reply(
 ) -> Result<Response, AllocError>
     requires { IsInBuffer request.now }
     ensures value { IfOk result (λ response. (head : RequestHead) → HasHead request.now head
-        → response ≡ node_reply site.now policy.now keeps actives.now head body.now) }
+        → response ≡ node_reply site.now policy.now keeps (dated today.now actives.now) head body.now) }
     ensures message { IfOk result (λ response. (head : RequestHead) → HasHead request.now head
         → IsNodeMessageFor keeps head response) }
 {
     if request.lacks_host() {
-        return response_to(alloc, request, body, keeps, site, actives);
+        return response_to(alloc, request, body, keeps, site, today, actives);
     }
     match name_to_fetch(request) {
         Some(_) => fetch_reply(alloc, policy, keeps, request),
-        None => response_to(alloc, request, body, keeps, site, actives),
+        None => response_to(alloc, request, body, keeps, site, today, actives),
     }
 }
 
@@ -50,18 +53,19 @@ fn node_reply_with(
     keeps: bool,
     policy: &FetchPolicy<'_>,
     site: &Site,
+    today: &Today,
     actives: &[ActiveRelease<'_>],
 ) -> Result<Response, AllocError>
     ensures value { IfOk result (λ response.
-        IsNodeReply site.now policy.now bytes.now body.now keeps actives.now response) }
+        IsNodeReply site.now policy.now bytes.now body.now keeps (dated today.now actives.now) response) }
     ensures text { IfOk result (λ response.
-        IsNodeReplyText site.now policy.now bytes.now body.now keeps actives.now response.bytes) }
+        IsNodeReplyText site.now policy.now bytes.now body.now keeps (dated today.now actives.now) response.bytes) }
     ensures message { IfOk result (λ response. IsNodeMessage bytes.now keeps response) }
     ensures says { IfOk result (λ response. SaysOfConnection bytes.now keeps response) }
 {
     let mut headers = [EMPTY_HEADER_SPAN; FIELD_LIMIT];
     match find_request(bytes, &mut headers) {
-        Some(request) => node_reply(alloc, policy, site, &request, body, keeps, actives),
+        Some(request) => node_reply(alloc, policy, site, today, &request, body, keeps, actives),
         None => bad_head_response(alloc, keeps),
     }
 }
@@ -79,21 +83,23 @@ pub fn respond_as_node<K: Keep + Drop>(
     keeps: bool,
     policy: &FetchPolicy<'_>,
     site: &Site,
+    today: &Today,
     feed: &Feed<K>,
 ) -> Result<Response, AllocError>
     ensures value { IfOk result (λ response.
-        IsNodeReply site.now policy.now bytes.now body.now keeps (actives_of (releases_of feed.now)) response) }
+        IsNodeReply site.now policy.now bytes.now body.now keeps
+        (dated today.now (actives_of (releases_of feed.now))) response) }
     ensures text { IfOk result (λ response.
-        IsNodeReplyText site.now policy.now bytes.now body.now keeps (actives_of (releases_of feed.now))
-        response.bytes) }
+        IsNodeReplyText site.now policy.now bytes.now body.now keeps
+        (dated today.now (actives_of (releases_of feed.now))) response.bytes) }
 
     // For every history that the feed may have: from the releases that it reports, with the holdings of their complete
     // files.
     ensures reported { IfOk result (λ response. (h : History) → IsContent (recorded feed.now) h
-        → IsNodeReplyAt site.now policy.now h bytes.now body.now keeps response) }
+        → IsNodeReplyAt site.now policy.now today.now h bytes.now body.now keeps response) }
     ensures message { IfOk result (λ response. IsNodeMessage bytes.now keeps response) }
     ensures says { IfOk result (λ response. SaysOfConnection bytes.now keeps response) }
 {
     let actives = feed.actives()?;
-    node_reply_with(alloc, bytes, body, keeps, policy, site, &actives)
+    node_reply_with(alloc, bytes, body, keeps, policy, site, today, &actives)
 }

@@ -13,7 +13,7 @@ ghost use Rattle.feed_resolver_hits.specs.QueryRefusals.{unasked_reply};
 ghost use Rattle.feed_resolver_reply.specs.Replies.{reply_with};
 ghost use Rattle.feed_resolver_reply.specs.Messages.{IsMessageFor};
 ghost use Rattle.feed_resolver_reply.specs.declared.status.Status.TheVariants as status;
-ghost use Rattle.feed_resolver.specs.Answers.{is_of, tally_among};
+ghost use Rattle.feed_resolver.specs.Answers.{dated, is_of, tally_among};
 ghost use Rattle.feed_resolver.specs.Replies.{IsResponse, IsResponseAt, hits_reply, go_reply, resolve_reply};
 ghost use Rattle.feed_resolver.specs.Replies.{package_reply, redirect_reply, resource_reply, target_reply};
 ghost use Rattle.feed_resolver.specs.Replies.{method_refusal, plain_reply, form_refusal, form_reply};
@@ -26,6 +26,7 @@ use crate::answers::{put_answer, tally_among};
 use crate::status::{put_home_page, put_status};
 use crate::validators::{preflight_status, tag_to, validated_reply};
 use feed_answer::Query;
+use feed_embargo::Today;
 use feed_http_heads::{FIELD_LIMIT, Request, origin_form};
 use feed_keep::Keep;
 use feed_openurl::Refusal;
@@ -46,13 +47,23 @@ fn hits_reply(
     status: Status,
     representation: Representation,
     text: &[u8],
+    today: &Today,
     actives: &[ActiveRelease<'_>],
     query: &Query,
 ) -> Result<Reply<'static>, AllocError>
-    ensures { IfOk result (λ reply. reply ≡ hits_reply status representation text.now actives.now query.now) }
+    ensures { IfOk result (λ reply. reply
+        ≡ hits_reply status representation text.now (dated today.now actives.now) query.now) }
 {
     let mut body = Vec::new(alloc);
-    put_answer(alloc, &mut body, representation, text, actives, query)?;
+    put_answer(
+        alloc,
+        &mut body,
+        representation,
+        text,
+        today,
+        actives,
+        query,
+    )?;
     Ok(Reply::new(status, representation, body))
 }
 
@@ -73,12 +84,21 @@ fn resolve_reply(
     alloc: Global,
     representation: Representation,
     text: &[u8],
+    today: &Today,
     actives: &[ActiveRelease<'_>],
 ) -> Result<Reply<'static>, AllocError>
-    ensures { IfOk result (λ reply. reply ≡ resolve_reply representation text.now actives.now) }
+    ensures { IfOk result (λ reply. reply ≡ resolve_reply representation text.now (dated today.now actives.now)) }
 {
     match read_query(alloc, text)? {
-        Ok(query) => hits_reply(alloc, Status::Good, representation, text, actives, &query),
+        Ok(query) => hits_reply(
+            alloc,
+            Status::Good,
+            representation,
+            text,
+            today,
+            actives,
+            &query,
+        ),
         Err(reason) => unasked_reply(alloc, Status::Good, representation, text, reason),
     }
 }
@@ -96,24 +116,35 @@ fn package_reply(
     representation: Representation,
     package: &[u8],
     text: &[u8],
+    today: &Today,
     actives: &[ActiveRelease<'_>],
 ) -> Result<Reply<'static>, AllocError>
-    ensures { IfOk result (λ reply. reply ≡ package_reply representation «package».now text.now actives.now) }
+    ensures { IfOk result (λ reply. reply
+        ≡ package_reply representation «package».now text.now (dated today.now actives.now)) }
 {
     match position_of(actives, package) {
-        Some(place) => resolve_reply(alloc, representation, text, &actives[place..place + 1]),
+        Some(place) => {
+            resolve_reply(
+                alloc,
+                representation,
+                text,
+                today,
+                &actives[place..place + 1],
+            )
+        },
         None => refusal(alloc, Status::NotFound, representation, b"NoRelease"),
     }
 }
 
 fn best_link<'a>(
     alloc: Global,
+    today: &Today,
     actives: &[ActiveRelease<'a>],
     query: &Query,
 ) -> Result<Option<&'a [u8]>, AllocError>
-    ensures { IfOk result (λ best. option_copied best ≡ (tally_among query.now actives.now).best) }
+    ensures { IfOk result (λ best. option_copied best ≡ (tally_among query.now (dated today.now actives.now)).best) }
 {
-    let tally = tally_among(alloc, actives, query)?;
+    let tally = tally_among(alloc, today, actives, query)?;
     Ok(tally.best_link())
 }
 
@@ -121,18 +152,21 @@ fn redirect_reply<'a>(
     alloc: Global,
     representation: Representation,
     text: &[u8],
+    today: &Today,
     actives: &[ActiveRelease<'a>],
     query: &Query,
 ) -> Result<Reply<'a>, AllocError>
-    ensures { IfOk result (λ reply. reply ≡ redirect_reply representation text.now actives.now query.now) }
+    ensures { IfOk result (λ reply. reply
+        ≡ redirect_reply representation text.now (dated today.now actives.now) query.now) }
 {
-    match best_link(alloc, actives, query)? {
+    match best_link(alloc, today, actives, query)? {
         Some(url) => Ok(Reply::redirect(alloc, url)),
         None => hits_reply(
             alloc,
             Status::NotFound,
             representation,
             text,
+            today,
             actives,
             query,
         ),
@@ -143,12 +177,13 @@ fn go_reply<'a>(
     alloc: Global,
     representation: Representation,
     text: &[u8],
+    today: &Today,
     actives: &[ActiveRelease<'a>],
 ) -> Result<Reply<'a>, AllocError>
-    ensures { IfOk result (λ reply. reply ≡ go_reply representation text.now actives.now) }
+    ensures { IfOk result (λ reply. reply ≡ go_reply representation text.now (dated today.now actives.now)) }
 {
     match read_query(alloc, text)? {
-        Ok(query) => redirect_reply(alloc, representation, text, actives, &query),
+        Ok(query) => redirect_reply(alloc, representation, text, today, actives, &query),
         Err(reason) => unasked_reply(alloc, Status::NotFound, representation, text, reason),
     }
 }
@@ -180,20 +215,28 @@ fn resource_reply<'a>(
     request: &Request<'_>,
     path: &[u8],
     query: &[u8],
+    today: &Today,
     actives: &[ActiveRelease<'a>],
 ) -> Result<Reply<'a>, AllocError>
     requires { IsInBuffer request.now }
     ensures { IfOk result (λ reply. (head : RequestHead) → HasHead request.now head
-        → reply ≡ resource_reply (resource_of path.now) head path.now query.now actives.now) }
+        → reply ≡ resource_reply (resource_of path.now) head path.now query.now (dated today.now actives.now)) }
 {
     let representation = representation_of(query, &request.fields());
     let accepted = accepted_representation(&request.fields());
     match resource_of(path) {
         Resource::Home => home_reply(alloc, actives),
         Resource::Status => status_reply(alloc, representation, actives),
-        Resource::Resolve => resolve_reply(alloc, representation, query, actives),
-        Resource::Package => package_reply(alloc, representation, package_in(path), query, actives),
-        Resource::Go => go_reply(alloc, accepted, query, actives),
+        Resource::Resolve => resolve_reply(alloc, representation, query, today, actives),
+        Resource::Package => package_reply(
+            alloc,
+            representation,
+            package_in(path),
+            query,
+            today,
+            actives,
+        ),
+        Resource::Go => go_reply(alloc, accepted, query, today, actives),
         Resource::Unknown => refusal(alloc, Status::NotFound, accepted, b"NoTarget"),
     }
 }
@@ -202,14 +245,15 @@ fn target_reply<'a>(
     alloc: Global,
     request: &Request<'_>,
     query: &[u8],
+    today: &Today,
     actives: &[ActiveRelease<'a>],
 ) -> Result<Reply<'a>, AllocError>
     requires { IsInBuffer request.now }
     ensures { IfOk result (λ reply. (head : RequestHead) → HasHead request.now head
-        → reply ≡ target_reply head query.now actives.now) }
+        → reply ≡ target_reply head query.now (dated today.now actives.now)) }
 {
     let path = path_in(origin_form(request.target()));
-    resource_reply(alloc, request, path, query, actives)
+    resource_reply(alloc, request, path, query, today, actives)
 }
 
 fn method_refusal(alloc: Global, resource: Resource) -> Result<Reply<'static>, AllocError>
@@ -226,11 +270,12 @@ fn method_refusal(alloc: Global, resource: Resource) -> Result<Reply<'static>, A
 fn plain_reply<'a>(
     alloc: Global,
     request: &Request<'_>,
+    today: &Today,
     actives: &[ActiveRelease<'a>],
 ) -> Result<Reply<'a>, AllocError>
     requires { IsInBuffer request.now }
     ensures { IfOk result (λ reply. (head : RequestHead) → HasHead request.now head
-        → reply ≡ plain_reply head actives.now) }
+        → reply ≡ plain_reply head (dated today.now actives.now)) }
 {
     if is_unsupported_method(request.method()) {
         return method_refusal(alloc, resource_of(path_in(origin_form(request.target()))));
@@ -252,7 +297,7 @@ fn plain_reply<'a>(
         );
     }
     let query = query_in(origin_form(request.target()));
-    target_reply(alloc, request, query, actives)
+    target_reply(alloc, request, query, today, actives)
 }
 
 fn form_refusal(alloc: Global, fault: FormFault) -> Result<Reply<'static>, AllocError>
@@ -272,15 +317,16 @@ fn form_reply<'a>(
     alloc: Global,
     request: &Request<'_>,
     body: &[u8],
+    today: &Today,
     actives: &[ActiveRelease<'a>],
     form: Result<u64, FormFault>,
 ) -> Result<Reply<'a>, AllocError>
     requires { IsInBuffer request.now }
     ensures { IfOk result (λ reply. (head : RequestHead) → HasHead request.now head
-        → reply ≡ form_reply head body.now actives.now form) }
+        → reply ≡ form_reply head body.now (dated today.now actives.now) form) }
 {
     match form {
-        Ok(_) => target_reply(alloc, request, body, actives),
+        Ok(_) => target_reply(alloc, request, body, today, actives),
         Err(fault) => form_refusal(alloc, fault),
     }
 }
@@ -289,18 +335,19 @@ pub(crate) fn reply_to<'a>(
     alloc: Global,
     request: &Request<'_>,
     body: &[u8],
+    today: &Today,
     actives: &[ActiveRelease<'a>],
 ) -> Result<Reply<'a>, AllocError>
     requires { IsInBuffer request.now }
     ensures { IfOk result (λ reply. (head : RequestHead) → HasHead request.now head
-        → reply ≡ reply_to head body.now actives.now) }
+        → reply ≡ reply_to head body.now (dated today.now actives.now)) }
 {
     if request.lacks_host() {
         return refusal(alloc, Status::BadRequest, Representation::Text, b"NoHost");
     }
     match form_of(request) {
-        Some(form) => form_reply(alloc, request, body, actives, form),
-        None => plain_reply(alloc, request, actives),
+        Some(form) => form_reply(alloc, request, body, today, actives, form),
+        None => plain_reply(alloc, request, today, actives),
     }
 }
 
@@ -321,21 +368,22 @@ pub(crate) fn response_to(
     body: &[u8],
     keeps: bool,
     site: &Site,
+    today: &Today,
     actives: &[ActiveRelease<'_>],
 ) -> Result<Response, AllocError>
     requires { IsInBuffer request.now }
     ensures value { IfOk result (λ response. (head : RequestHead) → HasHead request.now head
-        → response ≡ response_to site.now keeps head body.now actives.now) }
+        → response ≡ response_to site.now keeps head body.now (dated today.now actives.now)) }
     ensures message { IfOk result (λ response. (head : RequestHead) → HasHead request.now head
         → IsMessageFor keeps (is_head head) response) }
 {
-    let tag = tag_to(alloc, request, site, actives)?;
-    let reply = validated_reply(alloc, request, body, tag, site.max_age(), actives)?;
+    let tag = tag_to(alloc, request, site, today, actives)?;
+    let reply = validated_reply(alloc, request, body, tag, site.max_age(), today, actives)?;
     let last = unless_preflight(alloc, request, reply);
     last.response(alloc, keeps, request.is_head())
 }
 
-/// Returns the reply to the head at the front of the bytes, from the given releases. The reply says
+/// Returns the reply to the head at the front of the bytes, from the given releases on a day. The reply says
 /// `Connection: close` exactly if the connection is not kept.
 pub fn respond_with(
     alloc: Global,
@@ -343,22 +391,24 @@ pub fn respond_with(
     body: &[u8],
     keeps: bool,
     site: &Site,
+    today: &Today,
     actives: &[ActiveRelease<'_>],
 ) -> Result<Response, AllocError>
-    ensures value { IfOk result (λ response. IsResponse site.now bytes.now body.now keeps actives.now response) }
+    ensures value { IfOk result (λ response.
+        IsResponse site.now bytes.now body.now keeps (dated today.now actives.now) response) }
     ensures message { IfOk result (λ response. IsMessageTo bytes.now keeps response) }
     ensures says { IfOk result (λ response. SaysWhetherItKeeps keeps response.bytes) }
 {
     let mut headers = [EMPTY_HEADER_SPAN; FIELD_LIMIT];
     match find_request(bytes, &mut headers) {
-        Some(request) => response_to(alloc, &request, body, keeps, site, actives),
+        Some(request) => response_to(alloc, &request, body, keeps, site, today, actives),
         None => bad_head_response(alloc, keeps),
     }
 }
 
 /// Returns the whole reply to a request, whose head is at the front of the bytes. Ignores what follows the head. The
 /// body is that of a form, whose length `form_length` returns, and is ignored for any other request. Uses only the
-/// active releases of the feed. Reads and writes nothing, and stores nothing. The reply says
+/// active releases of the feed, the site and the day. Reads and writes nothing, and stores nothing. The reply says
 /// `Connection: close` exactly if the connection is not kept for another request (RFC 9112, section 9.6).
 ///
 /// # Errors
@@ -370,15 +420,16 @@ pub fn respond<K: Keep + Drop>(
     body: &[u8],
     keeps: bool,
     site: &Site,
+    today: &Today,
     feed: &Feed<K>,
 ) -> Result<Response, AllocError>
     ensures value { IfOk result (λ response.
-        IsResponse site.now bytes.now body.now keeps (actives_of (releases_of feed.now)) response) }
+        IsResponse site.now bytes.now body.now keeps (dated today.now (actives_of (releases_of feed.now))) response) }
 
     // For every history that the feed may have: from the releases that it reports, with the holdings of their complete
     // files.
     ensures reported { IfOk result (λ response. (h : History) → IsContent (recorded feed.now) h
-        → IsResponseAt site.now h bytes.now body.now keeps response) }
+        → IsResponseAt site.now today.now h bytes.now body.now keeps response) }
 
     // A client parses it as one head, and the body of the length that this states; the reply to a HEAD has no body. The
     // head has one Connection field, `close`, or none if the connection is kept.
@@ -386,5 +437,5 @@ pub fn respond<K: Keep + Drop>(
     ensures says { IfOk result (λ response. SaysWhetherItKeeps keeps response.bytes) }
 {
     let actives = feed.actives()?;
-    respond_with(alloc, bytes, body, keeps, site, &actives)
+    respond_with(alloc, bytes, body, keeps, site, today, &actives)
 }

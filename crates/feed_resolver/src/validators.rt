@@ -10,11 +10,14 @@ ghost use Rattle.feed_resolver_tag.specs.Tags.{entity_tag, inputs_of};
 ghost use Rattle.feed_resolver.specs.Status.{active_line};
 ghost use Rattle.feed_resolver.specs.Validators.{has_validator, is_tagged, tag_of, tag_to, validated_by, validated};
 ghost use Rattle.feed_resolver.specs.Validators.{preflight_of, preflight_status};
+ghost use Rattle.feed_embargo.specs.Today.{TodayValue};
+ghost use Rattle.feed_resolver.specs.Answers.{dated};
 ghost use Rattle.feed_resolver.specs.Answered.{IsAnswered, IsAnsweredTo};
 ghost use Rattle.feed_resolver.specs.Replies.{reply_to};
 
 use crate::responses::{position_of, reply_to};
 use crate::status::put_lines;
+use feed_embargo::Today;
 use feed_http_heads::{Request, origin_form};
 use feed_keep::Keep;
 use feed_releases::{ActiveRelease, Feed};
@@ -56,45 +59,50 @@ fn lines_of(alloc: Global, actives: &[ActiveRelease<'_>]) -> Result<Vec<u8>, All
 fn tag_by(
     alloc: Global,
     site: &Site,
+    today: &Today,
     text: Vec<u8>,
     representation: Representation,
 ) -> Result<Vec<u8>, AllocError>
-    ensures { IfOk result (λ tag. tag.items ≡ entity_tag (inputs_of site.now text.items representation)) }
+    ensures { IfOk result (λ tag. tag.items
+        ≡ entity_tag (inputs_of site.now today.now text.items representation)) }
 {
     let kept = site.releases();
     if kept.text() == text.as_slice() {
-        return site.tag(alloc, kept, representation);
+        return site.tag(alloc, today, kept, representation);
     }
-    site.tag(alloc, &Digested::new(text), representation)
+    site.tag(alloc, today, &Digested::new(text), representation)
 }
 
 fn tag_of(
     alloc: Global,
     site: &Site,
+    today: &Today,
     actives: &[ActiveRelease<'_>],
     representation: Representation,
 ) -> Result<Vec<u8>, AllocError>
-    ensures { IfOk result (λ tag. tag.items ≡ tag_of site.now actives.now representation) }
+    ensures { IfOk result (λ tag. tag.items ≡ tag_of site.now (dated today.now actives.now) representation) }
 {
-    tag_by(alloc, site, lines_of(alloc, actives)?, representation)
+    let lines = lines_of(alloc, actives)?;
+    tag_by(alloc, site, today, lines, representation)
 }
 
-/// Returns the entity tag of what a request asks for. It is empty if there is none. Computes the digest of the active
-/// releases only if the site keeps that of others.
+/// Returns the entity tag of what a request asks for on a day. It is empty if there is none. Computes the digest of the
+/// active releases only if the site keeps that of others.
 pub(crate) fn tag_to(
     alloc: Global,
     request: &Request<'_>,
     site: &Site,
+    today: &Today,
     actives: &[ActiveRelease<'_>],
 ) -> Result<Vec<u8>, AllocError>
     requires { IsInBuffer request.now }
     ensures { IfOk result (λ tag. (head : RequestHead) → HasHead request.now head
-        → tag.items ≡ tag_to site.now actives.now head) }
+        → tag.items ≡ tag_to site.now (dated today.now actives.now) head) }
 {
     if is_tagged(request) {
         let query = query_in(origin_form(request.target()));
         let representation = representation_of(query, &request.fields());
-        tag_of(alloc, site, actives, representation)
+        tag_of(alloc, site, today, actives, representation)
     } else {
         Ok(Vec::new(alloc))
     }
@@ -116,7 +124,8 @@ fn is_answered(
     target: &[u8],
     actives: &[ActiveRelease<'_>],
 ) -> Result<bool, AllocError>
-    ensures { IfOk result (λ is. is ≡ true → IsAnswered target.now actives.now) }
+    ensures { IfOk result (λ is. is ≡ true
+        → (today : TodayValue) → IsAnswered target.now (dated today actives.now)) }
 {
     let path = path_in(target);
     match resource_of(path) {
@@ -141,7 +150,7 @@ fn is_answered_to(
 ) -> Result<bool, AllocError>
     requires { IsInBuffer request.now }
     ensures { IfOk result (λ is. is ≡ true → (head : RequestHead) → HasHead request.now head
-        → is_tagged head ≡ true → IsAnsweredTo head actives.now) }
+        → is_tagged head ≡ true → (today : TodayValue) → IsAnsweredTo head (dated today actives.now)) }
 {
     if request.lacks_host() || request.fields().has_field(b"transfer-encoding") {
         return Ok(false);
@@ -175,14 +184,15 @@ pub(crate) fn validated_reply<'a>(
     body: &[u8],
     tag: Vec<u8>,
     max_age: u32,
+    today: &Today,
     actives: &[ActiveRelease<'a>],
 ) -> Result<Reply<'a>, AllocError>
     requires { IsInBuffer request.now }
     ensures { IfOk result (λ reply. (head : RequestHead) → HasHead request.now head
-        → reply ≡ validated head tag.items max_age (reply_to head body.now actives.now)) }
+        → reply ≡ validated head tag.items max_age (reply_to head body.now (dated today.now actives.now))) }
 {
     if !is_tagged(request) {
-        return reply_to(alloc, request, body, actives);
+        return reply_to(alloc, request, body, today, actives);
     }
     let has = has_tag(&tag, &request.fields());
     if has && is_answered_to(alloc, request, actives)? {
@@ -190,7 +200,7 @@ pub(crate) fn validated_reply<'a>(
         let representation = representation_of(query, &request.fields());
         return Ok(Reply::not_modified(alloc, tag, max_age, representation));
     }
-    let reply = reply_to(alloc, request, body, actives)?;
+    let reply = reply_to(alloc, request, body, today, actives)?;
     Ok(validated_by(alloc, reply, has, tag, max_age))
 }
 

@@ -1,127 +1,95 @@
 -- The best link is that of the hit with the highest rank.
-use Rattle.std.proofs.Common.{◌≡◌, ◌<◌, ◌⊎◌, ℕ, zero, suc, List, [], ◌∷◌, Bool, true, false, Option, Some, None, refl, sym, ap, ◌∙◌, inl, inr, arith}
-use Rattle.std.specs.Prelude.{◌==◌, ◌&&◌, if◌then◌else◌, slice_get}
-use Rattle.std.proofs.lemmas.Bool.{false≢true, eqb-true}
-use borrow.Author.Tests.{eq-eqb}
-use Rattle.feed_answer.specs.declared.grade.Grade.{Grade}
-use Rattle.feed_answer.specs.declared.grade.Grade.TheVariants.{Inside, Overlap, Untested}
-use Rattle.feed_resolver_request.specs.Representations.{or_else}
+use Rattle.std.proofs.Common.{◌≡◌, ◌<◌, ◌≤◌, ℕ, zero, suc, List, [], ◌∷◌, Bool, true, false, Option, Some, None, refl, sym, ap, ◌∙◌, inl, inr, arith}
+use Rattle.std.specs.Prelude.{if◌then◌else◌, nat_lt, option_map, slice_get}
+use Rattle.std.proofs.lemmas.Bool.{cases_Bool, false≢true}
+use Rattle.std.proofs.lemmas.Bool.Decides.{nat_tests}
 use Rattle.feed_resolver_hits.specs.Links.{is_link}
-use Rattle.feed_resolver_hits.specs.Hits.{ReleaseHitValue, rank_of, is_linked, first_link, best_link}
-use Rattle.feed_resolver_hits.specs.Ranks.{is_better, IsLinkAt, RanksAbove, IsBestLink}
+use Rattle.feed_resolver_hits.specs.Hits.{ReleaseHitValue, LinkValue, link_with, link_url, link_of, better, highest_link, best_link, rank_of}
+use Rattle.feed_resolver_hits.specs.Ranks.{IsLinkAt, RanksAbove, IsBestLink}
 
-both : (a b : Bool) → (a && b) ≡ true → (a ≡ true) × (b ≡ true)
-both true b e = (refl, e)
-both false b e = absurd (cc)
-
--- the first hit of a rank that may be linked to
-record IsFirst (rank : ℕ) (hits : List ReleaseHitValue) (url : List ℕ) : Type 0 where
-  place : ℕ
-  found : ReleaseHitValue
-  at : IsLinkAt hits place found
-  ranked : rank_of found.hit.grade ≡ rank
-  same : url ≡ found.hit.row.url
-  before : (other_place : ℕ) (other : ReleaseHitValue) → IsLinkAt hits other_place other → rank_of other.hit.grade ≡ rank → ¬ (other_place < place)
-
--- none of a rank may be linked to
-abbrev HasNone : ℕ → List ReleaseHitValue → Type 0
-HasNone rank hits = (place : ℕ) (found : ReleaseHitValue) → IsLinkAt hits place found → rank_of found.hit.grade ≡ rank → ⊥
-
-abbrev IsFirstIf : ℕ → List ReleaseHitValue → Option (List ℕ) → Type 0
-IsFirstIf rank hits None = HasNone rank hits
-IsFirstIf rank hits (Some url) = IsFirst rank hits url
-
-linked : (rank : ℕ) (found : ReleaseHitValue) → rank_of found.hit.grade ≡ rank → is_link found.hit.row.url ≡ true → is_linked rank found ≡ true
-linked rank found ranked link = ap (λ r. r && is_link found.hit.row.url) (eq-eqb (rank_of found.hit.grade) rank ranked) ∙ link
+-- the link is that of a hit above which none ranks, or no hit may be linked to
+abbrev IsHighest : List ReleaseHitValue → Option LinkValue → Type 0
+IsHighest hits None = (place : ℕ) (found : ReleaseHitValue) → ¬ (IsLinkAt hits place found)
+IsHighest hits (Some link) =
+    (place : ℕ) × (best : ReleaseHitValue) × IsLinkAt hits place best × (link.url ≡ best.hit.row.url) × (link.rank ≡ rank_of best)
+    × ((other_place : ℕ) (other : ReleaseHitValue) → IsLinkAt hits other_place other → ¬ (RanksAbove other_place other place best))
 
 some_same : {A : Type 0} → (a b : A) → Some a ≡ Some b → a ≡ b
 some_same {A} a b e = cc
 
--- a hit that may not be linked to differs from every hit of the rank that may be
-not_linked : (rank : ℕ) (found other : ReleaseHitValue) → is_linked rank found ≡ false → Some found ≡ Some other → rank_of other.hit.grade ≡ rank
-    → is_link other.hit.row.url ≡ true → ⊥
-not_linked rank found other none at ranked link = false≢true (sym none ∙ ap (is_linked rank) (some_same found other at) ∙ linked rank other ranked link)
+-- what is known of the hit at the front of a list
+front_link : (found other : ReleaseHitValue) → Some found ≡ Some other → is_link other.hit.row.url ≡ true → is_link found.hit.row.url ≡ true
+front_link found other at link = ap (λ (f : ReleaseHitValue). is_link f.hit.row.url) (some_same found other at) ∙ link
 
--- the hits behind the first one
-behind : (rank : ℕ) (found : ReleaseHitValue) (more : List ReleaseHitValue) (url : List ℕ) → is_linked rank found ≡ false → IsFirst rank more url → IsFirst rank (found ∷ more) url
-behind rank found more url none first = record {
-  place = suc first.place;
-  found = first.found;
-  at = record { at = first.at.at; link = first.at.link };
-  ranked = first.ranked;
-  same = first.same;
-  before = earlier;
-}
+-- a hit in front that may not be linked to changes nothing
+behind : (found : ReleaseHitValue) (more : List ReleaseHitValue) (link : Option LinkValue) → is_link found.hit.row.url ≡ false → IsHighest more link → IsHighest (found ∷ more) link
+behind found more None none rest = others
   where
-    earlier : (other_place : ℕ) (other : ReleaseHitValue) → IsLinkAt (found ∷ more) other_place other → rank_of other.hit.grade ≡ rank → ¬ (other_place < suc first.place)
-    earlier zero other is ranked below = not_linked rank found other none is.at ranked is.link
-    earlier (suc place) other is ranked below = first.before place other (record { at = is.at; link = is.link }) ranked (omega arith)
-
-none_behind : (rank : ℕ) (found : ReleaseHitValue) (more : List ReleaseHitValue) → is_linked rank found ≡ false → HasNone rank more → HasNone rank (found ∷ more)
-none_behind rank found more none others zero other is ranked = not_linked rank found other none is.at ranked is.link
-none_behind rank found more none others (suc place) other is ranked = others place other (record { at = is.at; link = is.link }) ranked
-
-past : (rank : ℕ) (found : ReleaseHitValue) (more : List ReleaseHitValue) (o : Option (List ℕ)) → is_linked rank found ≡ false → IsFirstIf rank more o → IsFirstIf rank (found ∷ more) o
-past rank found more None none rest = none_behind rank found more none rest
-past rank found more (Some url) none rest = behind rank found more url none rest
-
-at_front : (rank : ℕ) (found : ReleaseHitValue) (more : List ReleaseHitValue) (b : Bool) → is_linked rank found ≡ b → IsFirstIf rank more (first_link rank more)
-    → IsFirstIf rank (found ∷ more) (if b then Some found.hit.row.url else first_link rank more)
-at_front rank found more true e rest = let parts = both (rank_of found.hit.grade == rank) (is_link found.hit.row.url) e in record {
-  place = zero;
-  found = found;
-  at = record { at = refl; link = parts.1 };
-  ranked = eqb-true (rank_of found.hit.grade) rank parts.0;
-  same = refl;
-  before = λ other_place other is ranked below. omega arith;
-}
-at_front rank found more false e rest = past rank found more (first_link rank more) e rest
-
-first_is : (rank : ℕ) (hits : List ReleaseHitValue) → IsFirstIf rank hits (first_link rank hits)
-first_is rank [] = λ place found is ranked. cc (is.at)
-first_is rank (found ∷ more) = at_front rank found more (is_linked rank found) refl (first_is rank more)
-
--- a better grade has a higher rank, and the same grade the same
-better_rank : (grade other : Grade) → is_better grade other ≡ true → rank_of other < rank_of grade
-better_rank Inside Inside e = absurd (cc)
-better_rank Inside Overlap e = omega arith
-better_rank Inside Untested e = omega arith
-better_rank Overlap Inside e = absurd (cc)
-better_rank Overlap Overlap e = absurd (cc)
-better_rank Overlap Untested e = omega arith
-better_rank Untested Inside e = absurd (cc)
-better_rank Untested Overlap e = absurd (cc)
-better_rank Untested Untested e = absurd (cc)
-
-by_rank : {A : Type 0} → (grade : Grade) → (rank_of grade ≡ 2 → A) → (rank_of grade ≡ 1 → A) → (rank_of grade ≡ 0 → A) → A
-by_rank {A} Inside two one none = two refl
-by_rank {A} Overlap two one none = one refl
-by_rank {A} Untested two one none = none refl
-
--- the first hit of a rank is best if no higher rank has one
-is_best : (rank : ℕ) (hits : List ReleaseHitValue) (url : List ℕ) → IsFirst rank hits url
-    → ((place : ℕ) (found : ReleaseHitValue) → IsLinkAt hits place found → ¬ (rank < rank_of found.hit.grade)) → IsBestLink hits (Some url)
-is_best rank hits url first none_higher = (first.place, first.found, first.at, first.same, highest)
+    others : (place : ℕ) (other : ReleaseHitValue) → ¬ (IsLinkAt (found ∷ more) place other)
+    others zero other is = false≢true (sym none ∙ front_link found other is.at is.link)
+    others (suc place) other is = rest place other (record { at = is.at; link = is.link })
+behind found more (Some link) none rest = (suc rest.0, rest.1, record { at = rest.2.at; link = rest.2.link }, rest.3, rest.4, highest)
   where
-    highest : (other_place : ℕ) (other : ReleaseHitValue) → IsLinkAt hits other_place other → ¬ (RanksAbove other_place other first.place first.found)
-    highest other_place other is (inl better) = none_higher other_place other is
-        (let above : rank_of first.found.hit.grade < rank_of other.hit.grade = better_rank other.hit.grade first.found.hit.grade better in omega (arith, first.ranked))
-    highest other_place other is (inr (same, earlier)) = first.before other_place other is (ap rank_of same ∙ first.ranked) earlier
+    highest : (place : ℕ) (other : ReleaseHitValue) → IsLinkAt (found ∷ more) place other → ¬ (RanksAbove place other (suc rest.0) rest.1)
+    highest zero other is above = false≢true (sym none ∙ front_link found other is.at is.link)
+    highest (suc place) other is (inl higher) = rest.5 place other (record { at = is.at; link = is.link }) (inl higher)
+    highest (suc place) other is (inr (same, earlier)) = rest.5 place other (record { at = is.at; link = is.link }) (inr (same, omega arith))
 
-none_above_two : (hits : List ReleaseHitValue) (place : ℕ) (found : ReleaseHitValue) → IsLinkAt hits place found → ¬ (2 < rank_of found.hit.grade)
-none_above_two hits place found is above = by_rank found.hit.grade (λ e. omega arith) (λ e. omega arith) (λ e. omega arith)
+-- one that may be linked to is chosen if none behind it has a higher rank
+in_front : (found : ReleaseHitValue) (more : List ReleaseHitValue) → is_link found.hit.row.url ≡ true
+    → ((place : ℕ) (other : ReleaseHitValue) → IsLinkAt more place other → rank_of other ≤ rank_of found)
+    → IsHighest (found ∷ more) (Some (link_with (rank_of found) found.hit.row.url))
+in_front found more is_linked lower = (zero, found, record { at = refl; link = is_linked }, refl, refl, highest)
+  where
+    highest : (place : ℕ) (other : ReleaseHitValue) → IsLinkAt (found ∷ more) place other → ¬ (RanksAbove place other zero found)
+    highest zero other is (inl higher) = let same : rank_of found ≡ rank_of other = ap rank_of (some_same found other is.at) in omega (arith, higher, same)
+    highest (suc place) other is (inl higher) = let low = lower place other (record { at = is.at; link = is.link }) in omega (arith, higher, low)
+    highest place other is (inr (same, earlier)) = omega (arith, earlier)
 
-none_above_one : (hits : List ReleaseHitValue) → HasNone 2 hits → (place : ℕ) (found : ReleaseHitValue) → IsLinkAt hits place found → ¬ (1 < rank_of found.hit.grade)
-none_above_one hits none place found is above = by_rank found.hit.grade (none place found is) (λ e. omega arith) (λ e. omega arith)
+-- otherwise that behind it is
+past : (found : ReleaseHitValue) (more : List ReleaseHitValue) (link : LinkValue) → rank_of found < link.rank → IsHighest more (Some link) → IsHighest (found ∷ more) (Some link)
+past found more link lower rest = (suc rest.0, rest.1, record { at = rest.2.at; link = rest.2.link }, rest.3, rest.4, highest)
+  where
+    highest : (place : ℕ) (other : ReleaseHitValue) → IsLinkAt (found ∷ more) place other → ¬ (RanksAbove place other (suc rest.0) rest.1)
+    highest zero other is (inl higher) =
+        let same : rank_of found ≡ rank_of other = ap rank_of (some_same found other is.at) in
+        let known = rest.4 in omega (arith, lower, higher, same, known)
+    highest zero other is (inr (equal, earlier)) =
+        let same : rank_of found ≡ rank_of other = ap rank_of (some_same found other is.at) in
+        let known = rest.4 in omega (arith, lower, equal, same, known)
+    highest (suc place) other is (inl higher) = rest.5 place other (record { at = is.at; link = is.link }) (inl higher)
+    highest (suc place) other is (inr (same, earlier)) = rest.5 place other (record { at = is.at; link = is.link }) (inr (same, omega arith))
 
-none_above_zero : (hits : List ReleaseHitValue) → HasNone 2 hits → HasNone 1 hits → (place : ℕ) (found : ReleaseHitValue) → IsLinkAt hits place found → ¬ (0 < rank_of found.hit.grade)
-none_above_zero hits none nor place found is above = by_rank found.hit.grade (none place found is) (nor place found is) (λ e. omega arith)
+-- no hit has a higher rank than the highest
+bounded : (hits : List ReleaseHitValue) (link : LinkValue) → IsHighest hits (Some link)
+    → (place : ℕ) (other : ReleaseHitValue) → IsLinkAt hits place other → rank_of other ≤ link.rank
+bounded hits link is place other at = elim (cases_Bool (nat_lt link.rank (rank_of other))) [
+  | inl higher ↦ let known = is.4 in absurd (is.5 place other at (inl (grind (arith, nat_tests))))
+  | inr lower ↦ grind (arith, nat_tests)
+]
 
-chosen : (hits : List ReleaseHitValue) (a b c : Option (List ℕ)) → IsFirstIf 2 hits a → IsFirstIf 1 hits b → IsFirstIf 0 hits c → IsBestLink hits (or_else a (or_else b c))
-chosen hits (Some url) b c first second third = is_best 2 hits url first (none_above_two hits)
-chosen hits None (Some url) c none second third = is_best 1 hits url second (none_above_one hits none)
-chosen hits None None (Some url) none nor third = is_best 0 hits url third (none_above_zero hits none nor)
-chosen hits None None None none nor last = λ place found is. by_rank found.hit.grade (none place found is) (nor place found is) (last place found is)
+linked : (found : ReleaseHitValue) (more : List ReleaseHitValue) (link : Option LinkValue) → is_link found.hit.row.url ≡ true → IsHighest more link
+    → IsHighest (found ∷ more) (better (Some (link_with (rank_of found) found.hit.row.url)) link)
+linked found more None is_linked rest = in_front found more is_linked (λ place other is. absurd (rest place other is))
+linked found more (Some link) is_linked rest = go (nat_lt (rank_of found) link.rank) refl
+  where
+    go : (b : Bool) → nat_lt (rank_of found) link.rank ≡ b → IsHighest (found ∷ more) (if b then Some link else Some (link_with (rank_of found) found.hit.row.url))
+    go true test = past found more link (grind (arith, nat_tests)) rest
+    go false test = in_front found more is_linked
+        (λ place other is. let low = bounded more link rest place other is in let high : link.rank ≤ rank_of found = grind (arith, nat_tests) in omega arith)
+
+highest_is : (hits : List ReleaseHitValue) → IsHighest hits (highest_link hits)
+highest_is [] = λ place found is. cc (is.at)
+highest_is (found ∷ more) = go (is_link found.hit.row.url) refl (highest_is more)
+  where
+    go : (b : Bool) → is_link found.hit.row.url ≡ b → IsHighest more (highest_link more)
+        → IsHighest (found ∷ more) (better (if b then Some (link_with (rank_of found) found.hit.row.url) else None) (highest_link more))
+    go true is rest = linked found more (highest_link more) is rest
+    go false is rest = behind found more (highest_link more) is rest
+
+told : (hits : List ReleaseHitValue) (link : Option LinkValue) → IsHighest hits link → IsBestLink hits (option_map link_url link)
+told hits None is = is
+told hits (Some link) is = (is.0, is.1, is.2, is.3, is.5)
 
 pub best_is : (hits : List ReleaseHitValue) → IsBestLink hits (best_link hits)
-best_is hits = chosen hits (first_link 2 hits) (first_link 1 hits) (first_link 0 hits) (first_is 2 hits) (first_is 1 hits) (first_is 0 hits)
+best_is hits = told hits (highest_link hits) (highest_is hits)

@@ -17,12 +17,13 @@ use Rattle.json.proofs.Printed.Decimals.{IsNumber-decimal}
 use Rattle.json.proofs.Printed.Numbers.{lex-number}
 use Rattle.feed_names.specs.ReleaseName.{Name}
 use Rattle.feed_kbart.specs.RowValue.{RowValue}
-use Rattle.feed_answer.specs.HitValue.{HitValue}
 use Rattle.feed_answer.specs.Grades.{grade_text}
 use Rattle.feed_resolver_reply.specs.JsonStrings.{json_string}
 use Rattle.feed_resolver_reply.proofs.JsonTexts.{Lexes, lexes_then, lexes_string, IsText, AreOf, text_of_lexemes, list_read, list_in, items_shallow}
+use Rattle.feed_resolver_hits.specs.EmbargoWords.{embargo_words}
 use Rattle.feed_resolver_hits.specs.Hits.{ReleaseHitValue, name_text}
-use Rattle.feed_resolver_hits.specs.HitsJson.{release_members, grade_members, row_members, hit_object, more_start, more_object, more_items, hits_json, hit_value, more_value, item_values}
+use Rattle.feed_resolver_hits.specs.HitsJson.{availability_text, release_members, grade_members, title_members, access_members, hit_object}
+use Rattle.feed_resolver_hits.specs.HitsJson.{more_start, more_object, more_items, hits_json, hit_value, more_value, item_values}
 use Rattle.feed_resolver_hits.specs.Laws.{HitsAreJson}
 
 -- a key, behind a comma, and a string
@@ -61,6 +62,10 @@ grade_key : Lexes (codes ",\"grade\":") (comma ∷ token (Token.string (codes "g
 unfolding lex content
 grade_key = record { lexed = λ rest. refl }
 
+availability_key : Lexes (codes ",\"availability\":") (comma ∷ token (Token.string (codes "availability")) ∷ colon ∷ [])
+unfolding lex content
+availability_key = record { lexed = λ rest. refl }
+
 -- a number, in front of a comma
 before_grade : (n : ℕ) (more : List ℕ) (ms : List Lexeme) → n < 2 ^ 64 → Lexes (codes ",\"grade\":" ++ more) ms
     → Lexes (decimal n ++ (codes ",\"grade\":" ++ more)) (token (Token.number (decimal n)) ∷ ms)
@@ -70,14 +75,16 @@ before_grade n more ms small after = record {
       ∙ ap (λ ls. token (Token.number (decimal n)) ∷ ls) (after.lexed rest);
 }
 
-abbrev grade_lexemes : HitValue → List Lexeme
-grade_lexemes hit =
-    comma ∷ token (Token.string (codes "record")) ∷ colon ∷ token (Token.number (decimal hit.row.number)) ∷ string_lexemes (codes "grade") (grade_text hit.grade) []
+abbrev grade_lexemes : ReleaseHitValue → List Lexeme
+grade_lexemes found =
+    comma ∷ token (Token.string (codes "record")) ∷ colon ∷ token (Token.number (decimal found.hit.row.number)) ∷ string_lexemes (codes "grade") (grade_text found.hit.grade)
+    (string_lexemes (codes "availability") (availability_text found.availability) [])
 
-lexes_grade : (hit : HitValue) → hit.row.number < 2 ^ 64 → Lexes (grade_members hit) (grade_lexemes hit)
+lexes_grade : (found : ReleaseHitValue) → found.hit.row.number < 2 ^ 64 → Lexes (grade_members found) (grade_lexemes found)
 unfolding grade_members
-lexes_grade hit small = lexes_then (codes ",\"record\":") _ _ _ record_key
-    (before_grade hit.row.number _ _ small (with_string (codes ",\"grade\":") (grade_text hit.grade) [] _ _ grade_key nothing))
+lexes_grade found small = lexes_then (codes ",\"record\":") _ _ _ record_key
+    (before_grade found.hit.row.number _ _ small (with_string (codes ",\"grade\":") (grade_text found.hit.grade) _ _ _ grade_key
+    (with_string (codes ",\"availability\":") (availability_text found.availability) [] _ _ availability_key nothing)))
 
 title_key : Lexes (codes ",\"title\":") (comma ∷ token (Token.string (codes "title")) ∷ colon ∷ [])
 unfolding lex content
@@ -99,6 +106,10 @@ embargo_key : Lexes (codes ",\"embargo\":") (comma ∷ token (Token.string (code
 unfolding lex content
 embargo_key = record { lexed = λ rest. refl }
 
+words_key : Lexes (codes ",\"embargo_words\":") (comma ∷ token (Token.string (codes "embargo_words")) ∷ colon ∷ [])
+unfolding lex content
+words_key = record { lexed = λ rest. refl }
+
 access_key : Lexes (codes ",\"access\":") (comma ∷ token (Token.string (codes "access")) ∷ colon ∷ [])
 unfolding lex content
 access_key = record { lexed = λ rest. refl }
@@ -107,28 +118,43 @@ last_brace : Lexes (codes "}" ++ []) (token Token.end_object ∷ [])
 unfolding lex
 last_brace = record { lexed = λ rest. refl }
 
-abbrev row_lexemes : RowValue → List Lexeme
-row_lexemes row =
-    string_lexemes (codes "title") row.title (string_lexemes (codes "url") row.url (string_lexemes (codes "title_id") row.title_id (string_lexemes (codes "depth") row.depth
-    (string_lexemes (codes "embargo") row.embargo (string_lexemes (codes "access") row.access (token Token.end_object ∷ []))))))
+abbrev title_lexemes : RowValue → List Lexeme
+title_lexemes row =
+    string_lexemes (codes "title") row.title (string_lexemes (codes "url") row.url (string_lexemes (codes "title_id") row.title_id
+    (string_lexemes (codes "depth") row.depth [])))
 
-lexes_row : (row : RowValue) → Lexes (row_members row) (row_lexemes row)
-unfolding row_members
-lexes_row row =
+lexes_title : (row : RowValue) → Lexes (title_members row) (title_lexemes row)
+unfolding title_members
+lexes_title row =
     with_string (codes ",\"title\":") row.title _ _ _ title_key
     (with_string (codes ",\"url\":") row.url _ _ _ url_key
     (with_string (codes ",\"title_id\":") row.title_id _ _ _ title_id_key
-    (with_string (codes ",\"depth\":") row.depth _ _ _ depth_key
-    (with_string (codes ",\"embargo\":") row.embargo _ _ _ embargo_key
-    (with_string (codes ",\"access\":") row.access _ _ _ access_key last_brace)))))
+    (with_string (codes ",\"depth\":") row.depth [] _ _ depth_key nothing)))
+
+abbrev access_lexemes : RowValue → List ℕ → List Lexeme
+access_lexemes row words =
+    string_lexemes (codes "embargo") row.embargo (string_lexemes (codes "embargo_words") words
+    (string_lexemes (codes "access") row.access (token Token.end_object ∷ [])))
+
+lexes_access : (row : RowValue) (words : List ℕ) → Lexes (access_members row words) (access_lexemes row words)
+unfolding access_members
+lexes_access row words =
+    with_string (codes ",\"embargo\":") row.embargo _ _ _ embargo_key
+    (with_string (codes ",\"embargo_words\":") words _ _ _ words_key
+    (with_string (codes ",\"access\":") row.access _ _ _ access_key last_brace))
 
 abbrev hit_lexemes : ReleaseHitValue → List Lexeme
-hit_lexemes found = release_lexemes found.name ++ (grade_lexemes found.hit ++ row_lexemes found.hit.row)
+hit_lexemes found =
+    release_lexemes found.name
+    ++ (grade_lexemes found ++ (title_lexemes found.hit.row ++ access_lexemes found.hit.row (embargo_words found.hit.row.embargo)))
 
 lexes_hit : (found : ReleaseHitValue) → found.hit.row.number < 2 ^ 64 → Lexes (hit_object found) (hit_lexemes found)
 unfolding hit_object
 lexes_hit found small = lexes_then (release_members found.name) _ (release_lexemes found.name) _ (lexes_release found.name)
-    (lexes_then (grade_members found.hit) (row_members found.hit.row) (grade_lexemes found.hit) (row_lexemes found.hit.row) (lexes_grade found.hit small) (lexes_row found.hit.row))
+    (lexes_then (grade_members found) _ (grade_lexemes found) _ (lexes_grade found small)
+    (lexes_then (title_members found.hit.row) (access_members found.hit.row (embargo_words found.hit.row.embargo)) (title_lexemes found.hit.row)
+    (access_lexemes found.hit.row (embargo_words found.hit.row.embargo)) (lexes_title found.hit.row)
+    (lexes_access found.hit.row (embargo_words found.hit.row.embargo))))
 
 hit_is : (found : ReleaseHitValue) → AreOf (hit_lexemes found) (hit_value found)
 unfolding punctuate
@@ -219,14 +245,14 @@ last_is false place n b =
     append-nil (comma_before (0 + place) ++ more_object n b) ∙ ap (λ p. comma_before p ++ more_object n b) same
 
 abbrev items_in : TallyValue → List Item
-items_in tally = hit_items tally.shown ++ last_items (left_out tally == 0) (left_out tally) tally.is_whole
+items_in tally = hit_items tally.top ++ last_items (left_out tally == 0) (left_out tally) tally.is_whole
 
 text_is : (tally : TallyValue) → json_list item_text (items_in tally) ≡ hits_json tally
 unfolding hits_json
 text_is tally = let last = last_items (left_out tally == 0) (left_out tally) tally.is_whole in
     ap (λ t. codes "[" ++ (t ++ codes "\n]\n"))
-    (items_are tally.shown 0 last ∙ ap (λ t. items_from hit_object 0 tally.shown ++ t) (last_is (left_out tally == 0) (length tally.shown) (left_out tally) tally.is_whole))
-    ∙ ap (λ t. codes "[" ++ t) (append_assoc (items_from hit_object 0 tally.shown) (more_items tally) (codes "\n]\n"))
+    (items_are tally.top 0 last ∙ ap (λ t. items_from hit_object 0 tally.top ++ t) (last_is (left_out tally == 0) (length tally.top) (left_out tally) tally.is_whole))
+    ∙ ap (λ t. codes "[" ++ t) (append_assoc (items_from hit_object 0 tally.top) (more_items tally) (codes "\n]\n"))
 
 values_of : (hits : List ReleaseHitValue) (none : Bool) (n : ℕ) (b : Bool)
     → map item_value (hit_items hits ++ last_items none n b) ≡ map hit_value hits ++ (if none then [] else more_value n b ∷ [])
@@ -255,29 +281,29 @@ flat_items : (hits : List ReleaseHitValue) (last : List Item) → AllByRecursion
 flat_items [] last rest = rest
 flat_items (found ∷ more) last rest = (lit≤ tt, flat_items more last rest)
 
-each_of : (tally : TallyValue) → All (λ (found : ReleaseHitValue). found.hit.row.number < 2 ^ 64) tally.shown → tally.count < 2 ^ 64
+each_of : (tally : TallyValue) → All (λ (found : ReleaseHitValue). found.hit.row.number < 2 ^ 64) tally.top → tally.count < 2 ^ 64
     → AllByRecursion (λ item. IsText (item_text item) (item_value item)) (items_in tally)
 each_of tally small counts =
     let fits : left_out tally < 2 ^ 64 = omega arith in
-    each_item tally.shown (last_items (left_out tally == 0) (left_out tally) tally.is_whole)
-    (recursion_from_All (λ (found : ReleaseHitValue). found.hit.row.number < 2 ^ 64) tally.shown small)
+    each_item tally.top (last_items (left_out tally == 0) (left_out tally) tally.is_whole)
+    (recursion_from_All (λ (found : ReleaseHitValue). found.hit.row.number < 2 ^ 64) tally.top small)
     (each_last (left_out tally == 0) (left_out tally) tally.is_whole fits)
 
 -- the hits in another text
-pub hits_in : (tally : TallyValue) → All (λ (found : ReleaseHitValue). found.hit.row.number < 2 ^ 64) tally.shown → tally.count < 2 ^ 64
+pub hits_in : (tally : TallyValue) → All (λ (found : ReleaseHitValue). found.hit.row.number < 2 ^ 64) tally.top → tally.count < 2 ^ 64
     → IsText (hits_json tally) (array (items_of (item_values tally)))
 hits_in tally small counts =
     subst (λ (t : List ℕ). IsText t (array (items_of (item_values tally)))) (text_is tally)
     (subst (λ (vs : List Json). IsText (json_list item_text (items_in tally)) (array (items_of vs)))
-    (values_of tally.shown (left_out tally == 0) (left_out tally) tally.is_whole)
+    (values_of tally.top (left_out tally == 0) (left_out tally) tally.is_whole)
     (list_in item_text item_value (items_in tally) (each_of tally small counts)))
 
 -- and they are as deep as an object
 pub hits_flat : (tally : TallyValue) → items_depth (items_of (item_values tally)) ≤ 1
 hits_flat tally =
-    subst (λ (vs : List Json). items_depth (items_of vs) ≤ 1) (values_of tally.shown (left_out tally == 0) (left_out tally) tally.is_whole)
+    subst (λ (vs : List Json). items_depth (items_of vs) ≤ 1) (values_of tally.top (left_out tally == 0) (left_out tally) tally.is_whole)
     (items_shallow item_value (items_in tally)
-    (flat_items tally.shown (last_items (left_out tally == 0) (left_out tally) tally.is_whole) (flat_last (left_out tally == 0) (left_out tally) tally.is_whole)))
+    (flat_items tally.top (last_items (left_out tally == 0) (left_out tally) tally.is_whole) (flat_last (left_out tally == 0) (left_out tally) tally.is_whole)))
 
 pub hits_read : HitsAreJson
 hits_read tally small counts =
@@ -285,7 +311,7 @@ hits_read tally small counts =
     let last = last_items (left_out tally == 0) (left_out tally) tally.is_whole in
     ap document (sym (text_is tally))
     ∙ list_read item_text item_value (items_in tally)
-    (each_item tally.shown last (recursion_from_All (λ (found : ReleaseHitValue). found.hit.row.number < 2 ^ 64) tally.shown small)
+    (each_item tally.top last (recursion_from_All (λ (found : ReleaseHitValue). found.hit.row.number < 2 ^ 64) tally.top small)
     (each_last (left_out tally == 0) (left_out tally) tally.is_whole fits))
-    (flat_items tally.shown last (flat_last (left_out tally == 0) (left_out tally) tally.is_whole))
-    ∙ ap (λ vs. Some (array (items_of vs))) (values_of tally.shown (left_out tally == 0) (left_out tally) tally.is_whole)
+    (flat_items tally.top last (flat_last (left_out tally == 0) (left_out tally) tally.is_whole))
+    ∙ ap (λ vs. Some (array (items_of vs))) (values_of tally.top (left_out tally == 0) (left_out tally) tally.is_whole)

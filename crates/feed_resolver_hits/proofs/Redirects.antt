@@ -1,31 +1,36 @@
 -- Where a reader is sent on.
-use Rattle.std.proofs.Common.{◌≡◌, ℕ, List, [], ◌∷◌, Bool, true, false, Option, Some, None, inl, inr, subst}
-use Rattle.std.specs.Prelude.{◌==◌, ◌&&◌}
-use Rattle.std.proofs.lemmas.Bool.{cases_Bool}
+use Rattle.std.proofs.Common.{◌≡◌, ℕ, List, [], ◌∷◌, Bool, true, false, Option, Some, None, subst, refl}
+use Rattle.std.specs.Prelude.{if◌then◌else◌, nat_lt, option_map}
 use Rattle.feed_resolver_hits.specs.Links.{is_link}
-use Rattle.feed_resolver_request.specs.Representations.{or_else}
-use Rattle.feed_resolver_hits.specs.Hits.{ReleaseHitValue, rank_of, is_linked, first_link, best_link}
+use Rattle.feed_resolver_hits.specs.Hits.{ReleaseHitValue, LinkValue, link_with, link_url, link_of, better, highest_link, best_link, rank_of}
 
-abbrev IsLinkIfSome : Option (List ℕ) → Type 0
+abbrev IsLinkIfSome : Option LinkValue → Type 0
 IsLinkIfSome None = Unit {0}
-IsLinkIfSome (Some url) = is_link url ≡ true
+IsLinkIfSome (Some link) = is_link link.url ≡ true
 
-second : (a b : Bool) → (a && b) ≡ true → b ≡ true
-second true b e = e
-second false b e = cc
+better_is : (one other : Option LinkValue) → IsLinkIfSome one → IsLinkIfSome other → IsLinkIfSome (better one other)
+better_is None other p q = q
+better_is (Some one) None p q = p
+better_is (Some one) (Some other) p q = go (nat_lt one.rank other.rank)
+  where
+    go : (b : Bool) → IsLinkIfSome (if b then Some other else Some one)
+    go true = q
+    go false = p
 
-first_is : (rank : ℕ) (hits : List ReleaseHitValue) → IsLinkIfSome (first_link rank hits)
-first_is rank [] = tt
-first_is rank (found ∷ more) = elim (cases_Bool (is_linked rank found)) [
-  | inl e ↦ rw e (second (rank_of found.hit.grade == rank) (is_link found.hit.row.url) e)
-  | inr e ↦ rw e (first_is rank more)
-]
+link_is : (found : ReleaseHitValue) → IsLinkIfSome (link_of found)
+link_is found = go (is_link found.hit.row.url) refl
+  where
+    go : (b : Bool) → is_link found.hit.row.url ≡ b → IsLinkIfSome (if b then Some (link_with (rank_of found) found.hit.row.url) else None)
+    go true is = is
+    go false is = tt
 
-either_is : (a b : Option (List ℕ)) → IsLinkIfSome a → IsLinkIfSome b → IsLinkIfSome (or_else a b)
-either_is None b p q = q
-either_is (Some url) b p q = p
+highest_is : (hits : List ReleaseHitValue) → IsLinkIfSome (highest_link hits)
+highest_is [] = tt
+highest_is (found ∷ more) = better_is (link_of found) (highest_link more) (link_is found) (highest_is more)
+
+url_is : (link : Option LinkValue) (url : List ℕ) → IsLinkIfSome link → option_map link_url link ≡ Some url → is_link url ≡ true
+url_is None url is at = absurd (cc)
+url_is (Some link) url is at = let same : link.url ≡ url = cc in subst (λ (u : List ℕ). is_link u ≡ true) same is
 
 pub best_is : (hits : List ReleaseHitValue) (url : List ℕ) → best_link hits ≡ Some url → is_link url ≡ true
-best_is hits url is = subst IsLinkIfSome is
-    (either_is (first_link 2 hits) (or_else (first_link 1 hits) (first_link 0 hits)) (first_is 2 hits)
-    (either_is (first_link 1 hits) (first_link 0 hits) (first_is 1 hits) (first_is 0 hits)))
+best_is hits url is = url_is (highest_link hits) url (highest_is hits) is

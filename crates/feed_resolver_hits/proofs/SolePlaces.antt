@@ -13,6 +13,7 @@ use Rattle.feed_kbart.specs.Places.{has_isbn, has_issn, place_by, places_by, pla
 use Rattle.feed_kbart.specs.RowValue.{RowValue}
 use Rattle.feed_names.specs.ReleaseName.{Name}
 use Rattle.feed_kbart.specs.HoldingsValue.{HoldingsValue}
+use Rattle.feed_embargo.specs.Today.{TodayValue}
 use Rattle.feed_answer.specs.Answers.{answer_of}
 use Rattle.feed_answer.specs.Places.{hit_at, places_among}
 use Rattle.feed_answer.proofs.Places.{answered_at}
@@ -97,11 +98,11 @@ sole_isbn query rows isbn asked at issns places all one same here others none fo
     (by_isbn query isbn rows (only_one query.isbns isbn (ap length (sym all) ∙ one) (here ∙ ap (λ l. get_or l 0 isbn) same)) (empty_list query.issns (none ∙ ap (λ l. length l == 0) others)))
 
 -- the hits at such places are those of the release
-pub added : (query : QueryValue) (holdings : HoldingsValue) (name : Name) (running new : RunningValue) (rows : List RowValue) (places found : List ℕ)
+pub added : (today : TodayValue) (query : QueryValue) (holdings : HoldingsValue) (name : Name) (running new : RunningValue) (rows : List RowValue) (places found : List ℕ)
     → rows ≡ holdings.rows → places ≡ found → IsStrictlyIncreasing found → ((place : ℕ) → Contains (places_among query holdings.rows) place → Contains found place)
-    → new ≡ with_hits running (map (release_hit name) (filter_map (hit_at query rows) places))
-    → new ≡ with_hits running (map (release_hit name) (answer_of holdings query))
-added query holdings name running new rows places found same listed ascend whole is =
-    is ∙ ap (λ rs. with_hits running (map (release_hit name) (filter_map (hit_at query rs) places))) same
-    ∙ ap (λ ps. with_hits running (map (release_hit name) (filter_map (hit_at query holdings.rows) ps))) listed
-    ∙ ap (λ hits. with_hits running (map (release_hit name) hits)) (answered_at query holdings found ascend whole)
+    → new ≡ with_hits running (map (release_hit today query name) (filter_map (hit_at query rows) places))
+    → new ≡ with_hits running (map (release_hit today query name) (answer_of holdings query))
+added today query holdings name running new rows places found same listed ascend whole is =
+    is ∙ ap (λ rs. with_hits running (map (release_hit today query name) (filter_map (hit_at query rs) places))) same
+    ∙ ap (λ ps. with_hits running (map (release_hit today query name) (filter_map (hit_at query holdings.rows) ps))) listed
+    ∙ ap (λ hits. with_hits running (map (release_hit today query name) hits)) (answered_at query holdings found ascend whole)

@@ -3,11 +3,13 @@ use Rattle.std.proofs.Common.{◌≡◌, inl, inr, ◌≤◌, ◌-◌, ◌+◌, 
 use Rattle.std.specs.Prelude.{fold, nat_lt, nat_le, ◌&&◌, ◌==◌, if◌then◌else◌}
 use Rattle.std.proofs.lemmas.List.{append-nil, length-take}
 use Rattle.std.proofs.lemmas.Bool.{ne_eqb}
-use Rattle.std.proofs.lemmas.Bool.Decides.{leb_tells}
-use Rattle.feed_resolver_request.specs.Representations.{or_else}
-use Rattle.feed_resolver_hits.specs.Hits.{ReleaseHitValue, first_link, is_linked, best_link}
+use Rattle.std.proofs.lemmas.Bool.Decides.{leb_tells, nat_tests}
+use Rattle.std.specs.Prelude.{option_map}
+use Rattle.feed_resolver_hits.specs.Hits.{ReleaseHitValue, LinkValue, link_of, link_url, better, highest_link, best_link}
+use Rattle.feed_resolver_hits.specs.Ranks.{ranked}
+use Rattle.feed_resolver_hits.proofs.Tops.{top_is, within_first}
 use Rattle.feed_resolver_hits.specs.Tallies.{TallyValue, text_size, first_within, count_limit, shown_limit, text_limit, counted, tally_of}
-use Rattle.feed_resolver_hits.specs.Tallying.{RunningValue, ShownValue, LinksValue, with_shown, with_link, with_hit, with_hits, no_hits, tally_from}
+use Rattle.feed_resolver_hits.specs.Tallying.{RunningValue, ShownValue, with_shown, with_top, with_link, with_hit, with_hits, no_hits, tally_from}
 
 -- a tally that is cut off stays as it is
 pub cut_stays : (running : RunningValue) (hits : List ReleaseHitValue) → running.is_whole ≡ false → with_hits running hits ≡ running
@@ -17,16 +19,16 @@ cut_stays running (found ∷ more) cut =
     ap (λ r. with_hits r more) same ∙ cut_stays running more cut
 
 -- a tally of so many hits more
-abbrev running_of : ℕ → Bool → ShownValue → LinksValue → RunningValue
-running_of left is_whole shown links = record { left = left; is_whole = is_whole; shown = shown; links = links }
+abbrev running_of : ℕ → Bool → ShownValue → List ReleaseHitValue → Option LinkValue → RunningValue
+running_of left is_whole shown top link = record { left = left; is_whole = is_whole; shown = shown; top = top; link = link }
 
 -- one that is counted
-one_more : (left : ℕ) (shown : ShownValue) (links : LinksValue) (found : ReleaseHitValue)
-    → with_hit (running_of (suc left) true shown links) found ≡ running_of left true (with_shown shown found) (with_link links found)
-one_more left shown links found =
+one_more : (left : ℕ) (shown : ShownValue) (top : List ReleaseHitValue) (link : Option LinkValue) (found : ReleaseHitValue)
+    → with_hit (running_of (suc left) true shown top link) found ≡ running_of left true (with_shown shown found) (with_top top found) (with_link link found)
+one_more left shown top link found =
     let some : (suc left == 0) ≡ false = ne_eqb (suc left) 0 (λ e. omega arith) in
     let less : suc left - 1 ≡ left = omega arith in
-    rw some (ap (λ n. running_of n true (with_shown shown found) (with_link links found)) less)
+    rw some (ap (λ n. running_of n true (with_shown shown found) (with_top top found) (with_link link found)) less)
 
 same_test : (a b : ℕ) → nat_le a b ≡ nat_le (suc a) (suc b)
 same_test a b = elim (leb_tells a b) [
@@ -41,25 +43,26 @@ always : (a : ℕ) → nat_le 0 a ≡ true
 always a = elim (leb_tells 0 a) [ inl (e, le) ↦ e | inr (e, less) ↦ absurd (omega arith) ]
 
 -- each part is made of the hits that are counted
-pub counted_hits : (left : ℕ) (shown : ShownValue) (links : LinksValue) (hits : List ReleaseHitValue)
-    → with_hits (running_of left true shown links) hits
-    ≡ running_of (left - length hits) (nat_le (length hits) left) (fold with_shown shown (take left hits)) (fold with_link links (take left hits))
-counted_hits zero shown links [] = refl
-counted_hits (suc left) shown links [] =
+pub counted_hits : (left : ℕ) (shown : ShownValue) (top : List ReleaseHitValue) (link : Option LinkValue) (hits : List ReleaseHitValue)
+    → with_hits (running_of left true shown top link) hits
+    ≡ running_of (left - length hits) (nat_le (length hits) left) (fold with_shown shown (take left hits)) (fold with_top top (take left hits)) (fold with_link link (take left hits))
+counted_hits zero shown top link [] = refl
+counted_hits (suc left) shown top link [] =
     let same : suc left ≡ suc left - 0 = omega arith in
-    ap (λ n. running_of n true shown links) same ∙ ap (λ b. running_of (suc left - 0) b shown links) (sym (always (suc left)))
-counted_hits zero shown links (found ∷ more) =
+    ap (λ n. running_of n true shown top link) same ∙ ap (λ b. running_of (suc left - 0) b shown top link) (sym (always (suc left)))
+counted_hits zero shown top link (found ∷ more) =
     let none : 0 ≡ 0 - suc (length more) = omega arith in
-    cut_stays (running_of zero false shown links) more refl
-    ∙ ap (λ n. running_of n false shown links) none ∙ ap (λ b. running_of (0 - suc (length more)) b shown links) (sym (never (length more)))
-counted_hits (suc left) shown links (found ∷ more) =
+    cut_stays (running_of zero false shown top link) more refl
+    ∙ ap (λ n. running_of n false shown top link) none ∙ ap (λ b. running_of (0 - suc (length more)) b shown top link) (sym (never (length more)))
+counted_hits (suc left) shown top link (found ∷ more) =
     let fewer : left - length more ≡ suc left - suc (length more) = omega arith in
     let also = fold with_shown (with_shown shown found) (take left more) in
-    let known = fold with_link (with_link links found) (take left more) in
-    ap (λ r. with_hits r more) (one_more left shown links found)
-    ∙ counted_hits left (with_shown shown found) (with_link links found) more
-    ∙ ap (λ n. running_of n (nat_le (length more) left) also known) fewer
-    ∙ ap (λ b. running_of (suc left - suc (length more)) b also known) (same_test (length more) left)
+    let high = fold with_top (with_top top found) (take left more) in
+    let known = fold with_link (with_link link found) (take left more) in
+    ap (λ r. with_hits r more) (one_more left shown top link found)
+    ∙ counted_hits left (with_shown shown found) (with_top top found) (with_link link found) more
+    ∙ ap (λ n. running_of n (nat_le (length more) left) also high known) fewer
+    ∙ ap (λ b. running_of (suc left - suc (length more)) b also high known) (same_test (length more) left)
 
 no_room : (bytes : ℕ) (hits : List ReleaseHitValue) → first_within 0 bytes hits ≡ []
 no_room bytes [] = refl
@@ -83,61 +86,49 @@ shown_is (found ∷ more) shown =
 
 -- ---- links
 
-or_else_nil : (a : Option (List ℕ)) → or_else a None ≡ a
-or_else_nil None = refl
-or_else_nil (Some url) = refl
+better_nil : (one : Option LinkValue) → better one None ≡ one
+better_nil None = refl
+better_nil (Some one) = refl
 
-or_else_assoc : (a b c : Option (List ℕ)) → or_else (or_else a b) c ≡ or_else a (or_else b c)
-or_else_assoc None b c = refl
-or_else_assoc (Some url) b c = refl
+abbrev pick : Bool → LinkValue → LinkValue → Option LinkValue
+pick b one other = if b then Some other else Some one
 
-first_of_more : (rank : ℕ) (found : ReleaseHitValue) (more : List ReleaseHitValue) (b : Bool)
-    → or_else (if b then Some found.hit.row.url else None) (first_link rank more) ≡ (if b then Some found.hit.row.url else first_link rank more)
-first_of_more rank found more true = refl
-first_of_more rank found more false = refl
+better_assoc : (a b c : Option LinkValue) → better (better a b) c ≡ better a (better b c)
+better_assoc None b c = refl
+better_assoc (Some a) None c = refl
+better_assoc (Some a) (Some b) None = better_nil (better (Some a) (Some b))
+better_assoc (Some a) (Some b) (Some c) = go (nat_lt a.rank b.rank) (nat_lt b.rank c.rank) (nat_lt a.rank c.rank) refl refl refl
+  where
+    go : (p q r : Bool) → nat_lt a.rank b.rank ≡ p → nat_lt b.rank c.rank ≡ q → nat_lt a.rank c.rank ≡ r → better (pick p a b) (Some c) ≡ better (Some a) (pick q b c)
+    go true true r first second third = let also : nat_lt a.rank c.rank ≡ true = grind (arith, nat_tests) in rw (second, also) refl
+    go true false r first second third = rw (second, first) refl
+    go false true r first second third = refl
+    go false false r first second third = let also : nat_lt a.rank c.rank ≡ false = grind (arith, nat_tests) in rw (also, first) refl
 
--- the link known after one hit, or else one of the others
-links_step : (known : Option (List ℕ)) (rank : ℕ) (found : ReleaseHitValue) (more : List ReleaseHitValue)
-    → or_else (or_else known (first_link rank (found ∷ []))) (first_link rank more) ≡ or_else known (first_link rank (found ∷ more))
-links_step known rank found more =
-    or_else_assoc known (first_link rank (found ∷ [])) (first_link rank more)
-    ∙ ap (or_else known) (first_of_more rank found more (is_linked rank found))
-
-inside_is : (hits : List ReleaseHitValue) (links : LinksValue) → (fold with_link links hits).inside ≡ or_else links.inside (first_link 2 hits)
-inside_is [] links = sym (or_else_nil links.inside)
-inside_is (found ∷ more) links = inside_is more (with_link links found) ∙ links_step links.inside 2 found more
-
-overlap_is : (hits : List ReleaseHitValue) (links : LinksValue) → (fold with_link links hits).overlap ≡ or_else links.overlap (first_link 1 hits)
-overlap_is [] links = sym (or_else_nil links.overlap)
-overlap_is (found ∷ more) links = overlap_is more (with_link links found) ∙ links_step links.overlap 1 found more
-
-untested_is : (hits : List ReleaseHitValue) (links : LinksValue) → (fold with_link links hits).untested ≡ or_else links.untested (first_link 0 hits)
-untested_is [] links = sym (or_else_nil links.untested)
-untested_is (found ∷ more) links = untested_is more (with_link links found) ∙ links_step links.untested 0 found more
+link_is : (hits : List ReleaseHitValue) (link : Option LinkValue) → fold with_link link hits ≡ better link (highest_link hits)
+link_is [] link = sym (better_nil link)
+link_is (found ∷ more) link = link_is more (with_link link found) ∙ better_assoc link (link_of found) (highest_link more)
 
 -- ---- the tally
 
-abbrev tally_with : ℕ → Bool → List ReleaseHitValue → Option (List ℕ) → TallyValue
-tally_with count is_whole shown best = record { count = count; is_whole = is_whole; shown = shown; best = best }
+abbrev tally_with : ℕ → Bool → List ReleaseHitValue → List ReleaseHitValue → Option (List ℕ) → TallyValue
+tally_with count is_whole shown top best = record { count = count; is_whole = is_whole; shown = shown; top = top; best = best }
 
 count_is : (limit : ℕ) (hits : List ReleaseHitValue) → limit - (limit - length hits) ≡ length (take limit hits)
 count_is limit hits = (omega arith) ∙ sym (length-take limit hits)
 
 -- made of its parts
-parts : (count one : ℕ) (is_whole : Bool) (shown other : List ReleaseHitValue) (best link : Option (List ℕ)) → count ≡ one → shown ≡ other → best ≡ link
-    → tally_with count is_whole shown best ≡ tally_with one is_whole other link
-parts count one is_whole shown other best link first second third =
-    ap (λ n. tally_with n is_whole shown best) first ∙ ap (λ l. tally_with one is_whole l best) second ∙ ap (λ u. tally_with one is_whole other u) third
+parts : (count one : ℕ) (is_whole : Bool) (shown other top high : List ReleaseHitValue) (best link : Option (List ℕ)) → count ≡ one → shown ≡ other → top ≡ high → best ≡ link
+    → tally_with count is_whole shown top best ≡ tally_with one is_whole other high link
+parts count one is_whole shown other top high best link first second third fourth =
+    ap (λ n. tally_with n is_whole shown top best) first ∙ ap (λ l. tally_with one is_whole l top best) second
+    ∙ ap (λ l. tally_with one is_whole other l best) third ∙ ap (λ u. tally_with one is_whole other high u) fourth
 
-best_is : (links : LinksValue) (hits : List ReleaseHitValue) → links.inside ≡ first_link 2 hits → links.overlap ≡ first_link 1 hits → links.untested ≡ first_link 0 hits
-    → or_else links.inside (or_else links.overlap links.untested) ≡ best_link hits
-best_is links hits one two three =
-    ap (λ u. or_else u (or_else links.overlap links.untested)) one
-    ∙ ap (λ u. or_else (first_link 2 hits) (or_else u links.untested)) two
-    ∙ ap (λ u. or_else (first_link 2 hits) (or_else (first_link 1 hits) u)) three
+highest_shown : (hits : List ReleaseHitValue) → first_within shown_limit text_limit (fold with_top [] hits) ≡ first_within shown_limit text_limit (ranked hits)
+highest_shown hits = ap (first_within shown_limit text_limit) (top_is hits) ∙ within_first shown_limit text_limit (ranked hits)
 
 pub tally_is : (hits : List ReleaseHitValue) → tally_from (with_hits no_hits hits) ≡ tally_of hits
 tally_is hits =
-    ap tally_from (counted_hits count_limit no_hits.shown no_hits.links hits)
-    ∙ parts _ _ (nat_le (length hits) count_limit) _ _ _ _ (count_is count_limit hits) (shown_is (counted hits) no_hits.shown)
-    (best_is (fold with_link no_hits.links (counted hits)) (counted hits) (inside_is (counted hits) no_hits.links) (overlap_is (counted hits) no_hits.links) (untested_is (counted hits) no_hits.links))
+    ap tally_from (counted_hits count_limit no_hits.shown no_hits.top no_hits.link hits)
+    ∙ parts _ _ (nat_le (length hits) count_limit) _ _ _ _ _ _ (count_is count_limit hits) (shown_is (counted hits) no_hits.shown)
+    (highest_shown (counted hits)) (ap (option_map link_url) (link_is (counted hits) None))

@@ -1,40 +1,89 @@
--- The hits of a query, each with its release, and the best link among them.
-use Rattle.std.specs.Prelude.{ℕ, ◌&&◌, ◌==◌, Bool, if◌then◌else◌, List, [], ◌∷◌, Option, Some, None}
+-- The hits of a query, each with its release and its availability, and the best link among them.
+use Rattle.std.specs.Prelude.{ℕ, ◌+◌, ◌*◌, ◌&&◌, Bool, nat_lt, if◌then◌else◌, List, [], ◌∷◌, codes, Option, Some, None, option_map}
+use Rattle.std.specs.Str.{str_eq_ignore_ascii_case}
 use Rattle.feed_names.specs.ReleaseName.{Name, text_of}
+use Rattle.feed_identifiers.specs.Text.{trimmed}
+use Rattle.feed_embargo.specs.Today.{TodayValue}
+use Rattle.feed_embargo.specs.Availability.{availability_of}
+use Rattle.feed_embargo.specs.declared.availability.Availability.{Availability}
+use Rattle.feed_embargo.specs.declared.availability.Availability.TheVariants.{Available, Partly, NotCompared, Embargoed}
+use Rattle.feed_kbart.specs.RowValue.{RowValue}
 use Rattle.feed_answer.specs.HitValue.{HitValue}
+use Rattle.feed_answer.specs.QueryValue.{QueryValue}
 use Rattle.feed_answer.specs.declared.grade.Grade.{Grade}
 use Rattle.feed_answer.specs.declared.grade.Grade.TheVariants.{Inside, Overlap, Untested}
-use Rattle.feed_resolver_request.specs.Representations.{or_else}
 use Rattle.feed_resolver_hits.specs.Links.{is_link}
 
--- a hit, and its release
+-- a hit, its release, and how the days that the query asks for lie in those that are open to readers
 pub record ReleaseHitValue : Type 0 where
   pub name : Name
   pub hit : HitValue
+  pub availability : Availability
 
--- a hit of this release
-abbrev pub release_hit : Name → HitValue → ReleaseHitValue
-release_hit name hit = record { name = name; hit = hit }
+-- a hit of this release, today
+abbrev pub release_hit : TodayValue → QueryValue → Name → HitValue → ReleaseHitValue
+release_hit today query name hit = record {
+  name = name;
+  hit = hit;
+  availability = availability_of today hit.row.embargo hit.row.first_day hit.row.last_day query.days;
+}
 
 -- the text of a release's name
 unfoldable pub name_text : Name → List ℕ
 name_text name = text_of name
 
--- the rank of a grade
-abbrev pub rank_of : Grade → ℕ
-rank_of Inside = 2
-rank_of Overlap = 1
-rank_of Untested = 0
+-- available ranks above partly available, that above not compared, and that above embargoed
+abbrev pub availability_rank : Availability → ℕ
+availability_rank Available = 3
+availability_rank Partly = 2
+availability_rank NotCompared = 1
+availability_rank Embargoed = 0
 
--- the hit has this rank, and a URL that is safe to link to
-abbrev pub is_linked : ℕ → ReleaseHitValue → Bool
-is_linked rank found = (rank_of found.hit.grade == rank) && is_link found.hit.row.url
+-- inside ranks above overlap, and that above untested
+abbrev pub grade_rank : Grade → ℕ
+grade_rank Inside = 2
+grade_rank Overlap = 1
+grade_rank Untested = 0
 
--- the URL of the first such hit
-abbrev pub first_link : ℕ → List ReleaseHitValue → Option (List ℕ)
-first_link rank [] = None
-first_link rank (found ∷ more) = if is_linked rank found then Some found.hit.row.url else first_link rank more
+-- the trimmed text is this word, in any case
+abbrev pub is_word : List ℕ → List ℕ → Bool
+is_word word text = str_eq_ignore_ascii_case (trimmed text) word
 
--- the URL of the best hit: inside before overlap before untested; of equals the first
+-- full text that is free ranks above other full text, and that above everything else (NISO RP-9-2014, coverage_depth and
+-- access_type)
+abbrev pub text_rank : RowValue → ℕ
+text_rank row =
+    if is_word (codes "fulltext") row.depth then (if is_word (codes "F") row.access then 2 else 1) else 0
+
+-- the rank of a hit: by its availability, then by its grade, then by its depth and access
+abbrev pub rank_of : ReleaseHitValue → ℕ
+rank_of found = 9 * availability_rank found.availability + 3 * grade_rank found.hit.grade + text_rank found.hit.row
+
+-- the rank and the URL of a hit that may be linked to
+pub record LinkValue : Type 0 where
+  pub rank : ℕ
+  pub url : List ℕ
+
+abbrev pub link_with : ℕ → List ℕ → LinkValue
+link_with rank url = record { rank = rank; url = url }
+
+abbrev pub link_url : LinkValue → List ℕ
+link_url link = link.url
+
+abbrev pub link_of : ReleaseHitValue → Option LinkValue
+link_of found = if is_link found.hit.row.url then Some (link_with (rank_of found) found.hit.row.url) else None
+
+-- the one of higher rank; of equals the first
+abbrev pub better : Option LinkValue → Option LinkValue → Option LinkValue
+better None other = other
+better (Some one) None = Some one
+better (Some one) (Some other) = if nat_lt one.rank other.rank then Some other else Some one
+
+-- the link of the hit with the highest rank; of equals the first
+abbrev pub highest_link : List ReleaseHitValue → Option LinkValue
+highest_link [] = None
+highest_link (found ∷ more) = better (link_of found) (highest_link more)
+
+-- its URL
 abbrev pub best_link : List ReleaseHitValue → Option (List ℕ)
-best_link hits = or_else (first_link 2 hits) (or_else (first_link 1 hits) (first_link 0 hits))
+best_link hits = option_map link_url (highest_link hits)

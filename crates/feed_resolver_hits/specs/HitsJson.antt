@@ -3,12 +3,14 @@ use Rattle.std.specs.Prelude.{ℕ, ◌==◌, Bool, true, false, if◌then◌else
 use Rattle.std.specs.Fmt.{decimal}
 use Rattle.json.specs.Json.{Json, object, string, number, Members, member, no_members}
 use Rattle.feed_names.specs.ReleaseName.{Name}
+use Rattle.feed_embargo.specs.declared.availability.Availability.{Availability}
+use Rattle.feed_embargo.specs.declared.availability.Availability.TheVariants.{Available, Partly, NotCompared, Embargoed}
 use Rattle.feed_kbart.specs.RowValue.{RowValue}
-use Rattle.feed_answer.specs.HitValue.{HitValue}
 use Rattle.feed_answer.specs.Grades.{grade_text}
 use Rattle.feed_resolver_reply.specs.JsonStrings.{json_string}
 use Rattle.feed_resolver_reply.specs.JsonLists.{comma_before, items_from}
 use Rattle.feed_resolver_reply.specs.Pieces.{joined}
+use Rattle.feed_resolver_hits.specs.EmbargoWords.{embargo_words}
 use Rattle.feed_resolver_hits.specs.Hits.{ReleaseHitValue, name_text}
 use Rattle.feed_resolver_hits.specs.Tallies.{TallyValue, left_out}
 
@@ -17,24 +19,40 @@ unfoldable pub release_members : Name → List ℕ
 release_members name = joined (codes "{\"package\":" ∷ json_string name.stem ∷ codes ",\"release\":" ∷ json_string (name_text name) ∷ [])
 
 -- the members for its row
-unfoldable pub row_members : RowValue → List ℕ
-row_members row = joined (
+unfoldable pub title_members : RowValue → List ℕ
+title_members row = joined (
     codes ",\"title\":" ∷ json_string row.title
     ∷ codes ",\"url\":" ∷ json_string row.url
     ∷ codes ",\"title_id\":" ∷ json_string row.title_id
-    ∷ codes ",\"depth\":" ∷ json_string row.depth
-    ∷ codes ",\"embargo\":" ∷ json_string row.embargo
+    ∷ codes ",\"depth\":" ∷ json_string row.depth ∷ [])
+
+-- those for its embargo, also in words, and its access
+unfoldable pub access_members : RowValue → List ℕ → List ℕ
+access_members row words = joined (
+    codes ",\"embargo\":" ∷ json_string row.embargo
+    ∷ codes ",\"embargo_words\":" ∷ json_string words
     ∷ codes ",\"access\":" ∷ json_string row.access
     ∷ codes "}" ∷ [])
 
--- the members for its record and grade
-unfoldable pub grade_members : HitValue → List ℕ
-grade_members hit = joined (
-    codes ",\"record\":" ∷ decimal hit.row.number ∷ codes ",\"grade\":" ∷ json_string (grade_text hit.grade) ∷ [])
+-- the name of an availability
+abbrev pub availability_text : Availability → List ℕ
+availability_text Available = codes "available"
+availability_text Partly = codes "partly"
+availability_text NotCompared = codes "not compared"
+availability_text Embargoed = codes "embargoed"
+
+-- the members for its record, its grade and its availability
+unfoldable pub grade_members : ReleaseHitValue → List ℕ
+grade_members found = joined (
+    codes ",\"record\":" ∷ decimal found.hit.row.number
+    ∷ codes ",\"grade\":" ∷ json_string (grade_text found.hit.grade)
+    ∷ codes ",\"availability\":" ∷ json_string (availability_text found.availability) ∷ [])
 
 -- a hit as a JSON object
 unfoldable pub hit_object : ReleaseHitValue → List ℕ
-hit_object found = release_members found.name ++ (grade_members found.hit ++ row_members found.hit.row)
+hit_object found =
+    release_members found.name
+    ++ (grade_members found ++ (title_members found.hit.row ++ access_members found.hit.row (embargo_words found.hit.row.embargo)))
 
 -- the beginning of the object that counts the hits that are left out: whether there may be still more
 abbrev pub more_start : Bool → List ℕ
@@ -48,11 +66,11 @@ more_object n is_whole = joined (more_start is_whole ∷ decimal n ∷ codes "}"
 -- this object as the last item, if hits are left out
 abbrev pub more_items : TallyValue → List ℕ
 more_items tally =
-    if left_out tally == 0 then [] else comma_before (length tally.shown) ++ more_object (left_out tally) tally.is_whole
+    if left_out tally == 0 then [] else comma_before (length tally.top) ++ more_object (left_out tally) tally.is_whole
 
 -- the hits that are shown, as a JSON list of objects
 unfoldable pub hits_json : TallyValue → List ℕ
-hits_json tally = codes "[" ++ (items_from hit_object 0 tally.shown ++ (more_items tally ++ codes "\n]\n"))
+hits_json tally = codes "[" ++ (items_from hit_object 0 tally.top ++ (more_items tally ++ codes "\n]\n"))
 
 -- a member of an object whose value is a string, in front of others
 abbrev pub text_member : List ℕ → List ℕ → Members → Members
@@ -65,12 +83,14 @@ hit_value found = object (
     (text_member (codes "release") (name_text found.name)
     (member (codes "record") (number (decimal found.hit.row.number))
     (text_member (codes "grade") (grade_text found.hit.grade)
+    (text_member (codes "availability") (availability_text found.availability)
     (text_member (codes "title") found.hit.row.title
     (text_member (codes "url") found.hit.row.url
     (text_member (codes "title_id") found.hit.row.title_id
     (text_member (codes "depth") found.hit.row.depth
     (text_member (codes "embargo") found.hit.row.embargo
-    (text_member (codes "access") found.hit.row.access no_members))))))))))
+    (text_member (codes "embargo_words") (embargo_words found.hit.row.embargo)
+    (text_member (codes "access") found.hit.row.access no_members))))))))))))
 
 -- the object that states how many hits are left out
 abbrev pub more_value : ℕ → Bool → Json
@@ -80,4 +100,4 @@ more_value n false = object (member (codes "more_at_least") (number (decimal n))
 -- the values of the items: the hits that are shown, and the object if hits are left out
 abbrev pub item_values : TallyValue → List Json
 item_values tally =
-    map hit_value tally.shown ++ (if left_out tally == 0 then [] else more_value (left_out tally) tally.is_whole ∷ [])
+    map hit_value tally.top ++ (if left_out tally == 0 then [] else more_value (left_out tally) tally.is_whole ∷ [])

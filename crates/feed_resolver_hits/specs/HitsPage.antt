@@ -4,7 +4,10 @@ use Rattle.std.specs.List.{flat_map}
 use Rattle.std.specs.Fmt.{decimal}
 use Rattle.std.specs.Option.{option_and_then, option_map_or}
 use Rattle.feed_dates.specs.Days.{date_of_day}
+use Rattle.feed_embargo.specs.declared.availability.Availability.{Availability}
+use Rattle.feed_embargo.specs.declared.availability.Availability.TheVariants.{Available, Partly, NotCompared, Embargoed}
 use Rattle.feed_kbart.specs.RowValue.{RowValue}
+use Rattle.feed_answer.specs.Pairs.{is_empty}
 use Rattle.feed_answer.specs.HitValue.{HitValue}
 use Rattle.feed_answer.specs.declared.grade.Grade.{Grade}
 use Rattle.feed_answer.specs.declared.grade.Grade.TheVariants.{Inside, Overlap, Untested}
@@ -14,6 +17,7 @@ use Rattle.feed_resolver_reply.specs.Pages.{page_start, page_end}
 use Rattle.feed_resolver_hits.specs.declared.hits_page.TheConstants.{TABLE_HEAD, TABLE_END}
 use Rattle.feed_resolver_hits.specs.Asks.{AskValue}
 use Rattle.feed_resolver_hits.specs.CitationPage.{citation_part}
+use Rattle.feed_resolver_hits.specs.EmbargoWords.{embargo_words}
 use Rattle.feed_resolver_hits.specs.Links.{is_link}
 use Rattle.feed_resolver_hits.specs.Hits.{ReleaseHitValue}
 use Rattle.feed_resolver_hits.specs.Tallies.{TallyValue, left_out}
@@ -23,6 +27,17 @@ abbrev pub grade_words : Grade → List ℕ
 grade_words Inside = codes "covers all of what you asked for"
 grade_words Overlap = codes "covers a part of your date"
 grade_words Untested = codes "has the title; no date or volume was compared"
+
+-- an availability in words for readers
+abbrev pub availability_words : Availability → List ℕ
+availability_words Available = codes "available"
+availability_words Partly = codes "partly available"
+availability_words NotCompared = codes "not compared"
+availability_words Embargoed = codes "under an embargo"
+
+-- a text, or another one if it is empty
+abbrev pub text_or : List ℕ → List ℕ → List ℕ
+text_or text other = if is_empty text then other else text
 
 -- a title, which is a link if its URL is safe to link to
 unfoldable pub title_cell : List ℕ → List ℕ → List ℕ
@@ -54,20 +69,25 @@ coverage_cells hit =
     joined (codes "</th><td>" ∷ grade_words hit.grade ∷ codes "</td><td>" ∷ [])
     ++ (dates_text hit.row ++ (codes "</td><td>" ++ volumes_text hit.row))
 
--- the cells after them
-unfoldable pub text_cells : ReleaseHitValue → List ℕ
-text_cells found = joined (
-    codes "</td><td>" ∷ escaped found.hit.row.depth
-    ∷ codes "</td><td>" ∷ escaped found.hit.row.embargo
-    ∷ codes "</td><td>" ∷ escaped found.hit.row.access
-    ∷ codes "</td><td>" ∷ escaped found.name.stem
-    ∷ codes "</td></tr>\n" ∷ [])
+-- the cells after them, with the embargo in words, or as it is if there are none
+unfoldable pub text_cells : Availability → RowValue → List ℕ → List ℕ
+text_cells availability row words = joined (
+    codes "</td><td>" ∷ availability_words availability
+    ∷ codes "</td><td>" ∷ escaped row.depth
+    ∷ codes "</td><td>" ∷ escaped (text_or words row.embargo)
+    ∷ codes "</td><td>" ∷ escaped row.access ∷ [])
+
+-- the last cell
+unfoldable pub package_cell : List ℕ → List ℕ
+package_cell stem = joined (codes "</td><td>" ∷ escaped stem ∷ codes "</td></tr>\n" ∷ [])
 
 -- the row of a hit in the table
 unfoldable pub hit_row : ReleaseHitValue → List ℕ
 hit_row found =
     codes "<tr><th scope=\"row\">"
-    ++ (title_cell found.hit.row.url found.hit.row.title ++ (coverage_cells found.hit ++ text_cells found))
+    ++ (title_cell found.hit.row.url found.hit.row.title
+    ++ (coverage_cells found.hit
+    ++ (text_cells found.availability found.hit.row (embargo_words found.hit.row.embargo) ++ package_cell found.name.stem)))
 
 -- the head of the table of hits
 unfoldable pub table_head : List ℕ
@@ -99,7 +119,7 @@ more_part tally = if left_out tally == 0 then [] else more_text (left_out tally)
 -- the table, or the statement that nothing matches
 abbrev pub hits_part : TallyValue → List ℕ
 hits_part tally =
-    if tally.count == 0 then codes "<p>No holdings match.</p>\n" else hits_table tally.shown ++ more_part tally
+    if tally.count == 0 then codes "<p>No holdings match.</p>\n" else hits_table tally.top ++ more_part tally
 
 -- the citation of the query, and its hits
 unfoldable pub answer_part : AskValue → TallyValue → List ℕ

@@ -1,13 +1,13 @@
 -- The laws of redirects and of hits in JSON.
-use Rattle.std.specs.Prelude.{◌≡◌, ◌<◌, ◌^◌, ℕ, List, Some, true, All, map}
+use Rattle.std.specs.Prelude.{◌≡◌, ◌↔◌, ◌<◌, ◌^◌, ℕ, List, Some, true, All, map}
 use Rattle.json.specs.Json.{document, array}
 use Rattle.json.specs.Value.{items_of}
 use Rattle.feed_resolver_hits.specs.AnswerJson.{answer_json, answer_value}
 use Rattle.feed_resolver_hits.specs.Asks.{AskValue}
 use Rattle.feed_resolver_hits.specs.Links.{is_link}
-use Rattle.feed_resolver_hits.specs.Hits.{ReleaseHitValue, best_link}
+use Rattle.feed_resolver_hits.specs.Hits.{ReleaseHitValue, best_link, rank_of}
 use Rattle.feed_resolver_hits.specs.HitsJson.{hits_json, item_values}
-use Rattle.feed_resolver_hits.specs.Ranks.{IsBestLink}
+use Rattle.feed_resolver_hits.specs.Ranks.{IsBestLink, IsPreferred}
 use Rattle.feed_resolver_hits.specs.Tallies.{TallyValue, tally_of}
 use Rattle.feed_resolver_hits.specs.Tallying.{no_hits, with_hits, tally_from}
 
@@ -19,6 +19,11 @@ RedirectsToLink = (hits : List ReleaseHitValue) (url : List ℕ) → best_link h
 abbrev pub BestLinkRanksHighest : Type 0
 BestLinkRanksHighest = (hits : List ReleaseHitValue) → IsBestLink hits (best_link hits)
 
+-- the rank of one hit is higher than that of another exactly if its availability is better, or that is the same and its
+-- grade is better, or both are the same and its depth and access are
+abbrev pub RanksInOrder : Type 0
+RanksInOrder = (one other : ReleaseHitValue) → (rank_of other < rank_of one) ↔ IsPreferred one other
+
 -- what a tally tells after one hit of a list was added after another
 abbrev pub TallyTellsOfHits : Type 0
 TallyTellsOfHits = (hits : List ReleaseHitValue) → tally_from (with_hits no_hits hits) ≡ tally_of hits
@@ -26,11 +31,11 @@ TallyTellsOfHits = (hits : List ReleaseHitValue) → tally_from (with_hits no_hi
 -- the hits in JSON are, by its grammar (RFC 8259), an array with one object for each that is shown, in their order, and
 -- one more if others are left out; numbers fit in 64 bits
 abbrev pub HitsAreJson : Type 0
-HitsAreJson = (tally : TallyValue) → All (λ found. found.hit.row.number < 2 ^ 64) tally.shown → tally.count < 2 ^ 64
+HitsAreJson = (tally : TallyValue) → All (λ found. found.hit.row.number < 2 ^ 64) tally.top → tally.count < 2 ^ 64
     → document (hits_json tally) ≡ Some (array (items_of (item_values tally)))
 
 -- an answer in JSON is an object with the citation, the query that is looked up, the reason why none is, and the hits
 abbrev pub AnswerIsJson : Type 0
 AnswerIsJson = (ask : AskValue) (refused : List ℕ) (tally : TallyValue)
-    → All (λ found. found.hit.row.number < 2 ^ 64) tally.shown → tally.count < 2 ^ 64
+    → All (λ found. found.hit.row.number < 2 ^ 64) tally.top → tally.count < 2 ^ 64
     → document (answer_json ask refused tally) ≡ Some (answer_value ask refused tally)

@@ -4,6 +4,7 @@ pub mod Ranks
 pub mod Candidates
 pub mod Tallies
 pub mod Tallying
+pub mod EmbargoWords
 pub mod HitsText
 pub mod HitsJson
 pub mod Asks

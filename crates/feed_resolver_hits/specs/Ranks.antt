@@ -1,26 +1,17 @@
--- The rank of a hit among those that may be linked to: by its grade, and then by its place.
-use Rattle.std.specs.Prelude.{◌≡◌, ◌<◌, ◌⊎◌, ℕ, Bool, true, false, List, Option, Some, None, slice_get}
-use Rattle.feed_answer.specs.declared.grade.Grade.{Grade}
-use Rattle.feed_answer.specs.declared.grade.Grade.TheVariants.{Inside, Overlap, Untested}
+-- The order of hits: by their ranks, and of equal ranks by their places.
+use Rattle.std.specs.Prelude.{◌≡◌, ◌<◌, ◌⊎◌, ◌==◌, ℕ, zero, suc, true, List, [], ◌++◌, Option, Some, None, filter, slice_get}
 use Rattle.feed_resolver_hits.specs.Links.{is_link}
-use Rattle.feed_resolver_hits.specs.Hits.{ReleaseHitValue}
-
--- the one grade is better than the other: inside than overlap, and both than untested
-abbrev pub is_better : Grade → Grade → Bool
-is_better Inside Overlap = true
-is_better Inside Untested = true
-is_better Overlap Untested = true
-is_better grade other = false
+use Rattle.feed_resolver_hits.specs.Hits.{ReleaseHitValue, availability_rank, grade_rank, rank_of, text_rank}
 
 -- the hit at this place, which may be linked to
 pub record IsLinkAt (hits : List ReleaseHitValue) (place : ℕ) (found : ReleaseHitValue) : Type 0 where
   pub at : slice_get hits place ≡ Some found
   pub link : is_link found.hit.row.url ≡ true
 
--- the hit at the one place ranks above that at the other: by a better grade, or by the same grade and an earlier place
+-- the hit at the one place ranks above that at the other: by a higher rank, or by the same rank and an earlier place
 abbrev pub RanksAbove : ℕ → ReleaseHitValue → ℕ → ReleaseHitValue → Type 0
 RanksAbove place found other_place other =
-    (is_better found.hit.grade other.hit.grade ≡ true) ⊎ ((found.hit.grade ≡ other.hit.grade) × (place < other_place))
+    (rank_of other < rank_of found) ⊎ ((rank_of found ≡ rank_of other) × (place < other_place))
 
 -- no hit that may be linked to ranks above the one with this URL, or no hit may be linked to
 abbrev pub IsBestLink : List ReleaseHitValue → Option (List ℕ) → Type 0
@@ -28,3 +19,29 @@ IsBestLink hits None = (place : ℕ) (found : ReleaseHitValue) → ¬ (IsLinkAt 
 IsBestLink hits (Some url) =
     (place : ℕ) × (best : ReleaseHitValue) × IsLinkAt hits place best × (url ≡ best.hit.row.url)
     × ((other_place : ℕ) (other : ReleaseHitValue) → IsLinkAt hits other_place other → ¬ (RanksAbove other_place other place best))
+
+-- the hits of one rank, in their order
+abbrev pub in_rank : ℕ → List ReleaseHitValue → List ReleaseHitValue
+in_rank rank hits = filter (λ found. rank_of found == rank) hits
+
+-- the hits below a rank: those of the highest rank first, and those of one rank in their order
+unfoldable pub below_rank : ℕ → List ReleaseHitValue → List ReleaseHitValue
+below_rank zero hits = []
+below_rank (suc rank) hits = in_rank rank hits ++ below_rank rank hits
+
+-- all ranks are below this
+abbrev pub rank_limit : ℕ
+rank_limit = 36
+
+-- all hits in the order of their ranks
+abbrev pub ranked : List ReleaseHitValue → List ReleaseHitValue
+ranked hits = below_rank rank_limit hits
+
+-- the one availability is better, or it is the same and the one grade is better, or that is the same too and the one text
+-- is better
+abbrev pub IsPreferred : ReleaseHitValue → ReleaseHitValue → Type 0
+IsPreferred one other =
+    (availability_rank other.availability < availability_rank one.availability)
+    ⊎ ((availability_rank other.availability ≡ availability_rank one.availability) × (grade_rank other.hit.grade < grade_rank one.hit.grade))
+    ⊎ ((availability_rank other.availability ≡ availability_rank one.availability) × (grade_rank other.hit.grade ≡ grade_rank one.hit.grade)
+    × (text_rank other.hit.row < text_rank one.hit.row))

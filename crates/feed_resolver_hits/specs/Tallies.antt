@@ -1,6 +1,7 @@
 -- The hits of a query that a reply counts, shows and chooses from.
 use Rattle.std.specs.Prelude.{ℕ, ◌+◌, ◌-◌, ◌&&◌, nat_lt, nat_le, Bool, if◌then◌else◌, List, [], ◌∷◌, length, take, Option}
 use Rattle.feed_resolver_hits.specs.Hits.{ReleaseHitValue, name_text, best_link}
+use Rattle.feed_resolver_hits.specs.Ranks.{ranked}
 
 -- the most hits of a query that are counted
 abbrev pub count_limit : ℕ
@@ -32,23 +33,25 @@ first_within places bytes (found ∷ more) =
 abbrev pub counted : List ReleaseHitValue → List ReleaseHitValue
 counted hits = take count_limit hits
 
--- what a reply needs to know of the hits of a query
+-- what a reply needs to know of the hits of a query: text shows the first ones, JSON and a page those of the highest ranks
 pub record TallyValue : Type 0 where
   pub count : ℕ
   pub is_whole : Bool
   pub shown : List ReleaseHitValue
+  pub top : List ReleaseHitValue
   pub best : Option (List ℕ)
 
--- the tally of these hits: how many are counted, whether these are all, the ones shown, and the best link among those
--- counted
+-- the tally of these hits: how many are counted, whether these are all, the first ones, those of the highest ranks, and
+-- the best link among those counted
 abbrev pub tally_of : List ReleaseHitValue → TallyValue
 tally_of hits = record {
   count = length (counted hits);
   is_whole = nat_le (length hits) count_limit;
   shown = first_within shown_limit text_limit (counted hits);
+  top = first_within shown_limit text_limit (ranked (counted hits));
   best = best_link (counted hits);
 }
 
--- how many of the counted hits are not shown
+-- how many of the counted hits JSON and a page do not show
 abbrev pub left_out : TallyValue → ℕ
-left_out tally = tally.count - length tally.shown
+left_out tally = tally.count - length tally.top

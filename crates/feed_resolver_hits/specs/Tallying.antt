@@ -1,8 +1,8 @@
 -- How a tally is made, one hit after another.
 use Rattle.std.specs.Prelude.{ℕ, ◌-◌, ◌&&◌, ◌==◌, nat_lt, Bool, true, false, if◌then◌else◌, List, [], ◌∷◌, ◌++◌, Option, None, fold}
-use Rattle.feed_resolver_request.specs.Representations.{or_else}
-use Rattle.feed_resolver_hits.specs.Hits.{ReleaseHitValue, first_link}
-use Rattle.feed_resolver_hits.specs.Tallies.{TallyValue, count_limit, shown_limit, text_limit, text_size}
+use Rattle.std.specs.Prelude.{insert, length, option_map, reverse, take}
+use Rattle.feed_resolver_hits.specs.Hits.{LinkValue, ReleaseHitValue, better, link_of, link_url, rank_of}
+use Rattle.feed_resolver_hits.specs.Tallies.{TallyValue, count_limit, first_within, shown_limit, text_limit, text_size}
 
 -- the hits that are shown, and how many more and with how many bytes may be
 pub record ShownValue : Type 0 where
@@ -17,26 +17,29 @@ with_shown shown found =
     then record { hits = shown.hits ++ found ∷ []; places = shown.places - 1; bytes = shown.bytes - text_size found }
     else record { hits = shown.hits; places = 0; bytes = shown.bytes }
 
--- the first link of each grade
-pub record LinksValue : Type 0 where
-  pub inside : Option (List ℕ)
-  pub overlap : Option (List ℕ)
-  pub untested : Option (List ℕ)
-
 -- with the link of one hit more
-abbrev pub with_link : LinksValue → ReleaseHitValue → LinksValue
-with_link links found = record {
-  inside = or_else links.inside (first_link 2 (found ∷ []));
-  overlap = or_else links.overlap (first_link 1 (found ∷ []));
-  untested = or_else links.untested (first_link 0 (found ∷ []));
-}
+abbrev pub with_link : Option LinkValue → ReleaseHitValue → Option LinkValue
+with_link link found = better link (link_of found)
+
+-- hits without those at the end that rank below a rank
+abbrev pub skip_below : ℕ → List ReleaseHitValue → List ReleaseHitValue
+skip_below rank [] = []
+skip_below rank (found ∷ more) = if nat_lt (rank_of found) rank then skip_below rank more else found ∷ more
+
+abbrev pub kept_above : ℕ → List ReleaseHitValue → List ReleaseHitValue
+kept_above rank hits = reverse (skip_below rank (reverse hits))
+
+-- the hits of the highest ranks with one hit more: behind the last one that does not rank below it
+abbrev pub with_top : List ReleaseHitValue → ReleaseHitValue → List ReleaseHitValue
+with_top top found = take shown_limit (insert top (length (kept_above (rank_of found) top)) found)
 
 -- a tally that is being made: how many more hits are counted, and what is known of those so far
 pub record RunningValue : Type 0 where
   pub left : ℕ
   pub is_whole : Bool
   pub shown : ShownValue
-  pub links : LinksValue
+  pub top : List ReleaseHitValue
+  pub link : Option LinkValue
 
 -- before the first hit
 abbrev pub no_hits : RunningValue
@@ -44,12 +47,19 @@ no_hits = record {
   left = count_limit;
   is_whole = true;
   shown = record { hits = []; places = shown_limit; bytes = text_limit };
-  links = record { inside = None; overlap = None; untested = None };
+  top = [];
+  link = None;
 }
 
 -- one hit more than are counted: no later hit counts
 abbrev pub cut_off : RunningValue → RunningValue
-cut_off running = record { left = running.left; is_whole = false; shown = running.shown; links = running.links }
+cut_off running = record {
+  left = running.left;
+  is_whole = false;
+  shown = running.shown;
+  top = running.top;
+  link = running.link;
+}
 
 -- one hit more that is counted
 abbrev pub with_counted : RunningValue → ReleaseHitValue → RunningValue
@@ -57,7 +67,8 @@ with_counted running found = record {
   left = running.left - 1;
   is_whole = running.is_whole;
   shown = with_shown running.shown found;
-  links = with_link running.links found;
+  top = with_top running.top found;
+  link = with_link running.link found;
 }
 
 -- one hit more
@@ -75,5 +86,6 @@ tally_from running = record {
   count = count_limit - running.left;
   is_whole = running.is_whole;
   shown = running.shown.hits;
-  best = or_else running.links.inside (or_else running.links.overlap running.links.untested);
+  top = first_within shown_limit text_limit running.top;
+  best = option_map link_url running.link;
 }

@@ -1,19 +1,21 @@
-//! A hit of a query, with its release.
+//! A hit of a query, with its release and its availability.
 ghost use Rattle.std.specs.Prelude.{◌≡◌};
 ghost use Rattle.feed_answer.specs.HitValue.{hit_of};
 ghost use Rattle.feed_resolver_hits.specs.Hits.{name_text, release_hit};
 
-use feed_answer::{Grade, Hit};
+use feed_answer::{Grade, Hit, Query};
+use feed_embargo::{Availability, Today, availability_of};
 use feed_kbart::Row;
 use feed_names::ReleaseName;
 use std::marker::Model;
 
-/// A hit, and its release.
+/// A hit, its release, and how the days that the query asks for lie in those that are open to readers.
 #[derive(Drop)]
 pub struct ReleaseHit<'a> {
     name: &'a ReleaseName,
     row: &'a Row,
     grade: Grade,
+    availability: Availability,
 }
 
 impl<'a> Model for ReleaseHit<'a> {
@@ -21,17 +23,41 @@ impl<'a> Model for ReleaseHit<'a> {
 
     ghost Value = { ReleaseHitValue };
 
-    ghost view = { λ f. record { name = f.name.now; hit = record { row = f.row.now; grade = f.grade } } };
+    ghost view = { λ f. record {
+      name = f.name.now;
+      hit = record { row = f.row.now; grade = f.grade };
+      availability = f.availability;
+    } };
 }
 
 impl<'a> ReleaseHit<'a> {
-    pub(crate) fn new(name: &'a ReleaseName, hit: &Hit<'a>) -> ReleaseHit<'a>
-        ensures { result ≡ release_hit name.now (hit_of hit.now) }
+    pub(crate) fn new(
+        today: &Today,
+        query: &Query,
+        name: &'a ReleaseName,
+        hit: &Hit<'a>,
+    ) -> ReleaseHit<'a>
+        ensures { result ≡ release_hit today.now query.now name.now (hit_of hit.now) }
     {
+        let row = hit.row;
+        let (first, last) = (row.first_day(), row.last_day());
         ReleaseHit {
             name,
-            row: hit.row,
+            row,
             grade: hit.grade,
+            availability: availability_of(today, row.embargo(), first, last, query.days()),
+        }
+    }
+
+    /// Returns the same hit again.
+    pub(crate) fn again(&self) -> ReleaseHit<'a>
+        ensures { result ≡ self.now }
+    {
+        ReleaseHit {
+            name: self.name,
+            row: self.row,
+            grade: self.grade,
+            availability: self.availability,
         }
     }
 
@@ -54,6 +80,13 @@ impl<'a> ReleaseHit<'a> {
         ensures { result ≡ self.now.hit.grade }
     {
         self.grade
+    }
+
+    /// Returns how the days that the query asks for lie in those that are open to readers.
+    pub fn availability(&self) -> Availability
+        ensures { result ≡ self.now.availability }
+    {
+        self.availability
     }
 }
 

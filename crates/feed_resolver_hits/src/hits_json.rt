@@ -2,13 +2,16 @@
 ghost use Rattle.std.specs.Prelude.{◌≡◌, ◌++◌, OnOk};
 ghost use Rattle.feed_answer.specs.Grades.{grade_text};
 ghost use Rattle.feed_resolver_reply.specs.JsonLists.{items_from};
-ghost use Rattle.feed_resolver_hits.specs.HitsJson.{release_members, grade_members, row_members, hit_object};
+ghost use Rattle.feed_resolver_hits.specs.HitsJson.{availability_text, release_members, grade_members, title_members};
+ghost use Rattle.feed_resolver_hits.specs.HitsJson.{access_members, hit_object};
 ghost use Rattle.feed_resolver_hits.specs.HitsJson.{more_start, more_object, more_items, hits_json};
 ghost use Rattle.feed_resolver_hits.specs.Tallying.{tally_from};
 
+use crate::embargo_words::embargo_words;
 use crate::hits::{ReleaseHit, name_text};
 use crate::tally::Tally;
 use feed_answer::Grade;
+use feed_embargo::Availability;
 use feed_kbart::Row;
 use feed_names::ReleaseName;
 use feed_pieces::put_all;
@@ -22,6 +25,17 @@ fn grade_name(grade: Grade) -> &'static [u8]
         Grade::Inside => b"inside",
         Grade::Overlap => b"overlap",
         Grade::Untested => b"untested",
+    }
+}
+
+fn availability_name(availability: Availability) -> &'static [u8]
+    ensures { result.now ≡ availability_text availability }
+{
+    match availability {
+        Availability::Available => b"available",
+        Availability::Partly => b"partly",
+        Availability::NotCompared => b"not compared",
+        Availability::Embargoed => b"embargoed",
     }
 }
 
@@ -43,7 +57,7 @@ pub fn put_release_members(out: &mut Vec<u8>, name: &ReleaseName) -> Result<(), 
 
 #[tactic(auto, unfolding(crate::specs::HitsJson::grade_members))]
 fn put_grade_members(out: &mut Vec<u8>, found: &ReleaseHit<'_>) -> Result<(), AllocError>
-    ensures { OnOk result (out.new.items ≡ out.old.items ++ grade_members found.now.hit) }
+    ensures { OnOk result (out.new.items ≡ out.old.items ++ grade_members found.now) }
 {
     put_all(
         out,
@@ -52,13 +66,15 @@ fn put_grade_members(out: &mut Vec<u8>, found: &ReleaseHit<'_>) -> Result<(), Al
             Piece::Number(u64::from(found.row().number())),
             Piece::Plain(b",\"grade\":"),
             Piece::Quoted(grade_name(found.grade())),
+            Piece::Plain(b",\"availability\":"),
+            Piece::Quoted(availability_name(found.availability())),
         ],
     )
 }
 
-#[tactic(auto, unfolding(crate::specs::HitsJson::row_members))]
-fn put_row_members(out: &mut Vec<u8>, row: &Row) -> Result<(), AllocError>
-    ensures { OnOk result (out.new.items ≡ out.old.items ++ row_members row.now) }
+#[tactic(auto, unfolding(crate::specs::HitsJson::title_members))]
+fn put_title_members(out: &mut Vec<u8>, row: &Row) -> Result<(), AllocError>
+    ensures { OnOk result (out.new.items ≡ out.old.items ++ title_members row.now) }
 {
     put_all(
         out,
@@ -71,8 +87,24 @@ fn put_row_members(out: &mut Vec<u8>, row: &Row) -> Result<(), AllocError>
             Piece::Quoted(row.title_id()),
             Piece::Plain(b",\"depth\":"),
             Piece::Quoted(row.depth()),
+        ],
+    )
+}
+
+fn put_access_members<'a>(
+    out: &mut Vec<u8>,
+    row: &'a Row,
+    words: &'a [u8],
+) -> Result<(), AllocError>
+    ensures { OnOk result (out.new.items ≡ out.old.items ++ access_members row.now words.now) }
+{
+    put_all(
+        out,
+        &[
             Piece::Plain(b",\"embargo\":"),
             Piece::Quoted(row.embargo()),
+            Piece::Plain(b",\"embargo_words\":"),
+            Piece::Quoted(words),
             Piece::Plain(b",\"access\":"),
             Piece::Quoted(row.access()),
             Piece::Plain(b"}"),
@@ -84,9 +116,12 @@ fn put_row_members(out: &mut Vec<u8>, row: &Row) -> Result<(), AllocError>
 fn put_object(out: &mut Vec<u8>, found: &ReleaseHit<'_>) -> Result<(), AllocError>
     ensures { OnOk result (out.new.items ≡ out.old.items ++ hit_object found.now) }
 {
+    let row = found.row();
+    let words = embargo_words(*out.allocator(), row.embargo())?;
     put_release_members(out, found.name())?;
     put_grade_members(out, found)?;
-    put_row_members(out, found.row())
+    put_title_members(out, row)?;
+    put_access_members(out, row, &words)
 }
 
 fn put_objects(out: &mut Vec<u8>, hits: &[ReleaseHit<'_>]) -> Result<(), AllocError>
@@ -131,7 +166,7 @@ fn put_more(out: &mut Vec<u8>, tally: &Tally<'_>) -> Result<(), AllocError>
     if left_out == 0 {
         return Ok(());
     }
-    put_comma(out, tally.shown().len())?;
+    put_comma(out, tally.top().len())?;
     put_more_object(out, left_out as u64, tally.is_whole())
 }
 
@@ -141,7 +176,7 @@ pub(crate) fn put_hits_json(out: &mut Vec<u8>, tally: &Tally<'_>) -> Result<(), 
     ensures { OnOk result (out.new.items ≡ out.old.items ++ hits_json (tally_from tally.now)) }
 {
     put_list_start(out)?;
-    put_objects(out, tally.shown())?;
+    put_objects(out, tally.top())?;
     put_more(out, tally)?;
     put_list_end(out)
 }

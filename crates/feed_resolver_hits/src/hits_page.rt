@@ -5,6 +5,7 @@ ghost use Rattle.std.specs.Fmt.{decimal};
 ghost use Rattle.std.specs.Option.{option_and_then};
 ghost use Rattle.feed_dates.specs.Days.{date_of_day};
 ghost use Rattle.feed_resolver_reply.specs.Pieces.{joined, piece_text};
+ghost use Rattle.feed_resolver_hits.specs.HitsPage.{availability_words, package_cell, text_or};
 ghost use Rattle.feed_resolver_hits.specs.HitsPage.{grade_words, title_cell, or_nothing, dates_text, volumes_text};
 ghost use Rattle.feed_resolver_hits.specs.HitsPage.{coverage_cells, text_cells, hit_row, table_head, table_end};
 ghost use Rattle.feed_resolver_hits.specs.HitsPage.{hits_table, at_least, more_text, more_part, hits_part};
@@ -13,11 +14,13 @@ ghost use Rattle.feed_resolver_hits.specs.Tallying.{tally_from};
 
 use crate::ask::Ask;
 use crate::citation_page::put_citation;
+use crate::embargo_words::embargo_words;
 use crate::hits::ReleaseHit;
 use crate::link::is_link;
 use crate::tally::Tally;
 use feed_answer::Grade;
 use feed_dates::write_date;
+use feed_embargo::Availability;
 use feed_kbart::Row;
 use feed_pieces::put_all;
 use feed_resolver_reply::{Piece, put, put_page_end, put_page_start};
@@ -26,8 +29,8 @@ use std::alloc::AllocError;
 const TABLE_HEAD: &[u8] =
     b"<div class=\"wide\">\n<table>\n<thead>\n<tr><th scope=\"col\">Title</th>\
     <th scope=\"col\">How well it fits</th><th scope=\"col\">Dates</th><th scope=\"col\">Volumes</th>\
-    <th scope=\"col\">Depth</th><th scope=\"col\">Embargo</th><th scope=\"col\">Access</th>\
-    <th scope=\"col\">Package</th></tr>\n</thead>\n<tbody>\n";
+    <th scope=\"col\">Availability</th><th scope=\"col\">Depth</th><th scope=\"col\">Embargo</th>\
+    <th scope=\"col\">Access</th><th scope=\"col\">Package</th></tr>\n</thead>\n<tbody>\n";
 
 const TABLE_END: &[u8] = b"</tbody>\n</table>\n</div>\n";
 
@@ -38,6 +41,17 @@ fn grade_words(grade: Grade) -> &'static [u8]
         Grade::Inside => b"covers all of what you asked for",
         Grade::Overlap => b"covers a part of your date",
         Grade::Untested => b"has the title; no date or volume was compared",
+    }
+}
+
+fn availability_words(availability: Availability) -> &'static [u8]
+    ensures { result.now ≡ availability_words availability }
+{
+    match availability {
+        Availability::Available => b"available",
+        Availability::Partly => b"partly available",
+        Availability::NotCompared => b"not compared",
+        Availability::Embargoed => b"under an embargo",
     }
 }
 
@@ -133,35 +147,60 @@ fn put_coverage(out: &mut Vec<u8>, found: &ReleaseHit<'_>) -> Result<(), AllocEr
     put_volumes(out, found.row())
 }
 
-#[tactic(auto, unfolding(crate::specs::HitsPage::text_cells))]
-fn put_text_cells(out: &mut Vec<u8>, found: &ReleaseHit<'_>) -> Result<(), AllocError>
-    ensures { OnOk result (out.new.items ≡ out.old.items ++ text_cells found.now) }
+fn text_or<'a>(text: &'a [u8], other: &'a [u8]) -> &'a [u8]
+    ensures { result.now ≡ text_or text.now other.now }
 {
-    let row = found.row();
+    if text.is_empty() { other } else { text }
+}
+
+#[tactic(auto, unfolding(crate::specs::HitsPage::text_cells))]
+fn put_text_cells<'a>(
+    out: &mut Vec<u8>,
+    availability: Availability,
+    row: &'a Row,
+    words: &'a [u8],
+) -> Result<(), AllocError>
+    ensures { OnOk result (out.new.items ≡ out.old.items ++ text_cells availability row.now words.now) }
+{
     put_all(
         out,
         &[
             Piece::Plain(b"</td><td>"),
+            Piece::Plain(availability_words(availability)),
+            Piece::Plain(b"</td><td>"),
             Piece::Escaped(row.depth()),
             Piece::Plain(b"</td><td>"),
-            Piece::Escaped(row.embargo()),
+            Piece::Escaped(text_or(words, row.embargo())),
             Piece::Plain(b"</td><td>"),
             Piece::Escaped(row.access()),
+        ],
+    )
+}
+
+#[tactic(auto, unfolding(crate::specs::HitsPage::package_cell))]
+fn put_package_cell(out: &mut Vec<u8>, package: &[u8]) -> Result<(), AllocError>
+    ensures { OnOk result (out.new.items ≡ out.old.items ++ package_cell «package».now) }
+{
+    put_all(
+        out,
+        &[
             Piece::Plain(b"</td><td>"),
-            Piece::Escaped(found.name().package()),
+            Piece::Escaped(package),
             Piece::Plain(b"</td></tr>\n"),
         ],
     )
 }
 
-#[tactic(auto, unfolding(crate::specs::HitsPage::hit_row))]
 fn put_row(out: &mut Vec<u8>, found: &ReleaseHit<'_>) -> Result<(), AllocError>
     ensures { OnOk result (out.new.items ≡ out.old.items ++ hit_row found.now) }
 {
+    let row = found.row();
+    let words = embargo_words(*out.allocator(), row.embargo())?;
     put(out, b"<tr><th scope=\"row\">")?;
-    put_title(out, found.row())?;
+    put_title(out, row)?;
     put_coverage(out, found)?;
-    put_text_cells(out, found)
+    put_text_cells(out, found.availability(), row, &words)?;
+    put_package_cell(out, found.name().package())
 }
 
 fn put_rows(out: &mut Vec<u8>, hits: &[ReleaseHit<'_>]) -> Result<(), AllocError>
@@ -227,7 +266,7 @@ fn put_hits(out: &mut Vec<u8>, tally: &Tally<'_>) -> Result<(), AllocError>
     if tally.count() == 0 {
         return put(out, b"<p>No holdings match.</p>\n");
     }
-    put_table(out, tally.shown())?;
+    put_table(out, tally.top())?;
     put_more(out, tally)
 }
 

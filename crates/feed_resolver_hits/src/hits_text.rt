@@ -10,6 +10,7 @@ ghost use Rattle.feed_resolver_hits.specs.Tallying.{with_hits, tally_from};
 use crate::hits::ReleaseHit;
 use crate::tally::Tally;
 use feed_answer::{Query, write_head, write_hit};
+use feed_embargo::Today;
 use feed_kbart::Holdings;
 use feed_names::ReleaseName;
 use feed_pieces::put_all;
@@ -87,18 +88,19 @@ pub fn put_release<'a>(
     alloc: Global,
     out: &mut Vec<u8>,
     tally: &mut Tally<'a>,
+    today: &Today,
     name: &'a ReleaseName,
     holdings: &'a Holdings,
     query: &Query,
 ) -> Result<(), AllocError>
     ensures tally { OnOk result (tally.new
-        ≡ with_hits tally.old (map (release_hit name.now) (answer_of holdings.now query.now))) }
+        ≡ with_hits tally.old (map (release_hit today.now query.now name.now) (answer_of holdings.now query.now))) }
     ensures text { OnOk result (out.new.items
         ≡ out.old.items ++ release_text (tally_from tally.old) (tally_from tally.new) name.now) }
 {
     let counted = tally.count();
     let shown = tally.shown().len();
-    tally.add_release(alloc, name, holdings, query)?;
+    tally.add_release(alloc, today, name, holdings, query)?;
     let count = tally.count().saturating_sub(counted);
     put_head(out, name, count, tally.is_whole())?;
     put_lines(out, hits_from(tally.shown(), shown))

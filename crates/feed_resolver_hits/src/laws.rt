@@ -1,6 +1,6 @@
 //! Laws of hits, each stated as the contract of a function with an empty body.
 ghost use Rattle.feed_resolver_hits.specs.Laws.{AnswerIsJson, BestLinkRanksHighest, HitsAreJson, RedirectsToLink};
-ghost use Rattle.feed_resolver_hits.specs.Laws.{TallyTellsOfHits};
+ghost use Rattle.feed_resolver_hits.specs.Laws.{RanksInOrder, TallyTellsOfHits};
 
 /// The URL of a redirect is one of `http` or `https` in at most 8,000 bytes of visible ASCII, so no byte of a file can
 /// end a line of a reply's head.
@@ -13,7 +13,14 @@ pub fn best_link_ranks_highest()
     ensures { BestLinkRanksHighest }
 {}
 
-/// A tally that is made hit by hit tells how many hits there are, up to 1,000,000, the first ones, and the best link.
+/// One hit ranks above another exactly if its availability is better, or that is the same and its grade is better, or
+/// both are the same and its depth and access are.
+pub fn ranks_in_order()
+    ensures { RanksInOrder }
+{}
+
+/// A tally that is made hit by hit tells how many hits there are, up to 1,000,000, the first ones, those of the highest
+/// ranks, and the best link.
 pub fn tally_tells_of_hits()
     ensures { TallyTellsOfHits }
 {}

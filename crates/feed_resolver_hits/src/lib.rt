@@ -7,6 +7,7 @@ mod ask;
 mod asked;
 mod candidates;
 mod citation_page;
+mod embargo_words;
 mod hits;
 mod hits_json;
 mod hits_page;
@@ -14,9 +15,11 @@ mod hits_text;
 mod laws;
 mod link;
 mod links;
+mod rank;
 mod refusals;
 mod shown;
 mod tally;
+mod top;
 
 pub use answer_json::put_answer_json;
 pub use ask::Ask;
@@ -26,7 +29,8 @@ pub use hits_json::put_release_members;
 pub use hits_page::put_hits_page;
 pub use hits_text::put_release;
 pub use laws::{
-    answer_is_json, best_link_ranks_highest, hits_are_json, redirects_to_link, tally_tells_of_hits,
+    answer_is_json, best_link_ranks_highest, hits_are_json, ranks_in_order, redirects_to_link,
+    tally_tells_of_hits,
 };
 pub use refusals::unasked_reply;
 pub use tally::Tally;

@@ -1,6 +1,6 @@
 //! The hits that a reply shows.
-ghost use Rattle.std.specs.Prelude.{◌≡◌, ◌-◌, [], OnOk};
-ghost use Rattle.feed_resolver_hits.specs.Tallies.{text_size, shown_limit, text_limit};
+ghost use Rattle.std.specs.Prelude.{◌≡◌, ◌-◌, ◌≤◌, [], OnOk, length};
+ghost use Rattle.feed_resolver_hits.specs.Tallies.{first_within, text_size, shown_limit, text_limit};
 ghost use Rattle.feed_resolver_hits.specs.Tallying.{with_shown};
 
 use crate::hits::{ReleaseHit, name_text};
@@ -8,7 +8,7 @@ use std::alloc::{AllocError, Global};
 use std::marker::Model;
 
 // The most hits that a reply shows.
-const SHOWN_LIMIT: usize = 1_000;
+pub(crate) const SHOWN_LIMIT: usize = 1_000;
 
 // The texts of the hits that a reply shows have fewer bytes. Each byte takes at most six in JSON or in a page, so that
 // a reply has at most 4 MiB.
@@ -45,6 +45,28 @@ fn bytes_after(bytes: usize, found: &ReleaseHit<'_>) -> usize
         .saturating_sub(row.depth().len())
         .saturating_sub(row.embargo().len())
         .saturating_sub(row.access().len())
+}
+
+// How many of the hits at the front are within the limits.
+fn count_within(hits: &[ReleaseHit<'_>]) -> usize
+    ensures count { result ≡ length (first_within shown_limit text_limit hits.now) }
+    ensures bound { result ≤ length hits.now }
+{
+    let mut bytes = TEXT_LIMIT;
+    for (place, found) in hits.iter().enumerate() {
+        bytes = bytes_after(bytes, found);
+        if place >= SHOWN_LIMIT || bytes == 0 {
+            return place;
+        }
+    }
+    hits.len()
+}
+
+/// Returns the first hits: at most 1,000, whose texts have fewer bytes in all than the limit of a reply.
+pub(crate) fn first_within<'a, 'b>(hits: &'b [ReleaseHit<'a>]) -> &'b [ReleaseHit<'a>]
+    ensures { result.now ≡ first_within shown_limit text_limit hits.now }
+{
+    &hits[..count_within(hits)]
 }
 
 impl<'a> Shown<'a> {

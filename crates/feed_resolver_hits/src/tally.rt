@@ -1,4 +1,5 @@
-//! The tally of a query's hits: how many there are, the first ones, and the best link. It is made hit by hit.
+//! The tally of a query's hits: how many there are, the first ones, those of the highest ranks, and the best link.
+//! It is made hit by hit.
 ghost use Rattle.std.specs.Prelude.{◌≡◌, ◌-◌, ◌∷◌, [], OnOk, map, length, option_copied};
 ghost use Rattle.std.specs.List.{filter_map};
 ghost use Rattle.feed_answer.specs.Answers.{answer_of};
@@ -12,7 +13,9 @@ use crate::candidates::sole_places;
 use crate::hits::ReleaseHit;
 use crate::links::Links;
 use crate::shown::Shown;
+use crate::top::Top;
 use feed_answer::{Hit, Query, hit_at, places_of};
+use feed_embargo::Today;
 use feed_kbart::{Holdings, Row};
 use feed_names::ReleaseName;
 use std::alloc::{AllocError, Global};
@@ -28,6 +31,7 @@ pub struct Tally<'a> {
     left: usize,
     is_whole: bool,
     shown: Shown<'a>,
+    top: Top<'a>,
     links: Links<'a>,
 }
 
@@ -36,7 +40,13 @@ impl<'a> Model for Tally<'a> {
 
     ghost Value = { RunningValue };
 
-    ghost view = { λ t. record { left = t.left; is_whole = t.is_whole; shown = t.shown; links = t.links } };
+    ghost view = { λ t. record {
+      left = t.left;
+      is_whole = t.is_whole;
+      shown = t.shown;
+      top = t.top;
+      link = t.links;
+    } };
 }
 
 impl<'a> Tally<'a> {
@@ -48,6 +58,7 @@ impl<'a> Tally<'a> {
             left: COUNT_LIMIT,
             is_whole: true,
             shown: Shown::new(alloc),
+            top: Top::new(alloc),
             links: Links::new(),
         }
     }
@@ -66,21 +77,28 @@ impl<'a> Tally<'a> {
         self.is_whole
     }
 
-    /// Returns the hits that a reply shows.
+    /// Returns the first hits, which a reply in text shows.
     pub fn shown(&self) -> &[ReleaseHit<'a>]
         ensures { result.now ≡ (tally_from self.now).shown }
     {
         self.shown.hits()
     }
 
-    /// Returns how many of the counted hits are not shown.
+    /// Returns the hits of the highest ranks, which a reply in JSON and a page show.
+    pub fn top(&self) -> &[ReleaseHit<'a>]
+        ensures { result.now ≡ (tally_from self.now).top }
+    {
+        self.top.hits()
+    }
+
+    /// Returns how many of the counted hits a reply in JSON and a page do not show.
     pub fn left_out(&self) -> usize
         ensures { result ≡ left_out (tally_from self.now) }
     {
-        self.count().saturating_sub(self.shown().len())
+        self.count().saturating_sub(self.top().len())
     }
 
-    /// Returns the URL of the best hit that has a link: inside before overlap before untested; of equals the first.
+    /// Returns the URL of the hit with the highest rank that has a link; of equals the first.
     pub fn best_link(&self) -> Option<&'a [u8]>
         ensures { option_copied result ≡ (tally_from self.now).best }
     {
@@ -99,40 +117,45 @@ impl<'a> Tally<'a> {
         }
         self.left -= 1;
         self.links.add(&found);
-        self.shown.add(found)
+        self.shown.add(found.again())?;
+        self.top.add(found)
     }
 
     fn add_hit_at(
         &mut self,
+        today: &Today,
         name: &'a ReleaseName,
         rows: &'a [Row],
         place: u32,
         query: &Query,
     ) -> Result<(), AllocError>
         ensures { OnOk result (self.new
-            ≡ with_hits self.old (map (release_hit name.now) (filter_map (hit_at query.now rows.now) (place ∷ [])))) }
+            ≡ with_hits self.old (map (release_hit today.now query.now name.now)
+            (filter_map (hit_at query.now rows.now) (place ∷ [])))) }
     {
         match hit_at(rows, place, query) {
-            Some(hit) => self.count_hit(ReleaseHit::new(name, &hit)),
+            Some(hit) => self.count_hit(ReleaseHit::new(today, query, name, &hit)),
             None => Ok(()),
         }
     }
 
     fn add_hits_at(
         &mut self,
+        today: &Today,
         name: &'a ReleaseName,
         rows: &'a [Row],
         places: &[u32],
         query: &Query,
     ) -> Result<(), AllocError>
         ensures { OnOk result (self.new
-            ≡ with_hits self.old (map (release_hit name.now) (filter_map (hit_at query.now rows.now) places.now))) }
+            ≡ with_hits self.old (map (release_hit today.now query.now name.now)
+            (filter_map (hit_at query.now rows.now) places.now))) }
     {
         for place in places {
             if !self.is_whole {
                 return Ok(());
             }
-            self.add_hit_at(name, rows, *place, query)?;
+            self.add_hit_at(today, name, rows, *place, query)?;
         }
         Ok(())
     }
@@ -142,18 +165,19 @@ impl<'a> Tally<'a> {
     pub fn add_release(
         &mut self,
         alloc: Global,
+        today: &Today,
         name: &'a ReleaseName,
         holdings: &'a Holdings,
         query: &Query,
     ) -> Result<(), AllocError>
         ensures { OnOk result (self.new
-            ≡ with_hits self.old (map (release_hit name.now) (answer_of holdings.now query.now))) }
+            ≡ with_hits self.old (map (release_hit today.now query.now name.now) (answer_of holdings.now query.now))) }
     {
         match sole_places(holdings, query) {
-            Some(places) => self.add_hits_at(name, holdings.rows(), places, query),
+            Some(places) => self.add_hits_at(today, name, holdings.rows(), places, query),
             None => {
                 let places = places_of(alloc, holdings, query)?;
-                self.add_hits_at(name, holdings.rows(), &places, query)
+                self.add_hits_at(today, name, holdings.rows(), &places, query)
             }
         }
     }

@@ -12,7 +12,8 @@ use Rattle.hex.proofs.HexLemmas.{decode_of-encode_lower, decode_of-ok}
 use Rattle.sha2.specs.Sha256.{digest_bytes, final_hash, initial_hash_256, sha256}
 use Rattle.std.specs.Fmt.{decimal}
 use Rattle.feed_resolver_request.specs.declared.representation.Representation.{Representation}
-use Rattle.feed_resolver_tag.specs.Tags.{SiteValue, TagInputs, entity_tag, inputs_of, tag_message, quoted_hex}
+use Rattle.feed_embargo.specs.Today.{TodayValue}
+use Rattle.feed_resolver_tag.specs.Tags.{SiteValue, TagInputs, entity_tag, inputs_of, kind_and_day, message_of, tag_message, quoted_hex}
 
 abbrev IsByte : ℕ → Type 0
 IsByte b = b < 256
@@ -49,14 +50,17 @@ hex_visible bytes small = All-weaker (λ c. is_hex_digit c ≡ true) (λ c. is_u
 pub tag_visible : (inputs : TagInputs) → AllPass is_uri_byte (entity_tag inputs)
 unfolding entity_tag
 tag_visible inputs =
-    let digest : List ℕ = sha256 (tag_message inputs.version inputs.settings inputs.releases inputs.representation) in
+    let digest : List ℕ = sha256 (tag_message inputs) in
     All-append (λ c. is_uri_byte c ≡ true) (34 ∷ []) (encode_lower digest ++ 34 ∷ []) (AllPass-from_list_all is_uri_byte (34 ∷ []) refl)
-    (All-append (λ c. is_uri_byte c ≡ true) (encode_lower digest) (34 ∷ []) (hex_visible digest (sha_small (tag_message inputs.version inputs.settings inputs.releases inputs.representation)))
+    (All-append (λ c. is_uri_byte c ≡ true) (encode_lower digest) (34 ∷ [])
+    (hex_visible digest (sha_small (tag_message inputs)))
     (AllPass-from_list_all is_uri_byte (34 ∷ []) refl))
 
 -- a tag from the digest of its inputs
-pub tag_made : (site : SiteValue) (settings releases : List ℕ) (representation : Representation) (digest : List ℕ) → settings ≡ decimal site.max_age
-    → digest ≡ sha256 (tag_message site.version settings releases representation) → quoted_hex digest ≡ entity_tag (inputs_of site releases representation)
+pub tag_made : (site : SiteValue) (today : TodayValue) (settings releases : List ℕ) (representation : Representation) (last digest : List ℕ) → settings ≡ decimal site.max_age
+    → last ≡ kind_and_day representation today.day → digest ≡ sha256 (message_of site.version settings site.file releases last)
+    → quoted_hex digest ≡ entity_tag (inputs_of site today releases representation)
 unfolding entity_tag
-tag_made site settings releases representation digest is made =
-    ap quoted_hex (made ∙ ap (λ t. sha256 (tag_message site.version t releases representation)) is)
+tag_made site today settings releases representation last digest is ends made =
+    ap quoted_hex (made ∙ ap (λ t. sha256 (message_of site.version t site.file releases last)) is
+    ∙ ap (λ t. sha256 (message_of site.version (decimal site.max_age) site.file releases t)) ends)

@@ -1,29 +1,39 @@
 -- Entity tags (RFC 9110, section 8.8.3).
-use Rattle.std.specs.Prelude.{ℕ, List, [], ◌∷◌, ◌++◌}
-use Rattle.std.specs.Fmt.{decimal}
+use Rattle.std.specs.Prelude.{ℕ, ℤ, List, [], ◌∷◌, ◌++◌}
+use Rattle.std.specs.Fmt.{decimal, signed_decimal}
 use Rattle.sha2.specs.Sha256.{sha256}
 use Rattle.hex.specs.Hex.{encode_lower}
+use Rattle.feed_embargo.specs.Today.{TodayValue}
 use Rattle.feed_resolver_request.specs.declared.representation.Representation.{Representation}
 use Rattle.feed_resolver_request.specs.declared.representation.Representation.TheVariants.{Text, Json, Html}
 
--- what the replies of a node depend on beside its releases: the version of the program, and for how many seconds a cache
--- may use a reply
+-- what the replies of a node depend on beside its releases and the day: the version of the program, for how many seconds
+-- a cache may use a reply, and the bytes of the site file
 pub record SiteValue : Type 0 where
   pub version : List ℕ
   pub max_age : ℕ
+  pub file : List ℕ
 
--- all that the body of a reply depends on beside its request; a further setting, a day or a file that replies come to
--- depend on goes into the settings
+-- all that the body of a reply depends on beside its request; a further setting that replies come to depend on goes into
+-- the settings
 pub record TagInputs : Type 0 where
   pub version : List ℕ
   pub settings : List ℕ
+  pub file : List ℕ
   pub releases : List ℕ
+  pub day : ℤ
   pub representation : Representation
 
--- the inputs of a node, with a text that determines its active releases
-abbrev pub inputs_of : SiteValue → List ℕ → Representation → TagInputs
-inputs_of site releases representation =
-    record { version = site.version; settings = decimal site.max_age; releases = releases; representation = representation }
+-- the inputs of a node on a day, with a text that determines its active releases
+abbrev pub inputs_of : SiteValue → TodayValue → List ℕ → Representation → TagInputs
+inputs_of site today releases representation = record {
+  version = site.version;
+  settings = decimal site.max_age;
+  file = site.file;
+  releases = releases;
+  day = today.day;
+  representation = representation;
+}
 
 -- the byte that stands for a representation
 abbrev pub kind_of : Representation → ℕ
@@ -31,10 +41,18 @@ kind_of Text = 116
 kind_of Json = 106
 kind_of Html = 104
 
--- the digests of the texts, and the representation
-abbrev pub tag_message : List ℕ → List ℕ → List ℕ → Representation → List ℕ
-tag_message version settings releases representation =
-    ((sha256 version ++ sha256 settings) ++ sha256 releases) ++ kind_of representation ∷ []
+-- a representation and a day's number
+abbrev pub kind_and_day : Representation → ℤ → List ℕ
+kind_and_day representation day = kind_of representation ∷ signed_decimal day
+
+-- the digests of four texts, and a text
+abbrev pub message_of : List ℕ → List ℕ → List ℕ → List ℕ → List ℕ → List ℕ
+message_of version settings file releases last = (((sha256 version ++ sha256 settings) ++ sha256 file) ++ sha256 releases) ++ last
+
+-- the digests of the texts, the representation and the day
+abbrev pub tag_message : TagInputs → List ℕ
+tag_message inputs =
+    message_of inputs.version inputs.settings inputs.file inputs.releases (kind_and_day inputs.representation inputs.day)
 
 -- bytes in hex, between quotation marks
 abbrev pub quoted_hex : List ℕ → List ℕ
@@ -42,4 +60,4 @@ quoted_hex bytes = 34 ∷ (encode_lower bytes ++ 34 ∷ [])
 
 -- the tag: a digest of all the inputs
 unfoldable pub entity_tag : TagInputs → List ℕ
-entity_tag inputs = quoted_hex (sha256 (tag_message inputs.version inputs.settings inputs.releases inputs.representation))
+entity_tag inputs = quoted_hex (sha256 (tag_message inputs))

@@ -1,22 +1,27 @@
 //! What the replies of a node depend on beside its releases, and the tags that follow from it.
 ghost use Rattle.std.specs.Prelude.{◌≡◌, IfOk};
 ghost use Rattle.std.specs.Fmt.{decimal};
-ghost use Rattle.feed_resolver_tag.specs.Tags.{entity_tag, inputs_of, kind_of, tag_message, quoted_hex};
+ghost use Rattle.feed_resolver_tag.specs.Tags.{entity_tag, inputs_of, kind_and_day, kind_of, message_of};
+ghost use Rattle.feed_resolver_tag.specs.Tags.{quoted_hex};
 ghost use Rattle.sha2.specs.Sha256.{sha256};
 
 use crate::digested::Digested;
+use feed_embargo::Today;
 use feed_resolver_request::Representation;
 use sha2::{Digest, Sha256};
 use std::alloc::{AllocError, Global};
 use std::io::Write;
 use std::marker::Model;
 
-/// What the replies of a node depend on beside its releases: the version of the program and the settings.
+/// What the replies of a node depend on beside its releases and the day: the version of the program, the settings and
+/// the site file. It stays the same while a node runs.
 #[derive(Drop)]
 pub struct Site {
     version: Digested,
     /// The settings as a text.
     settings: Digested,
+    /// The bytes of the site file.
+    file: Digested,
     /// The text about the releases whose digest was computed last.
     releases: Digested,
     /// For how many seconds a cache may use a reply without asking again; 0 if it always has to ask.
@@ -30,7 +35,7 @@ impl Model for Site {
 
     ghost Value = { SiteValue };
 
-    ghost view = { λ s. record { version = s.version; max_age = s.max_age } };
+    ghost view = { λ s. record { version = s.version; max_age = s.max_age; file = s.file } };
 
     ghost invariant = { λ s. s.settings ≡ decimal s.max_age };
 }
@@ -55,19 +60,37 @@ fn decimal(alloc: Global, number: u32) -> Result<Vec<u8>, AllocError>
     }
 }
 
+fn kind_and_day(
+    alloc: Global,
+    representation: Representation,
+    today: &Today,
+) -> Result<Vec<u8>, AllocError>
+    ensures { IfOk result (λ text. text.items ≡ kind_and_day representation today.now.day) }
+{
+    let day = today.day();
+    let mut text = Vec::new(alloc);
+    text.push(kind_of(representation))?;
+    match write!(&mut text, "{day}") {
+        Ok(()) => Ok(text),
+        Err(_) => Err(AllocError),
+    }
+}
+
 fn digest_of(
     version: &Digested,
     settings: &Digested,
+    file: &Digested,
     releases: &Digested,
-    representation: Representation,
+    last: &[u8],
 ) -> [u8; 32]
-    ensures { result ≡ sha256 (tag_message version.now settings.now releases.now representation) }
+    ensures { result ≡ sha256 (message_of version.now settings.now file.now releases.now last.now) }
 {
     let mut hasher = Sha256::new();
     hasher.update(version.digest().as_slice());
     hasher.update(settings.digest().as_slice());
+    hasher.update(file.digest().as_slice());
     hasher.update(releases.digest().as_slice());
-    hasher.update([kind_of(representation)].as_slice());
+    hasher.update(last);
     hasher.finalize()
 }
 
@@ -83,15 +106,23 @@ fn quoted_hex(alloc: Global, digest: &[u8]) -> Result<Vec<u8>, AllocError>
 }
 
 impl Site {
-    /// Begins with the version of the program, and for how many seconds a cache may use a reply without asking again.
-    pub fn new(alloc: Global, version: &[u8], max_age: u32) -> Result<Site, AllocError>
-        ensures { IfOk result (λ site. (site.version ≡ version.now) × (site.max_age ≡ max_age)) }
+    /// Begins with the version of the program, for how many seconds a cache may use a reply without asking again, and
+    /// the bytes of the site file, which are none if there is no such file.
+    pub fn new(
+        alloc: Global,
+        version: &[u8],
+        max_age: u32,
+        file: Vec<u8>,
+    ) -> Result<Site, AllocError>
+        ensures { IfOk result (λ site. site
+            ≡ record { version = version.now; max_age = max_age; file = file.items }) }
     {
         let settings = Digested::new(decimal(alloc, max_age)?);
         let version = Digested::new(Vec::from_slice(alloc, version)?);
         Ok(Site {
             version,
             settings,
+            file: Digested::new(file),
             releases: Digested::new(Vec::new(alloc)),
             max_age,
         })
@@ -116,7 +147,7 @@ impl Site {
         self.max_age
     }
 
-    /// Returns the entity tag of a representation that this text about the active releases determines.
+    /// Returns the entity tag of a representation that this text about the active releases determines on a day.
     ///
     /// # Errors
     ///
@@ -124,12 +155,21 @@ impl Site {
     pub fn tag(
         &self,
         alloc: Global,
+        today: &Today,
         releases: &Digested,
         representation: Representation,
     ) -> Result<Vec<u8>, AllocError>
-        ensures { IfOk result (λ tag. tag.items ≡ entity_tag (inputs_of self.now releases.now representation)) }
+        ensures { IfOk result (λ tag. tag.items
+            ≡ entity_tag (inputs_of self.now today.now releases.now representation)) }
     {
-        let digest = digest_of(&self.version, &self.settings, releases, representation);
+        let last = kind_and_day(alloc, representation, today)?;
+        let digest = digest_of(
+            &self.version,
+            &self.settings,
+            &self.file,
+            releases,
+            last.as_slice(),
+        );
         quoted_hex(alloc, &digest)
     }
 }

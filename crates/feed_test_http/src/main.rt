@@ -39,7 +39,9 @@
 //! A node, with the releases that it received:
 //!
 //!     release NAME TEXT               offers a release to the node, and sends its whole file
-//!     site VERSION MAX-AGE            the version and the seconds that tags and replies are made of; prints nothing
+//!     site VERSION MAX-AGE TEXT       the version, the seconds and the site file that tags and replies are made of;
+//!                                     prints nothing. Without TEXT there is no site file
+//!     today YYYY-MM-DD                the day of the node; prints nothing. It begins as 1970-01-01
 //!     keep-releases                   keeps the digest of the active releases, as a node does; prints nothing
 //!     respond keep|close TEXT         the resolver's reply to a request, on a connection that is kept or closed
 //!     respond-to-form keep|close BODY TEXT    the length of a request's form, and the reply to this body

@@ -2,6 +2,8 @@
 use crate::escapes::Escaped;
 use crate::fault::Fault;
 use crate::line::Line;
+use feed_dates::read_date;
+use feed_embargo::Today;
 use feed_http_heads::{FIELD_LIMIT, head_end};
 use feed_keep::ListKeep;
 use feed_model::{Refusal, Reply};
@@ -23,11 +25,12 @@ pub struct Node<'a> {
     pub wanted: usize,
     feed: Feed<ListKeep>,
     site: Site,
+    today: Today,
 }
 
 impl<'a> Node<'a> {
     pub fn new(rt: &'a HostRuntime, step: usize) -> Result<Node<'a>, Fault> {
-        let site = Site::new(rt.alloc(), b"1.0", 0)?;
+        let site = Site::new(rt.alloc(), b"1.0", 0, Vec::new(rt.alloc()))?;
         match Feed::open(rt.alloc(), ListKeep::new(rt.alloc())) {
             Ok(feed) => Ok(Node {
                 rt,
@@ -36,6 +39,7 @@ impl<'a> Node<'a> {
                 wanted: 0,
                 feed,
                 site,
+                today: Today::epoch(),
             }),
             Err(_) => Err(Fault::Memory),
         }
@@ -46,6 +50,7 @@ impl<'a> Node<'a> {
         match command {
             "release" => self.release(line),
             "site" => self.take_site(line),
+            "today" => self.take_today(line),
             "keep-releases" => self.keep_releases(),
             "respond" => self.respond(line),
             "respond-to-form" => self.respond_to_form(line),
@@ -75,7 +80,16 @@ impl<'a> Node<'a> {
             self.rt.alloc(),
             version,
             max_age.min(u64::from(u32::MAX)) as u32,
+            line.text(self.rt.alloc())?,
         )?;
+        Ok(())
+    }
+
+    fn take_today(&mut self, mut line: Line<'_>) -> Result<(), Fault> {
+        match today_of(line.word()?) {
+            Some(today) => self.today = today,
+            None => return Err(Fault::NoDay),
+        }
         Ok(())
     }
 
@@ -105,6 +119,7 @@ impl<'a> Node<'a> {
             body,
             keeps,
             &self.site,
+            &self.today,
             &self.feed,
         )?;
         println!(self.rt; "{}", Escaped(reply.bytes()))?;
@@ -127,6 +142,7 @@ impl<'a> Node<'a> {
             keeps,
             &policy,
             &self.site,
+            &self.today,
             &self.feed,
         )?;
         println!(self.rt; "{}", Escaped(reply.bytes()))?;
@@ -170,4 +186,8 @@ fn arrive(feed: &mut Feed<ListKeep>, name: &ReleaseName, bytes: &[u8]) -> Result
         total: None,
         bytes,
     })
+}
+
+fn today_of(word: &str) -> Option<Today> {
+    Today::new(read_date(word.as_bytes())?)
 }

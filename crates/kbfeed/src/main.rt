@@ -101,6 +101,7 @@ fn run_request<O: Write, F: Write + Drop>(
             db,
             addr,
             options,
+            site,
             source,
         } => {
             let node = Command::Node {
@@ -116,6 +117,7 @@ fn run_request<O: Write, F: Write + Drop>(
                     has_open_reports: options.has_open_reports,
                 },
                 is_check: options.is_check,
+                site,
                 upstream: upstream_of(source),
             };
             (db, node)

@@ -1,0 +1,331 @@
+-- The hits of the highest ranks, made hit by hit, are the first ones in the order of ranks.
+use Rattle.std.proofs.Common.{◌≡◌, ◌<◌, ◌≤◌, ◌-◌, ◌+◌, ◌*◌, ◌⊎◌, ℕ, zero, suc, List, [], ◌∷◌, ◌++◌, Bool, true, false, refl, sym, ap, ◌∙◌, subst, inl, inr, arith, length, take, drop, append_assoc}
+use Rattle.std.specs.Prelude.{◌==◌, ◌&&◌, ◌↔◌, fold, filter, if◌then◌else◌, insert, nat_lt, reverse}
+use Rattle.std.proofs.lemmas.List.{append-nil, reverse-append}
+use Rattle.std.proofs.lemmas.List.Edits.{insert-append_right}
+use Rattle.std.proofs.lemmas.List.Elements.{filter-append}
+use Rattle.std.proofs.lemmas.Bool.{cases_lt, eqb-true, ne_eqb}
+use Rattle.std.proofs.lemmas.Bool.Decides.{nat_tests}
+use borrow.Author.Tests.{eq-eqb, lt-ltb}
+use Rattle.feed_answer.specs.declared.grade.Grade.{Grade}
+use Rattle.feed_answer.specs.declared.grade.Grade.TheVariants.{Inside, Overlap, Untested}
+use Rattle.feed_embargo.specs.declared.availability.Availability.{Availability}
+use Rattle.feed_embargo.specs.declared.availability.Availability.TheVariants.{Available, Partly, NotCompared, Embargoed}
+use Rattle.feed_kbart.specs.RowValue.{RowValue}
+use Rattle.feed_resolver_hits.specs.Hits.{ReleaseHitValue, availability_rank, grade_rank, text_rank, rank_of}
+use Rattle.feed_resolver_hits.specs.Ranks.{in_rank, below_rank, ranked, rank_limit}
+use Rattle.feed_resolver_hits.specs.Laws.{RanksInOrder}
+use Rattle.feed_resolver_hits.specs.Tallies.{first_within, shown_limit, text_size}
+use Rattle.feed_resolver_hits.specs.Tallying.{skip_below, kept_above, with_top}
+
+-- ---- ranks are small
+
+availability_small : (availability : Availability) → availability_rank availability ≤ 3
+availability_small Available = omega arith
+availability_small Partly = omega arith
+availability_small NotCompared = omega arith
+availability_small Embargoed = omega arith
+
+grade_small : (grade : Grade) → grade_rank grade ≤ 2
+grade_small Inside = omega arith
+grade_small Overlap = omega arith
+grade_small Untested = omega arith
+
+two_or_less : (a b : Bool) → (if a then (if b then 2 else 1) else 0) ≤ 2
+two_or_less true true = omega arith
+two_or_less true false = omega arith
+two_or_less false b = omega arith
+
+text_small : (row : RowValue) → text_rank row ≤ 2
+text_small row = two_or_less _ _
+
+pub rank_small : (found : ReleaseHitValue) → rank_of found < rank_limit
+rank_small found =
+    let one = availability_small found.availability in
+    let two = grade_small found.hit.grade in
+    let three = text_small found.hit.row in
+    omega (arith, one, two, three)
+
+-- ---- hits above and below a rank
+
+abbrev AllAbove : ℕ → List ReleaseHitValue → Type 0
+AllAbove rank [] = Unit {0}
+AllAbove rank (found ∷ more) = (rank ≤ rank_of found) × AllAbove rank more
+
+abbrev AllBelow : ℕ → List ReleaseHitValue → Type 0
+AllBelow rank [] = Unit {0}
+AllBelow rank (found ∷ more) = (rank_of found < rank) × AllBelow rank more
+
+above_both : (rank : ℕ) (one other : List ReleaseHitValue) → AllAbove rank one → AllAbove rank other → AllAbove rank (one ++ other)
+above_both rank [] other g h = h
+above_both rank (found ∷ more) other g h = (g.0, above_both rank more other g.1 h)
+
+below_both : (rank : ℕ) (one other : List ReleaseHitValue) → AllBelow rank one → AllBelow rank other → AllBelow rank (one ++ other)
+below_both rank [] other g h = h
+below_both rank (found ∷ more) other g h = (g.0, below_both rank more other g.1 h)
+
+above_front : (rank n : ℕ) (hits : List ReleaseHitValue) → AllAbove rank hits → AllAbove rank (take n hits)
+above_front rank zero hits h = tt
+above_front rank (suc n) [] h = tt
+above_front rank (suc n) (found ∷ more) h = (h.0, above_front rank n more h.1)
+
+below_front : (rank n : ℕ) (hits : List ReleaseHitValue) → AllBelow rank hits → AllBelow rank (take n hits)
+below_front rank zero hits h = tt
+below_front rank (suc n) [] h = tt
+below_front rank (suc n) (found ∷ more) h = (h.0, below_front rank n more h.1)
+
+above_back : (rank : ℕ) (hits : List ReleaseHitValue) → AllAbove rank hits → AllAbove rank (reverse hits)
+above_back rank [] h = tt
+above_back rank (found ∷ more) h =
+    subst (AllAbove rank) (sym (reverse-append (found ∷ []) more)) (above_both rank (reverse more) (found ∷ []) (above_back rank more h.1) (h.0, tt))
+
+below_back : (rank : ℕ) (hits : List ReleaseHitValue) → AllBelow rank hits → AllBelow rank (reverse hits)
+below_back rank [] h = tt
+below_back rank (found ∷ more) h =
+    subst (AllBelow rank) (sym (reverse-append (found ∷ []) more)) (below_both rank (reverse more) (found ∷ []) (below_back rank more h.1) (h.0, tt))
+
+skipped : (rank : ℕ) (low rest : List ReleaseHitValue) → AllBelow rank low → skip_below rank (low ++ rest) ≡ skip_below rank rest
+skipped rank [] rest h = refl
+skipped rank (found ∷ more) rest h = rw (lt-ltb (rank_of found) rank h.0) (skipped rank more rest h.1)
+
+not_skipped : (rank : ℕ) (high : List ReleaseHitValue) → AllAbove rank high → skip_below rank high ≡ high
+not_skipped rank [] h = refl
+not_skipped rank (found ∷ more) h = let test : nat_lt (rank_of found) rank ≡ false = (let le = h.0 in grind (arith, nat_tests)) in rw test refl
+
+reverse_twice : (hits : List ReleaseHitValue) → reverse (reverse hits) ≡ hits
+reverse_twice [] = refl
+reverse_twice (found ∷ more) =
+    ap reverse (reverse-append (found ∷ []) more) ∙ reverse-append (reverse more) (found ∷ []) ∙ ap (λ l. found ∷ l) (reverse_twice more)
+
+-- the hits that do not rank below are kept
+kept : (rank : ℕ) (high low : List ReleaseHitValue) → AllAbove rank high → AllBelow rank low → kept_above rank (high ++ low) ≡ high
+kept rank high low g h =
+    ap (λ l. reverse (skip_below rank l)) (reverse-append high low)
+    ∙ ap reverse (skipped rank (reverse low) (reverse high) (below_back rank low h))
+    ∙ ap reverse (not_skipped rank (reverse high) (above_back rank high g))
+    ∙ reverse_twice high
+
+-- by the last hit
+kept_last : (rank : ℕ) (front : List ReleaseHitValue) (last : ReleaseHitValue)
+    → kept_above rank (front ++ last ∷ []) ≡ (if nat_lt (rank_of last) rank then kept_above rank front else front ++ last ∷ [])
+kept_last rank front last = ap (λ l. reverse (skip_below rank l)) (reverse-append front (last ∷ [])) ∙ go (nat_lt (rank_of last) rank)
+  where
+    go : (b : Bool) → reverse (if b then skip_below rank (reverse front) else last ∷ reverse front) ≡ (if b then kept_above rank front else front ++ last ∷ [])
+    go true = refl
+    go false = reverse-append (last ∷ []) (reverse front) ∙ ap (λ l. l ++ last ∷ []) (reverse_twice front)
+
+pub place_before : (rank : ℕ) (hits front : List ReleaseHitValue) (last : ReleaseHitValue) (place : ℕ) → hits ≡ front ++ last ∷ [] → rank_of last < rank
+    → place ≡ length (kept_above rank front) → place ≡ length (kept_above rank hits)
+place_before rank hits front last place same lower is =
+    is ∙ sym (ap (λ l. length (kept_above rank l)) same ∙ ap length (kept_last rank front last)
+    ∙ ap (λ b. length (if b then kept_above rank front else front ++ last ∷ [])) (lt-ltb (rank_of last) rank lower))
+
+pub place_here : (rank : ℕ) (hits front : List ReleaseHitValue) (last : ReleaseHitValue) → hits ≡ front ++ last ∷ [] → rank ≤ rank_of last → length hits ≡ length (kept_above rank hits)
+place_here rank hits front last same above =
+    let test : nat_lt (rank_of last) rank ≡ false = grind (arith, nat_tests) in
+    ap length same
+    ∙ sym (ap (λ l. length (kept_above rank l)) same ∙ ap length (kept_last rank front last)
+    ∙ ap (λ b. length (if b then kept_above rank front else front ++ last ∷ [])) test)
+
+-- ---- one hit more in the order of ranks
+
+in_rank_above : (rank n : ℕ) (hits : List ReleaseHitValue) → rank ≤ n → AllAbove rank (in_rank n hits)
+in_rank_above rank n [] le = tt
+in_rank_above rank n (found ∷ more) le = go (rank_of found == n) refl (in_rank_above rank n more le)
+  where
+    go : (b : Bool) → (rank_of found == n) ≡ b → AllAbove rank (in_rank n more) → AllAbove rank (if b then found ∷ in_rank n more else in_rank n more)
+    go true test rest = (let same = eqb-true (rank_of found) n test in omega (arith, same, le), rest)
+    go false test rest = rest
+
+in_rank_below : (rank n : ℕ) (hits : List ReleaseHitValue) → n < rank → AllBelow rank (in_rank n hits)
+in_rank_below rank n [] lt = tt
+in_rank_below rank n (found ∷ more) lt = go (rank_of found == n) refl (in_rank_below rank n more lt)
+  where
+    go : (b : Bool) → (rank_of found == n) ≡ b → AllBelow rank (in_rank n more) → AllBelow rank (if b then found ∷ in_rank n more else in_rank n more)
+    go true test rest = (let same = eqb-true (rank_of found) n test in omega (arith, same, lt), rest)
+    go false test rest = rest
+
+below_rank_below : (rank n : ℕ) (hits : List ReleaseHitValue) → n ≤ rank → AllBelow rank (below_rank n hits)
+unfolding below_rank
+below_rank_below rank zero hits le = tt
+below_rank_below rank (suc n) hits le =
+    below_both rank (in_rank n hits) (below_rank n hits) (in_rank_below rank n hits (omega arith)) (below_rank_below rank n hits (omega arith))
+
+-- the hits of a rank with one more
+with_same : (n : ℕ) (hits : List ReleaseHitValue) (found : ReleaseHitValue) → rank_of found ≡ n → in_rank n (hits ++ found ∷ []) ≡ in_rank n hits ++ found ∷ []
+with_same n hits found same =
+    filter-append (λ f. rank_of f == n) hits (found ∷ [])
+    ∙ ap (λ b. in_rank n hits ++ (if b then found ∷ [] else [])) (eq-eqb (rank_of found) n same)
+
+with_other : (n : ℕ) (hits : List ReleaseHitValue) (found : ReleaseHitValue) → (rank_of found ≡ n → ⊥) → in_rank n (hits ++ found ∷ []) ≡ in_rank n hits
+with_other n hits found apart =
+    filter-append (λ f. rank_of f == n) hits (found ∷ [])
+    ∙ ap (λ b. in_rank n hits ++ (if b then found ∷ [] else [])) (ne_eqb (rank_of found) n apart)
+    ∙ append-nil (in_rank n hits)
+
+untouched : (n : ℕ) (hits : List ReleaseHitValue) (found : ReleaseHitValue) → n ≤ rank_of found → below_rank n (hits ++ found ∷ []) ≡ below_rank n hits
+unfolding below_rank
+untouched zero hits found le = refl
+untouched (suc n) hits found le =
+    ap (λ l. l ++ below_rank n (hits ++ found ∷ [])) (with_other n hits found (λ e. omega (arith, e, le)))
+    ∙ ap (λ l. in_rank n hits ++ l) (untouched n hits found (omega arith))
+
+-- where the hit is in the order
+record Split (n : ℕ) (hits : List ReleaseHitValue) (found : ReleaseHitValue) : Type 0 where
+  high : List ReleaseHitValue
+  low : List ReleaseHitValue
+  before : below_rank n hits ≡ high ++ low
+  after : below_rank n (hits ++ found ∷ []) ≡ high ++ found ∷ low
+  above : AllAbove (rank_of found) high
+  below : AllBelow (rank_of found) low
+
+split : (n : ℕ) (hits : List ReleaseHitValue) (found : ReleaseHitValue) → rank_of found < n → Split n hits found
+unfolding below_rank
+split zero hits found lt = absurd (omega (arith, lt))
+split (suc n) hits found lt = elim (cases_lt (rank_of found) n) [
+  | inl lower ↦
+      let rest = split n hits found lower in
+      record {
+        high = in_rank n hits ++ rest.high;
+        low = rest.low;
+        before = ap (λ l. in_rank n hits ++ l) rest.before ∙ sym (append_assoc (in_rank n hits) rest.high rest.low);
+        after = ap (λ l. l ++ below_rank n (hits ++ found ∷ [])) (with_other n hits found (λ e. omega (arith, e, lower)))
+            ∙ ap (λ l. in_rank n hits ++ l) rest.after ∙ sym (append_assoc (in_rank n hits) rest.high (found ∷ rest.low));
+        above = above_both (rank_of found) (in_rank n hits) rest.high (in_rank_above (rank_of found) n hits (omega arith)) rest.above;
+        below = rest.below;
+      }
+  | inr not_lower ↦
+      let same : rank_of found ≡ n = omega arith in
+      record {
+        high = in_rank n hits;
+        low = below_rank n hits;
+        before = refl;
+        after = ap (λ l. l ++ below_rank n (hits ++ found ∷ [])) (with_same n hits found same)
+            ∙ ap (λ l. (in_rank n hits ++ found ∷ []) ++ l) (untouched n hits found (omega arith))
+            ∙ append_assoc (in_rank n hits) (found ∷ []) (below_rank n hits);
+        above = in_rank_above (rank_of found) n hits (omega arith);
+        below = below_rank_below (rank_of found) n hits (omega arith);
+      }
+]
+
+-- ---- of the order only the first places matter
+
+take_both : (n : ℕ) (high low : List ReleaseHitValue) → take n (high ++ low) ≡ take n high ++ take (n - length high) low
+take_both zero high low = let none : 0 - length high ≡ 0 = omega arith in ap (λ k. take k low) (sym none)
+take_both (suc n) [] low = let all : suc n - 0 ≡ suc n = omega arith in ap (λ k. take k low) (sym all)
+take_both (suc n) (found ∷ more) low =
+    let fewer : n - length more ≡ suc n - suc (length more) = omega arith in
+    ap (λ l. found ∷ l) (take_both n more low) ∙ ap (λ k. found ∷ (take n more ++ take k low)) fewer
+
+take_twice : (k n : ℕ) (hits : List ReleaseHitValue) → k ≤ n → take k (take n hits) ≡ take k hits
+take_twice zero n hits le = refl
+take_twice (suc k) zero hits le = absurd (omega (arith, le))
+take_twice (suc k) (suc n) [] le = refl
+take_twice (suc k) (suc n) (found ∷ more) le = ap (λ l. found ∷ l) (take_twice k n more (omega arith))
+
+placed : (n : ℕ) (high low : List ReleaseHitValue) (found : ReleaseHitValue)
+    → take n (take n high ++ found ∷ take (n - length high) low) ≡ take n (high ++ found ∷ low)
+placed zero high low found = refl
+placed (suc n) [] low found =
+    ap (λ l. found ∷ l) (take_twice n (suc n - 0) low (omega arith))
+placed (suc n) (first ∷ more) low found =
+    let fewer : suc n - suc (length more) ≡ n - length more = omega arith in
+    ap (λ k. first ∷ take n (take n more ++ found ∷ take k low)) fewer ∙ ap (λ l. first ∷ l) (placed n more low found)
+
+inserted : (high low : List ReleaseHitValue) (found : ReleaseHitValue) → insert (high ++ low) (length high) found ≡ high ++ found ∷ low
+inserted high low found =
+    let none : length high - length high ≡ 0 = omega arith in
+    insert-append_right high low (length high) (length high) found refl (omega arith) ∙ ap (λ k. high ++ insert low k found) none
+
+-- a hit that is placed among the first ones
+with_more : (high low : List ReleaseHitValue) (found : ReleaseHitValue) → AllAbove (rank_of found) high → AllBelow (rank_of found) low
+    → with_top (take shown_limit (high ++ low)) found ≡ take shown_limit (high ++ found ∷ low)
+with_more high low found g h =
+    let front = take shown_limit high in
+    let back = take (shown_limit - length high) low in
+    ap (λ l. with_top l found) (take_both shown_limit high low)
+    ∙ ap (λ (l : List ReleaseHitValue). take shown_limit (insert (front ++ back) (length l) found))
+    (kept (rank_of found) front back (above_front (rank_of found) shown_limit high g) (below_front (rank_of found) (shown_limit - length high) low h))
+    ∙ ap (take shown_limit) (inserted front back found)
+    ∙ placed shown_limit high low found
+
+-- ---- all hits
+
+step : (hits : List ReleaseHitValue) (found : ReleaseHitValue) → with_top (take shown_limit (ranked hits)) found ≡ take shown_limit (ranked (hits ++ found ∷ []))
+step hits found =
+    let where_it_is = split rank_limit hits found (rank_small found) in
+    ap (λ l. with_top (take shown_limit l) found) where_it_is.before
+    ∙ with_more where_it_is.high where_it_is.low found where_it_is.above where_it_is.below
+    ∙ ap (take shown_limit) (sym where_it_is.after)
+
+steps : (hits more : List ReleaseHitValue) → fold with_top (take shown_limit (ranked hits)) more ≡ take shown_limit (ranked (hits ++ more))
+steps hits [] = ap (λ l. take shown_limit (ranked l)) (sym (append-nil hits))
+steps hits (found ∷ more) =
+    ap (λ l. fold with_top l more) (step hits found) ∙ steps (hits ++ found ∷ []) more
+    ∙ ap (λ l. take shown_limit (ranked l)) (append_assoc hits (found ∷ []) more)
+
+none_ranked : (n : ℕ) → below_rank n [] ≡ []
+unfolding below_rank
+none_ranked zero = refl
+none_ranked (suc n) = none_ranked n
+
+pub top_is : (hits : List ReleaseHitValue) → fold with_top [] hits ≡ take shown_limit (ranked hits)
+top_is hits =
+    let none : [] ≡ take shown_limit (ranked []) = ap (take shown_limit) (sym (none_ranked rank_limit)) in
+    ap (λ l. fold with_top l hits) none ∙ steps [] hits
+
+-- the limits look only at the first places
+pub within_first : (places bytes : ℕ) (hits : List ReleaseHitValue) → first_within places bytes (take places hits) ≡ first_within places bytes hits
+within_first zero bytes [] = refl
+within_first zero bytes (found ∷ more) = refl
+within_first (suc places) bytes [] = refl
+within_first (suc places) bytes (found ∷ more) =
+    go (nat_lt 0 (suc places) && nat_lt 0 (bytes - text_size found)) (within_first places (bytes - text_size found) more)
+  where
+    go : (b : Bool) → first_within places (bytes - text_size found) (take places more) ≡ first_within places (bytes - text_size found) more
+        → (if b then found ∷ first_within (suc places - 1) (bytes - text_size found) (take places more) else [])
+        ≡ (if b then found ∷ first_within (suc places - 1) (bytes - text_size found) more else [])
+    go false rest = refl
+    go true rest =
+        let fewer : suc places - 1 ≡ places = omega arith in
+        ap (λ l. found ∷ l)
+        (ap (λ n. first_within n (bytes - text_size found) (take places more)) fewer
+        ∙ rest
+        ∙ ap (λ n. first_within n (bytes - text_size found) more) (sym fewer))
+
+pub within_front : (places bytes : ℕ) (hits : List ReleaseHitValue) → take (length (first_within places bytes hits)) hits ≡ first_within places bytes hits
+within_front places bytes [] = refl
+within_front places bytes (found ∷ more) =
+    go (nat_lt 0 places && nat_lt 0 (bytes - text_size found)) (within_front (places - 1) (bytes - text_size found) more)
+  where
+    go : (b : Bool) → take (length (first_within (places - 1) (bytes - text_size found) more)) more ≡ first_within (places - 1) (bytes - text_size found) more
+        → take (length (if b then found ∷ first_within (places - 1) (bytes - text_size found) more else [])) (found ∷ more)
+        ≡ (if b then found ∷ first_within (places - 1) (bytes - text_size found) more else [])
+    go true rest = ap (λ l. found ∷ l) rest
+    go false rest = refl
+
+-- ---- the order of ranks is that of availability, grade and text
+
+order : (a b c d e f : ℕ) → b ≤ 2 → c ≤ 2 → e ≤ 2 → f ≤ 2
+    → (9 * d + 3 * e + f < 9 * a + 3 * b + c) ↔ ((d < a) ⊎ ((d ≡ a) × (e < b)) ⊎ ((d ≡ a) × (e ≡ b) × (f < c)))
+order a b c d e f p q r s = (forth, back)
+  where
+    forth : 9 * d + 3 * e + f < 9 * a + 3 * b + c → (d < a) ⊎ ((d ≡ a) × (e < b)) ⊎ ((d ≡ a) × (e ≡ b) × (f < c))
+    forth lt = elim (cases_lt d a) [
+      | inl less ↦ inl less
+      | inr ge ↦ elim (cases_lt e b) [
+        | inl less ↦ inr (inl (omega (arith, p, q, r, s, lt, ge, less), less))
+        | inr also ↦ inr (inr (omega (arith, p, q, r, s, lt, ge, also), omega (arith, p, q, r, s, lt, ge, also), omega (arith, p, q, r, s, lt, ge, also)))
+      ]
+    ]
+
+    back : (d < a) ⊎ ((d ≡ a) × (e < b)) ⊎ ((d ≡ a) × (e ≡ b) × (f < c)) → 9 * d + 3 * e + f < 9 * a + 3 * b + c
+    back (inl less) = omega (arith, p, q, r, s, less)
+    back (inr (inl (same, less))) = omega (arith, p, q, r, s, same, less)
+    back (inr (inr (same, also, less))) = omega (arith, p, q, r, s, same, also, less)
+
+pub preferred : RanksInOrder
+preferred one other =
+    order (availability_rank one.availability) (grade_rank one.hit.grade) (text_rank one.hit.row)
+    (availability_rank other.availability) (grade_rank other.hit.grade) (text_rank other.hit.row)
+    (grade_small one.hit.grade) (text_small one.hit.row) (grade_small other.hit.grade) (text_small other.hit.row)

@@ -1,0 +1,60 @@
+//! The rank of a hit among those of a query.
+ghost use Rattle.std.specs.Prelude.{◌≡◌, ◌<◌};
+ghost use Rattle.feed_resolver_hits.specs.Hits.{availability_rank, grade_rank, is_word, rank_of, text_rank};
+
+use crate::hits::ReleaseHit;
+use feed_answer::Grade;
+use feed_embargo::Availability;
+use feed_identifiers::trim_spaces;
+use feed_kbart::Row;
+
+fn availability_rank(availability: Availability) -> u8
+    ensures value { result ≡ availability_rank availability }
+    ensures bound { result < 4 }
+{
+    match availability {
+        Availability::Available => 3,
+        Availability::Partly => 2,
+        Availability::NotCompared => 1,
+        Availability::Embargoed => 0,
+    }
+}
+
+fn grade_rank(grade: Grade) -> u8
+    ensures value { result ≡ grade_rank grade }
+    ensures bound { result < 3 }
+{
+    match grade {
+        Grade::Inside => 2,
+        Grade::Overlap => 1,
+        Grade::Untested => 0,
+    }
+}
+
+fn is_word(text: &[u8], word: &[u8]) -> bool
+    ensures { result ≡ is_word word.now text.now }
+{
+    trim_spaces(text).eq_ignore_ascii_case(word)
+}
+
+fn text_rank(row: &Row) -> u8
+    ensures value { result ≡ text_rank row.now }
+    ensures bound { result < 3 }
+{
+    if !is_word(row.depth(), b"fulltext") {
+        0
+    } else if is_word(row.access(), b"F") {
+        2
+    } else {
+        1
+    }
+}
+
+/// Returns the rank of a hit: by its availability, then by its grade, then by its depth and access.
+pub(crate) fn rank_of(found: &ReleaseHit<'_>) -> u8
+    ensures { result ≡ rank_of found.now }
+{
+    9 * availability_rank(found.availability())
+        + 3 * grade_rank(found.grade())
+        + text_rank(found.row())
+}

@@ -1,0 +1,3 @@
+pub mod Through
+pub mod Within
+pub mod Valid

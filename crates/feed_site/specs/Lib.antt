@@ -1,0 +1,14 @@
+pub mod Urls
+pub mod Kinds
+pub mod Schema
+pub mod Lookups
+pub mod Faults
+pub mod Limits
+pub mod Positions
+pub mod Syntax
+pub mod KeyFaults
+pub mod Site
+pub mod Valid
+pub mod Reading
+pub mod Proxies
+pub mod Laws

@@ -1,0 +1,48 @@
+//! The kinds of values that a site file has.
+ghost use Rattle.std.specs.Prelude.{◌≡◌};
+ghost use Rattle.feed_site.specs.Kinds.{is_of};
+
+use crate::template::is_template;
+use crate::text::{is_color, is_date, is_language, is_package};
+use crate::url::is_url;
+
+/// A kind of value.
+#[derive(Clone, Copy, Debug, PartialEq, Eq)]
+pub enum Kind {
+    /// A text that is not empty.
+    Text,
+    /// A tag of a language, such as `en-GB`.
+    Language,
+    /// A colour, such as `#00539f`.
+    Color,
+    /// A URL of `http` or `https`.
+    Url,
+    /// Such a URL with parts of a citation in braces.
+    Template,
+    /// The name of a package.
+    Package,
+    /// A year, a month or a day.
+    Date,
+    /// `true` or `false`.
+    Switch,
+    /// A list of names of hosts.
+    Hosts,
+}
+
+impl Kind {
+    /// Returns whether a text is a value of this kind. A text is never a switch or a list.
+    pub(crate) fn has(self, text: &[u8]) -> bool
+        ensures { result ≡ is_of self text.now }
+    {
+        match self {
+            Kind::Text => !text.is_empty(),
+            Kind::Language => is_language(text),
+            Kind::Color => is_color(text),
+            Kind::Url => is_url(text),
+            Kind::Template => is_template(text),
+            Kind::Package => is_package(text),
+            Kind::Date => is_date(text),
+            Kind::Switch | Kind::Hosts => false,
+        }
+    }
+}

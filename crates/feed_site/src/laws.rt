@@ -1,0 +1,28 @@
+//! Laws of the links of a page, each stated as the contract of a function with an empty body.
+ghost use Rattle.feed_site.specs.Laws.{ExceptedIsDirect, FreeIsDirect, NoProxyIsDirect, OthersGoThrough};
+ghost use Rattle.feed_site.specs.Laws.{SubdomainsAreWithin};
+
+/// A link that is free to read does not go through the proxy.
+pub fn free_is_direct()
+    ensures { FreeIsDirect }
+{}
+
+/// Nor does a link to a host that needs no proxy.
+pub fn excepted_is_direct()
+    ensures { ExceptedIsDirect }
+{}
+
+/// Without a proxy each link is its target.
+pub fn no_proxy_is_direct()
+    ensures { NoProxyIsDirect }
+{}
+
+/// Every other link begins with the prefix of the proxy, and the rest is the target, or decodes to it.
+pub fn others_go_through()
+    ensures { OthersGoThrough }
+{}
+
+/// A domain and its subdomains are within it.
+pub fn subdomains_are_within()
+    ensures { SubdomainsAreWithin }
+{}

@@ -1,0 +1,28 @@
+//! The site file of a library: its name and colour, its proxy, its request form, and which packages it has.
+#![tactic(auto)]
+
+mod checks;
+mod cuts;
+mod fault;
+mod kind;
+mod laws;
+mod links;
+mod lookup;
+mod position;
+mod section;
+mod site_fault;
+mod site_file;
+mod template;
+mod text;
+mod url;
+mod values;
+
+pub use fault::Reason;
+pub use laws::{
+    excepted_is_direct, free_is_direct, no_proxy_is_direct, others_go_through,
+    subdomains_are_within,
+};
+pub use links::proxied;
+pub use position::Position;
+pub use site_fault::{KeyFault, SiteFault};
+pub use site_file::{SITE_LIMIT, SiteFile};

@@ -1,0 +1,111 @@
+//! The sections of a site file, and the kind of value of each key.
+ghost use Rattle.std.specs.Prelude.{◌≡◌};
+ghost use Rattle.feed_site.specs.Schema.{holding_kind, is_list, kind_of, library_kind, package_kind, proxy_kind};
+ghost use Rattle.feed_site.specs.Schema.{section_of, title_kind};
+
+use crate::kind::Kind;
+
+/// A section of a site file.
+#[derive(Clone, Copy, Debug, PartialEq, Eq)]
+pub(crate) enum Section {
+    /// `[library]`: the names, the addresses and the colour of the page.
+    Library,
+    /// `[proxy]`: the prefix of links, and the hosts that need none.
+    Proxy,
+    /// `[[package]]`: the name of a package, and what the library has of it.
+    Package,
+    /// `[[title]]`: what the library has of a title.
+    Title,
+}
+
+/// Returns the section of a key at the top of the file.
+pub(crate) fn section_of(key: &str) -> Option<Section>
+    ensures { result ≡ section_of key.now }
+{
+    match key {
+        "library" => Some(Section::Library),
+        "proxy" => Some(Section::Proxy),
+        "package" => Some(Section::Package),
+        "title" => Some(Section::Title),
+        _ => None,
+    }
+}
+
+fn library_kind(key: &str) -> Option<Kind>
+    ensures { result ≡ library_kind key.now }
+{
+    match key {
+        "name" => Some(Kind::Text),
+        "language" => Some(Kind::Language),
+        "color" => Some(Kind::Color),
+        "help" => Some(Kind::Url),
+        "contact" => Some(Kind::Url),
+        "request" => Some(Kind::Template),
+        _ => None,
+    }
+}
+
+fn proxy_kind(key: &str) -> Option<Kind>
+    ensures { result ≡ proxy_kind key.now }
+{
+    match key {
+        "prefix" => Some(Kind::Url),
+        "except" => Some(Kind::Hosts),
+        _ => None,
+    }
+}
+
+fn holding_kind(key: &str) -> Option<Kind>
+    ensures { result ≡ holding_kind key.now }
+{
+    match key {
+        "held" => Some(Kind::Switch),
+        "first" => Some(Kind::Date),
+        "last" => Some(Kind::Date),
+        _ => None,
+    }
+}
+
+fn package_kind(key: &str) -> Option<Kind>
+    ensures { result ≡ package_kind key.now }
+{
+    match key {
+        "id" => Some(Kind::Package),
+        "name" => Some(Kind::Text),
+        _ => holding_kind(key),
+    }
+}
+
+fn title_kind(key: &str) -> Option<Kind>
+    ensures { result ≡ title_kind key.now }
+{
+    match key {
+        "package" => Some(Kind::Package),
+        "id" => Some(Kind::Text),
+        _ => holding_kind(key),
+    }
+}
+
+impl Section {
+    /// Returns whether the section is a list of tables.
+    pub(crate) fn is_list(self) -> bool
+        ensures { result ≡ is_list self }
+    {
+        match self {
+            Section::Library | Section::Proxy => false,
+            Section::Package | Section::Title => true,
+        }
+    }
+
+    /// Returns the kind of value of a key.
+    pub(crate) fn kind_of(self, key: &str) -> Option<Kind>
+        ensures { result ≡ kind_of self key.now }
+    {
+        match self {
+            Section::Library => library_kind(key),
+            Section::Proxy => proxy_kind(key),
+            Section::Package => package_kind(key),
+            Section::Title => title_kind(key),
+        }
+    }
+}

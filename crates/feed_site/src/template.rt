@@ -1,0 +1,71 @@
+//! The template of a request form's address: a URL with parts of a citation in braces.
+ghost use Rattle.std.specs.Prelude.{◌≡◌, drop};
+ghost use Rattle.std.specs.List.{list_all};
+ghost use Rattle.std.specs.Str.{bytes_eq};
+ghost use Rattle.feed_site.specs.Kinds.{has_fields, is_after_open, is_field, is_number_field, is_place_field};
+ghost use Rattle.feed_site.specs.Kinds.{is_template, is_work_field};
+ghost use Rattle.feed_site.specs.Urls.{parts_between};
+
+use crate::cuts::{after, before, has};
+use crate::url::is_url;
+
+fn is(name: &[u8], word: &str) -> bool
+    ensures { result ≡ bytes_eq name.now word.now }
+{
+    name == word.as_bytes()
+}
+
+fn is_work_field(name: &[u8]) -> bool
+    ensures { result ≡ is_work_field name.now }
+{
+    is(name, "title") || is(name, "article") || is(name, "author") || is(name, "date")
+}
+
+fn is_place_field(name: &[u8]) -> bool
+    ensures { result ≡ is_place_field name.now }
+{
+    is(name, "volume") || is(name, "issue") || is(name, "page")
+}
+
+fn is_number_field(name: &[u8]) -> bool
+    ensures { result ≡ is_number_field name.now }
+{
+    is(name, "issn") || is(name, "isbn") || is(name, "doi") || is(name, "pmid")
+}
+
+/// Returns whether a text names a part of a citation.
+#[tactic(auto, unfolding(crate::specs::Kinds::is_field))]
+fn is_field(name: &[u8]) -> bool
+    ensures { result ≡ is_field name.now }
+{
+    is_work_field(name) || is_place_field(name) || is_number_field(name)
+}
+
+// Returns whether a piece of a template after an opening brace begins with a part of a citation and the closing brace.
+fn is_after_open(piece: &[u8]) -> bool
+    ensures { result ≡ is_after_open piece.now }
+{
+    has(b'}', piece) && is_field(before(b'}', piece)) && !has(b'}', after(b'}', piece))
+}
+
+fn are_after_open(text: &[u8]) -> bool
+    ensures { result ≡ list_all is_after_open (drop 1 (parts_between 123 text.now)) }
+{
+    text.split(|byte| *byte == b'{')
+        .skip(1)
+        .all(|piece| is_after_open(piece))
+}
+
+fn has_fields(text: &[u8]) -> bool
+    ensures { result ≡ has_fields text.now }
+{
+    !has(b'}', before(b'{', text)) && are_after_open(text)
+}
+
+/// Returns whether a text is the address of a request form: a URL in which each brace encloses a part of a citation,
+/// such as `https://a.example/ill?issn={issn}`.
+pub(crate) fn is_template(text: &[u8]) -> bool
+    ensures { result ≡ is_template text.now }
+{
+    is_url(text) && has_fields(text)
+}

@@ -1,0 +1,147 @@
+//! URLs of `http` and `https`, the hosts that they name, and the domains that a host is in.
+ghost use Rattle.std.specs.Prelude.{◌≡◌, ◌-◌, drop, length, option_copied};
+ghost use Rattle.std.specs.List.{list_all};
+ghost use Rattle.feed_site.specs.Urls.{after_scheme, authority_of, begins_with, host_in, host_of, is_dotted, is_host};
+ghost use Rattle.feed_site.specs.Urls.{is_host_in, is_label, is_label_byte, is_url, is_visible, is_within};
+ghost use Rattle.feed_site.specs.Urls.{parts_between, without_user};
+
+use crate::cuts::{after, before, has, is_sized};
+
+// The most bytes of a URL: what RFC 9110 (section 4.1) asks every recipient to support.
+const URL_LIMIT: usize = 8_000;
+
+fn begins_with(url: &[u8], front: &[u8]) -> bool
+    ensures { result ≡ begins_with front.now url.now }
+{
+    front.len() < url.len() && url[..front.len()].eq_ignore_ascii_case(front)
+}
+
+fn is_visible(byte: u8) -> bool
+    ensures { result ≡ is_visible byte }
+{
+    (33..=126).contains(&byte)
+}
+
+fn is_all_visible(url: &[u8]) -> bool
+    ensures { result ≡ list_all is_visible url.now }
+{
+    url.iter().all(|byte| is_visible(*byte))
+}
+
+// Returns the rest of a URL after `http://` or `https://`.
+fn after_scheme(url: &[u8]) -> Option<&[u8]>
+    ensures { option_copied result ≡ after_scheme url.now }
+{
+    if begins_with(url, b"https://") {
+        Some(&url[8..])
+    } else if begins_with(url, b"http://") {
+        Some(&url[7..])
+    } else {
+        None
+    }
+}
+
+fn authority_of(text: &[u8]) -> &[u8]
+    ensures { result.now ≡ authority_of text.now }
+{
+    before(b'/', before(b'?', before(b'#', before(b'\\', text))))
+}
+
+// An authority without the user before `@`.
+fn without_user(authority: &[u8]) -> &[u8]
+    ensures { result.now ≡ without_user authority.now }
+{
+    if has(b'@', authority) {
+        after(b'@', authority)
+    } else {
+        authority
+    }
+}
+
+fn host_in(authority: &[u8]) -> &[u8]
+    ensures { result.now ≡ host_in authority.now }
+{
+    before(b':', without_user(authority))
+}
+
+/// Returns the host of a URL of `http` or `https`, without a user and a port.
+pub(crate) fn host_of(url: &[u8]) -> Option<&[u8]>
+    ensures { option_copied result ≡ host_of url.now }
+{
+    match after_scheme(url) {
+        Some(rest) => Some(host_in(authority_of(rest))),
+        None => None,
+    }
+}
+
+fn is_label_byte(byte: u8) -> bool
+    ensures { result ≡ is_label_byte byte }
+{
+    byte.is_ascii_alphanumeric() || byte == b'-'
+}
+
+fn are_label_bytes(label: &[u8]) -> bool
+    ensures { result ≡ list_all is_label_byte label.now }
+{
+    label.iter().all(|byte| is_label_byte(*byte))
+}
+
+fn is_label(label: &[u8]) -> bool
+    ensures { result ≡ is_label label.now }
+{
+    is_sized(1, 63, label) && are_label_bytes(label)
+}
+
+fn are_labels(host: &[u8]) -> bool
+    ensures { result ≡ list_all is_label (parts_between 46 host.now) }
+{
+    host.split(|byte| *byte == b'.')
+        .all(|label| is_label(label))
+}
+
+/// Returns whether a text is the name of a host: at most 253 bytes, and 1 to 63 letters, digits and hyphens between
+/// dots (RFC 1123, section 2.1). An IPv4 address is one too.
+pub(crate) fn is_host(host: &[u8]) -> bool
+    ensures { result ≡ is_host host.now }
+{
+    host.len() <= 253 && are_labels(host)
+}
+
+fn is_host_in(host: Option<&[u8]>) -> bool
+    ensures { result ≡ is_host_in (option_copied host.entry) }
+{
+    match host {
+        Some(host) => is_host(host),
+        None => false,
+    }
+}
+
+/// Returns whether a text is a URL of `http` or `https` with a host, in at most 8,000 bytes of visible ASCII.
+pub(crate) fn is_url(url: &[u8]) -> bool
+    ensures { result ≡ is_url url.now }
+{
+    url.len() <= URL_LIMIT && is_all_visible(url) && is_host_in(host_of(url))
+}
+
+fn is_dotted(domain: &[u8], text: &[u8]) -> bool
+    ensures { result ≡ is_dotted domain.now text.now }
+{
+    match text.split_first() {
+        Some((byte, rest)) => *byte == b'.' && rest.eq_ignore_ascii_case(domain),
+        None => false,
+    }
+}
+
+// Returns the last bytes of a host: those of a domain of this size, and the one before it.
+fn tail(size: usize, host: &[u8]) -> &[u8]
+    ensures { result.now ≡ drop (length host.now - size - 1) host.now }
+{
+    &host[host.len().saturating_sub(size).saturating_sub(1)..]
+}
+
+/// Returns whether a host is this domain or one of its subdomains.
+pub(crate) fn is_within(domain: &[u8], host: &[u8]) -> bool
+    ensures { result ≡ is_within domain.now host.now }
+{
+    host.eq_ignore_ascii_case(domain) || is_dotted(domain, tail(domain.len(), host))
+}
