@@ -1,4 +1,4 @@
--- What the table needs to know of a connection.
+-- The facts about a connection that the table uses.
 use Rattle.std.specs.Prelude.{◌≡◌, ◌≢◌, ◌≤◌, ◌<◌, ◌+◌, ◌⊎◌, max, ℕ, Bool, true, false, List, ◌++◌, length, take, Option, Some, None}
 use Rattle.feed_node_connection.specs.declared.connection.Connection.{Connection}
 use Rattle.feed_node_connection.specs.declared.streams.Share.{Share}
@@ -49,7 +49,7 @@ AreWithin replies longest =
 abbrev pub short_len : ℕ
 short_len = 138
 
--- what is left of a share for a connection: without room, one that still has to send a part of its reply makes no other
+-- a connection gets this part of a share: without room, one that still has to send a part of its reply makes no other
 abbrev pub IsGiven : Bool → Connection → Share → Share → Type 0
 IsGiven has_room connection share given =
     ((given.replies ≡ share.replies) × ((has_room ≡ true) ⊎ (unsent_bytes connection ≡ 0)))

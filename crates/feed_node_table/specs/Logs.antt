@@ -1,4 +1,4 @@
--- What a log of connections records.
+-- The records of a log of connections.
 use Rattle.std.specs.Prelude.{◌≡◌, ◌+◌, if◌then◌else◌, ℕ, List, [], ◌∷◌}
 use Rattle.std.specs.declared.net.socket_addr.SocketAddr.{SocketAddr}
 use Rattle.feed_node_connection.specs.declared.connection.Connection.{Connection}

@@ -1,5 +1,6 @@
 //! A connection with its stream and its times.
-ghost use Rattle.std.specs.Prelude.{◌≡◌, ◌≢◌, ◌≤◌, ◌+◌, ◌⊎◌, max, ℕ, List, [], true, false, IfSome};
+ghost use Rattle.std.specs.Prelude.{◌≡◌, ◌≢◌, ◌≤◌, ◌+◌, ◌⊎◌, max, ℕ, List, [], true, false};
+ghost use Rattle.std.specs.Prelude.{IfSome};
 ghost use Rattle.feed_node_connection.specs.Events.{Event};
 ghost use Rattle.feed_node_connection.specs.States.{HasState, is_reply_sent_in, wants_in};
 ghost use Rattle.feed_node_table.specs.Connections.{HasServed, IsConnection, IsGiven, request_of, unsent_bytes};

@@ -1,5 +1,6 @@
 //! The connections of a node as a value.
-ghost use Rattle.std.specs.Prelude.{◌≡◌, ◌≢◌, ◌≤◌, ◌<◌, ◌+◌, ◌*◌, ℕ, true, false, [], sum_by, vec_len, nat_le, length};
+ghost use Rattle.std.specs.Prelude.{◌≡◌, ◌≢◌, ◌≤◌, ◌<◌, ◌+◌, ◌*◌, ℕ, true, false, [], length, nat_le};
+ghost use Rattle.std.specs.Prelude.{sum_by, vec_len};
 ghost use Rattle.std.specs.Prelude.{slice_index, Some, None, IfOk, IfSome, IfNone, IsSome, IsSomeAnd};
 ghost use Rattle.slab.specs.Slab.{ContainsKey, slab_len};
 ghost use Rattle.feed_node_table.specs.Lists.{IsListed};

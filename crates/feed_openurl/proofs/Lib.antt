@@ -7,4 +7,6 @@ pub mod Plains
 pub mod Bounds
 pub mod Again
 pub mod Shows
+pub mod Cited
+pub mod Counting
 pub mod Steps

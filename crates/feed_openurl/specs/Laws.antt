@@ -1,10 +1,13 @@
 -- Laws of queries as they are understood.
-use Rattle.std.specs.Prelude.{◌≡◌, ◌≤◌, ℕ, length, List, Option, Some, None, Ok, IfSome}
+use Rattle.std.specs.Prelude.{◌≡◌, ◌≤◌, ℕ, length, List, [], ◌∷◌, ◌++◌, true, Option, Some, None, Ok, IfSome}
 use Rattle.std.specs.Option.{option_and_then}
 use Rattle.feed_dates.specs.DayRanges.{query_days_of}
 use Rattle.feed_kbart.specs.Volumes.{volume_of}
 use Rattle.feed_answer.specs.Queries.{query_of}
 use Rattle.feed_answer.specs.QueryValue.{QueryValue}
+use Rattle.feed_identifiers.specs.Text.{trimmed}
+use Rattle.feed_openurl.specs.Citations.{citation_of_pairs}
+use Rattle.feed_openurl.specs.Dropped.{is_dropped}
 use Rattle.feed_openurl.specs.Identifiers.{count, identifier_limit}
 use Rattle.feed_openurl.specs.Values.{IsWellFormed, UnderstandingValue, understood}
 use Rattle.feed_openurl.specs.Written.{written, written_limit}
@@ -49,6 +52,19 @@ of_written u =
 -- what is written is understood with the same identifiers, the same date and the same volume
 abbrev pub WrittenIsUnderstood : Type 0
 WrittenIsUnderstood = (u : UnderstandingValue) → IsWellFormed u → understood (written u) ≡ of_written u
+
+-- a pair does not change the citation, wherever it is in a query
+abbrev pub IsUncited : List ℕ × List ℕ → Type 0
+IsUncited pair =
+    (before after : List (List ℕ × List ℕ)) → citation_of_pairs (before ++ pair ∷ after) ≡ citation_of_pairs (before ++ after)
+
+-- a value that is empty, or has spaces alone, is as if it were absent
+abbrev pub BlankIsUncited : Type 0
+BlankIsUncited = (key value : List ℕ) → trimmed value ≡ [] → IsUncited (key, value)
+
+-- so is one whose key nobody reads
+abbrev pub DroppedIsUncited : Type 0
+DroppedIsUncited = (key value : List ℕ) → is_dropped key ≡ true → IsUncited (key, value)
 
 -- what is written for what is written is the same text
 abbrev pub WrittenIsItself : Type 0

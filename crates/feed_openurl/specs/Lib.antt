@@ -12,6 +12,7 @@ pub mod Tiers
 pub mod Shown
 pub mod Links
 pub mod Citations
+pub mod Dropped
 pub mod Values
 pub mod Written
 pub mod Laws

@@ -1,5 +1,5 @@
 //! The citation of a query: the article, the chapter or the volume that a reader looks for.
-ghost use Rattle.std.specs.Prelude.{◌≡◌, ◌≤◌, length, option_copied};
+ghost use Rattle.std.specs.Prelude.{◌≡◌, ◌≤◌, is_some, length, option_copied};
 ghost use Rattle.feed_openurl.specs.Fronts.{front_len};
 ghost use Rattle.feed_openurl.specs.Citations.{is_in_page, first_page, name_offer, named, number_part, offer_by};
 ghost use Rattle.feed_openurl.specs.Citations.{offer_of, part_of, part_offer, place_of, rank, taken, title_part};
@@ -156,7 +156,9 @@ fn part_of(key: &[u8]) -> Option<(Part, u16)>
 }
 
 /// Returns whether a key has a part of a citation.
-pub(crate) fn is_cited(key: &[u8]) -> bool {
+pub(crate) fn is_cited(key: &[u8]) -> bool
+    ensures { result ≡ is_some (part_of key.now) }
+{
     part_of(key).is_some()
 }
 

@@ -1,6 +1,6 @@
 //! Laws of queries as they are understood, each stated as the contract of a function with an empty body.
 ghost use Rattle.feed_openurl.specs.Laws.{AnswersAreKept, WrittenIsAccepted, WrittenIsItself, WrittenIsShort};
-ghost use Rattle.feed_openurl.specs.Laws.{WrittenIsUnderstood};
+ghost use Rattle.feed_openurl.specs.Laws.{WrittenIsUnderstood, BlankIsUncited, DroppedIsUncited};
 
 /// A query that the core answers, with at most `IDENTIFIER_LIMIT` identifiers, is understood with exactly these
 /// identifiers, and with its days and its volume if it has them.
@@ -28,4 +28,14 @@ pub fn written_is_understood()
 /// A written query, understood and written again, is the same text.
 pub fn written_is_itself()
     ensures { WrittenIsItself }
+{}
+
+/// A value that is empty, or has spaces alone, leaves the citation as if its pair were absent.
+pub fn blank_is_uncited()
+    ensures { BlankIsUncited }
+{}
+
+/// So does a value whose key nobody reads: one that `dropped_keys` returns.
+pub fn dropped_is_uncited()
+    ensures { DroppedIsUncited }
 {}

@@ -34,7 +34,7 @@ pub use crate::citation::Citation;
 pub use crate::dropped::{Dropped, dropped_keys};
 pub use crate::fault::{ReadFault, Refusal};
 pub use crate::laws::{
-    answers_are_kept, written_is_accepted, written_is_itself, written_is_short,
-    written_is_understood,
+    answers_are_kept, blank_is_uncited, dropped_is_uncited, written_is_accepted, written_is_itself,
+    written_is_short, written_is_understood,
 };
 pub use crate::understanding::{IDENTIFIER_LIMIT, Understanding};

@@ -115,6 +115,15 @@ set_named (r ∷ rs) (suc i) x d text f up lt is same =
     let first : text ≢ text_of r.name = λ e. less_differs _ _ (records_up (r ∷ rs) up 0 (suc i) d (omega arith) lt) (sym e ∙ sym is) in
     rw (apart text (text_of r.name) first) (ap (λ c. shown_record r ∷ c) (set_named rs i x d text f (sorted_tail name_cmp r.name (names (shown rs)) up) (omega arith) is same))
 
+-- the same where a search found the name
+pub set_found : (rs searched : List code.Record) (i : ℕ) (x d : code.Record) (text : List ℕ) (f : Record → Record) → AreNamesAscending (names (shown rs)) → searched ≡ rs
+    → i < length searched → ((e : code.Record) → text_of (get_or searched i e).name ≡ text) → shown_record x ≡ f (shown_record (get_or rs i d))
+    → shown (set rs i x) ≡ map (if_named text f) (shown rs)
+set_found rs searched i x d text f up same lt found as_shown =
+    let within : i < length rs = subst (λ (l : List code.Record). i < length l) same lt in
+    let named = subst (λ (l : List code.Record). (e : code.Record) → text_of (get_or l i e).name ≡ text) same found in
+    set_named rs i x d text f up within (named d) as_shown
+
 pub names_set : (rs : List code.Record) (i : ℕ) (x d : code.Record) → x.name ≡ (get_or rs i d).name → names (shown (set rs i x)) ≡ names (shown rs)
 names_set rs i x d same = names_shown (set rs i x) ∙ map-set_same name_in rs i x d same ∙ sym (names_shown rs)
 

@@ -1,4 +1,4 @@
-use Rattle.std.proofs.Common.{◌≡◌, Some, refl, sym, ap, ◌∙◌}
+use Rattle.std.proofs.Common.{refl, sym, ap, ◌∙◌}
 use Rattle.std.specs.Prelude.{option_copied}
 use Rattle.feed_openurl.specs.Identifiers.{number_text, numbers_of}
 use Rattle.feed_openurl.specs.Numbers.{numbers_in}

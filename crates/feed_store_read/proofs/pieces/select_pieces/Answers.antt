@@ -48,6 +48,13 @@ returns-in_err-row-clause-leaves g c = ended_leaves c.rows.invariant.way c.next.
 pub returns-in_default-clause-leaves : goal.returns-in_default-clause-leaves
 returns-in_default-clause-leaves g c = ended_leaves c.rows.invariant.way c.next.follows.holds-at-none c.in_ok-rows.ensures.same_reference c.conn-in_default-1.given c.drop-rows-in_default.ensures
 
+pub returns-in_default-clause-read : goal.returns-in_default-clause-read
+returns-in_default-clause-read g c live tabled =
+    ended_all c.rows.invariant.way c.next.follows.holds-at-none c.in_ok-rows.ensures.same_reference c.conn-in_default-1.given c.drop-rows-in_default.ensures
+    (c.in_ok-row.was ∙ ap Ok c.in_default.is) live
+    (λ it. are_pieces (state g.S.Store c.args.conn.now) (state g.S.Store c.rows.rows.conn.now) (state g.S.Store c.next.follows.lender-at-none.conn.now)
+    it.rows _ _ _ (tables_in (state g.S.Store c.args.conn.now).now tabled) it.early it.whole it.known)
+
 pub returns-in_err-take_piece-clause-leaves : goal.returns-in_err-take_piece-clause-leaves
 returns-in_err-take_piece-clause-leaves g c =
     ended_leaves c.rows.invariant.way c.next.follows.holds-at-none c.in_ok-rows.ensures.same_reference c.conn-in_err-take_piece-1.given c.drop-rows-in_err-take_piece.ensures
@@ -55,16 +62,6 @@ returns-in_err-take_piece-clause-leaves g c =
 pub returns-then-not-branch-clause-leaves : goal.returns-then-not-branch-clause-leaves
 returns-then-not-branch-clause-leaves g c =
     ended_leaves c.rows.invariant.way c.next.follows.holds-at-none c.in_ok-rows.ensures.same_reference c.conn-then-not-branch-1.given c.drop-rows-then-not-branch.ensures
-
-pub returns-clause-leaves : goal.returns-clause-leaves
-returns-clause-leaves g c = way_leaves c.rows.invariant.way c.in_ok-rows.ensures.same_reference c.conn-2-1.given c.drop-rows-2.ensures
-
-pub returns-in_default-clause-read : goal.returns-in_default-clause-read
-returns-in_default-clause-read g c live tabled =
-    ended_all c.rows.invariant.way c.next.follows.holds-at-none c.in_ok-rows.ensures.same_reference c.conn-in_default-1.given c.drop-rows-in_default.ensures
-    (c.in_ok-row.was ∙ ap Ok c.in_default.is) live
-    (λ it. are_pieces (state g.S.Store c.args.conn.now) (state g.S.Store c.rows.rows.conn.now) (state g.S.Store c.next.follows.lender-at-none.conn.now)
-    it.rows _ _ _ (tables_in (state g.S.Store c.args.conn.now).now tabled) it.early it.whole it.known)
 
 pub returns-then-not-branch-clause-read : goal.returns-then-not-branch-clause-read
 returns-then-not-branch-clause-read g c live tabled =
@@ -79,3 +76,6 @@ returns-then-not-branch-clause-read g c live tabled =
     let none : AreReleases old.now c.args.found.now → ¬ (HoldsReleases old.now) = λ releases are.
     no_orphan old.now c.args.found.now c.rows.found.records.items row ours are releases c.rows.invariant.names here (refused (all_has IsPieceRow (old.now.trees 3) row are.are_pieces here)) in
     (it.1, none)
+
+pub returns-clause-leaves : goal.returns-clause-leaves
+returns-clause-leaves g c = way_leaves c.rows.invariant.way c.in_ok-rows.ensures.same_reference c.conn-2-1.given c.drop-rows-2.ensures

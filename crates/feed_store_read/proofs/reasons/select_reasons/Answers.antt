@@ -45,6 +45,13 @@ returns-in_err-row-clause-leaves g c = ended_leaves c.rows.invariant.way c.next.
 pub returns-in_default-clause-leaves : goal.returns-in_default-clause-leaves
 returns-in_default-clause-leaves g c = ended_leaves c.rows.invariant.way c.next.follows.holds-at-none c.in_ok-rows.ensures.same_reference c.conn-in_default-1.given c.drop-rows-in_default.ensures
 
+pub returns-in_default-clause-read : goal.returns-in_default-clause-read
+returns-in_default-clause-read g c live ours =
+    ended_all c.rows.invariant.way c.next.follows.holds-at-none c.in_ok-rows.ensures.same_reference c.conn-in_default-1.given c.drop-rows-in_default.ensures
+    (c.in_ok-row.was ∙ ap Ok c.in_default.is) live
+    (λ it. are_reasons (state g.S.Store c.args.conn.now) (state g.S.Store c.rows.rows.conn.now) (state g.S.Store c.next.follows.lender-at-none.conn.now)
+    it.rows _ _ _ ours it.early it.whole it.known)
+
 pub returns-in_err-take_reason-clause-leaves : goal.returns-in_err-take_reason-clause-leaves
 returns-in_err-take_reason-clause-leaves g c =
     ended_leaves c.rows.invariant.way c.next.follows.holds-at-none c.in_ok-rows.ensures.same_reference c.conn-in_err-take_reason-1.given c.drop-rows-in_err-take_reason.ensures
@@ -52,16 +59,6 @@ returns-in_err-take_reason-clause-leaves g c =
 pub returns-then-not-branch-clause-leaves : goal.returns-then-not-branch-clause-leaves
 returns-then-not-branch-clause-leaves g c =
     ended_leaves c.rows.invariant.way c.next.follows.holds-at-none c.in_ok-rows.ensures.same_reference c.conn-then-not-branch-1.given c.drop-rows-then-not-branch.ensures
-
-pub returns-clause-leaves : goal.returns-clause-leaves
-returns-clause-leaves g c = way_leaves c.rows.invariant.way c.in_ok-rows.ensures.same_reference c.conn-2-1.given c.drop-rows-2.ensures
-
-pub returns-in_default-clause-read : goal.returns-in_default-clause-read
-returns-in_default-clause-read g c live ours =
-    ended_all c.rows.invariant.way c.next.follows.holds-at-none c.in_ok-rows.ensures.same_reference c.conn-in_default-1.given c.drop-rows-in_default.ensures
-    (c.in_ok-row.was ∙ ap Ok c.in_default.is) live
-    (λ it. are_reasons (state g.S.Store c.args.conn.now) (state g.S.Store c.rows.rows.conn.now) (state g.S.Store c.next.follows.lender-at-none.conn.now)
-    it.rows _ _ _ ours it.early it.whole it.known)
 
 pub returns-then-not-branch-clause-read : goal.returns-then-not-branch-clause-read
 returns-then-not-branch-clause-read g c live ours =
@@ -75,3 +72,6 @@ returns-then-not-branch-clause-read g c live ours =
     let none : shown c.args.records.now.items ≡ content_without_reasons old.now → ¬ (HoldsRecords old.now) = λ content are.
     no_lone_reason old.now c.rows.records.items row ours are (c.rows.invariant.names ∙ ap names content) here (refused (all_has IsReasonRow (old.now.trees 5) row are.reasons.are here)) in
     (it.1, none)
+
+pub returns-clause-leaves : goal.returns-clause-leaves
+returns-clause-leaves g c = way_leaves c.rows.invariant.way c.in_ok-rows.ensures.same_reference c.conn-2-1.given c.drop-rows-2.ensures

@@ -8,9 +8,7 @@ pub overflow_sub-freed : goal.overflow_sub-freed
 overflow_sub-freed g c = omega (arith, c.unsent-before.ensures, c.unsent.ensures, c.advance_clock-is_late.ensures.less)
 
 pub overflow_sub-self : goal.overflow_sub-self
-overflow_sub-self g c =
-    less_is_within c.args.self.now.peers.slots c.args.key c.in-Some.peer.now c.args.self.now.unsent c.unsent-before.result c.unsent.result
-    (sym c.in-Some.ensures.value) c.args.self.now.counted c.unsent-before.ensures
+overflow_sub-self g c = less_is_within c.args.self.now.peers.slots c.args.key _ _ _ _ (sym c.in-Some.ensures.value) c.args.self.now.counted c.unsent-before.ensures
 
 pub invariant_of-self-2-clause-counted : goal.invariant_of-self-2-clause-counted
 invariant_of-self-2-clause-counted g c =
