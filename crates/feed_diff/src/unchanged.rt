@@ -1,12 +1,14 @@
 //! Pairs the rows that a new list has unchanged and in the order of the old list, in one pass and without a sort.
-ghost use Rattle.std.specs.Prelude.{◌≡◌, ◌≤◌, ◌<◌, IfOk, IfSome, length};
-ghost use Rattle.std.specs.List.{HoldsAt};
+ghost use Rattle.std.specs.Prelude.{◌≡◌, ◌≤◌, ◌<◌, ◌++◌, IfOk, IfSome, OnOk, length, map};
+ghost use Rattle.std.specs.List.{All, HoldsAt};
+ghost use Rattle.std.specs.declared.cmp.Ordering.TheVariants.{Equal};
 ghost use Rattle.feed_kbart.specs.RowValue.{content};
-ghost use Rattle.feed_diff.specs.Pairing.{ArePaired};
+ghost use Rattle.feed_diff.specs.Pairing.{ArePaired, firsts, order, seconds};
+ghost use Rattle.feed_diff.specs.Ranking.{first_number};
 ghost use Rattle.feed_diff.specs.declared.order.By.TheVariants as key;
 
 use crate::change::Change;
-use crate::order::By;
+use crate::order::{By, first_number};
 use crate::pairing::Pairing;
 use feed_kbart::Row;
 use std::alloc::{AllocError, Global};
@@ -30,8 +32,8 @@ fn place_of(row: &Row, rows: &[&Row], from: usize) -> Option<usize>
     None
 }
 
-/// Pairs rows that are equal and in the same order in both lists. The rows that are left over may be equal as well.
-pub(crate) fn pair_unchanged<'a>(
+// Pairs rows that are equal and in the same order in both lists.
+fn pair_in_order<'a>(
     alloc: Global,
     old: &[&'a Row],
     new: &[&'a Row],
@@ -61,4 +63,63 @@ pub(crate) fn pair_unchanged<'a>(
         old: left_old,
         new: left_new,
     })
+}
+
+// Appends the numbers of the first identifiers of rows.
+fn add_numbers(numbers: &mut Vec<u32>, rows: &[&Row]) -> Result<(), AllocError>
+    ensures { OnOk result (numbers.new.items
+        ≡ numbers.old.items ++ map (λ row. first_number row.now.identifiers) rows.now) }
+{
+    for row in rows {
+        numbers.push(first_number(*row))?;
+    }
+    Ok(())
+}
+
+// Takes the pairs apart whose rows have one of some numbers, which ascend.
+fn take_apart<'a>(
+    alloc: Global,
+    first: Pairing<'a>,
+    numbers: &[u32],
+) -> Result<Pairing<'a>, AllocError>
+    requires { All (λ pair. order key.Content pair.old pair.new ≡ Equal) first.pairs.items }
+    ensures { IfOk result (ArePaired key.Content (first.entry.old.items ++ firsts first.entry.pairs.items)
+        (first.entry.new.items ++ seconds first.entry.pairs.items)) }
+{
+    let Pairing {
+        pairs,
+        mut old,
+        mut new,
+    } = first;
+    let mut kept = Vec::with_capacity(alloc, pairs.len())?;
+    for pair in &pairs {
+        if numbers.binary_search(&first_number(pair.old)).is_ok() {
+            old.push(pair.old)?;
+            new.push(pair.new)?;
+        } else {
+            kept.push(*pair)?;
+        }
+    }
+    Ok(Pairing {
+        pairs: kept,
+        old,
+        new,
+    })
+}
+
+/// Pairs rows that are equal and in the same order in both lists. Leaves over all rows of an identifier if it leaves
+/// over one of them: if several rows are equal, the sort then pairs the first with the first.
+pub(crate) fn pair_unchanged<'a>(
+    alloc: Global,
+    old: &[&'a Row],
+    new: &[&'a Row],
+) -> Result<Pairing<'a>, AllocError>
+    ensures { IfOk result (ArePaired key.Content old.now new.now) }
+{
+    let first = pair_in_order(alloc, old, new)?;
+    let mut numbers = Vec::with_capacity(alloc, first.old.len().saturating_add(first.new.len()))?;
+    add_numbers(&mut numbers, &first.old)?;
+    add_numbers(&mut numbers, &first.new)?;
+    numbers.sort()?;
+    take_apart(alloc, first, &numbers)
 }
