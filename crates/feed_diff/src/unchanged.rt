@@ -13,17 +13,51 @@ use crate::pairing::Pairing;
 use feed_kbart::Row;
 use std::alloc::{AllocError, Global};
 
-// The number of rows among which a row is searched. Between two releases mostly single rows are inserted. A row behind
-// more of them is not found, and is left to the sort.
-const REACH: usize = 32;
+// The number of rows among which a row is searched. Between two releases mostly single rows are inserted.
+const REACH: usize = 16;
+
+// The number of rows among which the next row is searched. It doubles with each row that is not found, to pass over a
+// block of new rows. In all, such searches pass over at most eight rows for each row of a list: lists in another order
+// are left to the sort.
+#[derive(Clone, Copy)]
+struct Reach {
+    rows: usize,
+    spare: usize,
+}
+
+impl Reach {
+    fn of_list(rows: usize) -> Reach {
+        Reach {
+            rows: REACH,
+            spare: rows.saturating_mul(8),
+        }
+    }
+
+    fn after_hit(self) -> Reach {
+        Reach {
+            rows: REACH,
+            spare: self.spare,
+        }
+    }
+
+    fn after_miss(self) -> Reach {
+        if self.rows > self.spare {
+            return self.after_hit();
+        }
+        Reach {
+            rows: self.rows.saturating_mul(2),
+            spare: self.spare - self.rows,
+        }
+    }
+}
 
 // Returns the place of a row with the same cells, the first within reach.
-fn place_of(row: &Row, rows: &[&Row], from: usize) -> Option<usize>
+fn place_of(row: &Row, rows: &[&Row], from: usize, reach: Reach) -> Option<usize>
     ensures within { IfSome result (λ place. (from ≤ place) × (place < length rows.now)) }
     ensures equal { IfSome result
         (λ place. HoldsAt (λ other. content row.now ≡ content other.now) rows.now place) }
 {
-    let end = rows.len().min(from.saturating_add(REACH));
+    let end = rows.len().min(from.saturating_add(reach.rows));
     for place in from..end {
         if row.has_same_cells(rows[place]) {
             return Some(place);
@@ -44,8 +78,9 @@ fn pair_in_order<'a>(
     let mut left_old = Vec::new(alloc);
     let mut left_new = Vec::new(alloc);
     let mut next = 0usize;
+    let mut reach = Reach::of_list(old.len());
     for row in old {
-        match place_of(*row, new, next) {
+        match place_of(*row, new, next, reach) {
             Some(place) => {
                 left_new.extend_from_slice(&new[next..place])?;
                 pairs.push(Change {
@@ -53,8 +88,12 @@ fn pair_in_order<'a>(
                     new: new[place],
                 })?;
                 next = place + 1;
+                reach = reach.after_hit();
             }
-            None => left_old.push(*row)?,
+            None => {
+                left_old.push(*row)?;
+                reach = reach.after_miss();
+            }
         }
     }
     left_new.extend_from_slice(&new[next..])?;
