@@ -9,11 +9,11 @@ use Rattle.std.specs.Ordering.{bool_cmp, int_cmp, nat_cmp, ordering_then}
 use Rattle.std.specs.declared.cmp.Ordering.{Ordering}
 use Rattle.std.specs.declared.cmp.Ordering.TheVariants.{Less, Equal, Greater}
 use Rattle.feed_kbart.specs.Identifiers.{online_isbn, online_issn, print_isbn, print_issn}
-use Rattle.feed_kbart.specs.RowValue.{RowValue}
+use Rattle.feed_kbart.specs.RowValue.{RowValue, content}
 use Rattle.feed_kbart.specs.declared.identifiers.Identifiers.{Identifiers}
 use Rattle.feed_kbart.specs.declared.identifiers.Identifiers.TheVariants.{Serial, Book}
 use Rattle.feed_diff.specs.Columns.{is_book}
-use Rattle.feed_diff.specs.Comparison.{HasSameTitle, HasSameUrl, content}
+use Rattle.feed_diff.specs.Comparison.{HasSameTitle, HasSameUrl}
 use Rattle.feed_diff.specs.Pairing.{order}
 use Rattle.feed_diff.specs.Ranking.{content_cmp, coverage_cmp, first_number, further_cmp, identifiers_cmp, number_cmp, ranking, text_cmp, texts_cmp}
 use Rattle.feed_diff.specs.declared.order.By.{By}
@@ -227,3 +227,7 @@ pub tied_url : (x y : RowValue) → HasSameUrl x y → ranking Url x y ≡ Equal
 tied_url x y e =
     tied_further Url x y e.1 (both_tied (text_cmp x.url y.url) (identifiers_cmp x.identifiers y.identifiers) (tied_text x.url y.url e.0)
     (tied_identifiers x.identifiers y.identifiers e.1))
+
+-- rows that are equal but for their numbers are equal in all columns
+pub content_tied_further : (x y : RowValue) → content x ≡ content y → content_cmp x y ≡ Equal
+content_tied_further x y e = further_tied Content x y (tied_content x y e)

@@ -1,6 +1,6 @@
 -- The rows of a sorted list that no other row is alike.
-use Rattle.std.proofs.Common.{◌↔◌, IsTrue, ◌≡◌, ◌∙◌, ◌<◌, ◌≤◌, ◌+◌, ◌-◌, ℕ, Bool, true, false, not, cond, List, [], ◌∷◌, ◌++◌, length, map, take, drop, get_or}
-use Rattle.std.proofs.Common.{refl, sym, ap, subst, arith, nat_le}
+use Rattle.std.proofs.Common.{◌↔◌, IsTrue, ◌≡◌, ◌∙◌, ◌<◌, ◌≤◌, ◌+◌, ◌-◌, ℕ, Bool, true, false, not, cond, List, [], ◌∷◌, ◌++◌}
+use Rattle.std.proofs.Common.{length, map, take, drop, get_or, refl, sym, ap, subst, arith, nat_le}
 use Rattle.std.proofs.lemmas.Bool.{le-leb, lt-leb}
 use Rattle.std.proofs.lemmas.Cmp.{tied_back, tied_itself}
 use Rattle.std.proofs.lemmas.List.{append-nil, append_assoc, get_or-drop, get_or_default, get_or-take, length-drop, length-take-le}
@@ -222,8 +222,8 @@ pub single_pairs : (by : By) (old new old_sorted new_sorted : List (Bor RowValue
     → result.old.items ≡ pairing.old.items ++ filter (λ row. not (is_single by old_sorted row)) old_sorted
     → result.new.items ≡ pairing.new.items ++ filter (λ row. not (is_single by new_sorted row)) new_sorted → IsSinglePairing by old new result
 single_pairs by old new old_sorted new_sorted pairing result same_old same_new p e f g = record {
-  old_rows = rw (e, f) (all_rows by old old_sorted pairing.old.items (firsts pairing.pairs.items) same_old p.old_rows);
-  new_rows = rw (e, g) (all_rows by new new_sorted pairing.new.items (seconds pairing.pairs.items) same_new p.new_rows);
+  old_rows = rw (e, f) (all_rows by old old_sorted pairing.old.items (firsts pairing.pairs.items) same_old p.paired.old_rows);
+  new_rows = rw (e, g) (all_rows by new new_sorted pairing.new.items (seconds pairing.pairs.items) same_new p.paired.new_rows);
   single = rw e all_single;
   apart = rw (f, g) all_apart;
 }
@@ -231,21 +231,21 @@ single_pairs by old new old_sorted new_sorted pairing result same_old same_new p
     first_single : All (λ pair. is_single by old pair.old ≡ true) pairing.pairs.items
     first_single =
         unmapped (λ row. is_single by old row ≡ true) (λ (pair : Change). pair.old) pairing.pairs.items
-        (paired_single by old old_sorted pairing.old.items (firsts pairing.pairs.items) same_old p.old_rows)
+        (paired_single by old old_sorted pairing.old.items (firsts pairing.pairs.items) same_old p.paired.old_rows)
 
     second_single : All (λ pair. is_single by new pair.new ≡ true) pairing.pairs.items
     second_single =
         unmapped (λ row. is_single by new row ≡ true) (λ (pair : Change). pair.new) pairing.pairs.items
-        (paired_single by new new_sorted pairing.new.items (seconds pairing.pairs.items) same_new p.new_rows)
+        (paired_single by new new_sorted pairing.new.items (seconds pairing.pairs.items) same_new p.paired.new_rows)
 
     all_single : All (λ pair. IsSinglePair by old new pair.old pair.new) pairing.pairs.items
-    all_single k d within = (p.alike k d within, first_single k d within, second_single k d within)
+    all_single k d within = (p.paired.alike k d within, first_single k d within, second_single k d within)
 
     no_old : All (λ row. is_single by old row ≡ true → ⊥) (filter (λ row. not (is_single by old_sorted row)) old_sorted)
-    no_old = others_not by old old_sorted pairing.old.items (firsts pairing.pairs.items) same_old p.old_rows
+    no_old = others_not by old old_sorted pairing.old.items (firsts pairing.pairs.items) same_old p.paired.old_rows
 
     no_new : All (λ row. is_single by new row ≡ true → ⊥) (filter (λ row. not (is_single by new_sorted row)) new_sorted)
-    no_new = others_not by new new_sorted pairing.new.items (seconds pairing.pairs.items) same_new p.new_rows
+    no_new = others_not by new new_sorted pairing.new.items (seconds pairing.pairs.items) same_new p.paired.new_rows
 
     all_apart : All (λ one. All (λ other. IsSinglePair by old new one other → ⊥) (pairing.new.items ++ filter (λ row. not (is_single by new_sorted row)) new_sorted))
         (pairing.old.items ++ filter (λ row. not (is_single by old_sorted row)) old_sorted)

@@ -11,13 +11,13 @@ use Rattle.std.specs.Option.{option_eq}
 use Rattle.std.specs.Ordering.{int_eq}
 use Rattle.std.specs.Str.{bytes_eq}
 use Rattle.feed_kbart.specs.Identifiers.{online_isbn, online_issn, print_isbn, print_issn}
-use Rattle.feed_kbart.specs.RowValue.{RowValue}
+use Rattle.feed_kbart.specs.RowValue.{RowValue, content}
 use Rattle.feed_kbart.specs.declared.label.Label.{Label}
 use Rattle.feed_kbart.specs.declared.label.Label.TheVariants.{PublicationTitle, PrintIdentifier, OnlineIdentifier, DateFirstIssueOnline, NumFirstVolOnline}
 use Rattle.feed_kbart.specs.declared.label.Label.TheVariants.{DateLastIssueOnline, NumLastVolOnline, TitleUrl, TitleId, EmbargoInfo, CoverageDepth}
 use Rattle.feed_kbart.specs.declared.label.Label.TheVariants.{PublicationType, AccessType}
 use Rattle.feed_diff.specs.Columns.{is_book, is_same, is_same_answer}
-use Rattle.feed_diff.specs.Comparison.{ChangeValue, content, mentioned_new, mentioned_old, news, olds}
+use Rattle.feed_diff.specs.Comparison.{ChangeValue, mentioned_new, mentioned_old, news, olds}
 use Rattle.feed_diff.specs.Laws.{ChangesHaveAColumn, CountsAddUp, count}
 use Rattle.feed_diff.proofs.Alike.{same_content, same_identifiers}
 

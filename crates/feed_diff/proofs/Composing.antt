@@ -13,18 +13,19 @@ use Rattle.std.specs.List.Sorted.{IsNonDecreasingBy, IsPermutation}
 use Rattle.std.specs.Ordering.{is_eq}
 use Rattle.std.specs.declared.cmp.Ordering.{Ordering}
 use Rattle.std.specs.declared.cmp.Ordering.TheVariants.{Less, Equal, Greater}
-use Rattle.feed_kbart.specs.RowValue.{RowValue}
-use Rattle.feed_diff.specs.Comparison.{ComparisonValue, HasSameUrl, IsComparison, IsOnlyTitle, IsTitlePair, content}
+use Rattle.feed_kbart.specs.RowValue.{RowValue, content}
+use Rattle.feed_diff.specs.Comparison.{ComparisonValue, HasSameUrl, IsComparison, IsOnlyTitle, IsTitlePair}
 use Rattle.feed_diff.specs.Comparison.{mentioned_new, mentioned_old, news, olds}
-use Rattle.feed_diff.specs.Pairing.{ArePairedChanges, IsPairing, IsSinglePair, IsSinglePairing, change_of, firsts, is_single, order, row_of, seconds}
+use Rattle.feed_diff.specs.Pairing.{ArePaired, ArePairedChanges, IsContinued, IsPairing, IsSinglePair, IsSinglePairing, change_of, firsts, is_single, order, row_of, seconds}
 use Rattle.feed_diff.specs.Ranking.{ranking}
 use Rattle.feed_diff.specs.declared.change.Change.{Change}
+use Rattle.feed_diff.specs.declared.order.By.{By}
 use Rattle.feed_diff.specs.declared.order.By.TheVariants.{Content, TitleId, Url}
 use Rattle.feed_diff.specs.declared.pairing.Pairing.{Pairing}
 use Rattle.feed_diff.proofs.Alike.{content_tied, tied_content, tied_title, tied_url, title_tied, url_tied}
 use Rattle.feed_diff.proofs.Alone.{all_left}
 
--- ---- pairs by title id, and then by URL
+-- ---- pairs of two steps
 
 -- lists that are split twice
 twice : {X : Type 0} (old left more firsts seconds : List X) → IsPermutation old (left ++ firsts) → IsPermutation left (more ++ seconds)
@@ -35,34 +36,54 @@ twice old left more firsts seconds first second =
     (subst (λ l. IsPermutation l (more ++ (firsts ++ seconds))) (sym (append_assoc more seconds firsts))
     (IsPermutation-append_right more (seconds ++ firsts) (firsts ++ seconds) (IsPermutation-append_comm seconds firsts))))
 
-pub paired_changes : (old new : List (Bor RowValue)) (titles urls result : Pairing) → IsSinglePairing TitleId old new titles → IsPairing Url titles.old.items titles.new.items urls
-    → result.pairs.items ≡ titles.pairs.items ++ urls.pairs.items → result.old.items ≡ urls.old.items → result.new.items ≡ urls.new.items → ArePairedChanges old new result
-paired_changes old new titles urls result t u e f g = record {
-  old_rows =
-      rw (e, f) (subst (λ l. IsPermutation old (urls.old.items ++ l)) (sym (map-append (λ (p : Change). p.old) titles.pairs.items urls.pairs.items))
-      (twice old titles.old.items urls.old.items (firsts titles.pairs.items) (firsts urls.pairs.items) t.old_rows u.old_rows));
-  new_rows =
-      rw (e, g) (subst (λ l. IsPermutation new (urls.new.items ++ l)) (sym (map-append (λ (p : Change). p.new) titles.pairs.items urls.pairs.items))
-      (twice new titles.new.items urls.new.items (seconds titles.pairs.items) (seconds urls.pairs.items) t.new_rows u.new_rows));
-  paired = rw e
-      (All-append (λ pair. IsSinglePair TitleId old new pair.old pair.new ⊎ (order Url pair.old pair.new ≡ Equal)) titles.pairs.items urls.pairs.items
-      (λ k d within. inl (t.single k d within)) (λ k d within. inr (u.alike k d within)));
-  unpaired = rw (f, g) (λ k d within i c low. (u.apart k d within i c low, not_single k d within i c low));
+-- the pairs of both steps
+module _ (by : By) (old new : List (Bor RowValue)) (first whole : Pairing) (w : IsContinued by first whole) where
+  both_old : IsPermutation old (first.old.items ++ firsts first.pairs.items) → IsPermutation old (whole.old.items ++ firsts whole.pairs.items)
+  both_old split = rw (w.pairs, w.old_left)
+      (subst (λ l. IsPermutation old (w.rest.old.items ++ l)) (sym (map-append (λ (p : Change). p.old) first.pairs.items w.rest.pairs.items))
+      (twice old first.old.items w.rest.old.items (firsts first.pairs.items) (firsts w.rest.pairs.items) split w.rest_paired.paired.old_rows))
+
+  both_new : IsPermutation new (first.new.items ++ seconds first.pairs.items) → IsPermutation new (whole.new.items ++ seconds whole.pairs.items)
+  both_new split = rw (w.pairs, w.new_left)
+      (subst (λ l. IsPermutation new (w.rest.new.items ++ l)) (sym (map-append (λ (p : Change). p.new) first.pairs.items w.rest.pairs.items))
+      (twice new first.new.items w.rest.new.items (seconds first.pairs.items) (seconds w.rest.pairs.items) split w.rest_paired.paired.new_rows))
+
+  -- equal rows, first those in the same order and then the others
+  pub paired_equal : ArePaired by old new first → IsPairing by old new whole
+  paired_equal p = record {
+    paired = record {
+      old_rows = both_old p.old_rows;
+      new_rows = both_new p.new_rows;
+      alike = rw w.pairs (All-append (λ pair. order by pair.old pair.new ≡ Equal) first.pairs.items w.rest.pairs.items p.alike w.rest_paired.paired.alike);
+    };
+    apart = rw (w.old_left, w.new_left) w.rest_paired.apart;
+  }
+
+pub paired_changes : (old new : List (Bor RowValue)) (titles whole : Pairing) → IsSinglePairing TitleId old new titles → IsContinued Url titles whole
+    → ArePairedChanges old new whole
+paired_changes old new titles whole t w = record {
+  old_rows = both_old Url old new titles whole w t.old_rows;
+  new_rows = both_new Url old new titles whole w t.new_rows;
+  paired = rw w.pairs
+      (All-append (λ pair. IsSinglePair TitleId old new pair.old pair.new ⊎ (order Url pair.old pair.new ≡ Equal)) titles.pairs.items w.rest.pairs.items
+      (λ k d within. inl (t.single k d within)) (λ k d within. inr (w.rest_paired.paired.alike k d within)));
+  unpaired = rw (w.old_left, w.new_left) (λ k d within i c low. (w.rest_paired.apart k d within i c low, not_single k d within i c low));
 }
   where
     -- what is left of the second step was left of the first one
     left_new : (one : Bor RowValue) → All (λ other. IsSinglePair TitleId old new one other → ⊥) titles.new.items
-        → All (λ other. IsSinglePair TitleId old new one other → ⊥) urls.new.items
+        → All (λ other. IsSinglePair TitleId old new one other → ⊥) w.rest.new.items
     left_new one all =
-        all_left (λ other. IsSinglePair TitleId old new one other → ⊥) urls.new.items (seconds urls.pairs.items)
-        (All-permutation (λ other. IsSinglePair TitleId old new one other → ⊥) titles.new.items (urls.new.items ++ seconds urls.pairs.items) u.new_rows all)
+        all_left (λ other. IsSinglePair TitleId old new one other → ⊥) w.rest.new.items (seconds w.rest.pairs.items)
+        (All-permutation (λ other. IsSinglePair TitleId old new one other → ⊥) titles.new.items (w.rest.new.items ++ seconds w.rest.pairs.items) w.rest_paired.paired.new_rows all)
 
-    not_single : All (λ one. All (λ other. IsSinglePair TitleId old new one other → ⊥) urls.new.items) urls.old.items
+    not_single : All (λ one. All (λ other. IsSinglePair TitleId old new one other → ⊥) w.rest.new.items) w.rest.old.items
     not_single =
-        all_left (λ one. All (λ other. IsSinglePair TitleId old new one other → ⊥) urls.new.items) urls.old.items (firsts urls.pairs.items)
-        (All-permutation (λ one. All (λ other. IsSinglePair TitleId old new one other → ⊥) urls.new.items) titles.old.items (urls.old.items ++ firsts urls.pairs.items) u.old_rows
+        all_left (λ one. All (λ other. IsSinglePair TitleId old new one other → ⊥) w.rest.new.items) w.rest.old.items (firsts w.rest.pairs.items)
+        (All-permutation (λ one. All (λ other. IsSinglePair TitleId old new one other → ⊥) w.rest.new.items) titles.old.items (w.rest.old.items ++ firsts w.rest.pairs.items)
+        w.rest_paired.paired.old_rows
         (All-weaker (λ one. All (λ other. IsSinglePair TitleId old new one other → ⊥) titles.new.items)
-        (λ one. All (λ other. IsSinglePair TitleId old new one other → ⊥) urls.new.items) left_new titles.old.items t.apart))
+        (λ one. All (λ other. IsSinglePair TitleId old new one other → ⊥) w.rest.new.items) left_new titles.old.items t.apart))
 
 -- ---- the whole comparison, first with references
 
@@ -251,13 +272,13 @@ module _ (old new : List RowValue) (removed : List (Bor RowValue)) (changed : Li
     same = map change_of m.equal.pairs.items;
     old_rows =
         side old m.old_list m.equal.old.items mention_old (firsts m.equal.pairs.items) (mentioned_old (value_of removed changed added)) (olds (map change_of m.equal.pairs.items))
-        m.old_shown m.equal_is.old_rows old_moved old_is (olds_of m.equal.pairs.items);
+        m.old_shown m.equal_is.paired.old_rows old_moved old_is (olds_of m.equal.pairs.items);
     new_rows =
         side new m.new_list m.equal.new.items mention_new (seconds m.equal.pairs.items) (mentioned_new (value_of removed changed added)) (news (map change_of m.equal.pairs.items))
-        m.new_shown m.equal_is.new_rows new_moved new_is (news_of m.equal.pairs.items);
+        m.new_shown m.equal_is.paired.new_rows new_moved new_is (news_of m.equal.pairs.items);
     equal =
         All-map (λ change. content change.old ≡ content change.new) change_of m.equal.pairs.items
-        (λ k d within. content_tied (get_or m.equal.pairs.items k d).old.now (get_or m.equal.pairs.items k d).new.now (m.equal_is.alike k d within));
+        (λ k d within. content_tied (get_or m.equal.pairs.items k d).old.now (get_or m.equal.pairs.items k d).new.now (m.equal_is.paired.alike k d within));
     apart = all_apart;
     paired = all_paired;
     unpaired = all_unpaired;

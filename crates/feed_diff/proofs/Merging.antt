@@ -1,10 +1,10 @@
 -- Two sorted lists of rows in pairs, step by step.
-use Rattle.std.proofs.Common.{◌≡◌, ◌∙◌, ◌<◌, ◌≤◌, ◌+◌, ℕ, Bool, false, List, [], ◌∷◌, ◌++◌, length, take, get_or, refl, sym, ap, subst, arith}
+use Rattle.std.proofs.Common.{◌≡◌, ◌∙◌, ◌<◌, ◌≤◌, ◌+◌, ◌-◌, ℕ, Bool, false, List, [], ◌∷◌, ◌++◌, length, take, drop, get_or, refl, sym, ap, subst, arith}
 use Rattle.std.proofs.lemmas.Cmp.{alike_right, tied_back}
 use Rattle.std.proofs.lemmas.Fn.{always_returns_same}
-use Rattle.std.proofs.lemmas.List.{append_assoc, get_or_read, map-append, take_all, take_more}
+use Rattle.std.proofs.lemmas.List.{append-nil, append_assoc, drop-take, get_or_read, map-append, take-append-drop, take-take, take_all, take_more}
 use Rattle.std.proofs.lemmas.List.Elements.{All-nil, All-push}
-use Rattle.std.proofs.lemmas.List.Sorted.{IsPermutation-append_left, IsPermutation-middle, IsPermutation-push_more, IsPermutation-refl, IsPermutation-sym, IsPermutation-trans, ranks_by, sorted_far}
+use Rattle.std.proofs.lemmas.List.Sorted.{IsPermutation-append_comm, IsPermutation-append_left, IsPermutation-append_right, IsPermutation-refl, IsPermutation-trans, ranks_by, sorted_far}
 use Rattle.std.specs.Borrow.{Bor}
 use Rattle.std.specs.Cmp.{IsStrictWeakOrder, IsTotalOrder}
 use Rattle.std.specs.Fn.{Called, ComparesAs, Mut}
@@ -14,7 +14,7 @@ use Rattle.std.specs.Ordering.{is_gt, is_lt, ordering_reverse}
 use Rattle.std.specs.declared.cmp.Ordering.{Ordering}
 use Rattle.std.specs.declared.cmp.Ordering.TheVariants.{Less, Equal, Greater}
 use Rattle.feed_kbart.specs.RowValue.{RowValue}
-use Rattle.feed_diff.specs.Pairing.{AreSorted, IsAt, IsBefore, IsPairing, firsts, order, seconds}
+use Rattle.feed_diff.specs.Pairing.{ArePaired, AreSorted, IsAt, IsBefore, IsPairing, firsts, order, seconds}
 use Rattle.feed_diff.specs.declared.change.Change.{Change}
 use Rattle.feed_diff.specs.declared.order.By.{By}
 use Rattle.feed_diff.specs.declared.pairing.Pairing.{Pairing}
@@ -69,35 +69,90 @@ module _ {X : Type 0} (R : X → X → Ordering) (o : IsTotalOrder R) where
       let next : is_gt (R y (get_or xs k d)) ≡ false = subst (λ z. is_gt (R z (get_or xs k d)) ≡ false) (sym first) (sorted_upto xs i k d up low high) in
       less_then_upto x y (get_or xs k d) less next
 
--- a list of one more
-left_more : {X : Type 0} (xs ys zs : List X) (x : X) → IsPermutation xs (ys ++ zs) → IsPermutation (xs ++ x ∷ []) ((ys ++ x ∷ []) ++ zs)
-left_more xs ys zs x same =
-    let moved : IsPermutation (x ∷ (ys ++ zs)) (ys ++ x ∷ zs) = IsPermutation-sym (ys ++ x ∷ zs) (x ∷ (ys ++ zs)) (IsPermutation-middle ys x zs) in
-    let shown : IsPermutation (x ∷ (ys ++ zs)) ((ys ++ x ∷ []) ++ zs) = subst (IsPermutation (x ∷ (ys ++ zs))) (sym (append_assoc ys (x ∷ []) zs)) moved in
-    IsPermutation-push_more xs (ys ++ zs) ((ys ++ x ∷ []) ++ zs) x same shown
+-- a list of some more
+left_more : {X : Type 0} (xs ys zs more : List X) → IsPermutation xs (ys ++ zs) → IsPermutation (xs ++ more) ((ys ++ more) ++ zs)
+left_more xs ys zs more same =
+    let behind : IsPermutation (xs ++ more) (ys ++ (zs ++ more)) =
+    subst (IsPermutation (xs ++ more)) (append_assoc ys zs more) (IsPermutation-append_left more xs (ys ++ zs) same) in
+    let moved : IsPermutation (ys ++ (zs ++ more)) ((ys ++ more) ++ zs) =
+    subst (IsPermutation (ys ++ (zs ++ more))) (sym (append_assoc ys more zs)) (IsPermutation-append_right ys (zs ++ more) (more ++ zs) (IsPermutation-append_comm zs more)) in
+    IsPermutation-trans (xs ++ more) (ys ++ (zs ++ more)) ((ys ++ more) ++ zs) behind moved
 
 pair_more : {X : Type 0} (xs ys zs : List X) (x : X) → IsPermutation xs (ys ++ zs) → IsPermutation (xs ++ x ∷ []) (ys ++ (zs ++ x ∷ []))
 pair_more xs ys zs x same =
     subst (IsPermutation (xs ++ x ∷ [])) (append_assoc ys zs (x ∷ [])) (IsPermutation-append_left (x ∷ []) xs (ys ++ zs) same)
 
 -- one more element is taken of a list
-taken : {X : Type 0} (xs : List X) (i : ℕ) (x : X) → i < length xs → x ≡ get_or xs i x → take i xs ++ x ∷ [] ≡ take (i + 1) xs
+pub taken : {X : Type 0} (xs : List X) (i : ℕ) (x : X) → i < length xs → x ≡ get_or xs i x → take i xs ++ x ∷ [] ≡ take (i + 1) xs
 taken xs i x within at = ap (λ y. take i xs ++ y ∷ []) at ∙ sym (take_more xs i x within)
 
--- the lists up to a place of each are in pairs, and what is left of each comes before what is not reached of the other
-pub record IsMerging (by : By) (old : List (Bor RowValue)) (i : ℕ) (new : List (Bor RowValue)) (j : ℕ) (pairs : List Change) (left_old left_new : List (Bor RowValue)) : Type 0 where
-  pub old_rows : IsPermutation (take i old) (left_old ++ firsts pairs)
-  pub new_rows : IsPermutation (take j new) (left_new ++ seconds pairs)
+-- some more elements are taken of a list
+pub parts_taken : {X : Type 0} (xs : List X) (i k : ℕ) → i ≤ k → take i xs ++ take (k - i) (drop i xs) ≡ take k xs
+parts_taken xs i k up =
+    let whole : i + (k - i) ≡ k = omega (arith, up) in
+    let front : take i (take k xs) ≡ take i xs = take-take i k xs up in
+    let back : drop i (take k xs) ≡ take (k - i) (drop i xs) = rw whole at (drop-take i (k - i) xs) in
+    (λ p. sym front p ++ sym back p) ∙ take-append-drop i (take k xs)
+
+-- some rows of two lists are in pairs, and the others are left
+pub record ArePairedSoFar (by : By) (olds news : List (Bor RowValue)) (pairs : List Change) (left_old left_new : List (Bor RowValue)) : Type 0 where
+  pub old_rows : IsPermutation olds (left_old ++ firsts pairs)
+  pub new_rows : IsPermutation news (left_new ++ seconds pairs)
   pub alike : All (λ pair. order by pair.old pair.new ≡ Equal) pairs
+
+pub none_paired : (by : By) (olds news : List (Bor RowValue)) → ArePairedSoFar by olds news [] olds news
+none_paired by olds news = record {
+  old_rows = subst (IsPermutation olds) (sym (append-nil olds)) (IsPermutation-refl olds);
+  new_rows = subst (IsPermutation news) (sym (append-nil news)) (IsPermutation-refl news);
+  alike = All-nil (λ pair. order by pair.old pair.new ≡ Equal);
+}
+
+module _ (by : By) (olds news : List (Bor RowValue)) (pairs : List Change) (left_old left_new : List (Bor RowValue)) (m : ArePairedSoFar by olds news pairs left_old left_new) where
+  -- the next rows of a list are left
+  pub olds_left : (rows next : List (Bor RowValue)) → olds ++ rows ≡ next → ArePairedSoFar by next news pairs (left_old ++ rows) left_new
+  olds_left rows next is = record {
+    old_rows = subst (λ l. IsPermutation l ((left_old ++ rows) ++ firsts pairs)) is (left_more olds left_old (firsts pairs) rows m.old_rows);
+    new_rows = m.new_rows;
+    alike = m.alike;
+  }
+
+  pub news_left : (rows next : List (Bor RowValue)) → news ++ rows ≡ next → ArePairedSoFar by olds next pairs left_old (left_new ++ rows)
+  news_left rows next is = record {
+    old_rows = m.old_rows;
+    new_rows = subst (λ l. IsPermutation l ((left_new ++ rows) ++ seconds pairs)) is (left_more news left_new (seconds pairs) rows m.new_rows);
+    alike = m.alike;
+  }
+
+  pub both_paired : (pair : Change) (next_old next_new : List (Bor RowValue)) → olds ++ pair.old ∷ [] ≡ next_old → news ++ pair.new ∷ [] ≡ next_new
+      → order by pair.old pair.new ≡ Equal → ArePairedSoFar by next_old next_new (pairs ++ pair ∷ []) left_old left_new
+  both_paired pair next_old next_new is_old is_new same = record {
+    old_rows = subst (λ rows. IsPermutation rows (left_old ++ firsts (pairs ++ pair ∷ []))) is_old
+        (subst (λ rows. IsPermutation (olds ++ pair.old ∷ []) (left_old ++ rows)) (sym (map-append (λ (p : Change). p.old) pairs (pair ∷ [])))
+        (pair_more olds left_old (firsts pairs) pair.old m.old_rows));
+    new_rows = subst (λ rows. IsPermutation rows (left_new ++ seconds (pairs ++ pair ∷ []))) is_new
+        (subst (λ rows. IsPermutation (news ++ pair.new ∷ []) (left_new ++ rows)) (sym (map-append (λ (p : Change). p.new) pairs (pair ∷ [])))
+        (pair_more news left_new (seconds pairs) pair.new m.new_rows));
+    alike = All-push (λ p. order by p.old p.new ≡ Equal) pairs pair m.alike same;
+  }
+
+  pub all_paired : (old new : List (Bor RowValue)) → olds ≡ old → news ≡ new → (pairing : Pairing) → pairing.pairs.items ≡ pairs → pairing.old.items ≡ left_old
+      → pairing.new.items ≡ left_new → ArePaired by old new pairing
+  all_paired old new is_old is_new pairing p q r = record {
+    old_rows = rw (p, q) (subst (λ rows. IsPermutation rows (left_old ++ firsts pairs)) is_old m.old_rows);
+    new_rows = rw (p, r) (subst (λ rows. IsPermutation rows (left_new ++ seconds pairs)) is_new m.new_rows);
+    alike = rw p m.alike;
+  }
+
+-- the same of sorted lists, where what is left of each comes before what is not reached of the other
+pub record IsMerging (by : By) (old : List (Bor RowValue)) (i : ℕ) (new : List (Bor RowValue)) (j : ℕ) (pairs : List Change) (left_old left_new : List (Bor RowValue)) : Type 0 where
+  pub paired : ArePairedSoFar by (take i old) (take j new) pairs left_old left_new
   pub apart : All (λ one. All (λ other. order by one other ≡ Equal → ⊥) left_new) left_old
   pub old_before : All (λ one. IsBefore by one new j) left_old
   pub new_before : All (λ other. IsBefore by other old i) left_new
 
 pub begun : (by : By) (old new : List (Bor RowValue)) → IsMerging by old 0 new 0 [] [] []
 begun by old new = record {
-  old_rows = IsPermutation-refl [];
-  new_rows = IsPermutation-refl [];
-  alike = All-nil (λ pair. order by pair.old pair.new ≡ Equal);
+  paired = none_paired by [] [];
   apart = All-nil (λ one. All (λ other. order by one other ≡ Equal → ⊥) []);
   old_before = All-nil (λ one. IsBefore by one new 0);
   new_before = All-nil (λ other. IsBefore by other old 0);
@@ -117,9 +172,7 @@ module _ (by : By) (old new : List (Bor RowValue)) (i j : ℕ) (pairs : List Cha
     (m : IsMerging by old i new j pairs left_old left_new) where
   pub old_more : (row : Bor RowValue) → IsAt old i row → IsBefore by row new j → IsMerging by old (i + 1) new j pairs (left_old ++ row ∷ []) left_new
   old_more row at before = record {
-    old_rows = subst (λ rows. IsPermutation rows ((left_old ++ row ∷ []) ++ firsts pairs)) (taken old i row at.0 at.1) (left_more (take i old) left_old (firsts pairs) row m.old_rows);
-    new_rows = m.new_rows;
-    alike = m.alike;
+    paired = olds_left by (take i old) (take j new) pairs left_old left_new m.paired (row ∷ []) (take (i + 1) old) (taken old i row at.0 at.1);
     apart = All-push (λ one. All (λ other. order by one other ≡ Equal → ⊥) left_new) left_old row m.apart no;
     old_before = All-push (λ one. IsBefore by one new j) left_old row m.old_before before;
     new_before = all_later by left_new old i m.new_before;
@@ -133,9 +186,7 @@ module _ (by : By) (old new : List (Bor RowValue)) (i j : ℕ) (pairs : List Cha
 
   pub new_more : (row : Bor RowValue) → IsAt new j row → IsBefore by row old i → IsMerging by old i new (j + 1) pairs left_old (left_new ++ row ∷ [])
   new_more row at before = record {
-    old_rows = m.old_rows;
-    new_rows = subst (λ rows. IsPermutation rows ((left_new ++ row ∷ []) ++ seconds pairs)) (taken new j row at.0 at.1) (left_more (take j new) left_new (seconds pairs) row m.new_rows);
-    alike = m.alike;
+    paired = news_left by (take i old) (take j new) pairs left_old left_new m.paired (row ∷ []) (take (j + 1) new) (taken new j row at.0 at.1);
     apart = λ k d within. All-push (λ other. order by (get_or left_old k d) other ≡ Equal → ⊥) left_new row (m.apart k d within) (no k d within);
     old_before = all_later by left_old new j m.old_before;
     new_before = All-push (λ other. IsBefore by other old i) left_new row m.new_before before;
@@ -150,13 +201,9 @@ module _ (by : By) (old new : List (Bor RowValue)) (i j : ℕ) (pairs : List Cha
   pub both_more : (pair : Change) → IsAt old i pair.old → IsAt new j pair.new → order by pair.old pair.new ≡ Equal
       → IsMerging by old (i + 1) new (j + 1) (pairs ++ pair ∷ []) left_old left_new
   both_more pair at_old at_new same = record {
-    old_rows = subst (λ rows. IsPermutation rows (left_old ++ firsts (pairs ++ pair ∷ []))) (taken old i pair.old at_old.0 at_old.1)
-        (subst (λ rows. IsPermutation (take i old ++ pair.old ∷ []) (left_old ++ rows)) (sym (map-append (λ (p : Change). p.old) pairs (pair ∷ [])))
-        (pair_more (take i old) left_old (firsts pairs) pair.old m.old_rows));
-    new_rows = subst (λ rows. IsPermutation rows (left_new ++ seconds (pairs ++ pair ∷ []))) (taken new j pair.new at_new.0 at_new.1)
-        (subst (λ rows. IsPermutation (take j new ++ pair.new ∷ []) (left_new ++ rows)) (sym (map-append (λ (p : Change). p.new) pairs (pair ∷ [])))
-        (pair_more (take j new) left_new (seconds pairs) pair.new m.new_rows));
-    alike = All-push (λ p. order by p.old p.new ≡ Equal) pairs pair m.alike same;
+    paired =
+        both_paired by (take i old) (take j new) pairs left_old left_new m.paired pair (take (i + 1) old) (take (j + 1) new) (taken old i pair.old at_old.0 at_old.1)
+        (taken new j pair.new at_new.0 at_new.1) same;
     apart = m.apart;
     old_before = all_later by left_old new j m.old_before;
     new_before = all_later by left_new old i m.new_before;
@@ -165,9 +212,8 @@ module _ (by : By) (old new : List (Bor RowValue)) (i j : ℕ) (pairs : List Cha
   pub merged : length old ≤ i → length new ≤ j → (pairing : Pairing) → pairing.pairs.items ≡ pairs → pairing.old.items ≡ left_old → pairing.new.items ≡ left_new
       → IsPairing by old new pairing
   merged past_old past_new pairing p q r = record {
-    old_rows = rw (p, q) (subst (λ rows. IsPermutation rows (left_old ++ firsts pairs)) (take_all i old past_old) m.old_rows);
-    new_rows = rw (p, r) (subst (λ rows. IsPermutation rows (left_new ++ seconds pairs)) (take_all j new past_new) m.new_rows);
-    alike = rw p m.alike;
+    paired =
+        all_paired by (take i old) (take j new) pairs left_old left_new m.paired old new (take_all i old past_old) (take_all j new past_new) pairing p q r;
     apart = rw (q, r) m.apart;
   }
 
@@ -175,8 +221,38 @@ module _ (by : By) (old new : List (Bor RowValue)) (i j : ℕ) (pairs : List Cha
 pub resorted : (by : By) (old new old_sorted new_sorted : List (Bor RowValue)) → IsPermutation old old_sorted → IsPermutation new new_sorted → (pairing : Pairing)
     → IsPairing by old_sorted new_sorted pairing → IsPairing by old new pairing
 resorted by old new old_sorted new_sorted same_old same_new pairing p = record {
-  old_rows = IsPermutation-trans old old_sorted (pairing.old.items ++ firsts pairing.pairs.items) same_old p.old_rows;
-  new_rows = IsPermutation-trans new new_sorted (pairing.new.items ++ seconds pairing.pairs.items) same_new p.new_rows;
-  alike = p.alike;
+  paired = record {
+    old_rows = IsPermutation-trans old old_sorted (pairing.old.items ++ firsts pairing.pairs.items) same_old p.paired.old_rows;
+    new_rows = IsPermutation-trans new new_sorted (pairing.new.items ++ seconds pairing.pairs.items) same_new p.paired.new_rows;
+    alike = p.paired.alike;
+  };
   apart = p.apart;
+}
+
+-- the rows of a pairing with those of its first pairs
+abbrev pub olds_upto : Pairing → ℕ → List (Bor RowValue)
+olds_upto first n = first.old.items ++ firsts (take n first.pairs.items)
+
+abbrev pub news_upto : Pairing → ℕ → List (Bor RowValue)
+news_upto first n = first.new.items ++ seconds (take n first.pairs.items)
+
+module _ (first : Pairing) (i : ℕ) (pair : Change) (within : i < length first.pairs.items) (at : pair ≡ get_or first.pairs.items i pair) where
+  next_pairs : take (i + 1) first.pairs.items ≡ take i first.pairs.items ++ pair ∷ []
+  next_pairs = sym (taken first.pairs.items i pair within at)
+
+  pub next_old : olds_upto first i ++ pair.old ∷ [] ≡ olds_upto first (i + 1)
+  next_old = rw (next_pairs, map-append (λ (p : Change). p.old) (take i first.pairs.items) (pair ∷ []))
+      (append_assoc first.old.items (firsts (take i first.pairs.items)) (pair.old ∷ []))
+
+  pub next_new : news_upto first i ++ pair.new ∷ [] ≡ news_upto first (i + 1)
+  next_new = rw (next_pairs, map-append (λ (p : Change). p.new) (take i first.pairs.items) (pair ∷ []))
+      (append_assoc first.new.items (seconds (take i first.pairs.items)) (pair.new ∷ []))
+
+-- what is in pairs of the rows of a pairing is in pairs of the lists of that pairing
+pub paired_again : (by : By) (old new : List (Bor RowValue)) (first kept : Pairing) → ArePaired by old new first
+    → ArePaired by (first.old.items ++ firsts first.pairs.items) (first.new.items ++ seconds first.pairs.items) kept → ArePaired by old new kept
+paired_again by old new first kept p q = record {
+  old_rows = IsPermutation-trans old (first.old.items ++ firsts first.pairs.items) (kept.old.items ++ firsts kept.pairs.items) p.old_rows q.old_rows;
+  new_rows = IsPermutation-trans new (first.new.items ++ seconds first.pairs.items) (kept.new.items ++ seconds kept.pairs.items) p.new_rows q.new_rows;
+  alike = q.alike;
 }

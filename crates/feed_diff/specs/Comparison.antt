@@ -2,11 +2,7 @@
 use Rattle.std.specs.Prelude.{◌≡◌, ◌≤◌, ◌++◌, ◌⊎◌, Bool, true, List, map}
 use Rattle.std.specs.List.{All, count_by}
 use Rattle.std.specs.List.Sorted.{IsNonDecreasingBy, IsPermutation}
-use Rattle.feed_kbart.specs.RowValue.{RowValue}
-
--- a row without its number: the values of its columns
-abbrev pub content : RowValue → RowValue
-content row = record row { number = 0 }
+use Rattle.feed_kbart.specs.RowValue.{RowValue, content}
 
 -- a row of the old list, and the row of the new list that takes its place
 pub record ChangeValue : Type 0 where

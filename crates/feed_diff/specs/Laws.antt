@@ -1,10 +1,10 @@
 -- The laws of comparisons.
 use Rattle.std.specs.Prelude.{◌≡◌, ◌+◌, ℕ, Bool, true, List}
 use Rattle.std.specs.List.{count_by}
-use Rattle.feed_kbart.specs.RowValue.{RowValue}
+use Rattle.feed_kbart.specs.RowValue.{RowValue, content}
 use Rattle.feed_kbart.specs.declared.label.Label.{Label}
 use Rattle.feed_diff.specs.Columns.{is_same}
-use Rattle.feed_diff.specs.Comparison.{ComparisonValue, IsComparison, content, mentioned_new, mentioned_old}
+use Rattle.feed_diff.specs.Comparison.{ComparisonValue, IsComparison, mentioned_new, mentioned_old}
 
 -- how many rows have columns that pass a test
 abbrev pub count : (RowValue → Bool) → List RowValue → ℕ

@@ -53,12 +53,24 @@ IsStep by old i new j (New row) = IsAt new j row × IsBefore by row old i
 IsStep by old i new j (Both pair) = IsAt old i pair.old × IsAt new j pair.new × (order by pair.old pair.new ≡ Equal)
 IsStep by old i new j End = (length old ≤ i) × (length new ≤ j)
 
--- the rows of two lists that are alike are in pairs, until none are left that are
-pub record IsPairing (by : By) (old new : List (Bor RowValue)) (pairing : Pairing) : Type 0 where
+-- rows of two lists that are alike are in pairs
+pub record ArePaired (by : By) (old new : List (Bor RowValue)) (pairing : Pairing) : Type 0 where
   pub old_rows : IsPermutation old (pairing.old.items ++ firsts pairing.pairs.items)
   pub new_rows : IsPermutation new (pairing.new.items ++ seconds pairing.pairs.items)
   pub alike : All (λ pair. order by pair.old pair.new ≡ Equal) pairing.pairs.items
+
+-- the rows of two lists that are alike are in pairs, until none are left that are
+pub record IsPairing (by : By) (old new : List (Bor RowValue)) (pairing : Pairing) : Type 0 where
+  pub paired : ArePaired by old new pairing
   pub apart : All (λ one. All (λ other. order by one other ≡ Equal → ⊥) pairing.new.items) pairing.old.items
+
+-- the pairs of a first step, and those of the rows that it leaves over
+pub record IsContinued (by : By) (first whole : Pairing) : Type 0 where
+  pub rest : Pairing
+  pub rest_paired : IsPairing by first.old.items first.new.items rest
+  pub pairs : whole.pairs.items ≡ first.pairs.items ++ rest.pairs.items
+  pub old_left : whole.old.items ≡ rest.old.items
+  pub new_left : whole.new.items ≡ rest.new.items
 
 -- at most one of some rows is alike a row
 abbrev pub is_single : By → List (Bor RowValue) → Bor RowValue → Bool

@@ -2,12 +2,14 @@
 ghost use Rattle.std.specs.Prelude.{◌≡◌, IfOk, OnOk, map};
 ghost use Rattle.std.specs.List.Sorted.{IsNonDecreasingBy, IsPermutation};
 ghost use Rattle.feed_diff.specs.Comparison.{IsComparison};
-ghost use Rattle.feed_diff.specs.Pairing.{ArePairedChanges, change_of, row_of};
+ghost use Rattle.feed_diff.specs.Pairing.{ArePairedChanges, IsPairing, change_of, row_of};
+ghost use Rattle.feed_diff.specs.declared.order.By.TheVariants as key;
 
 use crate::change::Change;
 use crate::order::By;
-use crate::pairing::{Pairing, pair_up};
+use crate::pairing::{Pairing, pair_rest};
 use crate::singles::pair_singles;
+use crate::unchanged::pair_unchanged;
 use feed_kbart::Row;
 use std::alloc::{AllocError, Global};
 use std::marker::Model;
@@ -67,6 +69,18 @@ fn references<'a>(alloc: Global, rows: &'a [Row]) -> Result<Vec<&'a Row>, AllocE
     Ok(list)
 }
 
+// Pairs the rows that are equal: first those in the same order in both lists, and then the others.
+fn pair_equal<'a>(
+    alloc: Global,
+    old: Vec<&'a Row>,
+    new: Vec<&'a Row>,
+) -> Result<Pairing<'a>, AllocError>
+    ensures { IfOk result (IsPairing key.Content old.entry.items new.entry.items) }
+{
+    let unchanged = pair_unchanged(alloc, &old, &new)?;
+    pair_rest(alloc, By::Content, unchanged)
+}
+
 // Pairs the rows that differ: by title id and identifiers if both rows are the only ones, and then by URL and
 // identifiers.
 fn pair_changes<'a>(
@@ -76,22 +90,8 @@ fn pair_changes<'a>(
 ) -> Result<Pairing<'a>, AllocError>
     ensures { IfOk result (ArePairedChanges old.entry.items new.entry.items) }
 {
-    let Pairing {
-        pairs: mut changes,
-        old,
-        new,
-    } = pair_singles(alloc, By::TitleId, old, new)?;
-    let Pairing {
-        mut pairs,
-        old,
-        new,
-    } = pair_up(alloc, By::Url, old, new)?;
-    changes.append(&mut pairs)?;
-    Ok(Pairing {
-        pairs: changes,
-        old,
-        new,
-    })
+    let titles = pair_singles(alloc, By::TitleId, old, new)?;
+    pair_rest(alloc, By::Url, titles)
 }
 
 fn sort_rows(rows: &mut Vec<&Row>) -> Result<(), AllocError>
@@ -130,7 +130,7 @@ pub fn compare<'a>(
 {
     let old_rows = references(alloc, old)?;
     let new_rows = references(alloc, new)?;
-    let Pairing { pairs: _, old, new } = pair_up(alloc, By::Content, old_rows, new_rows)?;
+    let Pairing { pairs: _, old, new } = pair_equal(alloc, old_rows, new_rows)?;
     let Pairing {
         mut pairs,
         mut old,

@@ -11,6 +11,7 @@ mod numbered;
 mod order;
 mod pairing;
 mod singles;
+mod unchanged;
 
 pub use crate::change::Change;
 pub use crate::comparison::{Comparison, compare};

@@ -2,7 +2,8 @@
 ghost use Rattle.std.specs.Prelude.{◌≡◌};
 ghost use Rattle.feed_diff.specs.Columns.{is_book};
 ghost use Rattle.feed_diff.specs.Ranking.{content_cmp, coverage_cmp, identifiers_cmp, texts_cmp};
-ghost use Rattle.feed_diff.specs.Ranking.{first_number, further_cmp, isbn_or, issn_or, ranking};
+ghost use Rattle.feed_diff.specs.Ranking.{first_number, further_cmp, isbn_or, ranking};
+ghost use Rattle.feed_kbart.specs.Identifiers.{online_isbn, print_isbn};
 
 use feed_kbart::{Isbn, Issn, Kind, Row};
 use std::cmp::Ordering;
@@ -109,26 +110,24 @@ fn compare_texts(one: &Row, other: &Row) -> Ordering
 fn compare_content(one: &Row, other: &Row) -> Ordering
     ensures { result ≡ content_cmp one.now other.now }
 {
+    if one.has_same_cells(other) {
+        return Ordering::Equal;
+    }
     compare_texts(one, other)
         .then_with(|| compare_coverage(one, other))
         .then_with(|| compare_identifiers(one, other))
 }
 
-fn issn_or(issn: Option<Issn>, other: u32) -> u32
-    ensures { result ≡ issn_or issn other }
+fn first_isbn(row: &Row) -> u32
+    ensures { result
+        ≡ isbn_or (print_isbn row.now.identifiers) (isbn_or (online_isbn row.now.identifiers) 0) }
 {
-    match issn {
-        Some(issn) => issn.number(),
-        None => other,
-    }
-}
-
-fn isbn_or(isbn: Option<Isbn>, other: u32) -> u32
-    ensures { result ≡ isbn_or isbn other }
-{
-    match isbn {
+    match row.print_isbn() {
         Some(isbn) => isbn.number(),
-        None => other,
+        None => match row.online_isbn() {
+            Some(isbn) => isbn.number(),
+            None => 0,
+        },
     }
 }
 
@@ -136,8 +135,13 @@ fn isbn_or(isbn: Option<Isbn>, other: u32) -> u32
 pub(crate) fn first_number(row: &Row) -> u32
     ensures { result ≡ first_number row.now.identifiers }
 {
-    let isbn = isbn_or(row.print_isbn(), isbn_or(row.online_isbn(), 0));
-    issn_or(row.print(), issn_or(row.online(), isbn))
+    match row.print() {
+        Some(issn) => issn.number(),
+        None => match row.online() {
+            Some(issn) => issn.number(),
+            None => first_isbn(row),
+        },
+    }
 }
 
 impl By {

@@ -1,7 +1,7 @@
 //! Pairs the rows of two lists that are alike, in one pass over both lists in order.
 ghost use Rattle.std.specs.Prelude.{◌≡◌, IfOk};
 ghost use Rattle.std.specs.List.Sorted.{IsPermutation};
-ghost use Rattle.feed_diff.specs.Pairing.{AreSorted, IsPairing, IsStep};
+ghost use Rattle.feed_diff.specs.Pairing.{AreSorted, IsContinued, IsPairing, IsStep};
 ghost use Rattle.feed_diff.specs.Ranking.{ranking};
 
 use crate::change::Change;
@@ -124,4 +124,26 @@ pub(crate) fn pair_up<'a>(
     let old_rows = sort(alloc, by, old)?;
     let new_rows = sort(alloc, by, new)?;
     merge(alloc, by, &old_rows, &new_rows)
+}
+
+/// Pairs the rows that a first step leaves over, and adds the pairs to those of the first step.
+pub(crate) fn pair_rest<'a>(
+    alloc: Global,
+    by: By,
+    first: Pairing<'a>,
+) -> Result<Pairing<'a>, AllocError>
+    ensures { IfOk result (IsContinued by first.entry) }
+{
+    let Pairing {
+        mut pairs,
+        old,
+        new,
+    } = first;
+    let mut rest = pair_up(alloc, by, old, new)?;
+    pairs.append(&mut rest.pairs)?;
+    Ok(Pairing {
+        pairs,
+        old: rest.old,
+        new: rest.new,
+    })
 }

@@ -1,8 +1,10 @@
-use Rattle.std.proofs.Common.{refl}
+use Rattle.std.proofs.lemmas.Result.{IfOk-weaker}
+use Rattle.feed_diff.specs.Pairing.{ArePairedChanges, IsContinued}
+use Rattle.feed_diff.specs.declared.order.By.TheVariants.{Url}
 use Rattle.feed_diff.proofs.Composing.{paired_changes}
 use Rattle.feed_diff.proofs.comparison.pair_changes.Goals as goal
 
 pub returns : goal.returns
 returns c =
-    paired_changes c.args.old.items c.args.new.items c.in_ok-changes.field-0 c.in_ok-pairs.field-0 _ c.in_ok-changes.ensures c.in_ok-pairs.ensures c.in_ok-append.ensures.items refl
-    refl
+    IfOk-weaker c.pair_rest.result (IsContinued Url c.in_ok-titles.titles) (ArePairedChanges c.args.old.items c.args.new.items)
+    (λ whole w. paired_changes c.args.old.items c.args.new.items c.in_ok-titles.titles whole c.in_ok-titles.ensures w) c.pair_rest.ensures
