@@ -11,7 +11,7 @@ mod piece;
 mod tags;
 mod writing;
 
-pub use crate::item::{LeftOut, left_out, put_item};
+pub use crate::item::{LeftOut, count_left_out, left_out, put_item};
 pub use crate::laws::{
     allowed_has_no_controls, allowed_is_itself, export_is_balanced, export_is_written,
     export_reads_back, item_has_row, spans_are_counted,
