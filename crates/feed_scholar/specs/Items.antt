@@ -29,7 +29,7 @@ embargo_by of.Serial row = embargo_read (embargo_of row.embargo)
 abbrev pub embargo_in : RowValue → Result Embargo LeftOut
 embargo_in row = embargo_by (kind row.identifiers) row
 
--- why there is no item
+-- the reason, if there is one
 abbrev pub reason_of : Result Embargo LeftOut → Option LeftOut
 reason_of (Ok embargo) = None
 reason_of (Err why) = Some why

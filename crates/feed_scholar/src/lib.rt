@@ -1,5 +1,5 @@
-//! Holdings as the XML that Google Scholar's library links programme takes: an item for each serial, with its title, its
-//! ISSNs, its coverage and its embargo.
+//! Holdings as the XML of Google Scholar's library links programme: an item for each row of a serial, with its title,
+//! its ISSNs, its coverage and its embargo.
 #![tactic(auto)]
 
 mod characters;
