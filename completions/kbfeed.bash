@@ -1,9 +1,9 @@
 # Completion of kbfeed for bash. Paths are left to readline, which knows of quotes, spaces and ~.
 _kbfeed() {
-  local commands='replay check diff answer openurl serve node fetch ask status why help'
+  local commands='replay check diff answer openurl serve node fetch ask export status why help'
   local word=${COMP_WORDS[COMP_CWORD]} has_options=yes command= places=0 options= index
   COMPREPLY=()
-  case ${COMP_WORDS[COMP_CWORD - 1]} in '<' | '>' | '>>' | --token | --site | --db) compopt -o default; return ;; esac
+  case ${COMP_WORDS[COMP_CWORD - 1]} in '<' | '>' | '>>' | --token | --site | --db | --scholar) compopt -o default; return ;; esac
 
   # The command, and how many words stand behind it before the cursor. Bash splits --name=VALUE at its =.
   for ((index = 1; index < COMP_CWORD; index++)); do
@@ -29,6 +29,7 @@ _kbfeed() {
       options='-h --help -v --verbose --check --from --token --site --piece --clients --timeout --idle
         --max-age --metrics --forwarded --log-queries' ;;
     fetch) options='-h --help -v --verbose --piece --timeout' ;;
+    export) options='-h --help -v --verbose --scholar' ;;
     replay | answer | ask | status | why) options='-h --help -v --verbose' ;;
   esac
   if [[ $has_options && $word == -* ]]; then

@@ -15,7 +15,7 @@ function __kbfeed_place
                 case --
                     set has_options no
                 case --name --count --timeout --idle --max-age --metrics --log-queries --piece --clients --from --token \
-                        --site --max-removed --max-changed --db
+                        --site --max-removed --max-changed --db --scholar
                     set is_value yes
                 case '-?*'
                 case '*'
@@ -44,6 +44,7 @@ complete -c kbfeed -n $is_command -a serve -d 'Serves a folder of releases over 
 complete -c kbfeed -n $is_command -a node -d 'Answers readers over HTTP from the database of a node'
 complete -c kbfeed -n $is_command -a fetch -d 'Fetches a release into the database of a node'
 complete -c kbfeed -n $is_command -a ask -d 'Answers a query from the database of a node'
+complete -c kbfeed -n $is_command -a export -d 'Prints the holdings of a node for Google Scholar'
 complete -c kbfeed -n $is_command -a status -d 'Prints the releases that a node has recorded'
 complete -c kbfeed -n $is_command -a why -d 'Prints why a release of a node is broken'
 complete -c kbfeed -n $is_command -a help -d 'Prints the help of a command'
@@ -83,4 +84,5 @@ complete -c kbfeed -n '__kbfeed_at "node/*"' -x -l max-age -d 'Seconds that a ca
 complete -c kbfeed -n '__kbfeed_at "node/*"' -x -l metrics -a 'local any' -d 'Which clients may get the metrics and the health'
 complete -c kbfeed -n '__kbfeed_at "node/*"' -l forwarded -d 'Logs the address in X-Forwarded-For of a client on this machine'
 complete -c kbfeed -n '__kbfeed_at "node/*"' -x -l log-queries -a 'yes no' -d 'Whether the log has the queries of readers'
+complete -c kbfeed -n '__kbfeed_at "export/*"' -r -F -l scholar -d 'The database of the node, for library links of Google Scholar'
 complete -c kbfeed -n '__kbfeed_at "serve/*" "node/*" "fetch/*"' -x -l timeout -d 'Seconds that a connection may take'

@@ -1,7 +1,7 @@
 //! The commands of the program with their arguments: a table, and the loop that builds clap's command from it.
 use crate::helps::{
-    ANSWER_HELP, ASK_HELP, CHECK_HELP, DIFF_HELP, FETCH_HELP, NODE_HELP, OPENURL_HELP, REPLAY_HELP,
-    SERVE_HELP, STATUS_HELP, WHY_HELP,
+    ANSWER_HELP, ASK_HELP, CHECK_HELP, DIFF_HELP, EXPORT_HELP, FETCH_HELP, NODE_HELP, OPENURL_HELP,
+    REPLAY_HELP, SERVE_HELP, STATUS_HELP, WHY_HELP,
 };
 use clap::builder::ValueParser;
 use clap::{Arg, ArgAction, Command};
@@ -28,6 +28,7 @@ enum Subcommand {
     Node,
     Fetch,
     Ask,
+    Export,
     Status,
     Why,
 }
@@ -56,6 +57,10 @@ enum Kind {
     Text {
         value: &'static str,
         needs: &'static [&'static str],
+    },
+    /// As an option with a text. It is required.
+    RequiredText {
+        value: &'static str,
     },
     /// As an option with a number from 1 to a limit, and a default.
     Number {
@@ -359,12 +364,18 @@ static ASK: [Argument; 3] = [
     QUERY,
 ];
 
+static EXPORT: [Argument; 1] = [Argument {
+    id: "scholar",
+    kind: Kind::RequiredText { value: "DB" },
+    help: "The path of the node's database, for Google Scholar's library links",
+}];
+
 static STATUS: [Argument; 1] = [DATABASE];
 
 static WHY: [Argument; 2] = [DATABASE, RELEASE];
 
 // The commands with their names, in the order of the help.
-const SUBCOMMANDS: [(&str, Subcommand); 11] = [
+const SUBCOMMANDS: [(&str, Subcommand); 12] = [
     ("replay", Subcommand::Replay),
     ("check", Subcommand::Check),
     ("diff", Subcommand::Diff),
@@ -374,6 +385,7 @@ const SUBCOMMANDS: [(&str, Subcommand); 11] = [
     ("node", Subcommand::Node),
     ("fetch", Subcommand::Fetch),
     ("ask", Subcommand::Ask),
+    ("export", Subcommand::Export),
     ("status", Subcommand::Status),
     ("why", Subcommand::Why),
 ];
@@ -390,6 +402,7 @@ impl Subcommand {
             Subcommand::Node => "Answers readers over HTTP from the database of a node",
             Subcommand::Fetch => "Fetches a release into the database of a node",
             Subcommand::Ask => "Answers a query from the database of a node",
+            Subcommand::Export => "Prints the holdings of a node for Google Scholar",
             Subcommand::Status => "Prints the releases that a node has recorded",
             Subcommand::Why => "Prints why a release of a node is broken",
         }
@@ -406,6 +419,7 @@ impl Subcommand {
             Subcommand::Node => NODE_HELP,
             Subcommand::Fetch => FETCH_HELP,
             Subcommand::Ask => ASK_HELP,
+            Subcommand::Export => EXPORT_HELP,
             Subcommand::Status => STATUS_HELP,
             Subcommand::Why => WHY_HELP,
         }
@@ -422,6 +436,7 @@ impl Subcommand {
             Subcommand::Node => &NODE,
             Subcommand::Fetch => &FETCH,
             Subcommand::Ask => &ASK,
+            Subcommand::Export => &EXPORT,
             Subcommand::Status => &STATUS,
             Subcommand::Why => &WHY,
         }
@@ -472,6 +487,7 @@ fn arg_of<'a>(alloc: Global, argument: &'static Argument) -> Result<Arg<'a>, All
         Kind::Positionals => Ok(repeat(arg)),
         Kind::Flag { excludes } => flag(arg.long(id), excludes),
         Kind::Text { value, needs } => text(arg.long(id), value, needs),
+        Kind::RequiredText { value } => Ok(required_text(arg.long(id), value)),
         Kind::Number {
             value,
             limit,
@@ -501,6 +517,10 @@ fn text<'a>(
     needs: &[&'static str],
 ) -> Result<Arg<'a>, AllocError> {
     arg.value_name(value).requires_all(needs)
+}
+
+fn required_text<'a>(arg: Arg<'a>, value: &'static str) -> Arg<'a> {
+    arg.value_name(value).required(true)
 }
 
 fn optional_number<'a>(arg: Arg<'a>, value: &'static str, limit: u64) -> Arg<'a> {

@@ -2,6 +2,7 @@
 use crate::ask::print_answer;
 use crate::database::Database;
 use crate::diff::compare_active;
+use crate::export::export_holdings;
 use crate::fetch::fetch_release;
 use crate::status::print_status;
 use crate::why::print_reason;
@@ -30,6 +31,8 @@ pub enum DatabaseCommand<'a> {
         package: &'a str,
         diff: Diff<'a>,
     },
+    /// Print the holdings for Google Scholar.
+    Export,
     /// List the releases.
     Status,
     /// Print why a release is broken.
@@ -59,6 +62,7 @@ pub fn run_database_command<D: Database, O: Write, F: Write + Drop>(
         DatabaseCommand::Diff { package, diff } => {
             compare_active(rt, database, package, diff, out, faults)
         }
+        DatabaseCommand::Export => export_holdings(rt.alloc(), database, out, faults),
         DatabaseCommand::Status => print_status(rt.alloc(), database, out, faults),
         DatabaseCommand::Why { name } => print_reason(rt.alloc(), database, name, out, faults),
     }

@@ -1,11 +1,12 @@
-//! The commands of kbfeed that work on the database of a node and need no server: `fetch`, `ask`, `diff --db`, `status`
-//! and `why`.
+//! The commands of kbfeed that work on the database of a node and need no server: `fetch`, `ask`, `diff --db`,
+//! `export`, `status` and `why`.
 #![tactic(auto)]
 
 mod ask;
 mod command;
 mod database;
 mod diff;
+mod export;
 mod fetch;
 mod progress;
 mod status;

@@ -59,7 +59,8 @@ record IsOutside (name : List ℕ) : Type 0 where
 skips_date : (name date : List ℕ) → IsOutside name → Skips name (date_marks date)
 skips_date name date is =
     skips_append name (leaf YEAR.now (slice_range date 0 4)) (leaf MONTH.now (slice_range date 5 7) ++ leaf DAY.now (slice_range date 8 10)) (skips_leaf name YEAR.now (slice_range date 0 4) is.year)
-    (skips_append name (leaf MONTH.now (slice_range date 5 7)) (leaf DAY.now (slice_range date 8 10)) (skips_leaf name MONTH.now (slice_range date 5 7) is.month) (skips_leaf name DAY.now (slice_range date 8 10) is.day))
+    (skips_append name (leaf MONTH.now (slice_range date 5 7)) (leaf DAY.now (slice_range date 8 10))
+    (skips_leaf name MONTH.now (slice_range date 5 7) is.month) (skips_leaf name DAY.now (slice_range date 8 10) is.day))
 
 skips_dated : (name other : List ℕ) (date : Option (List ℕ)) → IsOutside name → IsOther name other → Skips name (dated other date)
 skips_dated name other None is differs rest = refl

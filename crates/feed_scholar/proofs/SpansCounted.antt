@@ -2,7 +2,8 @@
 use Rattle.std.proofs.Common.{◌≡◌, ◌≤◌, ◌<◌, ◌+◌, ◌-◌, ◌*◌, ◌/◌, ◌%◌, ℕ, zero, suc, ℤ, pos, neg_ℤ, ◌+ℤ◌, ◌≤ℤ◌, ◌<ℤ◌, refl, inl, inr, arith}
 use Rattle.std.proofs.lemmas.Bool.{cases_lt}
 use Rattle.jiff_core.specs.Calendar.{day_count, days_from_civil}
-use Rattle.jiff_core.proofs.CalendarLemmas.{day_count-day, day_count-day_of_year, day_count-last_of_year, day_count-next_month, day_count-next_year, day_of_year_bound, days_from_civil-day_count, days_in_month_bounds, days_in_year_bounds}
+use Rattle.jiff_core.proofs.CalendarLemmas.{day_count-day, day_count-day_of_year, day_count-last_of_year, day_count-next_month, day_count-next_year}
+use Rattle.jiff_core.proofs.CalendarLemmas.{day_of_year_bound, days_from_civil-day_count, days_in_month_bounds, days_in_year_bounds}
 use Rattle.jiff_core.proofs.SignedLemmas.{signed_arith}
 use borrow.Author.Differences.{up, down}
 use Rattle.feed_dates.proofs.Dates.{civil}

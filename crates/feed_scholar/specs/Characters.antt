@@ -14,7 +14,7 @@ is_last Second b = (b == 190) || (b == 191)
 is_last Outside b = false
 is_last First b = false
 
--- the place after a byte that may begin one of these two
+-- the place after a byte that may begin one of the two
 abbrev pub begun : ℕ → Place
 begun b = if b == 239 then First else Outside
 

@@ -1,5 +1,5 @@
 -- The item of a row, and the export of rows.
-use Rattle.std.specs.Prelude.{ℕ, List, [], ◌∷◌, ◌++◌, Option, Some, None, Result, Ok, Err}
+use Rattle.std.specs.Prelude.{ℕ, Bool, true, false, List, [], ◌∷◌, ◌++◌, Option, Some, None, Result, Ok, Err}
 use Rattle.std.specs.List.{flat_map}
 use Rattle.feed_embargo.specs.Form.{embargo_of}
 use Rattle.feed_embargo.specs.declared.embargo.Embargo.{Embargo}
@@ -29,7 +29,7 @@ embargo_by of.Serial row = embargo_read (embargo_of row.embargo)
 abbrev pub embargo_in : RowValue → Result Embargo LeftOut
 embargo_in row = embargo_by (kind row.identifiers) row
 
--- why there is no item
+-- the reason, if there is one
 abbrev pub reason_of : Result Embargo LeftOut → Option LeftOut
 reason_of (Ok embargo) = None
 reason_of (Err why) = Some why
@@ -37,6 +37,18 @@ reason_of (Err why) = Some why
 -- why a row has no item, or nothing if it has one
 abbrev pub left_out : RowValue → Option LeftOut
 left_out row = reason_of (embargo_in row)
+
+-- a reason is this one
+abbrev pub is_reason : LeftOut → Option LeftOut → Bool
+is_reason why None = false
+is_reason left.Book (Some left.Book) = true
+is_reason left.Book (Some left.OtherEmbargo) = false
+is_reason left.OtherEmbargo (Some left.Book) = false
+is_reason left.OtherEmbargo (Some left.OtherEmbargo) = true
+
+-- a row is left out for this reason
+abbrev pub is_left_out : LeftOut → RowValue → Bool
+is_left_out why row = is_reason why (left_out row)
 
 -- the first day, the last day and the embargo
 abbrev pub coverage_marks : Embargo → RowValue → List Mark

@@ -1,6 +1,6 @@
 //! The item of a row.
-ghost use Rattle.std.specs.Prelude.{◌≡◌, ◌++◌, OnOk};
-ghost use Rattle.feed_scholar.specs.Items.{embargo_in, item_text, item_with, left_out};
+ghost use Rattle.std.specs.Prelude.{◌≡◌, ◌++◌, OnOk, count_by};
+ghost use Rattle.feed_scholar.specs.Items.{embargo_in, is_left_out, item_text, item_with, left_out};
 ghost use Rattle.feed_scholar.specs.Marks.{xml_text};
 
 use crate::names::{COVERAGE, FROM, ITEM, ITEM_END, TITLE, TO};
@@ -34,6 +34,23 @@ pub fn left_out(row: &Row) -> Option<LeftOut>
     ensures { result ≡ left_out row.now }
 {
     embargo_in(row).err()
+}
+
+fn is_left_out(row: &Row, why: LeftOut) -> bool
+    ensures { result ≡ is_left_out why row.now }
+{
+    match (why, left_out(row)) {
+        (LeftOut::Book, Some(LeftOut::Book)) => true,
+        (LeftOut::OtherEmbargo, Some(LeftOut::OtherEmbargo)) => true,
+        _ => false,
+    }
+}
+
+/// Returns how many of the rows are left out for a reason.
+pub fn count_left_out(rows: &[Row], why: LeftOut) -> usize
+    ensures { result ≡ count_by (is_left_out why) rows.now }
+{
+    rows.iter().filter(|row| is_left_out(row, why)).count()
 }
 
 fn put_item_with(out: &mut Vec<u8>, row: &Row, embargo: Embargo) -> Result<(), AllocError>

@@ -1,5 +1,5 @@
-//! Holdings as the XML that Google Scholar's library links programme takes: an item for each serial, with its title, its
-//! ISSNs, its coverage and its embargo.
+//! Holdings as the XML of Google Scholar's library links programme: an item for each row of a serial, with its title,
+//! its ISSNs, its coverage and its embargo.
 #![tactic(auto)]
 
 mod characters;
@@ -11,7 +11,7 @@ mod piece;
 mod tags;
 mod writing;
 
-pub use crate::item::{LeftOut, left_out, put_item};
+pub use crate::item::{LeftOut, count_left_out, left_out, put_item};
 pub use crate::laws::{
     allowed_has_no_controls, allowed_is_itself, export_is_balanced, export_is_written,
     export_reads_back, item_has_row, spans_are_counted,

@@ -142,6 +142,7 @@ fn run_request<O: Write, F: Write + Drop>(
                 Command::Database(DatabaseCommand::Ask { package, query }),
             )
         }
+        Request::Export { db } => (db, Command::Database(DatabaseCommand::Export)),
         Request::Status { db } => (db, Command::Database(DatabaseCommand::Status)),
         Request::Why { db, name } => (db, Command::Database(DatabaseCommand::Why { name })),
     };

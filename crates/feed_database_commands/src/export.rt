@@ -1,0 +1,94 @@
+//! `kbfeed export --scholar`: the holdings of a node as the XML of Google Scholar's library links.
+use crate::database::{Database, close_keeper, open_existing_feed};
+use feed_command::{DONE, FAILED, Faults};
+use feed_keep::Keep;
+use feed_releases::{ActiveRelease, Feed};
+use feed_scholar::{LeftOut, count_left_out, write_end, write_items, write_start};
+use std::alloc::Global;
+use std::io::Write;
+use std::{fmt, io};
+
+/// Opens the database and its feed, and prints the holdings of its active releases to `out`, item by item; without an
+/// active release they have no item. The first fault is reported. Notes how many rows are left out, and why. Returns
+/// the exit status: 1 for a database that is not there (`NoRelease`), is not ours or is damaged, 3 for a failing device
+/// or print and for running out of memory.
+pub fn export_holdings<D: Database, O: Write, F: Write + Drop>(
+    alloc: Global,
+    database: &D,
+    out: &mut O,
+    faults: &mut Faults<F>,
+) -> u8 {
+    let feed = match open_existing_feed(alloc, database, faults) {
+        Ok(feed) => feed,
+        Err(status) => return status,
+    };
+    let status = export_feed(alloc, &feed, database.name(), out, faults);
+    close_keeper(database, feed.restart(), faults);
+    status
+}
+
+fn export_feed<K: Keep + Drop, O: Write, F: Write + Drop>(
+    alloc: Global,
+    feed: &Feed<K>,
+    database: &str,
+    out: &mut O,
+    faults: &mut Faults<F>,
+) -> u8 {
+    let Ok(actives) = feed.actives() else {
+        return faults.report("Memory", FAILED);
+    };
+    note_left_out(&actives, LeftOut::Book, database, faults);
+    note_left_out(&actives, LeftOut::OtherEmbargo, database, faults);
+    faults.check_print(print_releases(alloc, out, &actives), DONE)
+}
+
+fn print_releases<O: Write>(
+    alloc: Global,
+    out: &mut O,
+    actives: &[ActiveRelease<'_>],
+) -> io::Result<()> {
+    write_start(alloc, out)?;
+    for active in actives {
+        write_items(alloc, out, active.holdings().rows())?;
+    }
+    write_end(alloc, out)?;
+    out.flush()
+}
+
+// A number of rows that are left out, and why.
+#[derive(Drop)]
+struct LeftOutRows {
+    count: usize,
+    why: LeftOut,
+}
+
+impl fmt::Display for LeftOutRows {
+    ghost use Rattle.std.specs.Prelude.{None};
+
+    ghost output = { λ _. None };
+
+    fn fmt<W: fmt::Write>(&self, f: &mut fmt::Formatter<W>) -> fmt::Result {
+        match self.why {
+            LeftOut::Book => write!(f, "books left out: {}", self.count),
+            LeftOut::OtherEmbargo => {
+                write!(f, "serials with another embargo left out: {}", self.count)
+            }
+        }
+    }
+}
+
+// Notes how many rows are left out for a reason, if there are any.
+fn note_left_out<F: Write + Drop>(
+    actives: &[ActiveRelease<'_>],
+    why: LeftOut,
+    database: &str,
+    faults: &mut Faults<F>,
+) {
+    let mut count = 0usize;
+    for active in actives {
+        count = count.saturating_add(count_left_out(active.holdings().rows(), why));
+    }
+    if count > 0 {
+        faults.note(database, LeftOutRows { count, why });
+    }
+}
