@@ -3,14 +3,17 @@ _kbfeed() {
   local commands='replay check diff answer openurl serve node fetch ask export status why help'
   local word=${COMP_WORDS[COMP_CWORD]} has_options=yes command= places=0 options= index
   COMPREPLY=()
-  case ${COMP_WORDS[COMP_CWORD - 1]} in '<' | '>' | '>>' | --token | --site | --db | --scholar) compopt -o default; return ;; esac
+  case ${COMP_WORDS[COMP_CWORD - 1]} in
+    '<' | '>' | '>>' | --token | --site | --db | --scholar) compopt -o default; return ;;
+  esac
 
   # The command, and how many words stand behind it before the cursor. Bash splits --name=VALUE at its =.
   for ((index = 1; index < COMP_CWORD; index++)); do
     case $has_options${COMP_WORDS[index]} in
       yes--) has_options= ;;
       yes--name | yes--count | yes--timeout | yes--idle | yes--max-age | yes--metrics | yes--log-queries | yes--piece | \
-        yes--clients | yes--from | yes--token | yes--site | yes--max-removed | yes--max-changed | yes--db)
+        yes--clients | yes--from | yes--token | yes--site | yes--max-removed | yes--max-changed | yes--db | \
+        yes--scholar)
         [[ ${COMP_WORDS[index + 1]} == = ]] && ((index++))
         ((index++)) ;;
       yes-?*) ;;
