@@ -41,9 +41,13 @@ fn compare_with_feed<K: Keep + Drop, O: Write, F: Write + Drop>(
         return faults.report("Memory", FAILED);
     };
     for active in &actives {
-        let (name, holdings) = (active.name(), active.holdings());
-        if name.package() == package.as_bytes() {
-            return compare_with(rt, NamedList { name, holdings }, diff, out, faults);
+        if active.name().package() == package.as_bytes() {
+            let old = NamedList {
+                name: active.name(),
+                rows: active.holdings().rows(),
+                aside: active.holdings().aside(),
+            };
+            return compare_with(rt, old, diff, out, faults);
         }
     }
     report_no_release(faults, package)

@@ -2,7 +2,7 @@
 use crate::check::{file_name, report_file};
 use feed_command::{DONE, FAILED, Faults, REFUSED, Watched, open_file, parse_name};
 use feed_diff::{Comparison, compare};
-use feed_kbart::{Holdings, read_file};
+use feed_kbart::{FileRows, list_file};
 use feed_names::ReleaseName;
 use feed_report::{ComparisonForm, NamedList, print_comparison};
 use std::alloc::Global;
@@ -28,14 +28,15 @@ pub struct Diff<'a> {
 #[derive(Drop)]
 struct List {
     name: ReleaseName,
-    holdings: Holdings,
+    rows: FileRows,
 }
 
 impl List {
     fn named(&self) -> NamedList<'_> {
         NamedList {
             name: &self.name,
-            holdings: &self.holdings,
+            rows: self.rows.rows(),
+            aside: self.rows.aside(),
         }
     }
 }
@@ -97,8 +98,8 @@ fn read_list<R: Read + Drop, F: Write + Drop>(
     faults: &mut Faults<F>,
 ) -> Result<List, u8> {
     let mut file = Watched::new(file);
-    match read_file(alloc, &mut file) {
-        Ok(holdings) => Ok(List { name, holdings }),
+    match list_file(alloc, &mut file) {
+        Ok(rows) => Ok(List { name, rows }),
         Err(fault) => Err(report_file(faults, fault, text, file)),
     }
 }
@@ -111,12 +112,10 @@ fn compare_lists<O: Write, F: Write + Drop>(
     out: &mut O,
     faults: &mut Faults<F>,
 ) -> u8 {
-    let before = old.holdings.rows();
-    let after = new.holdings.rows();
-    let Ok(comparison) = compare(alloc, before, after) else {
+    let Ok(comparison) = compare(alloc, old.rows, new.rows) else {
         return faults.report("Memory", FAILED);
     };
-    let status = status_of(before.len(), &comparison, diff.bounds);
+    let status = status_of(old.rows.len(), &comparison, diff.bounds);
     let printed = print_comparison(alloc, out, old, new, &comparison, diff.form);
     faults.check_print(printed, status)
 }

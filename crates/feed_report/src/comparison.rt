@@ -5,7 +5,7 @@ use feed_counts::count_of;
 use feed_dates::write_date;
 use feed_diff::{Change, Comparison};
 use feed_identifiers::{Isbn, Issn};
-use feed_kbart::{Aside, Holdings, Kind, Label, Row};
+use feed_kbart::{Aside, Kind, Label, Row};
 use feed_names::ReleaseName;
 use std::alloc::Global;
 use std::io;
@@ -23,11 +23,12 @@ pub struct ComparisonForm {
     pub is_summary: bool,
 }
 
-/// A list with its release name.
+/// The rows and the skipped records of a list, with its release name.
 #[derive(Clone, Copy)]
 pub struct NamedList<'a> {
     pub name: &'a ReleaseName,
-    pub holdings: &'a Holdings,
+    pub rows: &'a [Row],
+    pub aside: &'a [Aside],
 }
 
 /// Prints the report on two lists and their comparison, and flushes the output.
@@ -46,7 +47,7 @@ pub fn print_comparison<O: Write>(
         }
         out.write_all(b"}\n")?;
     } else {
-        print_counts(out, old.holdings, new.holdings, comparison)?;
+        print_counts(out, old, new, comparison)?;
         if !form.is_summary {
             print_rows(alloc, out, comparison)?;
         }
@@ -57,12 +58,12 @@ pub fn print_comparison<O: Write>(
 // Prints the summary, and for each reason for which a list skips records how many records each list skips.
 fn print_counts<O: Write>(
     out: &mut O,
-    old: &Holdings,
-    new: &Holdings,
+    old: NamedList<'_>,
+    new: NamedList<'_>,
     comparison: &Comparison<'_>,
 ) -> io::Result<()> {
-    let before = old.rows().len();
-    let after = new.rows().len();
+    let before = old.rows.len();
+    let after = new.rows.len();
     let added = comparison.added().len();
     let removed = comparison.removed().len();
     let changed = comparison.changed().len();
@@ -71,8 +72,8 @@ fn print_counts<O: Write>(
         "rows {before} to {after}, added {added}, removed {removed}, changed {changed}"
     )?;
     for reason in REASONS {
-        let before = count_of(old.aside(), reason);
-        let after = count_of(new.aside(), reason);
+        let before = count_of(old.aside, reason);
+        let after = count_of(new.aside, reason);
         if before > 0 || after > 0 {
             writeln!(out, "aside {reason} {before} to {after}")?;
         }
@@ -153,9 +154,9 @@ fn print_json_counts<O: Write>(
 fn print_json_list<O: Write>(out: &mut O, list: NamedList<'_>) -> io::Result<()> {
     out.write_all(b"{\"release\":\"")?;
     out.write_all(list.name.text())?;
-    let rows = list.holdings.rows().len();
+    let rows = list.rows.len();
     write!(out, "\",\"rows\":{rows},\"aside\":{{")?;
-    print_json_reasons(out, list.holdings.aside())?;
+    print_json_reasons(out, list.aside)?;
     out.write_all(b"}}")
 }
 
