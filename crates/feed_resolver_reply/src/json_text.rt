@@ -1,22 +1,12 @@
 //! Writes JSON: strings (RFC 8259, section 7), and the punctuation of a list.
-ghost use Rattle.std.specs.Prelude.{◌≡◌, ◌<◌, ◌++◌, ◌∷◌, [], OnOk, codes};
+ghost use Rattle.std.specs.Prelude.{◌≡◌, ◌++◌, ◌∷◌, [], OnOk, codes};
 ghost use Rattle.std.specs.List.{flat_map};
-ghost use Rattle.feed_resolver_reply.specs.JsonStrings.{hex_digit, json_byte, json_string};
+ghost use Rattle.feed_resolver_reply.specs.JsonStrings.{json_byte, json_string};
 ghost use Rattle.feed_resolver_reply.specs.JsonLists.{comma_before};
 
 use crate::escape::put;
+use feed_pieces::hex_digit;
 use std::alloc::AllocError;
-
-fn hex_digit(number: u8) -> u8
-    requires { number < 16 }
-    ensures { result ≡ hex_digit number }
-{
-    if number < 10 {
-        48 + number
-    } else {
-        87 + number
-    }
-}
 
 fn put_json_byte(out: &mut Vec<u8>, byte: u8) -> Result<(), AllocError>
     ensures { OnOk result (out.new.items ≡ out.old.items ++ json_byte byte) }
@@ -26,10 +16,9 @@ fn put_json_byte(out: &mut Vec<u8>, byte: u8) -> Result<(), AllocError>
     } else if byte == 92 {
         put(out, &[92, 92])
     } else if byte < 32 {
-        put(
-            out,
-            &[92, 117, 48, 48, hex_digit(byte / 16), hex_digit(byte % 16)],
-        )
+        let high = hex_digit(b'a', byte / 16);
+        let low = hex_digit(b'a', byte % 16);
+        put(out, &[92, 117, 48, 48, high, low])
     } else {
         Ok(out.push(byte)?)
     }
