@@ -16,6 +16,7 @@ use Rattle.feed_fetch.specs.declared.machine.Phase.{Phase}
 use Rattle.feed_fetch.specs.declared.machine.Phase.TheVariants as phases
 use Rattle.feed_fetch.specs.declared.stop.RequestFault.{RequestFault}
 use Rattle.feed_fetch.specs.Steps.{IsReplyEvent}
+use Rattle.feed_fetch.proofs.Filling.{slice_at}
 use Rattle.feed_node_machine.specs.NodeEvents.{NodeEvent, Accepted, Served, Passed, DayBegan, Asked, Took, TookPart, Reopened, feed_history}
 use Rattle.feed_node_machine.specs.Rules.{AreGiven}
 use Rattle.feed_node_machine.specs.Promise.{AgreeWith, IsOfFile, AreOfFiles, FilesArePublished, NeverOlder}
@@ -132,28 +133,9 @@ over_steps : (file : Name → List ℕ) (steps h : History) → AllByRecursion (
 over_steps file [] h all o = o
 over_steps file ((event, answer) ∷ steps) h all o = over_more file (steps ++ h) event answer (over_steps file steps h all.1 o) all.0
 
-get_take : (xs : List ℕ) (count i y : ℕ) → slice_get (take count xs) i ≡ Some y → slice_get xs i ≡ Some y
-get_take [] zero i y e = e
-get_take [] (suc count) i y e = e
-get_take (x ∷ xs) zero i y e = absurd (let u : None ≡ Some y = e in cc)
-get_take (x ∷ xs) (suc count) zero y e = e
-get_take (x ∷ xs) (suc count) (suc i) y e = get_take xs count i y e
-
-get_drop : (xs : List ℕ) (at i y : ℕ) → slice_get (drop at xs) i ≡ Some y → slice_get xs (at + i) ≡ Some y
-get_drop xs zero i y e = let same : 0 + i ≡ i = omega arith in rw same e
-get_drop [] (suc at) i y e = absurd (let u : None ≡ Some y = e in cc)
-get_drop (x ∷ xs) (suc at) i y e = let same : suc at + i ≡ suc (at + i) = omega arith in rw same (get_drop xs at i y e)
-
 -- a slice has the bytes of its file
 slice_agrees : (file : List ℕ) (first end : ℕ) → AgreeWith file first (slice_range file first end)
-slice_agrees file first end place y e = by (nat_le first place) refl e
-  where
-    by : (b : Bool) → nat_le first place ≡ b → cond b (slice_get (slice_range file first end) (place - first)) None ≡ Some y → slice_get file place ≡ Some y
-    by true le s =
-        let low : first ≤ place = grind (arith, nat_tests) in
-        let same : first + (place - first) ≡ place = omega arith in
-        subst (λ (p : ℕ). slice_get file p ≡ Some y) same (get_drop file first (place - first) y (get_take (drop first file) (end - first) (place - first) y s))
-    by false le s = absurd (cc)
+slice_agrees file first end = slice_at file first end
 
 at_name : (file : Name → List ℕ) (m n : Name) (first : ℕ) (bytes : List ℕ) → m ≡ n → AgreeWith (file n) first bytes → AgreeWith (file m) first bytes
 at_name file m n first bytes same agree = subst (λ (z : Name). AgreeWith (file z) first bytes) (sym same) agree

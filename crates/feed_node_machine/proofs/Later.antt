@@ -1,5 +1,5 @@
 -- Histories that go on.
-use Rattle.std.proofs.Common.{◌≡◌, ℕ, Bool, List, [], ◌∷◌, ◌++◌, Option, Some, None, inl, inr, sym, subst}
+use Rattle.std.proofs.Common.{◌≡◌, ℕ, Bool, List, [], ◌∷◌, ◌++◌, Option, Some, None, inl, inr, sym, subst, append_assoc}
 use Rattle.httparse.specs.Grammar.{RequestHead}
 use Rattle.feed_keep.specs.declared.keep.Keep.{Ghosts}
 use Rattle.feed_model.specs.History.{History}
@@ -10,6 +10,7 @@ use Rattle.feed_node_machine.specs.declared.fetching.Fetching.{Fetching}
 use Rattle.feed_node_machine.specs.declared.machine.NodeMachine.{NodeMachine}
 use Rattle.feed_node_machine.specs.NodeEvents.{NodeEvent, Accepted, Served, Asked, Took, TookPart, accepted_in}
 use Rattle.feed_node_machine.specs.Rules.{Terms}
+use Rattle.feed_node_machine.specs.Promise.{NodeIsRight, IsRightAfter}
 use Rattle.feed_node_machine.specs.Nodes.{HasHistory, HasServed, HasAdvanced, HasTaken, HasTakenPart, IsLater, KeepsHistory}
 
 module _ {T K S : Type 0} {k : Ghosts K} (wanted : S → RequestHead → ℕ)
@@ -20,9 +21,6 @@ module _ {T K S : Type 0} {k : Ghosts K} (wanted : S → RequestHead → ℕ)
   pub later_by : (event : NodeEvent) (old new : NodeMachine T K S k)
       → ((history : List NodeEvent) → HasHistory wanted replies old history → HasHistory wanted replies new (event ∷ history)) → IsLater wanted replies old new
   later_by event old new has = record { history = λ history was. (event ∷ [], has history was) }
-
-  pub later_same : (old new : NodeMachine T K S k) → new ≡ old → IsLater wanted replies old new
-  later_same old new same = record { history = λ history has. ([], subst (λ node. HasHistory wanted replies node history) (sym same) has) }
 
   pub later_accepted : (result : Option ℕ) (old new : NodeMachine T K S k)
       → ((history : List NodeEvent) → HasHistory wanted replies old history → HasHistory wanted replies new (accepted_in result history))
@@ -63,3 +61,24 @@ module _ {T K S : Type 0} {k : Ghosts K} (wanted : S → RequestHead → ℕ)
     history = λ history was.
         (let now = has history was fetching is in (TookPart fetching.name first size bytes now.0 ∷ [], now.1));
   }
+
+module _ {T K S : Type 0} {k : Ghosts K} {wanted : S → RequestHead → ℕ}
+    {replies : S → Terms → History → List ℕ → List ℕ → Bool → List ℕ → Type 0} where
+  -- a node that does not change
+  pub later_same : (node : NodeMachine T K S k) → IsLater wanted replies node node
+  later_same node = record { history = λ history has. ([], has) }
+
+  -- a node that changes twice
+  pub later_after : (first second third : NodeMachine T K S k) → IsLater wanted replies first second → IsLater wanted replies second third
+      → IsLater wanted replies first third
+  later_after first second third one other = record {
+    history = λ history has. (
+        let more = one.history history has in
+        let most = other.history (more.0 ++ history) more.1 in
+        (most.0 ++ more.0, subst (λ whole. HasHistory wanted replies third whole) (sym (append_assoc most.0 more.0 history)) most.1)
+        );
+  }
+
+  -- a node that keeps its promise after each of its histories
+  pub right_after : (old new : NodeMachine T K S k) → IsLater wanted replies old new → NodeIsRight wanted replies new → IsRightAfter wanted replies old new
+  right_after old new later right history has = let more = later.history history has in (more.0, more.1, right (more.0 ++ history) more.1)

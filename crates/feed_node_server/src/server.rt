@@ -189,7 +189,7 @@ impl Server {
         outcome
     }
 
-    #[tactic(auto, using(crate::proofs::Later::later_after, crate::proofs::Later::later_same))]
+    #[tactic(auto, using(feed_node_machine::proofs::Later::later_after, feed_node_machine::proofs::Later::later_same))]
     fn run_turn<K: Keep + Drop, S: FeedRespond + Drop, L: Log>(
         &mut self,
         rt: &impl Clock,
@@ -214,7 +214,7 @@ impl Server {
         Ok(())
     }
 
-    #[tactic(auto, using(crate::proofs::Later::later_after, crate::proofs::Later::later_same))]
+    #[tactic(auto, using(feed_node_machine::proofs::Later::later_after, feed_node_machine::proofs::Later::later_same))]
     fn on_event<K: Keep + Drop, S: FeedRespond + Drop>(
         &mut self,
         node: &mut ServedNode<'_, K, S>,
@@ -231,7 +231,7 @@ impl Server {
 
     // Gives each connection that is ready one share of the turn, the last one first: one that has more to do is added
     // at the end, for the next turn.
-    #[tactic(auto, using(crate::proofs::Later::later_after, crate::proofs::Later::later_same))]
+    #[tactic(auto, using(feed_node_machine::proofs::Later::later_after, feed_node_machine::proofs::Later::later_same))]
     fn serve_ready<K: Keep + Drop, S: FeedRespond + Drop, L: Log>(
         &mut self,
         rt: &impl Clock,
@@ -249,7 +249,7 @@ impl Server {
     }
 
     // Gives a connection one share of the turn. Returns whether it is still open.
-    #[tactic(auto, using(crate::proofs::Later::later_after, crate::proofs::Later::later_same))]
+    #[tactic(auto, using(feed_node_machine::proofs::Later::later_after, feed_node_machine::proofs::Later::later_same))]
     fn serve<K: Keep + Drop, S: FeedRespond + Drop, L: Log>(
         &mut self,
         rt: &impl Clock,
@@ -267,7 +267,7 @@ impl Server {
     }
 
     // Has a connection use its share until a reply was sent.
-    #[tactic(auto, using(crate::proofs::Later::later_after, crate::proofs::Later::later_same))]
+    #[tactic(auto, using(feed_node_machine::proofs::Later::later_after, feed_node_machine::proofs::Later::later_same))]
     fn advance<K: Keep + Drop, S: FeedRespond + Drop, L: Log>(
         &mut self,
         rt: &impl Clock,
@@ -298,7 +298,7 @@ impl Server {
     }
 
     // Keeps the socket of a client that has the head of its streamed reply, to send the body.
-    #[tactic(auto, using(crate::proofs::Later::later_after, crate::proofs::Later::later_same))]
+    #[tactic(auto, using(feed_node_machine::proofs::Later::later_after, feed_node_machine::proofs::Later::later_same))]
     fn stream_to<K: Keep + Drop, S: FeedRespond + Drop, L: Log>(
         &mut self,
         node: &mut ServedNode<'_, K, S>,
@@ -324,7 +324,7 @@ impl Server {
 
     // Accepts connections until none waits or the system refuses one. If it has no descriptor left, a connection is
     // closed for the next one. A flood gets a bounded share of a turn. Returns whether it used all of it.
-    #[tactic(auto, using(crate::proofs::Later::later_after, crate::proofs::Later::later_same))]
+    #[tactic(auto, using(feed_node_machine::proofs::Later::later_after, feed_node_machine::proofs::Later::later_same))]
     fn accept_waiting<K: Keep + Drop, S: FeedRespond + Drop, L: Log>(
         &mut self,
         rt: &impl Clock,
@@ -345,7 +345,7 @@ impl Server {
     }
 
     // Accepts a connection. Returns whether another may be accepted now.
-    #[tactic(auto, using(crate::proofs::Later::later_after, crate::proofs::Later::later_same))]
+    #[tactic(auto, using(feed_node_machine::proofs::Later::later_after, feed_node_machine::proofs::Later::later_same))]
     fn accept_next<K: Keep + Drop, S: FeedRespond + Drop, L: Log>(
         &mut self,
         rt: &impl Clock,
@@ -376,7 +376,7 @@ impl Server {
 
     // Begins a new connection, and serves it at once: its client may have sent a request already. If it remains open,
     // its socket is registered with the poll.
-    #[tactic(auto, using(crate::proofs::Later::later_after, crate::proofs::Later::later_same))]
+    #[tactic(auto, using(feed_node_machine::proofs::Later::later_after, feed_node_machine::proofs::Later::later_same))]
     fn admit<K: Keep + Drop, S: FeedRespond + Drop, L: Log>(
         &mut self,
         rt: &impl Clock,
@@ -401,7 +401,7 @@ impl Server {
     }
 
     // Registers the socket of a connection with the poll. If that fails, the connection is removed.
-    #[tactic(auto, using(crate::proofs::Later::later_after, crate::proofs::Later::later_same))]
+    #[tactic(auto, using(feed_node_machine::proofs::Later::later_after, feed_node_machine::proofs::Later::later_same))]
     fn register<K: Keep + Drop, S: FeedRespond + Drop, L: Log>(
         &mut self,
         node: &mut ServedNode<'_, K, S>,
@@ -417,7 +417,7 @@ impl Server {
     }
 
     // Advances the clocks, at most once in 250 ms.
-    #[tactic(auto, using(crate::proofs::Later::later_after, crate::proofs::Later::later_same))]
+    #[tactic(auto, using(feed_node_machine::proofs::Later::later_after, feed_node_machine::proofs::Later::later_same))]
     fn advance_clock<K: Keep + Drop, S: FeedRespond + Drop, L: Log>(
         &mut self,
         node: &mut ServedNode<'_, K, S>,

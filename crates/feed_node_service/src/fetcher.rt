@@ -183,6 +183,7 @@ impl<'a> Fetcher<'a> {
     /// Takes what has arrived of the reply to the last request. Once it is complete, sends the next request of the
     /// fetch. Returns whether the file of the database is still at its path. If not, what was stored is lost, and not
     /// reported.
+    #[tactic(auto, using(feed_node_machine::proofs::Later::later_after, feed_node_machine::proofs::Later::later_same))]
     pub fn advance<K: Keep + Drop>(
         &mut self,
         server: &mut Server,
@@ -228,6 +229,7 @@ impl<'a> Fetcher<'a> {
     }
 
     // Takes the parts of the reply that have arrived, or the reply.
+    #[tactic(auto, using(feed_node_machine::proofs::Later::later_after, feed_node_machine::proofs::Later::later_same))]
     fn take_arrived<K: Keep + Drop>(
         &self,
         server: &mut Server,

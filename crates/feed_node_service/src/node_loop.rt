@@ -105,6 +105,7 @@ struct RunningNode<'a, O: Write> {
 }
 
 impl<'a, O: Write> RunningNode<'a, O> {
+    #[tactic(auto, using(feed_node_machine::proofs::Later::later_after, feed_node_machine::proofs::Later::later_same))]
     fn run<K: Keep + Drop>(&mut self, node: &mut FeedNode<'_, K>, server: &mut Server) -> End
         ensures { IsLaterNode node.old node.new }
     {
@@ -121,6 +122,7 @@ impl<'a, O: Write> RunningNode<'a, O> {
     }
 
     // Runs a turn: the connections, the log, and the fetch that is under way. Returns why the node ends.
+    #[tactic(auto, using(feed_node_machine::proofs::Later::later_after, feed_node_machine::proofs::Later::later_same))]
     fn turn<K: Keep + Drop>(
         &mut self,
         node: &mut FeedNode<'_, K>,
@@ -141,9 +143,7 @@ impl<'a, O: Write> RunningNode<'a, O> {
         if !self.fetcher.advance(server, node) {
             return Some(End::FileGone);
         }
-        if was_busy && node.fetching().is_none() {
-            self.note_switch(node);
-        }
+        self.note_end(node, was_busy);
         self.fetcher.begin(server, node);
         None
     }
@@ -160,6 +160,16 @@ impl<'a, O: Write> RunningNode<'a, O> {
         let switched = self.switched?;
         let now = Instant::now(self.rt).ok()?;
         Some(now.saturating_duration_since(switched).as_secs())
+    }
+
+    // Notes that a fetch ended, if one was under way and is not any more.
+    fn note_end<K: Keep + Drop>(&mut self, node: &mut FeedNode<'_, K>, was_busy: bool)
+        ensures { node.new ≡ node.old }
+    {
+        if !was_busy || node.fetching().is_some() {
+            return;
+        }
+        self.note_switch(node);
     }
 
     // Keeps the digest of the active releases, and the time if they have changed.

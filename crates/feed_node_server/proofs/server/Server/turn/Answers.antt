@@ -1,4 +1,4 @@
-use Rattle.feed_node_server.proofs.Later.{right_after}
+use Rattle.feed_node_machine.proofs.Later.{right_after}
 use Rattle.feed_node_server.proofs.server.Server.turn.Goals as goal
 
 pub returns-clause-right : goal.returns-clause-right
