@@ -1,6 +1,6 @@
 //! `kbfeed node`: a link resolver that answers readers over HTTP from the database of a node, and fetches releases.
 use crate::command::Upstream;
-use crate::site::read_site_file;
+use crate::site::read_site;
 use crate::token::read_token;
 use feed_command::{DONE, FAILED, Faults, MISUSED, REFUSED, open_file};
 use feed_database_commands::{Database, close_keeper, open_feed};
@@ -10,7 +10,6 @@ use feed_node_server::{Server, Settings, TimeLimits};
 use feed_node_service::{End, LogSettings, NodeSetup, Source, SourceAddrs, WatchedFile, run};
 use feed_range::read_number;
 use feed_releases::Feed;
-use feed_resolver_tag::Site;
 use std::io;
 use std::io::Write;
 use std::net::ToSocketAddrs;
@@ -119,14 +118,10 @@ fn run_server<D: Database, O: Write, F: Write + Drop>(
     out: &mut O,
     faults: &mut Faults<F>,
 ) -> u8 {
-    let file = match read_site_file(rt, hosting.site, faults) {
-        Ok(file) => file,
-        Err(status) => return status,
-    };
     let version = hosting.version.as_bytes();
-    let site = match Site::new(rt.alloc(), version, hosting.max_age, file) {
+    let site = match read_site(rt, hosting.site, version, hosting.max_age, faults) {
         Ok(site) => site,
-        Err(_) => return faults.report("Memory", FAILED),
+        Err(status) => return status,
     };
     let feed = match open_feed(rt.alloc(), database, faults) {
         Ok(feed) => feed,

@@ -1,13 +1,28 @@
 //! The site file of a library.
 use feed_command::{FAILED, Faults, REFUSED, open_file, read_up_to};
-use feed_site::{SITE_LIMIT, SiteFault, SiteFile};
-use std::alloc::Global;
+use feed_resolver_tag::Site;
+use feed_site::{SITE_LIMIT, SiteFault};
 use std::fmt;
 use std::io::Write;
 
-/// Returns the bytes of the site file at a path, if it is a good one, or none without a path. Otherwise reports the
-/// fault and returns the exit status.
-pub fn read_site_file<F: Write + Drop>(
+/// Returns what the replies of a node depend on beside its releases and the day, with the site file at a path, or none
+/// without a path. Otherwise reports the fault and returns the exit status.
+pub fn read_site<F: Write + Drop>(
+    rt: &HostRuntime,
+    path: Option<&str>,
+    version: &[u8],
+    max_age: u32,
+    faults: &mut Faults<F>,
+) -> Result<Site, u8> {
+    let bytes = read_bytes(rt, path, faults)?;
+    match Site::read(rt.alloc(), version, max_age, bytes) {
+        Ok(site) => Ok(site),
+        Err(fault) => Err(report_site(path, fault, faults)),
+    }
+}
+
+// Returns the bytes of the file at a path, if they are not too many, or none without a path.
+fn read_bytes<F: Write + Drop>(
     rt: &HostRuntime,
     path: Option<&str>,
     faults: &mut Faults<F>,
@@ -17,24 +32,22 @@ pub fn read_site_file<F: Write + Drop>(
     };
     let mut file = open_file(rt, path, faults)?;
     match read_up_to(rt.alloc(), &mut file, SITE_LIMIT) {
-        Ok(bytes) => check_site(rt.alloc(), path, bytes, faults),
+        Ok(bytes) => Ok(bytes),
         Err(error) => Err(faults.report_read(path, error)),
     }
 }
 
-// Returns the bytes of a site file, or reports what is wrong with it.
-fn check_site<F: Write + Drop>(
-    alloc: Global,
-    path: &str,
-    bytes: Vec<u8>,
+// Reports what is wrong with a site file, and returns the exit status.
+fn report_site<F: Write + Drop>(
+    path: Option<&str>,
+    fault: SiteFault,
     faults: &mut Faults<F>,
-) -> Result<Vec<u8>, u8> {
-    match SiteFile::read(alloc, &bytes) {
-        Ok(_) => Ok(bytes),
-        Err(SiteFault::Memory) => Err(faults.report("Memory", FAILED)),
-        Err(fault) => {
+) -> u8 {
+    match fault {
+        SiteFault::Memory => faults.report("Memory", FAILED),
+        fault => {
             let words = fault.words();
-            Err(faults.report_with(SiteLine(fault), path, words, REFUSED))
+            faults.report_with(SiteLine(fault), path.unwrap_or(""), words, REFUSED)
         }
     }
 }

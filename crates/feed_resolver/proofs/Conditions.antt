@@ -16,7 +16,7 @@ use Rattle.feed_resolver_request.specs.Targets.{query_in, resource_of}
 use Rattle.feed_resolver_request.specs.declared.representation.Representation.TheVariants.{Text}
 use Rattle.feed_resolver_reply.specs.Replies.{ReplyValue, with_tag, not_modified, is_good}
 use Rattle.feed_resolver_tag.specs.Tags.{SiteValue}
-use Rattle.feed_resolver.specs.Answers.{Dated}
+use Rattle.feed_resolver.specs.Answers.{Dated, Sited, sited}
 use Rattle.feed_resolver.specs.Replies.{target_query, path_of, has_coded_body, reply_to, tagged_reply}
 use Rattle.feed_resolver.specs.Validators.{is_tagged, tag_of, has_validator, resource_in, validated_by, tag_to}
 use Rattle.feed_resolver.specs.TagLaws.{without_condition, conditional, NotModifiedHasTagOfGood}
@@ -81,11 +81,11 @@ same_host head = ap (λ vs. (head.minor == 1) && is_none (only vs)) (values_stay
 same_coded : (head : RequestHead) → has_coded_body (without_condition head) ≡ has_coded_body head
 same_coded head = ap (λ (vs : List (List ℕ)). has_any vs) (values_stay (codes "transfer-encoding") refl head.fields)
 
-same_target : (head : RequestHead) (actives : Dated) → query_answer (without_condition head) actives ≡ query_answer head actives
+same_target : (head : RequestHead) (actives : Sited) → query_answer (without_condition head) actives ≡ query_answer head actives
 same_target head actives = same_parts (resource_of (path_of head)) (without_condition head) head (path_of head) (target_query head) actives
     (same_representation (target_query head) head) (same_accepted head)
 
-same_plain : (head : RequestHead) (body : List ℕ) (actives : Dated) → (is_get head || is_head head) ≡ true
+same_plain : (head : RequestHead) (body : List ℕ) (actives : Sited) → (is_get head || is_head head) ≡ true
     → reply_to (without_condition head) body actives ≡ reply_to head body actives
 same_plain head body actives read =
     read_reply (without_condition head) body actives read
@@ -121,22 +121,22 @@ by_condition false true tag max_age reply is =
 
 -- the reply to a GET or a HEAD of a target with a tag
 read_validated : (site : SiteValue) (head : RequestHead) (body : List ℕ) (actives : Dated) → is_tagged head ≡ true
-    → tagged_reply site head body actives ≡ validated_by (has_tag (tag_asked site actives head) head) (tag_asked site actives head) site.max_age (reply_to head body actives)
+    → tagged_reply site head body actives ≡ validated_by (has_tag (tag_asked site actives head) head) (tag_asked site actives head) site.max_age (reply_to head body (sited site actives))
 read_validated site head body actives tagged =
     read_tagged site head body actives (and_left (is_get head || is_head head) (has_validator (resource_in head)) tagged)
-    ∙ ap (λ v. final_by v None head (tag_asked site actives head) site.max_age (reply_to head body actives))
+    ∙ ap (λ v. final_by v None head (tag_asked site actives head) site.max_age (reply_to head body (sited site actives)))
     (and_right (is_get head || is_head head) (has_validator (resource_in head)) tagged)
 
 pub tag_of_good : NotModifiedHasTagOfGood
 tag_of_good site head body actives tagged =
     let tag : List ℕ = tag_asked site actives head in
-    let reply : ReplyValue = reply_to head body actives in
+    let reply : ReplyValue = reply_to head body (sited site actives) in
     let plain : tagged_reply site (without_condition head) body actives ≡ validated_by false tag site.max_age reply =
     read_validated site (without_condition head) body actives tagged
-    ∙ ap (λ h. validated_by h (tag_asked site actives (without_condition head)) site.max_age (reply_to (without_condition head) body actives)) (no_tag _ head)
-    ∙ ap (λ t. validated_by false t site.max_age (reply_to (without_condition head) body actives))
+    ∙ ap (λ h. validated_by h (tag_asked site actives (without_condition head)) site.max_age (reply_to (without_condition head) body (sited site actives))) (no_tag _ head)
+    ∙ ap (λ t. validated_by false t site.max_age (reply_to (without_condition head) body (sited site actives)))
     (ap (tag_of site actives) (same_representation (query_in (origin_form head.target)) head))
-    ∙ ap (validated_by false tag site.max_age) (same_plain head body actives (and_left (is_get head || is_head head) (has_validator (resource_in head)) tagged)) in
+    ∙ ap (validated_by false tag site.max_age) (same_plain head body (sited site actives) (and_left (is_get head || is_head head) (has_validator (resource_in head)) tagged)) in
     let stated : tag_to site actives head ≡ tag = ap (λ (b : Bool). if b then tag else []) tagged in
     read_validated site head body actives tagged
     ∙ by_condition (is_good reply.status) (has_tag tag head) tag site.max_age reply refl

@@ -30,7 +30,7 @@ use Rattle.feed_resolver_hits.specs.Links.{is_link, link_limit, is_visible, begi
 use Rattle.feed_resolver_hits.specs.Hits.{best_link}
 use Rattle.feed_resolver_hits.specs.Tallies.{counted}
 use Rattle.feed_resolver_hits.proofs.Redirects.{best_is}
-use Rattle.feed_resolver.specs.Answers.{Dated, is_of, hits_among}
+use Rattle.feed_resolver.specs.Answers.{Sited, is_of, hits_among}
 use Rattle.feed_resolver.specs.Replies.{query_reply, hits_reply, resolve_reply, resolve_reply_at, redirect_reply, go_reply, resource_reply, path_of, target_query, target_reply, has_coded_body}
 use Rattle.feed_resolver.specs.Replies.{method_refusal, plain_reply, form_refusal, reply_by_form, reply_to}
 
@@ -75,11 +75,11 @@ query_located : (code : Status) (representation : Representation) (text : List �
 query_located code representation text reply (Ok query) located = located query
 query_located code representation text reply (Err why) located = unasked_located code representation (ask_of text) why
 
-resolve_located : (representation : Representation) (text : List ℕ) (actives : Dated) → IsLocated (resolve_reply representation text actives)
+resolve_located : (representation : Representation) (text : List ℕ) (actives : Sited) → IsLocated (resolve_reply representation text actives)
 resolve_located representation text actives =
     query_located status.Good representation text (hits_reply status.Good representation text actives) (asked_of text) (λ query. plain)
 
-package_located : (representation : Representation) (text : List ℕ) (actives : Dated) (other : ReplyValue) (o : Option ℕ) → IsLocated other
+package_located : (representation : Representation) (text : List ℕ) (actives : Sited) (other : ReplyValue) (o : Option ℕ) → IsLocated other
     → IsLocated (option_map_or (resolve_reply_at representation text actives) o other)
 package_located representation text actives other None located = located
 package_located representation text actives other (Some place) located = resolve_located representation text _
@@ -89,15 +89,15 @@ redirect_located : (hits_link : Option (List ℕ)) (other : ReplyValue) → ((ur
 redirect_located None other links located = located
 redirect_located (Some url) other links located = (link_location url (links url refl), refl, refl)
 
-best_located : (representation : Representation) (text : List ℕ) (actives : Dated) (query : QueryValue) → IsLocated (redirect_reply representation text actives query)
+best_located : (representation : Representation) (text : List ℕ) (actives : Sited) (query : QueryValue) → IsLocated (redirect_reply representation text actives query)
 best_located representation text actives query =
     redirect_located (best_link (counted (hits_among query actives))) (hits_reply status.NotFound representation text actives query) (best_is (counted (hits_among query actives))) plain
 
-go_located : (representation : Representation) (text : List ℕ) (actives : Dated) → IsLocated (go_reply representation text actives)
+go_located : (representation : Representation) (text : List ℕ) (actives : Sited) → IsLocated (go_reply representation text actives)
 go_located representation text actives =
     query_located status.NotFound representation text (redirect_reply representation text actives) (asked_of text) (best_located representation text actives)
 
-resource_located : (r : Resource) (head : RequestHead) (path query : List ℕ) (actives : Dated) → IsLocated (resource_reply r head path query actives)
+resource_located : (r : Resource) (head : RequestHead) (path query : List ℕ) (actives : Sited) → IsLocated (resource_reply r head path query actives)
 resource_located resource.Home head path query actives = plain
 resource_located resource.Status head path query actives = plain
 resource_located resource.Resolve head path query actives = resolve_located (representation_of query head) query actives
@@ -107,7 +107,7 @@ resource_located resource.Package head path query actives =
 resource_located resource.Go head path query actives = go_located (accepted_representation head) query actives
 resource_located resource.Unknown head path query actives = plain
 
-target_located : (head : RequestHead) (query : List ℕ) (actives : Dated) → IsLocated (target_reply head query actives)
+target_located : (head : RequestHead) (query : List ℕ) (actives : Sited) → IsLocated (target_reply head query actives)
 target_located head query actives = resource_located (resource_of (path_of head)) head (path_of head) query actives
 
 method_located : (r : Resource) → IsLocated (method_refusal r)
@@ -118,7 +118,7 @@ method_located resource.Package = plain
 method_located resource.Go = plain
 method_located resource.Unknown = plain
 
-plain_located : (head : RequestHead) (actives : Dated) → IsLocated (plain_reply head actives)
+plain_located : (head : RequestHead) (actives : Sited) → IsLocated (plain_reply head actives)
 plain_located head actives =
     let coded : ReplyValue = if has_coded_body head then refusal status.NotImplemented Text (codes "Coding") else target_reply head (target_query head) actives in
     let unknown : ReplyValue = if not (is_get head || is_head head) then refusal status.NotImplemented Text (codes "Method") else coded in
@@ -134,12 +134,12 @@ refusal_located fault.BadLength = plain
 refusal_located fault.TooLong = plain
 refusal_located fault.MediaType = plain
 
-form_located : (head : RequestHead) (body : List ℕ) (actives : Dated) (form : Option (Result ℕ FormFault)) → IsLocated (reply_by_form head body actives form)
+form_located : (head : RequestHead) (body : List ℕ) (actives : Sited) (form : Option (Result ℕ FormFault)) → IsLocated (reply_by_form head body actives form)
 form_located head body actives None = plain_located head actives
 form_located head body actives (Some (Ok n)) = target_located head body actives
 form_located head body actives (Some (Err why)) = refusal_located why
 
-pub reply_located : (head : RequestHead) (body : List ℕ) (actives : Dated) → IsLocated (reply_to head body actives)
+pub reply_located : (head : RequestHead) (body : List ℕ) (actives : Sited) → IsLocated (reply_to head body actives)
 reply_located head body actives =
     either_located (lacks_host head) (refusal status.BadRequest Text (codes "NoHost")) (reply_by_form head body actives (form_of head)) plain
     (form_located head body actives (form_of head))

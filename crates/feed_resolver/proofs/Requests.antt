@@ -37,7 +37,7 @@ use Rattle.feed_resolver_hits.specs.Links.{is_link}
 use Rattle.feed_resolver_hits.specs.Tallies.{counted}
 use Rattle.feed_resolver_hits.proofs.BestLinks as links
 use Rattle.feed_resolver_tag.specs.Tags.{SiteValue}
-use Rattle.feed_resolver.specs.Answers.{Dated, is_of, hits_among}
+use Rattle.feed_resolver.specs.Answers.{Dated, Sited, sited, is_of, hits_among}
 use Rattle.feed_resolver.specs.Replies.{resource_reply, resolve_reply, package_reply, redirect_reply, go_reply, hits_reply, query_reply, target_reply, target_query, path_of}
 use Rattle.feed_resolver.specs.Replies.{method_refusal, has_coded_body, resolve_reply_at, reply_by_form, reply_to, tagged_reply, response_to, IsResponse}
 use Rattle.feed_resolver.specs.Answered.{IsGoodIn, IsAnswered, IsAnsweredTo}
@@ -64,7 +64,7 @@ reply_by lacks unsupported unknown coded reply =
     else reply)))
 
 -- the reply to a query in the target
-abbrev pub query_answer : RequestHead → Dated → ReplyValue
+abbrev pub query_answer : RequestHead → Sited → ReplyValue
 query_answer head actives = target_reply head (target_query head) actives
 
 or_right : (a b : Bool) → a ≡ false → (a || b) ≡ true → b ≡ true
@@ -93,7 +93,7 @@ formless : (head : RequestHead) → (is_get head || is_head head) ≡ true → f
 formless head read = ap (λ b. if b && (not (lacks_host head) && takes_form (resource_of (path_of head))) then Some (form_in head) else None) (not_post head read)
 
 -- the reply to a GET or a HEAD without a body
-pub read_reply : (head : RequestHead) (body : List ℕ) (actives : Dated) → (is_get head || is_head head) ≡ true
+pub read_reply : (head : RequestHead) (body : List ℕ) (actives : Sited) → (is_get head || is_head head) ≡ true
     → reply_to head body actives ≡ reply_by (lacks_host head) false false (has_coded_body head) (query_answer head actives)
 read_reply head body actives read =
     ap (λ o. if lacks_host head then refusal status.BadRequest Text (codes "NoHost") else reply_by_form head body actives o) (formless head read)
@@ -105,7 +105,7 @@ read_reply head body actives read =
 -- ---- a target with a tag
 
 -- the reply to such a request is that to its target
-pub answered_to : (head : RequestHead) (actives : Dated) → lacks_host head ≡ false → has_coded_body head ≡ false → is_tagged head ≡ true
+pub answered_to : (head : RequestHead) (actives : Sited) → lacks_host head ≡ false → has_coded_body head ≡ false → is_tagged head ≡ true
     → IsAnswered (origin_form head.target) actives → IsAnsweredTo head actives
 answered_to head actives host plain tagged answered body =
     subst (IsGoodIn (representation_of (query_in (origin_form head.target)) head))
@@ -119,27 +119,27 @@ answered_to head actives host plain tagged answered body =
     and_left false b e = absurd (cc)
 
 -- the reply to each request of a target whose query is valid
-pub status_answered : (target : List ℕ) (actives : Dated) → resource_of (path_in target) ≡ resource.Status → IsAnswered target actives
+pub status_answered : (target : List ℕ) (actives : Sited) → resource_of (path_in target) ≡ resource.Status → IsAnswered target actives
 status_answered target actives is head =
     subst (λ r. IsGoodIn (representation_of (query_in target) head) (resource_reply r head (path_in target) (query_in target) actives)) (sym is) (refl, refl)
 
-query_answered : (representation : Representation) (text : List ℕ) (actives : Dated) (o : Result QueryValue Refusal) (query : QueryValue) → o ≡ Ok query
+query_answered : (representation : Representation) (text : List ℕ) (actives : Sited) (o : Result QueryValue Refusal) (query : QueryValue) → o ≡ Ok query
     → IsGoodIn representation (query_reply status.Good representation text (hits_reply status.Good representation text actives) o)
 query_answered representation text actives (Ok other) query is = (refl, refl)
 query_answered representation text actives (Err why) query is = absurd (cc)
 
-pub resolve_answered : (target : List ℕ) (actives : Dated) (query : QueryValue) → resource_of (path_in target) ≡ resource.Resolve → asked_of (query_in target) ≡ Ok query
+pub resolve_answered : (target : List ℕ) (actives : Sited) (query : QueryValue) → resource_of (path_in target) ≡ resource.Resolve → asked_of (query_in target) ≡ Ok query
     → IsAnswered target actives
 resolve_answered target actives query is valid head =
     subst (λ r. IsGoodIn (representation_of (query_in target) head) (resource_reply r head (path_in target) (query_in target) actives)) (sym is)
     (query_answered (representation_of (query_in target) head) (query_in target) actives (asked_of (query_in target)) query valid)
 
-placed_answered : (representation : Representation) (text : List ℕ) (actives : Dated) (query : QueryValue) (o : Option ℕ) (other : ReplyValue) → is_some o ≡ true
+placed_answered : (representation : Representation) (text : List ℕ) (actives : Sited) (query : QueryValue) (o : Option ℕ) (other : ReplyValue) → is_some o ≡ true
     → asked_of text ≡ Ok query → IsGoodIn representation (option_map_or (resolve_reply_at representation text actives) o other)
 placed_answered representation text actives query (Some place) other some valid = query_answered representation text _ (asked_of text) query valid
 placed_answered representation text actives query None other some valid = absurd (cc)
 
-pub package_answered : (target : List ℕ) (actives : Dated) (query : QueryValue) → resource_of (path_in target) ≡ resource.Package
+pub package_answered : (target : List ℕ) (actives : Sited) (query : QueryValue) → resource_of (path_in target) ≡ resource.Package
     → is_some (position (is_of (package_in (path_in target))) actives.actives) ≡ true → asked_of (query_in target) ≡ Ok query → IsAnswered target actives
 package_answered target actives query is some valid head =
     subst (λ r. IsGoodIn (representation_of (query_in target) head) (resource_reply r head (path_in target) (query_in target) actives)) (sym is)
@@ -148,7 +148,7 @@ package_answered target actives query is some valid head =
 -- ---- HEAD
 
 -- a reply depends on the fields only by the representation that they prefer
-pub same_parts : (r : Resource) (head other : RequestHead) (path query : List ℕ) (actives : Dated)
+pub same_parts : (r : Resource) (head other : RequestHead) (path query : List ℕ) (actives : Sited)
     → representation_of query head ≡ representation_of query other → accepted_representation head ≡ accepted_representation other
     → resource_reply r head path query actives ≡ resource_reply r other path query actives
 same_parts resource.Home head other path query actives wants accepts = refl
@@ -158,10 +158,10 @@ same_parts resource.Package head other path query actives wants accepts = rw wan
 same_parts resource.Go head other path query actives wants accepts = rw accepts refl
 same_parts resource.Unknown head other path query actives wants accepts = rw accepts refl
 
-same_resource : (r : Resource) (head : RequestHead) (path query : List ℕ) (actives : Dated) → resource_reply r (as_get head) path query actives ≡ resource_reply r head path query actives
+same_resource : (r : Resource) (head : RequestHead) (path query : List ℕ) (actives : Sited) → resource_reply r (as_get head) path query actives ≡ resource_reply r head path query actives
 same_resource r head path query actives = same_parts r (as_get head) head path query actives refl refl
 
-same_reply : (head : RequestHead) (body other : List ℕ) (actives : Dated) → is_head head ≡ true → reply_to (as_get head) other actives ≡ reply_to head body actives
+same_reply : (head : RequestHead) (body other : List ℕ) (actives : Sited) → is_head head ≡ true → reply_to (as_get head) other actives ≡ reply_to head body actives
 same_reply head body other actives is =
     read_reply (as_get head) other actives refl
     ∙ ap (λ t. reply_by (lacks_host head) false false (has_coded_body head) t) (same_resource (resource_of (path_of head)) head (path_of head) (target_query head) actives)
@@ -176,17 +176,17 @@ not_options head read = elim (cases_Bool (is_get head)) [
 
 -- the reply to a GET or a HEAD, with its tag
 pub read_tagged : (site : SiteValue) (head : RequestHead) (body : List ℕ) (actives : Dated) → (is_get head || is_head head) ≡ true
-    → tagged_reply site head body actives ≡ final_by (has_validator (resource_in head)) None head (tag_asked site actives head) site.max_age (reply_to head body actives)
+    → tagged_reply site head body actives ≡ final_by (has_validator (resource_in head)) None head (tag_asked site actives head) site.max_age (reply_to head body (sited site actives))
 read_tagged site head body actives read =
     tagged_cases site head body actives
-    ∙ ap (λ p. final_by (is_tagged head) p head (tag_asked site actives head) site.max_age (reply_to head body actives)) (no_preflight head (not_options head read))
-    ∙ ap (λ r. final_by (r && has_validator (resource_in head)) None head (tag_asked site actives head) site.max_age (reply_to head body actives)) read
+    ∙ ap (λ p. final_by (is_tagged head) p head (tag_asked site actives head) site.max_age (reply_to head body (sited site actives))) (no_preflight head (not_options head read))
+    ∙ ap (λ r. final_by (r && has_validator (resource_in head)) None head (tag_asked site actives head) site.max_age (reply_to head body (sited site actives))) read
 
 same_tagged : (site : SiteValue) (head : RequestHead) (body other : List ℕ) (actives : Dated) → is_head head ≡ true
     → tagged_reply site (as_get head) other actives ≡ tagged_reply site head body actives
 same_tagged site head body other actives is =
     read_tagged site (as_get head) other actives refl
-    ∙ ap (λ (r : ReplyValue). final_by (has_validator (resource_in head)) None head (tag_asked site actives head) site.max_age r) (same_reply head body other actives is)
+    ∙ ap (λ (r : ReplyValue). final_by (has_validator (resource_in head)) None head (tag_asked site actives head) site.max_age r) (same_reply head body other (sited site actives) is)
     ∙ sym (read_tagged site head body actives (or_true (is_get head) (is_head head) is))
 
 pub head_alone : HeadIsHeadOfGet
@@ -206,7 +206,7 @@ head_alone site keeps actives bytes asked body form head response reply is begin
 
 -- ---- /go
 
-go_replied : (head : RequestHead) (body : List ℕ) (query : QueryValue) (actives : Dated) → AsksToGo head query
+go_replied : (head : RequestHead) (body : List ℕ) (query : QueryValue) (actives : Sited) → AsksToGo head query
     → reply_to head body actives ≡ redirect_reply (accepted_representation head) (target_query head) actives query
 go_replied head body query actives asks =
     read_reply head body actives asks.method
@@ -217,9 +217,9 @@ go_replied head body query actives asks =
 
 -- `/go` has no tag
 untagged_go : (site : SiteValue) (head : RequestHead) (body : List ℕ) (actives : Dated) → resource_in head ≡ resource.Go
-    → final_by (has_validator (resource_in head)) None head (tag_asked site actives head) site.max_age (reply_to head body actives)
-    ≡ reply_to head body actives
-untagged_go site head body actives is = ap (λ r. final_by (has_validator r) None head (tag_asked site actives head) site.max_age (reply_to head body actives)) is
+    → final_by (has_validator (resource_in head)) None head (tag_asked site actives head) site.max_age (reply_to head body (sited site actives))
+    ≡ reply_to head body (sited site actives)
+untagged_go site head body actives is = ap (λ r. final_by (has_validator r) None head (tag_asked site actives head) site.max_age (reply_to head body (sited site actives))) is
 
 redirect_sent : (keeps : Bool) (url : List ℕ) → is_link url ≡ true → IsSentAs keeps (redirect_to url) (head_of keeps (redirect_to url))
 redirect_sent keeps url link = sent_as keeps (redirect_to url) (record { location = link_location url link; size = lit< tt; tag = All-nil (λ b. is_uri_byte b ≡ true); age = lit< tt })
@@ -236,13 +236,13 @@ goes keeps alone hits (Some url) other best is = (refl, redirected keeps alone u
 
 pub goes_to_best : GoesToBest
 goes_to_best site keeps actives bytes body head query response begins asks is =
-    let hits = counted (hits_among query actives) in
-    let other : ReplyValue = hits_reply status.NotFound (accepted_representation head) (target_query head) actives query in
+    let hits = counted (hits_among query (sited site actives)) in
+    let other : ReplyValue = hits_reply status.NotFound (accepted_representation head) (target_query head) (sited site actives) query in
     let best : IsBestLink hits (best_link hits) = links.best_is hits in
     let same : response ≡ response_of keeps (is_head head) (option_map_or redirect_to (best_link hits) other) =
     reply_at site keeps bytes body actives head response begins is
     ∙ ap (response_of keeps (is_head head)) (read_tagged site head body actives asks.method ∙ untagged_go site head body actives asks.resource
-    ∙ go_replied head body query actives asks) in
+    ∙ go_replied head body query (sited site actives) asks) in
     (best_link hits, best, subst (λ (v : ResponseValue). GoesTo (best_link hits) v) (sym same) (goes keeps (is_head head) hits (best_link hits) other best refl))
 
 -- ---- forms
@@ -281,7 +281,7 @@ read_form post n is =
     }
 
 -- the answer by the representations that a request names and accepts
-abbrev answer_by : Resource → Representation → Representation → List ℕ → List ℕ → Dated → ReplyValue
+abbrev answer_by : Resource → Representation → Representation → List ℕ → List ℕ → Sited → ReplyValue
 answer_by resource.Home named accepted path query actives = reply_with status.Good Html (home_page actives.actives)
 answer_by resource.Status named accepted path query actives = reply_with status.Good named (status_body named actives.actives)
 answer_by resource.Resolve named accepted path query actives = resolve_reply named query actives
@@ -289,7 +289,7 @@ answer_by resource.Package named accepted path query actives = package_reply nam
 answer_by resource.Go named accepted path query actives = go_reply accepted query actives
 answer_by resource.Unknown named accepted path query actives = refusal status.NotFound accepted (codes "NoTarget")
 
-answered_by : (r : Resource) (head : RequestHead) (path query : List ℕ) (actives : Dated)
+answered_by : (r : Resource) (head : RequestHead) (path query : List ℕ) (actives : Sited)
     → resource_reply r head path query actives ≡ answer_by r (representation_of query head) (accepted_representation head) path query actives
 answered_by resource.Home head path query actives = refl
 answered_by resource.Status head path query actives = refl
@@ -299,7 +299,7 @@ answered_by resource.Go head path query actives = refl
 answered_by resource.Unknown head path query actives = refl
 
 -- a reply depends on no more of a head than its fields
-same_fields : (r : Resource) (get post : RequestHead) (path query : List ℕ) (actives : Dated) → get.fields ≡ post.fields
+same_fields : (r : Resource) (get post : RequestHead) (path query : List ℕ) (actives : Sited) → get.fields ≡ post.fields
     → resource_reply r get path query actives ≡ resource_reply r post path query actives
 same_fields r get post path query actives fields =
     let accepts : accepted_representation get ≡ accepted_representation post = ap (λ fs. option_map_or preferred_in (only (values_named (codes "accept") fs)) Text) fields in
@@ -311,12 +311,12 @@ same_fields r get post path query actives fields =
 
 -- a POST has no tag, and is no preflight
 untagged_post : (site : SiteValue) (head : RequestHead) (body : List ℕ) (actives : Dated) → is_get head ≡ false → is_head head ≡ false
-    → bytes_eq head.method (codes "OPTIONS") ≡ false → tagged_reply site head body actives ≡ reply_to head body actives
+    → bytes_eq head.method (codes "OPTIONS") ≡ false → tagged_reply site head body actives ≡ reply_to head body (sited site actives)
 untagged_post site head body actives get alone other =
     tagged_cases site head body actives
-    ∙ ap (λ p. final_by (is_tagged head) p head (tag_asked site actives head) site.max_age (reply_to head body actives)) (no_preflight head other)
-    ∙ ap (λ g. final_by ((g || is_head head) && has_validator (resource_in head)) None head (tag_asked site actives head) site.max_age (reply_to head body actives)) get
-    ∙ ap (λ a. final_by (a && has_validator (resource_in head)) None head (tag_asked site actives head) site.max_age (reply_to head body actives)) alone
+    ∙ ap (λ p. final_by (is_tagged head) p head (tag_asked site actives head) site.max_age (reply_to head body (sited site actives))) (no_preflight head other)
+    ∙ ap (λ g. final_by ((g || is_head head) && has_validator (resource_in head)) None head (tag_asked site actives head) site.max_age (reply_to head body (sited site actives))) get
+    ∙ ap (λ a. final_by (a && has_validator (resource_in head)) None head (tag_asked site actives head) site.max_age (reply_to head body (sited site actives))) alone
 
 pub form_is_get : FormIsGet
 form_is_get site keeps actives bytes body other post get n response form same begins is =
@@ -326,25 +326,25 @@ form_is_get site keeps actives bytes body other post get n response form same be
     ap (λ m. (m == 1) && is_none (only (values_named (codes "host") get.fields))) same.minor
     ∙ ap (λ fs. (post.minor == 1) && is_none (only (values_named (codes "host") fs))) same.fields ∙ read.host in
     let plain : has_coded_body get ≡ false = ap (λ fs. has_any (values_named (codes "transfer-encoding") fs)) same.fields ∙ read.plain in
-    let posted : reply_to post body actives ≡ target_reply post body actives =
-    ap (λ b. if b then refusal status.BadRequest Text (codes "NoHost") else reply_by_form post body actives (form_of post)) read.host
-    ∙ ap (λ o. reply_by_form post body actives o) form in
-    let got : reply_to get other actives ≡ target_reply get (target_query get) actives =
-    read_reply get other actives method
-    ∙ ap (λ l. reply_by l false false (has_coded_body get) (query_answer get actives)) hosted
-    ∙ ap (λ c. reply_by false false false c (query_answer get actives)) plain in
-    let alike : target_reply get (target_query get) actives ≡ target_reply post body actives =
-    ap (λ q. target_reply get q actives) same.query
-    ∙ ap (λ p. resource_reply (resource_of p) get p body actives) same.path
-    ∙ same_fields (resource_of (path_of post)) get post (path_of post) body actives same.fields in
+    let posted : reply_to post body (sited site actives) ≡ target_reply post body (sited site actives) =
+    ap (λ b. if b then refusal status.BadRequest Text (codes "NoHost") else reply_by_form post body (sited site actives) (form_of post)) read.host
+    ∙ ap (λ o. reply_by_form post body (sited site actives) o) form in
+    let got : reply_to get other (sited site actives) ≡ target_reply get (target_query get) (sited site actives) =
+    read_reply get other (sited site actives) method
+    ∙ ap (λ l. reply_by l false false (has_coded_body get) (query_answer get (sited site actives))) hosted
+    ∙ ap (λ c. reply_by false false false c (query_answer get (sited site actives))) plain in
+    let alike : target_reply get (target_query get) (sited site actives) ≡ target_reply post body (sited site actives) =
+    ap (λ q. target_reply get q (sited site actives)) same.query
+    ∙ ap (λ p. resource_reply (resource_of p) get p body (sited site actives)) same.path
+    ∙ same_fields (resource_of (path_of post)) get post (path_of post) body (sited site actives) same.fields in
     let short : is_head post ≡ false = ap (λ m. bytes_eq m (codes "HEAD")) ((bytes_decides post.method (codes "POST")).0 read.method) in
     let unread : is_get post ≡ false = ap (λ m. bytes_eq m (codes "GET")) ((bytes_decides post.method (codes "POST")).0 read.method) in
     let asks : bytes_eq post.method (codes "OPTIONS") ≡ false = ap (λ m. bytes_eq m (codes "OPTIONS")) ((bytes_decides post.method (codes "POST")).0 read.method) in
-    let plainly : tagged_reply site post body actives ≡ reply_to post body actives = untagged_post site post body actives unread short asks in (
+    let plainly : tagged_reply site post body actives ≡ reply_to post body (sited site actives) = untagged_post site post body actives unread short asks in (
       reply_at site keeps bytes body actives post response begins is
           ∙ ap (λ b. response_of keeps b (tagged_reply site post body actives)) short
           ∙ ap (response_of keeps false) (plainly ∙ posted ∙ sym (got ∙ alike)),
-      (reply_located get other actives).1,
+      (reply_located get other (sited site actives)).1,
     )
 
 -- ---- nodes

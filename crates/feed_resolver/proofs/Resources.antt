@@ -1,7 +1,7 @@
 -- From the resource that a path names to the reply.
 use Rattle.std.proofs.Common.{◌≡◌, ℕ, List, ap, sym, ◌∙◌}
 use Rattle.httparse.specs.Grammar.{RequestHead}
-use Rattle.feed_resolver.specs.Answers.{Dated}
+use Rattle.feed_resolver.specs.Answers.{Sited}
 use Rattle.feed_resolver_request.specs.Representations.{representation_of}
 use Rattle.feed_resolver_request.specs.Targets.{resource_of, package_in}
 use Rattle.feed_resolver.specs.Replies.{resource_reply, resolve_reply, package_reply}
@@ -10,7 +10,7 @@ use Rattle.feed_resolver_request.specs.declared.target.Resource.{Resource}
 use Rattle.feed_resolver_request.specs.declared.target.Resource.TheVariants as resource
 
 -- the answer of all packages
-pub resolve_requested : (a : Resource) (representation : Representation) (path query : List ℕ) (head : RequestHead) (actives : Dated)
+pub resolve_requested : (a : Resource) (representation : Representation) (path query : List ℕ) (head : RequestHead) (actives : Sited)
     → a ≡ resource.Resolve → a ≡ resource_of path → representation ≡ representation_of query head
     → resolve_reply representation query actives ≡ resource_reply (resource_of path) head path query actives
 resolve_requested a representation path query head actives is of wants =
@@ -18,7 +18,7 @@ resolve_requested a representation path query head actives is of wants =
     ∙ sym (ap (λ (b : Resource). resource_reply b head path query actives) (sym of ∙ is))
 
 -- the answer of one
-pub package_requested : (a : Resource) (representation : Representation) (path query stem : List ℕ) (head : RequestHead) (actives : Dated)
+pub package_requested : (a : Resource) (representation : Representation) (path query stem : List ℕ) (head : RequestHead) (actives : Sited)
     → a ≡ resource.Package → a ≡ resource_of path → stem ≡ package_in path → representation ≡ representation_of query head
     → package_reply representation stem query actives ≡ resource_reply (resource_of path) head path query actives
 package_requested a representation path query stem head actives is of named wants =

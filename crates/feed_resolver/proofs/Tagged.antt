@@ -17,7 +17,7 @@ use Rattle.feed_resolver_reply.specs.Messages.{IsLocation}
 use Rattle.feed_resolver_reply.specs.declared.status.Status.{Status}
 use Rattle.feed_resolver_tag.specs.Tags.{SiteValue}
 use Rattle.feed_resolver_tag.proofs.Visible.{tag_visible}
-use Rattle.feed_resolver.specs.Answers.{Dated}
+use Rattle.feed_resolver.specs.Answers.{Dated, Sited, sited}
 use Rattle.feed_resolver.specs.Answered.{IsGoodIn, IsAnsweredTo}
 use Rattle.feed_resolver.specs.Replies.{reply_to, tagged_reply}
 use Rattle.feed_resolver.specs.Validators.{is_tagged, tag_of, validated_by, validated, preflight_status}
@@ -33,7 +33,7 @@ final_by tagged preflight head tag max_age reply = option_map_or (λ code. reply
     preflight (if tagged then validated_by (has_tag (if tagged then tag else []) head) (if tagged then tag else []) max_age reply else reply)
 
 pub tagged_cases : (site : SiteValue) (head : RequestHead) (body : List ℕ) (actives : Dated)
-    → tagged_reply site head body actives ≡ final_by (is_tagged head) (preflight_status head) head (tag_asked site actives head) site.max_age (reply_to head body actives)
+    → tagged_reply site head body actives ≡ final_by (is_tagged head) (preflight_status head) head (tag_asked site actives head) site.max_age (reply_to head body (sited site actives))
 tagged_cases site head body actives = refl
 
 or_any : (b : Bool) → (b || true) ≡ true
@@ -66,8 +66,8 @@ final_statable true None head tag max_age reply located passes = validated_stata
 final_statable false None head tag max_age reply located passes = (located.0, subst (λ t. AllPass is_uri_byte t) (sym located.1) untagged)
 
 pub tagged_statable : (site : SiteValue) (head : RequestHead) (body : List ℕ) (actives : Dated) → IsStatable (tagged_reply site head body actives)
-tagged_statable site head body actives = final_statable (is_tagged head) (preflight_status head) head (tag_asked site actives head) site.max_age (reply_to head body actives)
-    (reply_located head body actives) (tag_visible _)
+tagged_statable site head body actives = final_statable (is_tagged head) (preflight_status head) head (tag_asked site actives head) site.max_age (reply_to head body (sited site actives))
+    (reply_located head body (sited site actives)) (tag_visible _)
 
 -- and how long a cache may keep it
 abbrev IsYoung : ReplyValue → Type 0
@@ -89,8 +89,8 @@ final_young true None head tag max_age reply located young = validated_young (is
 final_young false None head tag max_age reply located young = plain_young reply located
 
 pub tagged_young : (site : SiteValue) (head : RequestHead) (body : List ℕ) (actives : Dated) → site.max_age < 2 ^ 64 → IsYoung (tagged_reply site head body actives)
-tagged_young site head body actives young = final_young (is_tagged head) (preflight_status head) head (tag_asked site actives head) site.max_age (reply_to head body actives)
-    (reply_located head body actives) young
+tagged_young site head body actives young = final_young (is_tagged head) (preflight_status head) head (tag_asked site actives head) site.max_age (reply_to head body (sited site actives))
+    (reply_located head body (sited site actives)) young
 
 -- ---- a client that has the tag
 
@@ -104,7 +104,7 @@ known_reply true false tag max_age representation reply is names good = absurd (
 known_reply false has tag max_age representation reply is names good = absurd (cc)
 
 -- the same for a request with a tag, from what the code looks at
-pub known_validated : (head : RequestHead) (tag : List ℕ) (max_age : ℕ) (body : List ℕ) (actives : Dated) (reply : ReplyValue) (representation : Representation) (is has : Bool)
+pub known_validated : (head : RequestHead) (tag : List ℕ) (max_age : ℕ) (body : List ℕ) (actives : Sited) (reply : ReplyValue) (representation : Representation) (is has : Bool)
     → is ≡ true → is ≡ is_tagged head → has ≡ true → has ≡ has_tag tag head → representation ≡ representation_of (query_in (origin_form head.target)) head
     → (is_tagged head ≡ true → IsAnsweredTo head actives) → reply ≡ not_modified tag max_age representation
     → reply ≡ validated head tag max_age (reply_to head body actives)

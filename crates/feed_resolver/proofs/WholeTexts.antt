@@ -8,12 +8,13 @@ use Rattle.feed_names.specs.ReleaseName.{Name, text_of}
 use Rattle.feed_answer.specs.HitValue.{HitValue}
 use Rattle.feed_answer.specs.Answers.{answer_of, answer_text, hit_line}
 use Rattle.feed_embargo.specs.Today.{TodayValue}
+use Rattle.feed_site.specs.Site as site_file
 use Rattle.feed_answer.specs.QueryValue.{QueryValue}
 use Rattle.feed_releases.specs.Actives.{ActiveValue}
 use Rattle.feed_resolver_hits.specs.Hits.{ReleaseHitValue, release_hit}
 use Rattle.feed_resolver_hits.specs.HitsText.{release_hit_line, release_head_line, release_text}
 use Rattle.feed_resolver_hits.specs.Tallies.{text_size, first_within, count_limit, shown_limit, text_limit, counted, tally_of}
-use Rattle.feed_resolver.specs.Answers.{dated, release_hits, hits_among, texts_behind, answers_body}
+use Rattle.feed_resolver.specs.Answers.{sited_by, release_hits, hits_among, texts_behind, answers_body}
 use Rattle.feed_resolver.specs.Laws.{written_answer, WholeTextIsWritten}
 
 -- all of these are shown
@@ -74,13 +75,14 @@ whole_of hits few all =
     }
 
 -- the lines of a release
-lines_are : (today : TodayValue) (query : QueryValue) (name : Name) (hits : List HitValue) → flat_map release_hit_line (map (release_hit today query name) hits) ≡ flat_map hit_line hits
-lines_are today query name [] = refl
-lines_are today query name (hit ∷ hits) = ap (λ t. hit_line hit ++ t) (lines_are today query name hits)
+lines_are : (site : site_file.SiteValue) (today : TodayValue) (query : QueryValue) (name : Name) (hits : List HitValue)
+    → flat_map release_hit_line (map (release_hit site today query name) hits) ≡ flat_map hit_line hits
+lines_are site today query name [] = refl
+lines_are site today query name (hit ∷ hits) = ap (λ t. hit_line hit ++ t) (lines_are site today query name hits)
 
-length_map : (today : TodayValue) (query : QueryValue) (name : Name) (hits : List HitValue) → length (map (release_hit today query name) hits) ≡ length hits
-length_map today query name [] = refl
-length_map today query name (hit ∷ hits) = ap suc (length_map today query name hits)
+length_map : (site : site_file.SiteValue) (today : TodayValue) (query : QueryValue) (name : Name) (hits : List HitValue) → length (map (release_hit site today query name) hits) ≡ length hits
+length_map site today query name [] = refl
+length_map site today query name (hit ∷ hits) = ap suc (length_map site today query name hits)
 
 drop_front : {A : Type 0} → (xs ys : List A) → drop (length xs) (xs ++ ys) ≡ ys
 drop_front {A} [] ys = refl
@@ -90,22 +92,22 @@ length_append : {A : Type 0} → (xs ys : List A) → length (xs ++ ys) - length
 length_append {A} [] ys = omega arith
 length_append {A} (x ∷ xs) ys = let less = length_append xs ys in omega (arith, less)
 
-release_is : (today : TodayValue) (query : QueryValue) (earlier : List ReleaseHitValue) (name : Name) (hits : List HitValue)
-    → IsWhole earlier → IsWhole (earlier ++ map (release_hit today query name) hits)
-    → release_text (tally_of earlier) (tally_of (earlier ++ map (release_hit today query name) hits)) name ≡ answer_text (text_of name) hits
+release_is : (site : site_file.SiteValue) (today : TodayValue) (query : QueryValue) (earlier : List ReleaseHitValue) (name : Name) (hits : List HitValue)
+    → IsWhole earlier → IsWhole (earlier ++ map (release_hit site today query name) hits)
+    → release_text (tally_of earlier) (tally_of (earlier ++ map (release_hit site today query name) hits)) name ≡ answer_text (text_of name) hits
 unfolding release_text answer_text
-release_is today query earlier name hits before after =
-    let own = map (release_hit today query name) hits in
+release_is site today query earlier name hits before after =
+    let own = map (release_hit site today query name) hits in
     let head = text_of name in
     let lines = flat_map release_hit_line (drop (length (tally_of earlier).shown) (tally_of (earlier ++ own)).shown) in
     ap (λ b. release_head_line head (length (counted (earlier ++ own)) - length (counted earlier)) b ++ lines) after.test
     ∙ ap (λ l. release_head_line head (length l - length (counted earlier)) true ++ lines) after.counts
     ∙ ap (λ l. release_head_line head (length (earlier ++ own) - length l) true ++ lines) before.counts
-    ∙ ap (λ n. release_head_line head n true ++ lines) (length_append earlier own ∙ length_map today query name hits)
+    ∙ ap (λ n. release_head_line head n true ++ lines) (length_append earlier own ∙ length_map site today query name hits)
     ∙ ap (λ l. release_head_line head (length hits) true ++ flat_map release_hit_line (drop (length l) (tally_of (earlier ++ own)).shown)) before.shows
     ∙ ap (λ l. release_head_line head (length hits) true ++ flat_map release_hit_line (drop (length earlier) l)) after.shows
     ∙ ap (λ l. release_head_line head (length hits) true ++ flat_map release_hit_line l) (drop_front earlier own)
-    ∙ ap (λ t. release_head_line head (length hits) true ++ t) (lines_are today query name hits)
+    ∙ ap (λ t. release_head_line head (length hits) true ++ t) (lines_are site today query name hits)
 
 fewer : {A : Type 0} → (xs ys : List A) → length xs ≤ length (xs ++ ys)
 fewer {A} [] ys = omega arith
@@ -117,18 +119,19 @@ front_whole hits more few all =
     let less : length hits ≤ length (hits ++ more) = fewer hits more in
     whole_of hits (omega (arith, few, less)) (prefix_shown shown_limit text_limit hits more all)
 
-texts_whole : (today : TodayValue) (query : QueryValue) (earlier : List ReleaseHitValue) (actives : List ActiveValue) → length (earlier ++ hits_among query (dated today actives)) ≤ count_limit
-    → AllShown shown_limit text_limit (earlier ++ hits_among query (dated today actives)) → texts_behind today query earlier actives ≡ flat_map (written_answer query) actives
-texts_whole today query earlier [] few all = refl
-texts_whole today query earlier (active ∷ actives) few all =
-    let own = release_hits today query active in
-    let rest = hits_among query (dated today actives) in
+texts_whole : (site : site_file.SiteValue) (today : TodayValue) (query : QueryValue) (earlier : List ReleaseHitValue) (actives : List ActiveValue)
+    → length (earlier ++ hits_among query (sited_by site today actives)) ≤ count_limit
+    → AllShown shown_limit text_limit (earlier ++ hits_among query (sited_by site today actives)) → texts_behind site today query earlier actives ≡ flat_map (written_answer query) actives
+texts_whole site today query earlier [] few all = refl
+texts_whole site today query earlier (active ∷ actives) few all =
+    let own = release_hits site today query active in
+    let rest = hits_among query (sited_by site today actives) in
     let joint : earlier ++ (own ++ rest) ≡ (earlier ++ own) ++ rest = sym (append_assoc earlier own rest) in
     let count : length ((earlier ++ own) ++ rest) ≤ count_limit = rw (← joint) few in
     let shown : AllShown shown_limit text_limit ((earlier ++ own) ++ rest) = rw (← joint) all in
-    ap (λ t. t ++ texts_behind today query (earlier ++ own) actives)
-    (release_is today query earlier active.name (answer_of active.holdings query) (front_whole earlier (own ++ rest) few all) (front_whole (earlier ++ own) rest count shown))
-    ∙ ap (λ t. written_answer query active ++ t) (texts_whole today query (earlier ++ own) actives count shown)
+    ap (λ t. t ++ texts_behind site today query (earlier ++ own) actives)
+    (release_is site today query earlier active.name (answer_of active.holdings query) (front_whole earlier (own ++ rest) few all) (front_whole (earlier ++ own) rest count shown))
+    ∙ ap (λ t. written_answer query active ++ t) (texts_whole site today query (earlier ++ own) actives count shown)
 
 pub whole_text : WholeTextIsWritten
 unfolding answers_body
@@ -136,4 +139,4 @@ whole_text text query actives all =
     let hits = hits_among query actives in
     let few : length hits ≤ count_limit = all_counted count_limit shown_limit text_limit hits all in
     let same : counted hits ≡ hits = take_all count_limit hits few in
-    texts_whole actives.today query [] actives.actives few (ap (first_within shown_limit text_limit) (sym same) ∙ all)
+    texts_whole actives.library actives.today query [] actives.actives few (ap (first_within shown_limit text_limit) (sym same) ∙ all)

@@ -7,7 +7,7 @@ use Rattle.feed_resolver_request.specs.Targets.{path_in, query_in, resource_of}
 use Rattle.feed_resolver_request.specs.declared.representation.Representation.{Representation}
 use Rattle.feed_resolver_reply.specs.Replies.{ReplyValue}
 use Rattle.feed_resolver_reply.specs.declared.status.Status.TheVariants as status
-use Rattle.feed_resolver.specs.Answers.{Dated}
+use Rattle.feed_resolver.specs.Answers.{Sited}
 use Rattle.feed_resolver.specs.Replies.{resource_reply, reply_to}
 
 -- the reply is a 200 of this representation
@@ -15,11 +15,11 @@ abbrev pub IsGoodIn : Representation → ReplyValue → Type 0
 IsGoodIn representation reply = (reply.status ≡ status.Good) × (reply.representation ≡ representation)
 
 -- the reply to each request of this target is a 200
-abbrev pub IsAnswered : List ℕ → Dated → Type 0
+abbrev pub IsAnswered : List ℕ → Sited → Type 0
 IsAnswered target actives = (head : RequestHead)
     → IsGoodIn (representation_of (query_in target) head) (resource_reply (resource_of (path_in target)) head (path_in target) (query_in target) actives)
 
 -- the reply to this request is a 200, whatever follows its head
-abbrev pub IsAnsweredTo : RequestHead → Dated → Type 0
+abbrev pub IsAnsweredTo : RequestHead → Sited → Type 0
 IsAnsweredTo head actives = (body : List ℕ)
     → IsGoodIn (representation_of (query_in (origin_form head.target)) head) (reply_to head body actives)

@@ -1,8 +1,9 @@
 -- The hits of a query in active releases on a day, and the body that lists them.
-use Rattle.std.specs.Prelude.{ℕ, Bool, true, false, List, [], ◌∷◌, ◌++◌, map}
+use Rattle.std.specs.Prelude.{ℕ, Bool, true, false, List, [], ◌∷◌, ◌++◌, codes, map}
 use Rattle.std.specs.List.{flat_map}
 use Rattle.std.specs.Str.{bytes_eq}
 use Rattle.feed_embargo.specs.Today.{TodayValue}
+use Rattle.feed_site.specs.Site as site_file
 use Rattle.feed_answer.specs.QueryValue.{QueryValue}
 use Rattle.feed_answer.specs.Answers.{answer_of}
 use Rattle.feed_releases.specs.Actives.{ActiveValue}
@@ -11,9 +12,10 @@ use Rattle.feed_resolver_request.specs.declared.representation.Representation.Th
 use Rattle.feed_resolver_hits.specs.Hits.{ReleaseHitValue, release_hit}
 use Rattle.feed_resolver_hits.specs.AnswerJson.{answer_json}
 use Rattle.feed_resolver_hits.specs.Asks.{AskValue, ask_of}
-use Rattle.feed_resolver_hits.specs.HitsPage.{hits_page}
+use Rattle.feed_resolver_hits.specs.HitsPage.{hits_page, page_title}
 use Rattle.feed_resolver_hits.specs.HitsText.{release_text}
 use Rattle.feed_resolver_hits.specs.Tallies.{TallyValue, tally_of}
+use Rattle.feed_resolver_tag.specs.Tags.{SiteValue}
 
 -- the active releases, and the day on which they are asked
 pub record Dated : Type 0 where
@@ -23,36 +25,52 @@ pub record Dated : Type 0 where
 abbrev pub dated : TodayValue → List ActiveValue → Dated
 dated today actives = record { today = today; actives = actives }
 
+-- the same for the readers of a library
+pub record Sited : Type 0 where
+  pub library : site_file.SiteValue
+  pub today : TodayValue
+  pub actives : List ActiveValue
+
+abbrev pub sited_by : site_file.SiteValue → TodayValue → List ActiveValue → Sited
+sited_by site today actives = record { library = site; today = today; actives = actives }
+
+abbrev pub sited : SiteValue → Dated → Sited
+sited site actives = sited_by site.library actives.today actives.actives
+
 -- the hits of a query in a release
-abbrev pub release_hits : TodayValue → QueryValue → ActiveValue → List ReleaseHitValue
-release_hits today query active = map (release_hit today query active.name) (answer_of active.holdings query)
+abbrev pub release_hits : site_file.SiteValue → TodayValue → QueryValue → ActiveValue → List ReleaseHitValue
+release_hits site today query active = map (release_hit site today query active.name) (answer_of active.holdings query)
 
 -- the hits in all the releases, in their order
-abbrev pub hits_among : QueryValue → Dated → List ReleaseHitValue
-hits_among query actives = flat_map (release_hits actives.today query) actives.actives
+abbrev pub hits_among : QueryValue → Sited → List ReleaseHitValue
+hits_among query actives = flat_map (release_hits actives.library actives.today query) actives.actives
 
 -- the release belongs to the package
 abbrev pub is_of : List ℕ → ActiveValue → Bool
 is_of stem active = bytes_eq active.name.stem stem
 
 -- the tally of the hits in all the releases
-abbrev pub tally_among : QueryValue → Dated → TallyValue
+abbrev pub tally_among : QueryValue → Sited → TallyValue
 tally_among query actives = tally_of (hits_among query actives)
 
 -- the answers of releases as text, behind releases with these hits: the limits are on the hits of all
-abbrev pub texts_behind : TodayValue → QueryValue → List ReleaseHitValue → List ActiveValue → List ℕ
-texts_behind today query earlier [] = []
-texts_behind today query earlier (active ∷ actives) =
-    release_text (tally_of earlier) (tally_of (earlier ++ release_hits today query active)) active.name
-    ++ texts_behind today query (earlier ++ release_hits today query active) actives
+abbrev pub texts_behind : site_file.SiteValue → TodayValue → QueryValue → List ReleaseHitValue → List ActiveValue → List ℕ
+texts_behind site today query earlier [] = []
+texts_behind site today query earlier (active ∷ actives) =
+    release_text (tally_of earlier) (tally_of (earlier ++ release_hits site today query active)) active.name
+    ++ texts_behind site today query (earlier ++ release_hits site today query active) actives
 
--- what a query asks, and the hits of highest rank, as a page or as JSON
-abbrev pub tally_body : Bool → AskValue → TallyValue → List ℕ
-tally_body true ask tally = hits_page ask tally
-tally_body false ask tally = answer_json ask [] tally
+-- what a query asks, and the hits of highest rank, as a page with this title or as JSON
+abbrev pub tally_body : Bool → List ℕ → AskValue → TallyValue → List ℕ
+tally_body true title ask tally = hits_page title ask tally
+tally_body false title ask tally = answer_json ask [] tally
+
+-- the title of the page
+abbrev pub title_of : Sited → List ℕ
+title_of actives = page_title (codes "Holdings") actives.library.name
 
 -- the body of an answer from these releases, for what this text asks; the text of an answer does not tell of the query
-unfoldable pub answers_body : Representation → List ℕ → QueryValue → Dated → List ℕ
-answers_body Text text query actives = texts_behind actives.today query [] actives.actives
-answers_body Json text query actives = tally_body false (ask_of text) (tally_among query actives)
-answers_body Html text query actives = tally_body true (ask_of text) (tally_among query actives)
+unfoldable pub answers_body : Representation → List ℕ → QueryValue → Sited → List ℕ
+answers_body Text text query actives = texts_behind actives.library actives.today query [] actives.actives
+answers_body Json text query actives = tally_body false (title_of actives) (ask_of text) (tally_among query actives)
+answers_body Html text query actives = tally_body true (title_of actives) (ask_of text) (tally_among query actives)

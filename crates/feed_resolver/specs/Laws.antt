@@ -11,7 +11,7 @@ use Rattle.feed_model.specs.History.{History, IsFile}
 use Rattle.feed_releases.specs.Actives.{ActiveValue, ReportAlike}
 use Rattle.feed_resolver_request.specs.declared.representation.Representation.TheVariants.{Text, Json}
 use Rattle.feed_resolver_reply.specs.Replies.{ResponseValue}
-use Rattle.feed_resolver.specs.Answers.{Dated, hits_among, tally_among, answers_body}
+use Rattle.feed_resolver.specs.Answers.{Sited, hits_among, tally_among, answers_body}
 use Rattle.feed_resolver.specs.Status.{status_body, active_value}
 use Rattle.feed_resolver_tag.specs.Tags.{SiteValue}
 use Rattle.feed_resolver.specs.Replies.{IsResponseAt}
@@ -53,5 +53,5 @@ written_answer query active = answer_text (text_of active.name) (answer_of activ
 -- a reply that shows all hits has, as text, the answers that `Answer::write` prints
 abbrev pub WholeTextIsWritten : Type 0
 WholeTextIsWritten =
-    (text : List ℕ) (query : QueryValue) (actives : Dated) → (tally_among query actives).shown ≡ hits_among query actives
+    (text : List ℕ) (query : QueryValue) (actives : Sited) → (tally_among query actives).shown ≡ hits_among query actives
     → answers_body Text text query actives ≡ flat_map (written_answer query) actives.actives

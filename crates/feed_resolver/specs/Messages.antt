@@ -14,7 +14,7 @@ use Rattle.feed_resolver_hits.specs.Asked.{asked_of}
 use Rattle.feed_resolver_hits.specs.Ranks.{IsBestLink}
 use Rattle.feed_resolver_hits.specs.Tallies.{counted}
 use Rattle.feed_resolver_tag.specs.Tags.{SiteValue}
-use Rattle.feed_resolver.specs.Answers.{Dated, hits_among}
+use Rattle.feed_resolver.specs.Answers.{Dated, hits_among, sited}
 use Rattle.feed_resolver_request.specs.Forms.{form_of}
 use Rattle.feed_resolver.specs.Replies.{IsResponse, reply_to, has_coded_body, path_of, target_query}
 
@@ -69,7 +69,7 @@ abbrev pub GoesToBest : Type 0
 GoesToBest =
     (site : SiteValue) (keeps : Bool) (actives : Dated) (bytes body : List ℕ) (head : RequestHead) (query : QueryValue) (response : ResponseValue)
     → BeginsWith bytes head → AsksToGo head query → IsResponse site bytes body keeps actives response
-    → (best : Option (List ℕ)) × IsBestLink (counted (hits_among query actives)) best × GoesTo best response
+    → (best : Option (List ℕ)) × IsBestLink (counted (hits_among query (sited site actives))) best × GoesTo best response
 
 -- a GET that asks what a form asks: the same fields and path, and the form as its query
 pub record IsGetOfForm (post get : RequestHead) (body : List ℕ) : Type 0 where
@@ -88,4 +88,4 @@ FormIsGet =
     (response : ResponseValue)
     → form_of post ≡ Some (Ok n) → IsGetOfForm post get body → BeginsWith bytes post
     → IsResponse site bytes body keeps actives response
-    → (response ≡ response_of keeps false (reply_to get other actives)) × ((reply_to get other actives).tag ≡ [])
+    → (response ≡ response_of keeps false (reply_to get other (sited site actives))) × ((reply_to get other (sited site actives)).tag ≡ [])

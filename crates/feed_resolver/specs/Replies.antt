@@ -26,7 +26,7 @@ use Rattle.feed_resolver_reply.specs.declared.status.Status.TheVariants as statu
 use Rattle.feed_resolver_hits.specs.Asked.{asked_of}
 use Rattle.feed_resolver_hits.specs.Asks.{ask_of}
 use Rattle.feed_resolver_hits.specs.QueryRefusals.{unasked_reply}
-use Rattle.feed_resolver.specs.Answers.{Dated, dated, is_of, tally_among, answers_body}
+use Rattle.feed_resolver.specs.Answers.{Dated, Sited, dated, is_of, sited, sited_by, tally_among, answers_body}
 use Rattle.feed_resolver_tag.specs.Tags.{SiteValue}
 use Rattle.feed_resolver.specs.Status.{status_body, home_page}
 use Rattle.feed_resolver.specs.Validators.{final_reply, tag_to}
@@ -37,35 +37,35 @@ query_reply code representation text reply (Ok query) = reply query
 query_reply code representation text reply (Err reason) = unasked_reply code representation (ask_of text) reason
 
 -- the hits in the given releases
-abbrev pub hits_reply : Status → Representation → List ℕ → Dated → QueryValue → ReplyValue
+abbrev pub hits_reply : Status → Representation → List ℕ → Sited → QueryValue → ReplyValue
 hits_reply code representation text actives query = reply_with code representation (answers_body representation text query actives)
 
 -- the answer of all packages, by package
-abbrev pub resolve_reply : Representation → List ℕ → Dated → ReplyValue
+abbrev pub resolve_reply : Representation → List ℕ → Sited → ReplyValue
 resolve_reply representation text actives =
     query_reply status.Good representation text (hits_reply status.Good representation text actives) (asked_of text)
 
 -- the answer of the release at a place
-abbrev pub resolve_reply_at : Representation → List ℕ → Dated → ℕ → ReplyValue
-resolve_reply_at representation text actives place = resolve_reply representation text (dated actives.today (take 1 (drop place actives.actives)))
+abbrev pub resolve_reply_at : Representation → List ℕ → Sited → ℕ → ReplyValue
+resolve_reply_at representation text actives place = resolve_reply representation text (sited_by actives.library actives.today (take 1 (drop place actives.actives)))
 
 -- the answer of one package, if it has an active release
-abbrev pub package_reply : Representation → List ℕ → List ℕ → Dated → ReplyValue
+abbrev pub package_reply : Representation → List ℕ → List ℕ → Sited → ReplyValue
 package_reply representation stem text actives = option_map_or (resolve_reply_at representation text actives)
     (position (is_of stem) actives.actives) (refusal status.NotFound representation (codes "NoRelease"))
 
 -- a redirect to the best hit of those that are counted, or the answer if none has a link
-abbrev pub redirect_reply : Representation → List ℕ → Dated → QueryValue → ReplyValue
+abbrev pub redirect_reply : Representation → List ℕ → Sited → QueryValue → ReplyValue
 redirect_reply representation text actives query = option_map_or redirect_to
     (tally_among query actives).best (hits_reply status.NotFound representation text actives query)
 
 -- the same for what a text asks
-abbrev pub go_reply : Representation → List ℕ → Dated → ReplyValue
+abbrev pub go_reply : Representation → List ℕ → Sited → ReplyValue
 go_reply representation text actives =
     query_reply status.NotFound representation text (redirect_reply representation text actives) (asked_of text)
 
 -- the reply by the kind of path, to this query
-abbrev pub resource_reply : Resource → RequestHead → List ℕ → List ℕ → Dated → ReplyValue
+abbrev pub resource_reply : Resource → RequestHead → List ℕ → List ℕ → Sited → ReplyValue
 resource_reply resource.Home head path query actives = reply_with status.Good Html (home_page actives.actives)
 resource_reply resource.Status head path query actives =
     reply_with status.Good (representation_of query head) (status_body (representation_of query head) actives.actives)
@@ -82,7 +82,7 @@ abbrev pub target_query : RequestHead → List ℕ
 target_query head = query_in (origin_form head.target)
 
 -- the reply to a query of the target's path
-abbrev pub target_reply : RequestHead → List ℕ → Dated → ReplyValue
+abbrev pub target_reply : RequestHead → List ℕ → Sited → ReplyValue
 target_reply head query actives = resource_reply (resource_of (path_of head)) head (path_of head) query actives
 
 -- a body of unknown length follows
@@ -95,7 +95,7 @@ method_refusal resource =
     if takes_form resource then refusal status.GetOrPost Text (codes "Method") else refusal status.MethodNotAllowed Text (codes "Method")
 
 -- the reply to a request that submits no form: the first case that holds
-abbrev pub plain_reply : RequestHead → Dated → ReplyValue
+abbrev pub plain_reply : RequestHead → Sited → ReplyValue
 plain_reply head actives =
     if is_unsupported_method head.method then method_refusal (resource_of (path_of head))
     else (if not (is_get head || is_head head) then refusal status.NotImplemented Text (codes "Method")
@@ -111,23 +111,23 @@ form_refusal fault.TooLong = refusal status.ContentTooLarge Text (codes "TooLong
 form_refusal fault.MediaType = refusal status.UnsupportedMediaType Text (codes "Type")
 
 -- the reply to a form: the body is the query
-abbrev pub form_reply : RequestHead → List ℕ → Dated → Result ℕ FormFault → ReplyValue
+abbrev pub form_reply : RequestHead → List ℕ → Sited → Result ℕ FormFault → ReplyValue
 form_reply head body actives (Ok n) = target_reply head body actives
 form_reply head body actives (Err fault) = form_refusal fault
 
 -- the reply to a request that submits a form, or none
-abbrev pub reply_by_form : RequestHead → List ℕ → Dated → Option (Result ℕ FormFault) → ReplyValue
+abbrev pub reply_by_form : RequestHead → List ℕ → Sited → Option (Result ℕ FormFault) → ReplyValue
 reply_by_form head body actives None = plain_reply head actives
 reply_by_form head body actives (Some form) = form_reply head body actives form
 
 -- the reply to a request with this head and this body, which only a form has
-abbrev pub reply_to : RequestHead → List ℕ → Dated → ReplyValue
+abbrev pub reply_to : RequestHead → List ℕ → Sited → ReplyValue
 reply_to head body actives =
     if lacks_host head then refusal status.BadRequest Text (codes "NoHost") else reply_by_form head body actives (form_of head)
 
 -- the reply with its tag: a preflight has its own, and a client that has the representation gets no body
 abbrev pub tagged_reply : SiteValue → RequestHead → List ℕ → Dated → ReplyValue
-tagged_reply site head body actives = final_reply head (tag_to site actives head) site.max_age (reply_to head body actives)
+tagged_reply site head body actives = final_reply head (tag_to site actives head) site.max_age (reply_to head body (sited site actives))
 
 -- the same with its bytes, on a connection that is kept or not
 abbrev pub response_to : SiteValue → Bool → RequestHead → List ℕ → Dated → ResponseValue

@@ -114,7 +114,7 @@ fn list_reply<K: Keep + Drop>(
     alloc: Global,
     feed: &Feed<K>,
     representation: Representation,
-) -> Result<Reply<'static>, AllocError>
+) -> Result<Reply, AllocError>
     ensures { IfOk result IsListReply }
 {
     let mut statuses = feed.statuses()?;
@@ -134,7 +134,7 @@ fn feed_reply<K: Keep + Drop>(
     request: &Request<'_>,
     target: FeedTarget,
     feed: &Feed<K>,
-) -> Result<Reply<'static>, AllocError>
+) -> Result<Reply, AllocError>
     requires { IsInBuffer request.now }
     ensures { IfOk result (λ reply. (head : RequestHead) → HasHead request.now head
         → IsFeedReply token.now head target reply) }

@@ -1,5 +1,5 @@
 //! Computes the reply to the head of a request and to its body, which only a form has.
-ghost use Rattle.std.specs.Prelude.{◌≡◌, IfOk, option_copied, position};
+ghost use Rattle.std.specs.Prelude.{◌≡◌, IfOk, option_copied, option_map, position};
 ghost use Rattle.httparse.specs.Grammar.{RequestHead};
 ghost use Rattle.feed_http_heads.specs.Options.{SaysWhetherItKeeps};
 ghost use Rattle.feed_http_heads.specs.Requests.{IsInBuffer, HasHead, is_head};
@@ -13,7 +13,7 @@ ghost use Rattle.feed_resolver_hits.specs.QueryRefusals.{unasked_reply};
 ghost use Rattle.feed_resolver_reply.specs.Replies.{reply_with};
 ghost use Rattle.feed_resolver_reply.specs.Messages.{IsMessageFor};
 ghost use Rattle.feed_resolver_reply.specs.declared.status.Status.TheVariants as status;
-ghost use Rattle.feed_resolver.specs.Answers.{dated, is_of, tally_among};
+ghost use Rattle.feed_resolver.specs.Answers.{dated, sited_by, is_of, tally_among};
 ghost use Rattle.feed_resolver.specs.Replies.{IsResponse, IsResponseAt, hits_reply, go_reply, resolve_reply};
 ghost use Rattle.feed_resolver.specs.Replies.{package_reply, redirect_reply, resource_reply, target_reply};
 ghost use Rattle.feed_resolver.specs.Replies.{method_refusal, plain_reply, form_refusal, form_reply};
@@ -39,6 +39,7 @@ use feed_resolver_request::{
     takes_form,
 };
 use feed_resolver_tag::Site;
+use feed_site::SiteFile;
 use httparse::spans::EMPTY_HEADER_SPAN;
 use std::alloc::{AllocError, Global};
 
@@ -47,12 +48,13 @@ fn hits_reply(
     status: Status,
     representation: Representation,
     text: &[u8],
+    site: &SiteFile,
     today: &Today,
     actives: &[ActiveRelease<'_>],
     query: &Query,
-) -> Result<Reply<'static>, AllocError>
+) -> Result<Reply, AllocError>
     ensures { IfOk result (λ reply. reply
-        ≡ hits_reply status representation text.now (dated today.now actives.now) query.now) }
+        ≡ hits_reply status representation text.now (sited_by site.now today.now actives.now) query.now) }
 {
     let mut body = Vec::new(alloc);
     put_answer(
@@ -60,6 +62,7 @@ fn hits_reply(
         &mut body,
         representation,
         text,
+        site,
         today,
         actives,
         query,
@@ -73,7 +76,7 @@ fn unasked_reply(
     representation: Representation,
     text: &[u8],
     reason: Refusal,
-) -> Result<Reply<'static>, AllocError>
+) -> Result<Reply, AllocError>
     ensures { IfOk result (λ reply. reply ≡ unasked_reply status representation (ask_of text.now) reason) }
 {
     let ask = Ask::read(alloc, text)?;
@@ -84,10 +87,12 @@ fn resolve_reply(
     alloc: Global,
     representation: Representation,
     text: &[u8],
+    site: &SiteFile,
     today: &Today,
     actives: &[ActiveRelease<'_>],
-) -> Result<Reply<'static>, AllocError>
-    ensures { IfOk result (λ reply. reply ≡ resolve_reply representation text.now (dated today.now actives.now)) }
+) -> Result<Reply, AllocError>
+    ensures { IfOk result (λ reply. reply
+        ≡ resolve_reply representation text.now (sited_by site.now today.now actives.now)) }
 {
     match read_query(alloc, text)? {
         Ok(query) => hits_reply(
@@ -95,6 +100,7 @@ fn resolve_reply(
             Status::Good,
             representation,
             text,
+            site,
             today,
             actives,
             &query,
@@ -116,11 +122,12 @@ fn package_reply(
     representation: Representation,
     package: &[u8],
     text: &[u8],
+    site: &SiteFile,
     today: &Today,
     actives: &[ActiveRelease<'_>],
-) -> Result<Reply<'static>, AllocError>
+) -> Result<Reply, AllocError>
     ensures { IfOk result (λ reply. reply
-        ≡ package_reply representation «package».now text.now (dated today.now actives.now)) }
+        ≡ package_reply representation «package».now text.now (sited_by site.now today.now actives.now)) }
 {
     match position_of(actives, package) {
         Some(place) => {
@@ -128,6 +135,7 @@ fn package_reply(
                 alloc,
                 representation,
                 text,
+                site,
                 today,
                 &actives[place..place + 1],
             )
@@ -136,36 +144,49 @@ fn package_reply(
     }
 }
 
-fn best_link<'a>(
-    alloc: Global,
-    today: &Today,
-    actives: &[ActiveRelease<'a>],
-    query: &Query,
-) -> Result<Option<&'a [u8]>, AllocError>
-    ensures { IfOk result (λ best. option_copied best ≡ (tally_among query.now (dated today.now actives.now)).best) }
+fn copied(alloc: Global, link: Option<&[u8]>) -> Result<Option<Vec<u8>>, AllocError>
+    ensures { IfOk result (λ copy. option_map (λ text. text.items) copy ≡ option_copied link.entry) }
 {
-    let tally = tally_among(alloc, today, actives, query)?;
-    Ok(tally.best_link())
+    match link {
+        Some(link) => Ok(Some(Vec::from_slice(alloc, link)?)),
+        None => Ok(None),
+    }
 }
 
-fn redirect_reply<'a>(
+fn best_link(
+    alloc: Global,
+    site: &SiteFile,
+    today: &Today,
+    actives: &[ActiveRelease<'_>],
+    query: &Query,
+) -> Result<Option<Vec<u8>>, AllocError>
+    ensures { IfOk result (λ best. option_map (λ text. text.items) best
+        ≡ (tally_among query.now (sited_by site.now today.now actives.now)).best) }
+{
+    let tally = tally_among(alloc, site, today, actives, query)?;
+    copied(alloc, tally.best_link())
+}
+
+fn redirect_reply(
     alloc: Global,
     representation: Representation,
     text: &[u8],
+    site: &SiteFile,
     today: &Today,
-    actives: &[ActiveRelease<'a>],
+    actives: &[ActiveRelease<'_>],
     query: &Query,
-) -> Result<Reply<'a>, AllocError>
+) -> Result<Reply, AllocError>
     ensures { IfOk result (λ reply. reply
-        ≡ redirect_reply representation text.now (dated today.now actives.now) query.now) }
+        ≡ redirect_reply representation text.now (sited_by site.now today.now actives.now) query.now) }
 {
-    match best_link(alloc, today, actives, query)? {
-        Some(url) => Ok(Reply::redirect(alloc, url)),
+    match best_link(alloc, site, today, actives, query)? {
+        Some(link) => Ok(Reply::redirect(alloc, link)),
         None => hits_reply(
             alloc,
             Status::NotFound,
             representation,
             text,
+            site,
             today,
             actives,
             query,
@@ -173,22 +194,24 @@ fn redirect_reply<'a>(
     }
 }
 
-fn go_reply<'a>(
+fn go_reply(
     alloc: Global,
     representation: Representation,
     text: &[u8],
+    site: &SiteFile,
     today: &Today,
-    actives: &[ActiveRelease<'a>],
-) -> Result<Reply<'a>, AllocError>
-    ensures { IfOk result (λ reply. reply ≡ go_reply representation text.now (dated today.now actives.now)) }
+    actives: &[ActiveRelease<'_>],
+) -> Result<Reply, AllocError>
+    ensures { IfOk result (λ reply. reply
+        ≡ go_reply representation text.now (sited_by site.now today.now actives.now)) }
 {
     match read_query(alloc, text)? {
-        Ok(query) => redirect_reply(alloc, representation, text, today, actives, &query),
+        Ok(query) => redirect_reply(alloc, representation, text, site, today, actives, &query),
         Err(reason) => unasked_reply(alloc, Status::NotFound, representation, text, reason),
     }
 }
 
-fn home_reply(alloc: Global, actives: &[ActiveRelease<'_>]) -> Result<Reply<'static>, AllocError>
+fn home_reply(alloc: Global, actives: &[ActiveRelease<'_>]) -> Result<Reply, AllocError>
     ensures { IfOk result (λ reply. reply
         ≡ reply_with status.Good Representation.Html (home_page actives.now)) }
 {
@@ -201,7 +224,7 @@ fn status_reply(
     alloc: Global,
     representation: Representation,
     actives: &[ActiveRelease<'_>],
-) -> Result<Reply<'static>, AllocError>
+) -> Result<Reply, AllocError>
     ensures { IfOk result (λ reply. reply
         ≡ reply_with status.Good representation (status_body representation actives.now)) }
 {
@@ -210,53 +233,57 @@ fn status_reply(
     Ok(Reply::new(Status::Good, representation, body))
 }
 
-fn resource_reply<'a>(
+fn resource_reply(
     alloc: Global,
     request: &Request<'_>,
     path: &[u8],
     query: &[u8],
+    site: &SiteFile,
     today: &Today,
-    actives: &[ActiveRelease<'a>],
-) -> Result<Reply<'a>, AllocError>
+    actives: &[ActiveRelease<'_>],
+) -> Result<Reply, AllocError>
     requires { IsInBuffer request.now }
     ensures { IfOk result (λ reply. (head : RequestHead) → HasHead request.now head
-        → reply ≡ resource_reply (resource_of path.now) head path.now query.now (dated today.now actives.now)) }
+        → reply ≡ resource_reply (resource_of path.now) head path.now query.now
+        (sited_by site.now today.now actives.now)) }
 {
     let representation = representation_of(query, &request.fields());
     let accepted = accepted_representation(&request.fields());
     match resource_of(path) {
         Resource::Home => home_reply(alloc, actives),
         Resource::Status => status_reply(alloc, representation, actives),
-        Resource::Resolve => resolve_reply(alloc, representation, query, today, actives),
+        Resource::Resolve => resolve_reply(alloc, representation, query, site, today, actives),
         Resource::Package => package_reply(
             alloc,
             representation,
             package_in(path),
             query,
+            site,
             today,
             actives,
         ),
-        Resource::Go => go_reply(alloc, accepted, query, today, actives),
+        Resource::Go => go_reply(alloc, accepted, query, site, today, actives),
         Resource::Unknown => refusal(alloc, Status::NotFound, accepted, b"NoTarget"),
     }
 }
 
-fn target_reply<'a>(
+fn target_reply(
     alloc: Global,
     request: &Request<'_>,
     query: &[u8],
+    site: &SiteFile,
     today: &Today,
-    actives: &[ActiveRelease<'a>],
-) -> Result<Reply<'a>, AllocError>
+    actives: &[ActiveRelease<'_>],
+) -> Result<Reply, AllocError>
     requires { IsInBuffer request.now }
     ensures { IfOk result (λ reply. (head : RequestHead) → HasHead request.now head
-        → reply ≡ target_reply head query.now (dated today.now actives.now)) }
+        → reply ≡ target_reply head query.now (sited_by site.now today.now actives.now)) }
 {
     let path = path_in(origin_form(request.target()));
-    resource_reply(alloc, request, path, query, today, actives)
+    resource_reply(alloc, request, path, query, site, today, actives)
 }
 
-fn method_refusal(alloc: Global, resource: Resource) -> Result<Reply<'static>, AllocError>
+fn method_refusal(alloc: Global, resource: Resource) -> Result<Reply, AllocError>
     ensures { IfOk result (λ reply. reply ≡ method_refusal resource) }
 {
     let status = if takes_form(resource) {
@@ -267,15 +294,16 @@ fn method_refusal(alloc: Global, resource: Resource) -> Result<Reply<'static>, A
     refusal(alloc, status, Representation::Text, b"Method")
 }
 
-fn plain_reply<'a>(
+fn plain_reply(
     alloc: Global,
     request: &Request<'_>,
+    site: &SiteFile,
     today: &Today,
-    actives: &[ActiveRelease<'a>],
-) -> Result<Reply<'a>, AllocError>
+    actives: &[ActiveRelease<'_>],
+) -> Result<Reply, AllocError>
     requires { IsInBuffer request.now }
     ensures { IfOk result (λ reply. (head : RequestHead) → HasHead request.now head
-        → reply ≡ plain_reply head (dated today.now actives.now)) }
+        → reply ≡ plain_reply head (sited_by site.now today.now actives.now)) }
 {
     if is_unsupported_method(request.method()) {
         return method_refusal(alloc, resource_of(path_in(origin_form(request.target()))));
@@ -297,10 +325,10 @@ fn plain_reply<'a>(
         );
     }
     let query = query_in(origin_form(request.target()));
-    target_reply(alloc, request, query, today, actives)
+    target_reply(alloc, request, query, site, today, actives)
 }
 
-fn form_refusal(alloc: Global, fault: FormFault) -> Result<Reply<'static>, AllocError>
+fn form_refusal(alloc: Global, fault: FormFault) -> Result<Reply, AllocError>
     ensures { IfOk result (λ reply. reply ≡ form_refusal fault) }
 {
     let text = Representation::Text;
@@ -313,48 +341,50 @@ fn form_refusal(alloc: Global, fault: FormFault) -> Result<Reply<'static>, Alloc
     }
 }
 
-fn form_reply<'a>(
+fn form_reply(
     alloc: Global,
     request: &Request<'_>,
     body: &[u8],
+    site: &SiteFile,
     today: &Today,
-    actives: &[ActiveRelease<'a>],
+    actives: &[ActiveRelease<'_>],
     form: Result<u64, FormFault>,
-) -> Result<Reply<'a>, AllocError>
+) -> Result<Reply, AllocError>
     requires { IsInBuffer request.now }
     ensures { IfOk result (λ reply. (head : RequestHead) → HasHead request.now head
-        → reply ≡ form_reply head body.now (dated today.now actives.now) form) }
+        → reply ≡ form_reply head body.now (sited_by site.now today.now actives.now) form) }
 {
     match form {
-        Ok(_) => target_reply(alloc, request, body, today, actives),
+        Ok(_) => target_reply(alloc, request, body, site, today, actives),
         Err(fault) => form_refusal(alloc, fault),
     }
 }
 
-pub(crate) fn reply_to<'a>(
+pub(crate) fn reply_to(
     alloc: Global,
     request: &Request<'_>,
     body: &[u8],
+    site: &SiteFile,
     today: &Today,
-    actives: &[ActiveRelease<'a>],
-) -> Result<Reply<'a>, AllocError>
+    actives: &[ActiveRelease<'_>],
+) -> Result<Reply, AllocError>
     requires { IsInBuffer request.now }
     ensures { IfOk result (λ reply. (head : RequestHead) → HasHead request.now head
-        → reply ≡ reply_to head body.now (dated today.now actives.now)) }
+        → reply ≡ reply_to head body.now (sited_by site.now today.now actives.now)) }
 {
     if request.lacks_host() {
         return refusal(alloc, Status::BadRequest, Representation::Text, b"NoHost");
     }
     match form_of(request) {
-        Some(form) => form_reply(alloc, request, body, today, actives, form),
-        None => plain_reply(alloc, request, today, actives),
+        Some(form) => form_reply(alloc, request, body, site, today, actives, form),
+        None => plain_reply(alloc, request, site, today, actives),
     }
 }
 
 // Returns the reply, or that to a preflight.
-fn unless_preflight<'a>(alloc: Global, request: &Request<'_>, reply: Reply<'a>) -> Reply<'a>
+fn unless_preflight(alloc: Global, request: &Request<'_>, reply: Reply) -> Reply
     requires { IsInBuffer request.now }
-    ensures { (head : RequestHead) → HasHead request.now head → result ≡ unless_preflight head reply.entry }
+    ensures { (head : RequestHead) → HasHead request.now head → result ≡ unless_preflight head reply }
 {
     match preflight_status(request) {
         Some(status) => Reply::new(status, Representation::Text, Vec::new(alloc)),
@@ -378,7 +408,16 @@ pub(crate) fn response_to(
         → IsMessageFor keeps (is_head head) response) }
 {
     let tag = tag_to(alloc, request, site, today, actives)?;
-    let reply = validated_reply(alloc, request, body, tag, site.max_age(), today, actives)?;
+    let reply = validated_reply(
+        alloc,
+        request,
+        body,
+        tag,
+        site.max_age(),
+        site.library(),
+        today,
+        actives,
+    )?;
     let last = unless_preflight(alloc, request, reply);
     last.response(alloc, keeps, request.is_head())
 }

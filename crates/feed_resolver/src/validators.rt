@@ -11,7 +11,8 @@ ghost use Rattle.feed_resolver.specs.Status.{active_line};
 ghost use Rattle.feed_resolver.specs.Validators.{has_validator, is_tagged, tag_of, tag_to, validated_by, validated};
 ghost use Rattle.feed_resolver.specs.Validators.{preflight_of, preflight_status};
 ghost use Rattle.feed_embargo.specs.Today.{TodayValue};
-ghost use Rattle.feed_resolver.specs.Answers.{dated};
+ghost use Rattle.feed_site.specs.Site as site_file;
+ghost use Rattle.feed_resolver.specs.Answers.{dated, sited_by};
 ghost use Rattle.feed_resolver.specs.Answered.{IsAnswered, IsAnsweredTo};
 ghost use Rattle.feed_resolver.specs.Replies.{reply_to};
 
@@ -28,6 +29,7 @@ use feed_resolver_request::{
     resource_of,
 };
 use feed_resolver_tag::{Digested, Site};
+use feed_site::SiteFile;
 use std::alloc::{AllocError, Global};
 
 fn has_validator(resource: Resource) -> bool
@@ -125,7 +127,7 @@ fn is_answered(
     actives: &[ActiveRelease<'_>],
 ) -> Result<bool, AllocError>
     ensures { IfOk result (λ is. is ≡ true
-        → (today : TodayValue) → IsAnswered target.now (dated today actives.now)) }
+        → (site : site_file.SiteValue) (today : TodayValue) → IsAnswered target.now (sited_by site today actives.now)) }
 {
     let path = path_in(target);
     match resource_of(path) {
@@ -150,7 +152,8 @@ fn is_answered_to(
 ) -> Result<bool, AllocError>
     requires { IsInBuffer request.now }
     ensures { IfOk result (λ is. is ≡ true → (head : RequestHead) → HasHead request.now head
-        → is_tagged head ≡ true → (today : TodayValue) → IsAnsweredTo head (dated today actives.now)) }
+        → is_tagged head ≡ true → (site : site_file.SiteValue) (today : TodayValue)
+        → IsAnsweredTo head (sited_by site today actives.now)) }
 {
     if request.lacks_host() || request.fields().has_field(b"transfer-encoding") {
         return Ok(false);
@@ -158,14 +161,8 @@ fn is_answered_to(
     is_answered(alloc, origin_form(request.target()), actives)
 }
 
-fn validated_by<'a>(
-    alloc: Global,
-    reply: Reply<'a>,
-    has: bool,
-    tag: Vec<u8>,
-    max_age: u32,
-) -> Reply<'a>
-    ensures { result ≡ validated_by has tag.items max_age reply.entry }
+fn validated_by(alloc: Global, reply: Reply, has: bool, tag: Vec<u8>, max_age: u32) -> Reply
+    ensures { result ≡ validated_by has tag.items max_age reply }
 {
     if !reply.is_good() {
         return reply;
@@ -178,21 +175,23 @@ fn validated_by<'a>(
 }
 
 /// Returns the reply to a request, with its tag. A client that has the tag gets a 304 where it would get a 200.
-pub(crate) fn validated_reply<'a>(
+pub(crate) fn validated_reply(
     alloc: Global,
     request: &Request<'_>,
     body: &[u8],
     tag: Vec<u8>,
     max_age: u32,
+    site: &SiteFile,
     today: &Today,
-    actives: &[ActiveRelease<'a>],
-) -> Result<Reply<'a>, AllocError>
+    actives: &[ActiveRelease<'_>],
+) -> Result<Reply, AllocError>
     requires { IsInBuffer request.now }
     ensures { IfOk result (λ reply. (head : RequestHead) → HasHead request.now head
-        → reply ≡ validated head tag.items max_age (reply_to head body.now (dated today.now actives.now))) }
+        → reply ≡ validated head tag.items max_age
+        (reply_to head body.now (sited_by site.now today.now actives.now))) }
 {
     if !is_tagged(request) {
-        return reply_to(alloc, request, body, today, actives);
+        return reply_to(alloc, request, body, site, today, actives);
     }
     let has = has_tag(&tag, &request.fields());
     if has && is_answered_to(alloc, request, actives)? {
@@ -200,7 +199,7 @@ pub(crate) fn validated_reply<'a>(
         let representation = representation_of(query, &request.fields());
         return Ok(Reply::not_modified(alloc, tag, max_age, representation));
     }
-    let reply = reply_to(alloc, request, body, today, actives)?;
+    let reply = reply_to(alloc, request, body, site, today, actives)?;
     Ok(validated_by(alloc, reply, has, tag, max_age))
 }
 

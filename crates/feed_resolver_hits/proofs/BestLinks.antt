@@ -4,25 +4,25 @@ use Rattle.std.specs.Prelude.{if◌then◌else◌, nat_lt, option_map, slice_get
 use Rattle.std.proofs.lemmas.Bool.{cases_Bool, false≢true}
 use Rattle.std.proofs.lemmas.Bool.Decides.{nat_tests}
 use Rattle.feed_resolver_hits.specs.Links.{is_link}
-use Rattle.feed_resolver_hits.specs.Hits.{ReleaseHitValue, LinkValue, link_with, link_url, link_of, better, highest_link, best_link, rank_of}
+use Rattle.feed_resolver_hits.specs.Hits.{ReleaseHitValue, LinkValue, link_with, link_text, link_url, link_of, better, highest_link, best_link, rank_of}
 use Rattle.feed_resolver_hits.specs.Ranks.{IsLinkAt, RanksAbove, IsBestLink}
 
 -- the link is that of a hit above which none ranks, or no hit may be linked to
 abbrev IsHighest : List ReleaseHitValue → Option LinkValue → Type 0
 IsHighest hits None = (place : ℕ) (found : ReleaseHitValue) → ¬ (IsLinkAt hits place found)
 IsHighest hits (Some link) =
-    (place : ℕ) × (best : ReleaseHitValue) × IsLinkAt hits place best × (link.url ≡ best.hit.row.url) × (link.rank ≡ rank_of best)
+    (place : ℕ) × (best : ReleaseHitValue) × IsLinkAt hits place best × (link.url ≡ link_text best) × (link.rank ≡ rank_of best)
     × ((other_place : ℕ) (other : ReleaseHitValue) → IsLinkAt hits other_place other → ¬ (RanksAbove other_place other place best))
 
 some_same : {A : Type 0} → (a b : A) → Some a ≡ Some b → a ≡ b
 some_same {A} a b e = cc
 
 -- what is known of the hit at the front of a list
-front_link : (found other : ReleaseHitValue) → Some found ≡ Some other → is_link other.hit.row.url ≡ true → is_link found.hit.row.url ≡ true
-front_link found other at link = ap (λ (f : ReleaseHitValue). is_link f.hit.row.url) (some_same found other at) ∙ link
+front_link : (found other : ReleaseHitValue) → Some found ≡ Some other → is_link (link_text other) ≡ true → is_link (link_text found) ≡ true
+front_link found other at link = ap (λ (f : ReleaseHitValue). is_link (link_text f)) (some_same found other at) ∙ link
 
 -- a hit in front that may not be linked to changes nothing
-behind : (found : ReleaseHitValue) (more : List ReleaseHitValue) (link : Option LinkValue) → is_link found.hit.row.url ≡ false → IsHighest more link → IsHighest (found ∷ more) link
+behind : (found : ReleaseHitValue) (more : List ReleaseHitValue) (link : Option LinkValue) → is_link (link_text found) ≡ false → IsHighest more link → IsHighest (found ∷ more) link
 behind found more None none rest = others
   where
     others : (place : ℕ) (other : ReleaseHitValue) → ¬ (IsLinkAt (found ∷ more) place other)
@@ -36,9 +36,9 @@ behind found more (Some link) none rest = (suc rest.0, rest.1, record { at = res
     highest (suc place) other is (inr (same, earlier)) = rest.5 place other (record { at = is.at; link = is.link }) (inr (same, omega arith))
 
 -- one that may be linked to is chosen if none behind it has a higher rank
-in_front : (found : ReleaseHitValue) (more : List ReleaseHitValue) → is_link found.hit.row.url ≡ true
+in_front : (found : ReleaseHitValue) (more : List ReleaseHitValue) → is_link (link_text found) ≡ true
     → ((place : ℕ) (other : ReleaseHitValue) → IsLinkAt more place other → rank_of other ≤ rank_of found)
-    → IsHighest (found ∷ more) (Some (link_with (rank_of found) found.hit.row.url))
+    → IsHighest (found ∷ more) (Some (link_with (rank_of found) (link_text found)))
 in_front found more is_linked lower = (zero, found, record { at = refl; link = is_linked }, refl, refl, highest)
   where
     highest : (place : ℕ) (other : ReleaseHitValue) → IsLinkAt (found ∷ more) place other → ¬ (RanksAbove place other zero found)
@@ -68,22 +68,22 @@ bounded hits link is place other at = elim (cases_Bool (nat_lt link.rank (rank_o
   | inr lower ↦ grind (arith, nat_tests)
 ]
 
-linked : (found : ReleaseHitValue) (more : List ReleaseHitValue) (link : Option LinkValue) → is_link found.hit.row.url ≡ true → IsHighest more link
-    → IsHighest (found ∷ more) (better (Some (link_with (rank_of found) found.hit.row.url)) link)
+linked : (found : ReleaseHitValue) (more : List ReleaseHitValue) (link : Option LinkValue) → is_link (link_text found) ≡ true → IsHighest more link
+    → IsHighest (found ∷ more) (better (Some (link_with (rank_of found) (link_text found))) link)
 linked found more None is_linked rest = in_front found more is_linked (λ place other is. absurd (rest place other is))
 linked found more (Some link) is_linked rest = go (nat_lt (rank_of found) link.rank) refl
   where
-    go : (b : Bool) → nat_lt (rank_of found) link.rank ≡ b → IsHighest (found ∷ more) (if b then Some link else Some (link_with (rank_of found) found.hit.row.url))
+    go : (b : Bool) → nat_lt (rank_of found) link.rank ≡ b → IsHighest (found ∷ more) (if b then Some link else Some (link_with (rank_of found) (link_text found)))
     go true test = past found more link (grind (arith, nat_tests)) rest
     go false test = in_front found more is_linked
         (λ place other is. let low = bounded more link rest place other is in let high : link.rank ≤ rank_of found = grind (arith, nat_tests) in omega arith)
 
 highest_is : (hits : List ReleaseHitValue) → IsHighest hits (highest_link hits)
 highest_is [] = λ place found is. cc (is.at)
-highest_is (found ∷ more) = go (is_link found.hit.row.url) refl (highest_is more)
+highest_is (found ∷ more) = go (is_link (link_text found)) refl (highest_is more)
   where
-    go : (b : Bool) → is_link found.hit.row.url ≡ b → IsHighest more (highest_link more)
-        → IsHighest (found ∷ more) (better (if b then Some (link_with (rank_of found) found.hit.row.url) else None) (highest_link more))
+    go : (b : Bool) → is_link (link_text found) ≡ b → IsHighest more (highest_link more)
+        → IsHighest (found ∷ more) (better (if b then Some (link_with (rank_of found) (link_text found)) else None) (highest_link more))
     go true is rest = linked found more (highest_link more) is rest
     go false is rest = behind found more (highest_link more) is rest
 

@@ -21,7 +21,7 @@ use Rattle.feed_answer.specs.Grades.{grade_text}
 use Rattle.feed_resolver_reply.specs.JsonStrings.{json_string}
 use Rattle.feed_resolver_reply.proofs.JsonTexts.{Lexes, lexes_then, lexes_string, IsText, AreOf, text_of_lexemes, list_read, list_in, items_shallow}
 use Rattle.feed_resolver_hits.specs.EmbargoWords.{embargo_words}
-use Rattle.feed_resolver_hits.specs.Hits.{ReleaseHitValue, name_text}
+use Rattle.feed_resolver_hits.specs.Hits.{ReleaseHitValue, link_text, name_text}
 use Rattle.feed_resolver_hits.specs.HitsJson.{availability_text, release_members, grade_members, title_members, access_members, hit_object}
 use Rattle.feed_resolver_hits.specs.HitsJson.{more_start, more_object, more_items, hits_json, hit_value, more_value, item_values}
 use Rattle.feed_resolver_hits.specs.Laws.{HitsAreJson}
@@ -118,16 +118,16 @@ last_brace : Lexes (codes "}" ++ []) (token Token.end_object ∷ [])
 unfolding lex
 last_brace = record { lexed = λ rest. refl }
 
-abbrev title_lexemes : RowValue → List Lexeme
-title_lexemes row =
-    string_lexemes (codes "title") row.title (string_lexemes (codes "url") row.url (string_lexemes (codes "title_id") row.title_id
+abbrev title_lexemes : RowValue → List ℕ → List Lexeme
+title_lexemes row link =
+    string_lexemes (codes "title") row.title (string_lexemes (codes "url") link (string_lexemes (codes "title_id") row.title_id
     (string_lexemes (codes "depth") row.depth [])))
 
-lexes_title : (row : RowValue) → Lexes (title_members row) (title_lexemes row)
+lexes_title : (row : RowValue) (link : List ℕ) → Lexes (title_members row link) (title_lexemes row link)
 unfolding title_members
-lexes_title row =
+lexes_title row link =
     with_string (codes ",\"title\":") row.title _ _ _ title_key
-    (with_string (codes ",\"url\":") row.url _ _ _ url_key
+    (with_string (codes ",\"url\":") link _ _ _ url_key
     (with_string (codes ",\"title_id\":") row.title_id _ _ _ title_id_key
     (with_string (codes ",\"depth\":") row.depth [] _ _ depth_key nothing)))
 
@@ -146,14 +146,14 @@ lexes_access row words =
 abbrev hit_lexemes : ReleaseHitValue → List Lexeme
 hit_lexemes found =
     release_lexemes found.name
-    ++ (grade_lexemes found ++ (title_lexemes found.hit.row ++ access_lexemes found.hit.row (embargo_words found.hit.row.embargo)))
+    ++ (grade_lexemes found ++ (title_lexemes found.hit.row (link_text found) ++ access_lexemes found.hit.row (embargo_words found.hit.row.embargo)))
 
 lexes_hit : (found : ReleaseHitValue) → found.hit.row.number < 2 ^ 64 → Lexes (hit_object found) (hit_lexemes found)
 unfolding hit_object
 lexes_hit found small = lexes_then (release_members found.name) _ (release_lexemes found.name) _ (lexes_release found.name)
     (lexes_then (grade_members found) _ (grade_lexemes found) _ (lexes_grade found small)
-    (lexes_then (title_members found.hit.row) (access_members found.hit.row (embargo_words found.hit.row.embargo)) (title_lexemes found.hit.row)
-    (access_lexemes found.hit.row (embargo_words found.hit.row.embargo)) (lexes_title found.hit.row)
+    (lexes_then (title_members found.hit.row (link_text found)) (access_members found.hit.row (embargo_words found.hit.row.embargo)) (title_lexemes found.hit.row (link_text found))
+    (access_lexemes found.hit.row (embargo_words found.hit.row.embargo)) (lexes_title found.hit.row (link_text found))
     (lexes_access found.hit.row (embargo_words found.hit.row.embargo))))
 
 hit_is : (found : ReleaseHitValue) → AreOf (hit_lexemes found) (hit_value found)

@@ -7,3 +7,4 @@ pub mod Tops
 pub mod Tallies
 pub mod SolePlaces
 pub mod NothingTold
+pub mod LinksKept

@@ -2,7 +2,7 @@
 use Rattle.std.proofs.Common.{◌≡◌, ℕ, List, [], ◌∷◌, Bool, true, false, Option, Some, None, subst, refl}
 use Rattle.std.specs.Prelude.{if◌then◌else◌, nat_lt, option_map}
 use Rattle.feed_resolver_hits.specs.Links.{is_link}
-use Rattle.feed_resolver_hits.specs.Hits.{ReleaseHitValue, LinkValue, link_with, link_url, link_of, better, highest_link, best_link, rank_of}
+use Rattle.feed_resolver_hits.specs.Hits.{ReleaseHitValue, LinkValue, link_with, link_text, link_url, link_of, better, highest_link, best_link, rank_of}
 
 abbrev IsLinkIfSome : Option LinkValue → Type 0
 IsLinkIfSome None = Unit {0}
@@ -18,9 +18,9 @@ better_is (Some one) (Some other) p q = go (nat_lt one.rank other.rank)
     go false = p
 
 link_is : (found : ReleaseHitValue) → IsLinkIfSome (link_of found)
-link_is found = go (is_link found.hit.row.url) refl
+link_is found = go (is_link (link_text found)) refl
   where
-    go : (b : Bool) → is_link found.hit.row.url ≡ b → IsLinkIfSome (if b then Some (link_with (rank_of found) found.hit.row.url) else None)
+    go : (b : Bool) → is_link (link_text found) ≡ b → IsLinkIfSome (if b then Some (link_with (rank_of found) (link_text found)) else None)
     go true is = is
     go false is = tt
 

@@ -19,6 +19,7 @@ use Rattle.feed_answer.specs.Places.{hit_at, places_among}
 use Rattle.feed_answer.proofs.Places.{answered_at}
 use Rattle.feed_answer.specs.QueryValue.{QueryValue}
 use Rattle.feed_resolver_hits.specs.Candidates.{AreCandidates}
+use Rattle.feed_site.specs.Site as site_file
 use Rattle.feed_resolver_hits.specs.Hits.{release_hit}
 use Rattle.feed_resolver_hits.specs.Tallying.{RunningValue, with_hits}
 
@@ -98,11 +99,11 @@ sole_isbn query rows isbn asked at issns places all one same here others none fo
     (by_isbn query isbn rows (only_one query.isbns isbn (ap length (sym all) ∙ one) (here ∙ ap (λ l. get_or l 0 isbn) same)) (empty_list query.issns (none ∙ ap (λ l. length l == 0) others)))
 
 -- the hits at such places are those of the release
-pub added : (today : TodayValue) (query : QueryValue) (holdings : HoldingsValue) (name : Name) (running new : RunningValue) (rows : List RowValue) (places found : List ℕ)
+pub added : (site : site_file.SiteValue) (today : TodayValue) (query : QueryValue) (holdings : HoldingsValue) (name : Name) (running new : RunningValue) (rows : List RowValue) (places found : List ℕ)
     → rows ≡ holdings.rows → places ≡ found → IsStrictlyIncreasing found → ((place : ℕ) → Contains (places_among query holdings.rows) place → Contains found place)
-    → new ≡ with_hits running (map (release_hit today query name) (filter_map (hit_at query rows) places))
-    → new ≡ with_hits running (map (release_hit today query name) (answer_of holdings query))
-added today query holdings name running new rows places found same listed ascend whole is =
-    is ∙ ap (λ rs. with_hits running (map (release_hit today query name) (filter_map (hit_at query rs) places))) same
-    ∙ ap (λ ps. with_hits running (map (release_hit today query name) (filter_map (hit_at query holdings.rows) ps))) listed
-    ∙ ap (λ hits. with_hits running (map (release_hit today query name) hits)) (answered_at query holdings found ascend whole)
+    → new ≡ with_hits running (map (release_hit site today query name) (filter_map (hit_at query rows) places))
+    → new ≡ with_hits running (map (release_hit site today query name) (answer_of holdings query))
+added site today query holdings name running new rows places found same listed ascend whole is =
+    is ∙ ap (λ rs. with_hits running (map (release_hit site today query name) (filter_map (hit_at query rs) places))) same
+    ∙ ap (λ ps. with_hits running (map (release_hit site today query name) (filter_map (hit_at query holdings.rows) ps))) listed
+    ∙ ap (λ hits. with_hits running (map (release_hit site today query name) hits)) (answered_at query holdings found ascend whole)

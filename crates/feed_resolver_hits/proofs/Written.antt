@@ -7,7 +7,7 @@ use Rattle.feed_resolver_reply.specs.JsonStrings.{json_string}
 use Rattle.feed_resolver_reply.specs.Pieces.{joined}
 use Rattle.feed_resolver_reply.proofs.Written.{in_four}
 use Rattle.feed_resolver_hits.specs.EmbargoWords.{embargo_words}
-use Rattle.feed_resolver_hits.specs.Hits.{ReleaseHitValue, name_text}
+use Rattle.feed_resolver_hits.specs.Hits.{ReleaseHitValue, link_text, name_text}
 use Rattle.feed_resolver_hits.specs.HitsJson.{release_members, grade_members, title_members, access_members, hit_object}
 use Rattle.feed_resolver_hits.specs.HitsPage.{title_cell, coverage_cells, text_cells, package_cell, hit_row}
 
@@ -29,29 +29,30 @@ access_written old new embargo access row words same also is = is
     ∙ ap (λ a. old ++ joined (codes ",\"embargo\":" ∷ json_string row.embargo ∷ codes ",\"embargo_words\":" ∷ json_string words ∷ codes ",\"access\":" ∷ json_string a ∷ codes "}" ∷ [])) also
 
 -- the row of a hit
-pub row_written : (old one two three four new : List ℕ) (row : RowValue) (words stem : List ℕ) (availability : Availability) (found : ReleaseHitValue)
-    → row ≡ found.hit.row → words ≡ embargo_words row.embargo → availability ≡ found.availability → stem ≡ found.name.stem
-    → one ≡ old ++ codes "<tr><th scope=\"row\">" → two ≡ one ++ title_cell row.url row.title → three ≡ two ++ coverage_cells found.hit
+pub row_written : (old one two three four new : List ℕ) (row : RowValue) (title link words stem : List ℕ) (availability : Availability) (found : ReleaseHitValue)
+    → row ≡ found.hit.row → title ≡ row.title → link ≡ link_text found → words ≡ embargo_words row.embargo → availability ≡ found.availability → stem ≡ found.name.stem
+    → one ≡ old ++ codes "<tr><th scope=\"row\">" → two ≡ one ++ title_cell link title → three ≡ two ++ coverage_cells found.hit
     → four ≡ three ++ text_cells availability row words → new ≡ four ++ package_cell stem → new ≡ old ++ hit_row found
 unfolding hit_row
-row_written old one two three four new row words stem availability found same worded open_now named first second third fourth fifth =
+row_written old one two three four new row title link words stem availability found same headed linked worded open_now named first second third fourth fifth =
     let cells = text_cells found.availability found.hit.row (embargo_words found.hit.row.embargo) in
     let last = package_cell found.name.stem in
     let written : four ≡ three ++ cells =
     fourth ∙ ap (λ a. three ++ text_cells a row words) open_now
     ∙ ap (λ w. three ++ text_cells found.availability row w) worded
     ∙ ap (λ (r : RowValue). three ++ text_cells found.availability r (embargo_words r.embargo)) same in
-    in_four old one two three new (codes "<tr><th scope=\"row\">") (title_cell found.hit.row.url found.hit.row.title) (coverage_cells found.hit) (cells ++ last) first
-    (second ∙ ap (λ (r : RowValue). one ++ title_cell r.url r.title) same) third
+    in_four old one two three new (codes "<tr><th scope=\"row\">") (title_cell (link_text found) found.hit.row.title) (coverage_cells found.hit) (cells ++ last) first
+    (second ∙ ap (λ l. one ++ title_cell l title) linked ∙ ap (λ t. one ++ title_cell (link_text found) t) (headed ∙ ap (λ (r : RowValue). r.title) same)) third
     (fifth ∙ ap (λ p. four ++ package_cell p) named ∙ ap (λ t. t ++ last) written ∙ append_assoc three cells last)
 
 -- the object of a hit
-pub object_written : (old one two three new : List ℕ) (row : RowValue) (words : List ℕ) (found : ReleaseHitValue) → row ≡ found.hit.row → words ≡ embargo_words row.embargo
-    → one ≡ old ++ release_members found.name → two ≡ one ++ grade_members found → three ≡ two ++ title_members row → new ≡ three ++ access_members row words
+pub object_written : (old one two three new : List ℕ) (row : RowValue) (link words : List ℕ) (found : ReleaseHitValue)
+    → row ≡ found.hit.row → link ≡ link_text found → words ≡ embargo_words row.embargo
+    → one ≡ old ++ release_members found.name → two ≡ one ++ grade_members found → three ≡ two ++ title_members row link → new ≡ three ++ access_members row words
     → new ≡ old ++ hit_object found
 unfolding hit_object
-object_written old one two three new row words found same worded first second third fourth =
-    in_four old one two three new (release_members found.name) (grade_members found) (title_members found.hit.row)
+object_written old one two three new row link words found same linked worded first second third fourth =
+    in_four old one two three new (release_members found.name) (grade_members found) (title_members found.hit.row (link_text found))
     (access_members found.hit.row (embargo_words found.hit.row.embargo)) first second
-    (third ∙ ap (λ (r : RowValue). two ++ title_members r) same)
+    (third ∙ ap (λ l. two ++ title_members row l) linked ∙ ap (λ (r : RowValue). two ++ title_members r (link_text found)) same)
     (fourth ∙ ap (λ w. three ++ access_members row w) worded ∙ ap (λ (r : RowValue). three ++ access_members r (embargo_words r.embargo)) same)

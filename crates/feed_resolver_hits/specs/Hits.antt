@@ -1,5 +1,5 @@
 -- The hits of a query, each with its release and its availability, and the best link among them.
-use Rattle.std.specs.Prelude.{ℕ, ◌+◌, ◌*◌, ◌&&◌, Bool, nat_lt, if◌then◌else◌, List, [], ◌∷◌, codes, Option, Some, None, option_map}
+use Rattle.std.specs.Prelude.{ℕ, ◌+◌, ◌*◌, Bool, nat_lt, if◌then◌else◌, List, [], ◌∷◌, codes, Option, Some, None, option_map}
 use Rattle.std.specs.Str.{str_eq_ignore_ascii_case}
 use Rattle.feed_names.specs.ReleaseName.{Name, text_of}
 use Rattle.feed_identifiers.specs.Text.{trimmed}
@@ -12,21 +12,38 @@ use Rattle.feed_answer.specs.HitValue.{HitValue}
 use Rattle.feed_answer.specs.QueryValue.{QueryValue}
 use Rattle.feed_answer.specs.declared.grade.Grade.{Grade}
 use Rattle.feed_answer.specs.declared.grade.Grade.TheVariants.{Inside, Overlap, Untested}
+use Rattle.feed_site.specs.Proxies.{prefix_for, through}
+use Rattle.feed_site.specs.Site as site_file
 use Rattle.feed_resolver_hits.specs.Links.{is_link}
 
--- a hit, its release, and how the days that the query asks for lie in those that are open to readers
+-- a hit, its release, how the days that the query asks for lie in those that are open to readers, and the prefix of its
+-- link, if that goes through a proxy
 pub record ReleaseHitValue : Type 0 where
   pub name : Name
   pub hit : HitValue
   pub availability : Availability
+  pub prefix : Option (List ℕ)
 
--- a hit of this release, today
-abbrev pub release_hit : TodayValue → QueryValue → Name → HitValue → ReleaseHitValue
-release_hit today query name hit = record {
+-- the trimmed text is this word, in any case
+abbrev pub is_word : List ℕ → List ℕ → Bool
+is_word word text = str_eq_ignore_ascii_case (trimmed text) word
+
+-- the row is free to read (NISO RP-9-2014, access_type)
+abbrev pub is_free : RowValue → Bool
+is_free row = is_word (codes "F") row.access
+
+-- a hit of this release, for the readers of a library, today
+abbrev pub release_hit : site_file.SiteValue → TodayValue → QueryValue → Name → HitValue → ReleaseHitValue
+release_hit site today query name hit = record {
   name = name;
   hit = hit;
   availability = availability_of today hit.row.embargo hit.row.first_day hit.row.last_day query.days;
+  prefix = prefix_for site hit.row.url (is_free hit.row);
 }
+
+-- the link of a hit: its URL, or that through the proxy
+abbrev pub link_text : ReleaseHitValue → List ℕ
+link_text found = through found.prefix found.hit.row.url
 
 -- the text of a release's name
 unfoldable pub name_text : Name → List ℕ
@@ -45,21 +62,17 @@ grade_rank Inside = 2
 grade_rank Overlap = 1
 grade_rank Untested = 0
 
--- the trimmed text is this word, in any case
-abbrev pub is_word : List ℕ → List ℕ → Bool
-is_word word text = str_eq_ignore_ascii_case (trimmed text) word
-
 -- full text that is free ranks above other full text, and that above everything else (NISO RP-9-2014, coverage_depth and
 -- access_type)
 abbrev pub text_rank : RowValue → ℕ
 text_rank row =
-    if is_word (codes "fulltext") row.depth then (if is_word (codes "F") row.access then 2 else 1) else 0
+    if is_word (codes "fulltext") row.depth then (if is_free row then 2 else 1) else 0
 
 -- the rank of a hit: by its availability, then by its grade, then by its depth and access
 abbrev pub rank_of : ReleaseHitValue → ℕ
 rank_of found = 9 * availability_rank found.availability + 3 * grade_rank found.hit.grade + text_rank found.hit.row
 
--- the rank and the URL of a hit that may be linked to
+-- the rank and the link of a hit that may be linked to
 pub record LinkValue : Type 0 where
   pub rank : ℕ
   pub url : List ℕ
@@ -71,7 +84,7 @@ abbrev pub link_url : LinkValue → List ℕ
 link_url link = link.url
 
 abbrev pub link_of : ReleaseHitValue → Option LinkValue
-link_of found = if is_link found.hit.row.url then Some (link_with (rank_of found) found.hit.row.url) else None
+link_of found = if is_link (link_text found) then Some (link_with (rank_of found) (link_text found)) else None
 
 -- the one of higher rank; of equals the first
 abbrev pub better : Option LinkValue → Option LinkValue → Option LinkValue
@@ -84,6 +97,6 @@ abbrev pub highest_link : List ReleaseHitValue → Option LinkValue
 highest_link [] = None
 highest_link (found ∷ more) = better (link_of found) (highest_link more)
 
--- its URL
+-- its text
 abbrev pub best_link : List ReleaseHitValue → Option (List ℕ)
 best_link hits = option_map link_url (highest_link hits)

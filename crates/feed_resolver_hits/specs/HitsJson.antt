@@ -11,18 +11,18 @@ use Rattle.feed_resolver_reply.specs.JsonStrings.{json_string}
 use Rattle.feed_resolver_reply.specs.JsonLists.{comma_before, items_from}
 use Rattle.feed_resolver_reply.specs.Pieces.{joined}
 use Rattle.feed_resolver_hits.specs.EmbargoWords.{embargo_words}
-use Rattle.feed_resolver_hits.specs.Hits.{ReleaseHitValue, name_text}
+use Rattle.feed_resolver_hits.specs.Hits.{ReleaseHitValue, link_text, name_text}
 use Rattle.feed_resolver_hits.specs.Tallies.{TallyValue, left_out}
 
 -- the beginning of an object: the members that identify a release
 unfoldable pub release_members : Name → List ℕ
 release_members name = joined (codes "{\"package\":" ∷ json_string name.stem ∷ codes ",\"release\":" ∷ json_string (name_text name) ∷ [])
 
--- the members for its row
-unfoldable pub title_members : RowValue → List ℕ
-title_members row = joined (
+-- the members for its row, with this link
+unfoldable pub title_members : RowValue → List ℕ → List ℕ
+title_members row link = joined (
     codes ",\"title\":" ∷ json_string row.title
-    ∷ codes ",\"url\":" ∷ json_string row.url
+    ∷ codes ",\"url\":" ∷ json_string link
     ∷ codes ",\"title_id\":" ∷ json_string row.title_id
     ∷ codes ",\"depth\":" ∷ json_string row.depth ∷ [])
 
@@ -52,7 +52,7 @@ grade_members found = joined (
 unfoldable pub hit_object : ReleaseHitValue → List ℕ
 hit_object found =
     release_members found.name
-    ++ (grade_members found ++ (title_members found.hit.row ++ access_members found.hit.row (embargo_words found.hit.row.embargo)))
+    ++ (grade_members found ++ (title_members found.hit.row (link_text found) ++ access_members found.hit.row (embargo_words found.hit.row.embargo)))
 
 -- the beginning of the object that counts the hits that are left out: whether there may be still more
 abbrev pub more_start : Bool → List ℕ
@@ -85,7 +85,7 @@ hit_value found = object (
     (text_member (codes "grade") (grade_text found.hit.grade)
     (text_member (codes "availability") (availability_text found.availability)
     (text_member (codes "title") found.hit.row.title
-    (text_member (codes "url") found.hit.row.url
+    (text_member (codes "url") (link_text found)
     (text_member (codes "title_id") found.hit.row.title_id
     (text_member (codes "depth") found.hit.row.depth
     (text_member (codes "embargo") found.hit.row.embargo

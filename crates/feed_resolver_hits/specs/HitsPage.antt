@@ -1,5 +1,5 @@
 -- The hits of a query as an HTML page.
-use Rattle.std.specs.Prelude.{ℕ, ◌==◌, Bool, true, false, if◌then◌else◌, List, [], ◌∷◌, ◌++◌, codes, Option, None, option_map}
+use Rattle.std.specs.Prelude.{ℕ, ◌==◌, Bool, true, false, if◌then◌else◌, List, [], ◌∷◌, ◌++◌, codes, Option, Some, None, option_map}
 use Rattle.std.specs.List.{flat_map}
 use Rattle.std.specs.Fmt.{decimal}
 use Rattle.std.specs.Option.{option_and_then, option_map_or}
@@ -19,7 +19,7 @@ use Rattle.feed_resolver_hits.specs.Asks.{AskValue}
 use Rattle.feed_resolver_hits.specs.CitationPage.{citation_part}
 use Rattle.feed_resolver_hits.specs.EmbargoWords.{embargo_words}
 use Rattle.feed_resolver_hits.specs.Links.{is_link}
-use Rattle.feed_resolver_hits.specs.Hits.{ReleaseHitValue}
+use Rattle.feed_resolver_hits.specs.Hits.{ReleaseHitValue, link_text}
 use Rattle.feed_resolver_hits.specs.Tallies.{TallyValue, left_out}
 
 -- a grade in words for readers
@@ -39,11 +39,11 @@ availability_words Embargoed = codes "under an embargo"
 abbrev pub text_or : List ℕ → List ℕ → List ℕ
 text_or text other = if is_empty text then other else text
 
--- a title, which is a link if its URL is safe to link to
+-- a title, which is a link if it is safe to link to
 unfoldable pub title_cell : List ℕ → List ℕ → List ℕ
-title_cell url title =
-    if is_link url
-    then joined (codes "<a href=\"" ∷ escaped url ∷ codes "\">" ∷ escaped title ∷ codes "</a>" ∷ [])
+title_cell link title =
+    if is_link link
+    then joined (codes "<a href=\"" ∷ escaped link ∷ codes "\">" ∷ escaped title ∷ codes "</a>" ∷ [])
     else joined (escaped title ∷ [])
 
 -- a text, or nothing if there is none
@@ -85,7 +85,7 @@ package_cell stem = joined (codes "</td><td>" ∷ escaped stem ∷ codes "</td><
 unfoldable pub hit_row : ReleaseHitValue → List ℕ
 hit_row found =
     codes "<tr><th scope=\"row\">"
-    ++ (title_cell found.hit.row.url found.hit.row.title
+    ++ (title_cell (link_text found) found.hit.row.title
     ++ (coverage_cells found.hit
     ++ (text_cells found.availability found.hit.row (embargo_words found.hit.row.embargo) ++ package_cell found.name.stem)))
 
@@ -125,6 +125,11 @@ hits_part tally =
 unfoldable pub answer_part : AskValue → TallyValue → List ℕ
 answer_part ask tally = citation_part ask ++ hits_part tally
 
--- the hits that are shown, as an HTML page
-unfoldable pub hits_page : AskValue → TallyValue → List ℕ
-hits_page ask tally = page_start (codes "Holdings") ++ (answer_part ask tally ++ page_end)
+-- the title of a page in HTML: these words, and the name of the library, if it has one
+unfoldable pub page_title : List ℕ → Option (List ℕ) → List ℕ
+page_title words None = joined (words ∷ [])
+page_title words (Some name) = joined (words ∷ codes " &#8211; " ∷ escaped name ∷ [])
+
+-- the hits that are shown, as an HTML page with this title
+unfoldable pub hits_page : List ℕ → AskValue → TallyValue → List ℕ
+hits_page title ask tally = page_start title ++ (answer_part ask tally ++ page_end)

@@ -2,10 +2,16 @@
 use Rattle.std.specs.Prelude.{◌≡◌, ◌↔◌, ◌<◌, ◌^◌, ℕ, List, Some, true, All, map}
 use Rattle.json.specs.Json.{document, array}
 use Rattle.json.specs.Value.{items_of}
+use Rattle.feed_names.specs.ReleaseName.{Name}
+use Rattle.feed_embargo.specs.Today.{TodayValue}
+use Rattle.feed_site.specs.Proxies.{proxied}
+use Rattle.feed_site.specs.Site as site_file
+use Rattle.feed_answer.specs.HitValue.{HitValue}
+use Rattle.feed_answer.specs.QueryValue.{QueryValue}
 use Rattle.feed_resolver_hits.specs.AnswerJson.{answer_json, answer_value}
 use Rattle.feed_resolver_hits.specs.Asks.{AskValue}
 use Rattle.feed_resolver_hits.specs.Links.{is_link}
-use Rattle.feed_resolver_hits.specs.Hits.{ReleaseHitValue, best_link, rank_of}
+use Rattle.feed_resolver_hits.specs.Hits.{ReleaseHitValue, best_link, is_free, link_text, rank_of, release_hit}
 use Rattle.feed_resolver_hits.specs.HitsJson.{hits_json, item_values}
 use Rattle.feed_resolver_hits.specs.Ranks.{IsBestLink, IsPreferred}
 use Rattle.feed_resolver_hits.specs.Tallies.{TallyValue, tally_of}
@@ -14,6 +20,11 @@ use Rattle.feed_resolver_hits.specs.Tallying.{no_hits, with_hits, tally_from}
 -- a redirect goes to a URL of `http` or `https` in visible ASCII, within the limit of a link
 abbrev pub RedirectsToLink : Type 0
 RedirectsToLink = (hits : List ReleaseHitValue) (url : List ℕ) → best_link hits ≡ Some url → is_link url ≡ true
+
+-- the link of a hit is its URL as the site of the library writes it
+abbrev pub LinksAreProxied : Type 0
+LinksAreProxied = (site : site_file.SiteValue) (today : TodayValue) (query : QueryValue) (name : Name) (hit : HitValue)
+    → link_text (release_hit site today query name hit) ≡ proxied site hit.row.url (is_free hit.row)
 
 -- no hit that may be linked to ranks above the best link
 abbrev pub BestLinkRanksHighest : Type 0

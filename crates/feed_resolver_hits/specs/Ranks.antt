@@ -1,12 +1,12 @@
 -- The order of hits: by their ranks, and of equal ranks by their places.
 use Rattle.std.specs.Prelude.{◌≡◌, ◌<◌, ◌⊎◌, ◌==◌, ℕ, zero, suc, true, List, [], ◌++◌, Option, Some, None, filter, slice_get}
 use Rattle.feed_resolver_hits.specs.Links.{is_link}
-use Rattle.feed_resolver_hits.specs.Hits.{ReleaseHitValue, availability_rank, grade_rank, rank_of, text_rank}
+use Rattle.feed_resolver_hits.specs.Hits.{ReleaseHitValue, availability_rank, grade_rank, link_text, rank_of, text_rank}
 
 -- the hit at this place, which may be linked to
 pub record IsLinkAt (hits : List ReleaseHitValue) (place : ℕ) (found : ReleaseHitValue) : Type 0 where
   pub at : slice_get hits place ≡ Some found
-  pub link : is_link found.hit.row.url ≡ true
+  pub link : is_link (link_text found) ≡ true
 
 -- the hit at the one place ranks above that at the other: by a higher rank, or by the same rank and an earlier place
 abbrev pub RanksAbove : ℕ → ReleaseHitValue → ℕ → ReleaseHitValue → Type 0
@@ -17,7 +17,7 @@ RanksAbove place found other_place other =
 abbrev pub IsBestLink : List ReleaseHitValue → Option (List ℕ) → Type 0
 IsBestLink hits None = (place : ℕ) (found : ReleaseHitValue) → ¬ (IsLinkAt hits place found)
 IsBestLink hits (Some url) =
-    (place : ℕ) × (best : ReleaseHitValue) × IsLinkAt hits place best × (url ≡ best.hit.row.url)
+    (place : ℕ) × (best : ReleaseHitValue) × IsLinkAt hits place best × (url ≡ link_text best)
     × ((other_place : ℕ) (other : ReleaseHitValue) → IsLinkAt hits other_place other → ¬ (RanksAbove other_place other place best))
 
 -- the hits of one rank, in their order

@@ -1,5 +1,6 @@
 -- The hits of a query that a reply counts, shows and chooses from.
 use Rattle.std.specs.Prelude.{ℕ, ◌+◌, ◌-◌, ◌&&◌, nat_lt, nat_le, Bool, if◌then◌else◌, List, [], ◌∷◌, length, take, Option}
+use Rattle.feed_site.specs.Proxies.{room_of}
 use Rattle.feed_resolver_hits.specs.Hits.{ReleaseHitValue, name_text, best_link}
 use Rattle.feed_resolver_hits.specs.Ranks.{ranked}
 
@@ -15,10 +16,10 @@ shown_limit = 1000
 abbrev pub text_limit : ℕ
 text_limit = 524288
 
--- the bytes in the texts of a hit
+-- the bytes in the texts of a hit, with room for its link
 abbrev pub text_size : ReleaseHitValue → ℕ
 text_size found =
-    length found.name.stem + length (name_text found.name) + length found.hit.row.title + length found.hit.row.url
+    length found.name.stem + length (name_text found.name) + length found.hit.row.title + room_of found.prefix found.hit.row.url
     + length found.hit.row.title_id + length found.hit.row.depth + length found.hit.row.embargo + length found.hit.row.access
 
 -- the first hits: at most so many, and whose texts have fewer than so many bytes in all

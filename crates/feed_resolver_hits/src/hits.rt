@@ -1,24 +1,32 @@
 //! A hit of a query, with its release and its availability.
-ghost use Rattle.std.specs.Prelude.{◌≡◌};
+ghost use Rattle.std.specs.Prelude.{◌≡◌, IfOk, option_copied};
+ghost use Rattle.std.specs.Cow.{cow_slice_items};
 ghost use Rattle.feed_answer.specs.HitValue.{hit_of};
-ghost use Rattle.feed_resolver_hits.specs.Hits.{name_text, release_hit};
+ghost use Rattle.feed_resolver_hits.specs.Hits.{link_text, name_text, release_hit};
 
+use crate::rank::is_free;
 use feed_answer::{Grade, Hit, Query};
 use feed_embargo::{Availability, Today, availability_of};
 use feed_kbart::Row;
 use feed_names::ReleaseName;
+use feed_site::{SiteFile, link_to, prefix_for};
+use std::alloc::{AllocError, Global};
+use std::borrow::CowSlice;
 use std::marker::Model;
 
-/// A hit, its release, and how the days that the query asks for lie in those that are open to readers.
+/// A hit, its release, how the days that the query asks for lie in those that are open to readers, and the prefix of
+/// its link, if that goes through a proxy.
 #[derive(Drop)]
 pub struct ReleaseHit<'a> {
     name: &'a ReleaseName,
     row: &'a Row,
     grade: Grade,
     availability: Availability,
+    prefix: Option<&'a str>,
 }
 
 impl<'a> Model for ReleaseHit<'a> {
+    ghost use Rattle.std.specs.Prelude.{option_copied};
     ghost use Rattle.feed_resolver_hits.specs.Hits.{ReleaseHitValue};
 
     ghost Value = { ReleaseHitValue };
@@ -27,17 +35,19 @@ impl<'a> Model for ReleaseHit<'a> {
       name = f.name.now;
       hit = record { row = f.row.now; grade = f.grade };
       availability = f.availability;
+      prefix = option_copied f.prefix;
     } };
 }
 
 impl<'a> ReleaseHit<'a> {
     pub(crate) fn new(
+        site: &'a SiteFile,
         today: &Today,
         query: &Query,
         name: &'a ReleaseName,
         hit: &Hit<'a>,
     ) -> ReleaseHit<'a>
-        ensures { result ≡ release_hit today.now query.now name.now (hit_of hit.now) }
+        ensures { result ≡ release_hit site.now today.now query.now name.now (hit_of hit.now) }
     {
         let row = hit.row;
         let (first, last) = (row.first_day(), row.last_day());
@@ -46,6 +56,7 @@ impl<'a> ReleaseHit<'a> {
             row,
             grade: hit.grade,
             availability: availability_of(today, row.embargo(), first, last, query.days()),
+            prefix: prefix_for(site, row.url(), is_free(row)),
         }
     }
 
@@ -58,7 +69,22 @@ impl<'a> ReleaseHit<'a> {
             row: self.row,
             grade: self.grade,
             availability: self.availability,
+            prefix: self.prefix,
         }
+    }
+
+    /// Returns the link of the hit: its URL, or that through the proxy.
+    pub(crate) fn link(&self, alloc: Global) -> Result<CowSlice<'a, u8, Global>, AllocError>
+        ensures { IfOk result (λ link. cow_slice_items link ≡ link_text self.now) }
+    {
+        link_to(alloc, self.prefix, self.row.url())
+    }
+
+    /// Returns the prefix of the link, if it goes through the proxy.
+    pub(crate) fn prefix(&self) -> Option<&'a str>
+        ensures { option_copied result ≡ self.now.prefix }
+    {
+        self.prefix
     }
 
     /// Returns the name of the release.

@@ -73,8 +73,8 @@ fn put_grade_members(out: &mut Vec<u8>, found: &ReleaseHit<'_>) -> Result<(), Al
 }
 
 #[tactic(auto, unfolding(crate::specs::HitsJson::title_members))]
-fn put_title_members(out: &mut Vec<u8>, row: &Row) -> Result<(), AllocError>
-    ensures { OnOk result (out.new.items ≡ out.old.items ++ title_members row.now) }
+fn put_title_members<'a>(out: &mut Vec<u8>, row: &'a Row, link: &'a [u8]) -> Result<(), AllocError>
+    ensures { OnOk result (out.new.items ≡ out.old.items ++ title_members row.now link.now) }
 {
     put_all(
         out,
@@ -82,7 +82,7 @@ fn put_title_members(out: &mut Vec<u8>, row: &Row) -> Result<(), AllocError>
             Piece::Plain(b",\"title\":"),
             Piece::Quoted(row.title()),
             Piece::Plain(b",\"url\":"),
-            Piece::Quoted(row.url()),
+            Piece::Quoted(link),
             Piece::Plain(b",\"title_id\":"),
             Piece::Quoted(row.title_id()),
             Piece::Plain(b",\"depth\":"),
@@ -118,9 +118,10 @@ fn put_object(out: &mut Vec<u8>, found: &ReleaseHit<'_>) -> Result<(), AllocErro
 {
     let row = found.row();
     let words = embargo_words(*out.allocator(), row.embargo())?;
+    let link = found.link(*out.allocator())?;
     put_release_members(out, found.name())?;
     put_grade_members(out, found)?;
-    put_title_members(out, row)?;
+    put_title_members(out, row, &link)?;
     put_access_members(out, row, &words)
 }
 

@@ -1,5 +1,5 @@
 //! Writes the hits of a query as an HTML page.
-ghost use Rattle.std.specs.Prelude.{◌≡◌, ◌++◌, ◌∷◌, [], OnOk, codes, option_map};
+ghost use Rattle.std.specs.Prelude.{◌≡◌, ◌++◌, ◌∷◌, [], IfOk, OnOk, codes, option_copied, option_map};
 ghost use Rattle.std.specs.List.{flat_map};
 ghost use Rattle.std.specs.Fmt.{decimal};
 ghost use Rattle.std.specs.Option.{option_and_then};
@@ -9,7 +9,7 @@ ghost use Rattle.feed_resolver_hits.specs.HitsPage.{availability_words, package_
 ghost use Rattle.feed_resolver_hits.specs.HitsPage.{grade_words, title_cell, or_nothing, dates_text, volumes_text};
 ghost use Rattle.feed_resolver_hits.specs.HitsPage.{coverage_cells, text_cells, hit_row, table_head, table_end};
 ghost use Rattle.feed_resolver_hits.specs.HitsPage.{hits_table, at_least, more_text, more_part, hits_part};
-ghost use Rattle.feed_resolver_hits.specs.HitsPage.{answer_part, hits_page};
+ghost use Rattle.feed_resolver_hits.specs.HitsPage.{answer_part, hits_page, page_title};
 ghost use Rattle.feed_resolver_hits.specs.Tallying.{tally_from};
 
 use crate::ask::Ask;
@@ -24,7 +24,7 @@ use feed_embargo::Availability;
 use feed_kbart::Row;
 use feed_pieces::put_all;
 use feed_resolver_reply::{Piece, put, put_page_end, put_page_start};
-use std::alloc::AllocError;
+use std::alloc::{AllocError, Global};
 
 const TABLE_HEAD: &[u8] =
     b"<div class=\"wide\">\n<table>\n<thead>\n<tr><th scope=\"col\">Title</th>\
@@ -56,22 +56,22 @@ fn availability_words(availability: Availability) -> &'static [u8]
 }
 
 #[tactic(auto, unfolding(crate::specs::HitsPage::title_cell))]
-fn put_title(out: &mut Vec<u8>, row: &Row) -> Result<(), AllocError>
-    ensures { OnOk result (out.new.items ≡ out.old.items ++ title_cell row.now.url row.now.title) }
+fn put_title<'a>(out: &mut Vec<u8>, link: &'a [u8], title: &'a [u8]) -> Result<(), AllocError>
+    ensures { OnOk result (out.new.items ≡ out.old.items ++ title_cell link.now title.now) }
 {
-    if is_link(row.url()) {
+    if is_link(link) {
         put_all(
             out,
             &[
                 Piece::Plain(b"<a href=\""),
-                Piece::Escaped(row.url()),
+                Piece::Escaped(link),
                 Piece::Plain(b"\">"),
-                Piece::Escaped(row.title()),
+                Piece::Escaped(title),
                 Piece::Plain(b"</a>"),
             ],
         )
     } else {
-        put_all(out, &[Piece::Escaped(row.title())])
+        put_all(out, &[Piece::Escaped(title)])
     }
 }
 
@@ -196,8 +196,9 @@ fn put_row(out: &mut Vec<u8>, found: &ReleaseHit<'_>) -> Result<(), AllocError>
 {
     let row = found.row();
     let words = embargo_words(*out.allocator(), row.embargo())?;
+    let link = found.link(*out.allocator())?;
     put(out, b"<tr><th scope=\"row\">")?;
-    put_title(out, row)?;
+    put_title(out, &link, row.title())?;
     put_coverage(out, found)?;
     put_text_cells(out, found.availability(), row, &words)?;
     put_package_cell(out, found.name().package())
@@ -278,13 +279,38 @@ fn put_answer(out: &mut Vec<u8>, ask: &Ask, tally: &Tally<'_>) -> Result<(), All
     put_hits(out, tally)
 }
 
-/// Writes the page with the citation of a query and the hits that a tally shows. If others are left out, it says how
-/// many.
-#[tactic(auto, unfolding(crate::specs::HitsPage::hits_page))]
-pub fn put_hits_page(out: &mut Vec<u8>, ask: &Ask, tally: &Tally<'_>) -> Result<(), AllocError>
-    ensures { OnOk result (out.new.items ≡ out.old.items ++ hits_page ask.now (tally_from tally.now)) }
+/// Returns the title of a page in HTML: these words, and the name of the library, if it has one.
+#[tactic(auto, unfolding(crate::specs::HitsPage::page_title))]
+pub fn page_title(
+    alloc: Global,
+    words: &'static [u8],
+    name: Option<&str>,
+) -> Result<Vec<u8>, AllocError>
+    ensures { IfOk result (λ title. title.items ≡ page_title words.now (option_copied name.entry)) }
 {
-    put_page_start(out, b"Holdings")?;
+    let mut title = Vec::new(alloc);
+    put_all(&mut title, &[Piece::Plain(words)])?;
+    if let Some(name) = name {
+        put_all(
+            &mut title,
+            &[Piece::Plain(b" &#8211; "), Piece::Escaped(name.as_bytes())],
+        )?;
+    }
+    Ok(title)
+}
+
+/// Writes the page with this title, the citation of a query and the hits that a tally shows. If others are left out, it
+/// says how many.
+#[tactic(auto, unfolding(crate::specs::HitsPage::hits_page))]
+pub fn put_hits_page(
+    out: &mut Vec<u8>,
+    title: &[u8],
+    ask: &Ask,
+    tally: &Tally<'_>,
+) -> Result<(), AllocError>
+    ensures { OnOk result (out.new.items ≡ out.old.items ++ hits_page title.now ask.now (tally_from tally.now)) }
+{
+    put_page_start(out, title)?;
     put_answer(out, ask, tally)?;
     put_page_end(out)
 }

@@ -15,6 +15,7 @@ use feed_kbart::Holdings;
 use feed_names::ReleaseName;
 use feed_pieces::put_all;
 use feed_resolver_reply::Piece;
+use feed_site::SiteFile;
 use std::alloc::{AllocError, Global};
 
 #[tactic(auto, unfolding(crate::specs::HitsText::cut_head_line))]
@@ -88,19 +89,21 @@ pub fn put_release<'a>(
     alloc: Global,
     out: &mut Vec<u8>,
     tally: &mut Tally<'a>,
+    site: &'a SiteFile,
     today: &Today,
     name: &'a ReleaseName,
     holdings: &'a Holdings,
     query: &Query,
 ) -> Result<(), AllocError>
     ensures tally { OnOk result (tally.new
-        ≡ with_hits tally.old (map (release_hit today.now query.now name.now) (answer_of holdings.now query.now))) }
+        ≡ with_hits tally.old (map (release_hit site.now today.now query.now name.now)
+        (answer_of holdings.now query.now))) }
     ensures text { OnOk result (out.new.items
         ≡ out.old.items ++ release_text (tally_from tally.old) (tally_from tally.new) name.now) }
 {
     let counted = tally.count();
     let shown = tally.shown().len();
-    tally.add_release(alloc, today, name, holdings, query)?;
+    tally.add_release(alloc, site, today, name, holdings, query)?;
     let count = tally.count().saturating_sub(counted);
     put_head(out, name, count, tally.is_whole())?;
     put_lines(out, hits_from(tally.shown(), shown))

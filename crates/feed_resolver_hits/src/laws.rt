@@ -1,11 +1,16 @@
 //! Laws of hits, each stated as the contract of a function with an empty body.
 ghost use Rattle.feed_resolver_hits.specs.Laws.{AnswerIsJson, BestLinkRanksHighest, HitsAreJson, RedirectsToLink};
-ghost use Rattle.feed_resolver_hits.specs.Laws.{RanksInOrder, TallyTellsOfHits};
+ghost use Rattle.feed_resolver_hits.specs.Laws.{LinksAreProxied, RanksInOrder, TallyTellsOfHits};
 
 /// The URL of a redirect is one of `http` or `https` in at most 8,000 bytes of visible ASCII, so no byte of a file can
 /// end a line of a reply's head.
 pub fn redirects_to_link()
     ensures { RedirectsToLink }
+{}
+
+/// The link of a hit is its URL as the site of the library writes it.
+pub fn links_are_proxied()
+    ensures { LinksAreProxied }
 {}
 
 /// No hit that may be linked to ranks above the best link.

@@ -26,11 +26,11 @@ pub use ask::Ask;
 pub use asked::read_query;
 pub use hits::{ReleaseHit, name_text};
 pub use hits_json::put_release_members;
-pub use hits_page::put_hits_page;
+pub use hits_page::{page_title, put_hits_page};
 pub use hits_text::put_release;
 pub use laws::{
-    answer_is_json, best_link_ranks_highest, hits_are_json, ranks_in_order, redirects_to_link,
-    tally_tells_of_hits,
+    answer_is_json, best_link_ranks_highest, hits_are_json, links_are_proxied, ranks_in_order,
+    redirects_to_link, tally_tells_of_hits,
 };
 pub use refusals::unasked_reply;
 pub use tally::Tally;

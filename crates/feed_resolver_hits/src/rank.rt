@@ -1,6 +1,6 @@
 //! The rank of a hit among those of a query.
 ghost use Rattle.std.specs.Prelude.{◌≡◌, ◌<◌};
-ghost use Rattle.feed_resolver_hits.specs.Hits.{availability_rank, grade_rank, is_word, rank_of, text_rank};
+ghost use Rattle.feed_resolver_hits.specs.Hits.{availability_rank, grade_rank, is_free, is_word, rank_of, text_rank};
 
 use crate::hits::ReleaseHit;
 use feed_answer::Grade;
@@ -37,13 +37,20 @@ fn is_word(text: &[u8], word: &[u8]) -> bool
     trim_spaces(text).eq_ignore_ascii_case(word)
 }
 
+/// Returns whether a row is free to read.
+pub(crate) fn is_free(row: &Row) -> bool
+    ensures { result ≡ is_free row.now }
+{
+    is_word(row.access(), b"F")
+}
+
 fn text_rank(row: &Row) -> u8
     ensures value { result ≡ text_rank row.now }
     ensures bound { result < 3 }
 {
     if !is_word(row.depth(), b"fulltext") {
         0
-    } else if is_word(row.access(), b"F") {
+    } else if is_free(row) {
         2
     } else {
         1

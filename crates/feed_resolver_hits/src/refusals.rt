@@ -107,7 +107,7 @@ fn numberless_reply(
     ask: &Ask,
     reason: Refusal,
     named: bool,
-) -> Result<Reply<'static>, AllocError>
+) -> Result<Reply, AllocError>
     ensures { IfOk result (λ reply. reply
         ≡ reply_with (numberless_status named status) representation
         (numberless_body named representation ask.now reason)) }
@@ -126,7 +126,7 @@ pub fn unasked_reply(
     representation: Representation,
     ask: &Ask,
     reason: Refusal,
-) -> Result<Reply<'static>, AllocError>
+) -> Result<Reply, AllocError>
     ensures { IfOk result (λ reply. reply ≡ unasked_reply status representation ask.now reason) }
 {
     if is_numberless(reason) {

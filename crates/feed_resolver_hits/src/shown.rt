@@ -4,6 +4,7 @@ ghost use Rattle.feed_resolver_hits.specs.Tallies.{first_within, text_size, show
 ghost use Rattle.feed_resolver_hits.specs.Tallying.{with_shown};
 
 use crate::hits::{ReleaseHit, name_text};
+use feed_site::left_beside;
 use std::alloc::{AllocError, Global};
 use std::marker::Model;
 
@@ -31,16 +32,15 @@ impl<'a> Model for Shown<'a> {
     ghost view = { λ s. record { hits = s.hits.items; places = s.places; bytes = s.bytes } };
 }
 
-// The bytes left after the texts of a hit.
+// The bytes left after the texts of a hit, with room for its link.
 fn bytes_after(bytes: usize, found: &ReleaseHit<'_>) -> usize
     ensures { result ≡ bytes - text_size found.now }
 {
     let row = found.row();
-    bytes
+    left_beside(bytes, found.prefix(), row.url())
         .saturating_sub(found.name().package().len())
         .saturating_sub(name_text(found.name()).len())
         .saturating_sub(row.title().len())
-        .saturating_sub(row.url().len())
         .saturating_sub(row.title_id().len())
         .saturating_sub(row.depth().len())
         .saturating_sub(row.embargo().len())

@@ -18,6 +18,7 @@ use feed_answer::{Hit, Query, hit_at, places_of};
 use feed_embargo::Today;
 use feed_kbart::{Holdings, Row};
 use feed_names::ReleaseName;
+use feed_site::SiteFile;
 use std::alloc::{AllocError, Global};
 use std::marker::Model;
 
@@ -32,7 +33,7 @@ pub struct Tally<'a> {
     is_whole: bool,
     shown: Shown<'a>,
     top: Top<'a>,
-    links: Links<'a>,
+    links: Links,
 }
 
 impl<'a> Model for Tally<'a> {
@@ -98,14 +99,14 @@ impl<'a> Tally<'a> {
         self.count().saturating_sub(self.top().len())
     }
 
-    /// Returns the URL of the hit with the highest rank that has a link; of equals the first.
-    pub fn best_link(&self) -> Option<&'a [u8]>
+    /// Returns the link of the hit with the highest rank that has one; of equals the first.
+    pub fn best_link(&self) -> Option<&[u8]>
         ensures { option_copied result ≡ (tally_from self.now).best }
     {
         self.links.best()
     }
 
-    fn count_hit(&mut self, found: ReleaseHit<'a>) -> Result<(), AllocError>
+    fn count_hit(&mut self, alloc: Global, found: ReleaseHit<'a>) -> Result<(), AllocError>
         ensures { OnOk result (self.new ≡ with_hit self.old found.entry) }
     {
         if !self.is_whole {
@@ -116,13 +117,15 @@ impl<'a> Tally<'a> {
             return Ok(());
         }
         self.left -= 1;
-        self.links.add(&found);
+        self.links.add(alloc, &found)?;
         self.shown.add(found.again())?;
         self.top.add(found)
     }
 
     fn add_hit_at(
         &mut self,
+        alloc: Global,
+        site: &'a SiteFile,
         today: &Today,
         name: &'a ReleaseName,
         rows: &'a [Row],
@@ -130,17 +133,19 @@ impl<'a> Tally<'a> {
         query: &Query,
     ) -> Result<(), AllocError>
         ensures { OnOk result (self.new
-            ≡ with_hits self.old (map (release_hit today.now query.now name.now)
+            ≡ with_hits self.old (map (release_hit site.now today.now query.now name.now)
             (filter_map (hit_at query.now rows.now) (place ∷ [])))) }
     {
         match hit_at(rows, place, query) {
-            Some(hit) => self.count_hit(ReleaseHit::new(today, query, name, &hit)),
+            Some(hit) => self.count_hit(alloc, ReleaseHit::new(site, today, query, name, &hit)),
             None => Ok(()),
         }
     }
 
     fn add_hits_at(
         &mut self,
+        alloc: Global,
+        site: &'a SiteFile,
         today: &Today,
         name: &'a ReleaseName,
         rows: &'a [Row],
@@ -148,14 +153,14 @@ impl<'a> Tally<'a> {
         query: &Query,
     ) -> Result<(), AllocError>
         ensures { OnOk result (self.new
-            ≡ with_hits self.old (map (release_hit today.now query.now name.now)
+            ≡ with_hits self.old (map (release_hit site.now today.now query.now name.now)
             (filter_map (hit_at query.now rows.now) places.now))) }
     {
         for place in places {
             if !self.is_whole {
                 return Ok(());
             }
-            self.add_hit_at(today, name, rows, *place, query)?;
+            self.add_hit_at(alloc, site, today, name, rows, *place, query)?;
         }
         Ok(())
     }
@@ -165,19 +170,29 @@ impl<'a> Tally<'a> {
     pub fn add_release(
         &mut self,
         alloc: Global,
+        site: &'a SiteFile,
         today: &Today,
         name: &'a ReleaseName,
         holdings: &'a Holdings,
         query: &Query,
     ) -> Result<(), AllocError>
         ensures { OnOk result (self.new
-            ≡ with_hits self.old (map (release_hit today.now query.now name.now) (answer_of holdings.now query.now))) }
+            ≡ with_hits self.old (map (release_hit site.now today.now query.now name.now)
+            (answer_of holdings.now query.now))) }
     {
         match sole_places(holdings, query) {
-            Some(places) => self.add_hits_at(today, name, holdings.rows(), places, query),
+            Some(places) => self.add_hits_at(
+                alloc,
+                site,
+                today,
+                name,
+                holdings.rows(),
+                places,
+                query,
+            ),
             None => {
                 let places = places_of(alloc, holdings, query)?;
-                self.add_hits_at(today, name, holdings.rows(), &places, query)
+                self.add_hits_at(alloc, site, today, name, holdings.rows(), &places, query)
             }
         }
     }

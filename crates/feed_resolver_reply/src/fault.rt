@@ -66,7 +66,7 @@ pub fn refusal(
     status: Status,
     representation: Representation,
     name: &[u8],
-) -> Result<Reply<'static>, AllocError>
+) -> Result<Reply, AllocError>
     ensures { IfOk result (λ reply. reply ≡ refusal status representation name.now) }
 {
     let mut body = Vec::new(alloc);

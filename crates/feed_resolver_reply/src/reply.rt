@@ -40,9 +40,9 @@ const QUERY_PREFLIGHT_FIELDS: &[u8] =
 
 /// A reply. Its location is empty unless its status is `Found`, and its entity tag is empty if it has none.
 #[derive(Drop)]
-pub struct Reply<'a> {
+pub struct Reply {
     status: Status,
-    location: &'a [u8],
+    location: Option<Vec<u8>>,
     representation: Representation,
     body: Vec<u8>,
     tag: Option<Vec<u8>>,
@@ -50,7 +50,7 @@ pub struct Reply<'a> {
     max_age: u32,
 }
 
-impl<'a> Model for Reply<'a> {
+impl Model for Reply {
     ghost use Rattle.std.specs.Prelude.{[]};
     ghost use Rattle.std.specs.Option.{option_map_or};
     ghost use Rattle.feed_resolver_reply.specs.Replies.{ReplyValue};
@@ -59,7 +59,7 @@ impl<'a> Model for Reply<'a> {
 
     ghost view = { λ r. record {
       status = r.status;
-      location = r.location.now;
+      location = option_map_or (λ l. l.items) r.location [];
       representation = r.representation;
       body = r.body.items;
       tag = option_map_or (λ t. t.items) r.tag [];
@@ -195,14 +195,14 @@ fn put_last(
     )
 }
 
-impl<'a> Reply<'a> {
+impl Reply {
     /// Returns a reply that is not a redirect.
-    pub fn new(status: Status, representation: Representation, body: Vec<u8>) -> Reply<'static>
+    pub fn new(status: Status, representation: Representation, body: Vec<u8>) -> Reply
         ensures { result ≡ reply_with status representation body.items }
     {
         Reply {
             status,
-            location: b"",
+            location: None,
             representation,
             body,
             tag: None,
@@ -216,12 +216,12 @@ impl<'a> Reply<'a> {
         tag: Vec<u8>,
         max_age: u32,
         representation: Representation,
-    ) -> Reply<'static>
+    ) -> Reply
         ensures { result ≡ not_modified tag.items max_age representation }
     {
         Reply {
             status: Status::NotModified,
-            location: b"",
+            location: None,
             representation,
             body: Vec::new(alloc),
             tag: Some(tag),
@@ -230,8 +230,8 @@ impl<'a> Reply<'a> {
     }
 
     /// Returns the reply with an entity tag, and for how many seconds a cache may use it without asking again.
-    pub fn with_tag(self, tag: Vec<u8>, max_age: u32) -> Reply<'a>
-        ensures { result ≡ with_tag tag.items max_age self.entry }
+    pub fn with_tag(self, tag: Vec<u8>, max_age: u32) -> Reply
+        ensures { result ≡ with_tag tag.items max_age self }
     {
         Reply {
             status: self.status,
@@ -244,12 +244,12 @@ impl<'a> Reply<'a> {
     }
 
     /// Returns a redirect.
-    pub fn redirect(alloc: Global, location: &'a [u8]) -> Reply<'a>
-        ensures { result ≡ redirect_to location.now }
+    pub fn redirect(alloc: Global, location: Vec<u8>) -> Reply
+        ensures { result ≡ redirect_to location.items }
     {
         Reply {
             status: Status::Found,
-            location,
+            location: Some(location),
             representation: Representation::Text,
             body: Vec::new(alloc),
             tag: None,
@@ -278,6 +278,16 @@ impl<'a> Reply<'a> {
         u64::from(self.max_age)
     }
 
+    // Returns the location, which is empty if there is none.
+    fn location(&self) -> &[u8]
+        ensures { result.now ≡ self.now.location }
+    {
+        match &self.location {
+            Some(location) => location,
+            None => b"",
+        }
+    }
+
     // Returns the entity tag, which is empty if there is none.
     fn tag(&self) -> &[u8]
         ensures { result.now ≡ self.now.tag }
@@ -303,9 +313,10 @@ impl<'a> Reply<'a> {
     {
         let size = self.size();
         let age = self.age();
+        let location = self.location();
         let tag = self.tag();
         put_status_line(out, self.status)?;
-        put_status_field(out, self.status, self.location)?;
+        put_status_field(out, self.status, location)?;
         put_content(out, self.status, self.representation, size)?;
         put_tag(out, tag)?;
         put_cache(out, age)?;

@@ -1,18 +1,28 @@
 -- Entity tags (RFC 9110, section 8.8.3).
-use Rattle.std.specs.Prelude.{ℕ, ℤ, List, [], ◌∷◌, ◌++◌}
+use Rattle.std.specs.Prelude.{◌≡◌, ℕ, ℤ, List, [], ◌∷◌, ◌++◌}
 use Rattle.std.specs.Fmt.{decimal, signed_decimal}
 use Rattle.sha2.specs.Sha256.{sha256}
 use Rattle.hex.specs.Hex.{encode_lower}
 use Rattle.feed_embargo.specs.Today.{TodayValue}
+use Rattle.feed_site.specs.Reading.{IsSiteOf}
+use Rattle.feed_site.specs.Site as site_file
 use Rattle.feed_resolver_request.specs.declared.representation.Representation.{Representation}
 use Rattle.feed_resolver_request.specs.declared.representation.Representation.TheVariants.{Text, Json, Html}
 
 -- what the replies of a node depend on beside its releases and the day: the version of the program, for how many seconds
--- a cache may use a reply, and the bytes of the site file
+-- a cache may use a reply, and the site file of the library, with its bytes
 pub record SiteValue : Type 0 where
   pub version : List ℕ
   pub max_age : ℕ
   pub file : List ℕ
+  pub library : site_file.SiteValue
+
+-- a site of this version and these settings, with this site file
+pub record IsSiteWith (version : List ℕ) (max_age : ℕ) (file : List ℕ) (site : SiteValue) : Type 0 where
+  pub same_version : site.version ≡ version
+  pub same_age : site.max_age ≡ max_age
+  pub same_file : site.file ≡ file
+  pub means : IsSiteOf file site.library
 
 -- all that the body of a reply depends on beside its request; a further setting that replies come to depend on goes into
 -- the settings

@@ -1,5 +1,5 @@
 //! What the replies of a node depend on beside its releases, and the tags that follow from it.
-ghost use Rattle.std.specs.Prelude.{◌≡◌, IfOk};
+ghost use Rattle.std.specs.Prelude.{◌≡◌, IfErr, IfOk};
 ghost use Rattle.std.specs.Fmt.{decimal};
 ghost use Rattle.feed_resolver_tag.specs.Tags.{entity_tag, inputs_of, kind_and_day, kind_of, message_of};
 ghost use Rattle.feed_resolver_tag.specs.Tags.{quoted_hex};
@@ -8,13 +8,14 @@ ghost use Rattle.sha2.specs.Sha256.{sha256};
 use crate::digested::Digested;
 use feed_embargo::Today;
 use feed_resolver_request::Representation;
+use feed_site::{SiteFault, SiteFile};
 use sha2::{Digest, Sha256};
 use std::alloc::{AllocError, Global};
 use std::io::Write;
 use std::marker::Model;
 
 /// What the replies of a node depend on beside its releases and the day: the version of the program, the settings and
-/// the site file. It stays the same while a node runs.
+/// the site file of the library. It stays the same while a node runs.
 #[derive(Drop)]
 pub struct Site {
     version: Digested,
@@ -22,6 +23,8 @@ pub struct Site {
     settings: Digested,
     /// The bytes of the site file.
     file: Digested,
+    /// What they say.
+    library: SiteFile,
     /// The text about the releases whose digest was computed last.
     releases: Digested,
     /// For how many seconds a cache may use a reply without asking again; 0 if it always has to ask.
@@ -35,7 +38,7 @@ impl Model for Site {
 
     ghost Value = { SiteValue };
 
-    ghost view = { λ s. record { version = s.version; max_age = s.max_age; file = s.file } };
+    ghost view = { λ s. record { version = s.version; max_age = s.max_age; file = s.file; library = s.library } };
 
     ghost invariant = { λ s. s.settings ≡ decimal s.max_age };
 }
@@ -106,16 +109,47 @@ fn quoted_hex(alloc: Global, digest: &[u8]) -> Result<Vec<u8>, AllocError>
 }
 
 impl Site {
+    ghost use Rattle.feed_site.specs.Reading.{IsSiteFault};
+    ghost use Rattle.feed_resolver_tag.specs.Tags.{IsSiteWith};
+
     /// Begins with the version of the program, for how many seconds a cache may use a reply without asking again, and
     /// the bytes of the site file, which are none if there is no such file.
-    pub fn new(
+    ///
+    /// # Errors
+    ///
+    /// The bytes are not a site file, or an allocation fails.
+    pub fn read(
         alloc: Global,
         version: &[u8],
         max_age: u32,
         file: Vec<u8>,
+    ) -> Result<Site, SiteFault>
+        ensures read { IfOk result (IsSiteWith version.now max_age file.items) }
+        ensures refused { IfErr result (IsSiteFault file.items) }
+    {
+        let library = match SiteFile::read(alloc, &file) {
+            Ok(library) => library,
+            Err(fault) => return Err(fault),
+        };
+        match Site::with(alloc, version, max_age, file, library) {
+            Ok(site) => Ok(site),
+            Err(_) => Err(SiteFault::Memory),
+        }
+    }
+
+    fn with(
+        alloc: Global,
+        version: &[u8],
+        max_age: u32,
+        file: Vec<u8>,
+        library: SiteFile,
     ) -> Result<Site, AllocError>
-        ensures { IfOk result (λ site. site
-            ≡ record { version = version.now; max_age = max_age; file = file.items }) }
+        ensures { IfOk result (λ site. site ≡ record {
+          version = version.now;
+          max_age = max_age;
+          file = file.items;
+          library = library;
+        }) }
     {
         let settings = Digested::new(decimal(alloc, max_age)?);
         let version = Digested::new(Vec::from_slice(alloc, version)?);
@@ -123,9 +157,17 @@ impl Site {
             version,
             settings,
             file: Digested::new(file),
+            library,
             releases: Digested::new(Vec::new(alloc)),
             max_age,
         })
+    }
+
+    /// Returns what the site file says.
+    pub fn library(&self) -> &SiteFile
+        ensures { result.now ≡ self.now.library }
+    {
+        &self.library
     }
 
     /// Returns the text about the releases whose digest is kept.

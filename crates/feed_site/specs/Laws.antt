@@ -1,11 +1,11 @@
 -- Laws of the links of a page.
-use Rattle.std.specs.Prelude.{◌≡◌, ℕ, ◌<◌, ◌||◌, ◌==◌, Bool, true, false, List, ◌∷◌, ◌++◌, Option, Some, None, All}
+use Rattle.std.specs.Prelude.{◌≡◌, ℕ, ◌<◌, ◌≤◌, length, ◌||◌, ◌==◌, Bool, true, false, List, ◌∷◌, ◌++◌, Option, Some, None, All}
 use Rattle.std.specs.List.{list_all}
 use Rattle.std.specs.Char.{is_ascii_alphanumeric}
 use Rattle.percent_encoding.specs.Percent.{percent_decode}
 use Rattle.feed_site.specs.Urls.{host_of, is_within}
 use Rattle.feed_site.specs.Site.{SiteValue}
-use Rattle.feed_site.specs.Proxies.{encodes, is_excepted, proxied}
+use Rattle.feed_site.specs.Proxies.{encodes, is_excepted, proxied, room_of, through}
 
 -- a link that is free to read is the target
 abbrev pub FreeIsDirect : Type 0
@@ -40,6 +40,11 @@ abbrev pub OthersGoThrough : Type 0
 OthersGoThrough = (site : SiteValue) (target host prefix : List ℕ) → All (λ b. b < 256) target →
     host_of target ≡ Some host → is_excepted site.except host ≡ false → site.prefix ≡ Some prefix →
     GoesThrough prefix target (proxied site target false)
+
+-- a link fits in its room
+abbrev pub LinkFits : Type 0
+LinkFits = (prefix : Option (List ℕ)) (target : List ℕ) → All (λ b. b < 256) target →
+    length (through prefix target) ≤ room_of prefix target
 
 -- a domain is within itself, and so is what ends in a dot and the domain
 abbrev pub SubdomainsAreWithin : Type 0

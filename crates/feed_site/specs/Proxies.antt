@@ -1,5 +1,5 @@
 -- The links of a page: which of them go through the proxy, and how.
-use Rattle.std.specs.Prelude.{◌≡◌, ℕ, ◌-◌, ◌<◌, ◌&&◌, Bool, true, false, not, List, [], ◌∷◌, ◌++◌, length, drop, codes, Option, Some, None, if◌then◌else◌, All}
+use Rattle.std.specs.Prelude.{◌≡◌, ℕ, ◌+◌, ◌*◌, ◌-◌, ◌<◌, ◌&&◌, Bool, true, false, not, List, [], ◌∷◌, ◌++◌, length, drop, codes, Option, Some, None, if◌then◌else◌, All}
 use Rattle.std.specs.List.{list_any}
 use Rattle.std.specs.Str.{bytes_eq}
 use Rattle.percent_encoding.specs.Percent.{percent_encode}
@@ -27,10 +27,20 @@ encodes prefix = bytes_eq (drop (length prefix - 5) prefix) (codes "qurl=")
 abbrev pub written_target : List ℕ → List ℕ → List ℕ
 written_target prefix target = if encodes prefix then percent_encode NON_ALPHANUMERIC target else target
 
+-- the link to a target behind a prefix, if there is one
 abbrev pub through : Option (List ℕ) → List ℕ → List ℕ
 through None target = target
 through (Some prefix) target = prefix ++ written_target prefix target
 
+-- the most bytes of such a link: an escape has three bytes
+abbrev pub room_of : Option (List ℕ) → List ℕ → ℕ
+room_of None target = length target
+room_of (Some prefix) target = length prefix + (if encodes prefix then 3 * length target else length target)
+
+-- the prefix of the link to a target: that of the proxy, if the link goes through it
+abbrev pub prefix_for : SiteValue → List ℕ → Bool → Option (List ℕ)
+prefix_for site target is_free = if is_proxied site target is_free then site.prefix else None
+
 -- the link to a target as the page has it
 unfoldable pub proxied : SiteValue → List ℕ → Bool → List ℕ
-proxied site target is_free = if is_proxied site target is_free then through site.prefix target else target
+proxied site target is_free = through (prefix_for site target is_free) target

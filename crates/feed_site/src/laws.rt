@@ -1,6 +1,6 @@
 //! Laws of the links of a page, each stated as the contract of a function with an empty body.
 ghost use Rattle.feed_site.specs.Laws.{ExceptedIsDirect, FreeIsDirect, NoProxyIsDirect, OthersGoThrough};
-ghost use Rattle.feed_site.specs.Laws.{SubdomainsAreWithin};
+ghost use Rattle.feed_site.specs.Laws.{LinkFits, SubdomainsAreWithin};
 
 /// A link that is free to read does not go through the proxy.
 pub fn free_is_direct()
@@ -20,6 +20,11 @@ pub fn no_proxy_is_direct()
 /// Every other link begins with the prefix of the proxy, and the rest is the target, or decodes to it.
 pub fn others_go_through()
     ensures { OthersGoThrough }
+{}
+
+/// A link has no more bytes than its room.
+pub fn link_fits()
+    ensures { LinkFits }
 {}
 
 /// A domain and its subdomains are within it.

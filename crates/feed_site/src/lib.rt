@@ -19,10 +19,10 @@ mod values;
 
 pub use fault::Reason;
 pub use laws::{
-    excepted_is_direct, free_is_direct, no_proxy_is_direct, others_go_through,
+    excepted_is_direct, free_is_direct, link_fits, no_proxy_is_direct, others_go_through,
     subdomains_are_within,
 };
-pub use links::proxied;
+pub use links::{left_beside, link_to, prefix_for, proxied};
 pub use position::Position;
 pub use site_fault::{KeyFault, SiteFault};
 pub use site_file::{SITE_LIMIT, SiteFile};

@@ -1,9 +1,9 @@
 //! The links of a page: which of them go through the library's proxy, and how.
-ghost use Rattle.std.specs.Prelude.{◌≡◌, ◌++◌, IfOk, OnOk, string_bytes, option_copied};
+ghost use Rattle.std.specs.Prelude.{◌≡◌, ◌-◌, ◌++◌, IfOk, OnOk, string_bytes, option_copied};
 ghost use Rattle.std.specs.Cow.{cow_slice_items};
 ghost use Rattle.percent_encoding.specs.Percent.{percent_encode};
 ghost use Rattle.percent_encoding.specs.declared.ascii_set.TheConstants.{NON_ALPHANUMERIC};
-ghost use Rattle.feed_site.specs.Proxies.{encodes, is_proxied, proxied, written_target};
+ghost use Rattle.feed_site.specs.Proxies.{encodes, is_proxied, prefix_for, proxied, room_of, through, written_target};
 
 use crate::site_file::SiteFile;
 use crate::url::host_of;
@@ -58,7 +58,7 @@ fn put_target(
     }
 }
 
-fn through(alloc: Global, prefix: &[u8], target: &[u8]) -> Result<Vec<u8>, AllocError>
+fn joined(alloc: Global, prefix: &[u8], target: &[u8]) -> Result<Vec<u8>, AllocError>
     ensures { IfOk result (λ link. link.items ≡ prefix.now ++ written_target prefix.now target.now) }
 {
     let mut link = Vec::from_slice(alloc, prefix)?;
@@ -66,8 +66,56 @@ fn through(alloc: Global, prefix: &[u8], target: &[u8]) -> Result<Vec<u8>, Alloc
     Ok(link)
 }
 
-/// Returns the link to a target as a page has it: through the proxy, unless the target is free to read, its host is one
+/// Returns the prefix of the link to a target: that of the proxy, unless the target is free to read, its host is one
 /// that needs no proxy, or the library has none.
+pub fn prefix_for<'a>(site: &'a SiteFile, target: &[u8], is_free: bool) -> Option<&'a str>
+    ensures { option_copied result ≡ prefix_for site.now target.now is_free }
+{
+    if is_proxied(site, target, is_free) {
+        site.prefix()
+    } else {
+        None
+    }
+}
+
+/// Returns the link to a target behind a prefix, which takes it as it is or percent-encoded. Without a prefix the link
+/// is the target.
+///
+/// # Errors
+///
+/// Running out of memory.
+pub fn link_to<'a>(
+    alloc: Global,
+    prefix: Option<&str>,
+    target: &'a [u8],
+) -> Result<CowSlice<'a, u8, Global>, AllocError>
+    ensures { IfOk result (λ link. cow_slice_items link ≡ through (option_copied prefix.entry) target.now) }
+{
+    match prefix {
+        Some(prefix) => Ok(CowSlice::Owned(joined(alloc, prefix.as_bytes(), target)?)),
+        None => Ok(CowSlice::Borrowed(target)),
+    }
+}
+
+/// Returns how many of these bytes are left beside the link to a target behind a prefix, with room for each escape.
+pub fn left_beside(bytes: usize, prefix: Option<&str>, target: &[u8]) -> usize
+    ensures { result ≡ bytes - room_of (option_copied prefix.entry) target.now }
+{
+    let Some(prefix) = prefix else {
+        return bytes.saturating_sub(target.len());
+    };
+    let left = bytes
+        .saturating_sub(prefix.len())
+        .saturating_sub(target.len());
+    if encodes(prefix.as_bytes()) {
+        left.saturating_sub(target.len())
+            .saturating_sub(target.len())
+    } else {
+        left
+    }
+}
+
+/// Returns the link to a target as a page has it: behind its prefix, if it goes through the proxy.
 ///
 /// # Errors
 ///
@@ -81,11 +129,5 @@ pub fn proxied<'a>(
 ) -> Result<CowSlice<'a, u8, Global>, AllocError>
     ensures { IfOk result (λ link. cow_slice_items link ≡ proxied site.now target.now is_free) }
 {
-    if !is_proxied(site, target, is_free) {
-        return Ok(CowSlice::Borrowed(target));
-    }
-    match site.prefix() {
-        Some(prefix) => Ok(CowSlice::Owned(through(alloc, prefix.as_bytes(), target)?)),
-        None => Ok(CowSlice::Borrowed(target)),
-    }
+    link_to(alloc, prefix_for(site, target, is_free), target)
 }

@@ -13,7 +13,9 @@ use feed_releases::{Event, Feed};
 use feed_resolver::{keep_releases, respond, respond_as_node};
 use feed_resolver_request::{FetchPolicy, fetch_request, find_request, form_length};
 use feed_resolver_tag::Site;
+use feed_site::SiteFault;
 use httparse::spans::EMPTY_HEADER_SPAN;
+use std::alloc::Global;
 
 /// The feed of a node over a keeper in memory, and one connection to it.
 #[derive(Drop)]
@@ -30,7 +32,7 @@ pub struct Node<'a> {
 
 impl<'a> Node<'a> {
     pub fn new(rt: &'a HostRuntime, step: usize) -> Result<Node<'a>, Fault> {
-        let site = Site::new(rt.alloc(), b"1.0", 0, Vec::new(rt.alloc()))?;
+        let site = read_site(rt.alloc(), b"1.0", 0, Vec::new(rt.alloc()))?;
         match Feed::open(rt.alloc(), ListKeep::new(rt.alloc())) {
             Ok(feed) => Ok(Node {
                 rt,
@@ -76,7 +78,7 @@ impl<'a> Node<'a> {
     fn take_site(&mut self, mut line: Line<'_>) -> Result<(), Fault> {
         let version = line.word()?.as_bytes();
         let max_age = line.number()?;
-        self.site = Site::new(
+        self.site = read_site(
             self.rt.alloc(),
             version,
             max_age.min(u64::from(u32::MAX)) as u32,
@@ -186,6 +188,14 @@ fn arrive(feed: &mut Feed<ListKeep>, name: &ReleaseName, bytes: &[u8]) -> Result
         total: None,
         bytes,
     })
+}
+
+fn read_site(alloc: Global, version: &[u8], max_age: u32, file: Vec<u8>) -> Result<Site, Fault> {
+    match Site::read(alloc, version, max_age, file) {
+        Ok(site) => Ok(site),
+        Err(SiteFault::Memory) => Err(Fault::Memory),
+        Err(_) => Err(Fault::NoSite),
+    }
 }
 
 fn today_of(word: &str) -> Option<Today> {

@@ -8,5 +8,5 @@ use Rattle.feed_resolver_hits.proofs.tally.Tally.add_hits_at.Given as goal
 -- the hits at the places that are left, added to the tally so far, make the tally of all
 abbrev pub invariant-loop-place : goal.invariant-loop-place
 invariant-loop-place l =
-    with_hits l.self (map (release_hit l.today l.query l.name) (filter_map (hit_at l.query l.rows) (drop l.place-index l.places)))
-    ≡ with_hits l.fn.self (map (release_hit l.today l.query l.name) (filter_map (hit_at l.query l.rows) l.places))
+    with_hits l.self (map (release_hit l.site l.today l.query l.name) (filter_map (hit_at l.query l.rows) (drop l.place-index l.places)))
+    ≡ with_hits l.fn.self (map (release_hit l.site l.today l.query l.name) (filter_map (hit_at l.query l.rows) l.places))

@@ -10,7 +10,8 @@ returns-clause-text c = on_ok_weaker c.put_last.result
     c.put_tag.new.out.items c.put_cache.new.out.items c.put_last.new.out.items c.args.self.now c.size-size.result c.age-age.result
     c.size-size.ensures c.age-age.ensures
     (c.in_ok-put_status_line.ensures ∙ ap (λ (r : ReplyValue). c.args.out.now.items ++ status_line r.status) c.self.view_is)
-    (c.in_ok-put_status_field.ensures ∙ ap (λ (r : ReplyValue). c.put_status_line.new.out.items ++ status_field r.status r.location) c.self.view_is)
+    (c.in_ok-put_status_field.ensures ∙ ap (λ l. c.put_status_line.new.out.items ++ status_field c.self.inside.status l) c.location-location.ensures
+    ∙ ap (λ (r : ReplyValue). c.put_status_line.new.out.items ++ status_field r.status c.args.self.now.location) c.self.view_is)
     (c.in_ok-put_content.ensures
     ∙ ap (λ (r : ReplyValue). c.put_status_field.new.out.items ++ content_fields (is_bodiless (status_code r.status)) r.representation c.size-size.result) c.self.view_is)
     (c.in_ok-put_tag.ensures ∙ ap (λ t. c.put_content.new.out.items ++ tag_field t) c.tag-tag.ensures)
