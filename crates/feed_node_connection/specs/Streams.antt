@@ -36,8 +36,8 @@ pub record HasAdvanced (replies : Replies) (share left : Share) (new : Connectio
   pub replies_counted : (length (requests_in more) + left.replies ≡ share.replies) ⊎ LacksReply replies
 
 -- the same whatever occurred before
-abbrev pub Advances : Replies → Share → Share → Connection → Connection → Option (List ℕ) → Option (List ℕ) → Option (List ℕ) → Option (List ℕ) → Type 0
-Advances replies share left old new unread read unwritten written =
+abbrev pub IsAdvanced : Replies → Share → Share → Connection → Connection → Option (List ℕ) → Option (List ℕ) → Option (List ℕ) → Option (List ℕ) → Type 0
+IsAdvanced replies share left old new unread read unwritten written =
     (history : List Event) → HasState old history → HasAdvanced replies share left new history unread read unwritten written
 
 -- the same for the reader alone; nothing is sent, and no reply is made

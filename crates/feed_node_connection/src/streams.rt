@@ -2,7 +2,7 @@
 ghost use Rattle.std.specs.Prelude.{◌≡◌, ◌≢◌, ◌⊎◌, ℕ, List, Option};
 ghost use Rattle.feed_node_connection.specs.Events.{Event};
 ghost use Rattle.feed_node_connection.specs.States.{HasState, wants_in};
-ghost use Rattle.feed_node_connection.specs.Streams.{Advances, HasAdvanced, HasRead, HasWritten, IsStopped, WaitsFor};
+ghost use Rattle.feed_node_connection.specs.Streams.{IsAdvanced, HasAdvanced, HasRead, HasWritten, IsStopped, WaitsFor};
 
 use crate::connection::{Connection, Wants};
 use crate::respond::Respond;
@@ -48,8 +48,9 @@ pub fn advance<S: Respond, R: Receive, W: Transmit>(
 ) -> Progress
     requires may_read { R.may_read reader.old }
     requires may_write { W.may_write writer.old }
-    ensures advanced { Advances (S.wanted responder.now, S.replies responder.now) share.old share.new connection.old
-        connection.new (R.remaining reader.old) (R.remaining reader.new) (W.contents writer.old) (W.contents writer.new) }
+    ensures advanced { IsAdvanced (S.wanted responder.now, S.replies responder.now) share.old share.new
+        connection.old connection.new (R.remaining reader.old) (R.remaining reader.new) (W.contents writer.old)
+        (W.contents writer.new) }
     ensures still { result ≢ Progress.Moved }
     ensures stopped { IsStopped result share.new connection.new }
     ensures receives { result ≡ Progress.Blocked → wants_in connection.new.phase ≡ Wants.Bytes
@@ -79,8 +80,9 @@ fn step<S: Respond, R: Receive, W: Transmit>(
 ) -> Progress
     requires may_read { R.may_read reader.old }
     requires may_write { W.may_write writer.old }
-    ensures advanced { Advances (S.wanted responder.now, S.replies responder.now) share.old share.new connection.old
-        connection.new (R.remaining reader.old) (R.remaining reader.new) (W.contents writer.old) (W.contents writer.new) }
+    ensures advanced { IsAdvanced (S.wanted responder.now, S.replies responder.now) share.old share.new
+        connection.old connection.new (R.remaining reader.old) (R.remaining reader.new) (W.contents writer.old)
+        (W.contents writer.new) }
     ensures stopped { IsStopped result share.new connection.new }
     ensures receives { result ≡ Progress.Blocked → wants_in connection.new.phase ≡ Wants.Bytes
         → R.has_blocked reader.new }

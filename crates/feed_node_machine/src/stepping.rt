@@ -1,7 +1,8 @@
 //! A share of a turn: a connection receives, replies and sends.
 ghost use Rattle.std.specs.Prelude.{◌≡◌, List, option_copied};
 ghost use Rattle.feed_node_machine.specs.NodeEvents.{NodeEvent};
-ghost use Rattle.feed_node_machine.specs.Nodes.{table_of, HasHistory, HasServed, HasAsked, HasAdvanced, IsLater, KeepsRest};
+ghost use Rattle.feed_node_machine.specs.Nodes.{table_of, HasHistory, HasServed, HasAsked, HasAdvanced, IsLater};
+ghost use Rattle.feed_node_machine.specs.Nodes.{KeepsRest};
 ghost use Rattle.feed_node_table.specs.Tables.{IsSettled};
 
 use crate::machine::NodeMachine;
