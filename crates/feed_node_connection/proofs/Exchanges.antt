@@ -1,5 +1,5 @@
 -- The requests in the bytes received, as more bytes are received and more requests are answered.
-use Rattle.std.proofs.Common.{◌≡◌, ◌≤◌, ◌+◌, ℕ, Bool, true, false, List, [], ◌∷◌, ◌++◌, length, take, drop, Option, Some, None, refl, sym, ap, ◌∙◌, subst, append_assoc, append-nil, ◌⊎◌, inl, inr}
+use Rattle.std.proofs.Common.{◌≡◌, ◌+◌, ℕ, Bool, true, false, List, [], ◌∷◌, ◌++◌, length, take, drop, Option, Some, None, refl, sym, ap, ◌∙◌, subst, append_assoc, append-nil, ◌⊎◌, inl, inr}
 use Rattle.std.proofs.Common.{eqb-true, take-append-drop}
 use Rattle.std.specs.Prelude.{◌==◌, ◌&&◌, ◌||◌, not, nat_lt}
 use Rattle.std.specs.Option.{option_map_or}
@@ -10,9 +10,9 @@ use Rattle.feed_http_heads.specs.Limits.{head_limit, field_limit}
 use Rattle.feed_http_heads.specs.RequestHeads.{BeginsWithHead}
 use Rattle.feed_http_heads.specs.Options.{lacks_close}
 use Rattle.feed_node_connection.specs.Requests.{Request, Persistent, Last, Invalid, AreRequestsIn, Begins, is_post, stated_len, states_len, persists}
-use Rattle.feed_node_connection.specs.Requests.{all_persist, heads_in, IsFrontOf, RequestsAreUnique}
-use Rattle.feed_node_connection.specs.Events.{Event, Received, Replied, Sent, Continued, Resumed, Elapsed, received_bytes, reply_bytes, sent_bytes, requests_in, interim, continue_text}
-use Rattle.feed_node_connection.specs.Replies.{Replies, IsRepliedTo, AreRepliedTo, Exchange, requests_of, replies_of}
+use Rattle.feed_node_connection.specs.Requests.{all_persist, heads_in, IsFrontOf}
+use Rattle.feed_node_connection.specs.Events.{Event, Received, Replied, Sent, Continued, Resumed, Elapsed, reply_bytes, requests_in, interim, continue_text}
+use Rattle.feed_node_connection.specs.Replies.{Replies, AreRepliedTo, Exchange, requests_of, replies_of}
 use Rattle.feed_node_connection.specs.States.{AreInterims}
 use Rattle.feed_node_connection.specs.Streams.{AreReplies}
 

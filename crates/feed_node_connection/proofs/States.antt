@@ -1,11 +1,12 @@
 -- The state of a connection after each of its events.
 use Rattle.std.proofs.Common.{◌≡◌, ◌≢◌, ◌≤◌, ◌<◌, ◌+◌, ◌-◌, ◌⊎◌, ℕ, Bool, true, false, List, [], ◌∷◌, ◌++◌, length, take, drop, nat_le, Some, None}
-use Rattle.std.proofs.Common.{suc, eqb-true, refl, sym, ap, ◌∙◌, subst, arith, inl, inr, append_assoc, append-nil, take-append-drop, length-append, length-take-le, length-drop, cond}
-use Rattle.std.specs.Prelude.{◌==◌, ◌&&◌, not, if◌then◌else◌, vec_len}
+use Rattle.std.proofs.Common.{suc, eqb-true, refl, sym, ap, ◌∙◌, subst, arith, inl, inr, append_assoc, append-nil, take-append-drop, length-take-le, length-drop, cond}
+use Rattle.std.specs.Prelude.{◌==◌, ◌&&◌, not, vec_len}
 use Rattle.httparse.proofs.GrammarLemmas.{request_unique}
-use Rattle.std.proofs.lemmas.Bool.{cases_Bool, false≢true}
+use Rattle.std.proofs.lemmas.Bool.{cases_Bool}
 use Rattle.std.proofs.lemmas.Bool.Decides.{nat_tests}
-use Rattle.std.proofs.lemmas.List.{take_all, drop_all, drop-drop}
+use Rattle.std.proofs.Math.Seq.{take-add}
+use Rattle.std.proofs.lemmas.List.{take_all, drop_all, drop-drop, take-append-le}
 use Rattle.httparse.specs.Grammar.{RequestHead, print_request}
 use Rattle.feed_http_heads.specs.Limits.{head_limit, field_limit}
 use Rattle.feed_http_heads.specs.RequestHeads.{BeginsWithHead, IsUnfinished, NeverBeginsWithHead}
@@ -17,15 +18,15 @@ use Rattle.feed_node_connection.specs.declared.connection.Wants.TheVariants as w
 use Rattle.feed_node_connection.specs.declared.head_state.AfterReply.{AfterReply}
 use Rattle.feed_node_connection.specs.declared.head_state.FoundRequest.{FoundRequest}
 use Rattle.feed_node_connection.specs.declared.head_state.AfterReply.TheVariants.{Persist, Linger, Receive}
-use Rattle.feed_node_connection.specs.Requests.{Request, Persistent, Last, Invalid, AreRequestsIn, Begins, IsPersistent, persists, all_persist, states_len, body_len_of, expects_continue}
+use Rattle.feed_node_connection.specs.Requests.{Request, Persistent, Last, Invalid, text_of, IsLastOf, AreRequestsIn, IsPersistent, persists, all_persist, states_len, body_len_of, expects_continue}
 use Rattle.feed_node_connection.specs.Events.{Event, Received, Replied, Continued, Resumed, Sent, interim, continue_text}
-use Rattle.feed_node_connection.specs.Events.{received_bytes, reply_bytes, sent_bytes, requests_in, min_progress, is_idle, sent_len, sent_since, elapsed}
-use Rattle.feed_node_connection.specs.Replies.{Replies, IsRepliedTo, IsFoundIn, IsInterim, IsPending, IsServed, HasNoReply, after_reply, unavailable}
+use Rattle.feed_node_connection.specs.Events.{received_bytes, reply_bytes, sent_bytes, requests_in, min_progress, is_idle, sent_len, elapsed}
+use Rattle.feed_node_connection.specs.Replies.{Replies, IsFoundIn, IsPending, HasNoReply, unavailable}
 use Rattle.feed_node_connection.specs.States.{IsServedUpTo, AreFirst, HasEnded, AreSent, IsFrontSent, IsInTime, IsCurrent, IsAfterReply}
-use Rattle.feed_node_connection.specs.States.{HasStateIn, HasState, HasParsed, HasReplied, HasWaited, HasBegunWait, HasBegunInterim, IsSameButPhase}
-use Rattle.feed_node_connection.specs.States.{AreInterims, AreExpected, KnowsInterim, IsIncomplete, IsPartial, body_after, room_in, request_limit, rest_of, limit_in}
-use Rattle.feed_node_connection.specs.States.{HasBegunReply, HasResponded, HasRefused, phase_after, pending_in, wants_in, is_idle_in, is_lingering_in, is_reply_sent_in, IsRightAfter, StateIsRight}
-use Rattle.feed_node_connection.specs.Streams.{AreReplies, AllIsServed}
+use Rattle.feed_node_connection.specs.States.{HasStateIn, HasState, HasAborted, KnowsRequest, HasParsed, HasReplied, HasWaited, HasBegunWait, IsSameButPhase}
+use Rattle.feed_node_connection.specs.States.{IsIncomplete, body_after, room_in, request_limit, rest_of, limit_in}
+use Rattle.feed_node_connection.specs.States.{HasBegunReply, HasResponded, phase_after, pending_in, wants_in, is_idle_in, is_lingering_in, is_reply_sent_in, StateIsRight}
+use Rattle.feed_node_connection.specs.Streams.{AllIsServed}
 use Rattle.feed_node_connection.proofs.Unavailable.{unavailable_says}
 use Rattle.feed_node_connection.proofs.Exchanges.{begins_on, requests_on, requests_with, all_persist_with, ends_with, ends_with_none, head_taken, whole_begins}
 use Rattle.feed_node_connection.proofs.Exchanges.{exchanges, exchanges_asked, exchanges_replies, exchanges_replied}
@@ -146,16 +147,35 @@ done Persist new history is sent freed time = record { served = is.0; no_interim
 done Receive new history is sent freed time = record { served = is.0; knows = is.1; sent = sent; in_time = time }
 done Linger new history is sent freed time = record { complete = record { ended = is; sent = sent; freed = freed }; in_time = time }
 
+-- the request whose reply is sent remains the same
+pub knows_still : (old new : Connection) (history later : List Event) → requests_in later ≡ requests_in history → new.request_len ≡ old.request_len
+    → new.received.items ≡ old.received.items → KnowsRequest old history → KnowsRequest new later
+knows_still old new history later same size held (inl none) = inl (size ∙ none)
+knows_still old new history later same size held (inr is) = inr (rw (same, size, held) is)
+
+-- and if more bytes are held after it
+pub knows_more : (size : ℕ) (held more bytes : List ℕ) (requests : List Request) → size ≤ length held → more ≡ held ++ bytes
+    → (size ≡ 0) ⊎ IsLastOf requests (take size held) → (size ≡ 0) ⊎ IsLastOf requests (take size more)
+knows_more size held more bytes requests inside same (inl none) = inl none
+knows_more size held more bytes requests inside same (inr is) = inr (rw (same, take-append-le size held bytes inside) is)
+
+-- it is the one at the front
+knows_new : (reply : List ℕ) (size : ℕ) (after : AfterReply) (request : Request) (old new : Connection) (history : List Event) → text_of request ≡ take size old.received.items
+    → HasBegunReply reply size after old new → KnowsRequest new (Replied request reply ∷ history)
+knows_new reply size after request old new history text has = inr (requests_in history, request, refl, rw (has.request_len, has.received) text)
+
 -- a reply begins
 begun : (reply : List ℕ) (size : ℕ) (after : AfterReply) (request : Request) (old new : Connection) (history : List Event) → IsCurrent false old history → new.limits ≡ old.limits
-    → HasBegunReply reply size after old new → IsAfterReply after new (Replied request reply ∷ history) → HasState new (Replied request reply ∷ history)
-begun [] size after request old new history was limits has is = (
+    → text_of request ≡ take size old.received.items → HasBegunReply reply size after old new → IsAfterReply after new (Replied request reply ∷ history)
+    → HasState new (Replied request reply ∷ history)
+begun [] size after request old new history was limits text has is = (
   subst (λ (p : Phase). HasStateIn p new (Replied request [] ∷ history)) (sym has.phase)
       (done after new (Replied request [] ∷ history) is (append-nil (reply_bytes history) ∙ was.sent) has.text
       (record { idleness = refl; counted_time = has.elapsed; counted_bytes = has.sent_since; left = rw (has.elapsed, limits) (omega (arith, was.in_time.left)) })),
   has.sent_len,
+  knows_new [] size after request old new history text has,
 )
-begun (byte ∷ bytes) size after request old new history was limits has is = (
+begun (byte ∷ bytes) size after request old new history was limits text has is = (
   subst (λ (p : Phase). HasStateIn p new (Replied request (byte ∷ bytes) ∷ history)) (sym has.phase) (record {
     after = subst (λ (a : AfterReply). IsAfterReply a new (Replied request (byte ∷ bytes) ∷ history)) (sym has.after_is) is;
     sent = rw (has.sent, has.text) (ap (λ t. t ++ byte ∷ bytes) was.sent);
@@ -165,13 +185,16 @@ begun (byte ∷ bytes) size after request old new history was limits has is = (
     in_time = record { idleness = refl; counted_time = has.elapsed; counted_bytes = has.sent_since; left = rw (has.elapsed, limits) (omega (arith, was.in_time.left)) };
   }),
   has.sent_len,
+  knows_new (byte ∷ bytes) size after request old new history text has,
 )
 
 -- memory ran out
-cut : (old new : Connection) (history : List Event) → IsCurrent false old history → old.sent_len ≡ sent_len history → (new.phase ≡ Aborted) × (new.sent_len ≡ old.sent_len)
-    → HasState new history
-cut old new history was counted is =
-    (subst (λ (p : Phase). HasStateIn p new history) (sym is.0) (first_of history old.received.items was.served, ([], was.sent ∙ sym (append-nil (sent_bytes history)))), is.1 ∙ counted)
+cut : (old new : Connection) (history : List Event) → IsCurrent false old history → HasState old history → HasAborted old new → HasState new history
+cut old new history was state is = (
+  subst (λ (p : Phase). HasStateIn p new history) (sym is.0) (first_of history old.received.items was.served, ([], was.sent ∙ sym (append-nil (sent_bytes history)))),
+  is.1 ∙ state.1,
+  knows_still old new history history refl is.2 is.3 state.2,
+)
 
 -- the interim reply to the head at the front is one that the client expects
 interim_head : (bytes text : List ℕ) (head : RequestHead) → BeginsWithHead head_limit field_limit bytes head → IsPending bytes text
@@ -263,6 +286,9 @@ replied_head replies found old new history parsing state limits is within respon
     taken : take found.head_len old.received.items ≡ print_request is.head
     taken = head_taken old.received.items is.head found.head_len is.begins is.found.head_len_is
 
+    whole : print_request is.head ++ body_after found.head_len found.body_len old.received.items ≡ take (found.head_len + found.body_len) old.received.items
+    whole = ap (λ t. t ++ body_after found.head_len found.body_len old.received.items) (sym taken) ∙ sym (take-add found.head_len found.body_len old.received.items)
+
     long : length (body_after found.head_len found.body_len old.received.items) ≡ found.body_len
     long = length-take-le found.body_len (drop found.head_len old.received.items) (omega (arith, within, length-drop found.head_len old.received.items))
 
@@ -281,14 +307,14 @@ replied_head replies found old new history parsing state limits is within respon
       Persistent is.head (body_after found.head_len found.body_len old.received.items),
       reply,
       record { wanted = wanted; reply_of = text true reply has; says = says },
-      begun reply (found.head_len + found.body_len) Persist (Persistent is.head (body_after found.head_len found.body_len old.received.items)) old new history was limits begins
+      begun reply (found.head_len + found.body_len) Persist (Persistent is.head (body_after found.head_len found.body_len old.received.items)) old new history was limits whole begins
           (persists_after old new history reply found.head_len found.body_len is.head was is.begins is.found.head_len_is (keeps true same) begins),
     )
     by false same was (inl (reply, has, says, begins)) = inl (
       Last is.head (body_after found.head_len found.body_len old.received.items),
       reply,
       record { wanted = wanted; reply_of = inl (keeps false same, text false reply has); says = says },
-      begun reply (found.head_len + found.body_len) Linger (Last is.head (body_after found.head_len found.body_len old.received.items)) old new history was limits begins
+      begun reply (found.head_len + found.body_len) Linger (Last is.head (body_after found.head_len found.body_len old.received.items)) old new history was limits whole begins
           (ends_after old history reply found.head_len found.body_len is.head was is.begins is.found.head_len_is),
     )
     by p same was (inr (none, inl begins)) = inl (
@@ -299,7 +325,7 @@ replied_head replies found old new history parsing state limits is within respon
         reply_of = inr (subst (λ (t : List ℕ). HasNoReply replies t (body_after found.head_len found.body_len old.received.items)) taken none, refl);
         says = unavailable_says;
       },
-      begun unavailable (found.head_len + found.body_len) Linger (Last is.head (body_after found.head_len found.body_len old.received.items)) old new history was limits begins
+      begun unavailable (found.head_len + found.body_len) Linger (Last is.head (body_after found.head_len found.body_len old.received.items)) old new history was limits whole begins
           (ends_after old history unavailable found.head_len found.body_len is.head was is.begins is.found.head_len_is),
     )
     by p same was (inr (none, inr aborted)) = inr (
@@ -307,7 +333,7 @@ replied_head replies found old new history parsing state limits is within respon
       body_after found.head_len found.body_len old.received.items,
       none,
       aborted.0,
-      cut old new history was state.1 aborted,
+      cut old new history was state aborted,
     )
 
 -- the reply to bytes that are not a request
@@ -318,6 +344,9 @@ replied_invalid replies old new history size parsing state limits is never respo
   where
     all : take size old.received.items ≡ old.received.items
     all = take_all size old.received.items (omega (arith, is))
+
+    front : old.received.items ≡ take (size + 0) old.received.items
+    front = sym (take_all (size + 0) old.received.items (omega (arith, is)))
 
     no_bytes : (xs : List ℕ) → take 0 xs ≡ []
     no_bytes [] = refl
@@ -343,20 +372,20 @@ replied_invalid replies old new history size parsing state limits is never respo
             (subst (λ (t : List ℕ). replies.1 (take size old.received.items) t false (Some reply)) none_after has));
         says = says;
       },
-      begun reply (size + 0) Linger (Invalid old.received.items) old new history was limits begins (invalid_after old history reply was never),
+      begun reply (size + 0) Linger (Invalid old.received.items) old new history was limits front begins (invalid_after old history reply was never),
     )
     by was (inr (none, inl begins)) = inl (
       Invalid old.received.items,
       unavailable,
       record { wanted = tt; reply_of = inr (no_reply none, refl); says = unavailable_says },
-      begun unavailable (size + 0) Linger (Invalid old.received.items) old new history was limits begins (invalid_after old history unavailable was never),
+      begun unavailable (size + 0) Linger (Invalid old.received.items) old new history was limits front begins (invalid_after old history unavailable was never),
     )
     by was (inr (none, inr aborted)) = inr (
       take size old.received.items,
       body_after size 0 old.received.items,
       none,
       aborted.0,
-      cut old new history was state.1 aborted,
+      cut old new history was state aborted,
     )
 
 -- ---- the connection waits for a body
@@ -386,6 +415,7 @@ unfinished old new history parsing state limits phase same is = inl (
       incomplete = inl (subst (IsUnfinished head_limit) (sym same.received) is);
     }),
     same.sent_len ∙ state.1,
+    knows_still old new history history refl same.request_len same.received state.2,
   ),
 )
 
@@ -440,8 +470,9 @@ waited wanted found old new history parsing state limits is missing waits =
             };
           }),
           has.sent_len,
+          knows_still old new history (Continued ∷ history) refl has.request_len has.received state.2,
         ))
-    by true both was (inr aborted) = inr (inr (aborted.0, cut old new history was state.1 aborted))
+    by true both was (inr aborted) = inr (inr (aborted.0, cut old new history was state aborted))
     by false none was (phase, same) = inl (
       phase,
       (
@@ -458,6 +489,7 @@ waited wanted found old new history parsing state limits is missing waits =
           });
         }),
         same.sent_len ∙ state.1,
+        knows_still old new history history refl same.request_len same.received state.2,
       ),
     )
 

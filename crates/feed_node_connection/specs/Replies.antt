@@ -10,7 +10,7 @@ use Rattle.feed_node_connection.specs.declared.head_state.FoundRequest.{FoundReq
 use Rattle.feed_node_connection.specs.declared.head_state.HeadState.{HeadState}
 use Rattle.feed_node_connection.specs.declared.head_state.HeadState.TheVariants as state
 use Rattle.feed_node_connection.specs.declared.head_state.AfterReply.{AfterReply}
-use Rattle.feed_node_connection.specs.declared.head_state.AfterReply.TheVariants.{Persist, Linger, Receive}
+use Rattle.feed_node_connection.specs.declared.head_state.AfterReply.TheVariants.{Persist, Linger}
 
 -- the reply if the responder makes none (RFC 9110, section 15.6.4)
 abbrev pub unavailable : List ℕ

@@ -58,6 +58,16 @@ pub data Request : Type 0 where
   Persistent Last : RequestHead → List ℕ → Request
   Invalid : List ℕ → Request
 
+-- the bytes of a request: its head and its body, or those that are none
+abbrev pub text_of : Request → List ℕ
+text_of (Persistent head body) = print_request head ++ body
+text_of (Last head body) = print_request head ++ body
+text_of (Invalid text) = text
+
+-- the last of these requests has these bytes
+abbrev pub IsLastOf : List Request → List ℕ → Type 0
+IsLastOf requests bytes = (earlier : List Request) × (last : Request) × (requests ≡ earlier ++ last ∷ []) × (text_of last ≡ bytes)
+
 -- the bytes begin with this head, within the limits, and directly after it with this body
 pub record Begins (bytes : List ℕ) (head : RequestHead) (body : List ℕ) : Type 0 where
   pub rest : List ℕ

@@ -14,7 +14,7 @@ use Rattle.feed_node_connection.specs.declared.head_state.AfterReply.{AfterReply
 use Rattle.feed_node_connection.specs.declared.head_state.AfterReply.TheVariants.{Persist, Linger, Receive}
 use Rattle.feed_node_connection.specs.Events.{Event, Received, Sent, Replied, Continued, Resumed, Elapsed, interim, continue_text}
 use Rattle.feed_node_connection.specs.Events.{received_bytes, reply_bytes, last_reply, requests_in, sent_bytes, sent_len, sent_since, elapsed, is_idle}
-use Rattle.feed_node_connection.specs.Requests.{Request, AreRequestsIn, all_persist, states_len, body_limit, expects_continue}
+use Rattle.feed_node_connection.specs.Requests.{Request, AreRequestsIn, IsLastOf, all_persist, states_len, body_limit, expects_continue}
 use Rattle.feed_node_connection.specs.Replies.{Replies, HasNoReply, IsRepliedTo, IsInterim, IsPending, after_reply, unavailable}
 
 -- each interim reply was one that its client expects
@@ -148,9 +148,19 @@ HasStateIn Lingering connection history = IsLingering connection history
 HasStateIn Complete connection history = IsComplete connection history
 HasStateIn Aborted connection history = AreFirst history × IsFrontSent history
 
--- the connection has the state that this history determines, and knows how much of the current reply was sent
+-- the bytes of the request whose reply is sent
+abbrev pub request_of : Connection → List ℕ
+request_of connection = take connection.request_len connection.received.items
+
+-- if there is a request whose reply is sent, it is the last one with a reply
+abbrev pub KnowsRequest : Connection → List Event → Type 0
+KnowsRequest connection history = (connection.request_len ≡ 0) ⊎ IsLastOf (requests_in history) (request_of connection)
+
+-- the connection has the state that this history determines, and knows how much of the current reply was sent, and to which
+-- request
 abbrev pub HasState : Connection → List Event → Type 0
-HasState connection history = HasStateIn connection.phase connection history × (connection.sent_len ≡ sent_len history)
+HasState connection history =
+    HasStateIn connection.phase connection history × (connection.sent_len ≡ sent_len history) × KnowsRequest connection history
 
 -- a reply to the next request was made; or the responder made none, and memory ran out for the one that says so
 abbrev pub HasReplied : Replies → Connection → List Event → Type 0
@@ -203,10 +213,17 @@ pub record HasBegunInterim (old new : Connection) : Type 0 where
   pub is_continued : new.is_continued ≡ true
   pub sent_since : new.sent_since ≡ old.sent_since
   pub elapsed : new.elapsed ≡ old.elapsed
+  pub request_len : new.request_len ≡ old.request_len
+
+-- memory ran out
+abbrev pub HasAborted : Connection → Connection → Type 0
+HasAborted old new =
+    (new.phase ≡ Aborted) × (new.sent_len ≡ old.sent_len) × (new.request_len ≡ old.request_len)
+    × (new.received.items ≡ old.received.items)
 
 -- the responder made no reply to the first bytes: the connection says so, or memory ran out for that too
 abbrev pub HasRefused : ℕ → Connection → Connection → Type 0
-HasRefused size old new = HasBegunReply unavailable size Linger old new ⊎ ((new.phase ≡ Aborted) × (new.sent_len ≡ old.sent_len))
+HasRefused size old new = HasBegunReply unavailable size Linger old new ⊎ HasAborted old new
 
 -- what a wait leaves as it is
 pub record IsSameButPhase (old new : Connection) : Type 0 where
@@ -215,11 +232,12 @@ pub record IsSameButPhase (old new : Connection) : Type 0 where
   pub sent_len : new.sent_len ≡ old.sent_len
   pub sent_since : new.sent_since ≡ old.sent_since
   pub elapsed : new.elapsed ≡ old.elapsed
+  pub request_len : new.request_len ≡ old.request_len
 
 -- the connection waits for the body of the request: it makes the interim reply if the client expects one that it did not
 -- get, or memory ran out for that
 abbrev pub HasBegunWait : Bool → Connection → Connection → Type 0
-HasBegunWait true old new = HasBegunInterim old new ⊎ ((new.phase ≡ Aborted) × (new.sent_len ≡ old.sent_len))
+HasBegunWait true old new = HasBegunInterim old new ⊎ HasAborted old new
 HasBegunWait false old new = (new.phase ≡ Receiving) × IsSameButPhase old new
 
 -- the first bytes of those, and the bytes of a body after them

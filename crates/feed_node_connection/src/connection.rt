@@ -96,7 +96,7 @@ impl Connection {
     ghost use Rattle.feed_node_connection.specs.States.{HasState, HasParsed, HasBegunReply, HasRefused, HasResponded};
     ghost use Rattle.feed_node_connection.specs.States.{HasBegunInterim, HasBegunWait, body_after};
     ghost use Rattle.feed_node_connection.specs.States.{is_idle_in, is_lingering_in, is_reply_sent_in, limit_in};
-    ghost use Rattle.feed_node_connection.specs.States.{pending_of, phase_after, rest_of, room_of, wants_in};
+    ghost use Rattle.feed_node_connection.specs.States.{pending_of, phase_after, request_of, rest_of, room_of, wants_in};
     ghost use Rattle.feed_node_connection.specs.States.{closing_class, is_closed_before};
 
     /// Returns a connection with these time limits.
@@ -361,7 +361,7 @@ impl Connection {
 
     /// Returns the request whose reply is sent: its head and its body, or bytes that are not a head.
     pub fn request_bytes(&self) -> &[u8]
-        ensures { result.now ≡ take self.now.request_len self.now.received.items }
+        ensures { result.now ≡ request_of self.now }
     {
         &self.received[..self.request_len]
     }

@@ -1,5 +1,5 @@
 -- A request that makes a node fetch.
-use Rattle.std.proofs.Common.{◌≡◌, ℕ, Bool, false, List, Option, Some, None, Result, Ok, Err, inl, inr, refl, subst}
+use Rattle.std.proofs.Common.{◌≡◌, ◌∙◌, ℕ, Bool, true, false, List, [], ◌∷◌, take, Option, Some, None, Result, Ok, Err, inl, inr, refl, sym, subst}
 use Rattle.std.specs.Prelude.{IsSomeAnd, option_copied}
 use Rattle.httparse.specs.Grammar.{RequestHead}
 use Rattle.feed_names.specs.ReleaseName.{Name}
@@ -8,13 +8,28 @@ use Rattle.feed_keep.specs.declared.keep.Keep.{Ghosts}
 use Rattle.feed_model.specs.History.{History}
 use Rattle.feed_resolver_request.specs.FetchRequests.{IsFetchBy}
 use Rattle.feed_node_table.specs.declared.peer.Peer.{Peer}
-use Rattle.feed_node_table.specs.Connections.{request_of}
+use Rattle.feed_node_connection.specs.Events.{requests_in}
+use Rattle.feed_node_connection.specs.Requests.{IsLastOf}
+use Rattle.feed_node_connection.specs.States.{KnowsRequest, request_of}
+use Rattle.feed_node_connection.proofs.States.{first_in}
+use Rattle.feed_http_heads.proofs.RequestReading as reading
 use Rattle.feed_node_table.specs.Tables.{peer_at}
 use Rattle.feed_node_machine.specs.declared.machine.NodeMachine.{NodeMachine}
-use Rattle.feed_node_machine.specs.NodeEvents.{NodeEvent}
+use Rattle.feed_node_machine.specs.NodeEvents.{NodeEvent, events_of}
 use Rattle.feed_node_machine.specs.Rules.{Terms}
 use Rattle.feed_node_machine.specs.Nodes.{HasHistory, HasAsked}
 use Rattle.feed_node_machine.proofs.Shares.{asks_by}
+
+none_taken : (xs : List ℕ) → take 0 xs ≡ []
+none_taken [] = refl
+none_taken (x ∷ xs) = refl
+
+-- no bytes ask for nothing
+asks_nothing : {A : Type 0} (is_busy : Bool) (token : Option (List ℕ)) (asked : Result Name NameFault) → IsFetchBy is_busy token [] (Some asked) → A
+asks_nothing true token asked is = absurd (cc)
+asks_nothing false None asked is = absurd (cc)
+asks_nothing false (Some token) asked (inl (head, begins, is)) = absurd (reading.nothing_yet.not_whole head begins.rest begins.reads)
+asks_nothing false (Some token) asked (inr (none, is)) = absurd (cc)
 
 module _ {T K S : Type 0} {k : Ghosts K} (wanted : S → RequestHead → ℕ)
     (replies : S → Terms → History → List ℕ → List ℕ → Bool → List ℕ → Type 0) where
@@ -33,6 +48,12 @@ module _ {T K S : Type 0} {k : Ghosts K} (wanted : S → RequestHead → ℕ)
   })
   asked_moves key bytes is_busy token old (Ok name) history has request same asks = by (peer_at old.table key) refl request
     where
+      last_asked : (peer : Peer T) → KnowsRequest peer.connection (events_of key history) → bytes ≡ request_of peer.connection → IsLastOf (requests_in (events_of key history)) bytes
+      last_asked peer (inl none) same =
+          let empty : bytes ≡ [] = same ∙ rw none (none_taken peer.connection.received.items) in
+          asks_nothing is_busy token (Ok name) (subst (λ t. IsFetchBy is_busy token t (Some (Ok name))) empty asks)
+      last_asked peer (inr last) same = subst (IsLastOf (requests_in (events_of key history))) (sym same) last
+
       by : (slot : Option (Peer T)) → peer_at old.table key ≡ slot → IsSomeAnd slot (λ peer. bytes ≡ request_of peer.connection)
           → HasAsked wanted replies key (record old { requested = Some (Ok name) }) history
       by None is there = absurd there
@@ -47,9 +68,9 @@ module _ {T K S : Type 0} {k : Ghosts K} (wanted : S → RequestHead → ℕ)
           today = has.today;
           allowed = (
             record {
-              connection = peer.connection;
-              state = has.connections key peer is;
-              request = there;
+              rest = (first_in peer.connection.phase peer.connection (events_of key history) (has.connections key peer is).0).0;
+              in_order = (first_in peer.connection.phase peer.connection (events_of key history) (has.connections key peer is).0).1;
+              last = last_asked peer (has.connections key peer is).2 there;
               asks = subst (λ (t : Option (List ℕ)). IsFetchBy false t bytes (Some (Ok name))) same (asks_by is_busy token bytes name asks);
             },
             has.allowed,

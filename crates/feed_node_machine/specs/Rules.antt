@@ -7,11 +7,11 @@ use Rattle.feed_model.specs.History.{History}
 use Rattle.feed_fetch.specs.Steps.{IsReplyEvent}
 use Rattle.feed_resolver_request.specs.FetchRequests.{FetchPolicyValue, IsFetchBy}
 use Rattle.feed_node_connection.specs.declared.connection.Connection.{Connection}
-use Rattle.feed_node_connection.specs.Events.{Event}
+use Rattle.feed_node_connection.specs.Events.{Event, received_bytes, requests_in}
+use Rattle.feed_node_connection.specs.Requests.{AreRequestsIn, IsLastOf}
 use Rattle.feed_node_connection.specs.Replies.{Replies}
 use Rattle.feed_node_connection.specs.States.{HasState}
 use Rattle.feed_node_connection.specs.Streams.{AreReplies}
-use Rattle.feed_node_table.specs.Connections.{request_of}
 use Rattle.feed_node_machine.specs.NodeEvents.{NodeEvent, Accepted, Served, Passed, DayBegan, Asked, Took, TookPart, Reopened, events_of, feed_history, today_in, WasAsked}
 
 -- the circumstances of a reply beside the feed: who may make the node fetch, whether the client is on the same machine, and
@@ -45,12 +45,12 @@ pub record IsShare (rules : Rules) (token : Option (List ℕ)) (key : ℕ) (shar
   pub day : today_in earlier ≡ Some today
   pub replied : AreReplies (replies_at rules (terms_with token is_busy is_local today) (feed_history earlier)) share
 
--- the bytes are a request that has the token and asks for this release, and a connection with these events sends the reply
--- to it
+-- the bytes received on a connection with these events begin with the requests that had a reply, and the last of these has
+-- the token and asks for this release
 pub record IsAskedBy (token : Option (List ℕ)) (events : List Event) (bytes : List ℕ) (name : Name) : Type 0 where
-  pub connection : Connection
-  pub state : HasState connection events
-  pub request : bytes ≡ request_of connection
+  pub rest : List ℕ
+  pub in_order : AreRequestsIn (received_bytes events) (requests_in events) rest
+  pub last : IsLastOf (requests_in events) bytes
   pub asks : IsFetchBy false token bytes (Some (Ok name))
 
 -- each event since the node was opened may follow those before it; an earlier run may have had another responder or token

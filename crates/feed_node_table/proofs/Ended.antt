@@ -20,4 +20,4 @@ later_in Aborted connection history millis over state = state
 
 pub over_elapsed : (connection : Connection) (history : List Event) (millis : ℕ) → wants_in connection.phase ≡ wants.Close
     → HasState connection history → HasState connection (Elapsed millis ∷ history)
-over_elapsed connection history millis over state = (later_in connection.phase connection history millis over state.0, state.1)
+over_elapsed connection history millis over state = (later_in connection.phase connection history millis over state.0, state.1, state.2)

@@ -13,10 +13,6 @@ use Rattle.feed_node_connection.specs.Streams.{AreReplies, IsStopped}
 abbrev pub IsConnection : Connection → Type 0
 IsConnection connection = ∥ ((history : List Event) × HasState connection history) ∥₁
 
--- the bytes of the request whose reply it sends
-abbrev pub request_of : Connection → List ℕ
-request_of connection = take connection.request_len connection.received.items
-
 -- the number of bytes of its reply that are not yet sent
 abbrev pub unsent_bytes : Connection → ℕ
 unsent_bytes connection = length (pending_of connection)

@@ -2,8 +2,8 @@
 ghost use Rattle.std.specs.Prelude.{◌≡◌, ◌≢◌, ◌≤◌, ◌+◌, ◌⊎◌, max, ℕ, List, [], true, false};
 ghost use Rattle.std.specs.Prelude.{IfSome};
 ghost use Rattle.feed_node_connection.specs.Events.{Event};
-ghost use Rattle.feed_node_connection.specs.States.{HasState, is_reply_sent_in, wants_in};
-ghost use Rattle.feed_node_table.specs.Connections.{HasServed, IsConnection, IsGiven, request_of, unsent_bytes};
+ghost use Rattle.feed_node_connection.specs.States.{HasState, is_reply_sent_in, request_of, wants_in};
+ghost use Rattle.feed_node_table.specs.Connections.{HasServed, IsConnection, IsGiven, unsent_bytes};
 ghost use Rattle.feed_node_table.specs.Logs.{HasRecorded, Replied};
 
 use crate::log::{CloseCause, Log};

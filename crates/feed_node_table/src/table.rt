@@ -34,12 +34,12 @@ pub struct Table<T> {
 }
 
 impl<T: Stream> Table<T> {
-    ghost use Rattle.feed_node_connection.specs.States.{is_closed_before, HasState};
+    ghost use Rattle.feed_node_connection.specs.States.{is_closed_before, request_of, HasState};
     ghost use Rattle.feed_node_table.specs.Logs.{Accepted, HasRecorded};
     ghost use Rattle.feed_node_table.specs.Tables.{peer_at, size_of, bytes_held, ready_keys, IsReady, KeepsOthers};
     ghost use Rattle.feed_node_table.specs.Tables.{KeepsReady};
     ghost use Rattle.feed_node_table.specs.declared.peer.Peer.{Peer};
-    ghost use Rattle.feed_node_table.specs.Connections.{AreWithin, request_of, short_len};
+    ghost use Rattle.feed_node_table.specs.Connections.{AreWithin, short_len};
     ghost use Rattle.feed_node_table.specs.Peers.{cause_of, IsFollowed, IsLate};
     ghost use Rattle.feed_node_table.specs.Tables.{IsFirstToClose, IsFirstBelow, IsRemoved, HasClosed, IsSettled};
     ghost use Rattle.feed_node_table.specs.Tables.{has_room_in, over_bytes, unsent_limit};

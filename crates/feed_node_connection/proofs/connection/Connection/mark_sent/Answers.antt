@@ -1,4 +1,4 @@
-use Rattle.std.proofs.Common.{arith, refl, ap, sym, ◌∙◌}
+use Rattle.std.proofs.Common.{arith, refl, ap}
 use Rattle.feed_node_connection.proofs.States.{sent_part, sent_whole, counted_sent, counted_anew, counted_on}
 use Rattle.feed_node_connection.proofs.connection.Connection.mark_sent.Goals.{then-count-self, else-count-self}
 use Rattle.feed_node_connection.proofs.connection.Connection.mark_sent.Goals as goal
@@ -15,6 +15,7 @@ returns-then-count-len-clause-state c = λ history state. (
       ])
       (omega (arith, c.if-count-len.true, c.len.ensures)) c.new.ensures.items c.phase_after-self.ensures state.0,
   counted_sent c.args.self.now.phase c.args.self.now history c.args.count c.requires.some c.requires.within state.0,
+  state.2,
 )
 
 pub returns-else-count-len-clause-state : goal.returns-else-count-len-clause-state
@@ -29,4 +30,5 @@ returns-else-count-len-clause-state c = λ history state. (
       ])
       (λ e. absurd (omega (arith, c.if-count-len.false, c.len.ensures, e))) state.0,
   counted_sent c.args.self.now.phase c.args.self.now history c.args.count c.requires.some c.requires.within state.0,
+  state.2,
 )

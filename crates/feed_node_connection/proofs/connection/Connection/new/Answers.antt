@@ -16,4 +16,5 @@ returns-clause-state c = (
     incomplete = inl (subst (IsUnfinished head_limit) (sym c.new.ensures.items) nothing_yet);
   },
   refl,
+  inl refl,
 )

@@ -1,4 +1,4 @@
-use Rattle.std.proofs.Common.{ℕ, List, length, subst, sym, ap, ◌∙◌}
+use Rattle.std.proofs.Common.{length, subst, sym, ap, ◌∙◌}
 use Rattle.feed_http_heads.specs.Limits.{head_limit, field_limit}
 use Rattle.feed_http_heads.specs.RequestHeads.{IsUnfinished, NeverBeginsWithHead}
 use Rattle.feed_node_connection.proofs.States.{replied_invalid, unfinished}

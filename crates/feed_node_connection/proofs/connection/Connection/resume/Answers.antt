@@ -1,4 +1,4 @@
-use Rattle.std.proofs.Common.{refl, sym, ◌∙◌, true, false, rules}
+use Rattle.std.proofs.Common.{refl, sym, ◌∙◌, true, false, rules, inl}
 use Rattle.feed_node_connection.proofs.States.{resumed}
 use Rattle.feed_node_connection.proofs.connection.Connection.resume.Goals.{then-is_empty, else-is_empty}
 use Rattle.feed_node_connection.proofs.connection.Connection.resume.Goals as goal
@@ -12,4 +12,5 @@ returns-clause-state c = λ history state. (
         false (sym w.if-is_empty.false ∙ c.is_empty.ensures) w.self-is
   ],
   refl,
+  inl refl,
 )
