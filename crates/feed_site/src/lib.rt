@@ -4,6 +4,7 @@
 mod checks;
 mod cuts;
 mod fault;
+mod held;
 mod kind;
 mod laws;
 mod links;
@@ -18,6 +19,7 @@ mod url;
 mod values;
 
 pub use fault::Reason;
+pub use held::library_has;
 pub use laws::{
     excepted_is_direct, free_is_direct, link_fits, no_proxy_is_direct, others_go_through,
     subdomains_are_within,
