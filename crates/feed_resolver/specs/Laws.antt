@@ -10,6 +10,8 @@ use Rattle.feed_answer.specs.QueryValue.{QueryValue}
 use Rattle.feed_model.specs.History.{History, IsFile}
 use Rattle.feed_releases.specs.Actives.{ActiveValue, ReportAlike}
 use Rattle.feed_resolver_request.specs.declared.representation.Representation.TheVariants.{Text, Json}
+use Rattle.feed_resolver_hits.specs.Hits.{held_hits}
+use Rattle.feed_site.specs.Site as site_file
 use Rattle.feed_resolver_reply.specs.Replies.{ResponseValue}
 use Rattle.feed_resolver.specs.Answers.{Sited, hits_among, tally_among, answers_body}
 use Rattle.feed_resolver.specs.Status.{status_body, active_value}
@@ -46,12 +48,13 @@ SameReleasesSameNodeBytes =
 abbrev pub StatusIsJson : Type 0
 StatusIsJson = (actives : List ActiveValue) → document (status_body Json actives) ≡ Some (array (items_of (map active_value actives)))
 
--- the answer of a release, as `Answer::write` prints it
-abbrev pub written_answer : QueryValue → ActiveValue → List ℕ
-written_answer query active = answer_text (text_of active.name) (answer_of active.holdings query)
+-- the answer of a release, as `Answer::write` prints it, without the hits that the library does not have
+abbrev pub written_answer : site_file.SiteValue → QueryValue → ActiveValue → List ℕ
+written_answer site query active =
+    answer_text (text_of active.name) (held_hits site query active.name (answer_of active.holdings query))
 
--- a reply that shows all hits has, as text, the answers that `Answer::write` prints
+-- a reply that shows all hits has, as text, the answers that `Answer::write` prints, of the hits that the library has
 abbrev pub WholeTextIsWritten : Type 0
 WholeTextIsWritten =
     (text : List ℕ) (query : QueryValue) (actives : Sited) → (tally_among query actives).shown ≡ hits_among query actives
-    → answers_body Text text query actives ≡ flat_map (written_answer query) actives.actives
+    → answers_body Text text query actives ≡ flat_map (written_answer actives.library query) actives.actives
