@@ -1,16 +1,17 @@
 -- The laws of replies.
-use Rattle.std.specs.Prelude.{◌≡◌, ℕ, Bool, List, Some, map}
-use Rattle.std.specs.List.{flat_map}
+use Rattle.std.specs.Prelude.{◌≡◌, ◌↔◌, ℕ, Bool, true, List, Some, map}
+use Rattle.std.specs.List.{Contains, flat_map}
 use Rattle.json.specs.Json.{document, array}
 use Rattle.json.specs.Value.{items_of}
 use Rattle.feed_embargo.specs.Today.{TodayValue}
 use Rattle.feed_names.specs.ReleaseName.{Name, text_of}
 use Rattle.feed_answer.specs.Answers.{answer_of, answer_text}
+use Rattle.feed_answer.specs.HitValue.{HitValue}
 use Rattle.feed_answer.specs.QueryValue.{QueryValue}
 use Rattle.feed_model.specs.History.{History, IsFile}
 use Rattle.feed_releases.specs.Actives.{ActiveValue, ReportAlike}
 use Rattle.feed_resolver_request.specs.declared.representation.Representation.TheVariants.{Text, Json}
-use Rattle.feed_resolver_hits.specs.Hits.{held_hits}
+use Rattle.feed_resolver_hits.specs.Hits.{ReleaseHitValue, held_hits, is_held, link_text, release_hit}
 use Rattle.feed_site.specs.Site as site_file
 use Rattle.feed_resolver_reply.specs.Replies.{ResponseValue}
 use Rattle.feed_resolver.specs.Answers.{Sited, hits_among, tally_among, answers_body}
@@ -47,6 +48,25 @@ SameReleasesSameNodeBytes =
 -- the active releases in JSON are, by its grammar (RFC 8259), an array with one object for each, in their order
 abbrev pub StatusIsJson : Type 0
 StatusIsJson = (actives : List ActiveValue) → document (status_body Json actives) ≡ Some (array (items_of (map active_value actives)))
+
+-- a hit of the core in an active release, and what the library has of it
+pub record IsHeldHit (query : QueryValue) (actives : Sited) (found : ReleaseHitValue) : Type 0 where
+  pub active : ActiveValue
+  pub is_active : Contains actives.actives active
+  pub hit : HitValue
+  pub answers : Contains (answer_of active.holdings query) hit
+  pub held : is_held actives.library query active.name hit ≡ true
+  pub shown : found ≡ release_hit actives.library actives.today query active.name hit
+
+-- a reply counts exactly the hits of the core that the library has
+abbrev pub HitsAreHeld : Type 0
+HitsAreHeld = (query : QueryValue) (actives : Sited) (found : ReleaseHitValue)
+    → Contains (hits_among query actives) found ↔ IsHeldHit query actives found
+
+-- a link is that of such a hit
+abbrev pub LinksAreHeld : Type 0
+LinksAreHeld = (query : QueryValue) (actives : Sited) (url : List ℕ) → (tally_among query actives).best ≡ Some url
+    → (found : ReleaseHitValue) × IsHeldHit query actives found × (url ≡ link_text found)
 
 -- the answer of a release, as `Answer::write` prints it, without the hits that the library does not have
 abbrev pub written_answer : site_file.SiteValue → QueryValue → ActiveValue → List ℕ

@@ -1,5 +1,5 @@
 -- What a library has of the rows of a list.
-use Rattle.std.specs.Prelude.{ℕ, ℤ, ◌&&◌, Bool, true, if◌then◌else◌, List, Option, Some, None, option_map, unwrap_or}
+use Rattle.std.specs.Prelude.{ℕ, ℤ, ◌&&◌, Bool, true, List, Option, Some, None, option_map, unwrap_or}
 use Rattle.std.specs.List.{find}
 use Rattle.std.specs.Str.{bytes_eq}
 use Rattle.feed_dates.specs.declared.day_range.DayRange.{DayRange}

@@ -13,3 +13,4 @@ pub mod Held
 pub mod Reading
 pub mod Proxies
 pub mod Laws
+pub mod HeldLaws
