@@ -11,7 +11,7 @@ use Rattle.feed_embargo.specs.Today.{TodayValue}
 use Rattle.feed_site.specs.Site as site_file
 use Rattle.feed_answer.specs.QueryValue.{QueryValue}
 use Rattle.feed_releases.specs.Actives.{ActiveValue}
-use Rattle.feed_resolver_hits.specs.Hits.{ReleaseHitValue, release_hit}
+use Rattle.feed_resolver_hits.specs.Hits.{ReleaseHitValue, held_hits, release_hit}
 use Rattle.feed_resolver_hits.specs.HitsText.{release_hit_line, release_head_line, release_text}
 use Rattle.feed_resolver_hits.specs.Tallies.{text_size, first_within, count_limit, shown_limit, text_limit, counted, tally_of}
 use Rattle.feed_resolver.specs.Answers.{sited_by, release_hits, hits_among, texts_behind, answers_body}
@@ -121,7 +121,7 @@ front_whole hits more few all =
 
 texts_whole : (site : site_file.SiteValue) (today : TodayValue) (query : QueryValue) (earlier : List ReleaseHitValue) (actives : List ActiveValue)
     → length (earlier ++ hits_among query (sited_by site today actives)) ≤ count_limit
-    → AllShown shown_limit text_limit (earlier ++ hits_among query (sited_by site today actives)) → texts_behind site today query earlier actives ≡ flat_map (written_answer query) actives
+    → AllShown shown_limit text_limit (earlier ++ hits_among query (sited_by site today actives)) → texts_behind site today query earlier actives ≡ flat_map (written_answer site query) actives
 texts_whole site today query earlier [] few all = refl
 texts_whole site today query earlier (active ∷ actives) few all =
     let own = release_hits site today query active in
@@ -130,8 +130,8 @@ texts_whole site today query earlier (active ∷ actives) few all =
     let count : length ((earlier ++ own) ++ rest) ≤ count_limit = rw (← joint) few in
     let shown : AllShown shown_limit text_limit ((earlier ++ own) ++ rest) = rw (← joint) all in
     ap (λ t. t ++ texts_behind site today query (earlier ++ own) actives)
-    (release_is site today query earlier active.name (answer_of active.holdings query) (front_whole earlier (own ++ rest) few all) (front_whole (earlier ++ own) rest count shown))
-    ∙ ap (λ t. written_answer query active ++ t) (texts_whole site today query (earlier ++ own) actives count shown)
+    (release_is site today query earlier active.name (held_hits site query active.name (answer_of active.holdings query)) (front_whole earlier (own ++ rest) few all) (front_whole (earlier ++ own) rest count shown))
+    ∙ ap (λ t. written_answer site query active ++ t) (texts_whole site today query (earlier ++ own) actives count shown)
 
 pub whole_text : WholeTextIsWritten
 unfolding answers_body

@@ -1,5 +1,5 @@
 -- The hits of a query in active releases on a day, and the body that lists them.
-use Rattle.std.specs.Prelude.{ℕ, Bool, true, false, List, [], ◌∷◌, ◌++◌, codes, map}
+use Rattle.std.specs.Prelude.{ℕ, Bool, true, false, List, [], ◌∷◌, ◌++◌, codes}
 use Rattle.std.specs.List.{flat_map}
 use Rattle.std.specs.Str.{bytes_eq}
 use Rattle.feed_embargo.specs.Today.{TodayValue}
@@ -9,7 +9,7 @@ use Rattle.feed_answer.specs.Answers.{answer_of}
 use Rattle.feed_releases.specs.Actives.{ActiveValue}
 use Rattle.feed_resolver_request.specs.declared.representation.Representation.{Representation}
 use Rattle.feed_resolver_request.specs.declared.representation.Representation.TheVariants.{Text, Json, Html}
-use Rattle.feed_resolver_hits.specs.Hits.{ReleaseHitValue, release_hit}
+use Rattle.feed_resolver_hits.specs.Hits.{ReleaseHitValue, library_hits}
 use Rattle.feed_resolver_hits.specs.AnswerJson.{answer_json}
 use Rattle.feed_resolver_hits.specs.Asks.{AskValue, ask_of}
 use Rattle.feed_resolver_hits.specs.HitsPage.{hits_page, page_title}
@@ -37,9 +37,9 @@ sited_by site today actives = record { library = site; today = today; actives = 
 abbrev pub sited : SiteValue → Dated → Sited
 sited site actives = sited_by site.library actives.today actives.actives
 
--- the hits of a query in a release
+-- the hits of a query in a release that the library has
 abbrev pub release_hits : site_file.SiteValue → TodayValue → QueryValue → ActiveValue → List ReleaseHitValue
-release_hits site today query active = map (release_hit site today query active.name) (answer_of active.holdings query)
+release_hits site today query active = library_hits site today query active.name (answer_of active.holdings query)
 
 -- the hits in all the releases, in their order
 abbrev pub hits_among : QueryValue → Sited → List ReleaseHitValue

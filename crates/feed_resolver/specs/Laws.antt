@@ -1,15 +1,18 @@
 -- The laws of replies.
-use Rattle.std.specs.Prelude.{◌≡◌, ℕ, Bool, List, Some, map}
-use Rattle.std.specs.List.{flat_map}
+use Rattle.std.specs.Prelude.{◌≡◌, ◌↔◌, ℕ, Bool, true, List, Some, map}
+use Rattle.std.specs.List.{Contains, flat_map}
 use Rattle.json.specs.Json.{document, array}
 use Rattle.json.specs.Value.{items_of}
 use Rattle.feed_embargo.specs.Today.{TodayValue}
 use Rattle.feed_names.specs.ReleaseName.{Name, text_of}
 use Rattle.feed_answer.specs.Answers.{answer_of, answer_text}
+use Rattle.feed_answer.specs.HitValue.{HitValue}
 use Rattle.feed_answer.specs.QueryValue.{QueryValue}
 use Rattle.feed_model.specs.History.{History, IsFile}
 use Rattle.feed_releases.specs.Actives.{ActiveValue, ReportAlike}
 use Rattle.feed_resolver_request.specs.declared.representation.Representation.TheVariants.{Text, Json}
+use Rattle.feed_resolver_hits.specs.Hits.{ReleaseHitValue, held_hits, is_held, link_text, release_hit}
+use Rattle.feed_site.specs.Site as site_file
 use Rattle.feed_resolver_reply.specs.Replies.{ResponseValue}
 use Rattle.feed_resolver.specs.Answers.{Sited, hits_among, tally_among, answers_body}
 use Rattle.feed_resolver.specs.Status.{status_body, active_value}
@@ -46,12 +49,32 @@ SameReleasesSameNodeBytes =
 abbrev pub StatusIsJson : Type 0
 StatusIsJson = (actives : List ActiveValue) → document (status_body Json actives) ≡ Some (array (items_of (map active_value actives)))
 
--- the answer of a release, as `Answer::write` prints it
-abbrev pub written_answer : QueryValue → ActiveValue → List ℕ
-written_answer query active = answer_text (text_of active.name) (answer_of active.holdings query)
+-- a hit of the core in an active release, and what the library has of it
+pub record IsHeldHit (query : QueryValue) (actives : Sited) (found : ReleaseHitValue) : Type 0 where
+  pub active : ActiveValue
+  pub is_active : Contains actives.actives active
+  pub hit : HitValue
+  pub answers : Contains (answer_of active.holdings query) hit
+  pub held : is_held actives.library query active.name hit ≡ true
+  pub shown : found ≡ release_hit actives.library actives.today query active.name hit
 
--- a reply that shows all hits has, as text, the answers that `Answer::write` prints
+-- a reply counts exactly the hits of the core that the library has
+abbrev pub HitsAreHeld : Type 0
+HitsAreHeld = (query : QueryValue) (actives : Sited) (found : ReleaseHitValue)
+    → Contains (hits_among query actives) found ↔ IsHeldHit query actives found
+
+-- a link is that of such a hit
+abbrev pub LinksAreHeld : Type 0
+LinksAreHeld = (query : QueryValue) (actives : Sited) (url : List ℕ) → (tally_among query actives).best ≡ Some url
+    → (found : ReleaseHitValue) × IsHeldHit query actives found × (url ≡ link_text found)
+
+-- the answer of a release, as `Answer::write` prints it, without the hits that the library does not have
+abbrev pub written_answer : site_file.SiteValue → QueryValue → ActiveValue → List ℕ
+written_answer site query active =
+    answer_text (text_of active.name) (held_hits site query active.name (answer_of active.holdings query))
+
+-- a reply that shows all hits has, as text, the answers that `Answer::write` prints, of the hits that the library has
 abbrev pub WholeTextIsWritten : Type 0
 WholeTextIsWritten =
     (text : List ℕ) (query : QueryValue) (actives : Sited) → (tally_among query actives).shown ≡ hits_among query actives
-    → answers_body Text text query actives ≡ flat_map (written_answer query) actives.actives
+    → answers_body Text text query actives ≡ flat_map (written_answer actives.library query) actives.actives

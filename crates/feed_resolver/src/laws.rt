@@ -1,6 +1,6 @@
 //! Laws of all replies, each stated as the contract of a function with an empty body.
 ghost use Rattle.feed_resolver.specs.Laws.{SameReleasesSameBytes, SameReleasesSameNodeBytes, StatusIsJson};
-ghost use Rattle.feed_resolver.specs.Laws.{WholeTextIsWritten};
+ghost use Rattle.feed_resolver.specs.Laws.{HitsAreHeld, LinksAreHeld, WholeTextIsWritten};
 ghost use Rattle.feed_resolver.specs.Messages.{FormIsGet, GoesToBest, HeadIsHeadOfGet};
 ghost use Rattle.feed_resolver.specs.TagLaws.{SameReleasesSameTag, SameInputsSameBytes, NotModifiedHasTagOfGood};
 
@@ -30,7 +30,17 @@ pub fn status_is_json()
     ensures { StatusIsJson }
 {}
 
-/// A reply that shows all hits has, as text, the answers that `Answer::write` prints.
+/// A reply counts exactly the hits of the core that the library has.
+pub fn hits_are_held()
+    ensures { HitsAreHeld }
+{}
+
+/// A hit that the library does not have is never linked to.
+pub fn links_are_held()
+    ensures { LinksAreHeld }
+{}
+
+/// A reply that shows all hits has, as text, the answers that `Answer::write` prints of the hits that the library has.
 pub fn whole_text_is_written()
     ensures { WholeTextIsWritten }
 {}

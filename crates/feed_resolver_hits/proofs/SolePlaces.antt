@@ -1,5 +1,5 @@
 -- The places of the rows that have the only identifier of a query.
-use Rattle.std.proofs.Common.{◌≡◌, ◌<◌, ◌≤◌, ◌+◌, ℕ, suc, length, get_or, map, Bool, true, false, List, [], ◌∷◌, ◌++◌, refl, sym, ap, ◌∙◌, arith, subst}
+use Rattle.std.proofs.Common.{◌≡◌, ◌<◌, ◌≤◌, ◌+◌, ℕ, suc, length, get_or, Bool, true, false, List, [], ◌∷◌, ◌++◌, refl, sym, ap, ◌∙◌, arith, subst}
 use Rattle.std.specs.Prelude.{if◌then◌else◌, ◌==◌, Option, Some, None}
 use Rattle.std.proofs.lemmas.List.{append-nil}
 use Rattle.std.proofs.lemmas.Bool.{eqb-true}
@@ -20,7 +20,7 @@ use Rattle.feed_answer.proofs.Places.{answered_at}
 use Rattle.feed_answer.specs.QueryValue.{QueryValue}
 use Rattle.feed_resolver_hits.specs.Candidates.{AreCandidates}
 use Rattle.feed_site.specs.Site as site_file
-use Rattle.feed_resolver_hits.specs.Hits.{release_hit}
+use Rattle.feed_resolver_hits.specs.Hits.{library_hits}
 use Rattle.feed_resolver_hits.specs.Tallying.{RunningValue, with_hits}
 
 -- the places of rows that pass a test, the first of them at this place
@@ -101,9 +101,9 @@ sole_isbn query rows isbn asked at issns places all one same here others none fo
 -- the hits at such places are those of the release
 pub added : (site : site_file.SiteValue) (today : TodayValue) (query : QueryValue) (holdings : HoldingsValue) (name : Name) (running new : RunningValue) (rows : List RowValue) (places found : List ℕ)
     → rows ≡ holdings.rows → places ≡ found → IsStrictlyIncreasing found → ((place : ℕ) → Contains (places_among query holdings.rows) place → Contains found place)
-    → new ≡ with_hits running (map (release_hit site today query name) (filter_map (hit_at query rows) places))
-    → new ≡ with_hits running (map (release_hit site today query name) (answer_of holdings query))
+    → new ≡ with_hits running (library_hits site today query name (filter_map (hit_at query rows) places))
+    → new ≡ with_hits running (library_hits site today query name (answer_of holdings query))
 added site today query holdings name running new rows places found same listed ascend whole is =
-    is ∙ ap (λ rs. with_hits running (map (release_hit site today query name) (filter_map (hit_at query rs) places))) same
-    ∙ ap (λ ps. with_hits running (map (release_hit site today query name) (filter_map (hit_at query holdings.rows) ps))) listed
-    ∙ ap (λ hits. with_hits running (map (release_hit site today query name) hits)) (answered_at query holdings found ascend whole)
+    is ∙ ap (λ rs. with_hits running (library_hits site today query name (filter_map (hit_at query rs) places))) same
+    ∙ ap (λ ps. with_hits running (library_hits site today query name (filter_map (hit_at query holdings.rows) ps))) listed
+    ∙ ap (λ hits. with_hits running (library_hits site today query name hits)) (answered_at query holdings found ascend whole)

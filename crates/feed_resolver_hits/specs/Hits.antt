@@ -1,5 +1,5 @@
 -- The hits of a query, each with its release and its availability, and the best link among them.
-use Rattle.std.specs.Prelude.{ℕ, ◌+◌, ◌*◌, Bool, nat_lt, if◌then◌else◌, List, [], ◌∷◌, codes, Option, Some, None, option_map}
+use Rattle.std.specs.Prelude.{ℕ, ◌+◌, ◌*◌, Bool, nat_lt, if◌then◌else◌, List, [], ◌∷◌, codes, Option, Some, None, filter, map, option_map}
 use Rattle.std.specs.Str.{str_eq_ignore_ascii_case}
 use Rattle.feed_names.specs.ReleaseName.{Name, text_of}
 use Rattle.feed_identifiers.specs.Text.{trimmed}
@@ -7,11 +7,16 @@ use Rattle.feed_embargo.specs.Today.{TodayValue}
 use Rattle.feed_embargo.specs.Availability.{availability_of}
 use Rattle.feed_embargo.specs.declared.availability.Availability.{Availability}
 use Rattle.feed_embargo.specs.declared.availability.Availability.TheVariants.{Available, Partly, NotCompared, Embargoed}
+use Rattle.feed_dates.specs.declared.day_range.DayRange.{DayRange}
+use Rattle.feed_kbart.specs.Identifiers.{kind}
 use Rattle.feed_kbart.specs.RowValue.{RowValue}
+use Rattle.feed_kbart.specs.declared.identifiers.Kind.{Kind}
+use Rattle.feed_kbart.specs.declared.identifiers.Kind.TheVariants.{Serial, Book}
 use Rattle.feed_answer.specs.HitValue.{HitValue}
 use Rattle.feed_answer.specs.QueryValue.{QueryValue}
 use Rattle.feed_answer.specs.declared.grade.Grade.{Grade}
 use Rattle.feed_answer.specs.declared.grade.Grade.TheVariants.{Inside, Overlap, Untested}
+use Rattle.feed_site.specs.Held.{library_has}
 use Rattle.feed_site.specs.Proxies.{prefix_for, through}
 use Rattle.feed_site.specs.Site as site_file
 use Rattle.feed_resolver_hits.specs.Links.{is_link}
@@ -40,6 +45,24 @@ release_hit site today query name hit = record {
   availability = availability_of today hit.row.embargo hit.row.first_day hit.row.last_day query.days;
   prefix = prefix_for site hit.row.url (is_free hit.row);
 }
+
+-- the days that are asked for of a title; those of a book are the days of its publication, which are not compared
+abbrev pub days_asked : Kind → Option DayRange → Option DayRange
+days_asked Serial days = days
+days_asked Book days = None
+
+-- the library has what is asked for of a hit of this release
+abbrev pub is_held : site_file.SiteValue → QueryValue → Name → HitValue → Bool
+is_held site query name hit =
+    library_has site name.stem hit.row.title_id hit.row.first_day hit.row.last_day (days_asked (kind hit.row.identifiers) query.days)
+
+-- the hits of this release that the library has
+abbrev pub held_hits : site_file.SiteValue → QueryValue → Name → List HitValue → List HitValue
+held_hits site query name hits = filter (is_held site query name) hits
+
+-- the same for its readers, today
+abbrev pub library_hits : site_file.SiteValue → TodayValue → QueryValue → Name → List HitValue → List ReleaseHitValue
+library_hits site today query name hits = map (release_hit site today query name) (held_hits site query name hits)
 
 -- the link of a hit: its URL, or that through the proxy
 abbrev pub link_text : ReleaseHitValue → List ℕ

@@ -2,14 +2,15 @@
 ghost use Rattle.std.specs.Prelude.{◌≡◌, IfOk, option_copied};
 ghost use Rattle.std.specs.Cow.{cow_slice_items};
 ghost use Rattle.feed_answer.specs.HitValue.{hit_of};
-ghost use Rattle.feed_resolver_hits.specs.Hits.{link_text, name_text, release_hit};
+ghost use Rattle.feed_resolver_hits.specs.Hits.{days_asked, is_held, link_text, name_text, release_hit};
 
 use crate::rank::is_free;
 use feed_answer::{Grade, Hit, Query};
+use feed_dates::DayRange;
 use feed_embargo::{Availability, Today, availability_of};
-use feed_kbart::Row;
+use feed_kbart::{Kind, Row};
 use feed_names::ReleaseName;
-use feed_site::{SiteFile, link_to, prefix_for};
+use feed_site::{SiteFile, library_has, link_to, prefix_for};
 use std::alloc::{AllocError, Global};
 use std::borrow::CowSlice;
 use std::marker::Model;
@@ -114,6 +115,26 @@ impl<'a> ReleaseHit<'a> {
     {
         self.availability
     }
+}
+
+// The days that are asked for of a title. A book is published on a day, and its days are not compared.
+fn days_asked(kind: Kind, days: Option<DayRange>) -> Option<DayRange>
+    ensures { result ≡ days_asked kind days }
+{
+    match kind {
+        Kind::Serial => days,
+        Kind::Book => None,
+    }
+}
+
+/// Returns whether the library has what is asked for of a hit of a release.
+pub(crate) fn is_held(site: &SiteFile, query: &Query, name: &ReleaseName, hit: &Hit<'_>) -> bool
+    ensures { result ≡ is_held site.now query.now name.now (hit_of hit.now) }
+{
+    let row = hit.row;
+    let (first, last) = (row.first_day(), row.last_day());
+    let asked = days_asked(row.kind(), query.days());
+    library_has(site, name.package(), row.title_id(), first, last, asked)
 }
 
 /// Returns the text of a release's name.

@@ -1,9 +1,9 @@
 //! Writes the hits of a query in a release as text.
-ghost use Rattle.std.specs.Prelude.{◌≡◌, ◌++◌, OnOk, drop, map, true};
+ghost use Rattle.std.specs.Prelude.{◌≡◌, ◌++◌, OnOk, drop, true};
 ghost use Rattle.std.specs.List.{flat_map};
 ghost use Rattle.feed_names.specs.ReleaseName.{text_of};
 ghost use Rattle.feed_answer.specs.Answers.{answer_of};
-ghost use Rattle.feed_resolver_hits.specs.Hits.{release_hit};
+ghost use Rattle.feed_resolver_hits.specs.Hits.{library_hits};
 ghost use Rattle.feed_resolver_hits.specs.HitsText.{cut_head_line, release_head_line, release_hit_line, release_text};
 ghost use Rattle.feed_resolver_hits.specs.Tallying.{with_hits, tally_from};
 
@@ -82,7 +82,7 @@ fn put_head(
     }
 }
 
-/// Adds the hits of a query in a release to a tally, and writes the answer of the release: the number of its hits, and
+/// Adds the hits of a query in a release that the library has to a tally, and writes the answer of the release: the number of its hits, and
 /// a line for each that the tally shows.
 #[tactic(auto, unfolding(crate::specs::HitsText::release_text))]
 pub fn put_release<'a>(
@@ -96,7 +96,7 @@ pub fn put_release<'a>(
     query: &Query,
 ) -> Result<(), AllocError>
     ensures tally { OnOk result (tally.new
-        ≡ with_hits tally.old (map (release_hit site.now today.now query.now name.now)
+        ≡ with_hits tally.old (library_hits site.now today.now query.now name.now
         (answer_of holdings.now query.now))) }
     ensures text { OnOk result (out.new.items
         ≡ out.old.items ++ release_text (tally_from tally.old) (tally_from tally.new) name.now) }

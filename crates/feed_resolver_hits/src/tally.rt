@@ -1,16 +1,16 @@
 //! The tally of a query's hits: how many there are, the first ones, those of the highest ranks, and the best link.
 //! It is made hit by hit.
-ghost use Rattle.std.specs.Prelude.{◌≡◌, ◌-◌, ◌∷◌, [], OnOk, map, length, option_copied};
+ghost use Rattle.std.specs.Prelude.{◌≡◌, ◌-◌, ◌∷◌, [], OnOk, length, option_copied};
 ghost use Rattle.std.specs.List.{filter_map};
 ghost use Rattle.feed_answer.specs.Answers.{answer_of};
 ghost use Rattle.feed_answer.specs.HitValue.{hit_of};
 ghost use Rattle.feed_answer.specs.Places.{hit_at};
-ghost use Rattle.feed_resolver_hits.specs.Hits.{release_hit};
+ghost use Rattle.feed_resolver_hits.specs.Hits.{library_hits};
 ghost use Rattle.feed_resolver_hits.specs.Tallies.{left_out};
 ghost use Rattle.feed_resolver_hits.specs.Tallying.{no_hits, with_hit, with_hits, tally_from};
 
 use crate::candidates::sole_places;
-use crate::hits::ReleaseHit;
+use crate::hits::{ReleaseHit, is_held};
 use crate::links::Links;
 use crate::shown::Shown;
 use crate::top::Top;
@@ -133,11 +133,17 @@ impl<'a> Tally<'a> {
         query: &Query,
     ) -> Result<(), AllocError>
         ensures { OnOk result (self.new
-            ≡ with_hits self.old (map (release_hit site.now today.now query.now name.now)
+            ≡ with_hits self.old (library_hits site.now today.now query.now name.now
             (filter_map (hit_at query.now rows.now) (place ∷ [])))) }
     {
         match hit_at(rows, place, query) {
-            Some(hit) => self.count_hit(alloc, ReleaseHit::new(site, today, query, name, &hit)),
+            Some(hit) => {
+                if is_held(site, query, name, &hit) {
+                    self.count_hit(alloc, ReleaseHit::new(site, today, query, name, &hit))
+                } else {
+                    Ok(())
+                }
+            }
             None => Ok(()),
         }
     }
@@ -153,7 +159,7 @@ impl<'a> Tally<'a> {
         query: &Query,
     ) -> Result<(), AllocError>
         ensures { OnOk result (self.new
-            ≡ with_hits self.old (map (release_hit site.now today.now query.now name.now)
+            ≡ with_hits self.old (library_hits site.now today.now query.now name.now
             (filter_map (hit_at query.now rows.now) places.now))) }
     {
         for place in places {
@@ -165,7 +171,7 @@ impl<'a> Tally<'a> {
         Ok(())
     }
 
-    /// Adds the hits of a query in a release. Looks at each row that has one of its identifiers, in file order, until
+    /// Adds the hits of a query in a release that the library has. Looks at each row that has one of its identifiers, in file order, until
     /// more hits are found than are counted.
     pub fn add_release(
         &mut self,
@@ -177,7 +183,7 @@ impl<'a> Tally<'a> {
         query: &Query,
     ) -> Result<(), AllocError>
         ensures { OnOk result (self.new
-            ≡ with_hits self.old (map (release_hit site.now today.now query.now name.now)
+            ≡ with_hits self.old (library_hits site.now today.now query.now name.now
             (answer_of holdings.now query.now))) }
     {
         match sole_places(holdings, query) {

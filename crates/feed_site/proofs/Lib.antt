@@ -1,3 +1,4 @@
 pub mod Through
 pub mod Within
 pub mod Valid
+pub mod HeldDays

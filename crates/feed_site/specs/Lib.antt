@@ -9,6 +9,8 @@ pub mod Syntax
 pub mod KeyFaults
 pub mod Site
 pub mod Valid
+pub mod Held
 pub mod Reading
 pub mod Proxies
 pub mod Laws
+pub mod HeldLaws

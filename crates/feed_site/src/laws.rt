@@ -1,6 +1,7 @@
-//! Laws of the links of a page, each stated as the contract of a function with an empty body.
+//! Laws of the links of a page and of what a library has, each stated as the contract of a function with an empty body.
 ghost use Rattle.feed_site.specs.Laws.{ExceptedIsDirect, FreeIsDirect, NoProxyIsDirect, OthersGoThrough};
 ghost use Rattle.feed_site.specs.Laws.{LinkFits, SubdomainsAreWithin};
+ghost use Rattle.feed_site.specs.HeldLaws.{AllIsHeld, HeldDaysAreShown, OffIsNotHeld};
 
 /// A link that is free to read does not go through the proxy.
 pub fn free_is_direct()
@@ -30,4 +31,19 @@ pub fn link_fits()
 /// A domain and its subdomains are within it.
 pub fn subdomains_are_within()
     ensures { SubdomainsAreWithin }
+{}
+
+/// A library has what a query asks for of a title exactly if the title is held on a day that is covered and asked for.
+pub fn held_days_are_shown()
+    ensures { HeldDaysAreShown }
+{}
+
+/// A library has nothing of a title that is switched off.
+pub fn off_is_not_held()
+    ensures { OffIsNotHeld }
+{}
+
+/// A library whose site file names no package and no title has everything.
+pub fn all_is_held()
+    ensures { AllIsHeld }
 {}

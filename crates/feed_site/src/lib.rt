@@ -4,6 +4,7 @@
 mod checks;
 mod cuts;
 mod fault;
+mod held;
 mod kind;
 mod laws;
 mod links;
@@ -18,9 +19,10 @@ mod url;
 mod values;
 
 pub use fault::Reason;
+pub use held::library_has;
 pub use laws::{
-    excepted_is_direct, free_is_direct, link_fits, no_proxy_is_direct, others_go_through,
-    subdomains_are_within,
+    all_is_held, excepted_is_direct, free_is_direct, held_days_are_shown, link_fits,
+    no_proxy_is_direct, off_is_not_held, others_go_through, subdomains_are_within,
 };
 pub use links::{left_beside, link_to, prefix_for, proxied};
 pub use position::Position;

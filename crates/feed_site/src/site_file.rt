@@ -7,7 +7,7 @@ ghost use Rattle.toml.specs.View.{view, table_view, array_view};
 ghost use Rattle.feed_site.specs.Limits.{site_limit};
 ghost use Rattle.feed_site.specs.Positions.{position_of};
 ghost use Rattle.feed_site.specs.Proxies.{is_excepted};
-ghost use Rattle.feed_site.specs.Site.{except_in, or_empty, text_in, texts_of};
+ghost use Rattle.feed_site.specs.Site.{except_in, or_empty, package_of, rows_in, text_in, texts_of, title_of};
 ghost use Rattle.feed_site.specs.Syntax.{IsTextFault};
 
 use crate::checks::fault_of;
@@ -200,6 +200,20 @@ impl SiteFile {
         ensures { option_copied result ≡ self.now.prefix }
     {
         text_in("proxy", "prefix", &self.document)
+    }
+
+    /// Returns the tables of packages.
+    pub(crate) fn packages(&self) -> Option<&Array>
+        ensures { rows_in package_of (option_map (λ v. array_view v.now) result) ≡ self.now.packages }
+    {
+        items_at("package", &self.document)
+    }
+
+    /// Returns the tables of titles.
+    pub(crate) fn titles(&self) -> Option<&Array>
+        ensures { rows_in title_of (option_map (λ v. array_view v.now) result) ≡ self.now.titles }
+    {
+        items_at("title", &self.document)
     }
 
     /// Returns whether links to a host never go through the proxy.
