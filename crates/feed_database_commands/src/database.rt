@@ -32,6 +32,8 @@ pub enum DatabaseFault {
     Device,
     /// It is not a database of kbfeed.
     NotOurs,
+    /// It is a file that is not a SQLite database. Such a file is not opened.
+    NotDatabase,
     /// It is a file that has another name, a hard link. Such a file is not opened.
     Linked,
 }
@@ -115,12 +117,24 @@ fn report_database<F: Write + Drop>(
             "it is no database of kbfeed, or no file can be made there",
             REFUSED,
         ),
+        DatabaseFault::NotDatabase => {
+            faults.report_with("NotOurs", path, cause_of_other(path), REFUSED)
+        }
         DatabaseFault::Linked => faults.report_with(
             "NotOurs",
             path,
             "the file has another name, a hard link: remove that",
             REFUSED,
         ),
+    }
+}
+
+// Returns why a file that is not a SQLite database is refused. A list is known by the ending of its name.
+fn cause_of_other(path: &str) -> &'static str {
+    if path.ends_with(".txt") {
+        "it is a list and not a database"
+    } else {
+        "it is no database of kbfeed, or no file can be made there"
     }
 }
 

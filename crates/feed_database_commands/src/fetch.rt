@@ -1,8 +1,9 @@
 //! `kbfeed fetch`: a node fetches a release, resumes, and switches to it.
 use crate::database::{Database, close_keeper, open_feed};
 use crate::progress::Progress;
-use feed_command::{FAILED, Faults, MISUSED, parse_name};
+use feed_command::{FAILED, Faults, MISUSED};
 use feed_fetch::{Printer, fetch_with};
+use feed_file_commands::{Advice, note_port, parse_meant_name};
 use feed_http::is_host;
 use feed_limits::PIECE_LIMIT;
 use feed_tcp::{Cause, TcpDial};
@@ -30,7 +31,7 @@ pub fn fetch_release<D: Database, O: Write, F: Write + Drop>(
             MISUSED,
         );
     }
-    let name = match parse_name(rt.alloc(), name, MISUSED, faults) {
+    let name = match parse_meant_name(rt.alloc(), name, MISUSED, Advice::Give, faults) {
         Ok(name) => name,
         Err(status) => return status,
     };
@@ -58,7 +59,10 @@ pub fn fetch_release<D: Database, O: Write, F: Write + Drop>(
     );
     match (out.into_writer().into_fault(), cause.into_inner()) {
         (Some(fault), _) => status = faults.check_print(Err(fault), FAILED),
-        (None, Some(cause)) if status == FAILED => faults.note(addr, cause),
+        (None, Some(cause)) if status == FAILED => {
+            faults.note(addr, cause);
+            note_port(addr, faults);
+        }
         _ => {}
     }
     close_keeper(database, feed.restart(), faults);

@@ -1,6 +1,7 @@
 //! `kbfeed why`: why a release of a node is broken.
 use crate::database::{Database, close_keeper, open_feed};
-use feed_command::{DONE, Faults, MISUSED, REFUSED, parse_name};
+use feed_command::{DONE, Faults, MISUSED, REFUSED};
+use feed_file_commands::{Advice, parse_meant_name};
 use feed_kbart::BadFile;
 use std::alloc::Global;
 use std::io::Write;
@@ -17,7 +18,7 @@ pub fn print_reason<D: Database, O: Write, F: Write + Drop>(
     out: &mut O,
     faults: &mut Faults<F>,
 ) -> u8 {
-    let name = match parse_name(alloc, name, MISUSED, faults) {
+    let name = match parse_meant_name(alloc, name, MISUSED, Advice::Give, faults) {
         Ok(name) => name,
         Err(status) => return status,
     };

@@ -1,8 +1,8 @@
 //! `kbfeed check`: what files hold, or why they are bad.
-use feed_command::{
-    DONE, FAILED, Faults, MISUSED, REFUSED, Watched, open_file, parse_name, read_up_to,
-};
-use feed_kbart::{FileCount, KbartFault, count_file};
+use crate::bad_list::{note_bad_file, note_bad_list};
+use crate::hints::{Advice, parse_meant_name};
+use feed_command::{DONE, FAILED, Faults, MISUSED, REFUSED, Watched, open_file, read_up_to};
+use feed_kbart::{BadFile, FileCount, KbartFault, count_file};
 use feed_limits::FILE_LIMIT;
 use feed_report::{Form, Report};
 use std::alloc::Global;
@@ -52,10 +52,10 @@ fn check_path<O: Write, F: Write + Drop>(
         if check.name.is_empty() {
             return faults.report("- needs --name NAME", MISUSED);
         }
-        return check_file(rt.alloc(), check.name, rt.reader(), check, out, faults);
+        return check_file(rt, path, check.name, rt.reader(), check, out, faults);
     }
     match open_file(rt, path, faults) {
-        Ok(file) => check_file(rt.alloc(), file_name(path), file, check, out, faults),
+        Ok(file) => check_file(rt, path, file_name(path), file, check, out, faults),
         Err(status) => status,
     }
 }
@@ -66,14 +66,16 @@ fn check_path<O: Write, F: Write + Drop>(
 // invalid name, a file that is bad or too long, and a strict check that skips a record, 3 for a failing read or print
 // and for running out of memory.
 fn check_file<R: Read + Drop, O: Write, F: Write + Drop>(
-    alloc: Global,
+    rt: &HostRuntime,
+    path: &str,
     text: &str,
     file: R,
     check: Check<'_>,
     out: &mut O,
     faults: &mut Faults<F>,
 ) -> u8 {
-    let name = match parse_name(alloc, text, REFUSED, faults) {
+    let alloc = rt.alloc();
+    let name = match parse_meant_name(alloc, text, REFUSED, Advice::Rename, faults) {
         Ok(name) => name,
         Err(status) => return status,
     };
@@ -99,11 +101,31 @@ fn check_file<R: Read + Drop, O: Write, F: Write + Drop>(
             let status = status_of(&count, check.is_strict);
             faults.check_print(report.print_count(out, &count), status)
         }
-        Err(KbartFault::Bad(why)) => faults.check_print(report.print_broken(out, why), REFUSED),
+        Err(KbartFault::Bad(why)) => {
+            let status = faults.check_print(report.print_broken(out, why), REFUSED);
+            note_bad(rt, path, &report, why, faults);
+            status
+        }
         Err(fault) => match out.flush() {
-            Ok(()) => report_file(faults, fault, text, file),
+            Ok(()) => report_unread(faults, fault, text, file),
             Err(error) => faults.check_print(Err(error), FAILED),
         },
+    }
+}
+
+// Notes what is known of a bad file. It can be read again, but standard input only if its text is kept.
+fn note_bad<F: Write + Drop>(
+    rt: &HostRuntime,
+    path: &str,
+    report: &Report<'_>,
+    why: BadFile,
+    faults: &mut Faults<F>,
+) {
+    let text = str::from_utf8(report.name.text()).unwrap_or("");
+    if path == "-" {
+        note_bad_list(report.alloc, report.text, text, why, faults);
+    } else {
+        note_bad_file(rt, path, text, why, faults);
     }
 }
 
@@ -130,8 +152,24 @@ fn read_kept<R: Read>(
     count_file(alloc, kept.as_slice())
 }
 
-/// Reports why a file was not read, or is bad, and returns the status.
+/// Reports why the file at a path was not read, or is bad, and returns the status.
 pub fn report_file<R: Read + Drop, F: Write + Drop>(
+    rt: &HostRuntime,
+    path: &str,
+    faults: &mut Faults<F>,
+    fault: KbartFault,
+    file: Watched<R>,
+) -> u8 {
+    let text = file_name(path);
+    let status = report_unread(faults, fault, text, file);
+    if let KbartFault::Bad(why) = fault {
+        note_bad_file(rt, path, text, why, faults);
+    }
+    status
+}
+
+// Reports why a file was not read, or is bad, and returns the status.
+fn report_unread<R: Read + Drop, F: Write + Drop>(
     faults: &mut Faults<F>,
     fault: KbartFault,
     text: &str,

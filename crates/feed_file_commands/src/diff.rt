@@ -1,6 +1,7 @@
 //! `kbfeed diff`: what a new list changes, and whether it removes or changes too much.
 use crate::check::{file_name, report_file};
-use feed_command::{DONE, FAILED, Faults, REFUSED, Watched, open_file, parse_name};
+use crate::hints::{Advice, parse_meant_name};
+use feed_command::{DONE, FAILED, Faults, REFUSED, Watched, open_file};
 use feed_diff::{Comparison, compare};
 use feed_kbart::{FileRows, list_file};
 use feed_names::ReleaseName;
@@ -85,22 +86,22 @@ fn open_list<F: Write + Drop>(
     faults: &mut Faults<F>,
 ) -> Result<List, u8> {
     let text = file_name(path);
-    let name = parse_name(rt.alloc(), text, REFUSED, faults)?;
+    let name = parse_meant_name(rt.alloc(), text, REFUSED, Advice::Rename, faults)?;
     let file = open_file(rt, path, faults)?;
-    read_list(rt.alloc(), name, text, file, faults)
+    read_list(rt, path, name, file, faults)
 }
 
 fn read_list<R: Read + Drop, F: Write + Drop>(
-    alloc: Global,
+    rt: &HostRuntime,
+    path: &str,
     name: ReleaseName,
-    text: &str,
     file: R,
     faults: &mut Faults<F>,
 ) -> Result<List, u8> {
     let mut file = Watched::new(file);
-    match list_file(alloc, &mut file) {
+    match list_file(rt.alloc(), &mut file) {
         Ok(rows) => Ok(List { name, rows }),
-        Err(fault) => Err(report_file(faults, fault, text, file)),
+        Err(fault) => Err(report_file(rt, path, faults, fault, file)),
     }
 }
 

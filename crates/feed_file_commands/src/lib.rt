@@ -2,14 +2,17 @@
 #![tactic(auto)]
 
 mod answer;
+mod bad_list;
 mod check;
 mod diff;
 mod folder;
+mod hints;
 mod openurl;
 mod serve;
 
 pub use answer::answer_file;
 pub use check::{Check, check_files};
 pub use diff::{Bounds, Diff, compare_files, compare_with};
+pub use hints::{Advice, note_port, parse_meant_name};
 pub use openurl::explain_query;
 pub use serve::serve_folder;

@@ -1,5 +1,6 @@
 //! `kbfeed serve`: a folder of releases for any HTTP client.
 use crate::folder::Folder;
+use crate::hints::note_port;
 use feed_command::{DONE, FAILED, Faults};
 use feed_http::{HttpFault, Shelf, serve_one};
 use feed_tcp::{TimedReader, TimedWriter};
@@ -33,7 +34,11 @@ pub fn serve_folder<O: Write, F: Write + Drop>(
 ) -> u8 {
     let listener = match TcpListener::bind(rt, addr) {
         Ok(listener) => listener,
-        Err(error) => return faults.report_with("Bind", addr, error, FAILED),
+        Err(error) => {
+            let status = faults.report_with("Bind", addr, error, FAILED);
+            note_port(addr, faults);
+            return status;
+        }
     };
     let mut folder = Folder::new(rt, dir);
     if !folder.is_there() {

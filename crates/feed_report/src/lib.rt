@@ -6,6 +6,7 @@ mod comparison;
 mod json;
 mod records;
 mod report;
+mod warnings;
 
 pub use comparison::{ComparisonForm, NamedList, print_comparison};
 pub use report::{Form, Report};

@@ -1,6 +1,7 @@
 //! The report on a checked list in each of its forms.
 use crate::json::Commas;
 use crate::records::Records;
+use crate::warnings::Warnings;
 use feed_counts::{Counts, count_of};
 use feed_kbart::{Aside, BadFile, FileCount, Label, Reason};
 use feed_names::ReleaseName;
@@ -33,8 +34,8 @@ pub enum Form {
     Lines,
     /// One line for each list.
     Summary,
-    /// As `Lines`, and below each record its line in the file, its title and the fields that are the reason; below a
-    /// bad file each required label that it lacks.
+    /// As `Lines`, and below each record its line in the file, its title and the fields that are the reason, and in the
+    /// end the warnings; below a bad file each required label that it lacks.
     Explained,
     /// One JSON object on a line for each list, with the contents of `Explained`.
     Json,
@@ -104,7 +105,8 @@ impl Report<'_> {
     fn print_explained<O: Write>(&self, out: &mut O, count: &FileCount) -> io::Result<()> {
         print_rows(out, count)?;
         out.write_all(b"\n")?;
-        self.print_skipped(out, count.aside())
+        self.print_skipped(out, count.aside())?;
+        Warnings::of(self.text, count.rows()).print_lines(out)
     }
 
     fn print_json<O: Write>(&self, out: &mut O, count: &FileCount) -> io::Result<()> {
@@ -112,7 +114,9 @@ impl Report<'_> {
         let rows = Counts::of(count).rows;
         write!(out, "\"rows\":{rows},\"aside\":[")?;
         self.print_skipped(out, count.aside())?;
-        out.write_all(b"]}\n")
+        out.write_all(b"]")?;
+        Warnings::of(self.text, count.rows()).print_json(out)?;
+        out.write_all(b"}\n")
     }
 
     // Prints the beginning of an object. A release's name has no character that JSON escapes.

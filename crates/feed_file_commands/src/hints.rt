@@ -1,0 +1,149 @@
+//! Hints below the cause of a fault: the name or the address that was probably meant.
+use feed_command::{Faults, parse_name};
+use feed_names::ReleaseName;
+use std::alloc::{AllocError, Global};
+use std::fmt;
+use std::io::Write;
+
+// How many digits the date of a name without hyphens has.
+const DATE_DIGITS: usize = 8;
+
+/// What to do with a name that was probably meant.
+#[derive(Clone, Copy)]
+pub enum Advice {
+    /// Rename the file.
+    Rename,
+    /// Give the name as the argument.
+    Give,
+}
+
+// A name that was probably meant.
+#[derive(Drop)]
+struct MeantName<'a> {
+    advice: Advice,
+    name: &'a str,
+}
+
+impl fmt::Display for MeantName<'_> {
+    ghost use Rattle.std.specs.Prelude.{None};
+
+    ghost output = { λ _. None };
+
+    fn fmt<W: fmt::Write>(&self, f: &mut fmt::Formatter<W>) -> fmt::Result {
+        match self.advice {
+            Advice::Rename => write!(f, "rename it to {}", self.name),
+            Advice::Give => write!(f, "did you mean {}?", self.name),
+        }
+    }
+}
+
+// An address that lacks a port.
+#[derive(Drop)]
+struct LackingPort<'a> {
+    addr: &'a str,
+}
+
+impl fmt::Display for LackingPort<'_> {
+    ghost use Rattle.std.specs.Prelude.{None};
+
+    ghost output = { λ _. None };
+
+    fn fmt<W: fmt::Write>(&self, f: &mut fmt::Formatter<W>) -> fmt::Result {
+        write!(f, "add a port, as {}:8080", self.addr)
+    }
+}
+
+/// Parses the name of a release, as `parse_name` does. Below the fault of an invalid one, notes the name that was
+/// probably meant.
+pub fn parse_meant_name<F: Write + Drop>(
+    alloc: Global,
+    text: &str,
+    status: u8,
+    advice: Advice,
+    faults: &mut Faults<F>,
+) -> Result<ReleaseName, u8> {
+    match parse_name(alloc, text, status, faults) {
+        Ok(name) => Ok(name),
+        Err(status) => {
+            note_meant_name(alloc, text, advice, faults);
+            Err(status)
+        }
+    }
+}
+
+/// Notes that an address has no port, if it has none.
+pub fn note_port<F: Write + Drop>(addr: &str, faults: &mut Faults<F>) {
+    if lacks_port(addr) {
+        faults.note(addr, LackingPort { addr });
+    }
+}
+
+// Returns whether an address is a host without a port: a name or an IPv4 address without a colon, or an IPv6 address in
+// brackets.
+fn lacks_port(addr: &str) -> bool {
+    let bytes = addr.as_bytes();
+    match bytes
+        .iter()
+        .rposition(|byte| *byte == b':' || *byte == b']')
+    {
+        Some(place) => bytes[place] == b']',
+        None => !bytes.is_empty(),
+    }
+}
+
+fn note_meant_name<F: Write + Drop>(
+    alloc: Global,
+    text: &str,
+    advice: Advice,
+    faults: &mut Faults<F>,
+) {
+    if let Ok(Some(name)) = meant_name(alloc, text.as_bytes()) {
+        let name = str::from_utf8(name.text()).unwrap_or("");
+        faults.note(text, MeantName { advice, name });
+    }
+}
+
+// Returns the valid name that differs from a text in its ending, and in the hyphens of its date, and in nothing else.
+fn meant_name(alloc: Global, text: &[u8]) -> Result<Option<ReleaseName>, AllocError> {
+    let Some(place) = text.iter().rposition(|byte| *byte == b'.') else {
+        return Ok(None);
+    };
+    if !is_ending(&text[place..]) {
+        return Ok(None);
+    }
+    let mut meant = Vec::new(alloc);
+    append_front(&mut meant, &text[..place])?;
+    meant.extend_from_slice(b".txt")?;
+    if meant.as_slice() == text {
+        return Ok(None);
+    }
+    match ReleaseName::parse(alloc, &meant) {
+        Ok(name) => Ok(Some(name)),
+        Err(_) => Ok(None),
+    }
+}
+
+// Returns whether a table is saved under such an ending.
+fn is_ending(ending: &[u8]) -> bool {
+    ending.eq_ignore_ascii_case(b".txt".as_slice())
+        || ending.eq_ignore_ascii_case(b".tsv".as_slice())
+        || ending.eq_ignore_ascii_case(b".csv".as_slice())
+}
+
+// Appends the part of a name before its ending, with hyphens in its date.
+fn append_front(meant: &mut Vec<u8>, front: &[u8]) -> Result<(), AllocError> {
+    let Some(place) = front.iter().rposition(|byte| *byte == b'_') else {
+        return meant.extend_from_slice(front);
+    };
+    let date = &front[place.saturating_add(1)..];
+    if date.len() != DATE_DIGITS || !date.iter().all(|byte| byte.is_ascii_digit()) {
+        return meant.extend_from_slice(front);
+    }
+    meant.extend_from_slice(&front[..place])?;
+    meant.extend_from_slice(b"_")?;
+    meant.extend_from_slice(&date[..4])?;
+    meant.extend_from_slice(b"-")?;
+    meant.extend_from_slice(&date[4..6])?;
+    meant.extend_from_slice(b"-")?;
+    meant.extend_from_slice(&date[6..])
+}
