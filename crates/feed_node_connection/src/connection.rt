@@ -96,7 +96,8 @@ impl Connection {
     ghost use Rattle.feed_node_connection.specs.States.{HasState, HasParsed, HasBegunReply, HasRefused, HasResponded};
     ghost use Rattle.feed_node_connection.specs.States.{HasBegunInterim, HasBegunWait, body_after};
     ghost use Rattle.feed_node_connection.specs.States.{is_idle_in, is_lingering_in, is_reply_sent_in, limit_in};
-    ghost use Rattle.feed_node_connection.specs.States.{pending_of, phase_after, request_of, rest_of, room_of, wants_in};
+    ghost use Rattle.feed_node_connection.specs.States.{pending_of, phase_after, request_of, rest_of, room_of};
+    ghost use Rattle.feed_node_connection.specs.States.{wants_in};
     ghost use Rattle.feed_node_connection.specs.States.{closing_class, is_closed_before};
 
     /// Returns a connection with these time limits.
