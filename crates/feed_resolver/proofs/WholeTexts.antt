@@ -125,12 +125,13 @@ texts_whole : (site : site_file.SiteValue) (today : TodayValue) (query : QueryVa
 texts_whole site today query earlier [] few all = refl
 texts_whole site today query earlier (active ∷ actives) few all =
     let own = release_hits site today query active in
+    let held = held_hits site query active.name (answer_of active.holdings query) in
     let rest = hits_among query (sited_by site today actives) in
     let joint : earlier ++ (own ++ rest) ≡ (earlier ++ own) ++ rest = sym (append_assoc earlier own rest) in
     let count : length ((earlier ++ own) ++ rest) ≤ count_limit = rw (← joint) few in
     let shown : AllShown shown_limit text_limit ((earlier ++ own) ++ rest) = rw (← joint) all in
     ap (λ t. t ++ texts_behind site today query (earlier ++ own) actives)
-    (release_is site today query earlier active.name (held_hits site query active.name (answer_of active.holdings query)) (front_whole earlier (own ++ rest) few all) (front_whole (earlier ++ own) rest count shown))
+    (release_is site today query earlier active.name held (front_whole earlier (own ++ rest) few all) (front_whole (earlier ++ own) rest count shown))
     ∙ ap (λ t. written_answer site query active ++ t) (texts_whole site today query (earlier ++ own) actives count shown)
 
 pub whole_text : WholeTextIsWritten

@@ -82,8 +82,8 @@ fn put_head(
     }
 }
 
-/// Adds the hits of a query in a release that the library has to a tally, and writes the answer of the release: the number of its hits, and
-/// a line for each that the tally shows.
+/// Adds the hits of a query in a release that the library has to a tally, and writes the answer of the release: the
+/// number of these hits, and a line for each that the tally shows.
 #[tactic(auto, unfolding(crate::specs::HitsText::release_text))]
 pub fn put_release<'a>(
     alloc: Global,

@@ -171,8 +171,8 @@ impl<'a> Tally<'a> {
         Ok(())
     }
 
-    /// Adds the hits of a query in a release that the library has. Looks at each row that has one of its identifiers, in file order, until
-    /// more hits are found than are counted.
+    /// Adds the hits of a query in a release that the library has. Looks at each row that has one of the query's
+    /// identifiers, in file order, until more hits are found than are counted.
     pub fn add_release(
         &mut self,
         alloc: Global,
