@@ -4,6 +4,7 @@ use crate::site::read_site;
 use crate::token::read_token;
 use feed_command::{DONE, FAILED, Faults, MISUSED, REFUSED, open_file};
 use feed_database_commands::{Database, close_keeper, open_feed};
+use feed_file_commands::note_port;
 use feed_http::is_host;
 use feed_keep::Keep;
 use feed_node_server::{Server, Settings, TimeLimits};
@@ -55,12 +56,7 @@ pub fn run_node<D: Database, O: Write, F: Write + Drop>(
         return run_server(rt, database, hosting, None, addrs, out, faults);
     };
     if !is_host(upstream.addr.as_bytes()) || !has_port(upstream.addr.as_bytes()) {
-        return faults.report_with(
-            "Host",
-            upstream.addr,
-            "it is no host and port, as 127.0.0.1:8080",
-            MISUSED,
-        );
+        return report_source(upstream.addr, faults);
     }
     let token = match token_of(rt, upstream.token_file, faults) {
         Ok(token) => token,
@@ -76,6 +72,20 @@ pub fn run_node<D: Database, O: Write, F: Write + Drop>(
         let _ = faults.report_with("Resolve", upstream.addr, error, DONE);
     }
     run_server(rt, database, hosting, Some(source), addrs, out, faults)
+}
+
+// Reports that an address is not one of a source, and returns the exit status.
+fn report_source<F: Write + Drop>(addr: &str, faults: &mut Faults<F>) -> u8 {
+    let status = faults.report_with(
+        "Host",
+        addr,
+        "it is no host and port, as 127.0.0.1:8080",
+        MISUSED,
+    );
+    if is_host(addr.as_bytes()) {
+        note_port(addr, faults);
+    }
+    status
 }
 
 // Returns whether a host ends with a colon and a port from 1 to 65,535.
@@ -218,7 +228,11 @@ fn listen<F: Write + Drop>(
 ) -> Result<Server, u8> {
     let server = match bind(rt, hosting) {
         Ok(server) => server,
-        Err(error) => return Err(faults.report_with("Bind", hosting.addr, error, FAILED)),
+        Err(error) => {
+            let status = faults.report_with("Bind", hosting.addr, error, FAILED);
+            note_port(hosting.addr, faults);
+            return Err(status);
+        }
     };
     if has_too_few_descriptors(&server, hosting, faults) {
         return Err(FAILED);

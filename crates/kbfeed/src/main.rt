@@ -1,7 +1,7 @@
 //! kbfeed: a feed of holdings lists of serials and books (KBART files) for a fleet of OpenURL link resolvers.
 #![tactic(auto)]
 
-use feed_cli::{DiffOptions, OldList, Request, Source, parse, version};
+use feed_cli::{DiffOptions, OldList, Request, Source, name_help, parse, version};
 use feed_command::{FAILED, Faults, MISUSED, take_stack};
 use feed_database::run_at;
 use feed_database_commands::DatabaseCommand;
@@ -11,7 +11,7 @@ use feed_file_commands::{
 use feed_node_commands::{Command, LogSettings, Upstream};
 use feed_replay::replay_input;
 use std::io;
-use std::io::{BufWriter, ErrorKind, Write};
+use std::io::{BufWriter, ErrorKind, IsTerminal, Write};
 use std::process::ExitCode;
 
 fn main(rt: HostRuntime) -> ExitCode {
@@ -31,7 +31,8 @@ fn run(rt: &HostRuntime) -> u8 {
 }
 
 fn read_arguments(rt: &HostRuntime) -> io::Result<Vec<String>> {
-    let arguments = std::env::args(rt)?.collect(rt.alloc())?;
+    let mut arguments: Vec<String> = std::env::args(rt)?.collect(rt.alloc())?;
+    name_help(&mut arguments)?;
     Ok(arguments)
 }
 
@@ -45,12 +46,15 @@ fn run_arguments<F: Write + Drop>(
     }
     match parse(rt.alloc(), arguments) {
         Ok((is_verbose, request)) => match BufWriter::new(rt.alloc(), io::writer(rt)) {
-            Ok(mut out) => run_request(
-                rt,
-                request,
-                &mut out,
-                &mut Faults::new(rt.stderr(), is_verbose),
-            ),
+            Ok(mut out) => {
+                let is_verbose = is_verbose || rt.stderr().is_terminal();
+                run_request(
+                    rt,
+                    request,
+                    &mut out,
+                    &mut Faults::new(rt.stderr(), is_verbose),
+                )
+            }
             Err(_) => faults.report("Memory", FAILED),
         },
         Err(usage) if usage.is_out_of_memory() => faults.report("Memory", FAILED),
