@@ -4,4 +4,6 @@ pub mod Readings
 pub mod Columns
 pub mod Listed
 pub mod Stored
+pub mod Wholes
 pub mod Drafts
+pub mod Tabled

@@ -28,14 +28,14 @@ pub record AreSoFar {R : Type 0} (rem : R → Option (List ℕ)) (rdr : Reader R
 join_holdings-none : (held : HoldingsValue) → join_holdings held no_holdings ≡ held
 join_holdings-none held = rw (append-nil held.rows, append-nil held.aside) refl
 
-joined_assoc : (a b c : HoldingsValue) → join_holdings (join_holdings a b) c ≡ join_holdings a (join_holdings b c)
+pub joined_assoc : (a b c : HoldingsValue) → join_holdings (join_holdings a b) c ≡ join_holdings a (join_holdings b c)
 joined_assoc a b c = rw (append_assoc a.rows b.rows c.rows, append_assoc a.aside b.aside c.aside) refl
 
-holdings_from-nil : (columns : Columns) (number : ℕ) → holdings_from columns number [] ≡ no_holdings
+pub holdings_from-nil : (columns : Columns) (number : ℕ) → holdings_from columns number [] ≡ no_holdings
 unfolding holdings_from
 holdings_from-nil columns number = refl
 
-holdings_from-cons : (columns : Columns) (number : ℕ) (fields : List (List ℕ)) (records : List (List (List ℕ)))
+pub holdings_from-cons : (columns : Columns) (number : ℕ) (fields : List (List ℕ)) (records : List (List (List ℕ)))
     → join_holdings (holdings_from columns number (fields ∷ [])) (holdings_from columns (number + 1) records) ≡ holdings_from columns number (fields ∷ records)
 unfolding holdings_from
 holdings_from-cons columns number fields records = go (reason_of columns fields) refl

@@ -18,3 +18,4 @@ pub mod CountValue
 pub mod Files
 pub mod Faults
 pub mod Kept
+pub mod ListRecords

@@ -55,58 +55,7 @@ fn number_of_isbn(isbn: Option<Isbn>) -> Option<u32>
 }
 
 impl Identifiers {
-    ghost use Rattle.feed_kbart.specs.Identifiers.{AreIdentifiers, kind, numbers, online_isbn, online_issn, print_isbn};
-    ghost use Rattle.feed_kbart.specs.Identifiers.{print_issn};
-
-    /// Returns the kind of title that they belong to.
-    pub(crate) fn kind(self) -> Kind
-        ensures { result ≡ kind self }
-    {
-        match self {
-            Identifiers::Serial { .. } => Kind::Serial,
-            Identifiers::Book { .. } => Kind::Book,
-        }
-    }
-
-    /// Returns the ISSN of a serial in print.
-    pub(crate) fn print_issn(self) -> Option<Issn>
-        ensures { result ≡ print_issn self }
-    {
-        match self {
-            Identifiers::Serial { print, .. } => print,
-            Identifiers::Book { .. } => None,
-        }
-    }
-
-    /// Returns the ISSN of a serial online.
-    pub(crate) fn online_issn(self) -> Option<Issn>
-        ensures { result ≡ online_issn self }
-    {
-        match self {
-            Identifiers::Serial { online, .. } => online,
-            Identifiers::Book { .. } => None,
-        }
-    }
-
-    /// Returns the ISBN of a book in print.
-    pub(crate) fn print_isbn(self) -> Option<Isbn>
-        ensures { result ≡ print_isbn self }
-    {
-        match self {
-            Identifiers::Serial { .. } => None,
-            Identifiers::Book { print, .. } => print,
-        }
-    }
-
-    /// Returns the ISBN of a book online.
-    pub(crate) fn online_isbn(self) -> Option<Isbn>
-        ensures { result ≡ online_isbn self }
-    {
-        match self {
-            Identifiers::Serial { .. } => None,
-            Identifiers::Book { online, .. } => online,
-        }
-    }
+    ghost use Rattle.feed_kbart.specs.Identifiers.{AreIdentifiers, numbers};
 
     /// Returns their numbers in the index.
     pub(crate) fn numbers(self) -> (Option<u32>, Option<u32>)

@@ -96,35 +96,50 @@ impl Row {
     pub fn kind(&self) -> Kind
         ensures { result ≡ kind self.now.identifiers }
     {
-        self.identifiers().kind()
+        match read_kind(self.record.cell(PUBLICATION_TYPE)) {
+            Some(Kind::Book) => Kind::Book,
+            Some(Kind::Serial) | None => Kind::Serial,
+        }
     }
 
     /// Returns the ISSN of a serial's `print_identifier`, if it is valid.
     pub fn print(&self) -> Option<Issn>
         ensures { result ≡ print_issn self.now.identifiers }
     {
-        self.identifiers().print_issn()
+        match read_kind(self.record.cell(PUBLICATION_TYPE)) {
+            Some(Kind::Book) => None,
+            Some(Kind::Serial) | None => Issn::parse(self.record.cell(PRINT)),
+        }
     }
 
     /// Returns the ISSN of a serial's `online_identifier`, if it is valid.
     pub fn online(&self) -> Option<Issn>
         ensures { result ≡ online_issn self.now.identifiers }
     {
-        self.identifiers().online_issn()
+        match read_kind(self.record.cell(PUBLICATION_TYPE)) {
+            Some(Kind::Book) => None,
+            Some(Kind::Serial) | None => Issn::parse(self.record.cell(ONLINE)),
+        }
     }
 
     /// Returns the ISBN of a book's `print_identifier`, if it is valid.
     pub fn print_isbn(&self) -> Option<Isbn>
         ensures { result ≡ print_isbn self.now.identifiers }
     {
-        self.identifiers().print_isbn()
+        match read_kind(self.record.cell(PUBLICATION_TYPE)) {
+            Some(Kind::Book) => Isbn::parse(self.record.cell(PRINT)),
+            Some(Kind::Serial) | None => None,
+        }
     }
 
     /// Returns the ISBN of a book's `online_identifier`, if it is valid.
     pub fn online_isbn(&self) -> Option<Isbn>
         ensures { result ≡ online_isbn self.now.identifiers }
     {
-        self.identifiers().online_isbn()
+        match read_kind(self.record.cell(PUBLICATION_TYPE)) {
+            Some(Kind::Book) => Isbn::parse(self.record.cell(ONLINE)),
+            Some(Kind::Serial) | None => None,
+        }
     }
 
     /// Returns the numbers of its identifiers in the index.

@@ -1,7 +1,9 @@
 //! The rows of a file while it is read. The records of many rows are collected in a block, which the rows then share.
-ghost use Rattle.std.specs.Prelude.{◌≡◌, ◌<◌, ◌++◌, List, [], IfOk, OnOk, length, map};
+ghost use Rattle.std.specs.Prelude.{◌≡◌, ◌≤◌, ◌<◌, ◌++◌, List, [], IfOk, OnOk, length, map};
+ghost use Rattle.std.specs.Bool.{OnFalse, OnTrue};
 ghost use Rattle.std.specs.Rc.{rc_slice_items};
 ghost use Rattle.csv.specs.Records.{fields_of};
+ghost use Rattle.feed_limits.specs.Limits.{file_limit};
 ghost use Rattle.feed_kbart.specs.RowValue.{RowValue};
 ghost use Rattle.feed_kbart.specs.Store.{AreStored, row_in, stored_rows};
 
@@ -10,6 +12,7 @@ use crate::holdings::KeepRows;
 use crate::row::Row;
 use crate::stored_record::{StoredRecord, put_cells};
 use csv::ByteRecord;
+use feed_limits::FILE_LIMIT;
 use std::alloc::{AllocError, Global};
 use std::rc::RcSlice;
 
@@ -76,6 +79,14 @@ impl RowStore {
         }
         self.seal(alloc)?;
         Ok(())
+    }
+
+    /// Returns whether there are no more rows than a file can have.
+    pub(crate) fn has_few_rows(&self) -> bool
+        ensures few { OnTrue result (length (stored_rows self.now) ≤ file_limit) }
+        ensures many { OnFalse result (file_limit < length (stored_rows self.now)) }
+    {
+        self.rows.len().saturating_add(self.drafts.len()) <= FILE_LIMIT
     }
 
     /// Returns the rows.

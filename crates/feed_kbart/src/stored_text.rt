@@ -1,11 +1,16 @@
 //! Texts in a block of bytes, each behind its length.
-ghost use Rattle.std.specs.Prelude.{◌≡◌, ◌↔◌, ◌++◌, IfOk, IsTrue, OnOk, length, take, drop};
-ghost use Rattle.feed_kbart.specs.Stored.{IsShort, length_bytes, split_long, split_text, text_at, text_bytes, texts_in};
+ghost use Rattle.std.specs.Prelude.{◌≡◌, ◌≤◌, ◌↔◌, ◌++◌, IfOk, IsTrue, OnOk, length, take, drop};
+ghost use Rattle.std.specs.Bool.{OnTrue};
+ghost use Rattle.feed_kbart.specs.Stored.{IsShort, after_texts, length_bytes, split_long, split_text, text_at};
+ghost use Rattle.feed_kbart.specs.Stored.{text_bytes, texts_in};
 
 use std::alloc::AllocError;
 
 // The byte before a length of four bytes.
 const LONG: u8 = 255;
+
+// The number of bytes by which most blocks are told apart. A row has more.
+const NEAR: usize = 16;
 
 // Returns the length of a text. No text of a file is so long that its length does not fit.
 fn length_of(text: &[u8]) -> Result<u32, AllocError>
@@ -92,8 +97,47 @@ pub(crate) fn text_at(bytes: &[u8], place: usize) -> &[u8]
     split_text(left).0
 }
 
+// Returns the bytes after the first texts, so many of them.
+fn after_texts(bytes: &[u8], count: usize) -> &[u8]
+    ensures after { result.now ≡ after_texts count bytes.now }
+    ensures within { length result.now ≤ length bytes.now }
+{
+    let mut left = bytes;
+    for _passed in 0..count {
+        left = split_text(left).1;
+    }
+    left
+}
+
+// Returns whether the first texts of one block are stored in the bytes of those of another. Equal rows mostly are.
+fn has_same_bytes(one: &[u8], other: &[u8], count: usize) -> bool
+    ensures { OnTrue result (texts_in count one.now ≡ texts_in count other.now) }
+{
+    // Most rows differ here, in an identifier, so that their texts need not be passed.
+    if one.get(..NEAR) != other.get(..NEAR) {
+        return false;
+    }
+    let rest = after_texts(one, count);
+    // If nothing is left, the last text may be cut off.
+    if rest.is_empty() {
+        return false;
+    }
+    let size = one.len() - rest.len();
+    if size > other.len() {
+        return false;
+    }
+    one[..size] == other[..size]
+}
+
 /// Returns whether the first texts of one block are those of another, so many of them.
 pub(crate) fn has_same_texts(one: &[u8], other: &[u8], count: usize) -> bool
+    ensures { IsTrue result ↔ (texts_in count one.now ≡ texts_in count other.now) }
+{
+    has_same_bytes(one, other, count) || has_texts_alike(one, other, count)
+}
+
+// Compares the texts of two blocks one by one.
+fn has_texts_alike(one: &[u8], other: &[u8], count: usize) -> bool
     ensures { IsTrue result ↔ (texts_in count one.now ≡ texts_in count other.now) }
 {
     let mut left = one;

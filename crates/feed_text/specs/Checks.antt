@@ -26,6 +26,10 @@ abbrev pub IsCheckResult : List ℕ → Result (Unit {0}) TextFault → Type 0
 IsCheckResult text (Ok done) = IsValidText text
 IsCheckResult text (Err fault) = IsTextFaultOf text fault
 
+-- how many bytes a check has seen
+abbrev pub bytes_seen : TextCheck → ℕ
+bytes_seen check = check.total
+
 -- the state of the text checks after these bytes
 pub record IsTextCheckOf (text : List ℕ) (check : TextCheck) : Type 0 where
   pub utf8 : IsCheckOf text check.utf8

@@ -1,6 +1,7 @@
 //! The text of a holdings list: whether its bytes are UTF-8 within the size limit, and its records of fields.
 //!
-//! `check_text` reads a text to its end and checks it. `TextReader` checks a text while something else reads it.
+//! `check_text` reads a text to its end and checks it. `TextReader` checks a text while something else reads it, and
+//! `TextCheck` one that arrives in pieces.
 //! `record_reader` and `read_record` split a text into records.
 #![tactic(auto)]
 
@@ -13,5 +14,6 @@ mod utf8;
 
 pub use crate::fault::TextFault;
 pub use crate::records::{read_record, record_reader};
+pub use crate::text_check::TextCheck;
 pub use crate::text_reader::{Given, TextReader, check_text};
 pub use crate::utf8::Utf8Check;

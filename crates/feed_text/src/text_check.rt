@@ -1,6 +1,6 @@
 //! Checks the bytes of a text as they are read: UTF-8, and at most one byte-order mark.
 ghost use Rattle.std.specs.Prelude.{◌≡◌, ◌≤◌, ◌+◌, ◌-◌, ◌++◌, ◌⊎◌, ℕ, List, [], IfErr, length, min, take};
-ghost use Rattle.feed_text.specs.Checks.{IsCheckResult, IsTextCheckOf};
+ghost use Rattle.feed_text.specs.Checks.{IsCheckResult, IsTextCheckOf, bytes_seen};
 ghost use Rattle.feed_limits.specs.Limits.{file_limit};
 ghost use Rattle.feed_text.specs.declared.fault.TextFault.TheVariants as fault;
 
@@ -10,9 +10,10 @@ use crate::utf8::Utf8Check;
 // Two byte-order marks of UTF-8.
 const TWO_MARKS: [u8; 6] = [0xEF, 0xBB, 0xBF, 0xEF, 0xBB, 0xBF];
 
-/// Checks the bytes of a text that is read in pieces.
+/// Checks the bytes of a text that arrives in pieces, cut anywhere: UTF-8 (RFC 3629), and at most one byte-order mark
+/// at the front.
 #[derive(Drop)]
-pub(crate) struct TextCheck {
+pub struct TextCheck {
     utf8: Utf8Check,
     front: [u8; 6],
     pub(crate) total: usize,
@@ -31,7 +32,7 @@ fn with_next(front: [u8; 6], known: usize, bytes: &[u8]) -> [u8; 6]
 
 impl TextCheck {
     /// Returns a check that has seen no bytes.
-    pub(crate) fn new() -> TextCheck
+    pub fn new() -> TextCheck
         ensures { IsTextCheckOf [] result }
     {
         TextCheck {
@@ -41,20 +42,27 @@ impl TextCheck {
         }
     }
 
+    /// Returns the number of bytes that were checked.
+    pub fn bytes_seen(&self) -> usize
+        ensures { result ≡ bytes_seen self.now }
+    {
+        self.total
+    }
+
     /// Checks the next bytes.
-    pub(crate) fn feed(&mut self, bytes: &[u8])
-        requires { self.old.total ≤ file_limit }
+    pub fn feed(&mut self, bytes: &[u8])
+        requires { bytes_seen self.old ≤ file_limit }
         ensures checked { (text : List ℕ) → IsTextCheckOf text self.old → IsTextCheckOf (text ++ bytes.now) self.new }
-        ensures total { self.new.total ≡ self.old.total + length bytes.now }
+        ensures total { bytes_seen self.new ≡ bytes_seen self.old + length bytes.now }
     {
         self.utf8.feed(bytes);
         self.front = with_next(self.front, self.total.min(6), bytes);
         self.total += bytes.len();
     }
 
-    /// Returns why the bytes of a whole text are bad, if they are.
-    pub(crate) fn finish(self) -> Result<(), TextFault>
-        requires { self.total ≤ file_limit }
+    /// Returns why the bytes of a whole text are bad, if they are: `NotUtf8` or `TwoMarks`.
+    pub fn finish(self) -> Result<(), TextFault>
+        requires { bytes_seen self ≤ file_limit }
         ensures checked { (text : List ℕ) → IsTextCheckOf text self → IsCheckResult text result }
         ensures fault { IfErr result (λ why. (why ≡ fault.NotUtf8) ⊎ (why ≡ fault.TwoMarks)) }
     {

@@ -1,0 +1,25 @@
+use Rattle.std.proofs.Common.{◌≡◌, ◌<◌, ◌+◌, ◌++◌, [], ◌∷◌, ap, arith, length}
+use Rattle.std.proofs.lemmas.List.{length-append}
+use Rattle.csv.specs.Records.{fields_of}
+use Rattle.feed_limits.specs.Limits.{file_limit}
+use Rattle.feed_kbart.specs.Columns.{columns_of}
+use Rattle.feed_kbart.specs.Holdings.{holdings_from}
+use Rattle.feed_kbart.proofs.Tabled.{holdings_from-append, length-rows}
+use Rattle.feed_kbart.proofs.list_records.Table.add.Goals as goal
+
+pub returns : goal.returns
+returns c records few was =
+    let columns = columns_of was.header in
+    let fields = fields_of c.args.fields.now in
+    let small : length was.others < file_limit = omega (arith, few, ap length was.are) in
+    let number : c.args.self.now.number ≡ 2 + length was.others = omega (arith, was.number) in
+    let kept = c.in_ok-add.ensures (holdings_from columns 2 was.others) (omega (arith, small, length-rows columns 2 was.others)) was.kept in
+    record {
+      header = was.header;
+      others = was.others ++ fields ∷ [];
+      are = ap (λ l. l ++ fields ∷ []) was.are;
+      good = was.good;
+      columns = was.columns;
+      number = omega (arith, c.saturating_add-self.ensures, number, small, length-append was.others (fields ∷ []));
+      kept = rw (← holdings_from-append columns 2 was.others (fields ∷ [])) (rw (was.columns, number) at kept);
+    }
