@@ -136,7 +136,8 @@ class Fleet:
         for old, new in [("127.0.0.1:8080", f"127.0.0.1:{self.front}"), ("[::1]:8080", f"[::1]:{self.front}"),
                          ("127.0.0.1:8090", f"127.0.0.1:{self.way}"), ("[::1]:8090", f"[::1]:{self.way}"),
                          ("https://lists.example/kbart/", f"http://127.0.0.1:{self.origin}/"),
-                         ("/var/cache/nginx", str(self.folder)), ("rate=20", "rate=90000")]:
+                         ("/var/cache/nginx", str(self.folder)), ("/var/log/nginx", str(self.folder)),
+                         ("rate=20", "rate=90000")]:
             text = text.replace(old, new)
         unwanted = ["proxy_ssl_"] if has_ipv6() else ["proxy_ssl_", "listen [::1]"]
         text = "".join(line for line in text.splitlines(True) if not any(it in line for it in unwanted))

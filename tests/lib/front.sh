@@ -8,7 +8,7 @@ fronted() {
     FRONT=127.0.0.1:$PORT WAY=127.0.0.1:$((PORT + 1000))
     nginx_conf | sed "$1
       s|1\(]*\):8080|1\1:$PORT|; s|1\(]*\):8090|1\1:$((PORT + 1000))|
-      s|/var/cache/nginx|$PWD/nginx|; s|lists.example/|127.0.0.1:9/|" > nginx/conf
+      s|/var/cache/nginx|$PWD/nginx|; s|/var/log/nginx|$PWD/nginx|; s|lists.example/|127.0.0.1:9/|" > nginx/conf
     rm -f nginx/pid
     timeout 600 nginx -p nginx -c conf -e errors -g 'daemon off;' 2> faults & NGINX=$!
     begun $NGINX nginx/pid && return
