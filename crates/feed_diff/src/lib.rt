@@ -7,6 +7,7 @@
 mod change;
 mod comparison;
 mod law;
+mod number_set;
 mod numbered;
 mod order;
 mod pairing;

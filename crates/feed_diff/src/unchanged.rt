@@ -8,6 +8,7 @@ ghost use Rattle.feed_diff.specs.Ranking.{first_number};
 ghost use Rattle.feed_diff.specs.declared.order.By.TheVariants as key;
 
 use crate::change::Change;
+use crate::number_set::NumberSet;
 use crate::order::{By, first_number};
 use crate::pairing::Pairing;
 use feed_kbart::Row;
@@ -115,11 +116,11 @@ fn add_numbers(numbers: &mut Vec<u32>, rows: &[&Row]) -> Result<(), AllocError>
     Ok(())
 }
 
-// Takes the pairs apart whose rows have one of some numbers, which ascend.
+// Takes the pairs apart whose rows have one of some numbers.
 fn take_apart<'a>(
     alloc: Global,
     first: Pairing<'a>,
-    numbers: &[u32],
+    numbers: &NumberSet,
 ) -> Result<Pairing<'a>, AllocError>
     requires { All (λ pair. order key.Content pair.old pair.new ≡ Equal) first.pairs.items }
     ensures { IfOk result (ArePaired key.Content (first.entry.old.items ++ firsts first.entry.pairs.items)
@@ -132,7 +133,7 @@ fn take_apart<'a>(
     } = first;
     let mut kept = Vec::with_capacity(alloc, pairs.len())?;
     for pair in &pairs {
-        if numbers.binary_search(&first_number(pair.old)).is_ok() {
+        if numbers.contains(first_number(pair.old)) {
             old.push(pair.old)?;
             new.push(pair.new)?;
         } else {
@@ -159,6 +160,6 @@ pub(crate) fn pair_unchanged<'a>(
     let mut numbers = Vec::with_capacity(alloc, first.old.len().saturating_add(first.new.len()))?;
     add_numbers(&mut numbers, &first.old)?;
     add_numbers(&mut numbers, &first.new)?;
-    numbers.sort()?;
+    let numbers = NumberSet::of(alloc, numbers)?;
     take_apart(alloc, first, &numbers)
 }

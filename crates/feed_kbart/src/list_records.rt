@@ -19,7 +19,7 @@ struct Table {
     kept: HoldingsBuilder<RowStore>,
 }
 
-// What the records so far are.
+// The state after the records so far.
 #[derive(Drop)]
 enum Stage {
     // There was no record.

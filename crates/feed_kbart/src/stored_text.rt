@@ -9,7 +9,7 @@ use std::alloc::AllocError;
 // The byte before a length of four bytes.
 const LONG: u8 = 255;
 
-// The number of bytes by which most blocks are told apart. A row has more.
+// Most rows differ in their first bytes, this many. Each row has more.
 const NEAR: usize = 16;
 
 // Returns the length of a text. No text of a file is so long that its length does not fit.
@@ -109,7 +109,7 @@ fn after_texts(bytes: &[u8], count: usize) -> &[u8]
     left
 }
 
-// Returns whether the first texts of one block are stored in the bytes of those of another. Equal rows mostly are.
+// Returns whether two blocks have the same bytes up to the end of their first texts. Those of equal rows mostly do.
 fn has_same_bytes(one: &[u8], other: &[u8], count: usize) -> bool
     ensures { OnTrue result (texts_in count one.now ≡ texts_in count other.now) }
 {
