@@ -7,7 +7,7 @@
 mod change;
 mod comparison;
 mod law;
-mod number_set;
+mod left_rows;
 mod numbered;
 mod order;
 mod pairing;

@@ -8,7 +8,7 @@ ghost use Rattle.feed_diff.specs.Ranking.{first_number};
 ghost use Rattle.feed_diff.specs.declared.order.By.TheVariants as key;
 
 use crate::change::Change;
-use crate::number_set::NumberSet;
+use crate::left_rows::LeftRows;
 use crate::order::{By, first_number};
 use crate::pairing::Pairing;
 use feed_kbart::Row;
@@ -116,11 +116,11 @@ fn add_numbers(numbers: &mut Vec<u32>, rows: &[&Row]) -> Result<(), AllocError>
     Ok(())
 }
 
-// Takes the pairs apart whose rows have one of some numbers.
+// Takes the pairs apart whose rows may be equal to one that is left over.
 fn take_apart<'a>(
     alloc: Global,
     first: Pairing<'a>,
-    numbers: &NumberSet,
+    left: &LeftRows,
 ) -> Result<Pairing<'a>, AllocError>
     requires { All (λ pair. order key.Content pair.old pair.new ≡ Equal) first.pairs.items }
     ensures { IfOk result (ArePaired key.Content (first.entry.old.items ++ firsts first.entry.pairs.items)
@@ -133,7 +133,7 @@ fn take_apart<'a>(
     } = first;
     let mut kept = Vec::with_capacity(alloc, pairs.len())?;
     for pair in &pairs {
-        if numbers.contains(first_number(pair.old)) {
+        if left.may_have_equal(pair.old) {
             old.push(pair.old)?;
             new.push(pair.new)?;
         } else {
@@ -147,8 +147,8 @@ fn take_apart<'a>(
     })
 }
 
-/// Pairs rows that are equal and in the same order in both lists. Leaves over all rows of an identifier if it leaves
-/// over one of them: if several rows are equal, the sort then pairs the first with the first.
+/// Pairs rows that are equal and in the same order in both lists. If it leaves over one of several equal rows, it
+/// leaves over all of them, and the sort then pairs the first with the first.
 pub(crate) fn pair_unchanged<'a>(
     alloc: Global,
     old: &[&'a Row],
@@ -160,6 +160,6 @@ pub(crate) fn pair_unchanged<'a>(
     let mut numbers = Vec::with_capacity(alloc, first.old.len().saturating_add(first.new.len()))?;
     add_numbers(&mut numbers, &first.old)?;
     add_numbers(&mut numbers, &first.new)?;
-    let numbers = NumberSet::of(alloc, numbers)?;
-    take_apart(alloc, first, &numbers)
+    let left = LeftRows::of(alloc, &first.old, &first.new, numbers)?;
+    take_apart(alloc, first, &left)
 }

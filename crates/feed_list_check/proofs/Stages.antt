@@ -38,7 +38,8 @@ whole_more text front held bytes more whole is = rw (whole, is) (append_assoc fr
 -- the bytes up to a place were read, and those from there on are held
 pub whole_cut : (text front held bytes : List ℕ) (place : ℕ) → text ≡ front ++ held → text ++ bytes ≡ (front ++ (held ++ take place bytes)) ++ drop place bytes
 whole_cut text front held bytes place whole =
-    rw (whole, append_assoc front held bytes, append_assoc front (held ++ take place bytes) (drop place bytes), append_assoc held (take place bytes) (drop place bytes), take-append-drop place bytes) refl
+    let last = drop place bytes in
+    rw (whole, append_assoc front held bytes, append_assoc front (held ++ take place bytes) last, append_assoc held (take place bytes) last, take-append-drop place bytes) refl
 
 -- all records were added
 pub whole_text : (check : ListCheck) (text : List ℕ) (now : ListRecords) → IsCheckOfList text check → IsValidText text → IsMoved check.held.items check.list now

@@ -4,7 +4,8 @@ use Rattle.feed_limits.specs.Limits.{file_limit}
 use Rattle.feed_list_check.proofs.Stages.{moved, whole_cut, whole_more}
 use Rattle.feed_list_check.proofs.Cuts.{cut-append}
 use Rattle.feed_list_check.proofs.list_check.ListCheck.step.Goals as goal
-use Rattle.feed_list_check.proofs.list_check.ListCheck.step.Goals.{in-None+in_ok-extend_from_slice-in-None, in-Some+in_ok-extend_from_slice-in-Some+in_ok-read_window-in-Some+in_ok-extend_from_slice-in-Some-2}
+use Rattle.feed_list_check.proofs.list_check.ListCheck.step.Goals.{in-None+in_ok-extend_from_slice-in-None}
+use Rattle.feed_list_check.proofs.list_check.ListCheck.step.Goals.{in-Some+in_ok-extend_from_slice-in-Some+in_ok-read_window-in-Some+in_ok-extend_from_slice-in-Some-2}
 
 pub returns : goal.returns
 returns c text was =
