@@ -1,7 +1,7 @@
 -- Which links go through the proxy.
-use Rattle.std.proofs.Common.{◌≡◌, ℕ, ◌+◌, ◌*◌, ◌<◌, ◌≤◌, length, subst, ◌||◌, ◌==◌, Bool, true, false, not, List, ◌∷◌, ◌++◌, Option, Some, None, All, if◌then◌else◌, refl, arith, sym, ◌∙◌}
+use Rattle.std.proofs.Common.{◌≡◌, ℕ, ◌+◌, ◌*◌, ◌<◌, ◌≤◌, length, subst, Bool, true, false, not, List, ◌++◌, Some, None, All, if◌then◌else◌, refl, arith, sym, ◌∙◌}
 use Rattle.std.specs.Char.{is_ascii_alphanumeric}
-use Rattle.percent_encoding.specs.Percent.{percent_decode, percent_encode}
+use Rattle.percent_encoding.specs.Percent.{percent_encode}
 use Rattle.percent_encoding.specs.declared.ascii_set.TheConstants.{NON_ALPHANUMERIC}
 use Rattle.std.proofs.lemmas.List.{length-append}
 use Rattle.std.proofs.lemmas.Bool.{agree_below_at}
@@ -12,7 +12,7 @@ use Rattle.percent_encoding.proofs.PercentLemmas.{All-percent_encode, IsEscapeBy
 use Rattle.percent_encoding.proofs.StandardFacts.{non_alphanumeric}
 use Rattle.feed_site.specs.Urls.{host_of}
 use Rattle.feed_site.specs.Site.{SiteValue}
-use Rattle.feed_site.specs.Proxies.{encodes, is_excepted, is_proxied, needs_proxy, proxied, through, written_target}
+use Rattle.feed_site.specs.Proxies.{encodes, is_excepted, is_proxied, proxied, through, written_target}
 use Rattle.feed_site.specs.Laws.{IsTarget, GoesThrough, LinkFits, is_plain}
 
 not_false : (b : Bool) → not b ≡ false → b ≡ true
@@ -43,10 +43,10 @@ kept_is_alphanumeric b kept =
     agree_below_at (contains NON_ALPHANUMERIC) (λ k. not (is_ascii_alphanumeric k)) 128 b non_alphanumeric ascii in
     not_false (is_ascii_alphanumeric b) (sym agrees ∙ outside)
 
-kept_is_plain : (b : ℕ) → should_percent_encode NON_ALPHANUMERIC b ≡ false → is_plain b ≡ true
+pub kept_is_plain : (b : ℕ) → should_percent_encode NON_ALPHANUMERIC b ≡ false → is_plain b ≡ true
 kept_is_plain b kept = rw (kept_is_alphanumeric b kept)
 
-escape_is_plain : (b : ℕ) → IsEscapeByte b → is_plain b ≡ true
+pub escape_is_plain : (b : ℕ) → IsEscapeByte b → is_plain b ≡ true
 escape_is_plain b h = grind (arith, nat_tests)
 
 -- what is written of a target

@@ -1,14 +1,12 @@
 -- What a document without a fault has at its keys.
-use Rattle.std.proofs.Common.{◌≡◌, ℕ, ◌+◌, ℤ, ◌&&◌, Bool, true, false, not, is_some, List, [], ◌∷◌, Option, Some, None, option_map, unwrap_or, if◌then◌else◌}
+use Rattle.std.proofs.Common.{◌≡◌, ℕ, ◌+◌, ◌&&◌, Bool, true, false, is_some, List, [], ◌∷◌, Option, Some, None, option_map, if◌then◌else◌}
 use Rattle.std.proofs.Common.{codes, Ordering, Less, Equal, Greater, nat_cmp, refl, sym, ◌∙◌, ap}
-use Rattle.std.specs.Prelude.{int_lt}
 use Rattle.std.specs.Option.{option_and_then}
 use Rattle.std.specs.List.{list_all}
 use Rattle.std.specs.Ordering.{is_eq, match_ordering}
 use Rattle.std.specs.Cmp.Lexicographic.{slice_cmp, same_text}
-use Rattle.std.specs.Str.{bytes_eq}
 use Rattle.std.proofs.lemmas.Map.Text.{is_eq-slice_cmp}
-use Rattle.toml.specs.Data.{Data, string, integer, float, boolean, datetime, array, table, Items, no_items, item, Members, no_members, member, as_array, as_bool, as_str, as_table, get_member}
+use Rattle.toml.specs.Data.{Data, Items, no_items, item, Members, no_members, member, as_array, as_str, as_table, get_member}
 use Rattle.feed_dates.specs.declared.day_range.DayRange.{DayRange}
 use Rattle.feed_site.specs.declared.kind.Kind.{Kind}
 use Rattle.feed_site.specs.declared.kind.Kind.TheVariants.{Text, Language, Color, Url, Template, Package, Date, Switch, Hosts}
@@ -19,11 +17,12 @@ use Rattle.feed_site.specs.declared.fault.Flaw.{Flaw}
 use Rattle.feed_site.specs.Urls.{is_host}
 use Rattle.feed_site.specs.Kinds.{is_of}
 use Rattle.feed_site.specs.Schema.{is_list, kind_of, required, section_of}
-use Rattle.feed_site.specs.Lookups.{items_at, table_at, text_at}
+use Rattle.feed_site.specs.Lookups.{items_at, text_at}
 use Rattle.feed_site.specs.Faults.{MisfitValue, PlaceValue, at_key, days_at, fault_of, fields_fault, flaw, host_flaw, host_flaws, host_reason, hosts_flaw, is_backward, kind_fault}
 use Rattle.feed_site.specs.Faults.{list_fault, missing_fault, or_misfit, order_fault, place_of, row_fault, rows_fault, section_fault, single_fault, table_fault, text_flaw, value_flaw}
 use Rattle.feed_site.specs.Faults.{reason_of}
-use Rattle.feed_site.specs.Site.{SiteValue, except_in, first_day, holding_of, last_day, or_empty, package_of, row_or, rows_in, rows_of, site_of, text_in, texts_in, texts_of, title_of}
+use Rattle.feed_site.specs.Site.{first_day, holding_of, last_day, or_empty, package_of, row_or, rows_in, rows_of, site_of, text_in, texts_in, texts_of, title_of}
+use Rattle.feed_site.proofs.Replaced.{text_is}
 use Rattle.feed_site.specs.Valid.{IsSite, fits, is_forward, is_holding, is_package_rule, is_title_rule}
 
 -- neither has a fault
@@ -282,6 +281,7 @@ site_is_valid doc fine = record {
   help = text_in_fits (codes "library") (codes "help") part.Library Url doc fine refl refl refl refl;
   contact = text_in_fits (codes "library") (codes "contact") part.Library Url doc fine refl refl refl refl;
   request = text_in_fits (codes "library") (codes "request") part.Library Template doc fine refl refl refl refl;
+  replaced = λ name known. ap (fits Text) (sym (text_is name doc)) ∙ text_in_fits (codes "texts") name part.Texts Text doc fine refl refl (rw known refl) refl;
   prefix = text_in_fits (codes "proxy") (codes "prefix") part.Proxy Url doc fine refl refl refl refl;
   except = except_section doc (get_member (codes "proxy") doc) fine refl;
   packages = rows_in_fit (codes "package") part.Package package_of is_package_rule package_fits doc (get_member (codes "package") doc) fine refl refl refl;

@@ -1,11 +1,11 @@
 -- The texts that a site file may have for each kind of value.
-use Rattle.std.specs.Prelude.{ℕ, ◌&&◌, ◌||◌, ◌==◌, Bool, true, false, not, is_some, nat_lt, nat_le, List, [], ◌∷◌, length, codes, drop}
-use Rattle.std.specs.List.{list_all, list_any, before_first, after_first, slice_split}
+use Rattle.std.specs.Prelude.{ℕ, ◌&&◌, ◌||◌, ◌==◌, Bool, false, not, is_some, nat_lt, List, [], ◌∷◌, length, codes, drop, Option, Some, None}
+use Rattle.std.specs.List.{list_all, list_any}
 use Rattle.std.specs.Str.{bytes_eq}
 use Rattle.std.specs.Char.{is_ascii_alphabetic, is_ascii_alphanumeric, is_ascii_hexdigit}
 use Rattle.feed_dates.specs.DayRanges.{days_of}
 use Rattle.feed_names.specs.ReleaseName.{is_stem_byte}
-use Rattle.feed_site.specs.Urls.{after_byte, before_byte, has_byte, is_sized, is_url, parts_between}
+use Rattle.feed_site.specs.Urls.{after_byte, after_scheme, before_byte, has_byte, is_sized, is_url, parts_between}
 use Rattle.feed_site.specs.declared.kind.Kind.{Kind}
 use Rattle.feed_site.specs.declared.kind.Kind.TheVariants.{Text, Language, Color, Url, Template, Package, Date}
 
@@ -53,9 +53,22 @@ is_after_open piece = (has_byte 125 piece && is_field (before_byte 125 piece)) &
 abbrev pub has_fields : List ℕ → Bool
 has_fields text = not (has_byte 125 (before_byte 123 text)) && list_all is_after_open (drop 1 (parts_between 123 text))
 
--- the address of a request form: a URL with parts of a citation in braces, such as `https://a.example/ill?issn={issn}`
+-- a byte that ends an authority
+abbrev pub ends_authority : ℕ → Bool
+ends_authority b = (b == 47) || ((b == 63) || ((b == 35) || (b == 92)))
+
+abbrev pub has_end : Option (List ℕ) → Bool
+has_end None = false
+has_end (Some rest) = list_any ends_authority rest
+
+-- what is before the first brace: a URL of more than the eight bytes of `https://`, whose authority has ended
+abbrev pub is_front : List ℕ → Bool
+is_front front = nat_lt 8 (length front) && (is_url front && has_end (after_scheme front))
+
+-- the address of a request form: a URL with parts of a citation in braces behind its host, such as
+-- `https://a.example/ill?issn={issn}`
 abbrev pub is_template : List ℕ → Bool
-is_template text = is_url text && has_fields text
+is_template text = (is_url text && has_fields text) && is_front (before_byte 123 text)
 
 -- the text begins with a dot
 abbrev pub begins_with_dot : List ℕ → Bool

@@ -1,6 +1,5 @@
 -- Laws of the links of a page.
 use Rattle.std.specs.Prelude.{◌≡◌, ℕ, ◌<◌, ◌≤◌, length, ◌||◌, ◌==◌, Bool, true, false, List, ◌∷◌, ◌++◌, Option, Some, None, All}
-use Rattle.std.specs.List.{list_all}
 use Rattle.std.specs.Char.{is_ascii_alphanumeric}
 use Rattle.percent_encoding.specs.Percent.{percent_decode}
 use Rattle.feed_site.specs.Urls.{host_of, is_within}

@@ -14,3 +14,7 @@ pub mod Reading
 pub mod Proxies
 pub mod Laws
 pub mod HeldLaws
+pub mod Packages
+pub mod Requests
+pub mod RequestLaws
+pub mod Texts

@@ -1,15 +1,17 @@
 -- The sections of a site file, and the kind of value of each key.
 use Rattle.std.specs.Prelude.{ℕ, Bool, true, false, List, [], ◌∷◌, Option, Some, None, if◌then◌else◌, codes}
 use Rattle.std.specs.Str.{bytes_eq}
+use Rattle.feed_page_texts.specs.Words.{is_name}
 use Rattle.feed_site.specs.declared.kind.Kind.{Kind}
 use Rattle.feed_site.specs.declared.kind.Kind.TheVariants.{Text, Language, Color, Url, Template, Package as PackageName, Date, Switch, Hosts}
 use Rattle.feed_site.specs.declared.section.Section.{Section}
-use Rattle.feed_site.specs.declared.section.Section.TheVariants.{Library, Proxy, Package, Title}
+use Rattle.feed_site.specs.declared.section.Section.TheVariants.{Library, Texts, Proxy, Package, Title}
 
 -- the section of a key at the top of the file
 abbrev pub section_of : List ℕ → Option Section
 section_of key =
     if bytes_eq key (codes "library") then Some Library
+    else if bytes_eq key (codes "texts") then Some Texts
     else if bytes_eq key (codes "proxy") then Some Proxy
     else if bytes_eq key (codes "package") then Some Package
     else if bytes_eq key (codes "title") then Some Title
@@ -18,6 +20,7 @@ section_of key =
 -- a section is a list of tables
 abbrev pub is_list : Section → Bool
 is_list Library = false
+is_list Texts = false
 is_list Proxy = false
 is_list Package = true
 is_list Title = true
@@ -32,6 +35,10 @@ library_kind key =
     else if bytes_eq key (codes "contact") then Some Url
     else if bytes_eq key (codes "request") then Some Template
     else None
+
+-- the keys of `[texts]`: the names of the texts of the pages
+abbrev pub texts_kind : List ℕ → Option Kind
+texts_kind key = if is_name key then Some Text else None
 
 -- the keys of `[proxy]`
 abbrev pub proxy_kind : List ℕ → Option Kind
@@ -65,6 +72,7 @@ title_kind key =
 -- the kind of value of a key in a section
 abbrev pub kind_of : Section → List ℕ → Option Kind
 kind_of Library key = library_kind key
+kind_of Texts key = texts_kind key
 kind_of Proxy key = proxy_kind key
 kind_of Package key = package_kind key
 kind_of Title key = title_kind key
@@ -72,6 +80,7 @@ kind_of Title key = title_kind key
 -- the keys that a table of a section must have
 abbrev pub required : Section → List (List ℕ)
 required Library = []
+required Texts = []
 required Proxy = codes "prefix" ∷ []
 required Package = codes "id" ∷ []
 required Title = codes "package" ∷ codes "id" ∷ []

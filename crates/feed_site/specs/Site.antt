@@ -1,7 +1,8 @@
 -- What a site file says of a library.
-use Rattle.std.specs.Prelude.{ℕ, ℤ, Bool, true, List, [], ◌∷◌, Option, Some, None, option_map, unwrap_or, codes}
+use Rattle.std.specs.Prelude.{ℕ, ℤ, Bool, true, List, [], ◌∷◌, Option, Some, None, option_map, unwrap_or, codes, if◌then◌else◌}
 use Rattle.std.specs.Option.{option_and_then}
-use Rattle.toml.specs.Data.{Data, Items, no_items, item, Members, as_str, as_table}
+use Rattle.std.specs.Str.{bytes_eq}
+use Rattle.toml.specs.Data.{Items, no_items, item, Members, no_members, member, as_str, as_table}
 use Rattle.feed_dates.specs.declared.day_range.DayRange.{DayRange}
 use Rattle.feed_site.specs.Lookups.{text_at, switch_at, items_at, table_at}
 use Rattle.feed_site.specs.Faults.{days_at}
@@ -24,8 +25,13 @@ pub record TitleValue : Type 0 where
   pub id : List ℕ
   pub holding : HoldingValue
 
--- a site: the texts of the page, the prefix of links and the hosts that need none, the packages in the order in which they
--- are shown, and the titles
+-- a text of the pages that the site replaces, by its name; a value that is not a text is none
+pub record ReplacedValue : Type 0 where
+  pub name : List ℕ
+  pub words : Option (List ℕ)
+
+-- a site: what it says of the library, the texts that it replaces, the prefix of links and the hosts that need none, the
+-- packages in the order in which they are shown, and the titles
 pub record SiteValue : Type 0 where
   pub name : Option (List ℕ)
   pub language : Option (List ℕ)
@@ -33,6 +39,7 @@ pub record SiteValue : Type 0 where
   pub help : Option (List ℕ)
   pub contact : Option (List ℕ)
   pub request : Option (List ℕ)
+  pub replaced : List ReplacedValue
   pub prefix : Option (List ℕ)
   pub except : List (List ℕ)
   pub packages : List PackageValue
@@ -54,6 +61,20 @@ texts_of (item d ds) = or_empty (as_str d) ∷ texts_of ds
 abbrev pub texts_in : Option Items → List (List ℕ)
 texts_in None = []
 texts_in (Some items) = texts_of items
+
+-- the texts of a table
+abbrev pub replaced_of : Members → List ReplacedValue
+replaced_of no_members = []
+replaced_of (member key d ms) = record { name = key; words = as_str d } ∷ replaced_of ms
+
+abbrev pub replaced_in : Option Members → List ReplacedValue
+replaced_in None = []
+replaced_in (Some ms) = replaced_of ms
+
+-- the text that replaces that of a name, if there is one
+abbrev pub replacement : List ℕ → List ReplacedValue → Option (List ℕ)
+replacement name [] = None
+replacement name (text ∷ texts) = if bytes_eq name text.name then text.words else replacement name texts
 
 -- the list of the hosts that need no proxy
 abbrev pub except_in : Members → Option Items
@@ -109,6 +130,7 @@ site_of doc = record {
   help = text_in (codes "library") (codes "help") doc;
   contact = text_in (codes "library") (codes "contact") doc;
   request = text_in (codes "library") (codes "request") doc;
+  replaced = replaced_in (table_at (codes "texts") doc);
   prefix = text_in (codes "proxy") (codes "prefix") doc;
   except = texts_in (except_in doc);
   packages = rows_in package_of (items_at (codes "package") doc);

@@ -1,5 +1,5 @@
 -- URLs of `http` and `https`, and the hosts that they name (RFC 3986, section 3; RFC 9110, section 4.2).
-use Rattle.std.specs.Prelude.{ℕ, ◌&&◌, ◌||◌, ◌==◌, ◌+◌, ◌-◌, Bool, false, not, nat_lt, nat_le, List, [], ◌∷◌, length, codes, take, drop, Option, Some, None}
+use Rattle.std.specs.Prelude.{ℕ, ◌&&◌, ◌||◌, ◌==◌, ◌-◌, Bool, false, nat_lt, nat_le, List, [], ◌∷◌, length, codes, take, drop, Option, Some, None}
 use Rattle.std.specs.Prelude.{if◌then◌else◌, option_map}
 use Rattle.std.specs.List.{list_all, list_any, before_first, after_first, slice_split}
 use Rattle.std.specs.Char.{is_ascii_alphanumeric}
@@ -16,6 +16,11 @@ is_visible b = nat_le 33 b && nat_le b 126
 -- the most bytes of a URL (RFC 9110, section 4.1)
 abbrev pub url_limit : ℕ
 url_limit = 8000
+
+-- a text that is safe in a link and in a Location field (RFC 9110, section 10.2.2): a URL of `http` or `https` in visible
+-- ASCII, within the limit
+abbrev pub is_link : List ℕ → Bool
+is_link url = nat_le (length url) url_limit && ((begins_with (codes "http://") url || begins_with (codes "https://") url) && list_all is_visible url)
 
 -- what follows `http://` or `https://`
 abbrev pub after_scheme : List ℕ → Option (List ℕ)

@@ -3,9 +3,10 @@ use Rattle.std.specs.Prelude.{◌≡◌, ℕ, ℤ, int_lt, ◌&&◌, Bool, true,
 use Rattle.std.specs.List.{list_all}
 use Rattle.feed_site.specs.declared.kind.Kind.{Kind}
 use Rattle.feed_site.specs.declared.kind.Kind.TheVariants.{Text, Language, Color, Url, Template, Package}
+use Rattle.feed_page_texts.specs.Words.{is_name}
 use Rattle.feed_site.specs.Urls.{is_host}
 use Rattle.feed_site.specs.Kinds.{is_of}
-use Rattle.feed_site.specs.Site.{HoldingValue, PackageValue, TitleValue, SiteValue}
+use Rattle.feed_site.specs.Site.{HoldingValue, PackageValue, TitleValue, SiteValue, replacement}
 
 -- a text is of its kind, if there is one
 abbrev pub fits : Kind → Option (List ℕ) → Bool
@@ -36,6 +37,7 @@ pub record IsSite (site : SiteValue) : Type 0 where
   pub help : fits Url site.help ≡ true
   pub contact : fits Url site.contact ≡ true
   pub request : fits Template site.request ≡ true
+  pub replaced : (name : List ℕ) → is_name name ≡ true → fits Text (replacement name site.replaced) ≡ true
   pub prefix : fits Url site.prefix ≡ true
   pub except : list_all is_host site.except ≡ true
   pub packages : list_all is_package_rule site.packages ≡ true

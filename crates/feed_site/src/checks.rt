@@ -83,7 +83,7 @@ fn missing_fault<'a>(
     ensures { result ≡ missing_fault (place_of name.now row) (required section) (table_view table.now) }
 {
     match section {
-        Section::Library => None,
+        Section::Library | Section::Texts => None,
         Section::Proxy => lack(name, row, "prefix", table),
         Section::Package => lack(name, row, "id", table),
         Section::Title => match lack(name, row, "package", table) {

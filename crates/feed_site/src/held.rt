@@ -10,7 +10,8 @@ ghost use Rattle.feed_site.specs.Site.{holding_of, package_of, or_empty, row_or,
 ghost use Rattle.feed_site.specs.Valid.{is_forward};
 
 use crate::checks::days_at;
-use crate::lookup::{switch_at, text_at};
+use crate::lookup::{has_text, switch_at};
+use crate::packages::package_table;
 use crate::site_file::SiteFile;
 use feed_dates::DayRange;
 use std::marker::Model;
@@ -54,24 +55,6 @@ fn holding_of(table: &Table) -> Holding
     }
 }
 
-fn has_text(key: &str, text: &[u8], table: &Table) -> bool
-    ensures { result ≡ bytes_eq (or_empty (text_at key.now (table_view table.now))) text.now }
-{
-    text_at(key, table).unwrap_or("").as_bytes() == text
-}
-
-// What a table says, if it is about this package.
-fn package_row(row: &Value, id: &[u8]) -> Option<Holding>
-    ensures { result ≡ package_holding id.now (row_or package_of (as_table (view row.now)) []) }
-{
-    let table = row.as_table()?;
-    if has_text("id", id, table) {
-        Some(holding_of(table))
-    } else {
-        None
-    }
-}
-
 // What a table says, if it is about this title of this package.
 fn title_row(row: &Value, package_id: &[u8], id: &[u8]) -> Option<Holding>
     ensures { result ≡ title_holding package_id.now id.now (row_or title_of (as_table (view row.now)) []) }
@@ -82,18 +65,6 @@ fn title_row(row: &Value, package_id: &[u8], id: &[u8]) -> Option<Holding>
     } else {
         None
     }
-}
-
-// What the first table about a package says.
-fn package_among(rows: &Array, id: &[u8]) -> Option<Holding>
-    ensures { result ≡ package_holding id.now (rows_of package_of (array_view rows.now)) }
-{
-    for index in 0..rows.len() {
-        if let Some(holding) = package_row(&rows[index], id) {
-            return Some(holding);
-        }
-    }
-    None
 }
 
 // What the first table about a title of a package says.
@@ -111,8 +82,8 @@ fn title_among(rows: &Array, package_id: &[u8], id: &[u8]) -> Option<Holding>
 fn package_holding(site: &SiteFile, id: &[u8]) -> Option<Holding>
     ensures { result ≡ package_holding id.now site.now.packages }
 {
-    match site.packages() {
-        Some(rows) => package_among(rows, id),
+    match package_table(site, id) {
+        Some(table) => Some(holding_of(table)),
         None => None,
     }
 }

@@ -1,7 +1,8 @@
-//! Laws of the links of a page and of what a library has, each stated as the contract of a function with an empty body.
+//! Laws of the links of a page, of those to a request form, and of what a library has, each stated as the contract of a function with an empty body.
 ghost use Rattle.feed_site.specs.Laws.{ExceptedIsDirect, FreeIsDirect, NoProxyIsDirect, OthersGoThrough};
 ghost use Rattle.feed_site.specs.Laws.{LinkFits, SubdomainsAreWithin};
 ghost use Rattle.feed_site.specs.HeldLaws.{AllIsHeld, HeldDaysAreShown, OffIsNotHeld};
+ghost use Rattle.feed_site.specs.RequestLaws.{PartsAddNoMarks, RequestsAreLinks, RequestsKeepHost};
 
 /// A link that is free to read does not go through the proxy.
 pub fn free_is_direct()
@@ -46,4 +47,20 @@ pub fn off_is_not_held()
 /// A library whose site file names no package and no title has everything.
 pub fn all_is_held()
     ensures { AllIsHeld }
+{}
+
+/// A citation adds no byte but letters, digits and `%` to the link to a request form: it ends no value and begins no
+/// parameter.
+pub fn parts_add_no_marks()
+    ensures { PartsAddNoMarks }
+{}
+
+/// The link to a request form has the host of its template.
+pub fn requests_keep_host()
+    ensures { RequestsKeepHost }
+{}
+
+/// The link to a request form is safe in a page.
+pub fn requests_are_links()
+    ensures { RequestsAreLinks }
 {}

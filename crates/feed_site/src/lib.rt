@@ -9,12 +9,15 @@ mod kind;
 mod laws;
 mod links;
 mod lookup;
+mod packages;
 mod position;
+mod request;
 mod section;
 mod site_fault;
 mod site_file;
 mod template;
 mod text;
+mod texts;
 mod url;
 mod values;
 
@@ -22,9 +25,14 @@ pub use fault::Reason;
 pub use held::library_has;
 pub use laws::{
     all_is_held, excepted_is_direct, free_is_direct, held_days_are_shown, link_fits,
-    no_proxy_is_direct, off_is_not_held, others_go_through, subdomains_are_within,
+    no_proxy_is_direct, off_is_not_held, others_go_through, parts_add_no_marks, requests_are_links,
+    requests_keep_host, subdomains_are_within,
 };
 pub use links::{left_beside, link_to, prefix_for, proxied};
+pub use packages::{package_name, package_place, shown_package};
 pub use position::Position;
+pub use request::{Cited, request_link};
 pub use site_fault::{KeyFault, SiteFault};
 pub use site_file::{SITE_LIMIT, SiteFile};
+pub use texts::text_of;
+pub use url::{begins_with, host_of, is_all_visible, is_link};

@@ -33,8 +33,8 @@ fn is_proxied(site: &SiteFile, target: &[u8], is_free: bool) -> bool
     }
 }
 
-// The target with `%` and two hexadecimal digits for each byte that is not a letter or a digit.
-fn encoded(alloc: Global, target: &[u8]) -> Result<String, AllocError>
+/// Returns the target with `%` and two hexadecimal digits for each byte that is not a letter or a digit.
+pub(crate) fn encoded(alloc: Global, target: &[u8]) -> Result<String, AllocError>
     ensures { IfOk result (λ text. string_bytes text ≡ percent_encode NON_ALPHANUMERIC target.now) }
 {
     let mut text = String::new(alloc);

@@ -2,6 +2,8 @@
 ghost use Rattle.std.specs.Prelude.{◌≡◌, is_some, option_copied, option_map};
 ghost use Rattle.toml.specs.Data.{get_member};
 ghost use Rattle.toml.specs.View.{view, array_view, table_view};
+ghost use Rattle.std.specs.Str.{bytes_eq};
+ghost use Rattle.feed_site.specs.Site.{or_empty};
 ghost use Rattle.feed_site.specs.Lookups.{items_at, switch_at, table_at, text_at};
 
 use toml::value::Array;
@@ -29,6 +31,13 @@ pub(crate) fn text_at<'a>(key: &str, table: &'a Table) -> Option<&'a str>
         Some(value) => value.as_str(),
         None => None,
     }
+}
+
+/// Returns whether a table has this text at a key. A missing text is the empty one.
+pub(crate) fn has_text(key: &str, text: &[u8], table: &Table) -> bool
+    ensures { result ≡ bytes_eq (or_empty (text_at key.now (table_view table.now))) text.now }
+{
+    text_at(key, table).unwrap_or("").as_bytes() == text
 }
 
 /// Returns the switch at a key.

@@ -1,15 +1,18 @@
 //! The sections of a site file, and the kind of value of each key.
 ghost use Rattle.std.specs.Prelude.{◌≡◌};
 ghost use Rattle.feed_site.specs.Schema.{holding_kind, is_list, kind_of, library_kind, package_kind, proxy_kind};
-ghost use Rattle.feed_site.specs.Schema.{section_of, title_kind};
+ghost use Rattle.feed_site.specs.Schema.{section_of, texts_kind, title_kind};
 
 use crate::kind::Kind;
+use feed_page_texts::is_name;
 
 /// A section of a site file.
 #[derive(Clone, Copy, Debug, PartialEq, Eq)]
 pub(crate) enum Section {
     /// `[library]`: the names, the addresses and the colour of the page.
     Library,
+    /// `[texts]`: the texts of the pages that the site replaces.
+    Texts,
     /// `[proxy]`: the prefix of links, and the hosts that need none.
     Proxy,
     /// `[[package]]`: the name of a package, and what the library has of it.
@@ -24,6 +27,7 @@ pub(crate) fn section_of(key: &str) -> Option<Section>
 {
     match key {
         "library" => Some(Section::Library),
+        "texts" => Some(Section::Texts),
         "proxy" => Some(Section::Proxy),
         "package" => Some(Section::Package),
         "title" => Some(Section::Title),
@@ -43,6 +47,12 @@ fn library_kind(key: &str) -> Option<Kind>
         "request" => Some(Kind::Template),
         _ => None,
     }
+}
+
+fn texts_kind(key: &str) -> Option<Kind>
+    ensures { result ≡ texts_kind key.now }
+{
+    if is_name(key) { Some(Kind::Text) } else { None }
 }
 
 fn proxy_kind(key: &str) -> Option<Kind>
@@ -92,7 +102,7 @@ impl Section {
         ensures { result ≡ is_list self }
     {
         match self {
-            Section::Library | Section::Proxy => false,
+            Section::Library | Section::Texts | Section::Proxy => false,
             Section::Package | Section::Title => true,
         }
     }
@@ -103,6 +113,7 @@ impl Section {
     {
         match self {
             Section::Library => library_kind(key),
+            Section::Texts => texts_kind(key),
             Section::Proxy => proxy_kind(key),
             Section::Package => package_kind(key),
             Section::Title => title_kind(key),

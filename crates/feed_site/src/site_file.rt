@@ -7,7 +7,7 @@ ghost use Rattle.toml.specs.View.{view, table_view, array_view};
 ghost use Rattle.feed_site.specs.Limits.{site_limit};
 ghost use Rattle.feed_site.specs.Positions.{position_of};
 ghost use Rattle.feed_site.specs.Proxies.{is_excepted};
-ghost use Rattle.feed_site.specs.Site.{except_in, or_empty, package_of, rows_in, text_in, texts_of, title_of};
+ghost use Rattle.feed_site.specs.Site.{except_in, or_empty, package_of, replacement, rows_in, text_in, texts_of, title_of};
 ghost use Rattle.feed_site.specs.Syntax.{IsTextFault};
 
 use crate::checks::fault_of;
@@ -193,6 +193,14 @@ impl SiteFile {
         ensures { option_copied result ≡ self.now.request }
     {
         text_in("library", "request", &self.document)
+    }
+
+    /// Returns the text that the site has in place of the one of a name.
+    #[tactic(auto, unfolding(crate::specs::Site::site_of), using(crate::proofs::Replaced::text_is))]
+    pub(crate) fn replacement(&self, name: &str) -> Option<&str>
+        ensures { option_copied result ≡ replacement name.now self.now.replaced }
+    {
+        text_in("texts", name, &self.document)
     }
 
     /// Returns the prefix of links that go through the proxy.

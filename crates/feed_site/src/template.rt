@@ -1,15 +1,16 @@
 //! The template of a request form's address: a URL with parts of a citation in braces.
-ghost use Rattle.std.specs.Prelude.{◌≡◌, drop};
-ghost use Rattle.std.specs.List.{list_all};
+ghost use Rattle.std.specs.Prelude.{◌≡◌, drop, option_copied};
+ghost use Rattle.std.specs.List.{list_all, list_any};
 ghost use Rattle.std.specs.Str.{bytes_eq};
-ghost use Rattle.feed_site.specs.Kinds.{has_fields, is_after_open, is_field, is_number_field, is_place_field};
-ghost use Rattle.feed_site.specs.Kinds.{is_template, is_work_field};
+ghost use Rattle.feed_site.specs.Kinds.{ends_authority, has_end, has_fields, is_after_open, is_field, is_number_field, is_place_field};
+ghost use Rattle.feed_site.specs.Kinds.{is_front, is_template, is_work_field};
 ghost use Rattle.feed_site.specs.Urls.{parts_between};
 
 use crate::cuts::{after, before, has};
-use crate::url::is_url;
+use crate::url::{after_scheme, is_url};
 
-fn is(name: &[u8], word: &str) -> bool
+/// Returns whether a name is this word.
+pub(crate) fn is(name: &[u8], word: &str) -> bool
     ensures { result ≡ bytes_eq name.now word.now }
 {
     name == word.as_bytes()
@@ -62,10 +63,38 @@ fn has_fields(text: &[u8]) -> bool
     !has(b'}', before(b'{', text)) && are_after_open(text)
 }
 
-/// Returns whether a text is the address of a request form: a URL in which each brace encloses a part of a citation,
-/// such as `https://a.example/ill?issn={issn}`.
+fn ends_authority(byte: u8) -> bool
+    ensures { result ≡ ends_authority byte }
+{
+    byte == b'/' || (byte == b'?' || (byte == b'#' || byte == b'\\'))
+}
+
+fn ends(rest: &[u8]) -> bool
+    ensures { result ≡ list_any ends_authority rest.now }
+{
+    rest.iter().any(|byte| ends_authority(*byte))
+}
+
+fn has_end(rest: Option<&[u8]>) -> bool
+    ensures { result ≡ has_end (option_copied rest.entry) }
+{
+    match rest {
+        Some(rest) => ends(rest),
+        None => false,
+    }
+}
+
+// Returns whether what is before the first brace has a host, and more behind it.
+fn is_front(front: &[u8]) -> bool
+    ensures { result ≡ is_front front.now }
+{
+    front.len() > 8 && is_url(front) && has_end(after_scheme(front))
+}
+
+/// Returns whether a text is the address of a request form: a URL in which each brace encloses a part of a citation and
+/// is behind the host, such as `https://a.example/ill?issn={issn}`.
 pub(crate) fn is_template(text: &[u8]) -> bool
     ensures { result ≡ is_template text.now }
 {
-    is_url(text) && has_fields(text)
+    is_url(text) && has_fields(text) && is_front(before(b'{', text))
 }

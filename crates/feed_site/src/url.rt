@@ -2,7 +2,7 @@
 ghost use Rattle.std.specs.Prelude.{◌≡◌, ◌-◌, drop, length, option_copied};
 ghost use Rattle.std.specs.List.{list_all};
 ghost use Rattle.feed_site.specs.Urls.{after_scheme, authority_of, begins_with, host_in, host_of, is_dotted, is_host};
-ghost use Rattle.feed_site.specs.Urls.{is_host_in, is_label, is_label_byte, is_url, is_visible, is_within};
+ghost use Rattle.feed_site.specs.Urls.{is_host_in, is_label, is_label_byte, is_link, is_url, is_visible, is_within};
 ghost use Rattle.feed_site.specs.Urls.{parts_between, without_user};
 
 use crate::cuts::{after, before, has, is_sized};
@@ -10,7 +10,8 @@ use crate::cuts::{after, before, has, is_sized};
 // The most bytes of a URL: what RFC 9110 (section 4.1) asks every recipient to support.
 const URL_LIMIT: usize = 8_000;
 
-fn begins_with(url: &[u8], front: &[u8]) -> bool
+/// Returns whether a text begins with another one, in any case of letters, and is longer.
+pub fn begins_with(url: &[u8], front: &[u8]) -> bool
     ensures { result ≡ begins_with front.now url.now }
 {
     front.len() < url.len() && url[..front.len()].eq_ignore_ascii_case(front)
@@ -22,14 +23,25 @@ fn is_visible(byte: u8) -> bool
     (33..=126).contains(&byte)
 }
 
-fn is_all_visible(url: &[u8]) -> bool
+/// Returns whether each byte is visible ASCII: no space, no control byte, and none above 126.
+pub fn is_all_visible(url: &[u8]) -> bool
     ensures { result ≡ list_all is_visible url.now }
 {
     url.iter().all(|byte| is_visible(*byte))
 }
 
-// Returns the rest of a URL after `http://` or `https://`.
-fn after_scheme(url: &[u8]) -> Option<&[u8]>
+/// Returns whether a text is safe in a link and in a Location field (RFC 9110, section 10.2.2): a URL of `http` or
+/// `https`, in at most 8,000 bytes of visible ASCII.
+pub fn is_link(url: &[u8]) -> bool
+    ensures { result ≡ is_link url.now }
+{
+    url.len() <= URL_LIMIT
+        && (begins_with(url, b"http://") || begins_with(url, b"https://"))
+        && is_all_visible(url)
+}
+
+/// Returns the rest of a URL after `http://` or `https://`.
+pub(crate) fn after_scheme(url: &[u8]) -> Option<&[u8]>
     ensures { option_copied result ≡ after_scheme url.now }
 {
     if begins_with(url, b"https://") {
@@ -65,7 +77,7 @@ fn host_in(authority: &[u8]) -> &[u8]
 }
 
 /// Returns the host of a URL of `http` or `https`, without a user and a port.
-pub(crate) fn host_of(url: &[u8]) -> Option<&[u8]>
+pub fn host_of(url: &[u8]) -> Option<&[u8]>
     ensures { option_copied result ≡ host_of url.now }
 {
     match after_scheme(url) {

@@ -1,0 +1,5 @@
+use Rattle.feed_page_texts.proofs.Names.{texts_have_names}
+use Rattle.feed_page_texts.proofs.laws.texts_have_names.Goals as goal
+
+pub returns : goal.returns
+returns c = texts_have_names

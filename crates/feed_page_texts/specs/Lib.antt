@@ -1,0 +1,4 @@
+pub mod RowValue
+pub mod Rows
+pub mod Words
+pub mod Laws

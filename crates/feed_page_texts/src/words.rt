@@ -1,0 +1,43 @@
+//! The words of each text, and the names by which a site file replaces texts.
+ghost use Rattle.std.specs.Prelude.{◌≡◌};
+ghost use Rattle.std.specs.Str.{bytes_eq};
+ghost use Rattle.feed_page_texts.specs.Words.{is_name, name_of, words_of};
+
+use crate::language::Language;
+use crate::table::{TEXTS, Text};
+
+#[tactic(auto, unfolding(crate::specs::Words::words_of, crate::specs::Words::name_of))]
+impl Text {
+    /// Returns the words of a text in a language.
+    pub fn words(self, language: Language) -> &'static str
+        ensures { result.now ≡ words_of language self }
+    {
+        let row = self.row();
+        match language {
+            Language::English => row.english,
+            Language::German => row.german,
+            Language::French => row.french,
+        }
+    }
+
+    /// Returns the name of a text, by which a site file replaces it.
+    pub fn name(self) -> &'static str
+        ensures { result.now ≡ name_of self }
+    {
+        self.row().name
+    }
+}
+
+fn has_name(text: Text, name: &str) -> bool
+    ensures { result ≡ bytes_eq (name_of text) name.now }
+{
+    text.name() == name
+}
+
+/// Returns whether a text has this name.
+#[tactic(auto, unfolding(crate::specs::Words::is_name))]
+pub fn is_name(name: &str) -> bool
+    ensures { result ≡ is_name name.now }
+{
+    TEXTS.iter().any(|text| has_name(*text, name))
+}

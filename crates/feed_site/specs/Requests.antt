@@ -1,0 +1,69 @@
+-- The address of a library's request form, with the parts of a citation in their places.
+use Rattle.std.specs.Prelude.{ℕ, ◌==◌, Bool, true, false, List, [], ◌∷◌, ◌++◌, Option, Some, None, if◌then◌else◌, codes}
+use Rattle.std.specs.Option.{option_and_then}
+use Rattle.std.specs.Str.{bytes_eq}
+use Rattle.percent_encoding.specs.Percent.{percent_encode}
+use Rattle.percent_encoding.specs.declared.ascii_set.TheConstants.{NON_ALPHANUMERIC}
+use Rattle.feed_site.specs.Urls.{is_link}
+use Rattle.feed_site.specs.Site.{SiteValue}
+
+-- the parts of a citation; one that is absent is empty
+pub record CitedValue : Type 0 where
+  pub title : List ℕ
+  pub article : List ℕ
+  pub author : List ℕ
+  pub date : List ℕ
+  pub volume : List ℕ
+  pub issue : List ℕ
+  pub page : List ℕ
+  pub issn : List ℕ
+  pub isbn : List ℕ
+  pub doi : List ℕ
+  pub pmid : List ℕ
+
+-- the part of this name
+abbrev pub number_part : CitedValue → List ℕ → List ℕ
+number_part cited name =
+    if bytes_eq name (codes "issn") then cited.issn
+    else if bytes_eq name (codes "isbn") then cited.isbn
+    else if bytes_eq name (codes "doi") then cited.doi
+    else if bytes_eq name (codes "pmid") then cited.pmid
+    else []
+
+abbrev pub place_part : CitedValue → List ℕ → List ℕ
+place_part cited name =
+    if bytes_eq name (codes "volume") then cited.volume
+    else if bytes_eq name (codes "issue") then cited.issue
+    else if bytes_eq name (codes "page") then cited.page
+    else number_part cited name
+
+abbrev pub part_of : CitedValue → List ℕ → List ℕ
+part_of cited name =
+    if bytes_eq name (codes "title") then cited.title
+    else if bytes_eq name (codes "article") then cited.article
+    else if bytes_eq name (codes "author") then cited.author
+    else if bytes_eq name (codes "date") then cited.date
+    else place_part cited name
+
+-- the same as it is in an address: each byte that is not a letter or a digit is escaped
+unfoldable pub part_text : CitedValue → List ℕ → List ℕ
+part_text cited name = percent_encode NON_ALPHANUMERIC (part_of cited name)
+
+-- the rest of a template, in which each name in braces is replaced by its part; if a brace is open, `name` was read in it
+abbrev pub filled_from : CitedValue → Bool → List ℕ → List ℕ → List ℕ
+filled_from cited is_open name [] = []
+filled_from cited true name (b ∷ rest) =
+    if b == 125 then part_text cited name ++ filled_from cited false [] rest else filled_from cited true (name ++ b ∷ []) rest
+filled_from cited false name (b ∷ rest) =
+    if b == 123 then filled_from cited true [] rest else b ∷ filled_from cited false name rest
+
+abbrev pub filled : CitedValue → List ℕ → List ℕ
+filled cited template = filled_from cited false [] template
+
+-- a text, if it is safe to link to
+abbrev pub if_link : List ℕ → Option (List ℕ)
+if_link text = if is_link text then Some text else None
+
+-- the link to the library's request form for a citation, if there is a form; parts can make it too long
+unfoldable pub request_link : SiteValue → CitedValue → Option (List ℕ)
+request_link site cited = option_and_then (λ template. if_link (filled cited template)) site.request

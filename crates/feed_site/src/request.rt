@@ -1,0 +1,201 @@
+//! The link to a library's request form, with the parts of a citation in their places.
+ghost use Rattle.std.specs.Prelude.{◌≡◌, ◌++◌, ◌∷◌, [], false, IfOk, List, ℕ, OnOk, option_map, string_bytes};
+ghost use Rattle.std.specs.Str.{bytes_eq};
+ghost use Rattle.feed_site.specs.Requests.{filled, filled_from, if_link, number_part, part_of, part_text, place_part};
+ghost use Rattle.feed_site.specs.Requests.{request_link};
+
+use crate::links::encoded;
+use crate::site_file::SiteFile;
+use crate::template::is;
+use crate::url::is_link;
+use std::alloc::{AllocError, Global};
+use std::marker::Model;
+
+/// The parts of a citation that a request form may take. One that is absent is empty.
+#[derive(Drop)]
+pub struct Cited<'a> {
+    /// The title of the journal or the book.
+    pub title: &'a [u8],
+    /// The title of the article or the chapter.
+    pub article: &'a [u8],
+    pub author: &'a [u8],
+    pub date: &'a [u8],
+    pub volume: &'a [u8],
+    pub issue: &'a [u8],
+    pub page: &'a [u8],
+    pub issn: &'a [u8],
+    pub isbn: &'a [u8],
+    pub doi: &'a [u8],
+    pub pmid: &'a [u8],
+}
+
+impl<'a> Model for Cited<'a> {
+    ghost use Rattle.feed_site.specs.Requests.{CitedValue};
+
+    ghost Value = { CitedValue };
+
+    ghost view = { λ c. record {
+      title = c.title.now;
+      article = c.article.now;
+      author = c.author.now;
+      date = c.date.now;
+      volume = c.volume.now;
+      issue = c.issue.now;
+      page = c.page.now;
+      issn = c.issn.now;
+      isbn = c.isbn.now;
+      doi = c.doi.now;
+      pmid = c.pmid.now;
+    } };
+}
+
+impl<'a> Cited<'a> {
+    fn number_part(&self, name: &[u8]) -> &'a [u8]
+        ensures { result.now ≡ number_part self.now name.now }
+    {
+        if is(name, "issn") {
+            self.issn
+        } else if is(name, "isbn") {
+            self.isbn
+        } else if is(name, "doi") {
+            self.doi
+        } else if is(name, "pmid") {
+            self.pmid
+        } else {
+            b""
+        }
+    }
+
+    fn place_part(&self, name: &[u8]) -> &'a [u8]
+        ensures { result.now ≡ place_part self.now name.now }
+    {
+        if is(name, "volume") {
+            self.volume
+        } else if is(name, "issue") {
+            self.issue
+        } else if is(name, "page") {
+            self.page
+        } else {
+            self.number_part(name)
+        }
+    }
+
+    // Returns the part of this name.
+    fn part(&self, name: &[u8]) -> &'a [u8]
+        ensures { result.now ≡ part_of self.now name.now }
+    {
+        if is(name, "title") {
+            self.title
+        } else if is(name, "article") {
+            self.article
+        } else if is(name, "author") {
+            self.author
+        } else if is(name, "date") {
+            self.date
+        } else {
+            self.place_part(name)
+        }
+    }
+}
+
+#[tactic(auto, unfolding(crate::specs::Requests::part_text))]
+fn part_text(alloc: Global, cited: &Cited<'_>, name: &[u8]) -> Result<String, AllocError>
+    ensures { IfOk result (λ text. string_bytes text ≡ part_text cited.now name.now) }
+{
+    encoded(alloc, cited.part(name))
+}
+
+// A link that is being made, and the name that was read in an open brace.
+#[derive(Drop)]
+struct Filling {
+    link: Vec<u8>,
+    name: Vec<u8>,
+    is_open: bool,
+}
+
+impl Filling {
+    fn new(alloc: Global) -> Filling
+        ensures link { result.link.items ≡ [] }
+        ensures name { result.name.items ≡ [] }
+        ensures closed { result.is_open ≡ false }
+    {
+        Filling {
+            link: Vec::new(alloc),
+            name: Vec::new(alloc),
+            is_open: false,
+        }
+    }
+
+    // Adds the part whose name is in the brace, which ends.
+    fn close(&mut self, alloc: Global, cited: &Cited<'_>) -> Result<(), AllocError>
+        ensures link { OnOk result (self.new.link.items
+            ≡ self.old.link.items ++ part_text cited.now self.old.name.items) }
+        ensures name { OnOk result (self.new.name.items ≡ []) }
+        ensures closed { OnOk result (self.new.is_open ≡ false) }
+    {
+        let text = part_text(alloc, cited, &self.name)?;
+        self.link.extend_from_slice(text.as_bytes())?;
+        self.name.clear();
+        self.is_open = false;
+        Ok(())
+    }
+
+    // Adds a byte of the template.
+    fn add(&mut self, alloc: Global, cited: &Cited<'_>, byte: u8) -> Result<(), AllocError>
+        ensures { OnOk result ((rest : List ℕ) →
+            self.new.link.items ++ filled_from cited.now self.new.is_open self.new.name.items rest
+            ≡ self.old.link.items ++ filled_from cited.now self.old.is_open self.old.name.items (byte ∷ rest)) }
+    {
+        if self.is_open {
+            if byte == b'}' {
+                return self.close(alloc, cited);
+            }
+            return Ok(self.name.push(byte)?);
+        }
+        if byte == b'{' {
+            self.name.clear();
+            self.is_open = true;
+            return Ok(());
+        }
+        Ok(self.link.push(byte)?)
+    }
+}
+
+fn filled(alloc: Global, cited: &Cited<'_>, template: &[u8]) -> Result<Vec<u8>, AllocError>
+    ensures { IfOk result (λ link. link.items ≡ filled cited.now template.now) }
+{
+    let mut filling = Filling::new(alloc);
+    for byte in template {
+        filling.add(alloc, cited, *byte)?;
+    }
+    Ok(filling.link)
+}
+
+fn if_link(link: Vec<u8>) -> Option<Vec<u8>>
+    ensures { option_map (λ link. link.items) result ≡ if_link link.items }
+{
+    if is_link(&link) { Some(link) } else { None }
+}
+
+/// Returns the link to the library's request form for a citation: the template with each name in braces replaced by its
+/// part, percent-encoded. There is none without a form, or if the link would have more than 8,000 bytes.
+///
+/// # Errors
+///
+/// Running out of memory.
+#[tactic(auto, unfolding(crate::specs::Requests::request_link))]
+pub fn request_link(
+    alloc: Global,
+    site: &SiteFile,
+    cited: &Cited<'_>,
+) -> Result<Option<Vec<u8>>, AllocError>
+    ensures { IfOk result (λ link. option_map (λ text. text.items) link ≡ request_link site.now cited.now) }
+{
+    match site.request() {
+        Some(template) => {
+            let link = filled(alloc, cited, template.as_bytes())?;
+            Ok(if_link(link))
+        }
+        None => Ok(None),
+    }
+}
