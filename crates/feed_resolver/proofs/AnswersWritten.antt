@@ -5,15 +5,17 @@ use Rattle.feed_embargo.specs.Today.{TodayValue}
 use Rattle.feed_site.specs.Site as site_file
 use Rattle.feed_answer.specs.QueryValue.{QueryValue}
 use Rattle.feed_releases.specs.Actives.{ActiveValue}
-use Rattle.feed_resolver_request.specs.declared.representation.Representation.TheVariants.{Text}
+use Rattle.feed_resolver_request.specs.declared.representation.Representation.TheVariants.{Text, Json, Html}
 use Rattle.feed_resolver_hits.specs.Hits.{ReleaseHitValue}
 use Rattle.feed_resolver_hits.specs.HitsText.{release_text}
+use Rattle.feed_resolver_hits.specs.AnswerJson.{answer_json}
 use Rattle.feed_resolver_hits.specs.Asks.{AskValue, ask_of}
 use Rattle.feed_resolver_hits.specs.Tallies.{TallyValue, tally_of}
 use Rattle.feed_resolver_hits.specs.Tallying.{RunningValue, with_hit, with_hits, no_hits, tally_from}
 use Rattle.feed_resolver_hits.proofs.Tallies.{tally_is}
-use Rattle.feed_resolver.specs.Answers.{Sited, release_hits, hits_among, tally_among, tally_body, texts_behind, answers_body}
+use Rattle.feed_resolver.specs.Answers.{Sited, release_hits, hits_among, others_beside, tally_among, texts_behind, answers_body}
 use Rattle.feed_resolver.specs.AnswerTexts.{texts_from}
+use Rattle.feed_resolver_page.specs.HitsPage.{hits_page}
 
 abbrev after : List ReleaseHitValue → RunningValue
 after hits = with_hits no_hits hits
@@ -34,14 +36,32 @@ pub text_written : (text : List ℕ) (query : QueryValue) (actives : Sited) (old
 unfolding answers_body
 text_written text query actives old new is = is ∙ ap (λ t. old ++ t) (texts_are actives.library actives.today query [] actives.actives)
 
-pub tally_written : (text title own : List ℕ) (ask : AskValue) (is_page : Bool) (query : QueryValue) (actives : Sited) (running : RunningValue) (old new : List ℕ) → own ≡ title → ask ≡ ask_of text
-    → running ≡ with_hits no_hits (hits_among query actives) → new ≡ old ++ tally_body is_page own ask (tally_from running)
-    → new ≡ old ++ tally_body is_page title (ask_of text) (tally_among query actives)
-tally_written text title own ask is_page query actives running old new headed read made is =
-    is ∙ ap (λ t. old ++ tally_body is_page t ask (tally_from running)) headed
-    ∙ ap (λ (a : AskValue). old ++ tally_body is_page title a (tally_from running)) read
-    ∙ ap (λ (r : RunningValue). old ++ tally_body is_page title (ask_of text) (tally_from r)) made
-    ∙ ap (λ (t : TallyValue). old ++ tally_body is_page title (ask_of text) t) (tally_is (hits_among query actives))
+pub json_written : (text : List ℕ) (ask : AskValue) (query : QueryValue) (actives : Sited) (running : RunningValue) (old new : List ℕ) → ask ≡ ask_of text
+    → running ≡ with_hits no_hits (hits_among query actives) → new ≡ old ++ answer_json ask [] (tally_from running)
+    → new ≡ old ++ answers_body Json text query actives
+unfolding answers_body
+json_written text ask query actives running old new read made is =
+    is ∙ ap (λ (a : AskValue). old ++ answer_json a [] (tally_from running)) read
+    ∙ ap (λ (r : RunningValue). old ++ answer_json (ask_of text) [] (tally_from r)) made
+    ∙ ap (λ (t : TallyValue). old ++ answer_json (ask_of text) [] t) (tally_is (hits_among query actives))
+
+pub page_written : (text : List ℕ) (site : site_file.SiteValue) (ask : AskValue) (query : QueryValue) (actives : Sited) (running others : RunningValue) (count : ℕ) (old new : List ℕ)
+    → site ≡ actives.library → ask ≡ ask_of text → running ≡ with_hits no_hits (hits_among query actives)
+    → count ≡ (tally_from running).count → others ≡ with_hits no_hits (others_beside count query actives)
+    → new ≡ old ++ hits_page site text ask (tally_from running) (tally_from others)
+    → new ≡ old ++ answers_body Html text query actives
+unfolding answers_body
+page_written text site ask query actives running others count old new of read made counts beside is =
+    let tally : TallyValue = tally_among query actives in
+    let counted_is : count ≡ tally.count =
+    counts ∙ ap (λ (r : RunningValue). (tally_from r).count) made ∙ ap (λ (t : TallyValue). t.count) (tally_is (hits_among query actives)) in
+    is ∙ ap (λ (s : site_file.SiteValue). old ++ hits_page s text ask (tally_from running) (tally_from others)) of
+    ∙ ap (λ (a : AskValue). old ++ hits_page actives.library text a (tally_from running) (tally_from others)) read
+    ∙ ap (λ (r : RunningValue). old ++ hits_page actives.library text (ask_of text) (tally_from r) (tally_from others)) made
+    ∙ ap (λ (t : TallyValue). old ++ hits_page actives.library text (ask_of text) t (tally_from others)) (tally_is (hits_among query actives))
+    ∙ ap (λ (r : RunningValue). old ++ hits_page actives.library text (ask_of text) tally (tally_from r)) beside
+    ∙ ap (λ (t : TallyValue). old ++ hits_page actives.library text (ask_of text) tally t) (tally_is (others_beside count query actives))
+    ∙ ap (λ n. old ++ hits_page actives.library text (ask_of text) tally (tally_of (others_beside n query actives))) counted_is
 
 -- the link that a tally chooses
 pub best_made : (query : QueryValue) (actives : Sited) (running : RunningValue) → running ≡ with_hits no_hits (hits_among query actives)

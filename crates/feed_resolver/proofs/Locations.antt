@@ -25,7 +25,8 @@ use Rattle.feed_resolver_reply.specs.declared.status.Status.{Status}
 use Rattle.feed_resolver_reply.specs.declared.status.Status.TheVariants as status
 use Rattle.feed_resolver_hits.specs.Asked.{asked_of}
 use Rattle.feed_resolver_hits.specs.Asks.{AskValue, ask_of, names_work}
-use Rattle.feed_resolver_hits.specs.QueryRefusals.{is_numberless, numberless_body, numberless_status, reason_text, unasked_reply}
+use Rattle.feed_site.specs.Site as site_file
+use Rattle.feed_resolver_page.specs.QueryRefusals.{is_numberless, numberless_body, numberless_status, reason_text, unasked_reply}
 use Rattle.feed_resolver_hits.specs.Links.{is_link, link_limit, is_visible, begins_with}
 use Rattle.feed_resolver_hits.specs.Hits.{best_link}
 use Rattle.feed_resolver_hits.specs.Tallies.{counted}
@@ -64,20 +65,20 @@ either_located : (b : Bool) (one other : ReplyValue) → IsLocated one → IsLoc
 either_located true one other first second = first
 either_located false one other first second = second
 
-unasked_located : (code : Status) (representation : Representation) (ask : AskValue) (why : Refusal) → IsLocated (unasked_reply code representation ask why)
-unasked_located code representation ask why =
+unasked_located : (site : site_file.SiteValue) (query : List ℕ) (code : Status) (representation : Representation) (ask : AskValue) (why : Refusal) → IsLocated (unasked_reply site query code representation ask why)
+unasked_located site query code representation ask why =
     either_located (is_numberless why)
-    (reply_with (numberless_status (names_work ask.citation) code) representation (numberless_body (names_work ask.citation) representation ask why))
+    (reply_with (numberless_status (names_work ask.citation) code) representation (numberless_body site query (names_work ask.citation) representation ask why))
     (refusal status.BadRequest representation (reason_text why)) plain plain
 
-query_located : (code : Status) (representation : Representation) (text : List ℕ) (reply : QueryValue → ReplyValue) (o : Result QueryValue Refusal)
-    → ((query : QueryValue) → IsLocated (reply query)) → IsLocated (query_reply code representation text reply o)
-query_located code representation text reply (Ok query) located = located query
-query_located code representation text reply (Err why) located = unasked_located code representation (ask_of text) why
+query_located : (actives : Sited) (code : Status) (representation : Representation) (text : List ℕ) (reply : QueryValue → ReplyValue) (o : Result QueryValue Refusal)
+    → ((query : QueryValue) → IsLocated (reply query)) → IsLocated (query_reply actives code representation text reply o)
+query_located actives code representation text reply (Ok query) located = located query
+query_located actives code representation text reply (Err why) located = unasked_located actives.library text code representation (ask_of text) why
 
 resolve_located : (representation : Representation) (text : List ℕ) (actives : Sited) → IsLocated (resolve_reply representation text actives)
 resolve_located representation text actives =
-    query_located status.Good representation text (hits_reply status.Good representation text actives) (asked_of text) (λ query. plain)
+    query_located actives status.Good representation text (hits_reply status.Good representation text actives) (asked_of text) (λ query. plain)
 
 package_located : (representation : Representation) (text : List ℕ) (actives : Sited) (other : ReplyValue) (o : Option ℕ) → IsLocated other
     → IsLocated (option_map_or (resolve_reply_at representation text actives) o other)
@@ -95,7 +96,7 @@ best_located representation text actives query =
 
 go_located : (representation : Representation) (text : List ℕ) (actives : Sited) → IsLocated (go_reply representation text actives)
 go_located representation text actives =
-    query_located status.NotFound representation text (redirect_reply representation text actives) (asked_of text) (best_located representation text actives)
+    query_located actives status.NotFound representation text (redirect_reply representation text actives) (asked_of text) (best_located representation text actives)
 
 resource_located : (r : Resource) (head : RequestHead) (path query : List ℕ) (actives : Sited) → IsLocated (resource_reply r head path query actives)
 resource_located resource.Home head path query actives = plain

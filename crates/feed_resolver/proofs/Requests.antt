@@ -124,7 +124,7 @@ status_answered target actives is head =
     subst (λ r. IsGoodIn (representation_of (query_in target) head) (resource_reply r head (path_in target) (query_in target) actives)) (sym is) (refl, refl)
 
 query_answered : (representation : Representation) (text : List ℕ) (actives : Sited) (o : Result QueryValue Refusal) (query : QueryValue) → o ≡ Ok query
-    → IsGoodIn representation (query_reply status.Good representation text (hits_reply status.Good representation text actives) o)
+    → IsGoodIn representation (query_reply actives status.Good representation text (hits_reply status.Good representation text actives) o)
 query_answered representation text actives (Ok other) query is = (refl, refl)
 query_answered representation text actives (Err why) query is = absurd (cc)
 
@@ -213,7 +213,7 @@ go_replied head body query actives asks =
     ∙ ap (λ l. reply_by l false false (has_coded_body head) (query_answer head actives)) asks.host
     ∙ ap (λ c. reply_by false false false c (query_answer head actives)) asks.body
     ∙ ap (λ r. resource_reply r head (path_of head) (target_query head) actives) asks.resource
-    ∙ ap (λ q. query_reply status.NotFound (accepted_representation head) (target_query head) (redirect_reply (accepted_representation head) (target_query head) actives) q) asks.asked
+    ∙ ap (λ q. query_reply actives status.NotFound (accepted_representation head) (target_query head) (redirect_reply (accepted_representation head) (target_query head) actives) q) asks.asked
 
 -- `/go` has no tag
 untagged_go : (site : SiteValue) (head : RequestHead) (body : List ℕ) (actives : Dated) → resource_in head ≡ resource.Go

@@ -1,5 +1,5 @@
 -- The hits of a query in active releases on a day, and the body that lists them.
-use Rattle.std.specs.Prelude.{ℕ, Bool, true, false, List, [], ◌∷◌, ◌++◌, codes}
+use Rattle.std.specs.Prelude.{ℕ, ◌==◌, ◌&&◌, ◌||◌, Bool, if◌then◌else◌, List, [], ◌∷◌, ◌++◌, drop, take, is_some}
 use Rattle.std.specs.List.{flat_map}
 use Rattle.std.specs.Str.{bytes_eq}
 use Rattle.feed_embargo.specs.Today.{TodayValue}
@@ -11,10 +11,11 @@ use Rattle.feed_resolver_request.specs.declared.representation.Representation.{R
 use Rattle.feed_resolver_request.specs.declared.representation.Representation.TheVariants.{Text, Json, Html}
 use Rattle.feed_resolver_hits.specs.Hits.{ReleaseHitValue, library_hits}
 use Rattle.feed_resolver_hits.specs.AnswerJson.{answer_json}
-use Rattle.feed_resolver_hits.specs.Asks.{AskValue, ask_of}
-use Rattle.feed_resolver_hits.specs.HitsPage.{hits_page, page_title}
+use Rattle.feed_resolver_hits.specs.Asks.{ask_of}
+use Rattle.feed_resolver_hits.specs.Searches.{whole_titles}
 use Rattle.feed_resolver_hits.specs.HitsText.{release_text}
 use Rattle.feed_resolver_hits.specs.Tallies.{TallyValue, tally_of}
+use Rattle.feed_resolver_page.specs.HitsPage.{hits_page}
 use Rattle.feed_resolver_tag.specs.Tags.{SiteValue}
 
 -- the active releases, and the day on which they are asked
@@ -36,6 +37,18 @@ sited_by site today actives = record { library = site; today = today; actives = 
 
 abbrev pub sited : SiteValue → Dated → Sited
 sited site actives = sited_by site.library actives.today actives.actives
+
+-- the release at a place alone
+abbrev pub only_at : ℕ → Sited → Sited
+only_at place actives = sited_by actives.library actives.today (take 1 (drop place actives.actives))
+
+-- what replies are computed from, beside the requests: the settings of the node, and the active releases on the day
+pub record ContextValue : Type 0 where
+  pub site : SiteValue
+  pub actives : Dated
+
+abbrev pub sited_in : ContextValue → Sited
+sited_in context = sited context.site context.actives
 
 -- the hits of a query in a release that the library has
 abbrev pub release_hits : site_file.SiteValue → TodayValue → QueryValue → ActiveValue → List ReleaseHitValue
@@ -60,17 +73,21 @@ texts_behind site today query earlier (active ∷ actives) =
     release_text (tally_of earlier) (tally_of (earlier ++ release_hits site today query active)) active.name
     ++ texts_behind site today query (earlier ++ release_hits site today query active) actives
 
--- what a query asks, and the hits of highest rank, as a page with this title or as JSON
-abbrev pub tally_body : Bool → List ℕ → AskValue → TallyValue → List ℕ
-tally_body true title ask tally = hits_page title ask tally
-tally_body false title ask tally = answer_json ask [] tally
+-- the query names a date or a volume
+abbrev pub is_placed : QueryValue → Bool
+is_placed query = is_some query.days || is_some query.volume
 
--- the title of the page
-abbrev pub title_of : Sited → List ℕ
-title_of actives = page_title (codes "Holdings") actives.library.name
+-- the hits of the same titles, whatever the date and the volume are: a query that names one of these has them beside its
+-- own if there are none of those
+abbrev pub others_beside : ℕ → QueryValue → Sited → List ReleaseHitValue
+others_beside count query actives = if (count == 0) && is_placed query then hits_among (whole_titles query) actives else []
+
+abbrev pub others_among : QueryValue → Sited → TallyValue
+others_among query actives = tally_of (others_beside (tally_among query actives).count query actives)
 
 -- the body of an answer from these releases, for what this text asks; the text of an answer does not tell of the query
 unfoldable pub answers_body : Representation → List ℕ → QueryValue → Sited → List ℕ
 answers_body Text text query actives = texts_behind actives.library actives.today query [] actives.actives
-answers_body Json text query actives = tally_body false (title_of actives) (ask_of text) (tally_among query actives)
-answers_body Html text query actives = tally_body true (title_of actives) (ask_of text) (tally_among query actives)
+answers_body Json text query actives = answer_json (ask_of text) [] (tally_among query actives)
+answers_body Html text query actives =
+    hits_page actives.library text (ask_of text) (tally_among query actives) (others_among query actives)

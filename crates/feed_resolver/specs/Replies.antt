@@ -1,5 +1,5 @@
 -- The reply to a request, as a function of its head, of the active releases and of the day.
-use Rattle.std.specs.Prelude.{◌≡◌, ◌⊎◌, ℕ, ◌||◌, not, Bool, if◌then◌else◌, List, codes, Option, Some, None, Result, Ok, Err, position, take, drop}
+use Rattle.std.specs.Prelude.{◌≡◌, ◌⊎◌, ℕ, ◌||◌, not, Bool, if◌then◌else◌, List, codes, Option, Some, None, Result, Ok, Err, position}
 use Rattle.std.specs.Option.{option_map_or}
 use Rattle.httparse.specs.Grammar.{RequestHead}
 use Rattle.feed_http_heads.specs.Fields.{values_named, has_any}
@@ -25,16 +25,17 @@ use Rattle.feed_resolver_reply.specs.declared.status.Status.{Status}
 use Rattle.feed_resolver_reply.specs.declared.status.Status.TheVariants as status
 use Rattle.feed_resolver_hits.specs.Asked.{asked_of}
 use Rattle.feed_resolver_hits.specs.Asks.{ask_of}
-use Rattle.feed_resolver_hits.specs.QueryRefusals.{unasked_reply}
-use Rattle.feed_resolver.specs.Answers.{Dated, Sited, dated, is_of, sited, sited_by, tally_among, answers_body}
+use Rattle.feed_resolver_page.specs.QueryRefusals.{unasked_reply}
+use Rattle.feed_resolver.specs.Answers.{Dated, Sited, dated, is_of, only_at, sited, tally_among, answers_body}
 use Rattle.feed_resolver_tag.specs.Tags.{SiteValue}
 use Rattle.feed_resolver.specs.Status.{status_body, home_page}
 use Rattle.feed_resolver.specs.Validators.{final_reply, tag_to}
 
 -- the reply to what a query asks for, or the one that says why nothing is looked up
-abbrev pub query_reply : Status → Representation → List ℕ → (QueryValue → ReplyValue) → Result QueryValue Refusal → ReplyValue
-query_reply code representation text reply (Ok query) = reply query
-query_reply code representation text reply (Err reason) = unasked_reply code representation (ask_of text) reason
+abbrev pub query_reply : Sited → Status → Representation → List ℕ → (QueryValue → ReplyValue) → Result QueryValue Refusal → ReplyValue
+query_reply actives code representation text reply (Ok query) = reply query
+query_reply actives code representation text reply (Err reason) =
+    unasked_reply actives.library text code representation (ask_of text) reason
 
 -- the hits in the given releases
 abbrev pub hits_reply : Status → Representation → List ℕ → Sited → QueryValue → ReplyValue
@@ -43,11 +44,11 @@ hits_reply code representation text actives query = reply_with code representati
 -- the answer of all packages, by package
 abbrev pub resolve_reply : Representation → List ℕ → Sited → ReplyValue
 resolve_reply representation text actives =
-    query_reply status.Good representation text (hits_reply status.Good representation text actives) (asked_of text)
+    query_reply actives status.Good representation text (hits_reply status.Good representation text actives) (asked_of text)
 
 -- the answer of the release at a place
 abbrev pub resolve_reply_at : Representation → List ℕ → Sited → ℕ → ReplyValue
-resolve_reply_at representation text actives place = resolve_reply representation text (sited_by actives.library actives.today (take 1 (drop place actives.actives)))
+resolve_reply_at representation text actives place = resolve_reply representation text (only_at place actives)
 
 -- the answer of one package, if it has an active release
 abbrev pub package_reply : Representation → List ℕ → List ℕ → Sited → ReplyValue
@@ -62,7 +63,7 @@ redirect_reply representation text actives query = option_map_or redirect_to
 -- the same for what a text asks
 abbrev pub go_reply : Representation → List ℕ → Sited → ReplyValue
 go_reply representation text actives =
-    query_reply status.NotFound representation text (redirect_reply representation text actives) (asked_of text)
+    query_reply actives status.NotFound representation text (redirect_reply representation text actives) (asked_of text)
 
 -- the reply by the kind of path, to this query
 abbrev pub resource_reply : Resource → RequestHead → List ℕ → List ℕ → Sited → ReplyValue

@@ -1,71 +1,103 @@
 //! Counts the hits of a query in the active releases on a day, and writes the body that lists them.
 ghost use Rattle.std.specs.Prelude.{◌≡◌, ◌++◌, IfOk, OnOk};
 ghost use Rattle.feed_resolver_hits.specs.Tallying.{no_hits, with_hits};
-ghost use Rattle.feed_resolver.specs.Answers.{release_hits, hits_among, answers_body, sited_by, tally_among};
-ghost use Rattle.feed_resolver.specs.Answers.{tally_body, title_of};
-ghost use Rattle.feed_resolver_hits.specs.Asks.{ask_of};
-ghost use Rattle.feed_resolver_hits.specs.Tallying.{tally_from};
-ghost use Rattle.std.specs.Prelude.{false, true};
+ghost use Rattle.feed_resolver.specs.Answers.{answers_body, hits_among, is_placed, others_beside, release_hits, sited_in};
 ghost use Rattle.feed_resolver.specs.AnswerTexts.{texts_from};
 
+use crate::context::Context;
 use feed_answer::Query;
-use feed_embargo::Today;
 use feed_releases::ActiveRelease;
-use feed_resolver_hits::{Ask, Tally, page_title, put_answer_json, put_hits_page, put_release};
+use feed_resolver_hits::{Ask, Search, Tally, put_answer_json, put_release};
+use feed_resolver_page::put_hits_page;
 use feed_resolver_request::Representation;
-use feed_site::SiteFile;
 use std::alloc::{AllocError, Global};
 
 fn add_release<'a>(
     alloc: Global,
     tally: &mut Tally<'a>,
-    site: &'a SiteFile,
-    today: &Today,
+    context: &Context<'a>,
     active: &ActiveRelease<'a>,
-    query: &Query,
+    search: &Search<'_>,
 ) -> Result<(), AllocError>
-    ensures { OnOk result (tally.new ≡ with_hits tally.old (release_hits site.now today.now query.now active.now)) }
+    ensures { OnOk result (tally.new
+        ≡ with_hits tally.old
+        (release_hits context.now.site.library context.now.actives.today search.now active.now)) }
 {
-    tally.add_release(alloc, site, today, active.name(), active.holdings(), query)
+    let (site, today) = (context.library(), context.today);
+    tally.add_release(alloc, site, today, active.name(), active.holdings(), search)
+}
+
+// Returns the tally of the hits of a search in the releases, in their order.
+fn tally_by<'a>(
+    alloc: Global,
+    context: &Context<'a>,
+    search: &Search<'_>,
+) -> Result<Tally<'a>, AllocError>
+    ensures { IfOk result (λ tally. tally
+        ≡ with_hits no_hits (hits_among search.now (sited_in context.now))) }
+{
+    let mut tally = Tally::new(alloc);
+    for active in context.actives {
+        add_release(alloc, &mut tally, context, active, search)?;
+    }
+    Ok(tally)
 }
 
 /// Returns the tally of the hits of a query in the releases, in their order.
 pub(crate) fn tally_among<'a>(
     alloc: Global,
-    site: &'a SiteFile,
-    today: &Today,
-    actives: &[ActiveRelease<'a>],
+    context: &Context<'a>,
     query: &Query,
 ) -> Result<Tally<'a>, AllocError>
     ensures { IfOk result (λ tally. tally
-        ≡ with_hits no_hits (hits_among query.now (sited_by site.now today.now actives.now))) }
+        ≡ with_hits no_hits (hits_among query.now (sited_in context.now))) }
 {
-    let mut tally = Tally::new(alloc);
-    for active in actives {
-        add_release(alloc, &mut tally, site, today, active, query)?;
+    tally_by(alloc, context, &Search::of(query))
+}
+
+fn is_placed(query: &Query) -> bool
+    ensures { result ≡ is_placed query.now }
+{
+    query.days().is_some() || query.volume().is_some()
+}
+
+// Returns the tally of the hits of the same titles, whatever the date and the volume are, if the query names one of
+// these and has no hits itself.
+fn others_beside<'a>(
+    alloc: Global,
+    context: &Context<'a>,
+    query: &Query,
+    count: usize,
+) -> Result<Tally<'a>, AllocError>
+    ensures { IfOk result (λ tally. tally
+        ≡ with_hits no_hits (others_beside count query.now (sited_in context.now))) }
+{
+    if count == 0 && is_placed(query) {
+        tally_by(alloc, context, &Search::of_titles(query))
+    } else {
+        Ok(Tally::new(alloc))
     }
-    Ok(tally)
 }
 
 fn put_texts(
     alloc: Global,
     out: &mut Vec<u8>,
-    site: &SiteFile,
-    today: &Today,
-    actives: &[ActiveRelease<'_>],
+    context: &Context<'_>,
     query: &Query,
 ) -> Result<(), AllocError>
     ensures { OnOk result (out.new.items
-        ≡ out.old.items ++ texts_from site.now today.now query.now no_hits actives.now) }
+        ≡ out.old.items
+        ++ texts_from context.now.site.library context.now.actives.today query.now no_hits
+        context.now.actives.actives) }
 {
     let mut tally = Tally::new(alloc);
-    for active in actives {
+    for active in context.actives {
         put_release(
             alloc,
             out,
             &mut tally,
-            site,
-            today,
+            context.library(),
+            context.today,
             active.name(),
             active.holdings(),
             query,
@@ -78,54 +110,47 @@ fn put_text(
     alloc: Global,
     out: &mut Vec<u8>,
     text: &[u8],
-    site: &SiteFile,
-    today: &Today,
-    actives: &[ActiveRelease<'_>],
+    context: &Context<'_>,
     query: &Query,
 ) -> Result<(), AllocError>
     ensures { OnOk result (out.new.items
         ≡ out.old.items ++ answers_body Representation.Text text.now query.now
-        (sited_by site.now today.now actives.now)) }
+        (sited_in context.now)) }
 {
-    put_texts(alloc, out, site, today, actives, query)
+    put_texts(alloc, out, context, query)
 }
 
-fn put_tally(
-    out: &mut Vec<u8>,
-    is_page: bool,
-    title: &[u8],
-    ask: &Ask,
-    tally: &Tally<'_>,
-) -> Result<(), AllocError>
-    ensures { OnOk result (out.new.items
-        ≡ out.old.items ++ tally_body is_page title.now ask.now (tally_from tally.now)) }
-{
-    if is_page {
-        put_hits_page(out, title, ask, tally)
-    } else {
-        put_answer_json(out, ask, b"", tally)
-    }
-}
-
-// Writes what a query asks, and the hits of highest rank, as a page or as JSON.
-fn put_ranked(
+// Writes what a query asks, and the hits of highest rank, as JSON.
+fn put_json(
     alloc: Global,
     out: &mut Vec<u8>,
-    is_page: bool,
     text: &[u8],
-    site: &SiteFile,
-    today: &Today,
-    actives: &[ActiveRelease<'_>],
+    context: &Context<'_>,
     query: &Query,
 ) -> Result<(), AllocError>
-    ensures { OnOk result (out.new.items ≡ out.old.items
-        ++ tally_body is_page (title_of (sited_by site.now today.now actives.now)) (ask_of text.now)
-        (tally_among query.now (sited_by site.now today.now actives.now))) }
+    ensures { OnOk result (out.new.items
+        ≡ out.old.items ++ answers_body Representation.Json text.now query.now (sited_in context.now)) }
 {
-    let title = page_title(alloc, b"Holdings", site.name())?;
     let ask = Ask::read(alloc, text)?;
-    let tally = tally_among(alloc, site, today, actives, query)?;
-    put_tally(out, is_page, title.as_slice(), &ask, &tally)
+    let tally = tally_among(alloc, context, query)?;
+    put_answer_json(out, &ask, b"", &tally)
+}
+
+// The same as a page. If there are no hits, the page shows those of the same titles.
+fn put_page(
+    alloc: Global,
+    out: &mut Vec<u8>,
+    text: &[u8],
+    context: &Context<'_>,
+    query: &Query,
+) -> Result<(), AllocError>
+    ensures { OnOk result (out.new.items
+        ≡ out.old.items ++ answers_body Representation.Html text.now query.now (sited_in context.now)) }
+{
+    let ask = Ask::read(alloc, text)?;
+    let tally = tally_among(alloc, context, query)?;
+    let others = others_beside(alloc, context, query, tally.count())?;
+    put_hits_page(alloc, out, context.library(), text, &ask, &tally, &others)
 }
 
 /// Writes the answer of the given releases to a query, which is what the text asks for.
@@ -135,17 +160,15 @@ pub(crate) fn put_answer(
     out: &mut Vec<u8>,
     representation: Representation,
     text: &[u8],
-    site: &SiteFile,
-    today: &Today,
-    actives: &[ActiveRelease<'_>],
+    context: &Context<'_>,
     query: &Query,
 ) -> Result<(), AllocError>
     ensures { OnOk result (out.new.items
-        ≡ out.old.items ++ answers_body representation text.now query.now (sited_by site.now today.now actives.now)) }
+        ≡ out.old.items ++ answers_body representation text.now query.now (sited_in context.now)) }
 {
     match representation {
-        Representation::Text => put_text(alloc, out, text, site, today, actives, query),
-        Representation::Json => put_ranked(alloc, out, false, text, site, today, actives, query),
-        Representation::Html => put_ranked(alloc, out, true, text, site, today, actives, query),
+        Representation::Text => put_text(alloc, out, text, context, query),
+        Representation::Json => put_json(alloc, out, text, context, query),
+        Representation::Html => put_page(alloc, out, text, context, query),
     }
 }

@@ -3,6 +3,7 @@
 #![tactic(auto)]
 
 mod answers;
+mod context;
 mod feed_replies;
 mod laws;
 mod node;

@@ -10,11 +10,12 @@ ghost use Rattle.feed_resolver.specs.Answers.{dated};
 ghost use Rattle.feed_resolver.specs.NodeReplies.{node_reply, IsNodeReply, IsNodeReplyText};
 ghost use Rattle.feed_resolver.specs.NodeReplies.{IsNodeReplyAt, IsNodeMessage, IsNodeMessageFor, SaysOfConnection};
 
+use crate::context::Context;
 use crate::responses::response_to;
 use feed_embargo::Today;
 use feed_http_heads::{FIELD_LIMIT, Request};
 use feed_keep::Keep;
-use feed_releases::{ActiveRelease, Feed};
+use feed_releases::Feed;
 use feed_resolver_reply::{Response, bad_head_response, fetch_reply};
 use feed_resolver_request::{FetchPolicy, find_request, name_to_fetch};
 use feed_resolver_tag::Site;
@@ -24,25 +25,23 @@ use std::alloc::{AllocError, Global};
 fn node_reply(
     alloc: Global,
     policy: &FetchPolicy<'_>,
-    site: &Site,
-    today: &Today,
+    context: &Context<'_>,
     request: &Request<'_>,
     body: &[u8],
     keeps: bool,
-    actives: &[ActiveRelease<'_>],
 ) -> Result<Response, AllocError>
     requires { IsInBuffer request.now }
     ensures value { IfOk result (λ response. (head : RequestHead) → HasHead request.now head
-        → response ≡ node_reply site.now policy.now keeps (dated today.now actives.now) head body.now) }
+        → response ≡ node_reply context.now.site policy.now keeps context.now.actives head body.now) }
     ensures message { IfOk result (λ response. (head : RequestHead) → HasHead request.now head
         → IsNodeMessageFor keeps head response) }
 {
     if request.lacks_host() {
-        return response_to(alloc, request, body, keeps, site, today, actives);
+        return response_to(alloc, request, body, keeps, context);
     }
     match name_to_fetch(request) {
         Some(_) => fetch_reply(alloc, policy, keeps, request),
-        None => response_to(alloc, request, body, keeps, site, today, actives),
+        None => response_to(alloc, request, body, keeps, context),
     }
 }
 
@@ -52,20 +51,18 @@ fn node_reply_with(
     body: &[u8],
     keeps: bool,
     policy: &FetchPolicy<'_>,
-    site: &Site,
-    today: &Today,
-    actives: &[ActiveRelease<'_>],
+    context: &Context<'_>,
 ) -> Result<Response, AllocError>
     ensures value { IfOk result (λ response.
-        IsNodeReply site.now policy.now bytes.now body.now keeps (dated today.now actives.now) response) }
+        IsNodeReply context.now.site policy.now bytes.now body.now keeps context.now.actives response) }
     ensures text { IfOk result (λ response.
-        IsNodeReplyText site.now policy.now bytes.now body.now keeps (dated today.now actives.now) response.bytes) }
+        IsNodeReplyText context.now.site policy.now bytes.now body.now keeps context.now.actives response.bytes) }
     ensures message { IfOk result (λ response. IsNodeMessage bytes.now keeps response) }
     ensures says { IfOk result (λ response. SaysOfConnection bytes.now keeps response) }
 {
     let mut headers = [EMPTY_HEADER_SPAN; FIELD_LIMIT];
     match find_request(bytes, &mut headers) {
-        Some(request) => node_reply(alloc, policy, site, today, &request, body, keeps, actives),
+        Some(request) => node_reply(alloc, policy, context, &request, body, keeps),
         None => bad_head_response(alloc, keeps),
     }
 }
@@ -101,5 +98,10 @@ pub fn respond_as_node<K: Keep + Drop>(
     ensures says { IfOk result (λ response. SaysOfConnection bytes.now keeps response) }
 {
     let actives = feed.actives()?;
-    node_reply_with(alloc, bytes, body, keeps, policy, site, today, &actives)
+    let context = Context {
+        site,
+        today,
+        actives: &actives,
+    };
+    node_reply_with(alloc, bytes, body, keeps, policy, &context)
 }

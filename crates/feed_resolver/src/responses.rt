@@ -9,11 +9,11 @@ ghost use Rattle.feed_model.specs.Content.{IsContent};
 ghost use Rattle.feed_releases.specs.Feeds.{recorded, releases_of};
 ghost use Rattle.feed_resolver_request.specs.Targets.{resource_of};
 ghost use Rattle.feed_resolver_hits.specs.Asks.{ask_of};
-ghost use Rattle.feed_resolver_hits.specs.QueryRefusals.{unasked_reply};
+ghost use Rattle.feed_resolver_page.specs.QueryRefusals.{unasked_reply};
 ghost use Rattle.feed_resolver_reply.specs.Replies.{reply_with};
 ghost use Rattle.feed_resolver_reply.specs.Messages.{IsMessageFor};
 ghost use Rattle.feed_resolver_reply.specs.declared.status.Status.TheVariants as status;
-ghost use Rattle.feed_resolver.specs.Answers.{dated, sited_by, is_of, tally_among};
+ghost use Rattle.feed_resolver.specs.Answers.{dated, sited_in, is_of, tally_among};
 ghost use Rattle.feed_resolver.specs.Replies.{IsResponse, IsResponseAt, hits_reply, go_reply, resolve_reply};
 ghost use Rattle.feed_resolver.specs.Replies.{package_reply, redirect_reply, resource_reply, target_reply};
 ghost use Rattle.feed_resolver.specs.Replies.{method_refusal, plain_reply, form_refusal, form_reply};
@@ -23,6 +23,7 @@ ghost use Rattle.feed_resolver.specs.Messages.{IsMessageTo};
 ghost use Rattle.feed_resolver.specs.Status.{home_page, status_body};
 
 use crate::answers::{put_answer, tally_among};
+use crate::context::Context;
 use crate::status::{put_home_page, put_status};
 use crate::validators::{preflight_status, tag_to, validated_reply};
 use feed_answer::Query;
@@ -48,25 +49,14 @@ fn hits_reply(
     status: Status,
     representation: Representation,
     text: &[u8],
-    site: &SiteFile,
-    today: &Today,
-    actives: &[ActiveRelease<'_>],
+    context: &Context<'_>,
     query: &Query,
 ) -> Result<Reply, AllocError>
     ensures { IfOk result (λ reply. reply
-        ≡ hits_reply status representation text.now (sited_by site.now today.now actives.now) query.now) }
+        ≡ hits_reply status representation text.now (sited_in context.now) query.now) }
 {
     let mut body = Vec::new(alloc);
-    put_answer(
-        alloc,
-        &mut body,
-        representation,
-        text,
-        site,
-        today,
-        actives,
-        query,
-    )?;
+    put_answer(alloc, &mut body, representation, text, context, query)?;
     Ok(Reply::new(status, representation, body))
 }
 
@@ -75,37 +65,31 @@ fn unasked_reply(
     status: Status,
     representation: Representation,
     text: &[u8],
+    site: &SiteFile,
     reason: Refusal,
 ) -> Result<Reply, AllocError>
-    ensures { IfOk result (λ reply. reply ≡ unasked_reply status representation (ask_of text.now) reason) }
+    ensures { IfOk result (λ reply. reply
+        ≡ unasked_reply site.now text.now status representation (ask_of text.now) reason) }
 {
     let ask = Ask::read(alloc, text)?;
-    feed_resolver_hits::unasked_reply(alloc, status, representation, &ask, reason)
+    feed_resolver_page::unasked_reply(alloc, site, text, status, representation, &ask, reason)
 }
 
 fn resolve_reply(
     alloc: Global,
     representation: Representation,
     text: &[u8],
-    site: &SiteFile,
-    today: &Today,
-    actives: &[ActiveRelease<'_>],
+    context: &Context<'_>,
 ) -> Result<Reply, AllocError>
     ensures { IfOk result (λ reply. reply
-        ≡ resolve_reply representation text.now (sited_by site.now today.now actives.now)) }
+        ≡ resolve_reply representation text.now (sited_in context.now)) }
 {
     match read_query(alloc, text)? {
-        Ok(query) => hits_reply(
-            alloc,
-            Status::Good,
-            representation,
-            text,
-            site,
-            today,
-            actives,
-            &query,
-        ),
-        Err(reason) => unasked_reply(alloc, Status::Good, representation, text, reason),
+        Ok(query) => hits_reply(alloc, Status::Good, representation, text, context, &query),
+        Err(reason) => {
+            let site = context.library();
+            unasked_reply(alloc, Status::Good, representation, text, site, reason)
+        }
     }
 }
 
@@ -122,24 +106,13 @@ fn package_reply(
     representation: Representation,
     package: &[u8],
     text: &[u8],
-    site: &SiteFile,
-    today: &Today,
-    actives: &[ActiveRelease<'_>],
+    context: &Context<'_>,
 ) -> Result<Reply, AllocError>
     ensures { IfOk result (λ reply. reply
-        ≡ package_reply representation «package».now text.now (sited_by site.now today.now actives.now)) }
+        ≡ package_reply representation «package».now text.now (sited_in context.now)) }
 {
-    match position_of(actives, package) {
-        Some(place) => {
-            resolve_reply(
-                alloc,
-                representation,
-                text,
-                site,
-                today,
-                &actives[place..place + 1],
-            )
-        },
+    match position_of(context.actives, package) {
+        Some(place) => resolve_reply(alloc, representation, text, &context.only(place)),
         None => refusal(alloc, Status::NotFound, representation, b"NoRelease"),
     }
 }
@@ -155,15 +128,13 @@ fn copied(alloc: Global, link: Option<&[u8]>) -> Result<Option<Vec<u8>>, AllocEr
 
 fn best_link(
     alloc: Global,
-    site: &SiteFile,
-    today: &Today,
-    actives: &[ActiveRelease<'_>],
+    context: &Context<'_>,
     query: &Query,
 ) -> Result<Option<Vec<u8>>, AllocError>
     ensures { IfOk result (λ best. option_map (λ text. text.items) best
-        ≡ (tally_among query.now (sited_by site.now today.now actives.now)).best) }
+        ≡ (tally_among query.now (sited_in context.now)).best) }
 {
-    let tally = tally_among(alloc, site, today, actives, query)?;
+    let tally = tally_among(alloc, context, query)?;
     copied(alloc, tally.best_link())
 }
 
@@ -171,24 +142,20 @@ fn redirect_reply(
     alloc: Global,
     representation: Representation,
     text: &[u8],
-    site: &SiteFile,
-    today: &Today,
-    actives: &[ActiveRelease<'_>],
+    context: &Context<'_>,
     query: &Query,
 ) -> Result<Reply, AllocError>
     ensures { IfOk result (λ reply. reply
-        ≡ redirect_reply representation text.now (sited_by site.now today.now actives.now) query.now) }
+        ≡ redirect_reply representation text.now (sited_in context.now) query.now) }
 {
-    match best_link(alloc, site, today, actives, query)? {
+    match best_link(alloc, context, query)? {
         Some(link) => Ok(Reply::redirect(alloc, link)),
         None => hits_reply(
             alloc,
             Status::NotFound,
             representation,
             text,
-            site,
-            today,
-            actives,
+            context,
             query,
         ),
     }
@@ -198,16 +165,17 @@ fn go_reply(
     alloc: Global,
     representation: Representation,
     text: &[u8],
-    site: &SiteFile,
-    today: &Today,
-    actives: &[ActiveRelease<'_>],
+    context: &Context<'_>,
 ) -> Result<Reply, AllocError>
     ensures { IfOk result (λ reply. reply
-        ≡ go_reply representation text.now (sited_by site.now today.now actives.now)) }
+        ≡ go_reply representation text.now (sited_in context.now)) }
 {
     match read_query(alloc, text)? {
-        Ok(query) => redirect_reply(alloc, representation, text, site, today, actives, &query),
-        Err(reason) => unasked_reply(alloc, Status::NotFound, representation, text, reason),
+        Ok(query) => redirect_reply(alloc, representation, text, context, &query),
+        Err(reason) => {
+            let site = context.library();
+            unasked_reply(alloc, Status::NotFound, representation, text, site, reason)
+        }
     }
 }
 
@@ -238,31 +206,21 @@ fn resource_reply(
     request: &Request<'_>,
     path: &[u8],
     query: &[u8],
-    site: &SiteFile,
-    today: &Today,
-    actives: &[ActiveRelease<'_>],
+    context: &Context<'_>,
 ) -> Result<Reply, AllocError>
     requires { IsInBuffer request.now }
     ensures { IfOk result (λ reply. (head : RequestHead) → HasHead request.now head
         → reply ≡ resource_reply (resource_of path.now) head path.now query.now
-        (sited_by site.now today.now actives.now)) }
+        (sited_in context.now)) }
 {
     let representation = representation_of(query, &request.fields());
     let accepted = accepted_representation(&request.fields());
     match resource_of(path) {
-        Resource::Home => home_reply(alloc, actives),
-        Resource::Status => status_reply(alloc, representation, actives),
-        Resource::Resolve => resolve_reply(alloc, representation, query, site, today, actives),
-        Resource::Package => package_reply(
-            alloc,
-            representation,
-            package_in(path),
-            query,
-            site,
-            today,
-            actives,
-        ),
-        Resource::Go => go_reply(alloc, accepted, query, site, today, actives),
+        Resource::Home => home_reply(alloc, context.actives),
+        Resource::Status => status_reply(alloc, representation, context.actives),
+        Resource::Resolve => resolve_reply(alloc, representation, query, context),
+        Resource::Package => package_reply(alloc, representation, package_in(path), query, context),
+        Resource::Go => go_reply(alloc, accepted, query, context),
         Resource::Unknown => refusal(alloc, Status::NotFound, accepted, b"NoTarget"),
     }
 }
@@ -271,16 +229,14 @@ fn target_reply(
     alloc: Global,
     request: &Request<'_>,
     query: &[u8],
-    site: &SiteFile,
-    today: &Today,
-    actives: &[ActiveRelease<'_>],
+    context: &Context<'_>,
 ) -> Result<Reply, AllocError>
     requires { IsInBuffer request.now }
     ensures { IfOk result (λ reply. (head : RequestHead) → HasHead request.now head
-        → reply ≡ target_reply head query.now (sited_by site.now today.now actives.now)) }
+        → reply ≡ target_reply head query.now (sited_in context.now)) }
 {
     let path = path_in(origin_form(request.target()));
-    resource_reply(alloc, request, path, query, site, today, actives)
+    resource_reply(alloc, request, path, query, context)
 }
 
 fn method_refusal(alloc: Global, resource: Resource) -> Result<Reply, AllocError>
@@ -297,13 +253,11 @@ fn method_refusal(alloc: Global, resource: Resource) -> Result<Reply, AllocError
 fn plain_reply(
     alloc: Global,
     request: &Request<'_>,
-    site: &SiteFile,
-    today: &Today,
-    actives: &[ActiveRelease<'_>],
+    context: &Context<'_>,
 ) -> Result<Reply, AllocError>
     requires { IsInBuffer request.now }
     ensures { IfOk result (λ reply. (head : RequestHead) → HasHead request.now head
-        → reply ≡ plain_reply head (sited_by site.now today.now actives.now)) }
+        → reply ≡ plain_reply head (sited_in context.now)) }
 {
     if is_unsupported_method(request.method()) {
         return method_refusal(alloc, resource_of(path_in(origin_form(request.target()))));
@@ -325,7 +279,7 @@ fn plain_reply(
         );
     }
     let query = query_in(origin_form(request.target()));
-    target_reply(alloc, request, query, site, today, actives)
+    target_reply(alloc, request, query, context)
 }
 
 fn form_refusal(alloc: Global, fault: FormFault) -> Result<Reply, AllocError>
@@ -345,17 +299,15 @@ fn form_reply(
     alloc: Global,
     request: &Request<'_>,
     body: &[u8],
-    site: &SiteFile,
-    today: &Today,
-    actives: &[ActiveRelease<'_>],
+    context: &Context<'_>,
     form: Result<u64, FormFault>,
 ) -> Result<Reply, AllocError>
     requires { IsInBuffer request.now }
     ensures { IfOk result (λ reply. (head : RequestHead) → HasHead request.now head
-        → reply ≡ form_reply head body.now (sited_by site.now today.now actives.now) form) }
+        → reply ≡ form_reply head body.now (sited_in context.now) form) }
 {
     match form {
-        Ok(_) => target_reply(alloc, request, body, site, today, actives),
+        Ok(_) => target_reply(alloc, request, body, context),
         Err(fault) => form_refusal(alloc, fault),
     }
 }
@@ -364,20 +316,18 @@ pub(crate) fn reply_to(
     alloc: Global,
     request: &Request<'_>,
     body: &[u8],
-    site: &SiteFile,
-    today: &Today,
-    actives: &[ActiveRelease<'_>],
+    context: &Context<'_>,
 ) -> Result<Reply, AllocError>
     requires { IsInBuffer request.now }
     ensures { IfOk result (λ reply. (head : RequestHead) → HasHead request.now head
-        → reply ≡ reply_to head body.now (sited_by site.now today.now actives.now)) }
+        → reply ≡ reply_to head body.now (sited_in context.now)) }
 {
     if request.lacks_host() {
         return refusal(alloc, Status::BadRequest, Representation::Text, b"NoHost");
     }
     match form_of(request) {
-        Some(form) => form_reply(alloc, request, body, site, today, actives, form),
-        None => plain_reply(alloc, request, site, today, actives),
+        Some(form) => form_reply(alloc, request, body, context, form),
+        None => plain_reply(alloc, request, context),
     }
 }
 
@@ -397,27 +347,16 @@ pub(crate) fn response_to(
     request: &Request<'_>,
     body: &[u8],
     keeps: bool,
-    site: &Site,
-    today: &Today,
-    actives: &[ActiveRelease<'_>],
+    context: &Context<'_>,
 ) -> Result<Response, AllocError>
     requires { IsInBuffer request.now }
     ensures value { IfOk result (λ response. (head : RequestHead) → HasHead request.now head
-        → response ≡ response_to site.now keeps head body.now (dated today.now actives.now)) }
+        → response ≡ response_to context.now.site keeps head body.now context.now.actives) }
     ensures message { IfOk result (λ response. (head : RequestHead) → HasHead request.now head
         → IsMessageFor keeps (is_head head) response) }
 {
-    let tag = tag_to(alloc, request, site, today, actives)?;
-    let reply = validated_reply(
-        alloc,
-        request,
-        body,
-        tag,
-        site.max_age(),
-        site.library(),
-        today,
-        actives,
-    )?;
+    let tag = tag_to(alloc, request, context)?;
+    let reply = validated_reply(alloc, request, body, tag, context)?;
     let last = unless_preflight(alloc, request, reply);
     last.response(alloc, keeps, request.is_head())
 }
@@ -439,8 +378,13 @@ pub fn respond_with(
     ensures says { IfOk result (λ response. SaysWhetherItKeeps keeps response.bytes) }
 {
     let mut headers = [EMPTY_HEADER_SPAN; FIELD_LIMIT];
+    let context = Context {
+        site,
+        today,
+        actives,
+    };
     match find_request(bytes, &mut headers) {
-        Some(request) => response_to(alloc, &request, body, keeps, site, today, actives),
+        Some(request) => response_to(alloc, &request, body, keeps, &context),
         None => bad_head_response(alloc, keeps),
     }
 }

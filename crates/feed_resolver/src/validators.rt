@@ -12,10 +12,11 @@ ghost use Rattle.feed_resolver.specs.Validators.{has_validator, is_tagged, tag_o
 ghost use Rattle.feed_resolver.specs.Validators.{preflight_of, preflight_status};
 ghost use Rattle.feed_embargo.specs.Today.{TodayValue};
 ghost use Rattle.feed_site.specs.Site as site_file;
-ghost use Rattle.feed_resolver.specs.Answers.{dated, sited_by};
+ghost use Rattle.feed_resolver.specs.Answers.{dated, sited_by, sited_in};
 ghost use Rattle.feed_resolver.specs.Answered.{IsAnswered, IsAnsweredTo};
 ghost use Rattle.feed_resolver.specs.Replies.{reply_to};
 
+use crate::context::Context;
 use crate::responses::{position_of, reply_to};
 use crate::status::put_lines;
 use feed_embargo::Today;
@@ -29,7 +30,6 @@ use feed_resolver_request::{
     resource_of,
 };
 use feed_resolver_tag::{Digested, Site};
-use feed_site::SiteFile;
 use std::alloc::{AllocError, Global};
 
 fn has_validator(resource: Resource) -> bool
@@ -77,15 +77,13 @@ fn tag_by(
 
 fn tag_of(
     alloc: Global,
-    site: &Site,
-    today: &Today,
-    actives: &[ActiveRelease<'_>],
+    context: &Context<'_>,
     representation: Representation,
 ) -> Result<Vec<u8>, AllocError>
-    ensures { IfOk result (λ tag. tag.items ≡ tag_of site.now (dated today.now actives.now) representation) }
+    ensures { IfOk result (λ tag. tag.items ≡ tag_of context.now.site context.now.actives representation) }
 {
-    let lines = lines_of(alloc, actives)?;
-    tag_by(alloc, site, today, lines, representation)
+    let lines = lines_of(alloc, context.actives)?;
+    tag_by(alloc, context.site, context.today, lines, representation)
 }
 
 /// Returns the entity tag of what a request asks for on a day. It is empty if there is none. Computes the digest of the
@@ -93,18 +91,16 @@ fn tag_of(
 pub(crate) fn tag_to(
     alloc: Global,
     request: &Request<'_>,
-    site: &Site,
-    today: &Today,
-    actives: &[ActiveRelease<'_>],
+    context: &Context<'_>,
 ) -> Result<Vec<u8>, AllocError>
     requires { IsInBuffer request.now }
     ensures { IfOk result (λ tag. (head : RequestHead) → HasHead request.now head
-        → tag.items ≡ tag_to site.now (dated today.now actives.now) head) }
+        → tag.items ≡ tag_to context.now.site context.now.actives head) }
 {
     if is_tagged(request) {
         let query = query_in(origin_form(request.target()));
         let representation = representation_of(query, &request.fields());
-        tag_of(alloc, site, today, actives, representation)
+        tag_of(alloc, context, representation)
     } else {
         Ok(Vec::new(alloc))
     }
@@ -180,26 +176,24 @@ pub(crate) fn validated_reply(
     request: &Request<'_>,
     body: &[u8],
     tag: Vec<u8>,
-    max_age: u32,
-    site: &SiteFile,
-    today: &Today,
-    actives: &[ActiveRelease<'_>],
+    context: &Context<'_>,
 ) -> Result<Reply, AllocError>
     requires { IsInBuffer request.now }
     ensures { IfOk result (λ reply. (head : RequestHead) → HasHead request.now head
-        → reply ≡ validated head tag.items max_age
-        (reply_to head body.now (sited_by site.now today.now actives.now))) }
+        → reply ≡ validated head tag.items context.now.site.max_age
+        (reply_to head body.now (sited_in context.now))) }
 {
     if !is_tagged(request) {
-        return reply_to(alloc, request, body, site, today, actives);
+        return reply_to(alloc, request, body, context);
     }
+    let max_age = context.site.max_age();
     let has = has_tag(&tag, &request.fields());
-    if has && is_answered_to(alloc, request, actives)? {
+    if has && is_answered_to(alloc, request, context.actives)? {
         let query = query_in(origin_form(request.target()));
         let representation = representation_of(query, &request.fields());
         return Ok(Reply::not_modified(alloc, tag, max_age, representation));
     }
-    let reply = reply_to(alloc, request, body, site, today, actives)?;
+    let reply = reply_to(alloc, request, body, context)?;
     Ok(validated_by(alloc, reply, has, tag, max_age))
 }
 

@@ -6,5 +6,5 @@ pub mod Written
 pub mod Tops
 pub mod Tallies
 pub mod SolePlaces
-pub mod NothingTold
+pub mod TitlesAsked
 pub mod LinksKept

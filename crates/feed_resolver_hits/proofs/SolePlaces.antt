@@ -15,7 +15,7 @@ use Rattle.feed_names.specs.ReleaseName.{Name}
 use Rattle.feed_kbart.specs.HoldingsValue.{HoldingsValue}
 use Rattle.feed_embargo.specs.Today.{TodayValue}
 use Rattle.feed_answer.specs.Answers.{answer_of}
-use Rattle.feed_answer.specs.Places.{hit_at, places_among}
+use Rattle.feed_answer.specs.Places.{hit_at, places_among, places_of_isbns, places_of_issns}
 use Rattle.feed_answer.proofs.Places.{answered_at}
 use Rattle.feed_answer.specs.QueryValue.{QueryValue}
 use Rattle.feed_resolver_hits.specs.Candidates.{AreCandidates}
@@ -97,6 +97,16 @@ pub sole_isbn : (query : QueryValue) (rows : List RowValue) (isbn : List ℕ) (a
 sole_isbn query rows isbn asked at issns places all one same here others none found =
     subst (AreCandidates query rows) (sym found)
     (by_isbn query isbn rows (only_one query.isbns isbn (ap length (sym all) ∙ one) (here ∙ ap (λ l. get_or l 0 isbn) same)) (empty_list query.issns (none ∙ ap (λ l. length l == 0) others)))
+
+-- the places are those of any query with the same identifiers
+abbrev pub HasPlaces : QueryValue → List RowValue → List ℕ → Type 0
+HasPlaces query rows found = (place : ℕ) → Contains (places_among query rows) place → Contains found place
+
+pub places_alike : (one other : QueryValue) (rows : List RowValue) (found : List ℕ) → one.issns ≡ other.issns → one.isbns ≡ other.isbns
+    → HasPlaces one rows found → HasPlaces other rows found
+places_alike one other rows found issns isbns whole place has =
+    whole place (subst (λ (places : List ℕ). Contains places place)
+    (sym (ap (λ i. places_of_issns i rows ++ places_of_isbns one.isbns rows) issns ∙ ap (λ i. places_of_issns other.issns rows ++ places_of_isbns i rows) isbns)) has)
 
 -- the hits at such places are those of the release
 pub added : (site : site_file.SiteValue) (today : TodayValue) (query : QueryValue) (holdings : HoldingsValue) (name : Name) (running new : RunningValue) (rows : List RowValue) (places found : List ℕ)

@@ -1,7 +1,6 @@
 -- Writing in steps writes the whole.
-use Rattle.std.proofs.Common.{◌≡◌, ℕ, List, [], ◌∷◌, ◌++◌, codes, ap, ◌∙◌, append_assoc}
+use Rattle.std.proofs.Common.{◌≡◌, ℕ, List, [], ◌∷◌, ◌++◌, codes, ap, ◌∙◌}
 use Rattle.feed_names.specs.ReleaseName.{Name}
-use Rattle.feed_embargo.specs.declared.availability.Availability.{Availability}
 use Rattle.feed_kbart.specs.RowValue.{RowValue}
 use Rattle.feed_resolver_reply.specs.JsonStrings.{json_string}
 use Rattle.feed_resolver_reply.specs.Pieces.{joined}
@@ -9,7 +8,6 @@ use Rattle.feed_resolver_reply.proofs.Written.{in_four}
 use Rattle.feed_resolver_hits.specs.EmbargoWords.{embargo_words}
 use Rattle.feed_resolver_hits.specs.Hits.{ReleaseHitValue, link_text, name_text}
 use Rattle.feed_resolver_hits.specs.HitsJson.{release_members, grade_members, title_members, access_members, hit_object}
-use Rattle.feed_resolver_hits.specs.HitsPage.{title_cell, coverage_cells, text_cells, package_cell, hit_row}
 
 -- the members that identify a release
 pub release_named : (old new key text : List ℕ) (name : Name) → key ≡ name.stem → text ≡ name_text name
@@ -27,23 +25,6 @@ unfolding access_members
 access_written old new embargo access row words same also is = is
     ∙ ap (λ e. old ++ joined (codes ",\"embargo\":" ∷ json_string e ∷ codes ",\"embargo_words\":" ∷ json_string words ∷ codes ",\"access\":" ∷ json_string access ∷ codes "}" ∷ [])) same
     ∙ ap (λ a. old ++ joined (codes ",\"embargo\":" ∷ json_string row.embargo ∷ codes ",\"embargo_words\":" ∷ json_string words ∷ codes ",\"access\":" ∷ json_string a ∷ codes "}" ∷ [])) also
-
--- the row of a hit
-pub row_written : (old one two three four new : List ℕ) (row : RowValue) (title link words stem : List ℕ) (availability : Availability) (found : ReleaseHitValue)
-    → row ≡ found.hit.row → title ≡ row.title → link ≡ link_text found → words ≡ embargo_words row.embargo → availability ≡ found.availability → stem ≡ found.name.stem
-    → one ≡ old ++ codes "<tr><th scope=\"row\">" → two ≡ one ++ title_cell link title → three ≡ two ++ coverage_cells found.hit
-    → four ≡ three ++ text_cells availability row words → new ≡ four ++ package_cell stem → new ≡ old ++ hit_row found
-unfolding hit_row
-row_written old one two three four new row title link words stem availability found same headed linked worded open_now named first second third fourth fifth =
-    let cells = text_cells found.availability found.hit.row (embargo_words found.hit.row.embargo) in
-    let last = package_cell found.name.stem in
-    let written : four ≡ three ++ cells =
-    fourth ∙ ap (λ a. three ++ text_cells a row words) open_now
-    ∙ ap (λ w. three ++ text_cells found.availability row w) worded
-    ∙ ap (λ (r : RowValue). three ++ text_cells found.availability r (embargo_words r.embargo)) same in
-    in_four old one two three new (codes "<tr><th scope=\"row\">") (title_cell (link_text found) found.hit.row.title) (coverage_cells found.hit) (cells ++ last) first
-    (second ∙ ap (λ l. one ++ title_cell l title) linked ∙ ap (λ t. one ++ title_cell (link_text found) t) (headed ∙ ap (λ (r : RowValue). r.title) same)) third
-    (fifth ∙ ap (λ p. four ++ package_cell p) named ∙ ap (λ t. t ++ last) written ∙ append_assoc three cells last)
 
 -- the object of a hit
 pub object_written : (old one two three new : List ℕ) (row : RowValue) (link words : List ℕ) (found : ReleaseHitValue)

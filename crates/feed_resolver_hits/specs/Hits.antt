@@ -85,11 +85,15 @@ grade_rank Inside = 2
 grade_rank Overlap = 1
 grade_rank Untested = 0
 
+-- the row covers full texts (coverage_depth)
+abbrev pub is_full_text : RowValue → Bool
+is_full_text row = is_word (codes "fulltext") row.depth
+
 -- full text that is free ranks above other full text, and that above everything else (NISO RP-9-2014, coverage_depth and
 -- access_type)
 abbrev pub text_rank : RowValue → ℕ
 text_rank row =
-    if is_word (codes "fulltext") row.depth then (if is_free row then 2 else 1) else 0
+    if is_full_text row then (if is_free row then 2 else 1) else 0
 
 -- the rank of a hit: by its availability, then by its grade, then by its depth and access
 abbrev pub rank_of : ReleaseHitValue → ℕ

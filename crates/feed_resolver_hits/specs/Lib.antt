@@ -1,6 +1,7 @@
 pub mod Links
 pub mod Hits
 pub mod Ranks
+pub mod Searches
 pub mod Candidates
 pub mod Tallies
 pub mod Tallying
@@ -8,9 +9,6 @@ pub mod EmbargoWords
 pub mod HitsText
 pub mod HitsJson
 pub mod Asks
-pub mod CitationPage
-pub mod HitsPage
 pub mod AnswerJson
 pub mod Asked
-pub mod QueryRefusals
 pub mod Laws

@@ -9,12 +9,12 @@ use std::marker::Model;
 /// What a reply tells of a query beside its hits.
 #[derive(Drop)]
 pub struct Ask {
-    pub(crate) citation: Citation,
+    pub citation: Citation,
     /// The query that is looked up, as an OpenURL 1.0. It is empty if nothing is looked up.
-    pub(crate) query: Vec<u8>,
+    pub query: Vec<u8>,
     /// Whether a date is read, and a volume.
-    pub(crate) has_date: bool,
-    pub(crate) has_volume: bool,
+    pub has_date: bool,
+    pub has_volume: bool,
 }
 
 impl Model for Ask {
@@ -51,7 +51,7 @@ fn ask_by(alloc: Global, citation: Citation, understood: &Understanding) -> Resu
 }
 
 /// Returns whether a citation names a work: by its DOI, its PMID or a title.
-pub(crate) fn names_work(citation: &Citation) -> bool
+pub fn names_work(citation: &Citation) -> bool
     ensures { result ≡ names_work citation.now }
 {
     !citation.doi.as_bytes().is_empty()
@@ -80,7 +80,7 @@ fn is_placeless(citation: &Citation) -> bool
 }
 
 /// Returns whether there is nothing in a citation.
-pub(crate) fn is_blank(citation: &Citation) -> bool
+pub fn is_blank(citation: &Citation) -> bool
     ensures { result ≡ is_blank citation.now }
 {
     is_nameless(citation) && is_placeless(citation)

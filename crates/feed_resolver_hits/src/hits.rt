@@ -5,7 +5,8 @@ ghost use Rattle.feed_answer.specs.HitValue.{hit_of};
 ghost use Rattle.feed_resolver_hits.specs.Hits.{days_asked, is_held, link_text, name_text, release_hit};
 
 use crate::rank::is_free;
-use feed_answer::{Grade, Hit, Query};
+use crate::search::Search;
+use feed_answer::{Grade, Hit};
 use feed_dates::DayRange;
 use feed_embargo::{Availability, Today, availability_of};
 use feed_kbart::{Kind, Row};
@@ -44,11 +45,11 @@ impl<'a> ReleaseHit<'a> {
     pub(crate) fn new(
         site: &'a SiteFile,
         today: &Today,
-        query: &Query,
+        search: &Search<'_>,
         name: &'a ReleaseName,
         hit: &Hit<'a>,
     ) -> ReleaseHit<'a>
-        ensures { result ≡ release_hit site.now today.now query.now name.now (hit_of hit.now) }
+        ensures { result ≡ release_hit site.now today.now search.now name.now (hit_of hit.now) }
     {
         let row = hit.row;
         let (first, last) = (row.first_day(), row.last_day());
@@ -56,7 +57,7 @@ impl<'a> ReleaseHit<'a> {
             name,
             row,
             grade: hit.grade,
-            availability: availability_of(today, row.embargo(), first, last, query.days()),
+            availability: availability_of(today, row.embargo(), first, last, search.days()),
             prefix: prefix_for(site, row.url(), is_free(row)),
         }
     }
@@ -75,7 +76,7 @@ impl<'a> ReleaseHit<'a> {
     }
 
     /// Returns the link of the hit: its URL, or that through the proxy.
-    pub(crate) fn link(&self, alloc: Global) -> Result<CowSlice<'a, u8, Global>, AllocError>
+    pub fn link(&self, alloc: Global) -> Result<CowSlice<'a, u8, Global>, AllocError>
         ensures { IfOk result (λ link. cow_slice_items link ≡ link_text self.now) }
     {
         link_to(alloc, self.prefix, self.row.url())
@@ -128,12 +129,17 @@ fn days_asked(kind: Kind, days: Option<DayRange>) -> Option<DayRange>
 }
 
 /// Returns whether the library has what is asked for of a hit of a release.
-pub(crate) fn is_held(site: &SiteFile, query: &Query, name: &ReleaseName, hit: &Hit<'_>) -> bool
-    ensures { result ≡ is_held site.now query.now name.now (hit_of hit.now) }
+pub(crate) fn is_held(
+    site: &SiteFile,
+    search: &Search<'_>,
+    name: &ReleaseName,
+    hit: &Hit<'_>,
+) -> bool
+    ensures { result ≡ is_held site.now search.now name.now (hit_of hit.now) }
 {
     let row = hit.row;
     let (first, last) = (row.first_day(), row.last_day());
-    let asked = days_asked(row.kind(), query.days());
+    let asked = days_asked(row.kind(), search.days());
     library_has(site, name.package(), row.title_id(), first, last, asked)
 }
 

@@ -8,6 +8,7 @@ ghost use Rattle.feed_resolver_hits.specs.HitsText.{cut_head_line, release_head_
 ghost use Rattle.feed_resolver_hits.specs.Tallying.{with_hits, tally_from};
 
 use crate::hits::ReleaseHit;
+use crate::search::Search;
 use crate::tally::Tally;
 use feed_answer::{Query, write_head, write_hit};
 use feed_embargo::Today;
@@ -103,7 +104,8 @@ pub fn put_release<'a>(
 {
     let counted = tally.count();
     let shown = tally.shown().len();
-    tally.add_release(alloc, site, today, name, holdings, query)?;
+    let search = Search::of(query);
+    tally.add_release(alloc, site, today, name, holdings, &search)?;
     let count = tally.count().saturating_sub(counted);
     put_head(out, name, count, tally.is_whole())?;
     put_lines(out, hits_from(tally.shown(), shown))

@@ -1,36 +1,36 @@
 //! The hits of a query in the releases of a node: what the query asks for, how many hits there are, the first ones, and
-//! the best link among them; and how they are written as text, as JSON and as an HTML page.
+//! the best link among them; and how they are written as text and as JSON.
 #![tactic(auto)]
 
 mod answer_json;
 mod ask;
 mod asked;
 mod candidates;
-mod citation_page;
-mod embargo_words;
+mod embargo_phrases;
 mod hits;
 mod hits_json;
-mod hits_page;
 mod hits_text;
 mod laws;
 mod link;
 mod links;
 mod rank;
-mod refusals;
+mod search;
 mod shown;
 mod tally;
 mod top;
 
 pub use answer_json::put_answer_json;
-pub use ask::Ask;
+pub use ask::{Ask, is_blank, names_work};
 pub use asked::read_query;
+pub use embargo_phrases::embargo_words;
 pub use hits::{ReleaseHit, name_text};
 pub use hits_json::put_release_members;
-pub use hits_page::{page_title, put_hits_page};
 pub use hits_text::put_release;
 pub use laws::{
     answer_is_json, best_link_ranks_highest, hits_are_json, links_are_proxied, ranks_in_order,
     redirects_to_link, tally_tells_of_hits,
 };
-pub use refusals::unasked_reply;
+pub use link::is_link;
+pub use rank::{is_free, is_full_text};
+pub use search::Search;
 pub use tally::Tally;

@@ -26,7 +26,7 @@ fn is_all_visible(url: &[u8]) -> bool
 
 /// Returns whether a text is a URL of `http` or `https` in at most 8,000 bytes of visible ASCII, so that it is safe in
 /// a link and in a Location field (RFC 9110, section 10.2.2).
-pub(crate) fn is_link(url: &[u8]) -> bool
+pub fn is_link(url: &[u8]) -> bool
     ensures { result ≡ is_link url.now }
 {
     url.len() <= LINK_LIMIT

@@ -1,6 +1,6 @@
 //! The rank of a hit among those of a query.
 ghost use Rattle.std.specs.Prelude.{◌≡◌, ◌<◌};
-ghost use Rattle.feed_resolver_hits.specs.Hits.{availability_rank, grade_rank, is_free, is_word, rank_of, text_rank};
+ghost use Rattle.feed_resolver_hits.specs.Hits.{availability_rank, grade_rank, is_free, is_full_text, is_word, rank_of, text_rank};
 
 use crate::hits::ReleaseHit;
 use feed_answer::Grade;
@@ -38,17 +38,24 @@ fn is_word(text: &[u8], word: &[u8]) -> bool
 }
 
 /// Returns whether a row is free to read.
-pub(crate) fn is_free(row: &Row) -> bool
+pub fn is_free(row: &Row) -> bool
     ensures { result ≡ is_free row.now }
 {
     is_word(row.access(), b"F")
+}
+
+/// Returns whether a row covers full texts.
+pub fn is_full_text(row: &Row) -> bool
+    ensures { result ≡ is_full_text row.now }
+{
+    is_word(row.depth(), b"fulltext")
 }
 
 fn text_rank(row: &Row) -> u8
     ensures value { result ≡ text_rank row.now }
     ensures bound { result < 3 }
 {
-    if !is_word(row.depth(), b"fulltext") {
+    if !is_full_text(row) {
         0
     } else if is_free(row) {
         2

@@ -12,9 +12,10 @@ ghost use Rattle.feed_resolver_hits.specs.Tallying.{no_hits, with_hit, with_hits
 use crate::candidates::sole_places;
 use crate::hits::{ReleaseHit, is_held};
 use crate::links::Links;
+use crate::search::Search;
 use crate::shown::Shown;
 use crate::top::Top;
-use feed_answer::{Hit, Query, hit_at, places_of};
+use feed_answer::places_of;
 use feed_embargo::Today;
 use feed_kbart::{Holdings, Row};
 use feed_names::ReleaseName;
@@ -130,16 +131,16 @@ impl<'a> Tally<'a> {
         name: &'a ReleaseName,
         rows: &'a [Row],
         place: u32,
-        query: &Query,
+        search: &Search<'_>,
     ) -> Result<(), AllocError>
         ensures { OnOk result (self.new
-            ≡ with_hits self.old (library_hits site.now today.now query.now name.now
-            (filter_map (hit_at query.now rows.now) (place ∷ [])))) }
+            ≡ with_hits self.old (library_hits site.now today.now search.now name.now
+            (filter_map (hit_at search.now rows.now) (place ∷ [])))) }
     {
-        match hit_at(rows, place, query) {
+        match search.hit_at(rows, place) {
             Some(hit) => {
-                if is_held(site, query, name, &hit) {
-                    self.count_hit(alloc, ReleaseHit::new(site, today, query, name, &hit))
+                if is_held(site, search, name, &hit) {
+                    self.count_hit(alloc, ReleaseHit::new(site, today, search, name, &hit))
                 } else {
                     Ok(())
                 }
@@ -156,22 +157,22 @@ impl<'a> Tally<'a> {
         name: &'a ReleaseName,
         rows: &'a [Row],
         places: &[u32],
-        query: &Query,
+        search: &Search<'_>,
     ) -> Result<(), AllocError>
         ensures { OnOk result (self.new
-            ≡ with_hits self.old (library_hits site.now today.now query.now name.now
-            (filter_map (hit_at query.now rows.now) places.now))) }
+            ≡ with_hits self.old (library_hits site.now today.now search.now name.now
+            (filter_map (hit_at search.now rows.now) places.now))) }
     {
         for place in places {
             if !self.is_whole {
                 return Ok(());
             }
-            self.add_hit_at(alloc, site, today, name, rows, *place, query)?;
+            self.add_hit_at(alloc, site, today, name, rows, *place, search)?;
         }
         Ok(())
     }
 
-    /// Adds the hits of a query in a release that the library has. Looks at each row that has one of its identifiers,
+    /// Adds the hits of a search in a release that the library has. Looks at each row that has one of its identifiers,
     /// in file order, until more hits are found than are counted.
     pub fn add_release(
         &mut self,
@@ -180,13 +181,13 @@ impl<'a> Tally<'a> {
         today: &Today,
         name: &'a ReleaseName,
         holdings: &'a Holdings,
-        query: &Query,
+        search: &Search<'_>,
     ) -> Result<(), AllocError>
         ensures { OnOk result (self.new
-            ≡ with_hits self.old (library_hits site.now today.now query.now name.now
-            (answer_of holdings.now query.now))) }
+            ≡ with_hits self.old (library_hits site.now today.now search.now name.now
+            (answer_of holdings.now search.now))) }
     {
-        match sole_places(holdings, query) {
+        match sole_places(holdings, search.query()) {
             Some(places) => self.add_hits_at(
                 alloc,
                 site,
@@ -194,11 +195,11 @@ impl<'a> Tally<'a> {
                 name,
                 holdings.rows(),
                 places,
-                query,
+                search,
             ),
             None => {
-                let places = places_of(alloc, holdings, query)?;
-                self.add_hits_at(alloc, site, today, name, holdings.rows(), &places, query)
+                let places = places_of(alloc, holdings, search.query())?;
+                self.add_hits_at(alloc, site, today, name, holdings.rows(), &places, search)
             }
         }
     }

@@ -7,13 +7,13 @@ use Rattle.feed_resolver.proofs.node.node_reply_with.Goals as goal
 
 pub returns-in-Some-clause-value : goal.returns-in-Some-clause-value
 returns-in-Some-clause-value c = let found = c.in-Some.ensures.found in
-    IfOk-weaker c.node_reply.result _ (λ response. IsNodeReply c.args.site.now c.args.policy.now c.args.bytes.now c.args.body.now c.args.keeps (dated c.args.today.now c.args.actives.now) response)
+    IfOk-weaker c.node_reply.result _ (λ response. IsNodeReply c.args.context.now.site c.args.policy.now c.args.bytes.now c.args.body.now c.args.keeps c.args.context.now.actives response)
     (λ response is. inl (found.head, found.begins, is found.head found.has)) c.node_reply.ensures.value
 
 pub returns-in-Some-clause-text : goal.returns-in-Some-clause-text
 returns-in-Some-clause-text c = let found = c.in-Some.ensures.found in
     IfOk-weaker c.node_reply.result _
-    (λ response. IsNodeReplyText c.args.site.now c.args.policy.now c.args.bytes.now c.args.body.now c.args.keeps (dated c.args.today.now c.args.actives.now) response.bytes)
+    (λ response. IsNodeReplyText c.args.context.now.site c.args.policy.now c.args.bytes.now c.args.body.now c.args.keeps c.args.context.now.actives response.bytes)
     (λ response is. (response, inl (found.head, found.begins, is found.head found.has), refl)) c.node_reply.ensures.value
 
 pub returns-in-Some-clause-message : goal.returns-in-Some-clause-message
@@ -23,12 +23,12 @@ returns-in-Some-clause-message c = let found = c.in-Some.ensures.found in
 
 pub returns-in-None-clause-text : goal.returns-in-None-clause-text
 returns-in-None-clause-text c = IfOk-weaker c.bad_head_response.result _
-    (λ response. IsNodeReplyText c.args.site.now c.args.policy.now c.args.bytes.now c.args.body.now c.args.keeps (dated c.args.today.now c.args.actives.now) response.bytes)
+    (λ response. IsNodeReplyText c.args.context.now.site c.args.policy.now c.args.bytes.now c.args.body.now c.args.keeps c.args.context.now.actives response.bytes)
     (λ response is. (response, inr (c.in-None.ensures.found, is), refl)) c.bad_head_response.ensures.value
 
 pub returns-in-None-clause-value : goal.returns-in-None-clause-value
 returns-in-None-clause-value c = IfOk-weaker c.bad_head_response.result _
-    (λ response. IsNodeReply c.args.site.now c.args.policy.now c.args.bytes.now c.args.body.now c.args.keeps (dated c.args.today.now c.args.actives.now) response)
+    (λ response. IsNodeReply c.args.context.now.site c.args.policy.now c.args.bytes.now c.args.body.now c.args.keeps c.args.context.now.actives response)
     (λ response is. inr (c.in-None.ensures.found, is)) c.bad_head_response.ensures.value
 
 pub returns-in-None-clause-message : goal.returns-in-None-clause-message

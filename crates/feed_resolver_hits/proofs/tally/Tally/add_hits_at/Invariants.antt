@@ -8,5 +8,5 @@ use Rattle.feed_resolver_hits.proofs.tally.Tally.add_hits_at.Given as goal
 -- the hits at the places that are left, added to the tally so far, make the tally of all
 abbrev pub invariant-loop-place : goal.invariant-loop-place
 invariant-loop-place l =
-    with_hits l.self (library_hits l.site l.today l.query l.name (filter_map (hit_at l.query l.rows) (drop l.place-index l.places)))
-    ≡ with_hits l.fn.self (library_hits l.site l.today l.query l.name (filter_map (hit_at l.query l.rows) l.places))
+    with_hits l.self (library_hits l.site l.today l.search l.name (filter_map (hit_at l.search l.rows) (drop l.place-index l.places)))
+    ≡ with_hits l.fn.self (library_hits l.site l.today l.search l.name (filter_map (hit_at l.search l.rows) l.places))

@@ -1,0 +1,46 @@
+//! What replies are computed from, beside the requests.
+use feed_embargo::Today;
+use feed_releases::ActiveRelease;
+use feed_resolver_tag::Site;
+use feed_site::SiteFile;
+use std::marker::Model;
+
+/// What replies are computed from, beside the requests: the settings of the node, the day, and the active releases.
+#[derive(Drop)]
+pub(crate) struct Context<'a> {
+    pub(crate) site: &'a Site,
+    pub(crate) today: &'a Today,
+    pub(crate) actives: &'a [ActiveRelease<'a>],
+}
+
+impl<'a> Model for Context<'a> {
+    ghost use Rattle.feed_resolver.specs.Answers.{ContextValue, dated};
+
+    ghost Value = { ContextValue };
+
+    ghost view = { λ c. record { site = c.site.now; actives = dated c.today.now c.actives.now } };
+}
+
+impl<'a> Context<'a> {
+    ghost use Rattle.std.specs.Prelude.{◌≡◌, ◌<◌, length};
+    ghost use Rattle.feed_resolver.specs.Answers.{only_at, sited_in};
+
+    /// Returns the site file of the library.
+    pub(crate) fn library(&self) -> &'a SiteFile
+        ensures { result.now ≡ self.now.site.library }
+    {
+        self.site.library()
+    }
+
+    /// Returns the same with the release at this place alone.
+    pub(crate) fn only(&self, place: usize) -> Context<'a>
+        requires { place < length self.now.actives.actives }
+        ensures { sited_in result ≡ only_at place (sited_in self.now) }
+    {
+        Context {
+            site: self.site,
+            today: self.today,
+            actives: &self.actives[place..place + 1],
+        }
+    }
+}

@@ -1,0 +1,85 @@
+-- The citation of a query in a page.
+use Rattle.std.specs.Prelude.{ℕ, ◌||◌, ◌==◌, Bool, true, if◌then◌else◌, List, [], ◌∷◌, ◌++◌, codes}
+use Rattle.std.specs.List.{list_all}
+use Rattle.std.specs.Char.{is_ascii_alphanumeric}
+use Rattle.feed_answer.specs.Pairs.{is_empty}
+use Rattle.feed_openurl.specs.Citations.{CitationValue}
+use Rattle.feed_site.specs.Site as site_file
+use Rattle.feed_resolver_reply.specs.Escapes.{escaped}
+use Rattle.feed_resolver_reply.specs.Pieces.{joined}
+use Rattle.feed_resolver_hits.specs.Asks.{AskValue, is_blank}
+use Rattle.feed_resolver_page.specs.Texts.{text_of}
+use Rattle.feed_resolver_page.specs.declared.texts.Text.{Text}
+use Rattle.feed_resolver_page.specs.declared.texts.Text.TheVariants as text
+
+-- a text of the citation with its label
+unfoldable pub text_row : site_file.SiteValue → Text → List ℕ → List ℕ
+text_row site name value = joined (
+    codes "<dt>" ∷ escaped (text_of site name) ∷ codes "</dt><dd><bdi>" ∷ escaped value ∷ codes "</bdi></dd>\n" ∷ [])
+
+-- the same for one that is not read
+unfoldable pub noted_row : List ℕ → List ℕ → List ℕ → List ℕ
+noted_row label value note = joined (
+    codes "<dt>" ∷ escaped label ∷ codes "</dt><dd><bdi>" ∷ escaped value
+    ∷ codes "</bdi> (" ∷ escaped note ∷ codes ")</dd>\n" ∷ [])
+
+-- a text of the citation, if there is one
+unfoldable pub cited_row : site_file.SiteValue → Text → List ℕ → Bool → List ℕ
+cited_row site name value is_read =
+    if is_empty value then [] else if is_read then text_row site name value
+    else noted_row (text_of site name) value (text_of site text.NotUnderstood)
+
+-- a byte that needs no encoding in a path of an address
+abbrev pub is_mark : ℕ → Bool
+is_mark b = (b == 45) || (b == 46) || (b == 95) || (b == 59) || (b == 40) || (b == 41) || (b == 47) || (b == 58)
+
+abbrev pub is_plain : ℕ → Bool
+is_plain b = is_ascii_alphanumeric b || is_mark b
+
+-- a link to an address that ends in the text
+unfoldable pub link_row : List ℕ → List ℕ → List ℕ → List ℕ
+link_row label front value = joined (
+    codes "<dt>" ∷ label ∷ codes "</dt><dd><a href=\"" ∷ front ∷ escaped value
+    ∷ codes "\"><bdi>" ∷ escaped value ∷ codes "</bdi></a></dd>\n" ∷ [])
+
+-- a text with this label
+unfoldable pub plain_row : List ℕ → List ℕ → List ℕ
+plain_row label value = joined (
+    codes "<dt>" ∷ label ∷ codes "</dt><dd><bdi>" ∷ escaped value ∷ codes "</bdi></dd>\n" ∷ [])
+
+-- a name that an address has at its end: a link if it needs no encoding there
+unfoldable pub name_row : List ℕ → List ℕ → List ℕ → List ℕ
+name_row label front value =
+    if is_empty value then [] else if list_all is_plain value then link_row label front value else plain_row label value
+
+-- what is cited
+unfoldable pub work_rows : site_file.SiteValue → CitationValue → List ℕ
+work_rows site citation =
+    cited_row site text.Article citation.article true
+    ++ (cited_row site text.Work citation.title true ++ cited_row site text.Author citation.author true)
+
+-- where it is
+unfoldable pub place_rows : site_file.SiteValue → AskValue → List ℕ
+place_rows site ask =
+    cited_row site text.Date ask.citation.date ask.has_date
+    ++ (cited_row site text.Volume ask.citation.volume ask.has_volume ++ cited_row site text.Issue ask.citation.issue true)
+
+-- a DOI, and a number in PubMed
+unfoldable pub doi_row : List ℕ → List ℕ
+doi_row doi = name_row (codes "DOI") (codes "https://doi.org/") doi
+
+unfoldable pub pmid_row : List ℕ → List ℕ
+pmid_row pmid = name_row (codes "PubMed") (codes "https://pubmed.ncbi.nlm.nih.gov/") pmid
+
+-- its page and its names
+unfoldable pub name_rows : site_file.SiteValue → CitationValue → List ℕ
+name_rows site citation =
+    cited_row site text.Page citation.page true ++ (doi_row citation.doi ++ pmid_row citation.pmid)
+
+unfoldable pub citation_rows : site_file.SiteValue → AskValue → List ℕ
+citation_rows site ask = work_rows site ask.citation ++ (place_rows site ask ++ name_rows site ask.citation)
+
+-- the citation as a list, if there is anything in it
+unfoldable pub citation_part : site_file.SiteValue → AskValue → List ℕ
+citation_part site ask =
+    if is_blank ask.citation then [] else codes "<dl>\n" ++ (citation_rows site ask ++ codes "</dl>\n")

@@ -1,0 +1,92 @@
+-- What a row covers, and how it is read, in words.
+use Rattle.std.specs.Prelude.{ℕ, if◌then◌else◌, List, [], ◌∷◌, ◌++◌, codes, Option, Some, None}
+use Rattle.std.specs.Fmt.{decimal}
+use Rattle.std.specs.Option.{option_and_then}
+use Rattle.feed_dates.specs.Days.{date_of_day}
+use Rattle.feed_kbart.specs.RowValue.{RowValue}
+use Rattle.feed_answer.specs.Pairs.{is_empty}
+use Rattle.feed_site.specs.Site as site_file
+use Rattle.feed_resolver_reply.specs.Escapes.{escaped}
+use Rattle.feed_resolver_reply.specs.Pieces.{joined}
+use Rattle.feed_resolver_hits.specs.EmbargoWords.{embargo_words}
+use Rattle.feed_resolver_hits.specs.Hits.{is_free, is_full_text}
+use Rattle.feed_resolver_page.specs.Dates.{date_words}
+use Rattle.feed_resolver_page.specs.Texts.{text_of}
+use Rattle.feed_resolver_page.specs.declared.texts.Text.{Text}
+use Rattle.feed_resolver_page.specs.declared.texts.Text.TheVariants as text
+
+-- a text, and a date after it
+unfoldable pub date_after : site_file.SiteValue → Text → List ℕ → List ℕ
+date_after site name date = joined (escaped (text_of site name) ∷ codes " " ∷ []) ++ date_words site date
+
+unfoldable pub date_sentence : site_file.SiteValue → Text → List ℕ → List ℕ
+date_sentence site name date = date_after site name date ++ codes ". "
+
+-- the days of a coverage without a last day
+unfoldable pub from_words : site_file.SiteValue → List ℕ → List ℕ
+from_words site first =
+    date_after site text.AvailableFrom first ++ joined (codes " " ∷ escaped (text_of site text.ToPresent) ∷ codes ". " ∷ [])
+
+unfoldable pub days_between : site_file.SiteValue → List ℕ → List ℕ → List ℕ
+days_between site first last = date_after site text.AvailableFrom first ++ (codes " " ++ date_sentence site text.To last)
+
+-- the days from a first to a last one, as far as they are known
+abbrev pub days_by : site_file.SiteValue → Option (List ℕ) → Option (List ℕ) → List ℕ
+days_by site None None = []
+days_by site None (Some last) = date_sentence site text.AvailableTo last
+days_by site (Some first) None = from_words site first
+days_by site (Some first) (Some last) = days_between site first last
+
+-- the days that a row covers
+unfoldable pub days_words : site_file.SiteValue → RowValue → List ℕ
+days_words site row = days_by site (option_and_then date_of_day row.first_day) (option_and_then date_of_day row.last_day)
+
+unfoldable pub volume_sentence : site_file.SiteValue → Text → ℕ → List ℕ
+volume_sentence site name volume = joined (escaped (text_of site name) ∷ codes " " ∷ decimal volume ∷ codes ". " ∷ [])
+
+unfoldable pub volumes_between : site_file.SiteValue → ℕ → ℕ → List ℕ
+volumes_between site first last =
+    joined (escaped (text_of site text.FromVolume) ∷ codes " " ∷ decimal first ∷ codes " " ∷ [])
+    ++ volume_sentence site text.ToVolume last
+
+-- the volumes from a first to a last one, as far as they are known
+abbrev pub volumes_by : site_file.SiteValue → Option ℕ → Option ℕ → List ℕ
+volumes_by site None None = []
+volumes_by site None (Some last) = volume_sentence site text.UpToVolume last
+volumes_by site (Some first) None = volume_sentence site text.FromVolume first
+volumes_by site (Some first) (Some last) = volumes_between site first last
+
+-- the volumes that a row covers
+unfoldable pub volumes_words : site_file.SiteValue → RowValue → List ℕ
+volumes_words site row = volumes_by site row.first_volume row.last_volume
+
+-- a text as a sentence, if there is one
+unfoldable pub sentence : List ℕ → List ℕ
+sentence words = if is_empty words then [] else joined (escaped words ∷ codes ". " ∷ [])
+
+-- the depth of a coverage, in words if it is full text, and as it is otherwise
+abbrev pub depth_text : site_file.SiteValue → RowValue → List ℕ
+depth_text site row = if is_full_text row then text_of site text.Depth else row.depth
+
+-- that a row is free to read, if it is
+abbrev pub free_text : site_file.SiteValue → RowValue → List ℕ
+free_text site row = if is_free row then text_of site text.Free else []
+
+unfoldable pub access_words : site_file.SiteValue → RowValue → List ℕ
+access_words site row = sentence (depth_text site row) ++ sentence (free_text site row)
+
+-- a text, or another one if it is empty
+abbrev pub text_or : List ℕ → List ℕ → List ℕ
+text_or words other = if is_empty words then other else words
+
+-- the embargo in words, or as it is if there are none
+unfoldable pub embargo_sentence : RowValue → List ℕ
+embargo_sentence row = sentence (text_or (embargo_words row.embargo) row.embargo)
+
+-- the days and the volumes that a row covers
+unfoldable pub span_words : site_file.SiteValue → RowValue → List ℕ
+span_words site row = days_words site row ++ volumes_words site row
+
+-- the same, its depth, whether it is free, and its embargo
+unfoldable pub coverage_words : site_file.SiteValue → RowValue → List ℕ
+coverage_words site row = span_words site row ++ (access_words site row ++ embargo_sentence row)

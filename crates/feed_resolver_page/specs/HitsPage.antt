@@ -1,0 +1,103 @@
+-- The hits of a query as an HTML page.
+use Rattle.std.specs.Prelude.{ℕ, ◌==◌, Bool, true, false, if◌then◌else◌, List, [], ◌∷◌, ◌++◌, codes, Option, Some, None}
+use Rattle.std.specs.List.{flat_map}
+use Rattle.std.specs.Fmt.{decimal}
+use Rattle.feed_site.specs.Site as site_file
+use Rattle.feed_resolver_reply.specs.Escapes.{escaped}
+use Rattle.feed_resolver_reply.specs.Pieces.{joined}
+use Rattle.feed_resolver_hits.specs.Asks.{AskValue}
+use Rattle.feed_resolver_hits.specs.Hits.{ReleaseHitValue}
+use Rattle.feed_resolver_hits.specs.Tallies.{TallyValue, left_out}
+use Rattle.feed_resolver_page.specs.Cards.{card}
+use Rattle.feed_resolver_page.specs.CitationPage.{citation_part}
+use Rattle.feed_resolver_page.specs.Frames.{page_end, page_top}
+use Rattle.feed_resolver_page.specs.SearchForms.{search_form}
+use Rattle.feed_resolver_page.specs.Texts.{text_of}
+use Rattle.feed_resolver_page.specs.declared.card.Fit.TheVariants.{Hit, Outside}
+use Rattle.feed_resolver_page.specs.declared.hits_page.TheConstants.{LIST, LIST_END}
+use Rattle.feed_resolver_page.specs.declared.texts.Text.{Text}
+use Rattle.feed_resolver_page.specs.declared.texts.Text.TheVariants as text
+
+-- the card of a hit
+abbrev pub hit_card : site_file.SiteValue → List ℕ → ReleaseHitValue → List ℕ
+hit_card site cited found = card site cited (Hit found.hit.grade) found
+
+-- the cards of hits, beside a cited title
+unfoldable pub cards : site_file.SiteValue → List ℕ → List ReleaseHitValue → List ℕ
+cards site cited hits = LIST.now ++ (flat_map (hit_card site cited) hits ++ LIST_END.now)
+
+-- the card of a title whose coverage does not match
+abbrev pub other_card : site_file.SiteValue → List ℕ → ReleaseHitValue → List ℕ
+other_card site cited found = card site cited Outside found
+
+unfoldable pub other_cards : site_file.SiteValue → List ℕ → List ReleaseHitValue → List ℕ
+other_cards site cited hits = LIST.now ++ (flat_map (other_card site cited) hits ++ LIST_END.now)
+
+-- the words before a number of hits, which may be too small
+abbrev pub least : Bool → Text
+least true = text.NotShown
+least false = text.NotShownAtLeast
+
+-- the paragraph that says how many hits are left out
+unfoldable pub more_text : site_file.SiteValue → ℕ → Bool → List ℕ
+more_text site n is_whole = joined (
+    codes "<p>" ∷ escaped (text_of site (least is_whole)) ∷ codes " " ∷ decimal n ∷ codes ". "
+    ∷ escaped (text_of site text.NotShownHint) ∷ codes "</p>\n" ∷ [])
+
+-- the same, if any are
+abbrev pub more_part : site_file.SiteValue → TallyValue → List ℕ
+more_part site tally = if left_out tally == 0 then [] else more_text site (left_out tally) tally.is_whole
+
+-- a statement about what was found
+unfoldable pub paragraph : site_file.SiteValue → Text → List ℕ
+paragraph site name = joined (codes "<p class=\"note\">" ∷ escaped (text_of site name) ∷ codes "</p>\n" ∷ [])
+
+-- the hits
+abbrev pub hits_part : site_file.SiteValue → List ℕ → TallyValue → List ℕ
+hits_part site cited tally = cards site cited tally.top ++ more_part site tally
+
+-- that the library has the titles for other dates or volumes alone, or not at all
+abbrev pub others_part : site_file.SiteValue → List ℕ → TallyValue → List ℕ
+others_part site cited others =
+    if others.count == 0
+    then paragraph site text.NoHoldings
+    else paragraph site text.HeldOther ++ other_cards site cited others.top
+
+-- the hits, or what there is if there are none
+abbrev pub found_part : site_file.SiteValue → List ℕ → TallyValue → TallyValue → List ℕ
+found_part site cited tally others =
+    if tally.count == 0 then others_part site cited others else hits_part site cited tally
+
+-- the citation of the query, and what was found
+unfoldable pub answer_part : site_file.SiteValue → AskValue → TallyValue → TallyValue → List ℕ
+answer_part site ask tally others = citation_part site ask ++ found_part site ask.citation.title tally others
+
+-- a link of the library, if it has one
+abbrev pub link_part : site_file.SiteValue → Text → Option (List ℕ) → List ℕ
+link_part site name None = []
+link_part site name (Some url) = joined (
+    codes "<p><a href=\"" ∷ escaped url ∷ codes "\">" ∷ escaped (text_of site name) ∷ codes "</a></p>\n" ∷ [])
+
+-- the links to the library's help and contact
+unfoldable pub help_part : site_file.SiteValue → List ℕ
+help_part site = link_part site text.Help site.help ++ link_part site text.Contact site.contact
+
+unfoldable pub search_heading : site_file.SiteValue → List ℕ
+search_heading site = joined (codes "<h2>" ∷ escaped (text_of site text.NewSearch) ∷ codes "</h2>\n" ∷ [])
+
+-- the form for a new search, with what the query has for its fields
+unfoldable pub search_part : site_file.SiteValue → List ℕ → List ℕ
+search_part site query = search_heading site ++ search_form site query
+
+-- what follows an answer
+unfoldable pub page_bottom : site_file.SiteValue → List ℕ → List ℕ
+page_bottom site query = help_part site ++ (search_part site query ++ page_end)
+
+-- the heading, by the number of hits
+abbrev pub page_name : ℕ → Text
+page_name count = if count == 0 then text.NoFullText else text.FullText
+
+-- the page of the hits of a query; if there are none, it shows the other tally
+unfoldable pub hits_page : site_file.SiteValue → List ℕ → AskValue → TallyValue → TallyValue → List ℕ
+hits_page site query ask tally others =
+    page_top site (page_name tally.count) ++ (answer_part site ask tally others ++ page_bottom site query)

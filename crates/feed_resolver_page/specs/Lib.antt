@@ -1,0 +1,9 @@
+pub mod Texts
+pub mod Dates
+pub mod Coverage
+pub mod Cards
+pub mod CitationPage
+pub mod Frames
+pub mod SearchForms
+pub mod HitsPage
+pub mod QueryRefusals

@@ -1,0 +1,68 @@
+-- The replies to queries for which nothing is looked up.
+use Rattle.std.specs.Prelude.{ℕ, Bool, true, false, if◌then◌else◌, List, [], ◌∷◌, ◌++◌, codes}
+use Rattle.feed_openurl.specs.declared.fault.Refusal.{Refusal}
+use Rattle.feed_openurl.specs.declared.fault.Refusal.TheVariants as reason
+use Rattle.feed_site.specs.Site as site_file
+use Rattle.feed_resolver_request.specs.declared.representation.Representation.{Representation}
+use Rattle.feed_resolver_request.specs.declared.representation.Representation.TheVariants.{Text, Json, Html}
+use Rattle.feed_resolver_reply.specs.Pages.{fault_body}
+use Rattle.feed_resolver_reply.specs.Pieces.{joined}
+use Rattle.feed_resolver_reply.specs.Replies.{ReplyValue, refusal, reply_with}
+use Rattle.feed_resolver_reply.specs.declared.status.Status.{Status}
+use Rattle.feed_resolver_reply.specs.declared.status.Status.TheVariants as status
+use Rattle.feed_resolver_hits.specs.AnswerJson.{answer_json}
+use Rattle.feed_resolver_hits.specs.Asks.{AskValue, names_work}
+use Rattle.feed_resolver_hits.specs.Tallies.{tally_of}
+use Rattle.feed_resolver_page.specs.CitationPage.{citation_part}
+use Rattle.feed_resolver_page.specs.Frames.{page_top}
+use Rattle.feed_resolver_page.specs.HitsPage.{page_bottom, paragraph}
+use Rattle.feed_resolver_page.specs.declared.texts.Text.TheVariants as page
+
+-- the name of a reason
+abbrev pub reason_text : Refusal → List ℕ
+reason_text reason.Version = codes "Version"
+reason_text reason.OtherFormat = codes "OtherFormat"
+reason_text reason.NoIssn = codes "NoIssn"
+reason_text reason.NoIsbn = codes "NoIsbn"
+reason_text reason.TooMany = codes "TooMany"
+
+-- the query is read, and has no number that is looked up
+abbrev pub is_numberless : Refusal → Bool
+is_numberless reason.NoIssn = true
+is_numberless reason.NoIsbn = true
+is_numberless reason = false
+
+-- the citation of the query, and that nothing is looked up
+unfoldable pub nothing_part : site_file.SiteValue → AskValue → List ℕ
+nothing_part site ask = citation_part site ask ++ paragraph site page.NoNumber
+
+-- the page with the form, for a query
+unfoldable pub nothing_page : site_file.SiteValue → List ℕ → AskValue → List ℕ
+nothing_page site query ask = page_top site page.NothingToLookUp ++ (nothing_part site ask ++ page_bottom site query)
+
+unfoldable pub nothing_text : Refusal → List ℕ
+nothing_text why = joined (codes "nothing to look up: " ∷ reason_text why ∷ codes "\n" ∷ [])
+
+unfoldable pub nothing_json : AskValue → Refusal → List ℕ
+nothing_json ask why = answer_json ask (reason_text why) (tally_of [])
+
+-- the body for such a query, by whether its citation names a work
+unfoldable pub numberless_body : site_file.SiteValue → List ℕ → Bool → Representation → AskValue → Refusal → List ℕ
+numberless_body site query named Html ask why = nothing_page site query ask
+numberless_body site query true Text ask why = nothing_text why
+numberless_body site query true Json ask why = nothing_json ask why
+numberless_body site query false Text ask why = fault_body Text (reason_text why)
+numberless_body site query false Json ask why = fault_body Json (reason_text why)
+
+-- the status of the reply to such a query
+abbrev pub numberless_status : Bool → Status → Status
+numberless_status named code = if named then code else status.BadRequest
+
+-- the reply to a query for which nothing is looked up: with this status, if it has no number and its citation names a work;
+-- otherwise it is rejected
+abbrev pub unasked_reply : site_file.SiteValue → List ℕ → Status → Representation → AskValue → Refusal → ReplyValue
+unasked_reply site query code representation ask why =
+    if is_numberless why
+    then reply_with (numberless_status (names_work ask.citation) code) representation
+    (numberless_body site query (names_work ask.citation) representation ask why)
+    else refusal status.BadRequest representation (reason_text why)

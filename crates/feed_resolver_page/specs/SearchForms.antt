@@ -1,0 +1,45 @@
+-- The form in which a reader asks for a journal or a book.
+use Rattle.std.specs.Prelude.{ℕ, ◌||◌, if◌then◌else◌, List, [], ◌∷◌, ◌++◌, codes}
+use Rattle.form_urlencoded.specs.Form as form
+use Rattle.feed_answer.specs.Pairs.{has_key}
+use Rattle.feed_site.specs.Site as site_file
+use Rattle.feed_resolver_reply.specs.Escapes.{escaped}
+use Rattle.feed_resolver_reply.specs.Pieces.{joined}
+use Rattle.feed_resolver_page.specs.Texts.{text_of}
+use Rattle.feed_resolver_page.specs.declared.texts.Text.{Text}
+use Rattle.feed_resolver_page.specs.declared.texts.Text.TheVariants as text
+use Rattle.feed_resolver_page.specs.declared.form.TheConstants.{FORM_START}
+
+-- the first value with one of two keys, or nothing
+abbrev pub value_at : List ℕ → List ℕ → List (List ℕ × List ℕ) → List ℕ
+value_at key other [] = []
+value_at key other (pair ∷ pairs) = if has_key key pair || has_key other pair then pair.1 else value_at key other pairs
+
+-- a field with its label and a value
+unfoldable pub field : site_file.SiteValue → Text → List ℕ → List ℕ → List ℕ
+field site label key value = joined (
+    codes "<label for=\"" ∷ key ∷ codes "\">" ∷ escaped (text_of site label) ∷ codes "</label>\n<input id=\"" ∷ key
+    ∷ codes "\" name=\"rft." ∷ key ∷ codes "\" value=\"" ∷ escaped value ∷ codes "\">\n" ∷ [])
+
+-- the fields for an ISSN and an ISBN
+unfoldable pub first_fields : site_file.SiteValue → List (List ℕ × List ℕ) → List ℕ
+first_fields site pairs =
+    field site text.FieldIssn (codes "issn") (value_at (codes "rft.issn") (codes "issn") pairs)
+    ++ field site text.FieldIsbn (codes "isbn") (value_at (codes "rft.isbn") (codes "isbn") pairs)
+
+-- those for a date and a volume
+unfoldable pub last_fields : site_file.SiteValue → List (List ℕ × List ℕ) → List ℕ
+last_fields site pairs =
+    field site text.FieldDate (codes "date") (value_at (codes "rft.date") (codes "date") pairs)
+    ++ field site text.FieldVolume (codes "volume") (value_at (codes "rft.volume") (codes "volume") pairs)
+
+unfoldable pub fields : site_file.SiteValue → List (List ℕ × List ℕ) → List ℕ
+fields site pairs = FORM_START.now ++ (first_fields site pairs ++ last_fields site pairs)
+
+unfoldable pub form_end : List ℕ → List ℕ
+form_end label = joined (
+    codes "<button type=\"submit\">" ∷ escaped label ∷ codes "</button>\n</form>\n" ∷ [])
+
+-- the form, with the values that a query has for its fields
+unfoldable pub search_form : site_file.SiteValue → List ℕ → List ℕ
+search_form site query = fields site (form.parse query) ++ form_end (text_of site text.Search)

@@ -1,0 +1,248 @@
+//! Writes the card of a hit.
+ghost use Rattle.std.specs.Prelude.{◌≡◌, ◌++◌, OnOk};
+ghost use Rattle.feed_resolver_page.specs.Cards.{availability_part, availability_text, button, button_to, card, card_end};
+ghost use Rattle.feed_resolver_page.specs.Cards.{card_top, fit_class, fit_part, fit_text, host_text, limit_part, name_part};
+ghost use Rattle.feed_resolver_page.specs.Cards.{status_part, title_part};
+
+use crate::coverage::put_coverage;
+use crate::texts::{Text, text_of};
+use feed_answer::Grade;
+use feed_embargo::Availability;
+use feed_kbart::Row;
+use feed_pieces::put_all;
+use feed_resolver_hits::{ReleaseHit, is_link};
+use feed_resolver_reply::{Piece, put};
+use feed_site::SiteFile;
+use std::alloc::AllocError;
+
+// The beginning of a button, the part of it that is for readers who do not see the card, and its end.
+const BUTTON: &[u8] = b"<a class=\"go\" href=\"";
+
+const HIDDEN: &[u8] = b"<span class=\"hidden\">, <bdi>";
+
+const BUTTON_END: &[u8] = b"</bdi></span></a>\n";
+
+// The beginning of what a row covers, and the end of a card.
+const COVERAGE: &[u8] = b"<div class=\"more\">";
+
+const CARD_END: &[u8] = b"</div>\n</li>\n";
+
+/// How a card fits what is asked for.
+#[derive(Clone, Copy, Debug, PartialEq, Eq)]
+pub enum Fit {
+    /// A hit of this grade.
+    Hit(Grade),
+    /// A title that is asked for, whose coverage does not match.
+    Outside,
+}
+
+// Returns the name of the class that gives a fit its colour.
+fn fit_class(fit: Fit) -> &'static [u8]
+    ensures { result.now ≡ fit_class fit }
+{
+    match fit {
+        Fit::Hit(Grade::Inside) => b"inside",
+        _ => b"partly",
+    }
+}
+
+fn fit_text(fit: Fit) -> Text
+    ensures { result ≡ fit_text fit }
+{
+    match fit {
+        Fit::Hit(Grade::Inside) => Text::Inside,
+        Fit::Hit(Grade::Overlap) => Text::Overlap,
+        Fit::Hit(Grade::Untested) => Text::Untested,
+        Fit::Outside => Text::Outside,
+    }
+}
+
+#[tactic(auto, unfolding(crate::specs::Cards::fit_part))]
+fn put_fit(out: &mut Vec<u8>, site: &SiteFile, fit: Fit) -> Result<(), AllocError>
+    ensures { OnOk result (out.new.items ≡ out.old.items ++ fit_part site.now fit) }
+{
+    put_all(
+        out,
+        &[
+            Piece::Plain(b"<p class=\"fit "),
+            Piece::Plain(fit_class(fit)),
+            Piece::Plain(b"\">"),
+            Piece::Escaped(text_of(site, fit_text(fit))),
+            Piece::Plain(b"</p>\n"),
+        ],
+    )
+}
+
+// Returns what an availability says of a hit that is not open to readers, or not all of it.
+fn availability_text(availability: Availability) -> Option<Text>
+    ensures { result ≡ availability_text availability }
+{
+    match availability {
+        Availability::Partly => Some(Text::Partly),
+        Availability::Embargoed => Some(Text::Embargoed),
+        Availability::Available | Availability::NotCompared => None,
+    }
+}
+
+#[tactic(auto, unfolding(crate::specs::Cards::limit_part))]
+fn put_limit<'a>(out: &mut Vec<u8>, words: &'a [u8]) -> Result<(), AllocError>
+    ensures { OnOk result (out.new.items ≡ out.old.items ++ limit_part words.now) }
+{
+    put_all(
+        out,
+        &[
+            Piece::Plain(b"<p class=\"fit partly\">"),
+            Piece::Escaped(words),
+            Piece::Plain(b"</p>\n"),
+        ],
+    )
+}
+
+#[tactic(auto, unfolding(crate::specs::Cards::availability_part))]
+fn put_availability(
+    out: &mut Vec<u8>,
+    site: &SiteFile,
+    availability: Availability,
+) -> Result<(), AllocError>
+    ensures { OnOk result (out.new.items ≡ out.old.items ++ availability_part site.now availability) }
+{
+    match availability_text(availability) {
+        Some(name) => put_limit(out, text_of(site, name)),
+        None => Ok(()),
+    }
+}
+
+#[tactic(auto, unfolding(crate::specs::Cards::status_part))]
+fn put_status(
+    out: &mut Vec<u8>,
+    site: &SiteFile,
+    fit: Fit,
+    availability: Availability,
+) -> Result<(), AllocError>
+    ensures { OnOk result (out.new.items ≡ out.old.items ++ status_part site.now fit availability) }
+{
+    put_fit(out, site, fit)?;
+    put_availability(out, site, availability)
+}
+
+// Returns the host of a URL, or nothing if it has none.
+fn host_text(url: &[u8]) -> &[u8]
+    ensures { result.now ≡ host_text url.now }
+{
+    let _ = url;
+    b""
+}
+
+// Writes the button that leads to a URL, with the host of a platform.
+#[tactic(auto, unfolding(crate::specs::Cards::button_to))]
+fn put_button_to<'a>(
+    out: &mut Vec<u8>,
+    link: &'a [u8],
+    words: &'a [u8],
+    host: &'a [u8],
+    package: &'a [u8],
+) -> Result<(), AllocError>
+    ensures { OnOk result (out.new.items
+        ≡ out.old.items ++ button_to link.now words.now host.now «package».now) }
+{
+    put_all(
+        out,
+        &[
+            Piece::Plain(BUTTON),
+            Piece::Escaped(link),
+            Piece::Plain(b"\">"),
+            Piece::Escaped(words),
+            Piece::Plain(b" "),
+            Piece::Escaped(host),
+            Piece::Plain(HIDDEN),
+            Piece::Escaped(package),
+            Piece::Plain(BUTTON_END),
+        ],
+    )
+}
+
+// Writes the button of a hit, if its link is safe.
+#[tactic(auto, unfolding(crate::specs::Cards::button))]
+fn put_button(out: &mut Vec<u8>, site: &SiteFile, found: &ReleaseHit<'_>) -> Result<(), AllocError>
+    ensures { OnOk result (out.new.items ≡ out.old.items ++ button site.now found.now) }
+{
+    let link = found.link(*out.allocator())?;
+    if !is_link(&link) {
+        return Ok(());
+    }
+    let host = host_text(found.row().url());
+    let words = text_of(site, Text::ReadAt);
+    put_button_to(out, &link, words, host, found.name().package())
+}
+
+#[tactic(auto, unfolding(crate::specs::Cards::name_part))]
+fn put_name<'a>(out: &mut Vec<u8>, package: &'a [u8]) -> Result<(), AllocError>
+    ensures { OnOk result (out.new.items ≡ out.old.items ++ name_part «package».now) }
+{
+    put_all(
+        out,
+        &[
+            Piece::Plain(b"<li>\n<p class=\"name\"><bdi>"),
+            Piece::Escaped(package),
+            Piece::Plain(b"</bdi></p>\n"),
+        ],
+    )
+}
+
+// Writes the title of a row, unless it is the one that is cited.
+#[tactic(auto, unfolding(crate::specs::Cards::title_part))]
+fn put_title<'a>(out: &mut Vec<u8>, title: &'a [u8], cited: &[u8]) -> Result<(), AllocError>
+    ensures { OnOk result (out.new.items ≡ out.old.items ++ title_part title.now cited.now) }
+{
+    if title.is_empty() || title == cited {
+        return Ok(());
+    }
+    put_all(
+        out,
+        &[
+            Piece::Plain(b"<p class=\"title\"><bdi>"),
+            Piece::Escaped(title),
+            Piece::Plain(b"</bdi></p>\n"),
+        ],
+    )
+}
+
+#[tactic(auto, unfolding(crate::specs::Cards::card_top))]
+fn put_top(
+    out: &mut Vec<u8>,
+    site: &SiteFile,
+    cited: &[u8],
+    found: &ReleaseHit<'_>,
+) -> Result<(), AllocError>
+    ensures { OnOk result (out.new.items ≡ out.old.items ++ card_top site.now cited.now found.now) }
+{
+    put_name(out, found.name().package())?;
+    put_title(out, found.row().title(), cited)?;
+    put_button(out, site, found)
+}
+
+#[tactic(auto, unfolding(crate::specs::Cards::card_end))]
+fn put_end(out: &mut Vec<u8>, site: &SiteFile, row: &Row) -> Result<(), AllocError>
+    ensures { OnOk result (out.new.items ≡ out.old.items ++ card_end site.now row.now) }
+{
+    put(out, COVERAGE)?;
+    put_coverage(out, site, row)?;
+    put(out, CARD_END)
+}
+
+/// Writes the card of a hit: its package, its title if that is not the one that is cited, the button, how it fits, and
+/// what it covers.
+#[tactic(auto, unfolding(crate::specs::Cards::card))]
+pub(crate) fn put_card(
+    out: &mut Vec<u8>,
+    site: &SiteFile,
+    cited: &[u8],
+    fit: Fit,
+    found: &ReleaseHit<'_>,
+) -> Result<(), AllocError>
+    ensures { OnOk result (out.new.items ≡ out.old.items ++ card site.now cited.now fit found.now) }
+{
+    put_top(out, site, cited, found)?;
+    put_status(out, site, fit, found.availability())?;
+    put_end(out, site, found.row())
+}

@@ -1,0 +1,99 @@
+//! Writes dates in words.
+ghost use Rattle.std.specs.Prelude.{◌≡◌, ◌++◌, OnOk};
+ghost use Rattle.feed_resolver_page.specs.Dates.{date_words, day_words, early_month, marked, month_of, month_words};
+
+use crate::texts::{Text, text_of};
+use feed_pieces::put_all;
+use feed_resolver_reply::Piece;
+use feed_site::SiteFile;
+use std::alloc::AllocError;
+
+// Returns the month with a number from 01 to 09, by its last digit.
+fn early_month(ones: u8) -> Text
+    ensures { result ≡ early_month ones }
+{
+    match ones {
+        b'1' => Text::January,
+        b'2' => Text::February,
+        b'3' => Text::March,
+        b'4' => Text::April,
+        b'5' => Text::May,
+        b'6' => Text::June,
+        b'7' => Text::July,
+        b'8' => Text::August,
+        _ => Text::September,
+    }
+}
+
+fn month_of(tens: u8, ones: u8) -> Text
+    ensures { result ≡ month_of tens ones }
+{
+    if tens == b'0' {
+        return early_month(ones);
+    }
+    match ones {
+        b'0' => Text::October,
+        b'1' => Text::November,
+        _ => Text::December,
+    }
+}
+
+#[tactic(auto, unfolding(crate::specs::Dates::marked))]
+fn put_marked<'a>(out: &mut Vec<u8>, site: &'a SiteFile, digits: &'a [u8]) -> Result<(), AllocError>
+    ensures { OnOk result (out.new.items ≡ out.old.items ++ marked site.now digits.now) }
+{
+    put_all(
+        out,
+        &[
+            Piece::Plain(digits),
+            Piece::Escaped(text_of(site, Text::DayMark)),
+        ],
+    )
+}
+
+#[tactic(auto, unfolding(crate::specs::Dates::day_words))]
+fn put_day(out: &mut Vec<u8>, site: &SiteFile, tens: u8, ones: u8) -> Result<(), AllocError>
+    ensures { OnOk result (out.new.items ≡ out.old.items ++ day_words site.now tens ones) }
+{
+    if tens != b'0' {
+        return put_marked(out, site, &[tens, ones]);
+    }
+    if ones == b'1' {
+        return put_all(out, &[Piece::Escaped(text_of(site, Text::FirstDay))]);
+    }
+    put_marked(out, site, &[ones])
+}
+
+#[tactic(auto, unfolding(crate::specs::Dates::month_words))]
+fn put_month<'a>(
+    out: &mut Vec<u8>,
+    site: &'a SiteFile,
+    month: Text,
+    year: &'a [u8],
+) -> Result<(), AllocError>
+    ensures { OnOk result (out.new.items ≡ out.old.items ++ month_words site.now month year.now) }
+{
+    put_all(
+        out,
+        &[
+            Piece::Plain(b" "),
+            Piece::Escaped(text_of(site, month)),
+            Piece::Plain(b" "),
+            Piece::Plain(year),
+        ],
+    )
+}
+
+/// Writes a date, `YYYY-MM-DD`, in words: the day, the name of the month, and the year.
+#[tactic(auto, unfolding(crate::specs::Dates::date_words))]
+pub(crate) fn put_date(out: &mut Vec<u8>, site: &SiteFile, date: &[u8]) -> Result<(), AllocError>
+    ensures { OnOk result (out.new.items ≡ out.old.items ++ date_words site.now date.now) }
+{
+    match date {
+        [a, b, c, d, _, e, f, _, i, j] => {
+            put_day(out, site, *i, *j)?;
+            put_month(out, site, month_of(*e, *f), &[*a, *b, *c, *d])
+        }
+        _ => Ok(()),
+    }
+}

@@ -1,0 +1,165 @@
+//! The replies to queries for which nothing is looked up.
+ghost use Rattle.std.specs.Prelude.{◌≡◌, ◌++◌, IfOk, OnOk, true, false};
+ghost use Rattle.feed_resolver_request.specs.declared.representation.Representation.TheVariants as representation;
+ghost use Rattle.feed_resolver_reply.specs.Replies.{reply_with};
+ghost use Rattle.feed_resolver_page.specs.QueryRefusals.{is_numberless, nothing_json, nothing_page, nothing_part};
+ghost use Rattle.feed_resolver_page.specs.QueryRefusals.{nothing_text, numberless_body, numberless_status, reason_text, unasked_reply};
+
+use crate::citation_page::put_citation;
+use crate::frame::put_page_top;
+use crate::hits_page::{put_bottom, put_paragraph};
+use crate::texts::Text;
+use feed_openurl::Refusal;
+use feed_pieces::put_all;
+use feed_resolver_hits::{Ask, Tally, names_work, put_answer_json};
+use feed_resolver_reply::{Piece, Reply, Status, put_fault, refusal};
+use feed_resolver_request::Representation;
+use feed_site::SiteFile;
+use std::alloc::{AllocError, Global};
+
+fn reason_text(reason: Refusal) -> &'static [u8]
+    ensures { result.now ≡ reason_text reason }
+{
+    match reason {
+        Refusal::Version => b"Version",
+        Refusal::OtherFormat => b"OtherFormat",
+        Refusal::NoIssn => b"NoIssn",
+        Refusal::NoIsbn => b"NoIsbn",
+        Refusal::TooMany => b"TooMany",
+    }
+}
+
+fn is_numberless(reason: Refusal) -> bool
+    ensures { result ≡ is_numberless reason }
+{
+    matches!(reason, Refusal::NoIssn | Refusal::NoIsbn)
+}
+
+#[tactic(auto, unfolding(crate::specs::QueryRefusals::nothing_part))]
+fn put_nothing(out: &mut Vec<u8>, site: &SiteFile, ask: &Ask) -> Result<(), AllocError>
+    ensures { OnOk result (out.new.items ≡ out.old.items ++ nothing_part site.now ask.now) }
+{
+    put_citation(out, site, ask)?;
+    put_paragraph(out, site, Text::NoNumber)
+}
+
+#[tactic(auto, unfolding(crate::specs::QueryRefusals::nothing_page))]
+fn put_page(
+    alloc: Global,
+    out: &mut Vec<u8>,
+    site: &SiteFile,
+    text: &[u8],
+    ask: &Ask,
+) -> Result<(), AllocError>
+    ensures { OnOk result (out.new.items ≡ out.old.items ++ nothing_page site.now text.now ask.now) }
+{
+    put_page_top(out, site, Text::NothingToLookUp)?;
+    put_nothing(out, site, ask)?;
+    put_bottom(alloc, out, site, text)
+}
+
+#[tactic(auto, unfolding(crate::specs::QueryRefusals::nothing_text))]
+fn put_text(out: &mut Vec<u8>, reason: Refusal) -> Result<(), AllocError>
+    ensures { OnOk result (out.new.items ≡ out.old.items ++ nothing_text reason) }
+{
+    put_all(
+        out,
+        &[
+            Piece::Plain(b"nothing to look up: "),
+            Piece::Plain(reason_text(reason)),
+            Piece::Plain(b"\n"),
+        ],
+    )
+}
+
+#[tactic(auto, unfolding(crate::specs::QueryRefusals::nothing_json))]
+fn put_json(alloc: Global, out: &mut Vec<u8>, ask: &Ask, reason: Refusal) -> Result<(), AllocError>
+    ensures { OnOk result (out.new.items ≡ out.old.items ++ nothing_json ask.now reason) }
+{
+    let tally = Tally::new(alloc);
+    put_answer_json(out, ask, reason_text(reason), &tally)
+}
+
+#[tactic(auto, unfolding(crate::specs::QueryRefusals::numberless_body))]
+fn put_numberless(
+    alloc: Global,
+    out: &mut Vec<u8>,
+    site: &SiteFile,
+    text: &[u8],
+    named: bool,
+    representation: Representation,
+    ask: &Ask,
+    reason: Refusal,
+) -> Result<(), AllocError>
+    ensures { OnOk result (out.new.items ≡ out.old.items ++ numberless_body site.now text.now named representation ask.now reason) }
+{
+    match representation {
+        Representation::Html => put_page(alloc, out, site, text, ask),
+        Representation::Text if named => put_text(out, reason),
+        Representation::Json if named => put_json(alloc, out, ask, reason),
+        _ => put_fault(out, representation, reason_text(reason)),
+    }
+}
+
+fn numberless_reply(
+    alloc: Global,
+    site: &SiteFile,
+    text: &[u8],
+    status: Status,
+    representation: Representation,
+    ask: &Ask,
+    reason: Refusal,
+    named: bool,
+) -> Result<Reply, AllocError>
+    ensures { IfOk result (λ reply. reply
+        ≡ reply_with (numberless_status named status) representation
+        (numberless_body site.now text.now named representation ask.now reason)) }
+{
+    let status = if named { status } else { Status::BadRequest };
+    let mut body = Vec::new(alloc);
+    put_numberless(
+        alloc,
+        &mut body,
+        site,
+        text,
+        named,
+        representation,
+        ask,
+        reason,
+    )?;
+    Ok(Reply::new(status, representation, body))
+}
+
+/// Returns the reply to a query for which nothing is looked up: with this status, if it has no ISSN and no ISBN and its
+/// citation names a work. Otherwise the query is rejected.
+pub fn unasked_reply(
+    alloc: Global,
+    site: &SiteFile,
+    text: &[u8],
+    status: Status,
+    representation: Representation,
+    ask: &Ask,
+    reason: Refusal,
+) -> Result<Reply, AllocError>
+    ensures { IfOk result (λ reply. reply ≡ unasked_reply site.now text.now status representation ask.now reason) }
+{
+    if is_numberless(reason) {
+        let named = names_work(&ask.citation);
+        return numberless_reply(
+            alloc,
+            site,
+            text,
+            status,
+            representation,
+            ask,
+            reason,
+            named,
+        );
+    }
+    refusal(
+        alloc,
+        Status::BadRequest,
+        representation,
+        reason_text(reason),
+    )
+}
