@@ -249,7 +249,8 @@ nothing_next h n file max range is least fill next = by (subst (IsNextRange h n 
 -- what the next piece of the file is answered
 pub piece_fills : (h : History) (n : Name) (file : List ℕ) (piece first last : ℕ) (b : List ℕ) (a : Answer) → IsFetchable file → IsAskedNext n file piece first last h
     → b ≡ slice_range file first (last + 1) → IsRight h (Piece n first (Some (length file)) b) a
-    → ((((missing : ℕ) × (a ≡ Ok (replies.Stored missing))) ⊎ (a ≡ Ok replies.Activated)) × IsFilledWith n file first last h ((Piece n first (Some (length file)) b, a) ∷ h)) ⊎ IsRefusedFor a
+    → ((((missing : ℕ) × (a ≡ Ok (replies.Stored missing))) ⊎ (a ≡ Ok replies.Activated))
+    × IsFilledWith n file first last h ((Piece n first (Some (length file)) b, a) ∷ h)) ⊎ IsRefusedFor a
 piece_fills h n file piece first last b a fit asked is right = by right
   where
     len : length b ≡ last + 1 - first

@@ -1,4 +1,4 @@
--- The exchanges of a fetch with an honest server, whoever runs it.
+-- The exchanges of a fetch with an honest server, for any caller of the fetch.
 use Rattle.std.specs.Prelude.{◌≡◌, ◌≤◌, ◌+◌, ℕ, zero, suc, List, length, None, IsTrue, Result, Ok, Err}
 use Rattle.std.specs.Int.{div_ceil}
 use Rattle.feed_names.specs.ReleaseName.{Name}

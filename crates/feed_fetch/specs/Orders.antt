@@ -1,4 +1,4 @@
--- What a fetch from files in memory is asked for.
+-- The release that a fetch from files in memory is to have.
 use Rattle.std.specs.Prelude.{◌≤◌, IsTrue}
 use Rattle.feed_http.specs.RequestTexts.{is_host}
 use Rattle.feed_limits.specs.Limits.{piece_limit}

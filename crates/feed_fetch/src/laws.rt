@@ -10,7 +10,7 @@ pub fn header_is_fetchable()
     ensures { IsFetchable header_alone }
 {}
 
-/// A fetch ends, for any caller of `Fetch::next` and `Fetch::take`. If each exchange brings the reply of a server that
+/// A fetch ends, for any caller of `Fetch::next` and `Fetch::take`. If each exchange gets the reply of a server that
 /// has the file (`D` states the replies of the peer), `next` returns `Done` after one exchange for the length and one
 /// for each piece of each gap, and the release is then reported. Only an excused stop ends the fetch before.
 pub fn fetch_ends<D: Dial>()

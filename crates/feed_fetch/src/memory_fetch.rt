@@ -21,7 +21,7 @@ use std::alloc::Global;
 use std::io::Write;
 use std::marker::Brand;
 
-/// What to fetch: the release, from which host, and by requests for how many places at most.
+/// The release to fetch, the host, and for how many places a request may ask.
 #[derive(Clone, Copy)]
 pub struct Order<'a> {
     pub host: &'a [u8],

@@ -36,6 +36,14 @@ AsksForReport bytes = (head : RequestHead) × BeginsWith bytes head × (is_some 
 abbrev pub AsksForNoReport : List ℕ → Type 0
 AsksForNoReport bytes = HasNoHead bytes ⊎ ((head : RequestHead) × BeginsWith bytes head × (report_of head ≡ None))
 
+-- whether a client may have a report: if it is on the same machine, or reports are open to all
+abbrev pub may_report : Bool → Bool → Bool
+may_report is_local is_open = is_local || is_open
+
+-- the client may not have a report, or the bytes do not ask for one
+abbrev pub GetsNoReport : Bool → Bool → List ℕ → Type 0
+GetsNoReport is_local is_open bytes = (may_report is_local is_open ≡ false) ⊎ AsksForNoReport bytes
+
 -- what the reply says, if the method is allowed and the node has an active release, or not
 abbrev pub kind_of : Bool → Bool → Report → ReportKind
 kind_of false ready asked = kind.BadMethod

@@ -13,6 +13,6 @@ mod target;
 
 pub use exchange::{put_exchange, record_exchange};
 pub use log_line::{Exchange, LogPolicy};
-pub use report::{Report, asks_for_report};
+pub use report::{Report, asks_for_report, gets_report};
 pub use report_reply::respond_about_node;
 pub use report_text::{ReportKind, ReportReply};

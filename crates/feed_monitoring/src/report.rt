@@ -1,8 +1,9 @@
 //! The report that a request asks of a node.
-ghost use Rattle.std.specs.Prelude.{◌≡◌, MatchBool};
+ghost use Rattle.std.specs.Prelude.{◌≡◌, MatchBool, true};
 ghost use Rattle.httparse.specs.Grammar.{RequestHead};
 ghost use Rattle.feed_http_heads.specs.Requests.{IsInBuffer, HasHead};
-ghost use Rattle.feed_monitoring.specs.Reports.{report_at, report_of, AsksForReport, AsksForNoReport};
+ghost use Rattle.feed_monitoring.specs.Reports.{may_report, report_at, report_of};
+ghost use Rattle.feed_monitoring.specs.Reports.{AsksForReport, AsksForNoReport, GetsNoReport};
 
 use feed_http_heads::{FIELD_LIMIT, Request, origin_form};
 use feed_resolver_request::{find_request, path_in};
@@ -54,4 +55,19 @@ pub fn asks_for_report(bytes: &[u8]) -> bool
         Some(request) => report_of(&request).is_some(),
         None => false,
     }
+}
+
+// Returns whether a client may have reports: one on the same machine, and each one if reports are open to all.
+fn may_report(is_local: bool, is_open: bool) -> bool
+    ensures { result ≡ may_report is_local is_open }
+{
+    is_local || is_open
+}
+
+/// Returns whether a request gets a report: its client may have it, and the request asks for one.
+pub fn gets_report(is_local: bool, is_open: bool, bytes: &[u8]) -> bool
+    ensures allowed { MatchBool result (may_report is_local is_open ≡ true) (GetsNoReport is_local is_open bytes.now) }
+    ensures asked { result ≡ true → AsksForReport bytes.now }
+{
+    may_report(is_local, is_open) && asks_for_report(bytes)
 }

@@ -1,11 +1,13 @@
 //! The state machine of one connection of a node, without its socket.
-ghost use Rattle.std.specs.Prelude.{◌≡◌, ◌≢◌, ◌&&◌, not, true, false, ◌==◌, ◌+◌, ◌<◌, ◌≤◌};
+ghost use Rattle.std.specs.Prelude.{◌≡◌, ◌≢◌, ◌&&◌, ◌==◌, ◌+◌, ◌<◌, ◌≤◌};
+ghost use Rattle.std.specs.Prelude.{not, true, false};
 ghost use Rattle.std.specs.Prelude.{List, ◌∷◌, [], length, take, drop, vec_len};
 ghost use Rattle.feed_node_connection.specs.Events.{Event, Received, Sent, Resumed, Elapsed, sent_len};
 
 use crate::head_state::{AfterReply, FoundRequest, HeadState, after_reply, head_state};
 use crate::respond::{
-    BODY_LIMIT, Reply, ReplySummary, Respond, RespondFault, interim_reply, unavailable,
+    BODY_LIMIT, IncomingRequest, Reply, ReplySummary, Respond, RespondFault, interim_reply,
+    unavailable,
 };
 use feed_http_heads::HEAD_LIMIT;
 use std::alloc::Global;
@@ -310,9 +312,12 @@ impl Connection {
         ensures limits { self.new.limits ≡ self.old.limits }
     {
         let size = head_len + body_len;
-        let head = &self.received[..head_len];
-        let body = &self.received[head_len..size];
-        match responder.respond(alloc, head, body, persists) {
+        let request = IncomingRequest {
+            head: &self.received[..head_len],
+            body: &self.received[head_len..size],
+            persists,
+        };
+        match responder.respond(alloc, &request) {
             Ok(reply) => self.begin_reply(reply, size, after_reply(persists)),
             Err(fault) => self.refuse(alloc, size, fault),
         }

@@ -12,6 +12,8 @@ mod streams;
 pub use connection::{Connection, MIN_PROGRESS, Phase, TimeLimits, Wants};
 pub use head_state::AfterReply;
 pub use laws::{all_is_served, requests_are_unique, state_is_right};
-pub use respond::{BODY_LIMIT, CONTINUE, Reply, ReplySummary, Respond, RespondFault, UNAVAILABLE};
+pub use respond::{
+    BODY_LIMIT, CONTINUE, IncomingRequest, Reply, ReplySummary, Respond, RespondFault, UNAVAILABLE,
+};
 pub use sides::{Reading, Receive, Transmit, Writing};
 pub use streams::{Progress, Share, TURN_SHARE, advance};

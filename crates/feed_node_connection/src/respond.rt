@@ -69,6 +69,17 @@ impl Reply {
     }
 }
 
+/// A request, as a reply is made to it.
+#[derive(Clone, Copy)]
+pub struct IncomingRequest<'a> {
+    /// The head of a request, or bytes that are not one, whatever follows.
+    pub head: &'a [u8],
+    /// The whole body after the head, or nothing if none was received.
+    pub body: &'a [u8],
+    /// Whether the connection persists after the reply.
+    pub persists: bool,
+}
+
 /// Makes the replies of a node.
 pub trait Respond {
     ghost use Rattle.std.specs.Prelude.{◌≡◌, ◌≤◌, List, ℕ, Bool, true, Option, Some, None, IfOk, IfErr};
@@ -91,20 +102,16 @@ pub trait Respond {
         ensures wanted { (head : RequestHead) → HasHead request.now head → result ≡ wanted self.now head }
         ensures limit { result ≤ BODY_LIMIT };
 
-    /// Returns the reply to the head of a request and the body after it, or to bytes that are not the head of a
-    /// request, whatever follows. The body is whole, or empty if none was received. The reply says `Connection: close`
-    /// exactly if the connection does not persist (RFC 9112, section 9.6).
-    fn respond(
-        &self,
-        alloc: Global,
-        head: &[u8],
-        body: &[u8],
-        persists: bool,
-    ) -> Result<Reply, RespondFault>
-        requires allowed { persists ≡ true → IsPersistent (wanted self.now) head.now body.now }
-        ensures reply { IfOk result (λ reply. replies self.now head.now body.now persists (Some reply.bytes.items)) }
-        ensures says { IfOk result (λ reply. SaysWhetherItKeeps persists reply.bytes.items) }
-        ensures none { IfErr result (λ fault. replies self.now head.now body.now persists None) };
+    /// Returns the reply to a request. The reply says `Connection: close` exactly if the connection does not persist
+    /// (RFC 9112, section 9.6).
+    fn respond(&self, alloc: Global, request: &IncomingRequest<'_>) -> Result<Reply, RespondFault>
+        requires allowed { request.now.persists ≡ true
+            → IsPersistent (wanted self.now) request.now.head.now request.now.body.now }
+        ensures reply { IfOk result (λ reply.
+            replies self.now request.now.head.now request.now.body.now request.now.persists (Some reply.bytes.items)) }
+        ensures says { IfOk result (λ reply. SaysWhetherItKeeps request.now.persists reply.bytes.items) }
+        ensures none { IfErr result (λ fault.
+            replies self.now request.now.head.now request.now.body.now request.now.persists None) };
 }
 
 /// Returns the interim reply.

@@ -5,3 +5,4 @@ pub mod Moments
 pub mod Shares
 pub mod Asked
 pub mod Later
+pub mod Tabled

@@ -66,7 +66,7 @@ are_both replies (Continued ∷ later) earlier first second = are_both replies l
 are_both replies (Resumed idle ∷ later) earlier first second = are_both replies later earlier first second
 are_both replies (Elapsed millis ∷ later) earlier first second = are_both replies later earlier first second
 
--- without room there is no reply
+-- a reply is made only if there is room for one
 pub from_room : (wanted : RequestHead → ℕ) (has_room : Bool) (some : List ℕ → List ℕ → Bool → Option (List ℕ) → Type 0)
     (text : List ℕ → List ℕ → Bool → List ℕ → Type 0)
     → ((head body : List ℕ) (keeps : Bool) (reply : Option (List ℕ)) → some head body keeps reply → IfSome reply (text head body keeps))

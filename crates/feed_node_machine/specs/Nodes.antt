@@ -82,6 +82,6 @@ module _ {T K S : Type 0} {k : Ghosts K} (wanted : S → RequestHead → ℕ)
   abbrev pub KeepsHistory : NodeMachine T K S k → NodeMachine T K S k → Type 0
   KeepsHistory old new = (history : List NodeEvent) → HasHistory old history → HasHistory new history
 
-  -- each history that the node had goes on with some events to one that it has
+  -- each history that the node had continues with some events to one that it has
   pub record IsLater (old new : NodeMachine T K S k) : Type 0 where
     pub history : (history : List NodeEvent) → HasHistory old history → (later : List NodeEvent) × HasHistory new (later ++ history)

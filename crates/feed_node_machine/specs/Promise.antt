@@ -82,7 +82,7 @@ module _ {T K S : Type 0} {k : Ghosts K} (wanted : S → RequestHead → ℕ)
   abbrev pub NodeIsRight : NodeMachine T K S k → Type 0
   NodeIsRight node = (history : List NodeEvent) → HasHistory wanted replies node history → IsRightNode (rules_of wanted replies node) (option_copied node.token) history
 
-  -- each history that the node had goes on with some events to one that it has, after which it keeps the promise
+  -- each history that the node had continues with some events to one that it has, after which it keeps the promise
   abbrev pub IsRightAfter : NodeMachine T K S k → NodeMachine T K S k → Type 0
   IsRightAfter old new =
       (history : List NodeEvent) → HasHistory wanted replies old history

@@ -45,8 +45,8 @@ pub record IsShare (rules : Rules) (token : Option (List ℕ)) (key : ℕ) (shar
   pub day : today_in earlier ≡ Some today
   pub replied : AreReplies (replies_at rules (terms_with token is_busy is_local today) (feed_history earlier)) share
 
--- the bytes received on a connection with these events begin with the requests that had a reply, and the last of these has
--- the token and asks for this release
+-- the bytes received on a connection with these events begin with the requests that had a reply; the last request that had
+-- one has the token and asks for this release
 pub record IsAskedBy (token : Option (List ℕ)) (events : List Event) (bytes : List ℕ) (name : Name) : Type 0 where
   pub rest : List ℕ
   pub in_order : AreRequestsIn (received_bytes events) (requests_in events) rest

@@ -2,7 +2,7 @@
 use feed_embargo::Today;
 use feed_http_heads::Request;
 use feed_keep::Keep;
-use feed_node_connection::{BODY_LIMIT, Reply, Respond, RespondFault};
+use feed_node_connection::{BODY_LIMIT, IncomingRequest, Reply, Respond, RespondFault};
 use feed_releases::Feed;
 use feed_resolver_request::FetchPolicy;
 use std::alloc::{AllocError, Global};
@@ -44,21 +44,19 @@ pub trait FeedRespond {
         ensures wanted { (head : RequestHead) → HasHead request.now head → result ≡ wanted self.now head }
         ensures limit { result ≤ BODY_LIMIT };
 
-    /// Returns the reply to the head of a request and the body after it, or to bytes that are not the head of a
-    /// request, whatever follows. The reply says `Connection: close` exactly if the connection does not persist
+    /// Returns the reply to a request. The reply says `Connection: close` exactly if the connection does not persist
     /// (RFC 9112, section 9.6).
     fn respond<K: Keep + Drop>(
         &self,
         alloc: Global,
         occasion: &Occasion<'_, '_, K>,
-        head: &[u8],
-        body: &[u8],
-        persists: bool,
+        request: &IncomingRequest<'_>,
     ) -> Result<Reply, RespondFault>
-        requires allowed { persists ≡ true → IsPersistent (wanted self.now) head.now body.now }
-        ensures reply { IfOk result (λ reply.
-            IsReplyOn (replies self.now) occasion.now head.now body.now persists (Some reply.bytes.items)) }
-        ensures says { IfOk result (λ reply. SaysWhetherItKeeps persists reply.bytes.items) };
+        requires allowed { request.now.persists ≡ true
+            → IsPersistent (wanted self.now) request.now.head.now request.now.body.now }
+        ensures reply { IfOk result (λ reply. IsReplyOn (replies self.now) occasion.now
+            request.now.head.now request.now.body.now request.now.persists (Some reply.bytes.items)) }
+        ensures says { IfOk result (λ reply. SaysWhetherItKeeps request.now.persists reply.bytes.items) };
 
     /// Keeps what it computes of the active releases alone, which changes no reply. Returns whether that changed.
     ///
@@ -119,14 +117,7 @@ impl<'s, 'f, 't, K: Keep + Drop, S: FeedRespond> Respond for MomentResponder<'s,
         self.responder.body_len(request)
     }
 
-    fn respond(
-        &self,
-        alloc: Global,
-        head: &[u8],
-        body: &[u8],
-        persists: bool,
-    ) -> Result<Reply, RespondFault> {
-        self.responder
-            .respond(alloc, &self.occasion, head, body, persists)
+    fn respond(&self, alloc: Global, request: &IncomingRequest<'_>) -> Result<Reply, RespondFault> {
+        self.responder.respond(alloc, &self.occasion, request)
     }
 }

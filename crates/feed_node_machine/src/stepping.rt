@@ -12,6 +12,17 @@ use feed_node_connection::{Progress, Share};
 use feed_node_table::{Log, Outcome, Stream};
 use feed_resolver_request::{FetchPolicy, fetch_to_begin};
 
+/// A turn of a connection.
+#[derive(Clone, Copy)]
+pub struct Turn {
+    /// The key of the connection.
+    pub key: usize,
+    /// Whether the client is on the same machine.
+    pub is_local: bool,
+    /// The moment, in microseconds.
+    pub now: u64,
+}
+
 impl<'a, T: Stream, K: Keep + Drop, S: FeedRespond + Drop> NodeMachine<'a, T, K, S> {
     // Returns who may make the node fetch now: a fetch that was requested excludes another one, too.
     fn policy(&self) -> FetchPolicy<'a>
@@ -24,28 +35,21 @@ impl<'a, T: Stream, K: Keep + Drop, S: FeedRespond + Drop> NodeMachine<'a, T, K,
     }
 
     // Gives a connection a share of the turn.
-    fn serve(
-        &mut self,
-        key: usize,
-        is_local: bool,
-        buffer: &mut [u8],
-        now: u64,
-        share: &mut Share,
-    ) -> Progress
+    fn serve(&mut self, turn: Turn, buffer: &mut [u8], share: &mut Share) -> Progress
         ensures history { (history : List NodeEvent) → HasHistory S.wanted S.replies self.old history
-            → HasServed S.wanted S.replies key self.new history }
-        ensures rest { KeepsRest key self.old self.new }
+            → HasServed S.wanted S.replies turn.key self.new history }
+        ensures rest { KeepsRest turn.key self.old self.new }
     {
         let policy = self.policy();
         let moment = MomentResponder::new(
             &self.responder,
             &self.feed,
             policy,
-            is_local,
+            turn.is_local,
             self.today,
         );
         self.table
-            .advance(key, self.alloc, &moment, buffer, now, share)
+            .advance(turn.key, self.alloc, &moment, buffer, turn.now, share)
     }
 
     // Notes the release that the request of a connection makes the node fetch, if its reply is streamed.
@@ -65,23 +69,16 @@ impl<'a, T: Stream, K: Keep + Drop, S: FeedRespond + Drop> NodeMachine<'a, T, K,
     /// Gives a connection a share of the turn: it receives, replies and sends until its stream would block, a reply was
     /// sent, or the share is used. The replies are those to the feed as it is. A request that has the token may ask for
     /// a release, which is to be fetched next.
-    pub fn advance(
-        &mut self,
-        key: usize,
-        is_local: bool,
-        buffer: &mut [u8],
-        now: u64,
-        share: &mut Share,
-    ) -> Progress
+    pub fn advance(&mut self, turn: Turn, buffer: &mut [u8], share: &mut Share) -> Progress
         ensures history { (history : List NodeEvent) → HasHistory S.wanted S.replies self.old history
-            → HasAdvanced S.wanted S.replies key self.new history }
+            → HasAdvanced S.wanted S.replies turn.key self.new history }
         ensures later { IsLater S.wanted S.replies self.old self.new }
-        ensures rest { KeepsRest key self.old self.new }
+        ensures rest { KeepsRest turn.key self.old self.new }
     {
         let replies = share.replies;
-        let progress = self.serve(key, is_local, buffer, now, share);
+        let progress = self.serve(turn, buffer, share);
         if share.replies < replies {
-            self.note_request(key);
+            self.note_request(turn.key);
         }
         progress
     }

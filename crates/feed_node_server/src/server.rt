@@ -9,7 +9,7 @@ use crate::socket::Socket;
 use crate::streamed_reply::StreamedReply;
 use feed_keep::Keep;
 use feed_node_connection::{Share, TURN_SHARE, TimeLimits};
-use feed_node_machine::{FeedRespond, NodeMachine, node_is_right};
+use feed_node_machine::{FeedRespond, NodeMachine, Turn, node_is_right};
 use feed_node_table::{CloseCause, Log, Outcome};
 use mio::net::{TcpListener, TcpStream};
 use mio::{Events, Interest, Poll, Token};
@@ -64,7 +64,10 @@ pub struct Server {
     limits: TimeLimits,
     /// The moment from which the node's times count.
     start: Instant,
-    last_tick: Instant,
+    /// The microseconds from that moment to the last reading of the clock.
+    now: u64,
+    /// The microseconds at which the clocks of the connections were advanced last.
+    last_tick: u64,
     /// Whether connections may wait to be accepted that no event will report.
     may_accept: bool,
     /// Whether the last turn used all of its share, so that the next one does not block.
@@ -93,7 +96,8 @@ impl Server {
             clients,
             limits: settings.limits,
             start,
-            last_tick: start,
+            now: 0,
+            last_tick: 0,
             may_accept: false,
             has_more_work: false,
         })
@@ -164,16 +168,18 @@ impl Server {
         });
     }
 
-    // Returns the microseconds since the start.
-    fn micros(&self, now: Instant) -> u64 {
-        now.saturating_duration_since(self.start)
+    fn read_clock(&mut self, rt: &impl Clock) -> io::Result<()> {
+        let now = Instant::now(rt)?;
+        self.now = now
+            .saturating_duration_since(self.start)
             .as_micros()
-            .min(u64::MAX as u128) as u64
+            .min(u64::MAX as u128) as u64;
+        Ok(())
     }
 
     /// Waits at most 250 ms for the sockets, gives each connection that is ready its share of the turn, and closes each
-    /// one that is over. Whatever history the node had goes on to one that it has then, and after it the node keeps its
-    /// promise. The same holds if the poll or the clock fails.
+    /// one that is over. Each history that the node had continues to one that it has then, and after it the node keeps
+    /// its promise. The same holds if the poll or the clock fails.
     pub fn turn<K: Keep + Drop, S: FeedRespond + Drop, L: Log>(
         &mut self,
         rt: &impl Clock,
@@ -189,7 +195,7 @@ impl Server {
         outcome
     }
 
-    #[tactic(auto, using(feed_node_machine::proofs::Later::later_after, feed_node_machine::proofs::Later::later_same))]
+    #[tactic(auto, using(feed_node_machine::proofs::Later::later_after))]
     fn run_turn<K: Keep + Drop, S: FeedRespond + Drop, L: Log>(
         &mut self,
         rt: &impl Clock,
@@ -202,7 +208,7 @@ impl Server {
         let may_block = node.table().ready_len() == 0 && !self.has_more_work;
         let wait = if may_block { TICK } else { 0 };
         self.poll.poll(events, Some(Duration::from_millis(wait)))?;
-        let now = Instant::now(rt)?;
+        self.read_clock(rt)?;
         for event in events.iter() {
             self.on_event(node, event.token());
         }
@@ -210,11 +216,10 @@ impl Server {
         let has_more_work = self.accept_waiting(rt, node, log)?;
         self.has_more_work = self.advance_outgoing() || has_more_work;
         self.advance_streams();
-        self.advance_clock(node, now, log);
+        self.advance_clock(node, log);
         Ok(())
     }
 
-    #[tactic(auto, using(feed_node_machine::proofs::Later::later_after, feed_node_machine::proofs::Later::later_same))]
     fn on_event<K: Keep + Drop, S: FeedRespond + Drop>(
         &mut self,
         node: &mut ServedNode<'_, K, S>,
@@ -231,7 +236,7 @@ impl Server {
 
     // Gives each connection that is ready one share of the turn, the last one first: one that has more to do is added
     // at the end, for the next turn.
-    #[tactic(auto, using(feed_node_machine::proofs::Later::later_after, feed_node_machine::proofs::Later::later_same))]
+    #[tactic(auto, using(feed_node_machine::proofs::Later::later_after))]
     fn serve_ready<K: Keep + Drop, S: FeedRespond + Drop, L: Log>(
         &mut self,
         rt: &impl Clock,
@@ -249,7 +254,7 @@ impl Server {
     }
 
     // Gives a connection one share of the turn. Returns whether it is still open.
-    #[tactic(auto, using(feed_node_machine::proofs::Later::later_after, feed_node_machine::proofs::Later::later_same))]
+    #[tactic(auto, using(feed_node_machine::proofs::Later::later_after))]
     fn serve<K: Keep + Drop, S: FeedRespond + Drop, L: Log>(
         &mut self,
         rt: &impl Clock,
@@ -266,8 +271,9 @@ impl Server {
         }
     }
 
-    // Has a connection use its share until a reply was sent.
-    #[tactic(auto, using(feed_node_machine::proofs::Later::later_after, feed_node_machine::proofs::Later::later_same))]
+    // Has a connection use its share until a reply was sent. The step begins at the last reading of the clock, so that
+    // one reading for each step is enough.
+    #[tactic(auto, using(feed_node_machine::proofs::Later::later_after))]
     fn advance<K: Keep + Drop, S: FeedRespond + Drop, L: Log>(
         &mut self,
         rt: &impl Clock,
@@ -279,12 +285,16 @@ impl Server {
         ensures { IsLater S.wanted S.replies node.old node.new }
     {
         let is_local = node.table().addr(key).is_some_and(is_local);
-        let now = self.micros(Instant::now(rt)?);
-        let progress = node.advance(key, is_local, &mut self.buffer, now, share);
-        let now = self.micros(Instant::now(rt)?);
-        let outcome = node.settle(key, progress, now, log);
+        let turn = Turn {
+            key,
+            is_local,
+            now: self.now,
+        };
+        let progress = node.advance(turn, &mut self.buffer, share);
+        self.read_clock(rt)?;
+        let outcome = node.settle(key, progress, self.now, log);
         if outcome == Outcome::Streams {
-            self.stream_to(node, key, now, log);
+            self.stream_to(node, key, log);
         }
         Ok(outcome)
     }
@@ -298,17 +308,15 @@ impl Server {
     }
 
     // Keeps the socket of a client that has the head of its streamed reply, to send the body.
-    #[tactic(auto, using(feed_node_machine::proofs::Later::later_after, feed_node_machine::proofs::Later::later_same))]
     fn stream_to<K: Keep + Drop, S: FeedRespond + Drop, L: Log>(
         &mut self,
         node: &mut ServedNode<'_, K, S>,
         key: usize,
-        now: u64,
         log: &mut L,
     )
         ensures { IsLater S.wanted S.replies node.old node.new }
     {
-        let Some(socket) = node.remove(key, CloseCause::Streamed, now, log) else {
+        let Some(socket) = node.remove(key, CloseCause::Streamed, self.now, log) else {
             return;
         };
         let mut stream = socket.stream;
@@ -324,7 +332,7 @@ impl Server {
 
     // Accepts connections until none waits or the system refuses one. If it has no descriptor left, a connection is
     // closed for the next one. A flood gets a bounded share of a turn. Returns whether it used all of it.
-    #[tactic(auto, using(feed_node_machine::proofs::Later::later_after, feed_node_machine::proofs::Later::later_same))]
+    #[tactic(auto, using(feed_node_machine::proofs::Later::later_after))]
     fn accept_waiting<K: Keep + Drop, S: FeedRespond + Drop, L: Log>(
         &mut self,
         rt: &impl Clock,
@@ -345,7 +353,6 @@ impl Server {
     }
 
     // Accepts a connection. Returns whether another may be accepted now.
-    #[tactic(auto, using(feed_node_machine::proofs::Later::later_after, feed_node_machine::proofs::Later::later_same))]
     fn accept_next<K: Keep + Drop, S: FeedRespond + Drop, L: Log>(
         &mut self,
         rt: &impl Clock,
@@ -366,8 +373,7 @@ impl Server {
                 }
                 ErrorKind::Interrupted | ErrorKind::ConnectionAborted => Ok(true),
                 _ => {
-                    let now = self.micros(Instant::now(rt)?);
-                    node.make_room(now, log);
+                    node.make_room(self.now, log);
                     Ok(false)
                 }
             },
@@ -375,8 +381,8 @@ impl Server {
     }
 
     // Begins a new connection, and serves it at once: its client may have sent a request already. If it remains open,
-    // its socket is registered with the poll.
-    #[tactic(auto, using(feed_node_machine::proofs::Later::later_after, feed_node_machine::proofs::Later::later_same))]
+    // its socket is registered with the poll. If that fails, the connection is removed.
+    #[tactic(auto, using(feed_node_machine::proofs::Later::later_after))]
     fn admit<K: Keep + Drop, S: FeedRespond + Drop, L: Log>(
         &mut self,
         rt: &impl Clock,
@@ -387,53 +393,31 @@ impl Server {
     ) -> io::Result<()>
         ensures { IsLater S.wanted S.replies node.old node.new }
     {
-        let now = self.micros(Instant::now(rt)?);
         // Otherwise the system holds a reply back until the client acknowledges the one before it.
         let _ = stream.set_nodelay(true);
         let socket = Socket { stream };
-        let Some(key) = node.accept(socket, addr, self.limits, now, log) else {
+        let Some(key) = node.accept(socket, addr, self.limits, self.now, log) else {
             return Ok(());
         };
-        if self.serve(rt, node, key, log)? {
-            self.register(node, key, now, log);
+        if self.serve(rt, node, key, log)? && !node.register(key, self.poll.registry()) {
+            let _ = node.remove(key, CloseCause::PeerClosed, self.now, log);
         }
         Ok(())
     }
 
-    // Registers the socket of a connection with the poll. If that fails, the connection is removed.
-    #[tactic(auto, using(feed_node_machine::proofs::Later::later_after, feed_node_machine::proofs::Later::later_same))]
-    fn register<K: Keep + Drop, S: FeedRespond + Drop, L: Log>(
-        &mut self,
-        node: &mut ServedNode<'_, K, S>,
-        key: usize,
-        now: u64,
-        log: &mut L,
-    )
-        ensures { IsLater S.wanted S.replies node.old node.new }
-    {
-        if !node.register(key, self.poll.registry()) {
-            let _ = node.remove(key, CloseCause::PeerClosed, now, log);
-        }
-    }
-
     // Advances the clocks, at most once in 250 ms.
-    #[tactic(auto, using(feed_node_machine::proofs::Later::later_after, feed_node_machine::proofs::Later::later_same))]
     fn advance_clock<K: Keep + Drop, S: FeedRespond + Drop, L: Log>(
         &mut self,
         node: &mut ServedNode<'_, K, S>,
-        now: Instant,
         log: &mut L,
     )
         ensures { IsLater S.wanted S.replies node.old node.new }
     {
-        let millis = now
-            .saturating_duration_since(self.last_tick)
-            .as_millis()
-            .min(u64::MAX as u128) as u64;
+        let millis = self.now.saturating_sub(self.last_tick) / 1_000;
         if millis < TICK {
             return;
         }
-        self.last_tick = now;
+        self.last_tick = self.now;
         if let Some(outgoing) = &mut self.outgoing {
             outgoing.advance_clock(millis);
         }
@@ -441,8 +425,7 @@ impl Server {
             stream.advance_clock(millis);
         }
         self.advance_streams();
-        let now = self.micros(now);
-        node.advance_clock(now, log);
+        node.advance_clock(self.now, log);
     }
 }
 

@@ -42,7 +42,7 @@ names_fetch true true rest is = refl
 names_fetch true false rest is = absurd (cc)
 names_fetch false is_below rest is = absurd (cc)
 
--- a path that begins with `/feed/` is none that begins otherwise
+-- a path that begins with `/feed/` differs from one that begins otherwise
 differs : (path other : List ℕ) → take 6 path ≡ codes "/feed/" → bytes_eq (take 6 other) (codes "/feed/") ≡ false → bytes_eq path other ≡ false
 differs path other feed not_feed = by (cases_Bool (bytes_eq path other))
   where

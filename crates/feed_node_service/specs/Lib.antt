@@ -1,4 +1,3 @@
-pub mod FetchEnds
 pub mod NodeCounts
 pub mod Reports
 pub mod Responders

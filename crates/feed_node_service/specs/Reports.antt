@@ -1,12 +1,13 @@
 -- The replies of a node about itself.
-use Rattle.std.specs.Prelude.{◌≡◌, ◌⊎◌, ◌*◌, ◌||◌, ℕ, ℤ, pos, unsigned_abs, int_lt, if◌then◌else◌, Bool, true, false, List, map, Option, Some, None}
+use Rattle.std.specs.Prelude.{◌≡◌, ◌*◌, ℕ, ℤ, pos, unsigned_abs, int_lt, if◌then◌else◌, Bool, true, List, map, Option, Some, None}
 use Rattle.feed_metrics.specs.Texts.{MetricsValue}
 use Rattle.feed_metrics.specs.declared.text.Gauges.{Gauges}
 use Rattle.feed_metrics.specs.declared.text.ReleaseTime.{ReleaseTime}
 use Rattle.feed_model.specs.History.{History}
 use Rattle.feed_releases.specs.Actives.{ActiveValue, AreReported}
 use Rattle.feed_monitoring.specs.declared.report_text.ReportReply.{ReportReply}
-use Rattle.feed_monitoring.specs.Reports.{AsksForNoReport, IsReportAnswer, IsReportReply}
+use Rattle.feed_monitoring.specs.Reports as reports
+use Rattle.feed_monitoring.specs.Reports.{IsReportAnswer, IsReportReply}
 use Rattle.feed_node_service.specs.declared.responder.FeedResponder.{FeedResponder}
 
 -- the reply to a request for a report, by some counters and by gauges with these active releases, exactly if the bytes are
@@ -29,7 +30,7 @@ active_time active = (active.name.stem, seconds_of active.name.day)
 
 -- whether the client may have a report: if it is on the same machine, or the settings allow it to all
 abbrev pub may_report : FeedResponder → Bool → Bool
-may_report responder is_local = is_local || responder.has_open_reports
+may_report responder is_local = reports.may_report is_local responder.has_open_reports
 
 -- the bytes are a request for a report that the client may have, and this is the reply to it: by some counters, and by
 -- gauges that have the packages and the days of the releases that a feed with this history reports
@@ -42,9 +43,9 @@ pub record IsReportFor (responder : FeedResponder) (is_local : Bool) (h : Histor
   pub releases : map time_of gauges.releases.now ≡ map active_time actives
   pub is : IsReportAnswer metrics gauges bytes keeps reply
 
--- the client may not have a report, or the bytes are no request for one
+-- the client may not have a report, or the bytes do not ask for one
 abbrev pub HasNoReport : FeedResponder → Bool → List ℕ → Type 0
-HasNoReport responder is_local bytes = (may_report responder is_local ≡ false) ⊎ AsksForNoReport bytes
+HasNoReport responder is_local bytes = reports.GetsNoReport is_local responder.has_open_reports bytes
 
 -- the reply, exactly if the client may have it and the bytes are such a request
 abbrev pub IsReportIn : FeedResponder → Bool → History → List ℕ → Bool → Option ReportReply → Type 0

@@ -14,12 +14,12 @@ use Rattle.feed_node_service.specs.declared.responder.FeedResponder.{FeedRespond
 use Rattle.feed_node_service.specs.declared.node_loop.End.{End}
 use Rattle.feed_node_service.specs.Responders.{IsTurnText}
 
--- each history that the node had goes on with some events to one that it has
+-- each history that the node had continues with some events to one that it has
 abbrev pub IsLaterNode : {K : Type 0} {k : Ghosts K} → NodeMachine Socket K FeedResponder k → NodeMachine Socket K FeedResponder k → Type 0
 IsLaterNode old new = IsLater (λ responder head. form_length head) IsTurnText old new
 
 -- a run over the feed ended so, with this keeper: if a stop loses nothing of it, its content is that of a history which the
--- one of the feed goes on to, only by events that replies of the knowledge base gave
+-- one of the feed continues to, only by events that replies of the knowledge base gave
 abbrev pub HasGoneOn : {K : Type 0} {k : Ghosts K} → Feed K k → End × K → Type 0
 HasGoneOn {K} {k} feed result =
     (history : List NodeEvent) → IsContent (recorded {K = K} {k = k} feed) (feed_history history) → AreGiven history → k.clean result.1

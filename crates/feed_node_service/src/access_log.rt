@@ -8,7 +8,7 @@ use std::io::Write;
 use std::net::{IpAddr, SocketAddr};
 use std::time::{SystemTime, UNIX_EPOCH};
 
-/// What a log shows, and who may have reports of the node.
+/// The settings of a log, and who may have reports of the node.
 #[derive(Clone, Copy)]
 pub struct LogSettings {
     /// Whether a peer on the same machine is a proxy, which states the address of its client.

@@ -1,4 +1,4 @@
-//! What a node counts.
+//! The counts of a node.
 ghost use Rattle.std.specs.Prelude.{◌≡◌, ◌∷◌, IfOk, List, []};
 ghost use Rattle.feed_metrics.specs.Counts.{Added, HasCounted};
 ghost use Rattle.feed_metrics.specs.Histograms.{HasObserved};
@@ -9,7 +9,7 @@ use feed_metrics::{Counter, Metrics};
 use feed_node_server::CloseCause;
 use std::alloc::{AllocError, Global};
 
-/// What a node counts: the metrics, and the connections that are open.
+/// The counts of a node: the metrics, and the connections that are open.
 #[derive(Drop)]
 pub struct NodeCounts {
     pub metrics: Metrics,

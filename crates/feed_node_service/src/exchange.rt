@@ -10,7 +10,7 @@ const SPARE_BYTES: usize = 65_536;
 // The most bytes of a whole file whose length the reply does not state.
 const UNSIZED_LIMIT: usize = 8_388_608;
 
-/// What a node does with the bytes of a reply that have arrived.
+/// The next step of a node, by the bytes of a reply that have arrived.
 #[derive(Clone, Copy, Debug, PartialEq, Eq)]
 pub enum Arrival {
     /// Waits for more of them.

@@ -2,14 +2,15 @@
 ghost use Rattle.feed_node_service.specs.Runs.{IsLaterNode};
 
 use crate::exchange::{Arrival, Exchange, WholePart};
-use crate::fetch_end::{FetchEnd, print_end, print_name_fault};
 use crate::node_state::NodeState;
 use crate::recorded_reply::RecordedReply;
 use crate::responder::FeedResponder;
 use crate::source_addrs::SourceAddrs;
 use crate::watched_file::WatchedFile;
 use feed_dial::DialFault;
-use feed_fetch::{Next, Printer, Request, RequestFault, Stop};
+use feed_fetch::{
+    FetchEnd, Next, Printer, Request, RequestFault, Stop, print_end, print_name_fault,
+};
 use feed_http::{Got, Method, is_host, read_reply, write_head_request, write_request};
 use feed_http_heads::HttpFault;
 use feed_keep::Keep;
@@ -58,7 +59,7 @@ struct RunningExchange {
     exchange: Exchange,
 }
 
-// What a fetch does after it looked at the reply.
+// The next step of a fetch, after it looked at the reply.
 #[derive(Clone, Copy)]
 enum Step {
     /// It waits for more of the reply.
@@ -183,7 +184,7 @@ impl<'a> Fetcher<'a> {
     /// Takes what has arrived of the reply to the last request. Once it is complete, sends the next request of the
     /// fetch. Returns whether the file of the database is still at its path. If not, what was stored is lost, and not
     /// reported.
-    #[tactic(auto, using(feed_node_machine::proofs::Later::later_after, feed_node_machine::proofs::Later::later_same))]
+    #[tactic(auto, using(feed_node_machine::proofs::Later::later_after))]
     pub fn advance<K: Keep + Drop>(
         &mut self,
         server: &mut Server,
@@ -229,7 +230,7 @@ impl<'a> Fetcher<'a> {
     }
 
     // Takes the parts of the reply that have arrived, or the reply.
-    #[tactic(auto, using(feed_node_machine::proofs::Later::later_after, feed_node_machine::proofs::Later::later_same))]
+    #[tactic(auto, using(feed_node_machine::proofs::Later::later_after))]
     fn take_arrived<K: Keep + Drop>(
         &self,
         server: &mut Server,

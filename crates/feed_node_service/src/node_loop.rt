@@ -7,7 +7,7 @@ use crate::fetcher::{FeedNode, Fetcher, Source};
 use crate::node_state::{NodeState, TurnFacts};
 use crate::responder::FeedResponder;
 use crate::source_addrs::SourceAddrs;
-use crate::today::today;
+use crate::today::{day_number, today};
 use crate::watched_file::WatchedFile;
 use feed_keep::Keep;
 use feed_node_machine::NodeMachine;
@@ -32,13 +32,13 @@ pub enum End {
     FileGone,
 }
 
-/// What a node runs with, beside its feed, its server and the file of its database.
+/// The setup of a node, beside its feed, its server and the file of its database.
 #[derive(Drop)]
 pub struct NodeSetup<'a> {
     /// The server that releases are fetched from, and its addresses.
     pub source: Option<Source<'a>>,
     pub addrs: SourceAddrs,
-    /// What the tags of replies depend on beside the releases.
+    /// The version, the settings and the site file, on which replies and their tags depend.
     pub site: Site,
     /// The version of the program.
     pub version: &'a str,
@@ -72,13 +72,15 @@ pub fn run<K: Keep + Drop, O: Write>(
         has_open_reports: setup.log.has_open_reports,
     };
     let token = token_of(setup.source);
-    let mut node = NodeMachine::new(alloc, table, feed, responder, token, today(rt));
+    let day = day_number(rt);
+    let mut node = NodeMachine::new(alloc, table, feed, responder, token, today(day));
     let _ = node.keep_releases();
     let mut running = RunningNode {
         rt,
         state: &state,
         fetcher: Fetcher::new(rt, setup.source, setup.addrs, file, &state),
         log: AccessLog::new(rt, out, &state, setup.log),
+        day,
         switched: None,
     };
     let end = running.run(&mut node, server);
@@ -93,19 +95,21 @@ fn token_of<'a>(source: Option<Source<'a>>) -> Option<&'a [u8]> {
     }
 }
 
-// What a node that runs has beside its connections and its feed.
+// The parts of a running node beside its connections and its feed.
 #[derive(Drop)]
 struct RunningNode<'a, O: Write> {
     rt: &'a HostRuntime,
     state: &'a NodeState,
     fetcher: Fetcher<'a>,
     log: AccessLog<'a, O>,
+    /// The number of the node's day.
+    day: i32,
     /// When the active releases last changed.
     switched: Option<Instant>,
 }
 
 impl<'a, O: Write> RunningNode<'a, O> {
-    #[tactic(auto, using(feed_node_machine::proofs::Later::later_after, feed_node_machine::proofs::Later::later_same))]
+    #[tactic(auto, using(feed_node_machine::proofs::Later::later_after))]
     fn run<K: Keep + Drop>(&mut self, node: &mut FeedNode<'_, K>, server: &mut Server) -> End
         ensures { IsLaterNode node.old node.new }
     {
@@ -122,7 +126,7 @@ impl<'a, O: Write> RunningNode<'a, O> {
     }
 
     // Runs a turn: the connections, the log, and the fetch that is under way. Returns why the node ends.
-    #[tactic(auto, using(feed_node_machine::proofs::Later::later_after, feed_node_machine::proofs::Later::later_same))]
+    #[tactic(auto, using(feed_node_machine::proofs::Later::later_after))]
     fn turn<K: Keep + Drop>(
         &mut self,
         node: &mut FeedNode<'_, K>,
@@ -131,7 +135,7 @@ impl<'a, O: Write> RunningNode<'a, O> {
     ) -> Option<End>
         ensures { IsLaterNode node.old node.new }
     {
-        node.begin_day(today(self.rt));
+        self.begin_day(node);
         self.state.begin_turn(self.facts(node.table().bytes_held()));
         if let Err(fault) = server.turn(self.rt, node, events, &mut self.log) {
             return Some(End::Sockets(fault));
@@ -146,6 +150,17 @@ impl<'a, O: Write> RunningNode<'a, O> {
         self.note_end(node, was_busy);
         self.fetcher.begin(server, node);
         None
+    }
+
+    // Begins the day of the clock, if it is another one than before.
+    fn begin_day<K: Keep + Drop>(&mut self, node: &mut FeedNode<'_, K>)
+        ensures { IsLaterNode node.old node.new }
+    {
+        let day = day_number(self.rt);
+        if day != self.day {
+            self.day = day;
+            node.begin_day(today(day));
+        }
     }
 
     fn facts(&self, held_bytes: usize) -> TurnFacts {

@@ -10,7 +10,7 @@ use feed_node_server::CloseCause;
 use std::alloc::{AllocError, Global};
 use std::cell::{Cell, RefCell};
 
-/// What a node is at the beginning of a turn.
+/// The facts of a node at the beginning of a turn.
 #[derive(Clone, Copy)]
 pub struct TurnFacts {
     /// The bytes of replies that are held to be sent.

@@ -29,7 +29,8 @@ fn add_time<'a>(
     times: &mut Vec<ReleaseTime<'a>>,
     active: &ActiveRelease<'a>,
 ) -> Result<(), AllocError>
-    ensures { OnOk result (map time_of times.new.items ≡ map time_of times.old.items ++ active_time active.now ∷ []) }
+    ensures { OnOk result (map time_of times.new.items
+        ≡ map time_of times.old.items ++ active_time active.now ∷ []) }
 {
     Ok(times.push(time_of(active))?)
 }

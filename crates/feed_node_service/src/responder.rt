@@ -13,8 +13,8 @@ use crate::node_state::NodeState;
 use crate::release_times::release_times;
 use feed_http_heads::Request;
 use feed_keep::Keep;
-use feed_monitoring::{ReportReply, asks_for_report};
-use feed_node_connection::{BODY_LIMIT, Reply, ReplySummary, RespondFault};
+use feed_monitoring::{ReportReply, gets_report};
+use feed_node_connection::{BODY_LIMIT, IncomingRequest, Reply, ReplySummary, RespondFault};
 use feed_node_machine::{FeedRespond, Occasion};
 use feed_releases::Feed;
 use feed_resolver::{keep_releases, respond_about_feed, respond_as_node};
@@ -27,7 +27,7 @@ use std::alloc::{AllocError, Global};
 #[derive(Drop)]
 pub struct FeedResponder<'a> {
     pub state: &'a NodeState,
-    /// What the replies depend on beside the releases.
+    /// The version, the settings and the site file, on which replies depend.
     pub site: Site,
     /// The version of the program.
     pub version: &'a [u8],
@@ -40,24 +40,23 @@ impl<'a> FeedResponder<'a> {
         &self,
         alloc: Global,
         occasion: &Occasion<'_, '_, K>,
-        bytes: &[u8],
-        body: &[u8],
-        persists: bool,
+        request: &IncomingRequest<'_>,
     ) -> Result<Response, AllocError>
         ensures reply { IfOk result (λ response. (h : History) → IsContent (recorded occasion.now.feed.now) h
-            → IsReplyBy self.now.site occasion.now.policy occasion.now.today h bytes.now body.now persists response) }
-        ensures says { IfOk result (λ response. SaysOfConnection bytes.now persists response) }
+            → IsReplyBy self.now.site occasion.now.policy occasion.now.today h
+            request.now.head.now request.now.body.now request.now.persists response) }
+        ensures says { IfOk result (λ response. SaysOfConnection request.now.head.now request.now.persists response) }
     {
         let policy = &occasion.policy;
         let feed = occasion.feed;
-        match respond_about_feed(alloc, bytes, persists, policy, feed)? {
+        match respond_about_feed(alloc, request.head, request.persists, policy, feed)? {
             Some(response) => Ok(response),
             None => {
                 let response = respond_as_node(
                     alloc,
-                    bytes,
-                    body,
-                    persists,
+                    request.head,
+                    request.body,
+                    request.persists,
                     policy,
                     &self.site,
                     &occasion.today,
@@ -68,18 +67,11 @@ impl<'a> FeedResponder<'a> {
         }
     }
 
-    // Returns whether a client may have reports of the node.
-    fn allows_reports(&self, is_local: bool) -> bool
-        ensures { result ≡ may_report self.now is_local }
-    {
-        is_local || self.has_open_reports
-    }
-
     // Returns whether the request asks for a reply about the node and the client may have it.
     fn is_report(&self, is_local: bool, bytes: &[u8]) -> bool
         ensures { MatchBool result (may_report self.now is_local ≡ true) (HasNoReport self.now is_local bytes.now) }
     {
-        self.allows_reports(is_local) && asks_for_report(bytes)
+        gets_report(is_local, self.has_open_reports, bytes)
     }
 
     // Returns the reply about the node, if the request asks for one and the client may have it.
@@ -109,17 +101,17 @@ impl<'a> FeedResponder<'a> {
         &self,
         alloc: Global,
         occasion: &Occasion<'_, '_, K>,
-        bytes: &[u8],
-        body: &[u8],
-        persists: bool,
+        request: &IncomingRequest<'_>,
     ) -> Result<Reply, AllocError>
         ensures turn { IfOk result (λ reply. (h : History) → IsContent (recorded occasion.now.feed.now) h
-            → IsTurnReply self.now.site occasion.now.policy occasion.now.today h bytes.now body.now persists
+            → IsTurnReply self.now.site occasion.now.policy occasion.now.today h
+            request.now.head.now request.now.body.now request.now.persists
             (response_in reply) reply.summary.is_streamed) }
-        ensures says { IfOk result (λ reply. SaysOfConnection bytes.now persists (response_in reply)) }
+        ensures says { IfOk result (λ reply.
+            SaysOfConnection request.now.head.now request.now.persists (response_in reply)) }
     {
-        let is_streamed = fetch_to_begin(alloc, bytes, &occasion.policy).is_some();
-        let response = self.response(alloc, occasion, bytes, body, persists)?;
+        let is_streamed = fetch_to_begin(alloc, request.head, &occasion.policy).is_some();
+        let response = self.response(alloc, occasion, request)?;
         let summary = ReplySummary {
             status: response.status(),
             body_len: response.body_length(),
@@ -149,13 +141,11 @@ impl<'a> FeedRespond for FeedResponder<'a> {
         &self,
         alloc: Global,
         occasion: &Occasion<'_, '_, K>,
-        head: &[u8],
-        body: &[u8],
-        persists: bool,
+        request: &IncomingRequest<'_>,
     ) -> Result<Reply, RespondFault> {
-        match self.report(alloc, occasion, head, persists)? {
+        match self.report(alloc, occasion, request.head, request.persists)? {
             Some(reply) => Ok(Reply::new(reply.bytes, reply.status, reply.body_len)),
-            None => Ok(self.reader_reply(alloc, occasion, head, body, persists)?),
+            None => Ok(self.reader_reply(alloc, occasion, request)?),
         }
     }
 

@@ -1,5 +1,6 @@
 //! A connection with its stream and its times.
-ghost use Rattle.std.specs.Prelude.{◌≡◌, ◌≢◌, ◌≤◌, ◌+◌, ◌⊎◌, max, ℕ, List, [], true, false};
+ghost use Rattle.std.specs.Prelude.{◌≡◌, ◌≢◌, ◌≤◌, ◌+◌, ◌⊎◌, ℕ, List, []};
+ghost use Rattle.std.specs.Prelude.{max, true, false};
 ghost use Rattle.std.specs.Prelude.{IfSome};
 ghost use Rattle.feed_node_connection.specs.Events.{Event};
 ghost use Rattle.feed_node_connection.specs.States.{HasState, is_reply_sent_in, request_of, wants_in};
@@ -187,7 +188,8 @@ impl<T: Stream> Peer<T> {
     fn end_timing(&mut self, now: u64)
         ensures addr { self.new.addr ≡ self.old.addr }
         ensures connection { self.new.connection ≡ self.old.connection }
-        ensures micros { is_reply_sent_in self.old.connection.phase ≡ true → self.new.micros ≡ micros_of self.old now }
+        ensures micros { is_reply_sent_in self.old.connection.phase ≡ true
+            → self.new.micros ≡ micros_of self.old now }
     {
         if let Some(began) = self.began {
             if self.connection.is_reply_sent() {

@@ -1,6 +1,6 @@
 //! Replies only while there is room for them.
 use feed_http_heads::Request;
-use feed_node_connection::{Reply, Respond, RespondFault};
+use feed_node_connection::{IncomingRequest, Reply, Respond, RespondFault};
 use std::alloc::Global;
 
 /// The bytes of replies that are not yet sent, from which on no other reply is made.
@@ -24,15 +24,9 @@ impl<'a, S: Respond> Respond for RoomResponder<'a, S> {
         self.responder.body_len(request)
     }
 
-    fn respond(
-        &self,
-        alloc: Global,
-        head: &[u8],
-        body: &[u8],
-        persists: bool,
-    ) -> Result<Reply, RespondFault> {
+    fn respond(&self, alloc: Global, request: &IncomingRequest<'_>) -> Result<Reply, RespondFault> {
         if self.has_room {
-            self.responder.respond(alloc, head, body, persists)
+            self.responder.respond(alloc, request)
         } else {
             Err(RespondFault::Busy)
         }

@@ -1,5 +1,6 @@
 //! The connections of a node as a value.
-ghost use Rattle.std.specs.Prelude.{◌≡◌, ◌≢◌, ◌≤◌, ◌<◌, ◌+◌, ◌*◌, ℕ, true, false, [], length, nat_le};
+ghost use Rattle.std.specs.Prelude.{◌≡◌, ◌≢◌, ◌≤◌, ◌<◌, ◌+◌, ◌*◌, ℕ, []};
+ghost use Rattle.std.specs.Prelude.{true, false, length, nat_le};
 ghost use Rattle.std.specs.Prelude.{sum_by, vec_len};
 ghost use Rattle.std.specs.Prelude.{slice_index, Some, None, IfOk, IfSome, IfNone, IsSome, IsSomeAnd};
 ghost use Rattle.slab.specs.Slab.{ContainsKey, slab_len};
@@ -278,7 +279,8 @@ impl<T: Stream> Table<T> {
         log: &mut L,
     ) -> Outcome
         ensures followed { (peer : Peer T) → peer_at self.old key ≡ Some peer → (next : Peer T)
-            × (peer_at self.new key ≡ Some next) × IsFollowed L.records result progress now peer next log.old log.new }
+            × (peer_at self.new key ≡ Some next)
+            × IsFollowed L.records result progress now peer next log.old log.new }
         ensures absent { peer_at self.old key ≡ None → peer_at self.new key ≡ None }
         ensures others { KeepsOthers key self.old self.new }
         ensures size { size_of self.new ≡ size_of self.old }

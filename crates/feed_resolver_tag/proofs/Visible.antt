@@ -13,7 +13,7 @@ use Rattle.sha2.specs.Sha256.{digest_bytes, final_hash, initial_hash_256, sha256
 use Rattle.std.specs.Fmt.{decimal}
 use Rattle.feed_resolver_request.specs.declared.representation.Representation.{Representation}
 use Rattle.feed_embargo.specs.Today.{TodayValue}
-use Rattle.feed_resolver_tag.specs.Tags.{SiteValue, TagInputs, entity_tag, inputs_of, kind_and_day, message_of, tag_message, quoted_hex}
+use Rattle.feed_resolver_tag.specs.Tags.{SiteValue, TagInputs, entity_tag, inputs_of, kind_and_day, message_of, source_digest, tag_message, quoted_hex}
 
 abbrev IsByte : ℕ → Type 0
 IsByte b = b < 256
@@ -57,10 +57,10 @@ tag_visible inputs =
     (AllPass-from_list_all is_uri_byte (34 ∷ []) refl))
 
 -- a tag from the digest of its inputs
-pub tag_made : (site : SiteValue) (today : TodayValue) (settings releases : List ℕ) (representation : Representation) (last digest : List ℕ) → settings ≡ decimal site.max_age
-    → last ≡ kind_and_day representation today.day → digest ≡ sha256 (message_of site.version settings site.file releases last)
-    → quoted_hex digest ≡ entity_tag (inputs_of site today releases representation)
+pub tag_made : (site : SiteValue) (today : TodayValue) (releases : List ℕ) (representation : Representation) (source last digest : List ℕ)
+    → source ≡ source_digest site.version (decimal site.max_age) site.file releases → last ≡ kind_and_day representation today.day
+    → digest ≡ sha256 (message_of source last) → quoted_hex digest ≡ entity_tag (inputs_of site today releases representation)
 unfolding entity_tag
-tag_made site today settings releases representation last digest is ends made =
-    ap quoted_hex (made ∙ ap (λ t. sha256 (message_of site.version t site.file releases last)) is
-    ∙ ap (λ t. sha256 (message_of site.version (decimal site.max_age) site.file releases t)) ends)
+tag_made site today releases representation source last digest is ends made =
+    ap quoted_hex (made ∙ ap (λ t. sha256 (message_of t last)) is
+    ∙ ap (λ t. sha256 (message_of (source_digest site.version (decimal site.max_age) site.file releases) t)) ends)

@@ -55,14 +55,18 @@ kind_of Html = 104
 abbrev pub kind_and_day : Representation → ℤ → List ℕ
 kind_and_day representation day = kind_of representation ∷ signed_decimal day
 
--- the digests of four texts, and a text
-abbrev pub message_of : List ℕ → List ℕ → List ℕ → List ℕ → List ℕ → List ℕ
-message_of version settings file releases last = (((sha256 version ++ sha256 settings) ++ sha256 file) ++ sha256 releases) ++ last
+-- the digest of the digests of four texts: a node computes it when it starts, and when its releases change
+abbrev pub source_digest : List ℕ → List ℕ → List ℕ → List ℕ → List ℕ
+source_digest version settings file releases = sha256 (((sha256 version ++ sha256 settings) ++ sha256 file) ++ sha256 releases)
 
--- the digests of the texts, the representation and the day
+-- a digest, and a text
+abbrev pub message_of : List ℕ → List ℕ → List ℕ
+message_of source last = source ++ last
+
+-- the digest of the texts, the representation and the day
 abbrev pub tag_message : TagInputs → List ℕ
 tag_message inputs =
-    message_of inputs.version inputs.settings inputs.file inputs.releases (kind_and_day inputs.representation inputs.day)
+    message_of (source_digest inputs.version inputs.settings inputs.file inputs.releases) (kind_and_day inputs.representation inputs.day)
 
 -- bytes in hex, between quotation marks
 abbrev pub quoted_hex : List ℕ → List ℕ

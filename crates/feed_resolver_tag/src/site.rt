@@ -2,7 +2,7 @@
 ghost use Rattle.std.specs.Prelude.{◌≡◌, IfErr, IfOk};
 ghost use Rattle.std.specs.Fmt.{decimal};
 ghost use Rattle.feed_resolver_tag.specs.Tags.{entity_tag, inputs_of, kind_and_day, kind_of, message_of};
-ghost use Rattle.feed_resolver_tag.specs.Tags.{quoted_hex};
+ghost use Rattle.feed_resolver_tag.specs.Tags.{quoted_hex, source_digest};
 ghost use Rattle.sha2.specs.Sha256.{sha256};
 
 use crate::digested::Digested;
@@ -27,6 +27,8 @@ pub struct Site {
     library: SiteFile,
     /// The text about the releases whose digest was computed last.
     releases: Digested,
+    /// The digest of the digests of all four.
+    source: [u8; 32],
     /// For how many seconds a cache may use a reply without asking again; 0 if it always has to ask.
     max_age: u32,
 }
@@ -34,13 +36,14 @@ pub struct Site {
 impl Model for Site {
     ghost use Rattle.std.specs.Prelude.{◌≡◌};
     ghost use Rattle.std.specs.Fmt.{decimal};
-    ghost use Rattle.feed_resolver_tag.specs.Tags.{SiteValue};
+    ghost use Rattle.feed_resolver_tag.specs.Tags.{SiteValue, source_digest};
 
     ghost Value = { SiteValue };
 
     ghost view = { λ s. record { version = s.version; max_age = s.max_age; file = s.file; library = s.library } };
 
-    ghost invariant = { λ s. s.settings ≡ decimal s.max_age };
+    ghost invariant = { λ s. (s.settings ≡ decimal s.max_age)
+        × (s.source ≡ source_digest s.version s.settings s.file s.releases) };
 }
 
 fn kind_of(representation: Representation) -> u8
@@ -79,20 +82,28 @@ fn kind_and_day(
     }
 }
 
-fn digest_of(
+// Returns the digest of the digests of four texts.
+fn source_digest(
     version: &Digested,
     settings: &Digested,
     file: &Digested,
     releases: &Digested,
-    last: &[u8],
 ) -> [u8; 32]
-    ensures { result ≡ sha256 (message_of version.now settings.now file.now releases.now last.now) }
+    ensures { result ≡ source_digest version.now settings.now file.now releases.now }
 {
     let mut hasher = Sha256::new();
     hasher.update(version.digest().as_slice());
     hasher.update(settings.digest().as_slice());
     hasher.update(file.digest().as_slice());
     hasher.update(releases.digest().as_slice());
+    hasher.finalize()
+}
+
+fn digest_of(source: &[u8; 32], last: &[u8]) -> [u8; 32]
+    ensures { result ≡ sha256 (message_of source.now last.now) }
+{
+    let mut hasher = Sha256::new();
+    hasher.update(source.as_slice());
     hasher.update(last);
     hasher.finalize()
 }
@@ -153,12 +164,16 @@ impl Site {
     {
         let settings = Digested::new(decimal(alloc, max_age)?);
         let version = Digested::new(Vec::from_slice(alloc, version)?);
+        let file = Digested::new(file);
+        let releases = Digested::new(Vec::new(alloc));
+        let source = source_digest(&version, &settings, &file, &releases);
         Ok(Site {
             version,
             settings,
-            file: Digested::new(file),
+            file,
             library,
-            releases: Digested::new(Vec::new(alloc)),
+            releases,
+            source,
             max_age,
         })
     }
@@ -179,7 +194,21 @@ impl Site {
     pub fn keep_releases(&mut self, text: Vec<u8>)
         ensures { self.new ≡ self.old }
     {
-        self.releases = Digested::new(text);
+        let releases = Digested::new(text);
+        self.source = source_digest(&self.version, &self.settings, &self.file, &releases);
+        self.releases = releases;
+    }
+
+    // Returns the digest of what the replies depend on, with a text about the releases. Computes it only if the site
+    // keeps that of another text.
+    fn source_with(&self, releases: &Digested) -> [u8; 32]
+        ensures { result
+            ≡ source_digest self.now.version (decimal self.now.max_age) self.now.file releases.now }
+    {
+        if releases.digest() == self.releases.digest() {
+            return self.source;
+        }
+        source_digest(&self.version, &self.settings, &self.file, releases)
     }
 
     /// Returns for how many seconds a cache may use a reply without asking again.
@@ -205,13 +234,7 @@ impl Site {
             ≡ entity_tag (inputs_of self.now today.now releases.now representation)) }
     {
         let last = kind_and_day(alloc, representation, today)?;
-        let digest = digest_of(
-            &self.version,
-            &self.settings,
-            &self.file,
-            releases,
-            last.as_slice(),
-        );
+        let digest = digest_of(&self.source_with(releases), last.as_slice());
         quoted_hex(alloc, &digest)
     }
 }

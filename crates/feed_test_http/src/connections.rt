@@ -9,8 +9,8 @@ use crate::line::Line;
 use crate::node::Node;
 use feed_http_heads::Request;
 use feed_node_connection::{
-    BODY_LIMIT, Connection, Reading, Reply, Respond, RespondFault, TURN_SHARE, TimeLimits, Wants,
-    Writing, advance,
+    BODY_LIMIT, Connection, IncomingRequest, Reading, Reply, Respond, RespondFault, TURN_SHARE,
+    TimeLimits, Wants, Writing, advance,
 };
 use std::alloc::{AllocError, Global};
 
@@ -56,17 +56,11 @@ impl Respond for Echo {
     }
 
     #[tactic(auto, using(crate::proofs::EchoSays::echo_says))]
-    fn respond(
-        &self,
-        alloc: Global,
-        head: &[u8],
-        body: &[u8],
-        persists: bool,
-    ) -> Result<Reply, RespondFault> {
+    fn respond(&self, alloc: Global, request: &IncomingRequest<'_>) -> Result<Reply, RespondFault> {
         if self.is_short {
             return Err(RespondFault::Memory);
         }
-        let text = echo_text(alloc, head, body, persists)?;
+        let text = echo_text(alloc, request.head, request.body, request.persists)?;
         Ok(Reply::new(text, 200, 0))
     }
 }

@@ -20,7 +20,7 @@ returns-then-share-replies-clause-rest g c = record {
 
 pub returns-then-share-replies-clause-later : goal.returns-then-share-replies-clause-later
 returns-then-share-replies-clause-later g c =
-    later_advanced g.S.FeedRespond.wanted g.S.FeedRespond.replies c.args.key _ _ (returns-then-share-replies-clause-history g c)
+    later_advanced g.S.FeedRespond.wanted g.S.FeedRespond.replies c.args.turn.key _ _ (returns-then-share-replies-clause-history g c)
 
 pub returns-else-share-replies-clause-later : goal.returns-else-share-replies-clause-later
-returns-else-share-replies-clause-later g c = later_served g.S.FeedRespond.wanted g.S.FeedRespond.replies c.args.key _ _ c.serve-progress.ensures.history
+returns-else-share-replies-clause-later g c = later_served g.S.FeedRespond.wanted g.S.FeedRespond.replies c.args.turn.key _ _ c.serve-progress.ensures.history

@@ -1,20 +1,14 @@
-use Rattle.feed_node_machine.proofs.Connections.{at_kept, keeps_room}
+use Rattle.feed_node_machine.proofs.Connections.{keeps_room}
 use Rattle.feed_node_machine.proofs.Later.{later_kept}
+use Rattle.feed_node_machine.proofs.Tabled.{tabled}
 use Rattle.feed_node_machine.proofs.machine.NodeMachine.make_room.Goals as goal
 
 pub returns-clause-history : goal.returns-clause-history
-returns-clause-history g c = λ history has. record {
-  connections = at_kept c.args.self.now.table c.make_room.new.self history
-      (keeps_room c.args.self.now.table c.make_room.new.self
-      (λ some. (let gone = c.make_room.ensures.removed some in (gone.0, gone.2.others, gone.2.gone)))
-      (λ none. (c.make_room.ensures.empty none).0)) has.connections;
-  feed = has.feed;
-  fetching = has.fetching;
-  requested = has.requested;
-  today = has.today;
-  allowed = has.allowed;
-  given = has.given;
-}
+returns-clause-history g c =
+    tabled g.S.FeedRespond.wanted g.S.FeedRespond.replies c.args.self.now c.make_room.new.self
+    (keeps_room c.args.self.now.table c.make_room.new.self
+    (λ some. (let gone = c.make_room.ensures.removed some in (gone.0, gone.2.others, gone.2.gone)))
+    (λ none. (c.make_room.ensures.empty none).0))
 
 pub returns-clause-later : goal.returns-clause-later
 returns-clause-later g c = later_kept g.S.FeedRespond.wanted g.S.FeedRespond.replies _ _ (returns-clause-history g c)

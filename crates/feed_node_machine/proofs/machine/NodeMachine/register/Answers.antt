@@ -1,17 +1,11 @@
-use Rattle.feed_node_machine.proofs.Connections.{at_kept}
 use Rattle.feed_node_machine.proofs.Later.{later_kept}
+use Rattle.feed_node_machine.proofs.Tabled.{tabled}
 use Rattle.feed_node_machine.proofs.machine.NodeMachine.register.Goals as goal
 
 pub returns-clause-history : goal.returns-clause-history
-returns-clause-history g c = λ history has. record {
-  connections = at_kept c.args.self.now.table c.register.new.self history c.register.ensures.connections has.connections;
-  feed = has.feed;
-  fetching = has.fetching;
-  requested = has.requested;
-  today = has.today;
-  allowed = has.allowed;
-  given = has.given;
-}
+returns-clause-history g c =
+    tabled g.S.FeedRespond.wanted g.S.FeedRespond.replies c.args.self.now c.register.new.self
+    c.register.ensures.connections
 
 pub returns-clause-later : goal.returns-clause-later
 returns-clause-later g c = later_kept g.S.FeedRespond.wanted g.S.FeedRespond.replies _ _ (returns-clause-history g c)

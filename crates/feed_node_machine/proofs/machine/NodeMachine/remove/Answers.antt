@@ -1,19 +1,13 @@
-use Rattle.feed_node_machine.proofs.Connections.{at_kept, keeps_removed}
+use Rattle.feed_node_machine.proofs.Connections.{keeps_removed}
 use Rattle.feed_node_machine.proofs.Later.{later_kept}
+use Rattle.feed_node_machine.proofs.Tabled.{tabled}
 use Rattle.feed_node_machine.proofs.machine.NodeMachine.remove.Goals as goal
 
 pub returns-clause-history : goal.returns-clause-history
-returns-clause-history g c = λ history has. record {
-  connections = at_kept c.args.self.now.table c.remove.new.self history
-      (keeps_removed c.args.key c.args.self.now.table c.remove.new.self
-      (λ some. (let gone = c.remove.ensures.removed some in (gone.others, gone.gone))) (λ none. (c.remove.ensures.absent none).0)) has.connections;
-  feed = has.feed;
-  fetching = has.fetching;
-  requested = has.requested;
-  today = has.today;
-  allowed = has.allowed;
-  given = has.given;
-}
+returns-clause-history g c =
+    tabled g.S.FeedRespond.wanted g.S.FeedRespond.replies c.args.self.now c.remove.new.self
+    (keeps_removed c.args.key c.args.self.now.table c.remove.new.self
+    (λ some. (let gone = c.remove.ensures.removed some in (gone.others, gone.gone))) (λ none. (c.remove.ensures.absent none).0))
 
 pub returns-clause-later : goal.returns-clause-later
 returns-clause-later g c = later_kept g.S.FeedRespond.wanted g.S.FeedRespond.replies _ _ (returns-clause-history g c)

@@ -1,4 +1,4 @@
-use Rattle.std.proofs.Common.{◌≡◌, ◌∙◌, ap, sym, subst, inl, inr}
+use Rattle.std.proofs.Common.{◌≡◌, ◌∙◌, ap, sym, subst}
 use Rattle.std.specs.Prelude.{Some, option_copied}
 use Rattle.feed_embargo.specs.Today.{TodayValue}
 use Rattle.feed_model.specs.Content.{IsContent}
@@ -7,6 +7,7 @@ use Rattle.feed_resolver_request.specs.FetchRequests.{FetchPolicyValue}
 use Rattle.feed_node_machine.specs.NodeEvents.{feed_history, today_in}
 use Rattle.feed_node_machine.specs.Occasions.{IsReplyOn}
 use Rattle.feed_node_machine.proofs.Shares.{MovesBy, reply_to, serve_moves}
+use Rattle.feed_node_machine.proofs.Tabled.{moved}
 use Rattle.feed_node_machine.proofs.machine.NodeMachine.serve.Goals as goal
 
 pub returns-clause-history : goal.returns-clause-history
@@ -17,30 +18,9 @@ returns-clause-history g c = λ history has.
     let named : moment.occasion.policy.token ≡ token = ap (λ (policy : FetchPolicyValue). policy.token) c.new-moment.ensures.policy ∙ c.policy-policy.ensures in
     let day : today_in history ≡ Some moment.occasion.today = has.today ∙ ap (λ (today : TodayValue). Some today) (sym c.new-moment.ensures.today) in
     let moves = serve_moves (g.S.FeedRespond.wanted moment.responder.now, g.S.FeedRespond.replies moment.responder.now)
-    (IsReplyOn (g.S.FeedRespond.replies moment.responder.now) moment.occasion) token moment.occasion.policy.is_busy moment.occasion.is_local moment.occasion.today c.args.key c.advance.result
+    (IsReplyOn (g.S.FeedRespond.replies moment.responder.now) moment.occasion) token moment.occasion.policy.is_busy moment.occasion.is_local moment.occasion.today c.args.turn.key c.advance.result
     c.args.share.now c.advance.new.share c.args.self.now.table c.advance.new.self history
     (reply_to (g.S.FeedRespond.replies moment.responder.now) moment.occasion token (feed_history history) named content)
     c.advance.ensures.served c.advance.ensures.others c.advance.ensures.absent has.connections day in
-    elim (subst (λ responder. MovesBy (g.S.FeedRespond.wanted responder, g.S.FeedRespond.replies responder) token c.args.key c.advance.new.self history) c.new-moment.ensures.responder moves) [
-      | inl at ↦ inl (record {
-        connections = at;
-        feed = has.feed;
-        fetching = has.fetching;
-        requested = has.requested;
-        today = has.today;
-        allowed = has.allowed;
-        given = has.given;
-      })
-      | inr (share, at, is) ↦ inr (
-        share,
-        record {
-          connections = at;
-          feed = has.feed;
-          fetching = has.fetching;
-          requested = has.requested;
-          today = has.today;
-          allowed = (is, has.allowed);
-          given = has.given;
-        },
-      )
-    ]
+    moved g.S.FeedRespond.wanted g.S.FeedRespond.replies c.args.self.now c.advance.new.self c.args.turn.key history
+    (subst (λ responder. MovesBy (g.S.FeedRespond.wanted responder, g.S.FeedRespond.replies responder) token c.args.turn.key c.advance.new.self history) c.new-moment.ensures.responder moves) has

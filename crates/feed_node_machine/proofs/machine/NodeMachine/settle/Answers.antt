@@ -1,37 +1,16 @@
-use Rattle.std.proofs.Common.{inl, inr}
 use Rattle.std.specs.Prelude.{option_copied}
 use Rattle.feed_node_machine.specs.Nodes.{rules_of}
 use Rattle.feed_node_machine.proofs.Later.{later_served}
 use Rattle.feed_node_machine.proofs.Shares.{settle_moves}
+use Rattle.feed_node_machine.proofs.Tabled.{moved}
 use Rattle.feed_node_machine.proofs.machine.NodeMachine.settle.Goals as goal
 
 pub returns-clause-history : goal.returns-clause-history
 returns-clause-history g c = λ history has.
-    elim (settle_moves g.L.Log.records (rules_of g.S.FeedRespond.wanted g.S.FeedRespond.replies c.args.self.now) (option_copied c.args.self.now.token) c.args.self.now.today c.args.key c.args.progress
+    moved g.S.FeedRespond.wanted g.S.FeedRespond.replies c.args.self.now c.settle.new.self c.args.key history
+    (settle_moves g.L.Log.records (rules_of g.S.FeedRespond.wanted g.S.FeedRespond.replies c.args.self.now) (option_copied c.args.self.now.token) c.args.self.now.today c.args.key c.args.progress
     c.args.now c.settle.result c.args.self.now.table c.settle.new.self c.args.log.now c.settle.new.log history c.settle.ensures.settled.followed
-    c.settle.ensures.settled.others c.settle.ensures.absent has.connections has.today) [
-      | inl at ↦ inl (record {
-        connections = at;
-        feed = has.feed;
-        fetching = has.fetching;
-        requested = has.requested;
-        today = has.today;
-        allowed = has.allowed;
-        given = has.given;
-      })
-      | inr (share, at, is) ↦ inr (
-        share,
-        record {
-          connections = at;
-          feed = has.feed;
-          fetching = has.fetching;
-          requested = has.requested;
-          today = has.today;
-          allowed = (is, has.allowed);
-          given = has.given;
-        },
-      )
-    ]
+    c.settle.ensures.settled.others c.settle.ensures.absent has.connections has.today) has
 
 pub returns-clause-later : goal.returns-clause-later
 returns-clause-later g c = later_served g.S.FeedRespond.wanted g.S.FeedRespond.replies c.args.key _ _ (returns-clause-history g c)

@@ -14,5 +14,5 @@ returns-in_ok-reader_reply-in-None-clause-reply g c = λ h is. inr (
 
 pub returns-in_ok-reader_reply-in-None-clause-says : goal.returns-in_ok-reader_reply-in-None-clause-says
 returns-in_ok-reader_reply-in-None-clause-says g c =
-    says_in_turn c.args.head.now c.args.body.now c.args.persists (response_in c.in_ok-reader_reply-in-None.field-0) c.requires.allowed
+    says_in_turn c.args.request.now.head.now c.args.request.now.body.now c.args.request.now.persists (response_in c.in_ok-reader_reply-in-None.field-0) c.requires.allowed
     c.in_ok-reader_reply-in-None.ensures.says

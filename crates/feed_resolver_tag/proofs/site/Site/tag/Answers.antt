@@ -7,8 +7,7 @@ use Rattle.feed_resolver_tag.proofs.site.Site.tag.Goals as goal
 pub returns : goal.returns
 returns c = IfOk-weaker c.quoted_hex.result (λ tag. tag.items ≡ quoted_hex c.digest_of-digest.result)
     (λ tag. tag.items ≡ entity_tag (inputs_of c.args.self.now c.args.today.now c.args.releases.now c.args.representation))
-    (λ tag is. is ∙ tag_made (record { version = c.self.inside.version; max_age = c.self.inside.max_age; file = c.self.inside.file; library = c.self.inside.library }) c.args.today.now
-    c.self.inside.settings c.args.releases.now c.args.representation c.as_slice.result.now c.digest_of-digest.result c.self.invariant
-    (c.as_slice.ensures.value ∙ c.in_ok-last.ensures) c.digest_of-digest.ensures
-    ∙ ap (λ (s : SiteValue). entity_tag (inputs_of s c.args.today.now c.args.releases.now c.args.representation)) c.self.view_is)
+    (λ tag is. is ∙ tag_made c.args.self.now c.args.today.now c.args.releases.now c.args.representation
+    c.source_with.result c.as_slice.result.now c.digest_of-digest.result c.source_with.ensures
+    (c.as_slice.ensures.value ∙ c.in_ok-last.ensures) c.digest_of-digest.ensures)
     c.quoted_hex.ensures

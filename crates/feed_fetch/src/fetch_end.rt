@@ -2,9 +2,11 @@
 ghost use Rattle.feed_model.specs.Content.{IsContent};
 ghost use Rattle.feed_model.specs.History.{History};
 ghost use Rattle.feed_releases.specs.Feeds.{recorded};
-ghost use Rattle.feed_node_service.specs.FetchEnds.{IsEndStatus};
+ghost use Rattle.feed_fetch.specs.FetchEnds.{IsEndStatus};
 
-use feed_fetch::{Printer, Stop, is_reported, print_stop};
+use crate::fetch_loop::{is_reported, print_stop};
+use crate::printer::Printer;
+use crate::stop::Stop;
 use feed_keep::Keep;
 use feed_names::{NameFault, ReleaseName};
 use feed_releases::Feed;

@@ -4,8 +4,8 @@ use Rattle.feed_names.specs.ReleaseName.{Name}
 use Rattle.feed_model.specs.History.{History}
 use Rattle.feed_fetch.specs.Answers.{status_of}
 use Rattle.feed_fetch.specs.Effects.{IsReported}
-use Rattle.feed_node_service.specs.declared.fetch_end.FetchEnd.{FetchEnd}
-use Rattle.feed_node_service.specs.declared.fetch_end.FetchEnd.TheVariants.{Done, Stopped, NoRanges}
+use Rattle.feed_fetch.specs.declared.fetch_end.FetchEnd.{FetchEnd}
+use Rattle.feed_fetch.specs.declared.fetch_end.FetchEnd.TheVariants.{Done, Stopped, NoRanges}
 
 -- the status after a fetch that ended so: if it is done, 0 exactly if the release is reported, and otherwise that of the
 -- stop
