@@ -1,40 +1,28 @@
 -- Records whose names ascend.
 use Rattle.std.proofs.Common.{◌≡◌, ◌≢◌, ◌==◌, ◌⊎◌, inl, inr, nat_lt, ◌<◌, ◌≤◌, ◌+◌, ◌++◌, ℕ, zero, suc, Bool, true, false, List, [], ◌∷◌, map, length}
 use Rattle.std.proofs.Common.{get_or, set, refl, sym, ap, subst, ◌∙◌, arith}
-use Rattle.std.specs.List.{AllPairs}
-use Rattle.std.specs.List.Sorted.{IsNonDecreasingBy, IsStrictlySortedBy}
-use Rattle.std.specs.Cmp.{IsTotalOrder}
-use Rattle.std.specs.Cmp.Lexicographic.{slice_cmp, pointwise, bytes_decides}
-use Rattle.std.specs.Ordering.{is_eq, is_lt, nat_cmp, on, ordering_index, ordering_reverse}
+use Rattle.std.specs.List.Sorted.{IsNonDecreasingBy}
+use Rattle.std.specs.Cmp.Lexicographic.{pointwise, bytes_decides}
+use Rattle.std.specs.Ordering.{is_eq, is_lt, ordering_index, ordering_reverse}
 use Rattle.std.specs.declared.cmp.Ordering.{Ordering}
 use Rattle.std.specs.declared.cmp.Ordering.TheVariants.{Less, Equal, Greater}
 use Rattle.std.proofs.lemmas.Bool.Decides.{nat_tests}
-use Rattle.std.proofs.lemmas.Cmp.{nat_list_cmp_total, on_total, tied_itself}
+use Rattle.std.proofs.lemmas.Cmp.{nat_list_cmp_total, tied_itself}
 use Rattle.std.proofs.lemmas.List.{get_or-map, length-map}
-use Rattle.std.proofs.lemmas.List.Kept.{AllPairs-cons}
 use Rattle.std.proofs.lemmas.List.Sorted.{searchable_from_sorted}
 use Rattle.std.proofs.lemmas.Map.Keys.{sorted_tail}
 use Rattle.std.proofs.lemmas.Map.Text.{is_eq-slice_cmp}
-use Rattle.std.proofs.lemmas.Map.Views.{All-after_first}
 use Rattle.std.proofs.Math.Seq.{map-set_same}
 use Rattle.feed_names.specs.ReleaseName.{Name, text_of}
 use Rattle.feed_model.specs.Content.{Part, Record, names}
 use Rattle.feed_keep.specs.declared.record.Record as code
 use Rattle.feed_parts.specs.Shown.{shown_parts}
 use Rattle.feed_keep.specs.Shown.{shown, shown_record}
-use Rattle.feed_store_read.specs.Order.{AreNamesAscending}
+use Rattle.feed_store_checks.specs.Order.{AreNamesAscending}
+use Rattle.feed_store_checks.proofs.Ascending.{name_cmp, names_shown, text_cmp, up_pairs}
 use Rattle.feed_store_read.specs.Pieces.{if_named}
 
 -- ---- texts
-
-abbrev pub text_cmp : List ℕ → List ℕ → Ordering
-text_cmp = slice_cmp nat_cmp
-
-abbrev pub name_cmp : Name → Name → Ordering
-name_cmp = on text_of text_cmp
-
-pub name_total : IsTotalOrder name_cmp
-name_total = on_total text_of nat_list_cmp_total
 
 pub same_texts : (s t : List ℕ) → text_cmp s t ≡ Equal → s ≡ t
 same_texts s t h = (bytes_decides s t).0 (sym (is_eq-slice_cmp s t) ∙ ap is_eq h)
@@ -57,14 +45,6 @@ apart s t differ = by (pointwise ◌==◌ s t) refl
     by false e = refl
 
 -- ---- places in lists that ascend
-
-pub up_pairs : {K : Type 0} (c : K → K → Ordering) (ks : List K) → IsStrictlySortedBy c ks → AllPairs (λ x y. c x y ≡ Less) ks
-up_pairs c [] up = λ i j d lt within. absurd (omega arith)
-up_pairs c (k ∷ ks) up = AllPairs-cons (λ x y. c x y ≡ Less) k ks (All-after_first c k ks up) (up_pairs c ks (sorted_tail c k ks up))
-
-pub names_shown : (rs : List code.Record) → names (shown rs) ≡ map (λ r. r.name) rs
-names_shown [] = refl
-names_shown (r ∷ rs) = ap (λ ns. r.name ∷ ns) (names_shown rs)
 
 abbrev name_in : code.Record → Name
 name_in r = r.name

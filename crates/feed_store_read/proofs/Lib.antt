@@ -9,7 +9,6 @@ pub mod Selected
 pub mod Ascending
 pub mod GivenRows
 pub mod Parents
-pub mod Strict
 pub mod Joined
 pub mod Orders
 mod GivenReasons

@@ -1,7 +1,6 @@
 //! Reads the records of a feed from a SQL database.
 #![tactic(auto)]
 
-mod checks;
 mod columns;
 mod piece_row;
 mod pieces;

@@ -6,7 +6,7 @@ ghost use Rattle.feed_model.specs.Content.{names};
 ghost use Rattle.feed_keep.specs.Shown.{shown};
 ghost use Rattle.feed_store_model.specs.Live.{IsLive};
 ghost use Rattle.feed_store_model.specs.Tables.{HoldsReleases, IsTabled, IsPieceRow};
-ghost use Rattle.feed_store_read.specs.Order.{AreNamesAscending};
+ghost use Rattle.feed_store_checks.specs.Order.{AreNamesAscending};
 ghost use Rattle.feed_store_read.specs.Pieces.{ArePieces, ShowPieces, Takes};
 ghost use Rattle.feed_store_read.specs.Releases.{AreReleases, WritesNothing};
 

@@ -7,7 +7,7 @@ ghost use Rattle.feed_model.specs.Content.{names};
 ghost use Rattle.feed_keep.specs.Shown.{shown};
 ghost use Rattle.feed_store_model.specs.Live.{IsLive};
 ghost use Rattle.feed_store_model.specs.Tables.{HoldsRecords, IsLayout2, IsReasonRow, content_without_reasons};
-ghost use Rattle.feed_store_read.specs.Order.{AreNamesAscending};
+ghost use Rattle.feed_store_checks.specs.Order.{AreNamesAscending};
 ghost use Rattle.feed_store_read.specs.Pieces.{Takes};
 ghost use Rattle.feed_store_read.specs.Reasons.{AreReasonsOf, ShowReasons, with_first_reason};
 ghost use Rattle.feed_store_read.specs.Releases.{WritesNothing};

@@ -4,10 +4,10 @@ use Rattle.std.proofs.lemmas.Fn.{always_returns_same}
 use Rattle.feed_names.specs.ReleaseName.{Name}
 use Rattle.feed_model.specs.Change.{comes_before}
 use Rattle.feed_keep.specs.declared.record.Record.{Record}
-use Rattle.feed_store_read.specs.Order.{AreNamesAscending}
-use Rattle.feed_store_read.proofs.Ascending.{name_cmp, name_total, names_shown}
-use Rattle.feed_store_read.proofs.Strict.{answered_strict, strict_map, strict_unmap}
-use Rattle.feed_store_read.proofs.checks.are_names_ascending.Goals as goal
+use Rattle.feed_store_checks.specs.Order.{AreNamesAscending}
+use Rattle.feed_store_checks.proofs.Ascending.{name_cmp, name_total, names_shown}
+use Rattle.feed_store_checks.proofs.Strict.{answered_strict, strict_map, strict_unmap}
+use Rattle.feed_store_checks.proofs.checks.are_names_ascending.Goals as goal
 
 pub returns : goal.returns
 returns c =

@@ -5,8 +5,8 @@ use Rattle.std.proofs.lemmas.Fn.{always_returns_same}
 use Rattle.feed_model.specs.Content as model
 use Rattle.feed_parts.specs.declared.part.Part.{Part}
 use Rattle.feed_parts.specs.Shown.{shown_part}
-use Rattle.feed_store_read.proofs.Strict.{answered_strict, strict_map, strict_unmap}
-use Rattle.feed_store_read.proofs.checks.are_parts_ascending.Goals as goal
+use Rattle.feed_store_checks.proofs.Strict.{answered_strict, strict_map, strict_unmap}
+use Rattle.feed_store_checks.proofs.checks.are_parts_ascending.Goals as goal
 
 pub returns : goal.returns
 returns c =

@@ -3,8 +3,8 @@ use Rattle.std.specs.Ordering.{int_cmp, is_lt}
 use Rattle.std.proofs.lemmas.Cmp.{int_cmp_total}
 use Rattle.std.proofs.lemmas.Fn.{always_returns_same}
 use Rattle.std.proofs.lemmas.List.Sorted.{IsPermutation-sym}
-use Rattle.feed_store_read.proofs.Strict.{answered_strict, apart_moved, apart_of, strict_of}
-use Rattle.feed_store_read.proofs.checks.sort_distinct.Goals as goal
+use Rattle.feed_store_checks.proofs.Strict.{answered_strict, apart_moved, apart_of, strict_of}
+use Rattle.feed_store_checks.proofs.checks.sort_distinct.Goals as goal
 
 pub returns : goal.returns
 returns c =

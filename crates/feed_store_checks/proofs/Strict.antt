@@ -9,7 +9,7 @@ use Rattle.std.specs.declared.cmp.Ordering.TheVariants.{Less, Equal, Greater}
 use Rattle.std.proofs.lemmas.List.Elements.{All-cons, All-nil}
 use Rattle.std.proofs.lemmas.List.Kept.{AllPairs-cons}
 use Rattle.std.proofs.lemmas.Map.Keys.{IsDistinct-from_sorted, IsDistinct-head, IsDistinct-IsPermutation, IsDistinct-tail}
-use Rattle.feed_store_read.proofs.Ascending.{up_pairs}
+use Rattle.feed_store_checks.proofs.Ascending.{up_pairs}
 
 pub below : (o : Ordering) → true ≡ is_lt o → o ≡ Less
 below Less e = refl

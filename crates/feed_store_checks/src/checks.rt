@@ -6,7 +6,7 @@ ghost use Rattle.feed_model.specs.Change.{comes_before};
 ghost use Rattle.feed_model.specs.Content.{names};
 ghost use Rattle.feed_parts.specs.Shown.{shown_parts};
 ghost use Rattle.feed_keep.specs.Shown.{shown};
-ghost use Rattle.feed_store_read.specs.Order.{AreNamesAscending, ArePartsAscending};
+ghost use Rattle.feed_store_checks.specs.Order.{AreNamesAscending, ArePartsAscending};
 
 use feed_keep::{Record, is_listed_before};
 use feed_parts::Part;
