@@ -109,12 +109,14 @@ def names(browser, role):
 
 
 def look(browser):
-    """Prints what is wrong with the page for some readers: with bright or dark colours, and in windows of some widths."""
+    """Prints what is wrong with the page for some readers: with light or dark colours, and in some widths."""
     for scheme in ("light", "dark"):
-        browser.command("Emulation.setEmulatedMedia", features=[{"name": "prefers-color-scheme", "value": scheme}])
+        colours = {"name": "prefers-color-scheme", "value": scheme}
+        browser.command("Emulation.setEmulatedMedia", features=[colours])
         print(f"{scheme}: contrast of 4.5:", browser.script(CONTRAST) >= 4.5, "focus:", browser.script(FOCUS))
     for width in (320, 390, 640, 1200):
-        browser.command("Emulation.setDeviceMetricsOverride", width=width, height=900, deviceScaleFactor=1, mobile=False)
+        window = {"width": width, "height": 900, "deviceScaleFactor": 1, "mobile": False}
+        browser.command("Emulation.setDeviceMetricsOverride", **window)
         if browser.script(SCROLLS):
             print("scrolls sideways at", width)
     browser.command("Emulation.clearDeviceMetricsOverride")

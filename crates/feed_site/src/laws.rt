@@ -1,4 +1,5 @@
-//! Laws of the links of a page, of those to a request form, and of what a library has, each stated as the contract of a function with an empty body.
+//! Laws of the links of a page, of those to a request form, and of what a library has: each is the contract of a
+//! function with an empty body.
 ghost use Rattle.feed_site.specs.Laws.{ExceptedIsDirect, FreeIsDirect, NoProxyIsDirect, OthersGoThrough};
 ghost use Rattle.feed_site.specs.Laws.{LinkFits, SubdomainsAreWithin};
 ghost use Rattle.feed_site.specs.HeldLaws.{AllIsHeld, HeldDaysAreShown, OffIsNotHeld};

@@ -7,7 +7,8 @@ ghost use Rattle.toml.specs.View.{view, table_view, array_view};
 ghost use Rattle.feed_site.specs.Limits.{site_limit};
 ghost use Rattle.feed_site.specs.Positions.{position_of};
 ghost use Rattle.feed_site.specs.Proxies.{is_excepted};
-ghost use Rattle.feed_site.specs.Site.{except_in, or_empty, package_of, replacement, rows_in, text_in, texts_of, title_of};
+ghost use Rattle.feed_site.specs.Site.{except_in, or_empty, package_of, replacement, rows_in, text_in};
+ghost use Rattle.feed_site.specs.Site.{texts_of, title_of};
 ghost use Rattle.feed_site.specs.Syntax.{IsTextFault};
 
 use crate::checks::fault_of;

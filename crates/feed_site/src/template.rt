@@ -2,8 +2,8 @@
 ghost use Rattle.std.specs.Prelude.{◌≡◌, drop, option_copied};
 ghost use Rattle.std.specs.List.{list_all, list_any};
 ghost use Rattle.std.specs.Str.{bytes_eq};
-ghost use Rattle.feed_site.specs.Kinds.{ends_authority, has_end, has_fields, is_after_open, is_field, is_number_field, is_place_field};
-ghost use Rattle.feed_site.specs.Kinds.{is_front, is_template, is_work_field};
+ghost use Rattle.feed_site.specs.Kinds.{ends_authority, has_end, has_fields, is_after_open, is_field, is_front};
+ghost use Rattle.feed_site.specs.Kinds.{is_number_field, is_place_field, is_template, is_work_field};
 ghost use Rattle.feed_site.specs.Urls.{parts_between};
 
 use crate::cuts::{after, before, has};
