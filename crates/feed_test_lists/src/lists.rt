@@ -9,7 +9,9 @@ use feed_identifiers::{Isbn, Issn};
 use feed_kbart::{
     Aside, FileCount, Holdings, KbartFault, Kind, Row, count_file, read_file, read_parts,
 };
+use feed_list_check::read_windows;
 use feed_names::ReleaseName;
+use std::alloc::Global;
 use std::fs;
 
 pub fn read(rt: &HostRuntime, mut words: Words<'_>) -> Result<(), Fault> {
@@ -35,6 +37,17 @@ pub fn parts(rt: &HostRuntime, mut words: Words<'_>) -> Result<(), Fault> {
         calls: second,
     };
     print_read(rt, read_parts(rt.alloc(), check, read))
+}
+
+pub fn windows(rt: &HostRuntime, mut words: Words<'_>) -> Result<(), Fault> {
+    let size = words.number()?;
+    let bytes = fs::read(rt, words.word()?)?;
+    print_read(rt, list_in_windows(rt.alloc(), &bytes, size))
+}
+
+fn list_in_windows(alloc: Global, bytes: &[u8], size: usize) -> Result<Holdings, KbartFault> {
+    let windows: Vec<&[u8]> = bytes.chunks(size.max(1)).collect(alloc)?;
+    read_windows(alloc, &windows)
 }
 
 pub fn count(rt: &HostRuntime, mut words: Words<'_>) -> Result<(), Fault> {

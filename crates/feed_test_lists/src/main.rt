@@ -20,6 +20,7 @@
 //!     count STEP CALLS FILE   the counts of the same list, by `count_file`
 //!     parts STEP CALLS CALLS FILE
 //!                             the same list, by `read_parts`, with a number of calls for each of its two readers
+//!     windows SIZE FILE       the same list, by `feed_list_check`, in windows of at most SIZE bytes
 //!     rows FILE WORD          the places, from 0, of the rows that have an ISSN or an ISBN
 //!     write ROOM NAME TEXT    whether the answer to a query is written, from the list in the file NAME, to a writer
 //!                             that accepts ROOM bytes and then fails
@@ -88,6 +89,7 @@ fn run_words(rt: &HostRuntime, command: &str, words: Words<'_>) -> Result<(), Fa
         "read" => lists::read(rt, words),
         "count" => lists::count(rt, words),
         "parts" => lists::parts(rt, words),
+        "windows" => lists::windows(rt, words),
         "rows" => lists::rows(rt, words),
         "embargo" => embargoes::embargo(rt, words),
         "write" => lists::write(rt, words),
