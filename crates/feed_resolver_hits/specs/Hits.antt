@@ -19,7 +19,7 @@ use Rattle.feed_answer.specs.declared.grade.Grade.TheVariants.{Inside, Overlap, 
 use Rattle.feed_site.specs.Held.{library_has}
 use Rattle.feed_site.specs.Proxies.{prefix_for, through}
 use Rattle.feed_site.specs.Site as site_file
-use Rattle.feed_resolver_hits.specs.Links.{is_link}
+use Rattle.feed_site.specs.Urls.{is_link}
 
 -- a hit, its release, how the days that the query asks for lie in those that are open to readers, and the prefix of its
 -- link, if that goes through a proxy

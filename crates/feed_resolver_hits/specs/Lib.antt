@@ -1,4 +1,3 @@
-pub mod Links
 pub mod Hits
 pub mod Ranks
 pub mod Searches

@@ -7,7 +7,7 @@ ghost use Rattle.feed_resolver_hits.specs.HitsJson.{access_members, hit_object};
 ghost use Rattle.feed_resolver_hits.specs.HitsJson.{more_start, more_object, more_items, hits_json};
 ghost use Rattle.feed_resolver_hits.specs.Tallying.{tally_from};
 
-use crate::embargo_phrases::embargo_words;
+use crate::embargo_words::embargo_words;
 use crate::hits::{ReleaseHit, name_text};
 use crate::tally::Tally;
 use feed_answer::Grade;
