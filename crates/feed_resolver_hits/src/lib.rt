@@ -7,6 +7,7 @@ mod ask;
 mod asked;
 mod candidates;
 mod citation_page;
+mod coverage;
 mod embargo_words;
 mod hits;
 mod hits_json;
