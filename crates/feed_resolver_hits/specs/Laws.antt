@@ -1,5 +1,5 @@
 -- The laws of redirects and of hits in JSON.
-use Rattle.std.specs.Prelude.{◌≡◌, ◌↔◌, ◌<◌, ◌^◌, ℕ, List, Some, true, All, map}
+use Rattle.std.specs.Prelude.{◌≡◌, ◌↔◌, ◌<◌, ◌^◌, ℕ, List, Some, true, All}
 use Rattle.json.specs.Json.{document, array}
 use Rattle.json.specs.Value.{items_of}
 use Rattle.feed_names.specs.ReleaseName.{Name}
@@ -31,7 +31,7 @@ abbrev pub BestLinkRanksHighest : Type 0
 BestLinkRanksHighest = (hits : List ReleaseHitValue) → IsBestLink hits (best_link hits)
 
 -- the rank of one hit is higher than that of another exactly if its availability is better, or that is the same and its
--- grade is better, or both are the same and its depth and access are
+-- grade is better, or both are the same and its depth and access are, or these are too and the site lists its package first
 abbrev pub RanksInOrder : Type 0
 RanksInOrder = (one other : ReleaseHitValue) → (rank_of other < rank_of one) ↔ IsPreferred one other
 

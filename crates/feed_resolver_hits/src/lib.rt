@@ -6,6 +6,7 @@ mod answer_json;
 mod ask;
 mod asked;
 mod candidates;
+mod coverage;
 mod embargo_words;
 mod hits;
 mod hits_json;

@@ -12,7 +12,7 @@ use std::marker::Model;
 #[derive(Drop)]
 pub(crate) struct Links {
     // The rank of the hit; without a link it has no meaning.
-    rank: u8,
+    rank: u32,
     link: Option<Vec<u8>>,
 }
 
