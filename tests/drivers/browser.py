@@ -101,6 +101,11 @@ return [...document.querySelectorAll("a, button, input:not([type=hidden])")].eve
 SCROLLS = "return document.documentElement.scrollWidth > document.documentElement.clientWidth"
 
 
+def resize(browser, width):
+    browser.command("Emulation.setDeviceMetricsOverride",
+                    width=width, height=900, deviceScaleFactor=1, mobile=False)
+
+
 def names(browser, role):
     """Returns the names that a screen reader announces for the elements of a role."""
     nodes = browser.command("Accessibility.getFullAXTree")["nodes"]
@@ -109,14 +114,13 @@ def names(browser, role):
 
 
 def look(browser):
-    """Prints what is wrong with the page for some readers: with light or dark colours, and in some widths."""
+    """Prints what is wrong with the page for some readers: in light or dark colours, and in windows of some widths."""
     for scheme in ("light", "dark"):
         colours = {"name": "prefers-color-scheme", "value": scheme}
         browser.command("Emulation.setEmulatedMedia", features=[colours])
         print(f"{scheme}: contrast of 4.5:", browser.script(CONTRAST) >= 4.5, "focus:", browser.script(FOCUS))
     for width in (320, 390, 640, 1200):
-        window = {"width": width, "height": 900, "deviceScaleFactor": 1, "mobile": False}
-        browser.command("Emulation.setDeviceMetricsOverride", **window)
+        resize(browser, width)
         if browser.script(SCROLLS):
             print("scrolls sideways at", width)
     browser.command("Emulation.clearDeviceMetricsOverride")
@@ -143,7 +147,7 @@ def fill(browser, values):
 
 def save(browser, path, width, scheme="light"):
     browser.command("Emulation.setEmulatedMedia", features=[{"name": "prefers-color-scheme", "value": scheme}])
-    browser.command("Emulation.setDeviceMetricsOverride", width=width, height=900, deviceScaleFactor=1, mobile=False)
+    resize(browser, width)
     with open(path, "wb") as file:
         file.write(base64.b64decode(browser.asked("GET", "/screenshot")))
 

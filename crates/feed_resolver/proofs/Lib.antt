@@ -5,7 +5,6 @@ pub mod Requests
 pub mod Resources
 pub mod SameBytes
 pub mod StatusTexts
-pub mod Written
 pub mod WholeTexts
 pub mod Tagged
 pub mod Conditions

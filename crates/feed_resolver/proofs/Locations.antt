@@ -27,7 +27,7 @@ use Rattle.feed_resolver_hits.specs.Asked.{asked_of}
 use Rattle.feed_resolver_hits.specs.Asks.{AskValue, ask_of, names_work}
 use Rattle.feed_site.specs.Site as site_file
 use Rattle.feed_resolver_page.specs.QueryRefusals.{is_numberless, numberless_body, numberless_status, reason_text, unasked_reply}
-use Rattle.feed_resolver_hits.specs.Links.{is_link, link_limit, is_visible, begins_with}
+use Rattle.feed_site.specs.Urls.{is_link, url_limit, is_visible, begins_with}
 use Rattle.feed_resolver_hits.specs.Hits.{best_link}
 use Rattle.feed_resolver_hits.specs.Tallies.{counted}
 use Rattle.feed_resolver_hits.proofs.Redirects.{best_is}
@@ -49,7 +49,7 @@ pub link_location : (url : List ℕ) → is_link url ≡ true → IsLocation url
 link_location url link = All-weaker (λ b. is_visible b ≡ true) (λ b. is_uri_byte b ≡ true) visible_byte url
     (AllPass-from_list_all is_visible url
     (second (begins_with (codes "http://") url || begins_with (codes "https://") url) (list_all is_visible url)
-    (second (nat_le (length url) link_limit) ((begins_with (codes "http://") url || begins_with (codes "https://") url) && list_all is_visible url) link)))
+    (second (nat_le (length url) url_limit) ((begins_with (codes "http://") url || begins_with (codes "https://") url) && list_all is_visible url) link)))
 
 -- a reply with a location that can be stated, and without a tag
 abbrev pub IsLocated : ReplyValue → Type 0
@@ -65,7 +65,8 @@ either_located : (b : Bool) (one other : ReplyValue) → IsLocated one → IsLoc
 either_located true one other first second = first
 either_located false one other first second = second
 
-unasked_located : (site : site_file.SiteValue) (query : List ℕ) (code : Status) (representation : Representation) (ask : AskValue) (why : Refusal) → IsLocated (unasked_reply site query code representation ask why)
+unasked_located : (site : site_file.SiteValue) (query : List ℕ) (code : Status) (representation : Representation) (ask : AskValue) (why : Refusal)
+    → IsLocated (unasked_reply site query code representation ask why)
 unasked_located site query code representation ask why =
     either_located (is_numberless why)
     (reply_with (numberless_status (names_work ask.citation) code) representation (numberless_body site query (names_work ask.citation) representation ask why))

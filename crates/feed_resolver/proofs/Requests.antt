@@ -33,7 +33,7 @@ use Rattle.feed_resolver_reply.proofs.HeadsRead.{head_of, sent_as}
 use Rattle.feed_resolver_hits.specs.Hits.{ReleaseHitValue, best_link}
 use Rattle.feed_resolver_hits.specs.Asked.{asked_of}
 use Rattle.feed_resolver_hits.specs.Ranks.{IsBestLink}
-use Rattle.feed_resolver_hits.specs.Links.{is_link}
+use Rattle.feed_site.specs.Urls.{is_link}
 use Rattle.feed_resolver_hits.specs.Tallies.{counted}
 use Rattle.feed_resolver_hits.proofs.BestLinks as links
 use Rattle.feed_resolver_tag.specs.Tags.{SiteValue}
@@ -282,7 +282,7 @@ read_form post n is =
 
 -- the answer by the representations that a request names and accepts
 abbrev answer_by : Resource → Representation → Representation → List ℕ → List ℕ → Sited → ReplyValue
-answer_by resource.Home named accepted path query actives = reply_with status.Good Html (home_page actives.actives)
+answer_by resource.Home named accepted path query actives = reply_with status.Good Html (home_page actives.library actives.actives)
 answer_by resource.Status named accepted path query actives = reply_with status.Good named (status_body named actives.actives)
 answer_by resource.Resolve named accepted path query actives = resolve_reply named query actives
 answer_by resource.Package named accepted path query actives = package_reply named (package_in path) query actives

@@ -67,7 +67,7 @@ go_reply representation text actives =
 
 -- the reply by the kind of path, to this query
 abbrev pub resource_reply : Resource → RequestHead → List ℕ → List ℕ → Sited → ReplyValue
-resource_reply resource.Home head path query actives = reply_with status.Good Html (home_page actives.actives)
+resource_reply resource.Home head path query actives = reply_with status.Good Html (home_page actives.library actives.actives)
 resource_reply resource.Status head path query actives =
     reply_with status.Good (representation_of query head) (status_body (representation_of query head) actives.actives)
 resource_reply resource.Resolve head path query actives = resolve_reply (representation_of query head) query actives

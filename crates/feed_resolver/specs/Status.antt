@@ -9,9 +9,14 @@ use Rattle.feed_resolver_request.specs.declared.representation.Representation.Th
 use Rattle.feed_resolver_reply.specs.Escapes.{escaped}
 use Rattle.feed_resolver_reply.specs.JsonLists.{json_list}
 use Rattle.feed_resolver_reply.specs.Pieces.{joined}
-use Rattle.feed_resolver_reply.specs.Pages.{page_start, page_end, form_text}
+use Rattle.feed_resolver_reply.specs.Pages.{page_start, page_end}
+use Rattle.feed_resolver_page.specs.Frames.{page_top}
+use Rattle.feed_resolver_page.specs.HitsPage.{page_foot, section_heading}
+use Rattle.feed_resolver_page.specs.SearchForms.{search_form}
+use Rattle.feed_site.specs.Site as site_file
+use Rattle.feed_site.specs.Texts.{text_of}
+use Rattle.feed_page_texts.specs.declared.table.Text.TheVariants as text
 use Rattle.feed_resolver_hits.specs.Hits.{name_text}
-use Rattle.feed_resolver.specs.declared.status.TheConstants.{HOME_END}
 use Rattle.feed_resolver_hits.specs.HitsJson.{release_members, text_member}
 
 -- a package and its release, as an item of a page's list
@@ -37,10 +42,13 @@ status_body Text actives = flat_map active_line actives
 status_body Json actives = json_list active_object actives
 status_body Html actives = page_start (codes "Active releases") ++ (active_items actives ++ page_end)
 
+-- the packages, and the end of the page
+unfoldable pub packages_part : site_file.SiteValue → List ActiveValue → List ℕ
+packages_part site actives = section_heading (text_of site text.Packages) ++ (active_items actives ++ page_foot site)
+
 -- the page with the form and the packages
-unfoldable pub home_page : List ActiveValue → List ℕ
-home_page actives =
-    page_start (codes "Find holdings") ++ (form_text ++ (active_items actives ++ HOME_END.now))
+unfoldable pub home_page : site_file.SiteValue → List ActiveValue → List ℕ
+home_page site actives = page_top site text.FindHoldings ++ (search_form site [] ++ packages_part site actives)
 
 -- the object that states an active release
 abbrev pub active_value : ActiveValue → json.Json

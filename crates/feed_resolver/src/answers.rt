@@ -1,7 +1,8 @@
 //! Counts the hits of a query in the active releases on a day, and writes the body that lists them.
 ghost use Rattle.std.specs.Prelude.{◌≡◌, ◌++◌, IfOk, OnOk};
 ghost use Rattle.feed_resolver_hits.specs.Tallying.{no_hits, with_hits};
-ghost use Rattle.feed_resolver.specs.Answers.{answers_body, hits_among, is_placed, others_beside, release_hits, sited_in};
+ghost use Rattle.feed_resolver.specs.Answers.{answers_body, hits_among, is_placed, others_beside};
+ghost use Rattle.feed_resolver.specs.Answers.{release_hits, sited_in};
 ghost use Rattle.feed_resolver.specs.AnswerTexts.{texts_from};
 
 use crate::context::Context;

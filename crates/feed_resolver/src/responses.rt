@@ -179,12 +179,16 @@ fn go_reply(
     }
 }
 
-fn home_reply(alloc: Global, actives: &[ActiveRelease<'_>]) -> Result<Reply, AllocError>
+fn home_reply(
+    alloc: Global,
+    site: &SiteFile,
+    actives: &[ActiveRelease<'_>],
+) -> Result<Reply, AllocError>
     ensures { IfOk result (λ reply. reply
-        ≡ reply_with status.Good Representation.Html (home_page actives.now)) }
+        ≡ reply_with status.Good Representation.Html (home_page site.now actives.now)) }
 {
     let mut body = Vec::new(alloc);
-    put_home_page(&mut body, actives)?;
+    put_home_page(&mut body, site, actives)?;
     Ok(Reply::new(Status::Good, Representation::Html, body))
 }
 
@@ -216,7 +220,7 @@ fn resource_reply(
     let representation = representation_of(query, &request.fields());
     let accepted = accepted_representation(&request.fields());
     match resource_of(path) {
-        Resource::Home => home_reply(alloc, context.actives),
+        Resource::Home => home_reply(alloc, context.library(), context.actives),
         Resource::Status => status_reply(alloc, representation, context.actives),
         Resource::Resolve => resolve_reply(alloc, representation, query, context),
         Resource::Package => package_reply(alloc, representation, package_in(path), query, context),

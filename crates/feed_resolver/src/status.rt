@@ -4,19 +4,19 @@ ghost use Rattle.std.specs.List.{flat_map};
 ghost use Rattle.feed_resolver_request.specs.declared.representation.Representation.TheVariants as representation;
 ghost use Rattle.feed_resolver_reply.specs.JsonLists.{items_from, json_list};
 ghost use Rattle.feed_resolver.specs.Status.{active_item, active_items, active_line, active_object, status_body};
-ghost use Rattle.feed_resolver.specs.Status.{home_page};
+ghost use Rattle.feed_resolver.specs.Status.{home_page, packages_part};
 
+use feed_page_texts::Text;
 use feed_pieces::put_all;
 use feed_releases::ActiveRelease;
 use feed_resolver_hits::{name_text, put_release_members};
+use feed_resolver_page::{put_page_foot, put_page_top, put_search_form, put_section_heading};
 use feed_resolver_reply::{
-    Piece, put, put_comma, put_form, put_list_end, put_list_start, put_page_end, put_page_start,
+    Piece, put, put_comma, put_list_end, put_list_start, put_page_end, put_page_start,
 };
 use feed_resolver_request::Representation;
+use feed_site::{SiteFile, text_of};
 use std::alloc::AllocError;
-
-// The end of the home page.
-const HOME_END: &[u8] = b"</main>\n</body>\n</html>\n";
 
 #[tactic(auto, unfolding(crate::specs::Status::active_item))]
 fn put_item(out: &mut Vec<u8>, active: &ActiveRelease<'_>) -> Result<(), AllocError>
@@ -121,16 +121,29 @@ pub(crate) fn put_status(
     }
 }
 
+#[tactic(auto, unfolding(crate::specs::Status::packages_part))]
+fn put_packages(
+    out: &mut Vec<u8>,
+    site: &SiteFile,
+    actives: &[ActiveRelease<'_>],
+) -> Result<(), AllocError>
+    ensures { OnOk result (out.new.items ≡ out.old.items ++ packages_part site.now actives.now) }
+{
+    put_section_heading(out, text_of(site, Text::Packages))?;
+    put_items(out, actives)?;
+    put_page_foot(out, site)
+}
+
 /// Writes the page with the form and the packages.
 #[tactic(auto, unfolding(crate::specs::Status::home_page))]
 pub(crate) fn put_home_page(
     out: &mut Vec<u8>,
+    site: &SiteFile,
     actives: &[ActiveRelease<'_>],
 ) -> Result<(), AllocError>
-    ensures { OnOk result (out.new.items ≡ out.old.items ++ home_page actives.now) }
+    ensures { OnOk result (out.new.items ≡ out.old.items ++ home_page site.now actives.now) }
 {
-    put_page_start(out, b"Find holdings")?;
-    put_form(out)?;
-    put_items(out, actives)?;
-    put(out, HOME_END)
+    put_page_top(out, site, Text::FindHoldings)?;
+    put_search_form(out, site, &[])?;
+    put_packages(out, site, actives)
 }

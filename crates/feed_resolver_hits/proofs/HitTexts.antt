@@ -23,6 +23,8 @@ use Rattle.feed_resolver_reply.proofs.JsonTexts.{Lexes, lexes_then, lexes_string
 use Rattle.feed_resolver_hits.specs.EmbargoWords.{embargo_words}
 use Rattle.feed_resolver_hits.specs.Hits.{ReleaseHitValue, link_text, name_text}
 use Rattle.feed_resolver_hits.specs.HitsJson.{availability_text, release_members, grade_members, title_members, access_members, hit_object}
+use Rattle.feed_resolver_hits.specs.Coverages.{day_text, days_words, volume_text, volumes_words}
+use Rattle.feed_resolver_hits.specs.HitsJson.{days_members, host_text, row_members, target_members, volumes_members}
 use Rattle.feed_resolver_hits.specs.HitsJson.{more_start, more_object, more_items, hits_json, hit_value, more_value, item_values}
 use Rattle.feed_resolver_hits.specs.Laws.{HitsAreJson}
 
@@ -131,6 +133,79 @@ lexes_title row link =
     (with_string (codes ",\"title_id\":") row.title_id _ _ _ title_id_key
     (with_string (codes ",\"depth\":") row.depth [] _ _ depth_key nothing)))
 
+target_key : Lexes (codes ",\"target\":") (comma ∷ token (Token.string (codes "target")) ∷ colon ∷ [])
+unfolding lex content
+target_key = record { lexed = λ rest. refl }
+
+host_key : Lexes (codes ",\"host\":") (comma ∷ token (Token.string (codes "host")) ∷ colon ∷ [])
+unfolding lex content
+host_key = record { lexed = λ rest. refl }
+
+first_day_key : Lexes (codes ",\"first_day\":") (comma ∷ token (Token.string (codes "first_day")) ∷ colon ∷ [])
+unfolding lex content
+first_day_key = record { lexed = λ rest. refl }
+
+last_day_key : Lexes (codes ",\"last_day\":") (comma ∷ token (Token.string (codes "last_day")) ∷ colon ∷ [])
+unfolding lex content
+last_day_key = record { lexed = λ rest. refl }
+
+days_key : Lexes (codes ",\"days_words\":") (comma ∷ token (Token.string (codes "days_words")) ∷ colon ∷ [])
+unfolding lex content
+days_key = record { lexed = λ rest. refl }
+
+first_volume_key : Lexes (codes ",\"first_volume\":") (comma ∷ token (Token.string (codes "first_volume")) ∷ colon ∷ [])
+unfolding lex content
+first_volume_key = record { lexed = λ rest. refl }
+
+last_volume_key : Lexes (codes ",\"last_volume\":") (comma ∷ token (Token.string (codes "last_volume")) ∷ colon ∷ [])
+unfolding lex content
+last_volume_key = record { lexed = λ rest. refl }
+
+volumes_key : Lexes (codes ",\"volumes_words\":") (comma ∷ token (Token.string (codes "volumes_words")) ∷ colon ∷ [])
+unfolding lex content
+volumes_key = record { lexed = λ rest. refl }
+
+abbrev target_lexemes : RowValue → List Lexeme
+target_lexemes row = string_lexemes (codes "target") row.url (string_lexemes (codes "host") (host_text row.url) [])
+
+lexes_target : (row : RowValue) → Lexes (target_members row) (target_lexemes row)
+unfolding target_members
+lexes_target row =
+    with_string (codes ",\"target\":") row.url _ _ _ target_key (with_string (codes ",\"host\":") (host_text row.url) [] _ _ host_key nothing)
+
+abbrev days_lexemes : RowValue → List Lexeme
+days_lexemes row =
+    string_lexemes (codes "first_day") (day_text row.first_day) (string_lexemes (codes "last_day") (day_text row.last_day)
+    (string_lexemes (codes "days_words") (days_words row) []))
+
+lexes_days : (row : RowValue) → Lexes (days_members row) (days_lexemes row)
+unfolding days_members
+lexes_days row =
+    with_string (codes ",\"first_day\":") (day_text row.first_day) _ _ _ first_day_key
+    (with_string (codes ",\"last_day\":") (day_text row.last_day) _ _ _ last_day_key
+    (with_string (codes ",\"days_words\":") (days_words row) [] _ _ days_key nothing))
+
+abbrev volumes_lexemes : RowValue → List Lexeme
+volumes_lexemes row =
+    string_lexemes (codes "first_volume") (volume_text row.first_volume) (string_lexemes (codes "last_volume") (volume_text row.last_volume)
+    (string_lexemes (codes "volumes_words") (volumes_words row) []))
+
+lexes_volumes : (row : RowValue) → Lexes (volumes_members row) (volumes_lexemes row)
+unfolding volumes_members
+lexes_volumes row =
+    with_string (codes ",\"first_volume\":") (volume_text row.first_volume) _ _ _ first_volume_key
+    (with_string (codes ",\"last_volume\":") (volume_text row.last_volume) _ _ _ last_volume_key
+    (with_string (codes ",\"volumes_words\":") (volumes_words row) [] _ _ volumes_key nothing))
+
+abbrev row_lexemes : RowValue → List ℕ → List Lexeme
+row_lexemes row link = title_lexemes row link ++ (target_lexemes row ++ (days_lexemes row ++ volumes_lexemes row))
+
+lexes_row : (row : RowValue) (link : List ℕ) → Lexes (row_members row link) (row_lexemes row link)
+unfolding row_members
+lexes_row row link = lexes_then (title_members row link) _ (title_lexemes row link) _ (lexes_title row link)
+    (lexes_then (target_members row) _ (target_lexemes row) _ (lexes_target row)
+    (lexes_then (days_members row) (volumes_members row) (days_lexemes row) (volumes_lexemes row) (lexes_days row) (lexes_volumes row)))
+
 abbrev access_lexemes : RowValue → List ℕ → List Lexeme
 access_lexemes row words =
     string_lexemes (codes "embargo") row.embargo (string_lexemes (codes "embargo_words") words
@@ -146,14 +221,14 @@ lexes_access row words =
 abbrev hit_lexemes : ReleaseHitValue → List Lexeme
 hit_lexemes found =
     release_lexemes found.name
-    ++ (grade_lexemes found ++ (title_lexemes found.hit.row (link_text found) ++ access_lexemes found.hit.row (embargo_words found.hit.row.embargo)))
+    ++ (grade_lexemes found ++ (row_lexemes found.hit.row (link_text found) ++ access_lexemes found.hit.row (embargo_words found.hit.row.embargo)))
 
 lexes_hit : (found : ReleaseHitValue) → found.hit.row.number < 2 ^ 64 → Lexes (hit_object found) (hit_lexemes found)
 unfolding hit_object
 lexes_hit found small = lexes_then (release_members found.name) _ (release_lexemes found.name) _ (lexes_release found.name)
     (lexes_then (grade_members found) _ (grade_lexemes found) _ (lexes_grade found small)
-    (lexes_then (title_members found.hit.row (link_text found)) (access_members found.hit.row (embargo_words found.hit.row.embargo)) (title_lexemes found.hit.row (link_text found))
-    (access_lexemes found.hit.row (embargo_words found.hit.row.embargo)) (lexes_title found.hit.row (link_text found))
+    (lexes_then (row_members found.hit.row (link_text found)) (access_members found.hit.row (embargo_words found.hit.row.embargo)) (row_lexemes found.hit.row (link_text found))
+    (access_lexemes found.hit.row (embargo_words found.hit.row.embargo)) (lexes_row found.hit.row (link_text found))
     (lexes_access found.hit.row (embargo_words found.hit.row.embargo))))
 
 hit_is : (found : ReleaseHitValue) → AreOf (hit_lexemes found) (hit_value found)

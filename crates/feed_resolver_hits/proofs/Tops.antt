@@ -1,6 +1,6 @@
 -- The hits of the highest ranks, made hit by hit, are the first ones in the order of ranks.
-use Rattle.std.proofs.Common.{◌≡◌, ◌<◌, ◌≤◌, ◌-◌, ◌+◌, ◌*◌, ◌⊎◌, ℕ, zero, suc, List, [], ◌∷◌, ◌++◌, Bool, true, false, refl, sym, ap, ◌∙◌, subst, inl, inr, arith, length, take, drop, append_assoc}
-use Rattle.std.specs.Prelude.{◌==◌, ◌&&◌, ◌↔◌, fold, filter, if◌then◌else◌, insert, nat_lt, reverse}
+use Rattle.std.proofs.Common.{◌≡◌, ◌<◌, ◌≤◌, ◌-◌, ◌+◌, ◌*◌, ◌⊎◌, ℕ, zero, suc, List, [], ◌∷◌, ◌++◌, Bool, true, false, refl, sym, ap, ◌∙◌, subst, inl, inr, arith, length, take, append_assoc}
+use Rattle.std.specs.Prelude.{◌==◌, ◌&&◌, ◌↔◌, fold, if◌then◌else◌, insert, nat_lt, reverse}
 use Rattle.std.proofs.lemmas.List.{append-nil, reverse-append}
 use Rattle.std.proofs.lemmas.List.Edits.{insert-append_right}
 use Rattle.std.proofs.lemmas.List.Elements.{filter-append}
@@ -12,7 +12,7 @@ use Rattle.feed_answer.specs.declared.grade.Grade.TheVariants.{Inside, Overlap, 
 use Rattle.feed_embargo.specs.declared.availability.Availability.{Availability}
 use Rattle.feed_embargo.specs.declared.availability.Availability.TheVariants.{Available, Partly, NotCompared, Embargoed}
 use Rattle.feed_kbart.specs.RowValue.{RowValue}
-use Rattle.feed_resolver_hits.specs.Hits.{ReleaseHitValue, availability_rank, grade_rank, text_rank, rank_of}
+use Rattle.feed_resolver_hits.specs.Hits.{ReleaseHitValue, availability_rank, grade_rank, place_rank, text_rank, rank_of}
 use Rattle.feed_resolver_hits.specs.Ranks.{in_rank, below_rank, ranked, rank_limit}
 use Rattle.feed_resolver_hits.specs.Laws.{RanksInOrder}
 use Rattle.feed_resolver_hits.specs.Tallies.{first_within, shown_limit, text_size}
@@ -39,12 +39,16 @@ two_or_less false b = omega arith
 text_small : (row : RowValue) → text_rank row ≤ 2
 text_small row = two_or_less _ _
 
+place_small : (place : ℕ) → place_rank place ≤ 65535
+place_small place = omega arith
+
 pub rank_small : (found : ReleaseHitValue) → rank_of found < rank_limit
 rank_small found =
     let one = availability_small found.availability in
     let two = grade_small found.hit.grade in
     let three = text_small found.hit.row in
-    omega (arith, one, two, three)
+    let four = place_small found.place in
+    omega (arith, one, two, three, four)
 
 -- ---- hits above and below a rank
 
@@ -324,8 +328,65 @@ order a b c d e f p q r s = (forth, back)
     back (inr (inl (same, less))) = omega (arith, p, q, r, s, same, less)
     back (inr (inr (same, also, less))) = omega (arith, p, q, r, s, same, also, less)
 
+-- equal sums have equal parts
+same_parts : (a b c d e f : ℕ) → b ≤ 2 → c ≤ 2 → e ≤ 2 → f ≤ 2 → 9 * d + 3 * e + f ≡ 9 * a + 3 * b + c → (d ≡ a) × (e ≡ b) × (f ≡ c)
+same_parts a b c d e f p q r s same =
+    (omega (arith, p, q, r, s, same), omega (arith, p, q, r, s, same), omega (arith, p, q, r, s, same))
+
+-- a place decides if the rest is the same
+order_of_places : (m n i j : ℕ) → i ≤ 65535 → j ≤ 65535 → (65536 * n + j < 65536 * m + i) ↔ ((n < m) ⊎ ((n ≡ m) × (j < i)))
+order_of_places m n i j p q = (forth, back)
+  where
+    forth : 65536 * n + j < 65536 * m + i → (n < m) ⊎ ((n ≡ m) × (j < i))
+    forth lt = elim (cases_lt n m) [
+      | inl less ↦ inl less
+      | inr ge ↦ inr (omega (arith, p, q, lt, ge), omega (arith, p, q, lt, ge))
+    ]
+
+    back : (n < m) ⊎ ((n ≡ m) × (j < i)) → 65536 * n + j < 65536 * m + i
+    back (inl less) = omega (arith, p, q, less)
+    back (inr (same, less)) = omega (arith, p, q, same, less)
+
+whole_order : (a b c d e f i j : ℕ) → b ≤ 2 → c ≤ 2 → e ≤ 2 → f ≤ 2 → i ≤ 65535 → j ≤ 65535
+    → (65536 * (9 * d + 3 * e + f) + j < 65536 * (9 * a + 3 * b + c) + i)
+    ↔ ((d < a) ⊎ ((d ≡ a) × (e < b)) ⊎ ((d ≡ a) × (e ≡ b) × (f < c)) ⊎ ((d ≡ a) × (e ≡ b) × (f ≡ c) × (j < i)))
+whole_order a b c d e f i j p q r s t u = (forth, back)
+  where
+    places : (65536 * (9 * d + 3 * e + f) + j < 65536 * (9 * a + 3 * b + c) + i)
+        ↔ ((9 * d + 3 * e + f < 9 * a + 3 * b + c) ⊎ ((9 * d + 3 * e + f ≡ 9 * a + 3 * b + c) × (j < i)))
+    places = order_of_places (9 * a + 3 * b + c) (9 * d + 3 * e + f) i j t u
+
+    parts : (9 * d + 3 * e + f < 9 * a + 3 * b + c) ↔ ((d < a) ⊎ ((d ≡ a) × (e < b)) ⊎ ((d ≡ a) × (e ≡ b) × (f < c)))
+    parts = order a b c d e f p q r s
+
+    better_parts : (d < a) ⊎ ((d ≡ a) × (e < b)) ⊎ ((d ≡ a) × (e ≡ b) × (f < c))
+        → (d < a) ⊎ ((d ≡ a) × (e < b)) ⊎ ((d ≡ a) × (e ≡ b) × (f < c)) ⊎ ((d ≡ a) × (e ≡ b) × (f ≡ c) × (j < i))
+    better_parts (inl less) = inl less
+    better_parts (inr (inl less)) = inr (inl less)
+    better_parts (inr (inr less)) = inr (inr (inl less))
+
+    split_sum : (9 * d + 3 * e + f < 9 * a + 3 * b + c) ⊎ ((9 * d + 3 * e + f ≡ 9 * a + 3 * b + c) × (j < i))
+        → (d < a) ⊎ ((d ≡ a) × (e < b)) ⊎ ((d ≡ a) × (e ≡ b) × (f < c)) ⊎ ((d ≡ a) × (e ≡ b) × (f ≡ c) × (j < i))
+    split_sum (inl less) = better_parts (parts.0 less)
+    split_sum (inr (same, less)) =
+        let equal = same_parts a b c d e f p q r s same in
+        inr (inr (inr (equal.0, equal.1, equal.2, less)))
+
+    forth : 65536 * (9 * d + 3 * e + f) + j < 65536 * (9 * a + 3 * b + c) + i
+        → (d < a) ⊎ ((d ≡ a) × (e < b)) ⊎ ((d ≡ a) × (e ≡ b) × (f < c)) ⊎ ((d ≡ a) × (e ≡ b) × (f ≡ c) × (j < i))
+    forth lt = split_sum (places.0 lt)
+
+    back : (d < a) ⊎ ((d ≡ a) × (e < b)) ⊎ ((d ≡ a) × (e ≡ b) × (f < c)) ⊎ ((d ≡ a) × (e ≡ b) × (f ≡ c) × (j < i))
+        → 65536 * (9 * d + 3 * e + f) + j < 65536 * (9 * a + 3 * b + c) + i
+    back (inl less) = places.1 (inl (parts.1 (inl less)))
+    back (inr (inl less)) = places.1 (inl (parts.1 (inr (inl less))))
+    back (inr (inr (inl less))) = places.1 (inl (parts.1 (inr (inr less))))
+    back (inr (inr (inr (x, y, z, less)))) = places.1 (inr (omega (arith, x, y, z), less))
+
 pub preferred : RanksInOrder
 preferred one other =
-    order (availability_rank one.availability) (grade_rank one.hit.grade) (text_rank one.hit.row)
+    whole_order (availability_rank one.availability) (grade_rank one.hit.grade) (text_rank one.hit.row)
     (availability_rank other.availability) (grade_rank other.hit.grade) (text_rank other.hit.row)
+    (place_rank one.place) (place_rank other.place)
     (grade_small one.hit.grade) (text_small one.hit.row) (grade_small other.hit.grade) (text_small other.hit.row)
+    (place_small one.place) (place_small other.place)

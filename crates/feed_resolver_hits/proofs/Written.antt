@@ -7,7 +7,8 @@ use Rattle.feed_resolver_reply.specs.Pieces.{joined}
 use Rattle.feed_resolver_reply.proofs.Written.{in_four}
 use Rattle.feed_resolver_hits.specs.EmbargoWords.{embargo_words}
 use Rattle.feed_resolver_hits.specs.Hits.{ReleaseHitValue, link_text, name_text}
-use Rattle.feed_resolver_hits.specs.HitsJson.{release_members, grade_members, title_members, access_members, hit_object}
+use Rattle.feed_resolver_hits.specs.HitsJson.{release_members, grade_members, row_members, days_members, volumes_members, access_members, hit_object}
+use Rattle.feed_resolver_hits.specs.Coverages.{day_text, days_words, volume_text, volumes_words}
 
 -- the members that identify a release
 pub release_named : (old new key text : List ℕ) (name : Name) → key ≡ name.stem → text ≡ name_text name
@@ -26,14 +27,34 @@ access_written old new embargo access row words same also is = is
     ∙ ap (λ e. old ++ joined (codes ",\"embargo\":" ∷ json_string e ∷ codes ",\"embargo_words\":" ∷ json_string words ∷ codes ",\"access\":" ∷ json_string access ∷ codes "}" ∷ [])) same
     ∙ ap (λ a. old ++ joined (codes ",\"embargo\":" ∷ json_string row.embargo ∷ codes ",\"embargo_words\":" ∷ json_string words ∷ codes ",\"access\":" ∷ json_string a ∷ codes "}" ∷ [])) also
 
+-- the members for the days of a row
+pub days_written : (old new first last words : List ℕ) (row : RowValue) → first ≡ day_text row.first_day → last ≡ day_text row.last_day → words ≡ days_words row
+    → new ≡ old ++ joined (codes ",\"first_day\":" ∷ json_string first ∷ codes ",\"last_day\":" ∷ json_string last ∷ codes ",\"days_words\":" ∷ json_string words ∷ [])
+    → new ≡ old ++ days_members row
+unfolding days_members
+days_written old new first last words row one two three is = is
+    ∙ ap (λ (t : List ℕ). old ++ joined (codes ",\"first_day\":" ∷ json_string t ∷ codes ",\"last_day\":" ∷ json_string last ∷ codes ",\"days_words\":" ∷ json_string words ∷ [])) one
+    ∙ ap (λ (t : List ℕ). old ++ joined (codes ",\"first_day\":" ∷ json_string (day_text row.first_day) ∷ codes ",\"last_day\":" ∷ json_string t ∷ codes ",\"days_words\":" ∷ json_string words ∷ [])) two
+    ∙ ap (λ (t : List ℕ). old ++ joined (codes ",\"first_day\":" ∷ json_string (day_text row.first_day) ∷ codes ",\"last_day\":" ∷ json_string (day_text row.last_day) ∷ codes ",\"days_words\":" ∷ json_string t ∷ [])) three
+
+-- the members for the volumes of a row
+pub volumes_written : (old new first last words : List ℕ) (row : RowValue) → first ≡ volume_text row.first_volume → last ≡ volume_text row.last_volume → words ≡ volumes_words row
+    → new ≡ old ++ joined (codes ",\"first_volume\":" ∷ json_string first ∷ codes ",\"last_volume\":" ∷ json_string last ∷ codes ",\"volumes_words\":" ∷ json_string words ∷ [])
+    → new ≡ old ++ volumes_members row
+unfolding volumes_members
+volumes_written old new first last words row one two three is = is
+    ∙ ap (λ (t : List ℕ). old ++ joined (codes ",\"first_volume\":" ∷ json_string t ∷ codes ",\"last_volume\":" ∷ json_string last ∷ codes ",\"volumes_words\":" ∷ json_string words ∷ [])) one
+    ∙ ap (λ (t : List ℕ). old ++ joined (codes ",\"first_volume\":" ∷ json_string (volume_text row.first_volume) ∷ codes ",\"last_volume\":" ∷ json_string t ∷ codes ",\"volumes_words\":" ∷ json_string words ∷ [])) two
+    ∙ ap (λ (t : List ℕ). old ++ joined (codes ",\"first_volume\":" ∷ json_string (volume_text row.first_volume) ∷ codes ",\"last_volume\":" ∷ json_string (volume_text row.last_volume) ∷ codes ",\"volumes_words\":" ∷ json_string t ∷ [])) three
+
 -- the object of a hit
 pub object_written : (old one two three new : List ℕ) (row : RowValue) (link words : List ℕ) (found : ReleaseHitValue)
     → row ≡ found.hit.row → link ≡ link_text found → words ≡ embargo_words row.embargo
-    → one ≡ old ++ release_members found.name → two ≡ one ++ grade_members found → three ≡ two ++ title_members row link → new ≡ three ++ access_members row words
+    → one ≡ old ++ release_members found.name → two ≡ one ++ grade_members found → three ≡ two ++ row_members row link → new ≡ three ++ access_members row words
     → new ≡ old ++ hit_object found
 unfolding hit_object
 object_written old one two three new row link words found same linked worded first second third fourth =
-    in_four old one two three new (release_members found.name) (grade_members found) (title_members found.hit.row (link_text found))
+    in_four old one two three new (release_members found.name) (grade_members found) (row_members found.hit.row (link_text found))
     (access_members found.hit.row (embargo_words found.hit.row.embargo)) first second
-    (third ∙ ap (λ l. two ++ title_members row l) linked ∙ ap (λ (r : RowValue). two ++ title_members r (link_text found)) same)
+    (third ∙ ap (λ l. two ++ row_members row l) linked ∙ ap (λ (r : RowValue). two ++ row_members r (link_text found)) same)
     (fourth ∙ ap (λ w. three ++ access_members row w) worded ∙ ap (λ (r : RowValue). three ++ access_members r (embargo_words r.embargo)) same)

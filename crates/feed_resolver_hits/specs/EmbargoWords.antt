@@ -6,7 +6,7 @@ use Rattle.feed_embargo.specs.declared.embargo.Embargo.{Embargo}
 use Rattle.feed_embargo.specs.declared.wall.Span.{Span}
 use Rattle.feed_embargo.specs.declared.wall.Span.TheVariants.{Days, Months, Years}
 use Rattle.feed_resolver_reply.specs.Pieces.{joined}
-use Rattle.feed_resolver_hits.specs.declared.embargo_phrases.TheConstants.{OPENED_START}
+use Rattle.feed_resolver_hits.specs.declared.embargo_words.TheConstants.{OPENED_START}
 
 -- a number of things: one, or many with their number
 unfoldable pub words_of : ℕ → List ℕ → List ℕ → List ℕ

@@ -1,5 +1,5 @@
 -- The hits of a query, each with its release and its availability, and the best link among them.
-use Rattle.std.specs.Prelude.{ℕ, ◌+◌, ◌*◌, Bool, nat_lt, if◌then◌else◌, List, [], ◌∷◌, codes, Option, Some, None, filter, map, option_map}
+use Rattle.std.specs.Prelude.{ℕ, ◌+◌, ◌*◌, ◌-◌, Bool, nat_lt, if◌then◌else◌, List, [], ◌∷◌, codes, Option, Some, None, filter, map, option_map}
 use Rattle.std.specs.Str.{str_eq_ignore_ascii_case}
 use Rattle.feed_names.specs.ReleaseName.{Name, text_of}
 use Rattle.feed_identifiers.specs.Text.{trimmed}
@@ -17,17 +17,19 @@ use Rattle.feed_answer.specs.QueryValue.{QueryValue}
 use Rattle.feed_answer.specs.declared.grade.Grade.{Grade}
 use Rattle.feed_answer.specs.declared.grade.Grade.TheVariants.{Inside, Overlap, Untested}
 use Rattle.feed_site.specs.Held.{library_has}
+use Rattle.feed_site.specs.Packages.{package_place}
 use Rattle.feed_site.specs.Proxies.{prefix_for, through}
 use Rattle.feed_site.specs.Site as site_file
-use Rattle.feed_resolver_hits.specs.Links.{is_link}
+use Rattle.feed_site.specs.Urls.{is_link}
 
--- a hit, its release, how the days that the query asks for lie in those that are open to readers, and the prefix of its
--- link, if that goes through a proxy
+-- a hit, its release, how the days that the query asks for lie in those that are open to readers, the prefix of its link, if
+-- that goes through a proxy, and the place of its package in the order of the site
 pub record ReleaseHitValue : Type 0 where
   pub name : Name
   pub hit : HitValue
   pub availability : Availability
   pub prefix : Option (List ℕ)
+  pub place : ℕ
 
 -- the trimmed text is this word, in any case
 abbrev pub is_word : List ℕ → List ℕ → Bool
@@ -44,6 +46,7 @@ release_hit site today query name hit = record {
   hit = hit;
   availability = availability_of today hit.row.embargo hit.row.first_day hit.row.last_day query.days;
   prefix = prefix_for site hit.row.url (is_free hit.row);
+  place = package_place site name.stem;
 }
 
 -- the days that are asked for of a title; those of a book are the days of its publication, which are not compared
@@ -95,9 +98,16 @@ abbrev pub text_rank : RowValue → ℕ
 text_rank row =
     if is_full_text row then (if is_free row then 2 else 1) else 0
 
--- the rank of a hit: by its availability, then by its grade, then by its depth and access
+-- the rank of a place in the order of the site: the first is the highest. A site file, of at most 65,536 bytes, has fewer
+-- packages
+abbrev pub place_rank : ℕ → ℕ
+place_rank place = 65535 - place
+
+-- the rank of a hit: by its availability, then by its grade, then by its depth and access, then by the order of the site
 abbrev pub rank_of : ReleaseHitValue → ℕ
-rank_of found = 9 * availability_rank found.availability + 3 * grade_rank found.hit.grade + text_rank found.hit.row
+rank_of found =
+    65536 * (9 * availability_rank found.availability + 3 * grade_rank found.hit.grade + text_rank found.hit.row)
+    + place_rank found.place
 
 -- the rank and the link of a hit that may be linked to
 pub record LinkValue : Type 0 where

@@ -1,5 +1,5 @@
 -- The hits of a query as JSON.
-use Rattle.std.specs.Prelude.{ℕ, ◌==◌, Bool, true, false, if◌then◌else◌, List, [], ◌∷◌, ◌++◌, length, map, codes}
+use Rattle.std.specs.Prelude.{ℕ, ◌==◌, Bool, true, false, if◌then◌else◌, List, [], ◌∷◌, ◌++◌, length, map, codes, unwrap_or}
 use Rattle.std.specs.Fmt.{decimal}
 use Rattle.json.specs.Json.{Json, object, string, number, Members, member, no_members}
 use Rattle.feed_names.specs.ReleaseName.{Name}
@@ -10,6 +10,8 @@ use Rattle.feed_answer.specs.Grades.{grade_text}
 use Rattle.feed_resolver_reply.specs.JsonStrings.{json_string}
 use Rattle.feed_resolver_reply.specs.JsonLists.{comma_before, items_from}
 use Rattle.feed_resolver_reply.specs.Pieces.{joined}
+use Rattle.feed_site.specs.Urls.{host_of}
+use Rattle.feed_resolver_hits.specs.Coverages.{day_text, days_words, volume_text, volumes_words}
 use Rattle.feed_resolver_hits.specs.EmbargoWords.{embargo_words}
 use Rattle.feed_resolver_hits.specs.Hits.{ReleaseHitValue, link_text, name_text}
 use Rattle.feed_resolver_hits.specs.Tallies.{TallyValue, left_out}
@@ -25,6 +27,31 @@ title_members row link = joined (
     ∷ codes ",\"url\":" ∷ json_string link
     ∷ codes ",\"title_id\":" ∷ json_string row.title_id
     ∷ codes ",\"depth\":" ∷ json_string row.depth ∷ [])
+
+-- the host of a URL, or nothing if it has none
+abbrev pub host_text : List ℕ → List ℕ
+host_text url = unwrap_or (host_of url) []
+
+-- those for its URL without a proxy, and for the platform
+unfoldable pub target_members : RowValue → List ℕ
+target_members row = joined (codes ",\"target\":" ∷ json_string row.url ∷ codes ",\"host\":" ∷ json_string (host_text row.url) ∷ [])
+
+-- those for its days and for its volumes, also in words
+unfoldable pub days_members : RowValue → List ℕ
+days_members row = joined (
+    codes ",\"first_day\":" ∷ json_string (day_text row.first_day)
+    ∷ codes ",\"last_day\":" ∷ json_string (day_text row.last_day)
+    ∷ codes ",\"days_words\":" ∷ json_string (days_words row) ∷ [])
+
+unfoldable pub volumes_members : RowValue → List ℕ
+volumes_members row = joined (
+    codes ",\"first_volume\":" ∷ json_string (volume_text row.first_volume)
+    ∷ codes ",\"last_volume\":" ∷ json_string (volume_text row.last_volume)
+    ∷ codes ",\"volumes_words\":" ∷ json_string (volumes_words row) ∷ [])
+
+-- all of these
+unfoldable pub row_members : RowValue → List ℕ → List ℕ
+row_members row link = title_members row link ++ (target_members row ++ (days_members row ++ volumes_members row))
 
 -- those for its embargo, also in words, and its access
 unfoldable pub access_members : RowValue → List ℕ → List ℕ
@@ -52,7 +79,7 @@ grade_members found = joined (
 unfoldable pub hit_object : ReleaseHitValue → List ℕ
 hit_object found =
     release_members found.name
-    ++ (grade_members found ++ (title_members found.hit.row (link_text found) ++ access_members found.hit.row (embargo_words found.hit.row.embargo)))
+    ++ (grade_members found ++ (row_members found.hit.row (link_text found) ++ access_members found.hit.row (embargo_words found.hit.row.embargo)))
 
 -- the beginning of the object that counts the hits that are left out: whether there may be still more
 abbrev pub more_start : Bool → List ℕ
@@ -88,9 +115,17 @@ hit_value found = object (
     (text_member (codes "url") (link_text found)
     (text_member (codes "title_id") found.hit.row.title_id
     (text_member (codes "depth") found.hit.row.depth
+    (text_member (codes "target") found.hit.row.url
+    (text_member (codes "host") (host_text found.hit.row.url)
+    (text_member (codes "first_day") (day_text found.hit.row.first_day)
+    (text_member (codes "last_day") (day_text found.hit.row.last_day)
+    (text_member (codes "days_words") (days_words found.hit.row)
+    (text_member (codes "first_volume") (volume_text found.hit.row.first_volume)
+    (text_member (codes "last_volume") (volume_text found.hit.row.last_volume)
+    (text_member (codes "volumes_words") (volumes_words found.hit.row)
     (text_member (codes "embargo") found.hit.row.embargo
     (text_member (codes "embargo_words") (embargo_words found.hit.row.embargo)
-    (text_member (codes "access") found.hit.row.access no_members))))))))))))
+    (text_member (codes "access") found.hit.row.access no_members))))))))))))))))))))
 
 -- the object that states how many hits are left out
 abbrev pub more_value : ℕ → Bool → Json

@@ -1,5 +1,5 @@
 -- The laws of redirects and of hits in JSON.
-use Rattle.std.specs.Prelude.{◌≡◌, ◌↔◌, ◌<◌, ◌^◌, ℕ, List, Some, true, All, map}
+use Rattle.std.specs.Prelude.{◌≡◌, ◌↔◌, ◌<◌, ◌^◌, ℕ, List, Some, true, All}
 use Rattle.json.specs.Json.{document, array}
 use Rattle.json.specs.Value.{items_of}
 use Rattle.feed_names.specs.ReleaseName.{Name}
@@ -10,7 +10,7 @@ use Rattle.feed_answer.specs.HitValue.{HitValue}
 use Rattle.feed_answer.specs.QueryValue.{QueryValue}
 use Rattle.feed_resolver_hits.specs.AnswerJson.{answer_json, answer_value}
 use Rattle.feed_resolver_hits.specs.Asks.{AskValue}
-use Rattle.feed_resolver_hits.specs.Links.{is_link}
+use Rattle.feed_site.specs.Urls.{is_link}
 use Rattle.feed_resolver_hits.specs.Hits.{ReleaseHitValue, best_link, is_free, link_text, rank_of, release_hit}
 use Rattle.feed_resolver_hits.specs.HitsJson.{hits_json, item_values}
 use Rattle.feed_resolver_hits.specs.Ranks.{IsBestLink, IsPreferred}
@@ -31,7 +31,7 @@ abbrev pub BestLinkRanksHighest : Type 0
 BestLinkRanksHighest = (hits : List ReleaseHitValue) → IsBestLink hits (best_link hits)
 
 -- the rank of one hit is higher than that of another exactly if its availability is better, or that is the same and its
--- grade is better, or both are the same and its depth and access are
+-- grade is better, or both are the same and its depth and access are, or these are too and the site lists its package first
 abbrev pub RanksInOrder : Type 0
 RanksInOrder = (one other : ReleaseHitValue) → (rank_of other < rank_of one) ↔ IsPreferred one other
 

@@ -1,4 +1,3 @@
-pub mod Links
 pub mod Hits
 pub mod Ranks
 pub mod Searches
@@ -7,6 +6,7 @@ pub mod Tallies
 pub mod Tallying
 pub mod EmbargoWords
 pub mod HitsText
+pub mod Coverages
 pub mod HitsJson
 pub mod Asks
 pub mod AnswerJson

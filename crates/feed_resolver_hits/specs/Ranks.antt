@@ -1,7 +1,7 @@
--- The order of hits: by their ranks, and of equal ranks by their places.
+-- The order of hits: by their ranks, and of equal ranks by their order in the answer.
 use Rattle.std.specs.Prelude.{◌≡◌, ◌<◌, ◌⊎◌, ◌==◌, ℕ, zero, suc, true, List, [], ◌++◌, Option, Some, None, filter, slice_get}
-use Rattle.feed_resolver_hits.specs.Links.{is_link}
-use Rattle.feed_resolver_hits.specs.Hits.{ReleaseHitValue, availability_rank, grade_rank, link_text, rank_of, text_rank}
+use Rattle.feed_site.specs.Urls.{is_link}
+use Rattle.feed_resolver_hits.specs.Hits.{ReleaseHitValue, availability_rank, grade_rank, link_text, place_rank, rank_of, text_rank}
 
 -- the hit at this place, which may be linked to
 pub record IsLinkAt (hits : List ReleaseHitValue) (place : ℕ) (found : ReleaseHitValue) : Type 0 where
@@ -31,17 +31,19 @@ below_rank (suc rank) hits = in_rank rank hits ++ below_rank rank hits
 
 -- all ranks are below this
 abbrev pub rank_limit : ℕ
-rank_limit = 36
+rank_limit = 2359296
 
 -- all hits in the order of their ranks
 abbrev pub ranked : List ReleaseHitValue → List ReleaseHitValue
 ranked hits = below_rank rank_limit hits
 
 -- the one availability is better, or it is the same and the one grade is better, or that is the same too and the one text
--- is better
+-- is better, or all three are the same and the site lists the one package first
 abbrev pub IsPreferred : ReleaseHitValue → ReleaseHitValue → Type 0
 IsPreferred one other =
     (availability_rank other.availability < availability_rank one.availability)
     ⊎ ((availability_rank other.availability ≡ availability_rank one.availability) × (grade_rank other.hit.grade < grade_rank one.hit.grade))
     ⊎ ((availability_rank other.availability ≡ availability_rank one.availability) × (grade_rank other.hit.grade ≡ grade_rank one.hit.grade)
     × (text_rank other.hit.row < text_rank one.hit.row))
+    ⊎ ((availability_rank other.availability ≡ availability_rank one.availability) × (grade_rank other.hit.grade ≡ grade_rank one.hit.grade)
+    × (text_rank other.hit.row ≡ text_rank one.hit.row) × (place_rank other.place < place_rank one.place))

@@ -11,13 +11,13 @@ use feed_dates::DayRange;
 use feed_embargo::{Availability, Today, availability_of};
 use feed_kbart::{Kind, Row};
 use feed_names::ReleaseName;
-use feed_site::{SiteFile, library_has, link_to, prefix_for};
+use feed_site::{SiteFile, library_has, link_to, package_place, prefix_for};
 use std::alloc::{AllocError, Global};
 use std::borrow::CowSlice;
 use std::marker::Model;
 
-/// A hit, its release, how the days that the query asks for lie in those that are open to readers, and the prefix of
-/// its link, if that goes through a proxy.
+/// A hit, its release, how the days that the query asks for lie in those that are open to readers, the prefix of its
+/// link, if that goes through a proxy, and the place of its package in the order of the site.
 #[derive(Drop)]
 pub struct ReleaseHit<'a> {
     name: &'a ReleaseName,
@@ -25,6 +25,7 @@ pub struct ReleaseHit<'a> {
     grade: Grade,
     availability: Availability,
     prefix: Option<&'a str>,
+    place: usize,
 }
 
 impl<'a> Model for ReleaseHit<'a> {
@@ -38,6 +39,7 @@ impl<'a> Model for ReleaseHit<'a> {
       hit = record { row = f.row.now; grade = f.grade };
       availability = f.availability;
       prefix = option_copied f.prefix;
+      place = f.place;
     } };
 }
 
@@ -59,6 +61,7 @@ impl<'a> ReleaseHit<'a> {
             grade: hit.grade,
             availability: availability_of(today, row.embargo(), first, last, search.days()),
             prefix: prefix_for(site, row.url(), is_free(row)),
+            place: package_place(site, name.package()),
         }
     }
 
@@ -72,6 +75,7 @@ impl<'a> ReleaseHit<'a> {
             grade: self.grade,
             availability: self.availability,
             prefix: self.prefix,
+            place: self.place,
         }
     }
 
@@ -87,6 +91,13 @@ impl<'a> ReleaseHit<'a> {
         ensures { option_copied result ≡ self.now.prefix }
     {
         self.prefix
+    }
+
+    /// Returns the place of the package in the order of the site.
+    pub(crate) fn place(&self) -> usize
+        ensures { result ≡ self.now.place }
+    {
+        self.place
     }
 
     /// Returns the name of the release.

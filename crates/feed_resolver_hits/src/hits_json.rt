@@ -3,11 +3,13 @@ ghost use Rattle.std.specs.Prelude.{◌≡◌, ◌++◌, OnOk};
 ghost use Rattle.feed_answer.specs.Grades.{grade_text};
 ghost use Rattle.feed_resolver_reply.specs.JsonLists.{items_from};
 ghost use Rattle.feed_resolver_hits.specs.HitsJson.{availability_text, release_members, grade_members, title_members};
-ghost use Rattle.feed_resolver_hits.specs.HitsJson.{access_members, hit_object};
+ghost use Rattle.feed_resolver_hits.specs.HitsJson.{access_members, days_members, hit_object, host_text};
+ghost use Rattle.feed_resolver_hits.specs.HitsJson.{row_members, target_members, volumes_members};
 ghost use Rattle.feed_resolver_hits.specs.HitsJson.{more_start, more_object, more_items, hits_json};
 ghost use Rattle.feed_resolver_hits.specs.Tallying.{tally_from};
 
-use crate::embargo_phrases::embargo_words;
+use crate::coverage::{day_text, days_words, volume_text, volumes_words};
+use crate::embargo_words::embargo_words;
 use crate::hits::{ReleaseHit, name_text};
 use crate::tally::Tally;
 use feed_answer::Grade;
@@ -16,6 +18,7 @@ use feed_kbart::Row;
 use feed_names::ReleaseName;
 use feed_pieces::put_all;
 use feed_resolver_reply::{Piece, put_comma, put_list_end, put_list_start};
+use feed_site::host_of;
 use std::alloc::AllocError;
 
 fn grade_name(grade: Grade) -> &'static [u8]
@@ -91,6 +94,78 @@ fn put_title_members<'a>(out: &mut Vec<u8>, row: &'a Row, link: &'a [u8]) -> Res
     )
 }
 
+fn host_text(url: &[u8]) -> &[u8]
+    ensures { result.now ≡ host_text url.now }
+{
+    match host_of(url) {
+        Some(host) => host,
+        None => b"",
+    }
+}
+
+#[tactic(auto, unfolding(crate::specs::HitsJson::target_members))]
+fn put_target_members(out: &mut Vec<u8>, row: &Row) -> Result<(), AllocError>
+    ensures { OnOk result (out.new.items ≡ out.old.items ++ target_members row.now) }
+{
+    put_all(
+        out,
+        &[
+            Piece::Plain(b",\"target\":"),
+            Piece::Quoted(row.url()),
+            Piece::Plain(b",\"host\":"),
+            Piece::Quoted(host_text(row.url())),
+        ],
+    )
+}
+
+fn put_days_members(out: &mut Vec<u8>, row: &Row) -> Result<(), AllocError>
+    ensures { OnOk result (out.new.items ≡ out.old.items ++ days_members row.now) }
+{
+    let first = day_text(*out.allocator(), row.first_day())?;
+    let last = day_text(*out.allocator(), row.last_day())?;
+    let words = days_words(*out.allocator(), row)?;
+    put_all(
+        out,
+        &[
+            Piece::Plain(b",\"first_day\":"),
+            Piece::Quoted(&first),
+            Piece::Plain(b",\"last_day\":"),
+            Piece::Quoted(&last),
+            Piece::Plain(b",\"days_words\":"),
+            Piece::Quoted(&words),
+        ],
+    )
+}
+
+fn put_volumes_members(out: &mut Vec<u8>, row: &Row) -> Result<(), AllocError>
+    ensures { OnOk result (out.new.items ≡ out.old.items ++ volumes_members row.now) }
+{
+    let first = volume_text(*out.allocator(), row.first_volume())?;
+    let last = volume_text(*out.allocator(), row.last_volume())?;
+    let words = volumes_words(*out.allocator(), row)?;
+    put_all(
+        out,
+        &[
+            Piece::Plain(b",\"first_volume\":"),
+            Piece::Quoted(&first),
+            Piece::Plain(b",\"last_volume\":"),
+            Piece::Quoted(&last),
+            Piece::Plain(b",\"volumes_words\":"),
+            Piece::Quoted(&words),
+        ],
+    )
+}
+
+#[tactic(auto, unfolding(crate::specs::HitsJson::row_members))]
+fn put_row_members(out: &mut Vec<u8>, row: &Row, link: &[u8]) -> Result<(), AllocError>
+    ensures { OnOk result (out.new.items ≡ out.old.items ++ row_members row.now link.now) }
+{
+    put_title_members(out, row, link)?;
+    put_target_members(out, row)?;
+    put_days_members(out, row)?;
+    put_volumes_members(out, row)
+}
+
 fn put_access_members<'a>(
     out: &mut Vec<u8>,
     row: &'a Row,
@@ -121,7 +196,7 @@ fn put_object(out: &mut Vec<u8>, found: &ReleaseHit<'_>) -> Result<(), AllocErro
     let link = found.link(*out.allocator())?;
     put_release_members(out, found.name())?;
     put_grade_members(out, found)?;
-    put_title_members(out, row, &link)?;
+    put_row_members(out, row, &link)?;
     put_access_members(out, row, &words)
 }
 

@@ -6,12 +6,12 @@ mod answer_json;
 mod ask;
 mod asked;
 mod candidates;
-mod embargo_phrases;
+mod coverage;
+mod embargo_words;
 mod hits;
 mod hits_json;
 mod hits_text;
 mod laws;
-mod link;
 mod links;
 mod rank;
 mod search;
@@ -22,7 +22,6 @@ mod top;
 pub use answer_json::put_answer_json;
 pub use ask::{Ask, is_blank, names_work};
 pub use asked::read_query;
-pub use embargo_phrases::embargo_words;
 pub use hits::{ReleaseHit, name_text};
 pub use hits_json::put_release_members;
 pub use hits_text::put_release;
@@ -30,7 +29,6 @@ pub use laws::{
     answer_is_json, best_link_ranks_highest, hits_are_json, links_are_proxied, ranks_in_order,
     redirects_to_link, tally_tells_of_hits,
 };
-pub use link::is_link;
 pub use rank::{is_free, is_full_text};
 pub use search::Search;
 pub use tally::Tally;

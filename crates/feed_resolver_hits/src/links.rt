@@ -3,8 +3,8 @@ ghost use Rattle.std.specs.Prelude.{◌≡◌, None, OnOk, option_copied, option
 ghost use Rattle.feed_resolver_hits.specs.Tallying.{with_link};
 
 use crate::hits::ReleaseHit;
-use crate::link::is_link;
 use crate::rank::rank_of;
+use feed_site::is_link;
 use std::alloc::{AllocError, Global};
 use std::marker::Model;
 
@@ -12,7 +12,7 @@ use std::marker::Model;
 #[derive(Drop)]
 pub(crate) struct Links {
     // The rank of the hit; without a link it has no meaning.
-    rank: u8,
+    rank: u32,
     link: Option<Vec<u8>>,
 }
 

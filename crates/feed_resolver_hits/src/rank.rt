@@ -1,6 +1,7 @@
 //! The rank of a hit among those of a query.
 ghost use Rattle.std.specs.Prelude.{◌≡◌, ◌<◌};
-ghost use Rattle.feed_resolver_hits.specs.Hits.{availability_rank, grade_rank, is_free, is_full_text, is_word, rank_of, text_rank};
+ghost use Rattle.feed_resolver_hits.specs.Hits.{availability_rank, grade_rank, is_free, is_full_text, is_word};
+ghost use Rattle.feed_resolver_hits.specs.Hits.{place_rank, rank_of, text_rank};
 
 use crate::hits::ReleaseHit;
 use feed_answer::Grade;
@@ -8,7 +9,7 @@ use feed_embargo::Availability;
 use feed_identifiers::trim_spaces;
 use feed_kbart::Row;
 
-fn availability_rank(availability: Availability) -> u8
+fn availability_rank(availability: Availability) -> u32
     ensures value { result ≡ availability_rank availability }
     ensures bound { result < 4 }
 {
@@ -20,7 +21,7 @@ fn availability_rank(availability: Availability) -> u8
     }
 }
 
-fn grade_rank(grade: Grade) -> u8
+fn grade_rank(grade: Grade) -> u32
     ensures value { result ≡ grade_rank grade }
     ensures bound { result < 3 }
 {
@@ -51,7 +52,7 @@ pub fn is_full_text(row: &Row) -> bool
     is_word(row.depth(), b"fulltext")
 }
 
-fn text_rank(row: &Row) -> u8
+fn text_rank(row: &Row) -> u32
     ensures value { result ≡ text_rank row.now }
     ensures bound { result < 3 }
 {
@@ -64,11 +65,21 @@ fn text_rank(row: &Row) -> u8
     }
 }
 
-/// Returns the rank of a hit: by its availability, then by its grade, then by its depth and access.
-pub(crate) fn rank_of(found: &ReleaseHit<'_>) -> u8
+// Returns the rank of a place in the order of the site: the first is the highest.
+fn place_rank(place: usize) -> u32
+    ensures value { result ≡ place_rank place }
+    ensures bound { result < 65536 }
+{
+    65_535_usize.saturating_sub(place) as u32
+}
+
+/// Returns the rank of a hit: by its availability, then by its grade, then by its depth and access, then by the place
+/// of its package in the order of the site.
+pub(crate) fn rank_of(found: &ReleaseHit<'_>) -> u32
     ensures { result ≡ rank_of found.now }
 {
-    9 * availability_rank(found.availability())
+    let quality = 9 * availability_rank(found.availability())
         + 3 * grade_rank(found.grade())
-        + text_rank(found.row())
+        + text_rank(found.row());
+    65_536 * quality + place_rank(found.place())
 }

@@ -25,7 +25,7 @@ impl<'a> Model for Top<'a> {
 }
 
 // The place behind the last hit that does not rank below a rank.
-fn place_of(hits: &[ReleaseHit<'_>], rank: u8) -> usize
+fn place_of(hits: &[ReleaseHit<'_>], rank: u32) -> usize
     ensures value { result ≡ length (kept_above rank hits.now) }
     ensures bound { result ≤ length hits.now }
 {

@@ -1,5 +1,5 @@
 -- The card of a hit.
-use Rattle.std.specs.Prelude.{ℕ, ◌||◌, if◌then◌else◌, List, [], ◌∷◌, ◌++◌, codes, Option, Some, None}
+use Rattle.std.specs.Prelude.{ℕ, ◌||◌, if◌then◌else◌, List, [], ◌∷◌, ◌++◌, codes, Option, Some, None, unwrap_or}
 use Rattle.std.specs.Str.{bytes_eq}
 use Rattle.feed_embargo.specs.declared.availability.Availability.{Availability}
 use Rattle.feed_embargo.specs.declared.availability.Availability.TheVariants.{Available, Partly, NotCompared, Embargoed}
@@ -10,11 +10,12 @@ use Rattle.feed_site.specs.Site as site_file
 use Rattle.feed_resolver_reply.specs.Escapes.{escaped}
 use Rattle.feed_resolver_reply.specs.Pieces.{joined}
 use Rattle.feed_resolver_hits.specs.Hits.{ReleaseHitValue, link_text}
-use Rattle.feed_resolver_hits.specs.Links.{is_link}
+use Rattle.feed_site.specs.Packages.{shown_package}
+use Rattle.feed_site.specs.Urls.{host_of, is_link}
 use Rattle.feed_resolver_page.specs.Coverage.{coverage_words}
-use Rattle.feed_resolver_page.specs.Texts.{text_of}
-use Rattle.feed_resolver_page.specs.declared.texts.Text.{Text}
-use Rattle.feed_resolver_page.specs.declared.texts.Text.TheVariants as text
+use Rattle.feed_site.specs.Texts.{text_of}
+use Rattle.feed_page_texts.specs.declared.table.Text.{Text}
+use Rattle.feed_page_texts.specs.declared.table.Text.TheVariants as text
 use Rattle.feed_resolver_page.specs.declared.card.Fit.{Fit}
 use Rattle.feed_resolver_page.specs.declared.card.TheConstants.{BUTTON, HIDDEN, BUTTON_END, COVERAGE, CARD_END}
 use Rattle.feed_resolver_page.specs.declared.card.Fit.TheVariants.{Hit, Outside}
@@ -59,7 +60,7 @@ status_part site fit availability = fit_part site fit ++ availability_part site 
 
 -- the host of a URL, or nothing
 abbrev pub host_text : List ℕ → List ℕ
-host_text url = []
+host_text url = unwrap_or (host_of url) []
 
 -- the button that leads to a link, with the name of a platform's host; the package is for readers who do not see the card
 unfoldable pub button_to : List ℕ → List ℕ → List ℕ → List ℕ → List ℕ
@@ -71,7 +72,8 @@ button_to link words host stem = joined (
 unfoldable pub button : site_file.SiteValue → ReleaseHitValue → List ℕ
 button site found =
     if is_link (link_text found)
-    then button_to (link_text found) (text_of site text.ReadAt) (host_text found.hit.row.url) found.name.stem
+    then button_to (link_text found) (text_of site text.ReadAt) (host_text found.hit.row.url)
+    (shown_package site found.name.stem)
     else []
 
 -- the name of the package
@@ -85,7 +87,7 @@ title_part title cited =
     else joined (codes "<p class=\"title\"><bdi>" ∷ escaped title ∷ codes "</bdi></p>\n" ∷ [])
 
 unfoldable pub card_top : site_file.SiteValue → List ℕ → ReleaseHitValue → List ℕ
-card_top site cited found = name_part found.name.stem ++ (title_part found.hit.row.title cited ++ button site found)
+card_top site cited found = name_part (shown_package site found.name.stem) ++ (title_part found.hit.row.title cited ++ button site found)
 
 -- what a row covers
 unfoldable pub card_end : site_file.SiteValue → RowValue → List ℕ

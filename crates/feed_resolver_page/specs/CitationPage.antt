@@ -8,9 +8,9 @@ use Rattle.feed_site.specs.Site as site_file
 use Rattle.feed_resolver_reply.specs.Escapes.{escaped}
 use Rattle.feed_resolver_reply.specs.Pieces.{joined}
 use Rattle.feed_resolver_hits.specs.Asks.{AskValue, is_blank}
-use Rattle.feed_resolver_page.specs.Texts.{text_of}
-use Rattle.feed_resolver_page.specs.declared.texts.Text.{Text}
-use Rattle.feed_resolver_page.specs.declared.texts.Text.TheVariants as text
+use Rattle.feed_site.specs.Texts.{text_of}
+use Rattle.feed_page_texts.specs.declared.table.Text.{Text}
+use Rattle.feed_page_texts.specs.declared.table.Text.TheVariants as text
 
 -- a text of the citation with its label
 unfoldable pub text_row : site_file.SiteValue → Text → List ℕ → List ℕ

@@ -4,16 +4,15 @@ use Rattle.std.specs.Fmt.{decimal}
 use Rattle.std.specs.Option.{option_and_then}
 use Rattle.feed_dates.specs.Days.{date_of_day}
 use Rattle.feed_kbart.specs.RowValue.{RowValue}
-use Rattle.feed_answer.specs.Pairs.{is_empty}
 use Rattle.feed_site.specs.Site as site_file
 use Rattle.feed_resolver_reply.specs.Escapes.{escaped}
 use Rattle.feed_resolver_reply.specs.Pieces.{joined}
-use Rattle.feed_resolver_hits.specs.EmbargoWords.{embargo_words}
 use Rattle.feed_resolver_hits.specs.Hits.{is_free, is_full_text}
 use Rattle.feed_resolver_page.specs.Dates.{date_words}
-use Rattle.feed_resolver_page.specs.Texts.{text_of}
-use Rattle.feed_resolver_page.specs.declared.texts.Text.{Text}
-use Rattle.feed_resolver_page.specs.declared.texts.Text.TheVariants as text
+use Rattle.feed_resolver_page.specs.EmbargoTexts.{embargo_part, sentence}
+use Rattle.feed_site.specs.Texts.{text_of}
+use Rattle.feed_page_texts.specs.declared.table.Text.{Text}
+use Rattle.feed_page_texts.specs.declared.table.Text.TheVariants as text
 
 -- a text, and a date after it
 unfoldable pub date_after : site_file.SiteValue → Text → List ℕ → List ℕ
@@ -60,10 +59,6 @@ volumes_by site (Some first) (Some last) = volumes_between site first last
 unfoldable pub volumes_words : site_file.SiteValue → RowValue → List ℕ
 volumes_words site row = volumes_by site row.first_volume row.last_volume
 
--- a text as a sentence, if there is one
-unfoldable pub sentence : List ℕ → List ℕ
-sentence words = if is_empty words then [] else joined (escaped words ∷ codes ". " ∷ [])
-
 -- the depth of a coverage, in words if it is full text, and as it is otherwise
 abbrev pub depth_text : site_file.SiteValue → RowValue → List ℕ
 depth_text site row = if is_full_text row then text_of site text.Depth else row.depth
@@ -75,18 +70,10 @@ free_text site row = if is_free row then text_of site text.Free else []
 unfoldable pub access_words : site_file.SiteValue → RowValue → List ℕ
 access_words site row = sentence (depth_text site row) ++ sentence (free_text site row)
 
--- a text, or another one if it is empty
-abbrev pub text_or : List ℕ → List ℕ → List ℕ
-text_or words other = if is_empty words then other else words
-
--- the embargo in words, or as it is if there are none
-unfoldable pub embargo_sentence : RowValue → List ℕ
-embargo_sentence row = sentence (text_or (embargo_words row.embargo) row.embargo)
-
 -- the days and the volumes that a row covers
 unfoldable pub span_words : site_file.SiteValue → RowValue → List ℕ
 span_words site row = days_words site row ++ volumes_words site row
 
 -- the same, its depth, whether it is free, and its embargo
 unfoldable pub coverage_words : site_file.SiteValue → RowValue → List ℕ
-coverage_words site row = span_words site row ++ (access_words site row ++ embargo_sentence row)
+coverage_words site row = span_words site row ++ (access_words site row ++ embargo_part site row.embargo)

@@ -3,9 +3,9 @@ use Rattle.std.specs.Prelude.{ℕ, ◌==◌, if◌then◌else◌, List, [], ◌�
 use Rattle.feed_site.specs.Site as site_file
 use Rattle.feed_resolver_reply.specs.Escapes.{escaped}
 use Rattle.feed_resolver_reply.specs.Pieces.{joined}
-use Rattle.feed_resolver_page.specs.Texts.{text_of}
-use Rattle.feed_resolver_page.specs.declared.texts.Text.{Text}
-use Rattle.feed_resolver_page.specs.declared.texts.Text.TheVariants as text
+use Rattle.feed_site.specs.Texts.{text_of}
+use Rattle.feed_page_texts.specs.declared.table.Text.{Text}
+use Rattle.feed_page_texts.specs.declared.table.Text.TheVariants as text
 
 -- the month with a number from 01 to 09, by its last digit
 abbrev pub early_month : ℕ → Text

@@ -3,8 +3,8 @@ use Rattle.std.specs.Prelude.{ℕ, List, [], ◌∷◌, ◌++◌, codes, Option,
 use Rattle.feed_site.specs.Site as site_file
 use Rattle.feed_resolver_reply.specs.Escapes.{escaped}
 use Rattle.feed_resolver_reply.specs.Pieces.{joined}
-use Rattle.feed_resolver_page.specs.Texts.{text_of}
-use Rattle.feed_resolver_page.specs.declared.texts.Text.{Text}
+use Rattle.feed_site.specs.Texts.{text_of}
+use Rattle.feed_page_texts.specs.declared.table.Text.{Text}
 use Rattle.feed_resolver_page.specs.declared.frame.TheConstants.{BEFORE_LANGUAGE, BEFORE_TITLE, BEFORE_BODY, PAGE_END}
 
 -- the language of a page: that of the library, or English

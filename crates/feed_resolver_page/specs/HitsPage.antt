@@ -2,6 +2,8 @@
 use Rattle.std.specs.Prelude.{ℕ, ◌==◌, Bool, true, false, if◌then◌else◌, List, [], ◌∷◌, ◌++◌, codes, Option, Some, None}
 use Rattle.std.specs.List.{flat_map}
 use Rattle.std.specs.Fmt.{decimal}
+use Rattle.form_urlencoded.specs.Form as form
+use Rattle.feed_site.specs.Requests.{CitedValue, request_link}
 use Rattle.feed_site.specs.Site as site_file
 use Rattle.feed_resolver_reply.specs.Escapes.{escaped}
 use Rattle.feed_resolver_reply.specs.Pieces.{joined}
@@ -11,12 +13,12 @@ use Rattle.feed_resolver_hits.specs.Tallies.{TallyValue, left_out}
 use Rattle.feed_resolver_page.specs.Cards.{card}
 use Rattle.feed_resolver_page.specs.CitationPage.{citation_part}
 use Rattle.feed_resolver_page.specs.Frames.{page_end, page_top}
-use Rattle.feed_resolver_page.specs.SearchForms.{search_form}
-use Rattle.feed_resolver_page.specs.Texts.{text_of}
+use Rattle.feed_resolver_page.specs.SearchForms.{search_form, value_at}
+use Rattle.feed_site.specs.Texts.{text_of}
 use Rattle.feed_resolver_page.specs.declared.card.Fit.TheVariants.{Hit, Outside}
 use Rattle.feed_resolver_page.specs.declared.hits_page.TheConstants.{LIST, LIST_END}
-use Rattle.feed_resolver_page.specs.declared.texts.Text.{Text}
-use Rattle.feed_resolver_page.specs.declared.texts.Text.TheVariants as text
+use Rattle.feed_page_texts.specs.declared.table.Text.{Text}
+use Rattle.feed_page_texts.specs.declared.table.Text.TheVariants as text
 
 -- the card of a hit
 abbrev pub hit_card : site_file.SiteValue → List ℕ → ReleaseHitValue → List ℕ
@@ -72,26 +74,61 @@ found_part site cited tally others =
 unfoldable pub answer_part : site_file.SiteValue → AskValue → TallyValue → TallyValue → List ℕ
 answer_part site ask tally others = citation_part site ask ++ found_part site ask.citation.title tally others
 
+unfoldable pub link_to : List ℕ → List ℕ → List ℕ
+link_to label url = joined (codes "<p><a href=\"" ∷ escaped url ∷ codes "\">" ∷ escaped label ∷ codes "</a></p>\n" ∷ [])
+
 -- a link of the library, if it has one
 abbrev pub link_part : site_file.SiteValue → Text → Option (List ℕ) → List ℕ
 link_part site name None = []
-link_part site name (Some url) = joined (
-    codes "<p><a href=\"" ∷ escaped url ∷ codes "\">" ∷ escaped (text_of site name) ∷ codes "</a></p>\n" ∷ [])
+link_part site name (Some url) = link_to (text_of site name) url
 
 -- the links to the library's help and contact
 unfoldable pub help_part : site_file.SiteValue → List ℕ
 help_part site = link_part site text.Help site.help ++ link_part site text.Contact site.contact
 
-unfoldable pub search_heading : site_file.SiteValue → List ℕ
-search_heading site = joined (codes "<h2>" ∷ escaped (text_of site text.NewSearch) ∷ codes "</h2>\n" ∷ [])
+-- the heading of a section
+unfoldable pub section_heading : List ℕ → List ℕ
+section_heading label = joined (codes "<h2>" ∷ escaped label ∷ codes "</h2>\n" ∷ [])
 
 -- the form for a new search, with what the query has for its fields
-unfoldable pub search_part : site_file.SiteValue → List ℕ → List ℕ
-search_part site query = search_heading site ++ search_form site query
+unfoldable pub search_part : site_file.SiteValue → List (List ℕ × List ℕ) → List ℕ
+search_part site pairs = section_heading (text_of site text.NewSearch) ++ search_form site pairs
+
+-- the parts of a query's citation that a request form may take
+abbrev pub cited_of : AskValue → List (List ℕ × List ℕ) → CitedValue
+cited_of ask pairs = record {
+  title = ask.citation.title;
+  article = ask.citation.article;
+  author = ask.citation.author;
+  date = ask.citation.date;
+  volume = ask.citation.volume;
+  issue = ask.citation.issue;
+  page = ask.citation.page;
+  issn = value_at (codes "rft.issn") (codes "issn") pairs;
+  isbn = value_at (codes "rft.isbn") (codes "isbn") pairs;
+  doi = ask.citation.doi;
+  pmid = ask.citation.pmid;
+}
+
+unfoldable pub request_section : site_file.SiteValue → List ℕ → List ℕ
+request_section site url = section_heading (text_of site text.OtherWays) ++ link_to (text_of site text.Request) url
+
+abbrev pub request_by : site_file.SiteValue → Option (List ℕ) → List ℕ
+request_by site None = []
+request_by site (Some url) = request_section site url
+
+-- the link to the library's request form, filled with the citation, if the library has one
+abbrev pub request_part : site_file.SiteValue → AskValue → List (List ℕ × List ℕ) → List ℕ
+request_part site ask pairs = request_by site (request_link site (cited_of ask pairs))
+
+-- the library's help and contact, and the end of a page
+unfoldable pub page_foot : site_file.SiteValue → List ℕ
+page_foot site = help_part site ++ page_end
 
 -- what follows an answer
-unfoldable pub page_bottom : site_file.SiteValue → List ℕ → List ℕ
-page_bottom site query = help_part site ++ (search_part site query ++ page_end)
+unfoldable pub page_bottom : site_file.SiteValue → List ℕ → AskValue → List ℕ
+page_bottom site query ask =
+    request_part site ask (form.parse query) ++ (search_part site (form.parse query) ++ page_foot site)
 
 -- the heading, by the number of hits
 abbrev pub page_name : ℕ → Text
@@ -100,4 +137,4 @@ page_name count = if count == 0 then text.NoFullText else text.FullText
 -- the page of the hits of a query; if there are none, it shows the other tally
 unfoldable pub hits_page : site_file.SiteValue → List ℕ → AskValue → TallyValue → TallyValue → List ℕ
 hits_page site query ask tally others =
-    page_top site (page_name tally.count) ++ (answer_part site ask tally others ++ page_bottom site query)
+    page_top site (page_name tally.count) ++ (answer_part site ask tally others ++ page_bottom site query ask)

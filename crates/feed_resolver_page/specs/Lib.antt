@@ -1,5 +1,5 @@
-pub mod Texts
 pub mod Dates
+pub mod EmbargoTexts
 pub mod Coverage
 pub mod Cards
 pub mod CitationPage

@@ -16,7 +16,7 @@ use Rattle.feed_resolver_hits.specs.Tallies.{tally_of}
 use Rattle.feed_resolver_page.specs.CitationPage.{citation_part}
 use Rattle.feed_resolver_page.specs.Frames.{page_top}
 use Rattle.feed_resolver_page.specs.HitsPage.{page_bottom, paragraph}
-use Rattle.feed_resolver_page.specs.declared.texts.Text.TheVariants as page
+use Rattle.feed_page_texts.specs.declared.table.Text.TheVariants as page
 
 -- the name of a reason
 abbrev pub reason_text : Refusal → List ℕ
@@ -38,7 +38,7 @@ nothing_part site ask = citation_part site ask ++ paragraph site page.NoNumber
 
 -- the page with the form, for a query
 unfoldable pub nothing_page : site_file.SiteValue → List ℕ → AskValue → List ℕ
-nothing_page site query ask = page_top site page.NothingToLookUp ++ (nothing_part site ask ++ page_bottom site query)
+nothing_page site query ask = page_top site page.NothingToLookUp ++ (nothing_part site ask ++ page_bottom site query ask)
 
 unfoldable pub nothing_text : Refusal → List ℕ
 nothing_text why = joined (codes "nothing to look up: " ∷ reason_text why ∷ codes "\n" ∷ [])

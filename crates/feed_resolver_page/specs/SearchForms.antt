@@ -1,13 +1,12 @@
 -- The form in which a reader asks for a journal or a book.
 use Rattle.std.specs.Prelude.{ℕ, ◌||◌, if◌then◌else◌, List, [], ◌∷◌, ◌++◌, codes}
-use Rattle.form_urlencoded.specs.Form as form
 use Rattle.feed_answer.specs.Pairs.{has_key}
 use Rattle.feed_site.specs.Site as site_file
 use Rattle.feed_resolver_reply.specs.Escapes.{escaped}
 use Rattle.feed_resolver_reply.specs.Pieces.{joined}
-use Rattle.feed_resolver_page.specs.Texts.{text_of}
-use Rattle.feed_resolver_page.specs.declared.texts.Text.{Text}
-use Rattle.feed_resolver_page.specs.declared.texts.Text.TheVariants as text
+use Rattle.feed_site.specs.Texts.{text_of}
+use Rattle.feed_page_texts.specs.declared.table.Text.{Text}
+use Rattle.feed_page_texts.specs.declared.table.Text.TheVariants as text
 use Rattle.feed_resolver_page.specs.declared.form.TheConstants.{FORM_START}
 
 -- the first value with one of two keys, or nothing
@@ -40,6 +39,6 @@ unfoldable pub form_end : List ℕ → List ℕ
 form_end label = joined (
     codes "<button type=\"submit\">" ∷ escaped label ∷ codes "</button>\n</form>\n" ∷ [])
 
--- the form, with the values that a query has for its fields
-unfoldable pub search_form : site_file.SiteValue → List ℕ → List ℕ
-search_form site query = fields site (form.parse query) ++ form_end (text_of site text.Search)
+-- the form, with the values that the pairs of a query have for its fields
+unfoldable pub search_form : site_file.SiteValue → List (List ℕ × List ℕ) → List ℕ
+search_form site pairs = fields site pairs ++ form_end (text_of site text.Search)

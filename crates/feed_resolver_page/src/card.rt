@@ -1,18 +1,20 @@
 //! Writes the card of a hit.
 ghost use Rattle.std.specs.Prelude.{◌≡◌, ◌++◌, OnOk};
-ghost use Rattle.feed_resolver_page.specs.Cards.{availability_part, availability_text, button, button_to, card, card_end};
-ghost use Rattle.feed_resolver_page.specs.Cards.{card_top, fit_class, fit_part, fit_text, host_text, limit_part, name_part};
+ghost use Rattle.feed_resolver_page.specs.Cards.{availability_part, availability_text, button, button_to, card};
+ghost use Rattle.feed_resolver_page.specs.Cards.{card_end};
+ghost use Rattle.feed_resolver_page.specs.Cards.{card_top, fit_class, fit_part, fit_text, host_text, limit_part};
+ghost use Rattle.feed_resolver_page.specs.Cards.{name_part};
 ghost use Rattle.feed_resolver_page.specs.Cards.{status_part, title_part};
 
 use crate::coverage::put_coverage;
-use crate::texts::{Text, text_of};
 use feed_answer::Grade;
 use feed_embargo::Availability;
 use feed_kbart::Row;
+use feed_page_texts::Text;
 use feed_pieces::put_all;
-use feed_resolver_hits::{ReleaseHit, is_link};
+use feed_resolver_hits::ReleaseHit;
 use feed_resolver_reply::{Piece, put};
-use feed_site::SiteFile;
+use feed_site::{SiteFile, host_of, is_link, shown_package, text_of};
 use std::alloc::AllocError;
 
 // The beginning of a button, the part of it that is for readers who do not see the card, and its end.
@@ -129,8 +131,10 @@ fn put_status(
 fn host_text(url: &[u8]) -> &[u8]
     ensures { result.now ≡ host_text url.now }
 {
-    let _ = url;
-    b""
+    match host_of(url) {
+        Some(host) => host,
+        None => b"",
+    }
 }
 
 // Writes the button that leads to a URL, with the host of a platform.
@@ -172,7 +176,8 @@ fn put_button(out: &mut Vec<u8>, site: &SiteFile, found: &ReleaseHit<'_>) -> Res
     }
     let host = host_text(found.row().url());
     let words = text_of(site, Text::ReadAt);
-    put_button_to(out, &link, words, host, found.name().package())
+    let package = shown_package(site, found.name().package());
+    put_button_to(out, &link, words, host, package)
 }
 
 #[tactic(auto, unfolding(crate::specs::Cards::name_part))]
@@ -216,7 +221,7 @@ fn put_top(
 ) -> Result<(), AllocError>
     ensures { OnOk result (out.new.items ≡ out.old.items ++ card_top site.now cited.now found.now) }
 {
-    put_name(out, found.name().package())?;
+    put_name(out, shown_package(site, found.name().package()))?;
     put_title(out, found.row().title(), cited)?;
     put_button(out, site, found)
 }

@@ -5,12 +5,12 @@ ghost use Rattle.feed_resolver_page.specs.CitationPage.{citation_part, citation_
 ghost use Rattle.feed_resolver_page.specs.CitationPage.{is_plain, link_row, name_row, name_rows, noted_row, place_rows};
 ghost use Rattle.feed_resolver_page.specs.CitationPage.{plain_row, pmid_row, text_row, work_rows};
 
-use crate::texts::{Text, text_of};
 use feed_openurl::Citation;
+use feed_page_texts::Text;
 use feed_pieces::put_all;
 use feed_resolver_hits::{Ask, is_blank};
 use feed_resolver_reply::{Piece, put};
-use feed_site::SiteFile;
+use feed_site::{SiteFile, text_of};
 use std::alloc::AllocError;
 
 #[tactic(auto, unfolding(crate::specs::CitationPage::text_row))]

@@ -3,18 +3,19 @@ ghost use Rattle.std.specs.Prelude.{◌≡◌, ◌++◌, OnOk};
 ghost use Rattle.std.specs.Option.{option_and_then};
 ghost use Rattle.feed_dates.specs.Days.{date_of_day};
 ghost use Rattle.feed_resolver_page.specs.Coverage.{access_words, coverage_words, date_after, date_sentence};
-ghost use Rattle.feed_resolver_page.specs.Coverage.{days_between, days_words, depth_text, embargo_sentence, free_text};
-ghost use Rattle.feed_resolver_page.specs.Coverage.{from_words, sentence, span_words, text_or, volume_sentence};
+ghost use Rattle.feed_resolver_page.specs.Coverage.{days_between, days_words, depth_text, free_text};
+ghost use Rattle.feed_resolver_page.specs.Coverage.{from_words, span_words, volume_sentence};
 ghost use Rattle.feed_resolver_page.specs.Coverage.{volumes_between, volumes_words};
 
 use crate::dates::put_date;
-use crate::texts::{Text, text_of};
+use crate::embargo::{put_embargo, put_sentence};
 use feed_dates::write_date;
 use feed_kbart::Row;
+use feed_page_texts::Text;
 use feed_pieces::put_all;
-use feed_resolver_hits::{embargo_words, is_free, is_full_text};
+use feed_resolver_hits::{is_free, is_full_text};
 use feed_resolver_reply::{Piece, put};
-use feed_site::SiteFile;
+use feed_site::{SiteFile, text_of};
 use std::alloc::AllocError;
 
 // Writes a text and a date after it.
@@ -150,17 +151,6 @@ fn put_volumes(out: &mut Vec<u8>, site: &SiteFile, row: &Row) -> Result<(), Allo
     }
 }
 
-// Writes a text as a sentence, if there is one.
-#[tactic(auto, unfolding(crate::specs::Coverage::sentence))]
-fn put_sentence<'a>(out: &mut Vec<u8>, text: &'a [u8]) -> Result<(), AllocError>
-    ensures { OnOk result (out.new.items ≡ out.old.items ++ sentence text.now) }
-{
-    if text.is_empty() {
-        return Ok(());
-    }
-    put_all(out, &[Piece::Escaped(text), Piece::Plain(b". ")])
-}
-
 fn depth_text<'a>(site: &'a SiteFile, row: &'a Row) -> &'a [u8]
     ensures { result.now ≡ depth_text site.now row.now }
 {
@@ -189,20 +179,6 @@ fn put_access(out: &mut Vec<u8>, site: &SiteFile, row: &Row) -> Result<(), Alloc
     put_sentence(out, free_text(site, row))
 }
 
-fn text_or<'a>(text: &'a [u8], other: &'a [u8]) -> &'a [u8]
-    ensures { result.now ≡ text_or text.now other.now }
-{
-    if text.is_empty() { other } else { text }
-}
-
-#[tactic(auto, unfolding(crate::specs::Coverage::embargo_sentence))]
-fn put_embargo(out: &mut Vec<u8>, row: &Row) -> Result<(), AllocError>
-    ensures { OnOk result (out.new.items ≡ out.old.items ++ embargo_sentence row.now) }
-{
-    let words = embargo_words(*out.allocator(), row.embargo())?;
-    put_sentence(out, text_or(&words, row.embargo()))
-}
-
 #[tactic(auto, unfolding(crate::specs::Coverage::span_words))]
 fn put_span(out: &mut Vec<u8>, site: &SiteFile, row: &Row) -> Result<(), AllocError>
     ensures { OnOk result (out.new.items ≡ out.old.items ++ span_words site.now row.now) }
@@ -218,5 +194,5 @@ pub(crate) fn put_coverage(out: &mut Vec<u8>, site: &SiteFile, row: &Row) -> Res
 {
     put_span(out, site, row)?;
     put_access(out, site, row)?;
-    put_embargo(out, row)
+    put_embargo(out, site, row.embargo())
 }

@@ -2,10 +2,10 @@
 ghost use Rattle.std.specs.Prelude.{◌≡◌, ◌++◌, OnOk};
 ghost use Rattle.feed_resolver_page.specs.Dates.{date_words, day_words, early_month, marked, month_of, month_words};
 
-use crate::texts::{Text, text_of};
+use feed_page_texts::Text;
 use feed_pieces::put_all;
 use feed_resolver_reply::Piece;
-use feed_site::SiteFile;
+use feed_site::{SiteFile, text_of};
 use std::alloc::AllocError;
 
 // Returns the month with a number from 01 to 09, by its last digit.

@@ -1,20 +1,20 @@
 //! The form in which a reader asks for a journal or a book.
 ghost use Rattle.std.specs.Prelude.{◌≡◌, ◌++◌, OnOk};
-ghost use Rattle.form_urlencoded.specs.Form as form;
-ghost use Rattle.feed_resolver_page.specs.SearchForms.{field, fields, first_fields, form_end, last_fields, search_form, value_at};
+ghost use Rattle.feed_resolver_page.specs.SearchForms.{field, fields, first_fields, form_end, last_fields};
+ghost use Rattle.feed_resolver_page.specs.SearchForms.{search_form, value_at};
 
-use crate::texts::{Text, text_of};
-use feed_answer::{Pair, decode_pairs};
+use feed_answer::Pair;
+use feed_page_texts::Text;
 use feed_pieces::put_all;
 use feed_resolver_reply::{Piece, put};
-use feed_site::SiteFile;
-use std::alloc::{AllocError, Global};
+use feed_site::{SiteFile, text_of};
+use std::alloc::AllocError;
 
 const FORM_START: &[u8] = b"<form action=\"/resolve\" method=\"get\">\n\
     <input type=\"hidden\" name=\"format\" value=\"html\">\n";
 
-// Returns the first value with one of two keys, or nothing.
-fn value_at<'p>(pairs: &'p [Pair<'_>], key: &str, other: &str) -> &'p [u8]
+/// Returns the first value with one of two keys, or nothing.
+pub(crate) fn value_at<'p>(pairs: &'p [Pair<'_>], key: &str, other: &str) -> &'p [u8]
     ensures { result.now ≡ value_at key.now other.now pairs.now }
 {
     match pairs.split_first() {
@@ -105,17 +105,15 @@ fn put_form_end<'a>(out: &mut Vec<u8>, label: &'a [u8]) -> Result<(), AllocError
     )
 }
 
-/// Writes the form, with the values that a query has for its fields.
+/// Writes the form, with the values that the pairs of a query have for its fields.
 #[tactic(auto, unfolding(crate::specs::SearchForms::search_form))]
 pub fn put_search_form(
-    alloc: Global,
     out: &mut Vec<u8>,
     site: &SiteFile,
-    text: &[u8],
+    pairs: &[Pair<'_>],
 ) -> Result<(), AllocError>
-    ensures { OnOk result (out.new.items ≡ out.old.items ++ search_form site.now text.now) }
+    ensures { OnOk result (out.new.items ≡ out.old.items ++ search_form site.now pairs.now) }
 {
-    let pairs = decode_pairs(alloc, text)?;
-    put_fields(out, site, &pairs)?;
+    put_fields(out, site, pairs)?;
     put_form_end(out, text_of(site, Text::Search))
 }

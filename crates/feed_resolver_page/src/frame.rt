@@ -1,12 +1,13 @@
 //! The beginning and the end of a page.
 ghost use Rattle.std.specs.Prelude.{◌≡◌, ◌++◌, OnOk, option_copied};
-ghost use Rattle.feed_resolver_page.specs.Frames.{banner, heading, language_or, page_body, page_end, page_head, page_start};
+ghost use Rattle.feed_resolver_page.specs.Frames.{banner, heading, language_or, page_body, page_end, page_head};
+ghost use Rattle.feed_resolver_page.specs.Frames.{page_start};
 ghost use Rattle.feed_resolver_page.specs.Frames.{page_top, title_end};
 
-use crate::texts::{Text, text_of};
+use feed_page_texts::Text;
 use feed_pieces::put_all;
 use feed_resolver_reply::{Piece, put};
-use feed_site::SiteFile;
+use feed_site::{SiteFile, text_of};
 use std::alloc::AllocError;
 
 // Up to the language of a page.
@@ -145,7 +146,7 @@ pub fn put_page_top(out: &mut Vec<u8>, site: &SiteFile, name: Text) -> Result<()
 
 /// Writes the end of a page.
 #[tactic(auto, unfolding(crate::specs::Frames::page_end))]
-pub fn put_page_end(out: &mut Vec<u8>) -> Result<(), AllocError>
+pub(crate) fn put_page_end(out: &mut Vec<u8>) -> Result<(), AllocError>
     ensures { OnOk result (out.new.items ≡ out.old.items ++ page_end) }
 {
     put(out, PAGE_END)

@@ -2,20 +2,23 @@
 ghost use Rattle.std.specs.Prelude.{◌≡◌, ◌++◌, OnOk, option_copied};
 ghost use Rattle.std.specs.List.{flat_map};
 ghost use Rattle.feed_resolver_hits.specs.Tallying.{tally_from};
-ghost use Rattle.feed_resolver_page.specs.HitsPage.{answer_part, cards, found_part, help_part, hit_card, hits_page};
-ghost use Rattle.feed_resolver_page.specs.HitsPage.{hits_part, least, link_part, more_part, more_text, other_card};
-ghost use Rattle.feed_resolver_page.specs.HitsPage.{other_cards, others_part, page_bottom, page_name, paragraph};
-ghost use Rattle.feed_resolver_page.specs.HitsPage.{search_heading, search_part};
+ghost use Rattle.feed_resolver_page.specs.HitsPage.{answer_part, cards, cited_of, found_part, help_part, hit_card};
+ghost use Rattle.feed_resolver_page.specs.HitsPage.{hits_page, hits_part, least, link_part, link_to, more_part};
+ghost use Rattle.feed_resolver_page.specs.HitsPage.{more_text};
+ghost use Rattle.feed_resolver_page.specs.HitsPage.{other_card, other_cards, others_part, page_bottom, page_foot};
+ghost use Rattle.feed_resolver_page.specs.HitsPage.{page_name, paragraph, request_part, request_section, search_part};
+ghost use Rattle.feed_resolver_page.specs.HitsPage.{section_heading};
 
 use crate::card::{Fit, put_card};
 use crate::citation_page::put_citation;
-use crate::form::put_search_form;
+use crate::form::{put_search_form, value_at};
 use crate::frame::{put_page_end, put_page_top};
-use crate::texts::{Text, text_of};
+use feed_answer::{Pair, decode_pairs};
+use feed_page_texts::Text;
 use feed_pieces::put_all;
 use feed_resolver_hits::{Ask, ReleaseHit, Tally};
 use feed_resolver_reply::{Piece, put};
-use feed_site::SiteFile;
+use feed_site::{Cited, SiteFile, request_link, text_of};
 use std::alloc::{AllocError, Global};
 
 // The list of cards.
@@ -226,27 +229,34 @@ fn put_answer(
     put_found(out, site, ask.citation.title.as_bytes(), tally, others)
 }
 
+#[tactic(auto, unfolding(crate::specs::HitsPage::link_to))]
+fn put_link_to<'a>(out: &mut Vec<u8>, label: &'a [u8], url: &'a [u8]) -> Result<(), AllocError>
+    ensures { OnOk result (out.new.items ≡ out.old.items ++ link_to label.now url.now) }
+{
+    put_all(
+        out,
+        &[
+            Piece::Plain(b"<p><a href=\""),
+            Piece::Escaped(url),
+            Piece::Plain(b"\">"),
+            Piece::Escaped(label),
+            Piece::Plain(b"</a></p>\n"),
+        ],
+    )
+}
+
 // Writes a link of the library, if it has one.
-fn put_link<'a>(
+fn put_link(
     out: &mut Vec<u8>,
-    site: &'a SiteFile,
+    site: &SiteFile,
     name: Text,
-    url: Option<&'a str>,
+    url: Option<&str>,
 ) -> Result<(), AllocError>
     ensures { OnOk result (out.new.items
         ≡ out.old.items ++ link_part site.now name (option_copied url.entry)) }
 {
     match url {
-        Some(url) => put_all(
-            out,
-            &[
-                Piece::Plain(b"<p><a href=\""),
-                Piece::Escaped(url.as_bytes()),
-                Piece::Plain(b"\">"),
-                Piece::Escaped(text_of(site, name)),
-                Piece::Plain(b"</a></p>\n"),
-            ],
-        ),
+        Some(url) => put_link_to(out, text_of(site, name), url.as_bytes()),
         None => Ok(()),
     }
 }
@@ -260,45 +270,97 @@ fn put_help(out: &mut Vec<u8>, site: &SiteFile) -> Result<(), AllocError>
     put_link(out, site, Text::Contact, site.contact())
 }
 
-#[tactic(auto, unfolding(crate::specs::HitsPage::search_heading))]
-fn put_search_heading(out: &mut Vec<u8>, site: &SiteFile) -> Result<(), AllocError>
-    ensures { OnOk result (out.new.items ≡ out.old.items ++ search_heading site.now) }
+/// Writes the heading of a section.
+#[tactic(auto, unfolding(crate::specs::HitsPage::section_heading))]
+pub fn put_section_heading<'a>(out: &mut Vec<u8>, label: &'a [u8]) -> Result<(), AllocError>
+    ensures { OnOk result (out.new.items ≡ out.old.items ++ section_heading label.now) }
 {
     put_all(
         out,
         &[
             Piece::Plain(b"<h2>"),
-            Piece::Escaped(text_of(site, Text::NewSearch)),
+            Piece::Escaped(label),
             Piece::Plain(b"</h2>\n"),
         ],
     )
 }
 
 #[tactic(auto, unfolding(crate::specs::HitsPage::search_part))]
-fn put_search(
+fn put_search(out: &mut Vec<u8>, site: &SiteFile, pairs: &[Pair<'_>]) -> Result<(), AllocError>
+    ensures { OnOk result (out.new.items ≡ out.old.items ++ search_part site.now pairs.now) }
+{
+    put_section_heading(out, text_of(site, Text::NewSearch))?;
+    put_search_form(out, site, pairs)
+}
+
+// Returns the parts of a query's citation that a request form may take.
+fn cited_of<'p>(ask: &'p Ask, pairs: &'p [Pair<'_>]) -> Cited<'p>
+    ensures { result ≡ cited_of ask.now pairs.now }
+{
+    let citation = &ask.citation;
+    Cited {
+        title: citation.title.as_bytes(),
+        article: citation.article.as_bytes(),
+        author: citation.author.as_bytes(),
+        date: citation.date.as_bytes(),
+        volume: citation.volume.as_bytes(),
+        issue: citation.issue.as_bytes(),
+        page: citation.page.as_bytes(),
+        issn: value_at(pairs, "rft.issn", "issn"),
+        isbn: value_at(pairs, "rft.isbn", "isbn"),
+        doi: citation.doi.as_bytes(),
+        pmid: citation.pmid.as_bytes(),
+    }
+}
+
+#[tactic(auto, unfolding(crate::specs::HitsPage::request_section))]
+fn put_request_section(out: &mut Vec<u8>, site: &SiteFile, url: &[u8]) -> Result<(), AllocError>
+    ensures { OnOk result (out.new.items ≡ out.old.items ++ request_section site.now url.now) }
+{
+    put_section_heading(out, text_of(site, Text::OtherWays))?;
+    put_link_to(out, text_of(site, Text::Request), url)
+}
+
+// Writes the link to the library's request form, filled with the citation, if the library has one.
+fn put_request(
     alloc: Global,
     out: &mut Vec<u8>,
     site: &SiteFile,
-    text: &[u8],
+    ask: &Ask,
+    pairs: &[Pair<'_>],
 ) -> Result<(), AllocError>
-    ensures { OnOk result (out.new.items ≡ out.old.items ++ search_part site.now text.now) }
+    ensures { OnOk result (out.new.items ≡ out.old.items ++ request_part site.now ask.now pairs.now) }
 {
-    put_search_heading(out, site)?;
-    put_search_form(alloc, out, site, text)
+    match request_link(alloc, site, &cited_of(ask, pairs))? {
+        Some(url) => put_request_section(out, site, &url),
+        None => Ok(()),
+    }
 }
 
-/// Writes what follows an answer: the library's help and contact, and the form with what the query has for its fields.
+/// Writes what follows an answer: the link to the library's request form, the form for a new search with what the
+/// query has for its fields, and the library's help and contact.
 #[tactic(auto, unfolding(crate::specs::HitsPage::page_bottom))]
 pub(crate) fn put_bottom(
     alloc: Global,
     out: &mut Vec<u8>,
     site: &SiteFile,
     text: &[u8],
+    ask: &Ask,
 ) -> Result<(), AllocError>
-    ensures { OnOk result (out.new.items ≡ out.old.items ++ page_bottom site.now text.now) }
+    ensures { OnOk result (out.new.items ≡ out.old.items ++ page_bottom site.now text.now ask.now) }
+{
+    let pairs = decode_pairs(alloc, text)?;
+    put_request(alloc, out, site, ask, &pairs)?;
+    put_search(out, site, &pairs)?;
+    put_page_foot(out, site)
+}
+
+/// Writes the library's help and contact, and the end of a page.
+#[tactic(auto, unfolding(crate::specs::HitsPage::page_foot))]
+pub fn put_page_foot(out: &mut Vec<u8>, site: &SiteFile) -> Result<(), AllocError>
+    ensures { OnOk result (out.new.items ≡ out.old.items ++ page_foot site.now) }
 {
     put_help(out, site)?;
-    put_search(alloc, out, site, text)?;
     put_page_end(out)
 }
 
@@ -331,5 +393,5 @@ pub fn put_hits_page(
 {
     put_page_top(out, site, page_name(tally.count()))?;
     put_answer(out, site, ask, tally, others)?;
-    put_bottom(alloc, out, site, text)
+    put_bottom(alloc, out, site, text, ask)
 }

@@ -6,15 +6,14 @@ mod card;
 mod citation_page;
 mod coverage;
 mod dates;
+mod embargo;
 mod form;
 mod frame;
 mod hits_page;
 mod refusals;
-mod texts;
 
 pub use card::Fit;
 pub use form::put_search_form;
-pub use frame::{put_page_end, put_page_top};
-pub use hits_page::put_hits_page;
+pub use frame::put_page_top;
+pub use hits_page::{put_hits_page, put_page_foot, put_section_heading};
 pub use refusals::unasked_reply;
-pub use texts::{Text, text_of};

@@ -3,13 +3,14 @@ ghost use Rattle.std.specs.Prelude.{◌≡◌, ◌++◌, IfOk, OnOk, true, false
 ghost use Rattle.feed_resolver_request.specs.declared.representation.Representation.TheVariants as representation;
 ghost use Rattle.feed_resolver_reply.specs.Replies.{reply_with};
 ghost use Rattle.feed_resolver_page.specs.QueryRefusals.{is_numberless, nothing_json, nothing_page, nothing_part};
-ghost use Rattle.feed_resolver_page.specs.QueryRefusals.{nothing_text, numberless_body, numberless_status, reason_text, unasked_reply};
+ghost use Rattle.feed_resolver_page.specs.QueryRefusals.{nothing_text, numberless_body, numberless_status};
+ghost use Rattle.feed_resolver_page.specs.QueryRefusals.{reason_text, unasked_reply};
 
 use crate::citation_page::put_citation;
 use crate::frame::put_page_top;
 use crate::hits_page::{put_bottom, put_paragraph};
-use crate::texts::Text;
 use feed_openurl::Refusal;
+use feed_page_texts::Text;
 use feed_pieces::put_all;
 use feed_resolver_hits::{Ask, Tally, names_work, put_answer_json};
 use feed_resolver_reply::{Piece, Reply, Status, put_fault, refusal};
@@ -55,7 +56,7 @@ fn put_page(
 {
     put_page_top(out, site, Text::NothingToLookUp)?;
     put_nothing(out, site, ask)?;
-    put_bottom(alloc, out, site, text)
+    put_bottom(alloc, out, site, text, ask)
 }
 
 #[tactic(auto, unfolding(crate::specs::QueryRefusals::nothing_text))]
@@ -91,7 +92,8 @@ fn put_numberless(
     ask: &Ask,
     reason: Refusal,
 ) -> Result<(), AllocError>
-    ensures { OnOk result (out.new.items ≡ out.old.items ++ numberless_body site.now text.now named representation ask.now reason) }
+    ensures { OnOk result (out.new.items
+        ≡ out.old.items ++ numberless_body site.now text.now named representation ask.now reason) }
 {
     match representation {
         Representation::Html => put_page(alloc, out, site, text, ask),

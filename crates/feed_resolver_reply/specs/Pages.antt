@@ -1,8 +1,7 @@
--- The parts that pages share, the form, and the bodies of error replies.
+-- The parts that error pages share, and the bodies of error replies.
 use Rattle.std.specs.Prelude.{ℕ, List, [], ◌∷◌, ◌++◌, codes}
 use Rattle.feed_resolver_request.specs.declared.representation.Representation.{Representation}
 use Rattle.feed_resolver_request.specs.declared.representation.Representation.TheVariants.{Text, Json, Html}
-use Rattle.feed_resolver_reply.specs.declared.form.TheConstants.{FORM}
 use Rattle.feed_resolver_reply.specs.declared.page.TheConstants.{BEFORE_TITLE, BEFORE_HEADING, AFTER_HEADING, PAGE_END}
 use Rattle.feed_resolver_reply.specs.JsonStrings.{json_string}
 use Rattle.feed_resolver_reply.specs.Pieces.{joined}
@@ -11,13 +10,9 @@ use Rattle.feed_resolver_reply.specs.Pieces.{joined}
 unfoldable pub page_start : List ℕ → List ℕ
 page_start title = joined (BEFORE_TITLE.now ∷ title ∷ BEFORE_HEADING.now ∷ title ∷ AFTER_HEADING.now ∷ [])
 
--- the end of each page but the home page
+-- the end of a page
 unfoldable pub page_end : List ℕ
 page_end = PAGE_END.now
-
--- the form: an ISSN or an ISBN, a date and a volume
-unfoldable pub form_text : List ℕ
-form_text = FORM.now
 
 -- a paragraph with the name of an error
 unfoldable pub fault_part : List ℕ → List ℕ

@@ -5,7 +5,6 @@
 mod escape;
 mod fault;
 mod fetch_replies;
-mod form;
 mod json_text;
 mod laws;
 mod page;
@@ -17,7 +16,6 @@ mod status;
 pub use escape::put;
 pub use fault::{bad_head_response, put_fault, refusal};
 pub use fetch_replies::fetch_reply;
-pub use form::put_form;
 pub use json_text::{put_comma, put_list_end, put_list_start};
 pub use laws::{
     escaped_has_no_markup, escaped_reads_back, fault_is_json, json_reads_back,

@@ -4,4 +4,6 @@ use Rattle.feed_resolver.specs.Answers.{sited_by, sited_in, hits_among}
 use Rattle.feed_resolver.proofs.answers.tally_by.Given as goal
 
 abbrev pub invariant-loop-active : goal.invariant-loop-active
-invariant-loop-active l = with_hits l.tally (hits_among l.search (sited_by l.context.site.library l.context.actives.today (drop l.active-index l.context.actives.actives))) ≡ with_hits no_hits (hits_among l.search (sited_in l.context))
+invariant-loop-active l =
+    with_hits l.tally (hits_among l.search (sited_by l.context.site.library l.context.actives.today (drop l.active-index l.context.actives.actives)))
+    ≡ with_hits no_hits (hits_among l.search (sited_in l.context))

@@ -59,7 +59,7 @@ fn put_limits(out: &mut Vec<u8>, embargo: Embargo) -> Result<(), AllocError>
 }
 
 /// Returns the embargo of a row in words. The text is empty if the row has none, or one of another form.
-pub fn embargo_words(alloc: Global, text: &[u8]) -> Result<Vec<u8>, AllocError>
+pub(crate) fn embargo_words(alloc: Global, text: &[u8]) -> Result<Vec<u8>, AllocError>
     ensures { IfOk result (λ words. words.items ≡ embargo_words text.now) }
 {
     let mut words = Vec::new(alloc);
