@@ -11,8 +11,8 @@ use std::marker::Model;
 // The most hits that a reply shows.
 pub(crate) const SHOWN_LIMIT: usize = 1_000;
 
-// The texts of the hits that a reply shows have fewer bytes. Each byte takes at most six in JSON or in a page, so that
-// a reply has at most 4 MiB.
+// The texts of the hits that a reply shows have fewer bytes. Each byte takes at most six in JSON or in a page, and JSON
+// has an address up to three times, so that a reply has at most 10 MiB.
 const TEXT_LIMIT: usize = 524_288;
 
 /// The hits that a reply shows: the first ones, within the limits.
