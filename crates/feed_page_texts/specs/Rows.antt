@@ -82,17 +82,17 @@ row_of text.NotShown = row "not_shown" "Not shown:" "Nicht angezeigt:" "Non affi
 row_of text.NotShownAtLeast = row "not_shown_at_least" "Not shown: at least" "Nicht angezeigt: mindestens" "Non affichés : au moins"
 row_of text.NotShownHint =
     row "not_shown_hint" "Ask with a date or a volume for fewer."
-        "Mit einem Datum oder einem Band werden es weniger."
-        "Précisez une date ou un volume pour en obtenir moins."
+    "Mit einem Datum oder einem Band werden es weniger."
+    "Précisez une date ou un volume pour en obtenir moins."
 row_of text.HeldOther =
     row "held_other" "This library has the title, but not for what you asked for."
-        "Diese Bibliothek hat den Titel, aber nicht für Ihre Anfrage."
-        "Cette bibliothèque possède ce titre, mais pas ce que vous demandez."
+    "Diese Bibliothek hat den Titel, aber nicht für Ihre Anfrage."
+    "Cette bibliothèque possède ce titre, mais pas ce que vous demandez."
 row_of text.NoHoldings = row "no_holdings" "No holdings match." "Kein Bestand passt zu Ihrer Anfrage." "Aucune ressource ne correspond à votre demande."
 row_of text.NoNumber =
     row "no_number" "The query has no ISSN and no ISBN with its check character, so no holdings were looked up."
-        "Die Anfrage enthält keine ISSN oder ISBN mit richtiger Prüfziffer, daher wurde kein Bestand gesucht."
-        "La demande ne contient ni ISSN ni ISBN avec sa clé de contrôle : aucune recherche n’a été faite."
+    "Die Anfrage enthält keine ISSN oder ISBN mit richtiger Prüfziffer, daher wurde kein Bestand gesucht."
+    "La demande ne contient ni ISSN ni ISBN avec sa clé de contrôle : aucune recherche n’a été faite."
 row_of text.OtherWays = row "other_ways" "Other ways to it" "Weitere Möglichkeiten" "Autres possibilités"
 row_of text.Request = row "request" "Request it from another library" "Über Fernleihe bestellen" "Demander par le prêt entre bibliothèques"
 row_of text.Packages = row "packages" "Packages" "Pakete" "Bouquets"

@@ -35,9 +35,9 @@ unfolding days_members
 days_written old new first last words row one two three is = is
     ∙ ap (λ (t : List ℕ). old ++ joined (codes ",\"first_day\":" ∷ json_string t ∷ codes ",\"last_day\":" ∷ json_string last ∷ codes ",\"days_words\":" ∷ json_string words ∷ [])) one
     ∙ ap (λ (t : List ℕ). old ++ joined (codes ",\"first_day\":" ∷ json_string (day_text row.first_day) ∷ codes ",\"last_day\":" ∷ json_string t
-        ∷ codes ",\"days_words\":" ∷ json_string words ∷ [])) two
+    ∷ codes ",\"days_words\":" ∷ json_string words ∷ [])) two
     ∙ ap (λ (t : List ℕ). old ++ joined (codes ",\"first_day\":" ∷ json_string (day_text row.first_day) ∷ codes ",\"last_day\":" ∷ json_string (day_text row.last_day)
-        ∷ codes ",\"days_words\":" ∷ json_string t ∷ [])) three
+    ∷ codes ",\"days_words\":" ∷ json_string t ∷ [])) three
 
 -- the members for the volumes of a row
 pub volumes_written : (old new first last words : List ℕ) (row : RowValue) → first ≡ volume_text row.first_volume → last ≡ volume_text row.last_volume → words ≡ volumes_words row
@@ -46,11 +46,11 @@ pub volumes_written : (old new first last words : List ℕ) (row : RowValue) →
 unfolding volumes_members
 volumes_written old new first last words row one two three is = is
     ∙ ap (λ (t : List ℕ). old ++ joined (codes ",\"first_volume\":" ∷ json_string t ∷ codes ",\"last_volume\":" ∷ json_string last
-        ∷ codes ",\"volumes_words\":" ∷ json_string words ∷ [])) one
+    ∷ codes ",\"volumes_words\":" ∷ json_string words ∷ [])) one
     ∙ ap (λ (t : List ℕ). old ++ joined (codes ",\"first_volume\":" ∷ json_string (volume_text row.first_volume) ∷ codes ",\"last_volume\":" ∷ json_string t
-        ∷ codes ",\"volumes_words\":" ∷ json_string words ∷ [])) two
+    ∷ codes ",\"volumes_words\":" ∷ json_string words ∷ [])) two
     ∙ ap (λ (t : List ℕ). old ++ joined (codes ",\"first_volume\":" ∷ json_string (volume_text row.first_volume) ∷ codes ",\"last_volume\":" ∷ json_string (volume_text row.last_volume)
-        ∷ codes ",\"volumes_words\":" ∷ json_string t ∷ [])) three
+    ∷ codes ",\"volumes_words\":" ∷ json_string t ∷ [])) three
 
 -- the object of a hit
 pub object_written : (old one two three new : List ℕ) (row : RowValue) (link words : List ℕ) (found : ReleaseHitValue)
