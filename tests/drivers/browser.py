@@ -99,6 +99,12 @@ return [...document.querySelectorAll("a, button, input:not([type=hidden])")].eve
 """
 
 SCROLLS = "return document.documentElement.scrollWidth > document.documentElement.clientWidth"
+# The lines of each card, without what only a screen reader gets.
+CARDS = """
+const shown = (part) => [...part.childNodes].filter((it) => it.className !== "hidden").map((it) => it.textContent);
+return [...document.querySelectorAll(".hits li")].map((card) =>
+  [...card.children].map((part) => shown(part).join("").trim()).join(" | "));
+"""
 
 
 def resize(browser, width):
@@ -141,8 +147,8 @@ def fill(browser, values):
     print("cited:", "; ".join(browser.text(it) for it in browser.found("dd")))
     for note in browser.found(".note"):
         print("note:", browser.text(note))
-    for card in browser.found(".hits li"):
-        print("card:", " | ".join(browser.text(card).splitlines()))
+    for card in browser.script(CARDS):
+        print("card:", card)
 
 
 def save(browser, path, width, scheme="light"):
