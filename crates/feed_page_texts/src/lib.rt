@@ -1,8 +1,12 @@
 //! The texts of the pages that a reader sees, in English, German and French: one table, with a row for each text.
 #![tactic(auto)]
 
+mod english;
+mod french;
+mod german;
 mod language;
 mod laws;
+mod names;
 mod table;
 mod words;
 

@@ -3,7 +3,11 @@ ghost use Rattle.std.specs.Prelude.{◌≡◌};
 ghost use Rattle.std.specs.Str.{bytes_eq};
 ghost use Rattle.feed_page_texts.specs.Words.{is_name, name_of, words_of};
 
+use crate::english::english;
+use crate::french::french;
+use crate::german::german;
 use crate::language::Language;
+use crate::names::name_in_table;
 use crate::table::{TEXTS, Text};
 
 #[tactic(auto, unfolding(crate::specs::Words::words_of, crate::specs::Words::name_of))]
@@ -12,11 +16,10 @@ impl Text {
     pub fn words(self, language: Language) -> &'static str
         ensures { result.now ≡ words_of language self }
     {
-        let row = self.row();
         match language {
-            Language::English => row.english,
-            Language::German => row.german,
-            Language::French => row.french,
+            Language::English => english(self),
+            Language::German => german(self),
+            Language::French => french(self),
         }
     }
 
@@ -24,7 +27,7 @@ impl Text {
     pub fn name(self) -> &'static str
         ensures { result.now ≡ name_of self }
     {
-        self.row().name
+        name_in_table(self)
     }
 }
 

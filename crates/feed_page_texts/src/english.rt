@@ -1,0 +1,86 @@
+//! The words of each text in English, in the order of the texts.
+ghost use Rattle.std.specs.Prelude.{◌≡◌};
+ghost use Rattle.feed_page_texts.specs.Rows.{row_of};
+
+use crate::table::Text;
+
+static ENGLISH: [&'static str; 70] = [
+    "Full text",
+    "No full text found",
+    "Not answered",
+    "Ask again",
+    "Nothing to look up",
+    "Find full text",
+    "New search",
+    "Help",
+    "Ask the library",
+    "Article",
+    "Journal or book",
+    "Author",
+    "Date",
+    "Volume",
+    "Issue",
+    "Page",
+    "not understood",
+    "Read at",
+    "Covers the whole of what you asked for",
+    "Covers a part of the date that you asked for",
+    "Not compared with a date or a volume",
+    "Does not cover what you asked for",
+    "Only a part of it is open to readers today",
+    "Not open to readers today",
+    "Full text",
+    "Free to read",
+    "Available from",
+    "Available to",
+    "to",
+    "to the present",
+    "From volume",
+    "Up to volume",
+    "to volume",
+    "January",
+    "February",
+    "March",
+    "April",
+    "May",
+    "June",
+    "July",
+    "August",
+    "September",
+    "October",
+    "November",
+    "December",
+    "1",
+    "",
+    "Only the most recent",
+    "Not the most recent",
+    "and not the most recent",
+    "day",
+    "days",
+    "month",
+    "months",
+    "year",
+    "years",
+    "Not shown:",
+    "Not shown: at least",
+    "Ask with a date or a volume for fewer.",
+    "This library has the title, but not for what you asked for.",
+    "No holdings match.",
+    "The query has no ISSN and no ISBN with its check character, so no holdings were looked up.",
+    "Other ways to it",
+    "Request it from another library",
+    "Packages",
+    "ISSN of a journal",
+    "or ISBN of a book",
+    "Date, as 1996 or 1996-03-01",
+    "Volume",
+    "Find",
+];
+
+/// Returns the words of a text in English.
+#[tactic(auto, unfolding(crate::specs::Rows::row_of))]
+pub(crate) fn english(text: Text) -> &'static str
+    ensures { result.now ≡ (row_of text).english }
+{
+    ENGLISH[text as usize]
+}

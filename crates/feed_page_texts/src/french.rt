@@ -1,0 +1,86 @@
+//! The words of each text in French, in the order of the texts.
+ghost use Rattle.std.specs.Prelude.{◌≡◌};
+ghost use Rattle.feed_page_texts.specs.Rows.{row_of};
+
+use crate::table::Text;
+
+static FRENCH: [&'static str; 70] = [
+    "Texte intégral",
+    "Aucun texte intégral trouvé",
+    "Demande non traitée",
+    "Reformuler la demande",
+    "Recherche impossible",
+    "Trouver le texte intégral",
+    "Nouvelle recherche",
+    "Aide",
+    "Contacter la bibliothèque",
+    "Article",
+    "Revue ou livre",
+    "Auteur",
+    "Date",
+    "Volume",
+    "Numéro",
+    "Page",
+    "non reconnu",
+    "Lire sur",
+    "Couvre toute votre demande",
+    "Couvre une partie de la période demandée",
+    "Non comparé à une date ou à un volume",
+    "Ne couvre pas votre demande",
+    "Seule une partie est accessible aujourd’hui",
+    "Non accessible aujourd’hui",
+    "Texte intégral",
+    "Accès libre",
+    "Disponible du",
+    "Disponible jusqu’au",
+    "au",
+    "à aujourd’hui",
+    "À partir du volume",
+    "Jusqu’au volume",
+    "jusqu’au volume",
+    "janvier",
+    "février",
+    "mars",
+    "avril",
+    "mai",
+    "juin",
+    "juillet",
+    "août",
+    "septembre",
+    "octobre",
+    "novembre",
+    "décembre",
+    "1er",
+    "",
+    "Uniquement le contenu de moins de",
+    "Sauf le contenu de moins de",
+    "sauf celui de moins de",
+    "un jour",
+    "jours",
+    "un mois",
+    "mois",
+    "un an",
+    "ans",
+    "Non affichés :",
+    "Non affichés : au moins",
+    "Précisez une date ou un volume pour en obtenir moins.",
+    "Cette bibliothèque possède ce titre, mais pas ce que vous demandez.",
+    "Aucune ressource ne correspond à votre demande.",
+    "La demande ne contient ni ISSN ni ISBN avec sa clé de contrôle : aucune recherche n’a été faite.",
+    "Autres possibilités",
+    "Demander par le prêt entre bibliothèques",
+    "Bouquets",
+    "ISSN d’une revue",
+    "ou ISBN d’un livre",
+    "Date, par exemple 1996 ou 1996-03-01",
+    "Volume",
+    "Rechercher",
+];
+
+/// Returns the words of a text in French.
+#[tactic(auto, unfolding(crate::specs::Rows::row_of))]
+pub(crate) fn french(text: Text) -> &'static str
+    ensures { result.now ≡ (row_of text).french }
+{
+    FRENCH[text as usize]
+}

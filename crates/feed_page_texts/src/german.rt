@@ -1,0 +1,86 @@
+//! The words of each text in German, in the order of the texts.
+ghost use Rattle.std.specs.Prelude.{◌≡◌};
+ghost use Rattle.feed_page_texts.specs.Rows.{row_of};
+
+use crate::table::Text;
+
+static GERMAN: [&'static str; 70] = [
+    "Volltext",
+    "Kein Volltext gefunden",
+    "Nicht beantwortet",
+    "Neu anfragen",
+    "Keine Suche möglich",
+    "Volltext finden",
+    "Neue Suche",
+    "Hilfe",
+    "Bibliothek fragen",
+    "Artikel",
+    "Zeitschrift oder Buch",
+    "Autor/in",
+    "Datum",
+    "Band",
+    "Heft",
+    "Seite",
+    "nicht erkannt",
+    "Lesen bei",
+    "Deckt Ihre Anfrage vollständig ab",
+    "Deckt einen Teil des gesuchten Zeitraums ab",
+    "Nicht mit einem Datum oder Band verglichen",
+    "Deckt Ihre Anfrage nicht ab",
+    "Nur ein Teil davon ist heute zugänglich",
+    "Heute nicht zugänglich",
+    "Volltext",
+    "Frei zugänglich",
+    "Verfügbar vom",
+    "Verfügbar bis zum",
+    "bis zum",
+    "bis heute",
+    "Ab Band",
+    "Bis Band",
+    "bis Band",
+    "Januar",
+    "Februar",
+    "März",
+    "April",
+    "Mai",
+    "Juni",
+    "Juli",
+    "August",
+    "September",
+    "Oktober",
+    "November",
+    "Dezember",
+    "1.",
+    ".",
+    "Nur Inhalte, die jünger sind als",
+    "Keine Inhalte, die jünger sind als",
+    "aber nicht solche, die jünger sind als",
+    "ein Tag",
+    "Tage",
+    "ein Monat",
+    "Monate",
+    "ein Jahr",
+    "Jahre",
+    "Nicht angezeigt:",
+    "Nicht angezeigt: mindestens",
+    "Mit einem Datum oder einem Band werden es weniger.",
+    "Diese Bibliothek hat den Titel, aber nicht für Ihre Anfrage.",
+    "Kein Bestand passt zu Ihrer Anfrage.",
+    "Die Anfrage enthält keine ISSN oder ISBN mit richtiger Prüfziffer, daher wurde kein Bestand gesucht.",
+    "Weitere Möglichkeiten",
+    "Über Fernleihe bestellen",
+    "Pakete",
+    "ISSN einer Zeitschrift",
+    "oder ISBN eines Buches",
+    "Datum, etwa 1996 oder 1996-03-01",
+    "Band",
+    "Suchen",
+];
+
+/// Returns the words of a text in German.
+#[tactic(auto, unfolding(crate::specs::Rows::row_of))]
+pub(crate) fn german(text: Text) -> &'static str
+    ensures { result.now ≡ (row_of text).german }
+{
+    GERMAN[text as usize]
+}

@@ -1,0 +1,86 @@
+//! The name of each text, by which a site file replaces it, in the order of the texts.
+ghost use Rattle.std.specs.Prelude.{◌≡◌};
+ghost use Rattle.feed_page_texts.specs.Rows.{row_of};
+
+use crate::table::Text;
+
+static NAMES: [&'static str; 70] = [
+    "full_text",
+    "no_full_text",
+    "not_answered",
+    "ask_again",
+    "nothing_to_look_up",
+    "find_holdings",
+    "new_search",
+    "help",
+    "contact",
+    "article",
+    "work",
+    "author",
+    "date",
+    "volume",
+    "issue",
+    "page",
+    "not_understood",
+    "read_at",
+    "inside",
+    "overlap",
+    "untested",
+    "outside",
+    "partly",
+    "embargoed",
+    "depth",
+    "free",
+    "available_from",
+    "available_to",
+    "to",
+    "to_present",
+    "from_volume",
+    "up_to_volume",
+    "to_volume",
+    "january",
+    "february",
+    "march",
+    "april",
+    "may",
+    "june",
+    "july",
+    "august",
+    "september",
+    "october",
+    "november",
+    "december",
+    "first_day",
+    "day_mark",
+    "only_recent",
+    "not_recent",
+    "also_not_recent",
+    "day",
+    "days",
+    "month",
+    "months",
+    "year",
+    "years",
+    "not_shown",
+    "not_shown_at_least",
+    "not_shown_hint",
+    "held_other",
+    "no_holdings",
+    "no_number",
+    "other_ways",
+    "request",
+    "packages",
+    "field_issn",
+    "field_isbn",
+    "field_date",
+    "field_volume",
+    "search",
+];
+
+/// Returns the name of a text.
+#[tactic(auto, unfolding(crate::specs::Rows::row_of))]
+pub(crate) fn name_in_table(text: Text) -> &'static str
+    ensures { result.now ≡ (row_of text).name }
+{
+    NAMES[text as usize]
+}
