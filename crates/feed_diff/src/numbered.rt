@@ -1,4 +1,4 @@
-//! Rows with the numbers of their first identifiers, by which a sort tells most of them apart without looking at them.
+//! Rows with the numbers of their first identifiers, by which a sort orders most of them without looking at them.
 ghost use Rattle.std.specs.Prelude.{◌≡◌, IfOk};
 ghost use Rattle.feed_diff.specs.Ranking.{ranking};
 

@@ -32,7 +32,7 @@ number-below digits n few is = go (is_number digits) refl (is ∙ number-short d
         let same : n ≡ digits_value 10 digits = cc in
         omega arith
 
--- where they denote none, they are no length
+-- where they denote none, they are not a length
 pub length_of-none : (digits : List ℕ) → length digits ≤ 9 → number_in_64_bits digits ≡ None → length_of digits ≡ None
 length_of-none digits few none = go (nat_le (length digits) 9) (sym (number-short digits few) ∙ none)
   where

@@ -68,8 +68,8 @@ pub fn note_bad_file<F: Write + Drop>(
     }
 }
 
-/// Notes what is known of a bad list: that it is no text, that its header has commas in place of tabs, or where it is
-/// not UTF-8.
+/// Notes what is known of a bad list: that it is packed or in UTF-16, that its header has commas in place of tabs, or
+/// where it is not UTF-8.
 pub fn note_bad_list<R: Read + Drop, F: Write + Drop>(
     alloc: Global,
     list: R,

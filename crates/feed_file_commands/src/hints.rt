@@ -8,7 +8,7 @@ use std::io::Write;
 // How many digits the date of a name without hyphens has.
 const DATE_DIGITS: usize = 8;
 
-/// What to do with a name that was probably meant.
+/// Advice about a name that was probably meant.
 #[derive(Clone, Copy)]
 pub enum Advice {
     /// Rename the file.

@@ -1,4 +1,4 @@
--- What follows the heads of a reply while its bytes arrive, and where the reply ends.
+-- The body of a reply while its bytes arrive, and where the reply ends.
 use Rattle.std.specs.Prelude.{◌≡◌, ◌⊎◌, ◌+◌, ◌-◌, ℕ, Bool, true, false, nat_le, List, length, drop, Result, Ok, ⊤}
 use Rattle.httparse.specs.Grammar.{ResponseHead, print_response}
 use Rattle.feed_http_heads.specs.declared.http_fault.HttpFault.{HttpFault}

@@ -1,4 +1,4 @@
--- The holdings of records, and of those after them.
+-- The holdings of the first records of a list, and of the records after them.
 use Rattle.std.proofs.Common.{◌≡◌, ◌≤◌, ◌<◌, ◌+◌, ◌∙◌, ℕ, List, [], ◌∷◌, ◌++◌, length, None, refl, ap, arith}
 use Rattle.std.specs.Prelude.{Result, Ok, Err, OnOk}
 use Rattle.std.proofs.lemmas.List.{length-append}

@@ -96,7 +96,7 @@ IsInterim (Persistent head body) text = (text ≡ []) ⊎ ((text ≡ continue_te
 IsInterim (Last head body) text = (text ≡ []) ⊎ ((text ≡ continue_text) × (expects_continue head ≡ true))
 IsInterim (Invalid other) text = text ≡ []
 
--- before the reply to a request that is not whole there is no interim one, or the one that the client expects
+-- before the reply to a request that is not whole, nothing is sent, or the interim reply that the client expects
 abbrev pub IsPending : List ℕ → List ℕ → Type 0
 IsPending bytes text =
     (text ≡ [])

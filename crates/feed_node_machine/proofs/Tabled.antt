@@ -1,4 +1,4 @@
--- The history of a node of which only the connections change.
+-- The history of a node while only its connections change.
 use Rattle.std.proofs.Common.{ℕ, Bool, List, inl, inr}
 use Rattle.std.specs.Prelude.{option_copied}
 use Rattle.httparse.specs.Grammar.{RequestHead}

@@ -90,7 +90,7 @@ module _ {T : Type 0} where
     ];
   }
 
-  -- and without one there is no connection
+  -- and without one the table is empty
   pub none_at_all : (table : Table T) (limit : ℕ) → length table.peers.slots ≤ limit → IsFirstBelow table limit None → size_of table ≡ 0
   none_at_all table limit within none =
       sum_of_same (λ slot. cond (is_some slot) 1 0) refl table.peers.slots [] (λ other. elim (cases_lt other limit) [

@@ -1,4 +1,4 @@
--- What a log records of a table.
+-- The records of a log about a table.
 use Rattle.std.proofs.Common.{◌≡◌, ◌≢◌, ◌+◌, ◌<◌, ◌≤◌, ℕ, List, [], ◌∷◌, ◌++◌, Some, refl, sym, ap, subst, ◌∙◌, arith}
 use Rattle.feed_node_table.specs.declared.log.CloseCause.{CloseCause}
 use Rattle.feed_node_table.specs.declared.table.Table.{Table}

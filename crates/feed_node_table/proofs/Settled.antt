@@ -1,4 +1,4 @@
--- What follows a share of a turn of a connection.
+-- The table after a connection had its share of a turn.
 use Rattle.std.proofs.Common.{◌≡◌, ◌≢◌, ◌+◌, ◌≤◌, ℕ, true, false, Option, Some, None, IsSome, sum_by, refl, sym, ap, subst, ◌∙◌}
 use Rattle.std.proofs.lemmas.Bool.{false≢true}
 use Rattle.slab.specs.Slab.{get, slab_len}

@@ -14,7 +14,7 @@ use feed_node_connection::{Connection, Progress, Respond, Share, TimeLimits, Wan
 use std::alloc::Global;
 use std::net::SocketAddr;
 
-/// What is left to do for a connection after a turn.
+/// The work that remains for a connection after a turn.
 #[derive(Clone, Copy, Debug, PartialEq, Eq)]
 pub enum Outcome {
     /// It waits for its stream.
@@ -231,8 +231,8 @@ impl<T: Stream> Peer<T> {
         }
     }
 
-    // Returns what is left of a share for this connection: no reply if there is no room for one, and a part of the last
-    // one remains to be sent.
+    // Returns the share that this connection may use: without a reply if a part of the last one is still to be sent and
+    // there is no room for another.
     fn share(&self, has_room: bool, share: Share) -> Share
         ensures bytes { result.bytes ≡ share.bytes }
         ensures given { IsGiven has_room self.now.connection share result }

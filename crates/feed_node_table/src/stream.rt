@@ -10,7 +10,7 @@ pub trait Stream: Drop {
     ghost use Rattle.feed_node_connection.specs.Streams.{IsStopped};
     ghost use Rattle.feed_node_table.specs.Connections.{HasMoved};
 
-    /// What reports the events of streams.
+    /// The registry that reports the events of streams.
     type Registry;
 
     /// Registers the stream for events under a key. Returns whether that succeeded.

@@ -270,7 +270,7 @@ impl<T: Stream> Table<T> {
         progress
     }
 
-    // Does what follows `advance`, except for the list of those that are ready.
+    // Does what follows `advance`, but leaves the list of ready connections as it is.
     fn settle_peer<L: Log>(
         &mut self,
         key: usize,

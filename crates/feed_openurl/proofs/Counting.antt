@@ -14,7 +14,7 @@ use Rattle.std.proofs.lemmas.List.{map-append, append-nil, get_or_default, take_
 use Rattle.std.proofs.lemmas.List.Sorted.{IsPermutation-refl, IsPermutation-trans}
 use Rattle.feed_openurl.specs.Dropped.{AreAscending, AreCounted, DroppedValue, appearances, dropped}
 
--- the keys so far are those counted, with the current one as often as it stands at the end
+-- the keys so far are those counted, with the current one as often as it is at the end
 pub record IsCounting (keys : List (List ℕ)) (current : List ℕ) (count : ℕ) (found : List DroppedValue) : Type 0 where
   pub counted : List (List ℕ × ℕ)
   pub shown_so : found ≡ map dropped counted

@@ -138,7 +138,7 @@ abbrev pub is_month : Token → Bool
 is_month (Month month) = true
 is_month _ = false
 
--- the small number beside a month is its day if there is no other small number, and no other month
+-- the small number beside a month is its day if the text has one small number and one month
 abbrev pub is_single : List Token → Bool
 is_single tokens = (length (filter is_small tokens) == 1) && (length (filter is_month tokens) == 1)
 

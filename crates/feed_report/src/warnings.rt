@@ -3,7 +3,7 @@ use crate::json::Commas;
 use std::io;
 use std::io::Write;
 
-/// What a good list has that is probably not meant. A line is that of its first occurrence, counted from 1.
+/// Faults of a good list that are probably not meant, each with the line of its first occurrence, counted from 1.
 #[derive(Clone, Copy)]
 pub struct Warnings {
     // The line of a field between double quotes: quotes are ordinary characters.

@@ -58,7 +58,7 @@ unnamed f fields k =
     let others : List Field = filter (λ (field : Field). str_eq_ignore_ascii_case field.name condition_name) fields in
     ap (λ b. map field_value (if b then f ∷ others else others)) k
 
--- and there is no condition left
+-- and no condition is left
 none_left : (fields : List Field) → values_named condition_name (filter stays fields) ≡ []
 none_left [] = refl
 none_left (f ∷ fields) = elim (cases_Bool (str_eq_ignore_ascii_case f.name condition_name)) [

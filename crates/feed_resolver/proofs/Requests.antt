@@ -309,7 +309,7 @@ same_fields r get post path query actives fields =
     ∙ ap (λ a. answer_by r (representation_of query post) a path query actives) accepts
     ∙ sym (answered_by r post path query actives)
 
--- a POST has no tag, and is no preflight
+-- a POST has no tag, and is not a preflight
 untagged_post : (site : SiteValue) (head : RequestHead) (body : List ℕ) (actives : Dated) → is_get head ≡ false → is_head head ≡ false
     → bytes_eq head.method (codes "OPTIONS") ≡ false → tagged_reply site head body actives ≡ reply_to head body (sited site actives)
 untagged_post site head body actives get alone other =

@@ -77,15 +77,15 @@ texts_behind site today query earlier (active ∷ actives) =
 abbrev pub is_placed : QueryValue → Bool
 is_placed query = is_some query.days || is_some query.volume
 
--- the hits of the same titles, whatever the date and the volume are: a query that names one of these has them beside its
--- own if there are none of those
+-- the hits of the same titles for any date and volume, which a query that names a date or a volume has if it has no hits
+-- of its own
 abbrev pub others_beside : ℕ → QueryValue → Sited → List ReleaseHitValue
 others_beside count query actives = if (count == 0) && is_placed query then hits_among (whole_titles query) actives else []
 
 abbrev pub others_among : QueryValue → Sited → TallyValue
 others_among query actives = tally_of (others_beside (tally_among query actives).count query actives)
 
--- the body of an answer from these releases, for what this text asks; the text of an answer does not tell of the query
+-- the body of an answer from these releases, for what this text asks; as text, an answer does not repeat the query
 unfoldable pub answers_body : Representation → List ℕ → QueryValue → Sited → List ℕ
 answers_body Text text query actives = texts_behind actives.library actives.today query [] actives.actives
 answers_body Json text query actives = answer_json (ask_of text) [] (tally_among query actives)

@@ -55,7 +55,7 @@ abbrev pub package_reply : Representation → List ℕ → List ℕ → Sited �
 package_reply representation stem text actives = option_map_or (resolve_reply_at representation text actives)
     (position (is_of stem) actives.actives) (refusal status.NotFound representation (codes "NoRelease"))
 
--- a redirect to the best hit of those that are counted, or the answer if none has a link
+-- a redirect to the best of the counted hits, or the answer if none has a link
 abbrev pub redirect_reply : Representation → List ℕ → Sited → QueryValue → ReplyValue
 redirect_reply representation text actives query = option_map_or redirect_to
     (tally_among query actives).best (hits_reply status.NotFound representation text actives query)

@@ -137,7 +137,7 @@ fn put_json(
     put_answer_json(out, &ask, b"", &tally)
 }
 
-// The same as a page. If there are no hits, the page shows those of the same titles.
+// The same as a page. Without a hit, the page shows the hits of the same titles.
 fn put_page(
     alloc: Global,
     out: &mut Vec<u8>,

@@ -1,11 +1,11 @@
-//! What replies are computed from, beside the requests.
+//! The circumstances of a reply beside its request.
 use feed_embargo::Today;
 use feed_releases::ActiveRelease;
 use feed_resolver_tag::Site;
 use feed_site::SiteFile;
 use std::marker::Model;
 
-/// What replies are computed from, beside the requests: the settings of the node, the day, and the active releases.
+/// The circumstances of a reply beside its request: the settings of the node, the day, and the active releases.
 #[derive(Drop)]
 pub(crate) struct Context<'a> {
     pub(crate) site: &'a Site,

@@ -21,7 +21,7 @@ use httparse::spans::EMPTY_HEADER_SPAN;
 use std::alloc::{AllocError, Global};
 use std::io::Write;
 
-/// What a GET or a HEAD of a target names in the feed of a node.
+/// A target of a GET or a HEAD in the feed of a node.
 #[derive(Clone, Copy, Debug, PartialEq, Eq)]
 pub enum FeedTarget {
     /// `/feed`: the recorded releases.

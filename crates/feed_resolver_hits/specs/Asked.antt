@@ -1,4 +1,4 @@
--- What is looked up for a query, in whatever form its source sent it, or why nothing is.
+-- The query to look up for a request, in whatever form its source sent it, or why nothing is looked up.
 use Rattle.std.specs.Prelude.{ℕ, List, Result, Ok, Err}
 use Rattle.std.specs.Option.{option_map_or}
 use Rattle.feed_answer.specs.Queries.{query_of}

@@ -1,4 +1,4 @@
--- What a reply tells of a query beside its hits.
+-- The facts that a reply reports about a query beside its hits.
 use Rattle.std.specs.Prelude.{ℕ, ◌||◌, ◌&&◌, not, Bool, List, [], is_some}
 use Rattle.std.specs.Option.{option_map_or}
 use Rattle.feed_answer.specs.Pairs.{is_empty}

@@ -35,7 +35,7 @@ BestLinkRanksHighest = (hits : List ReleaseHitValue) → IsBestLink hits (best_l
 abbrev pub RanksInOrder : Type 0
 RanksInOrder = (one other : ReleaseHitValue) → (rank_of other < rank_of one) ↔ IsPreferred one other
 
--- what a tally tells after one hit of a list was added after another
+-- what a tally says after the hits of a list were added one after another
 abbrev pub TallyTellsOfHits : Type 0
 TallyTellsOfHits = (hits : List ReleaseHitValue) → tally_from (with_hits no_hits hits) ≡ tally_of hits
 

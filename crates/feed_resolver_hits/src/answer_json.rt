@@ -78,7 +78,7 @@ fn put_start(out: &mut Vec<u8>, ask: &Ask, refused: &[u8]) -> Result<(), AllocEr
     put_query(out, &ask.query, refused)
 }
 
-/// Writes what a reply tells of a query, why nothing is looked up, or an empty reason, and the hits that a tally shows.
+/// Writes the facts about a query, why nothing is looked up, or an empty reason, and the hits that a tally shows.
 #[tactic(auto, unfolding(crate::specs::AnswerJson::answer_json))]
 pub fn put_answer_json(
     out: &mut Vec<u8>,

@@ -1,4 +1,4 @@
-//! What a reply tells of a query beside its hits.
+//! The facts that a reply reports about a query beside its hits.
 ghost use Rattle.std.specs.Prelude.{◌≡◌, IfOk};
 ghost use Rattle.feed_resolver_hits.specs.Asks.{ask_by, is_blank, is_nameless, is_placeless, names_work, query_text};
 
@@ -6,7 +6,7 @@ use feed_openurl::{Citation, Understanding};
 use std::alloc::{AllocError, Global};
 use std::marker::Model;
 
-/// What a reply tells of a query beside its hits.
+/// The facts that a reply reports about a query beside its hits.
 #[derive(Drop)]
 pub struct Ask {
     pub citation: Citation,
@@ -89,7 +89,7 @@ pub fn is_blank(citation: &Citation) -> bool
 impl Ask {
     ghost use Rattle.feed_resolver_hits.specs.Asks.{ask_of};
 
-    /// Reads what a reply tells of a query, which may have any length.
+    /// Reads the facts about a query, which may have any length.
     ///
     /// # Errors
     ///

@@ -24,7 +24,7 @@ pub fn ranks_in_order()
     ensures { RanksInOrder }
 {}
 
-/// A tally that is made hit by hit tells how many hits there are, up to 1,000,000, the first ones, those of the highest
+/// A tally that is made hit by hit says how many hits there are, up to 1,000,000, the first ones, those of the highest
 /// ranks, and the best link.
 pub fn tally_tells_of_hits()
     ensures { TallyTellsOfHits }

@@ -1,4 +1,4 @@
--- What a row covers, and how it is read, in words.
+-- The coverage of a row, and how it is read, in words.
 use Rattle.std.specs.Prelude.{ℕ, if◌then◌else◌, List, [], ◌∷◌, ◌++◌, codes, Option, Some, None}
 use Rattle.std.specs.Fmt.{decimal}
 use Rattle.std.specs.Option.{option_and_then}

@@ -375,8 +375,8 @@ fn page_name(count: usize) -> Text
 }
 
 /// Writes the page with the citation of a query, and the cards of the hits that a tally shows. If others are left out,
-/// it says how many. If there are no hits, it shows the cards of another tally: those of the same titles for other
-/// dates and volumes.
+/// it says how many. Without a hit, it shows the cards of another tally: the hits of the same titles for other dates
+/// and volumes.
 #[tactic(auto, unfolding(crate::specs::HitsPage::hits_page))]
 pub fn put_hits_page(
     alloc: Global,

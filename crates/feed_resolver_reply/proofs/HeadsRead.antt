@@ -309,7 +309,7 @@ unfolding httparse_on_literals
 tag_valid [] passes = All-from_recursion IsField [] tt
 tag_valid (b ∷ tag) passes = All-from_recursion IsField (fields_of (tag_pairs (b ∷ tag))) (visible_field (codes "ETag") (b ∷ tag) (omega arith) refl passes, tt)
 
--- what a reply tells a cache is visible
+-- the directives for a cache are visible
 cache_passes : (max_age : ℕ) → max_age < 2 ^ 64 → AllPass is_uri_byte (cache_text max_age)
 cache_passes max_age small = elim (cases_Bool (max_age == 0)) [
   | inl e ↦ rw e (AllPass-from_list_all is_uri_byte (codes "no-cache") refl)

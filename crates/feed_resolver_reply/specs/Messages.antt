@@ -63,7 +63,7 @@ abbrev pub tags : List ℕ → List (List ℕ)
 tags [] = []
 tags (b ∷ tag) = (b ∷ tag) ∷ []
 
--- what a reply tells a cache
+-- the directives of a reply for a cache (RFC 9111, section 5.2.2)
 abbrev pub cache_text : ℕ → List ℕ
 cache_text max_age = if max_age == 0 then codes "no-cache" else joined (codes "max-age=" ∷ decimal max_age ∷ [])
 

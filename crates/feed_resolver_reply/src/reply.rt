@@ -29,7 +29,7 @@ const PAGE_FIELDS: &[u8] =
 // The scripts of any site may read a text (Fetch standard, section 3.3.3).
 const SHARED_FIELDS: &[u8] = b"\r\nAccess-Control-Allow-Origin: *";
 
-// What a script of another site may request.
+// The methods that a script of another site may use.
 const PREFLIGHT_FIELDS: &[u8] =
     b"\r\nAllow: GET, HEAD\r\nAccess-Control-Allow-Methods: GET, HEAD\r\n\
     Access-Control-Allow-Headers: If-None-Match\r\nAccess-Control-Max-Age: 86400";

@@ -1,5 +1,5 @@
-//! Compares a secret with what a client sent, over every byte of two digests, so that the time tells nothing of where
-//! they differ.
+//! Compares a secret with what a client sent, over every byte of two digests, so that the time does not depend on
+//! where they differ.
 ghost use Rattle.std.specs.Prelude.{◌≡◌};
 ghost use Rattle.std.specs.Str.{bytes_eq};
 

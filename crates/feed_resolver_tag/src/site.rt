@@ -1,4 +1,4 @@
-//! What the replies of a node depend on beside its releases, and the tags that follow from it.
+//! The version, the settings and the site file of a node, on which its replies depend, and the tags that follow.
 ghost use Rattle.std.specs.Prelude.{◌≡◌, IfErr, IfOk};
 ghost use Rattle.std.specs.Fmt.{decimal};
 ghost use Rattle.feed_resolver_tag.specs.Tags.{entity_tag, inputs_of, kind_and_day, kind_of, message_of};
@@ -14,8 +14,8 @@ use std::alloc::{AllocError, Global};
 use std::io::Write;
 use std::marker::Model;
 
-/// What the replies of a node depend on beside its releases and the day: the version of the program, the settings and
-/// the site file of the library. It stays the same while a node runs.
+/// The version of the program, the settings and the site file of a library, on which the replies of a node depend
+/// beside its releases and the day. They stay the same while a node runs.
 #[derive(Drop)]
 pub struct Site {
     version: Digested,
@@ -23,7 +23,7 @@ pub struct Site {
     settings: Digested,
     /// The bytes of the site file.
     file: Digested,
-    /// What they say.
+    /// The settings of the library in it.
     library: SiteFile,
     /// The text about the releases whose digest was computed last.
     releases: Digested,

@@ -1,4 +1,4 @@
--- What a document without a fault has at its keys.
+-- The values at the keys of a document without a fault.
 use Rattle.std.proofs.Common.{◌≡◌, ℕ, ◌+◌, ◌&&◌, Bool, true, false, is_some, List, [], ◌∷◌, Option, Some, None, option_map, if◌then◌else◌}
 use Rattle.std.proofs.Common.{codes, Ordering, Less, Equal, Greater, nat_cmp, refl, sym, ◌∙◌, ap}
 use Rattle.std.specs.Option.{option_and_then}

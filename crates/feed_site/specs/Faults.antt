@@ -1,4 +1,4 @@
--- What is wrong with a site file: the first fault in the order of the keys.
+-- The first fault of a site file, in the order of the keys.
 use Rattle.std.specs.Prelude.{ℕ, ◌+◌, Bool, false, is_some, List, [], ◌∷◌, Option, Some, None, if◌then◌else◌, option_map, codes}
 use Rattle.std.specs.Option.{option_and_then}
 use Rattle.std.specs.Prelude.{int_lt}
@@ -33,7 +33,7 @@ abbrev pub or_misfit : Option MisfitValue → Option MisfitValue → Option Misf
 or_misfit (Some misfit) other = Some misfit
 or_misfit None other = other
 
--- the reason that a text is no value of its kind
+-- the reason why a text is not a value of its kind
 abbrev pub reason_of : Kind → Reason
 reason_of Text = bad.Empty
 reason_of Language = bad.Language
@@ -66,7 +66,7 @@ abbrev pub host_flaw : ℕ → Option Reason → Option Flaw → Option Flaw
 host_flaw number (Some reason) other = Some (record { item = Some number; reason = reason })
 host_flaw number None other = other
 
--- the first item from this number on that is no host
+-- the first item from this number on that is not a host
 abbrev pub host_flaws : ℕ → Items → Option Flaw
 host_flaws number no_items = None
 host_flaws number (item d ds) = host_flaw number (host_reason (as_str d)) (host_flaws (number + 1) ds)

@@ -1,4 +1,4 @@
--- What a library has of the rows of a list.
+-- The holdings of a library among the rows of a list.
 use Rattle.std.specs.Prelude.{ℕ, ℤ, ◌&&◌, Bool, true, List, Option, Some, None, option_map, unwrap_or}
 use Rattle.std.specs.List.{find}
 use Rattle.std.specs.Str.{bytes_eq}

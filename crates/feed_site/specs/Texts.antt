@@ -8,7 +8,7 @@ use Rattle.feed_page_texts.specs.Words.{name_of, words_of}
 use Rattle.feed_site.specs.Urls.{before_byte}
 use Rattle.feed_site.specs.Site.{SiteValue, replacement}
 
--- the language at the front of a tag, in any case of letters; English if there are no texts in it
+-- the language at the front of a tag, in any case of letters; English if it has no texts
 abbrev pub language_of : List ℕ → Language
 language_of tag =
     if str_eq_ignore_ascii_case (before_byte 45 tag) (codes "de") then German

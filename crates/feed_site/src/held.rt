@@ -1,4 +1,4 @@
-//! What a library has of the rows of a list.
+//! The holdings of a library among the rows of a list.
 ghost use Rattle.std.specs.Prelude.{◌≡◌, []};
 ghost use Rattle.std.specs.Str.{bytes_eq};
 ghost use Rattle.toml.specs.Data.{as_table};
@@ -18,7 +18,7 @@ use std::marker::Model;
 use toml::value::Array;
 use toml::{Table, Value};
 
-// What the library has of a package or a title: nothing, or the days from a first to a last one.
+// The holdings of the library in a package or a title: none, or the days from a first to a last one.
 #[derive(Drop)]
 struct Holding {
     is_held: bool,
@@ -55,7 +55,7 @@ fn holding_of(table: &Table) -> Holding
     }
 }
 
-// What a table says, if it is about this title of this package.
+// Returns the holdings that a table gives, if it is about this title of this package.
 fn title_row(row: &Value, package_id: &[u8], id: &[u8]) -> Option<Holding>
     ensures { result ≡ title_holding package_id.now id.now (row_or title_of (as_table (view row.now)) []) }
 {
@@ -67,7 +67,7 @@ fn title_row(row: &Value, package_id: &[u8], id: &[u8]) -> Option<Holding>
     }
 }
 
-// What the first table about a title of a package says.
+// Returns the holdings by the first table about a title of a package.
 fn title_among(rows: &Array, package_id: &[u8], id: &[u8]) -> Option<Holding>
     ensures { result ≡ title_holding package_id.now id.now (rows_of title_of (array_view rows.now)) }
 {
@@ -97,7 +97,7 @@ fn title_holding(site: &SiteFile, package_id: &[u8], id: &[u8]) -> Option<Holdin
     }
 }
 
-// What the library has of a title of a package. The title's own table decides over that of the package.
+// Returns the holdings of the library in a title of a package. The title's own table decides over that of the package.
 fn holding_at(site: &SiteFile, package_id: &[u8], id: &[u8]) -> Holding
     ensures { result ≡ holding_at site.now package_id.now id.now }
 {

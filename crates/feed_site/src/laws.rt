@@ -1,4 +1,4 @@
-//! Laws of the links of a page, of those to a request form, and of what a library has: each is the contract of a
+//! Laws of the links of a page, of the links to a request form, and of what a library has: each is the contract of a
 //! function with an empty body.
 ghost use Rattle.feed_site.specs.Laws.{ExceptedIsDirect, FreeIsDirect, NoProxyIsDirect, OthersGoThrough};
 ghost use Rattle.feed_site.specs.Laws.{LinkFits, SubdomainsAreWithin};

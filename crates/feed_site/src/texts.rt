@@ -6,7 +6,7 @@ use crate::cuts::before;
 use crate::site_file::SiteFile;
 use feed_page_texts::{Language, Text};
 
-// Returns the language of a tag such as `de-AT`; English if there are no texts in its language.
+// Returns the language of a tag such as `de-AT`; English if its language has no texts.
 fn language_of(tag: &[u8]) -> Language
     ensures { result ≡ language_of tag.now }
 {

@@ -40,7 +40,7 @@
 //!
 //!     release NAME TEXT               offers a release to the node, and sends its whole file
 //!     site VERSION MAX-AGE TEXT       the version, the seconds and the site file that tags and replies are made of;
-//!                                     prints nothing. Without TEXT there is no site file
+//!                                     prints nothing. Without TEXT the site file is left out
 //!     today YYYY-MM-DD                the day of the node; prints nothing. It begins as 1970-01-01
 //!     keep-releases                   keeps the digest of the active releases, as a node does; prints nothing
 //!     respond keep|close TEXT         the resolver's reply to a request, on a connection that is kept or closed

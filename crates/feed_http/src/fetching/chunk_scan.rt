@@ -39,7 +39,7 @@ enum Data {
     Invalid,
 }
 
-/// What the next bytes of a chunked body are.
+/// The kind of the next bytes of a chunked body.
 #[derive(Clone, Copy, Debug, PartialEq, Eq)]
 enum Step {
     /// A chunk, of this many bytes with its line.

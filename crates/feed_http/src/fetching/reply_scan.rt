@@ -8,7 +8,7 @@ use crate::fetching::validation::{Announcement, Framing, Reply};
 use feed_http_heads::{FIELD_LIMIT, HEAD_LIMIT, HttpFault, read_reply_head};
 use httparse::spans::EMPTY_HEADER_SPAN;
 
-/// What follows the heads of a reply.
+/// The body behind the heads of a reply.
 #[derive(Clone, Copy, Debug, PartialEq, Eq)]
 pub enum ReplyBody {
     /// The heads are not complete.
@@ -74,7 +74,7 @@ fn start_of(body: ReplyBody) -> usize
 pub struct ReplyScan {
     /// The method of the request.
     pub method: Method,
-    /// What follows the heads.
+    /// The body behind the heads.
     pub body: ReplyBody,
     chunks: ChunkScan,
 }
