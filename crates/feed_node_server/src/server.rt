@@ -265,8 +265,8 @@ impl Server {
         ensures { IsLater S.wanted S.replies node.old node.new }
     {
         let mut share = TURN_SHARE;
-        match self.advance(rt, node, key, &mut share, log)? {
-            Outcome::Resumed => Ok(is_open(self.advance(rt, node, key, &mut share, log)?)),
+        match self.advance(key, &mut share, rt, node, log)? {
+            Outcome::Resumed => Ok(is_open(self.advance(key, &mut share, rt, node, log)?)),
             outcome => Ok(is_open(outcome)),
         }
     }
@@ -276,10 +276,10 @@ impl Server {
     #[tactic(auto, using(feed_node_machine::proofs::Later::later_after))]
     fn advance<K: Keep + Drop, S: FeedRespond + Drop, L: Log>(
         &mut self,
-        rt: &impl Clock,
-        node: &mut ServedNode<'_, K, S>,
         key: usize,
         share: &mut Share,
+        rt: &impl Clock,
+        node: &mut ServedNode<'_, K, S>,
         log: &mut L,
     ) -> io::Result<Outcome>
         ensures { IsLater S.wanted S.replies node.old node.new }

@@ -1,10 +1,5 @@
 //! The words of each text in English, in the order of the texts.
-ghost use Rattle.std.specs.Prelude.{◌≡◌};
-ghost use Rattle.feed_page_texts.specs.Rows.{row_of};
-
-use crate::table::Text;
-
-static ENGLISH: [&'static str; 70] = [
+pub(crate) static ENGLISH: [&'static str; 70] = [
     "Full text",
     "No full text found",
     "Not answered",
@@ -76,11 +71,3 @@ static ENGLISH: [&'static str; 70] = [
     "Volume",
     "Find",
 ];
-
-/// Returns the words of a text in English.
-#[tactic(auto, unfolding(crate::specs::Rows::row_of))]
-pub(crate) fn english(text: Text) -> &'static str
-    ensures { result.now ≡ (row_of text).english }
-{
-    ENGLISH[text as usize]
-}

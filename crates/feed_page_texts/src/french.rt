@@ -1,10 +1,5 @@
 //! The words of each text in French, in the order of the texts.
-ghost use Rattle.std.specs.Prelude.{◌≡◌};
-ghost use Rattle.feed_page_texts.specs.Rows.{row_of};
-
-use crate::table::Text;
-
-static FRENCH: [&'static str; 70] = [
+pub(crate) static FRENCH: [&'static str; 70] = [
     "Texte intégral",
     "Aucun texte intégral trouvé",
     "Demande non traitée",
@@ -76,11 +71,3 @@ static FRENCH: [&'static str; 70] = [
     "Volume",
     "Rechercher",
 ];
-
-/// Returns the words of a text in French.
-#[tactic(auto, unfolding(crate::specs::Rows::row_of))]
-pub(crate) fn french(text: Text) -> &'static str
-    ensures { result.now ≡ (row_of text).french }
-{
-    FRENCH[text as usize]
-}

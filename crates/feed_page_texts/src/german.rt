@@ -1,10 +1,5 @@
 //! The words of each text in German, in the order of the texts.
-ghost use Rattle.std.specs.Prelude.{◌≡◌};
-ghost use Rattle.feed_page_texts.specs.Rows.{row_of};
-
-use crate::table::Text;
-
-static GERMAN: [&'static str; 70] = [
+pub(crate) static GERMAN: [&'static str; 70] = [
     "Volltext",
     "Kein Volltext gefunden",
     "Nicht beantwortet",
@@ -76,11 +71,3 @@ static GERMAN: [&'static str; 70] = [
     "Band",
     "Suchen",
 ];
-
-/// Returns the words of a text in German.
-#[tactic(auto, unfolding(crate::specs::Rows::row_of))]
-pub(crate) fn german(text: Text) -> &'static str
-    ensures { result.now ≡ (row_of text).german }
-{
-    GERMAN[text as usize]
-}

@@ -1,10 +1,5 @@
 //! The name of each text, by which a site file replaces it, in the order of the texts.
-ghost use Rattle.std.specs.Prelude.{◌≡◌};
-ghost use Rattle.feed_page_texts.specs.Rows.{row_of};
-
-use crate::table::Text;
-
-static NAMES: [&'static str; 70] = [
+pub(crate) static NAMES: [&'static str; 70] = [
     "full_text",
     "no_full_text",
     "not_answered",
@@ -76,11 +71,3 @@ static NAMES: [&'static str; 70] = [
     "field_volume",
     "search",
 ];
-
-/// Returns the name of a text.
-#[tactic(auto, unfolding(crate::specs::Rows::row_of))]
-pub(crate) fn name_in_table(text: Text) -> &'static str
-    ensures { result.now ≡ (row_of text).name }
-{
-    NAMES[text as usize]
-}

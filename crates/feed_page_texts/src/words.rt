@@ -3,23 +3,23 @@ ghost use Rattle.std.specs.Prelude.{◌≡◌};
 ghost use Rattle.std.specs.Str.{bytes_eq};
 ghost use Rattle.feed_page_texts.specs.Words.{is_name, name_of, words_of};
 
-use crate::english::english;
-use crate::french::french;
-use crate::german::german;
+use crate::english::ENGLISH;
+use crate::french::FRENCH;
+use crate::german::GERMAN;
 use crate::language::Language;
-use crate::names::name_in_table;
+use crate::names::NAMES;
 use crate::table::{TEXTS, Text};
 
-#[tactic(auto, unfolding(crate::specs::Words::words_of, crate::specs::Words::name_of))]
+#[tactic(auto, unfolding(crate::specs::Words::words_of, crate::specs::Words::name_of, crate::specs::Rows::row_of))]
 impl Text {
     /// Returns the words of a text in a language.
     pub fn words(self, language: Language) -> &'static str
         ensures { result.now ≡ words_of language self }
     {
         match language {
-            Language::English => english(self),
-            Language::German => german(self),
-            Language::French => french(self),
+            Language::English => ENGLISH[self as usize],
+            Language::German => GERMAN[self as usize],
+            Language::French => FRENCH[self as usize],
         }
     }
 
@@ -27,7 +27,7 @@ impl Text {
     pub fn name(self) -> &'static str
         ensures { result.now ≡ name_of self }
     {
-        name_in_table(self)
+        NAMES[self as usize]
     }
 }
 

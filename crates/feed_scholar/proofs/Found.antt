@@ -128,30 +128,10 @@ parts_of embargo row =
     item_parts (leaf TITLE.now row.title) (issn_marks (print_issn row.identifiers)) (issn_marks (online_issn row.identifiers)) (coverage_marks embargo row)
 
 no_titles : IsOutside (codes "title")
-no_titles = record {
-  coverage = refl;
-  first = refl;
-  last = refl;
-  year = refl;
-  month = refl;
-  day = refl;
-  embargo = refl;
-  hidden = refl;
-  open_days = refl;
-}
+no_titles = record { coverage = refl; first = refl; last = refl; year = refl; month = refl; day = refl; embargo = refl; hidden = refl; open_days = refl }
 
 no_issns : IsOutside (codes "issn")
-no_issns = record {
-  coverage = refl;
-  first = refl;
-  last = refl;
-  year = refl;
-  month = refl;
-  day = refl;
-  embargo = refl;
-  hidden = refl;
-  open_days = refl;
-}
+no_issns = record { coverage = refl; first = refl; last = refl; year = refl; month = refl; day = refl; embargo = refl; hidden = refl; open_days = refl }
 
 title_found : (embargo : Embargo) (row : RowValue) → leaf_texts (codes "title") (item_with embargo row) ≡ allowed row.title ∷ []
 title_found embargo row =
