@@ -5,6 +5,7 @@ use Rattle.feed_embargo.specs.Today.{TodayValue}
 use Rattle.feed_site.specs.Site as site_file
 use Rattle.feed_answer.specs.QueryValue.{QueryValue}
 use Rattle.feed_releases.specs.Actives.{ActiveValue}
+use Rattle.feed_resolver_request.specs.declared.representation.Representation.{Representation}
 use Rattle.feed_resolver_request.specs.declared.representation.Representation.TheVariants.{Text, Json, Html}
 use Rattle.feed_resolver_hits.specs.Hits.{ReleaseHitValue}
 use Rattle.feed_resolver_hits.specs.HitsText.{release_text}
@@ -31,19 +32,23 @@ texts_are site today query earlier (active ∷ actives) =
     ∙ ap (λ (t : TallyValue). release_text (tally_of earlier) t active.name ++ texts_from site today query (after (earlier ++ more)) actives) (tally_is (earlier ++ more))
     ∙ ap (λ t. release_text (tally_of earlier) (tally_of (earlier ++ more)) active.name ++ t) (texts_are site today query (earlier ++ more) actives)
 
-pub text_written : (text : List ℕ) (query : QueryValue) (actives : Sited) (old new : List ℕ) → new ≡ old ++ texts_from actives.library actives.today query no_hits actives.actives
-    → new ≡ old ++ answers_body Text text query actives
+pub text_written : (representation : Representation) (text : List ℕ) (query : QueryValue) (actives : Sited) (old new : List ℕ) → representation ≡ Text
+    → new ≡ old ++ texts_from actives.library actives.today query no_hits actives.actives → new ≡ old ++ answers_body representation text query actives
 unfolding answers_body
-text_written text query actives old new is = is ∙ ap (λ t. old ++ t) (texts_are actives.library actives.today query [] actives.actives)
+text_written representation text query actives old new chosen is =
+    is ∙ ap (λ t. old ++ t) (texts_are actives.library actives.today query [] actives.actives)
+    ∙ ap (λ (r : Representation). old ++ answers_body r text query actives) (sym chosen)
 
-pub json_written : (text : List ℕ) (ask : AskValue) (query : QueryValue) (actives : Sited) (running : RunningValue) (old new : List ℕ) → ask ≡ ask_of text
+pub json_written : (representation : Representation) (text : List ℕ) (ask : AskValue) (query : QueryValue) (actives : Sited) (running : RunningValue) (old new : List ℕ)
+    → representation ≡ Json → ask ≡ ask_of text
     → running ≡ with_hits no_hits (hits_among query actives) → new ≡ old ++ answer_json ask [] (tally_from running)
-    → new ≡ old ++ answers_body Json text query actives
+    → new ≡ old ++ answers_body representation text query actives
 unfolding answers_body
-json_written text ask query actives running old new read made is =
+json_written representation text ask query actives running old new chosen read made is =
     is ∙ ap (λ (a : AskValue). old ++ answer_json a [] (tally_from running)) read
     ∙ ap (λ (r : RunningValue). old ++ answer_json (ask_of text) [] (tally_from r)) made
     ∙ ap (λ (t : TallyValue). old ++ answer_json (ask_of text) [] t) (tally_is (hits_among query actives))
+    ∙ ap (λ (r : Representation). old ++ answers_body r text query actives) (sym chosen)
 
 pub page_written : (text : List ℕ) (site : site_file.SiteValue) (ask : AskValue) (query : QueryValue) (actives : Sited) (running others : RunningValue) (count : ℕ) (old new : List ℕ)
     → site ≡ actives.library → ask ≡ ask_of text → running ≡ with_hits no_hits (hits_among query actives)

@@ -107,37 +107,8 @@ fn put_texts(
     Ok(())
 }
 
-fn put_text(
-    alloc: Global,
-    out: &mut Vec<u8>,
-    text: &[u8],
-    context: &Context<'_>,
-    query: &Query,
-) -> Result<(), AllocError>
-    ensures { OnOk result (out.new.items
-        ≡ out.old.items ++ answers_body Representation.Text text.now query.now
-        (sited_in context.now)) }
-{
-    put_texts(alloc, out, context, query)
-}
-
-// Writes what a query asks, and the hits of highest rank, as JSON.
-fn put_json(
-    alloc: Global,
-    out: &mut Vec<u8>,
-    text: &[u8],
-    context: &Context<'_>,
-    query: &Query,
-) -> Result<(), AllocError>
-    ensures { OnOk result (out.new.items
-        ≡ out.old.items ++ answers_body Representation.Json text.now query.now (sited_in context.now)) }
-{
-    let ask = Ask::read(alloc, text)?;
-    let tally = tally_among(alloc, context, query)?;
-    put_answer_json(out, &ask, b"", &tally)
-}
-
-// The same as a page. Without a hit, the page shows the hits of the same titles.
+// Writes what a query asks, and the hits of highest rank, as a page. Without a hit, the page shows the hits of the same
+// titles.
 fn put_page(
     alloc: Global,
     out: &mut Vec<u8>,
@@ -154,7 +125,8 @@ fn put_page(
     put_hits_page(alloc, out, context.library(), text, &ask, &tally, &others)
 }
 
-/// Writes the answer of the given releases to a query, which is what the text asks for.
+/// Writes the answer of the given releases to a query, which is what the text asks for: its hits as text, or what it asks
+/// and the hits of highest rank as JSON or as a page.
 #[tactic(auto, unfolding(crate::specs::Answers::answers_body))]
 pub(crate) fn put_answer(
     alloc: Global,
@@ -168,8 +140,12 @@ pub(crate) fn put_answer(
         ≡ out.old.items ++ answers_body representation text.now query.now (sited_in context.now)) }
 {
     match representation {
-        Representation::Text => put_text(alloc, out, text, context, query),
-        Representation::Json => put_json(alloc, out, text, context, query),
+        Representation::Text => put_texts(alloc, out, context, query),
+        Representation::Json => {
+            let ask = Ask::read(alloc, text)?;
+            let tally = tally_among(alloc, context, query)?;
+            put_answer_json(out, &ask, b"", &tally)
+        }
         Representation::Html => put_page(alloc, out, text, context, query),
     }
 }

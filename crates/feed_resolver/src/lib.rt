@@ -3,6 +3,7 @@
 #![tactic(auto)]
 
 mod answers;
+mod asked;
 mod context;
 mod feed_replies;
 mod laws;

@@ -23,6 +23,7 @@ ghost use Rattle.feed_resolver.specs.Messages.{IsMessageTo};
 ghost use Rattle.feed_resolver.specs.Status.{home_page, status_body};
 
 use crate::answers::{put_answer, tally_among};
+use crate::asked::Asked;
 use crate::context::Context;
 use crate::status::{put_home_page, put_status};
 use crate::validators::{preflight_status, tag_to, validated_reply};
@@ -47,49 +48,51 @@ use std::alloc::{AllocError, Global};
 fn hits_reply(
     alloc: Global,
     status: Status,
-    representation: Representation,
-    text: &[u8],
+    asked: &Asked<'_>,
     context: &Context<'_>,
     query: &Query,
 ) -> Result<Reply, AllocError>
     ensures { IfOk result (λ reply. reply
-        ≡ hits_reply status representation text.now (sited_in context.now) query.now) }
+        ≡ hits_reply status asked.now.representation asked.now.text (sited_in context.now) query.now) }
 {
     let mut body = Vec::new(alloc);
-    put_answer(alloc, &mut body, representation, text, context, query)?;
-    Ok(Reply::new(status, representation, body))
+    put_answer(
+        alloc,
+        &mut body,
+        asked.representation,
+        asked.text,
+        context,
+        query,
+    )?;
+    Ok(Reply::new(status, asked.representation, body))
 }
 
 fn unasked_reply(
     alloc: Global,
     status: Status,
-    representation: Representation,
-    text: &[u8],
+    asked: &Asked<'_>,
     site: &SiteFile,
     reason: Refusal,
 ) -> Result<Reply, AllocError>
     ensures { IfOk result (λ reply. reply
-        ≡ unasked_reply site.now text.now status representation (ask_of text.now) reason) }
+        ≡ unasked_reply site.now asked.now.text status asked.now.representation (ask_of asked.now.text) reason) }
 {
+    let (text, representation) = (asked.text, asked.representation);
     let ask = Ask::read(alloc, text)?;
     feed_resolver_page::unasked_reply(alloc, site, text, status, representation, &ask, reason)
 }
 
 fn resolve_reply(
     alloc: Global,
-    representation: Representation,
-    text: &[u8],
+    asked: &Asked<'_>,
     context: &Context<'_>,
 ) -> Result<Reply, AllocError>
     ensures { IfOk result (λ reply. reply
-        ≡ resolve_reply representation text.now (sited_in context.now)) }
+        ≡ resolve_reply asked.now.representation asked.now.text (sited_in context.now)) }
 {
-    match read_query(alloc, text)? {
-        Ok(query) => hits_reply(alloc, Status::Good, representation, text, context, &query),
-        Err(reason) => {
-            let site = context.library();
-            unasked_reply(alloc, Status::Good, representation, text, site, reason)
-        }
+    match read_query(alloc, asked.text)? {
+        Ok(query) => hits_reply(alloc, Status::Good, asked, context, &query),
+        Err(reason) => unasked_reply(alloc, Status::Good, asked, context.library(), reason),
     }
 }
 
@@ -103,17 +106,16 @@ pub(crate) fn position_of(actives: &[ActiveRelease<'_>], package: &[u8]) -> Opti
 
 fn package_reply(
     alloc: Global,
-    representation: Representation,
     package: &[u8],
-    text: &[u8],
+    asked: &Asked<'_>,
     context: &Context<'_>,
 ) -> Result<Reply, AllocError>
     ensures { IfOk result (λ reply. reply
-        ≡ package_reply representation «package».now text.now (sited_in context.now)) }
+        ≡ package_reply asked.now.representation «package».now asked.now.text (sited_in context.now)) }
 {
     match position_of(context.actives, package) {
-        Some(place) => resolve_reply(alloc, representation, text, &context.only(place)),
-        None => refusal(alloc, Status::NotFound, representation, b"NoRelease"),
+        Some(place) => resolve_reply(alloc, asked, &context.only(place)),
+        None => refusal(alloc, Status::NotFound, asked.representation, b"NoRelease"),
     }
 }
 
@@ -140,42 +142,26 @@ fn best_link(
 
 fn redirect_reply(
     alloc: Global,
-    representation: Representation,
-    text: &[u8],
+    asked: &Asked<'_>,
     context: &Context<'_>,
     query: &Query,
 ) -> Result<Reply, AllocError>
     ensures { IfOk result (λ reply. reply
-        ≡ redirect_reply representation text.now (sited_in context.now) query.now) }
+        ≡ redirect_reply asked.now.representation asked.now.text (sited_in context.now) query.now) }
 {
     match best_link(alloc, context, query)? {
         Some(link) => Ok(Reply::redirect(alloc, link)),
-        None => hits_reply(
-            alloc,
-            Status::NotFound,
-            representation,
-            text,
-            context,
-            query,
-        ),
+        None => hits_reply(alloc, Status::NotFound, asked, context, query),
     }
 }
 
-fn go_reply(
-    alloc: Global,
-    representation: Representation,
-    text: &[u8],
-    context: &Context<'_>,
-) -> Result<Reply, AllocError>
+fn go_reply(alloc: Global, asked: &Asked<'_>, context: &Context<'_>) -> Result<Reply, AllocError>
     ensures { IfOk result (λ reply. reply
-        ≡ go_reply representation text.now (sited_in context.now)) }
+        ≡ go_reply asked.now.representation asked.now.text (sited_in context.now)) }
 {
-    match read_query(alloc, text)? {
-        Ok(query) => redirect_reply(alloc, representation, text, context, &query),
-        Err(reason) => {
-            let site = context.library();
-            unasked_reply(alloc, Status::NotFound, representation, text, site, reason)
-        }
+    match read_query(alloc, asked.text)? {
+        Ok(query) => redirect_reply(alloc, asked, context, &query),
+        Err(reason) => unasked_reply(alloc, Status::NotFound, asked, context.library(), reason),
     }
 }
 
@@ -219,12 +205,20 @@ fn resource_reply(
 {
     let representation = representation_of(query, &request.fields());
     let accepted = accepted_representation(&request.fields());
+    let asked = Asked {
+        text: query,
+        representation,
+    };
+    let to_go = Asked {
+        text: query,
+        representation: accepted,
+    };
     match resource_of(path) {
         Resource::Home => home_reply(alloc, context.library(), context.actives),
         Resource::Status => status_reply(alloc, representation, context.actives),
-        Resource::Resolve => resolve_reply(alloc, representation, query, context),
-        Resource::Package => package_reply(alloc, representation, package_in(path), query, context),
-        Resource::Go => go_reply(alloc, accepted, query, context),
+        Resource::Resolve => resolve_reply(alloc, &asked, context),
+        Resource::Package => package_reply(alloc, package_in(path), &asked, context),
+        Resource::Go => go_reply(alloc, &to_go, context),
         Resource::Unknown => refusal(alloc, Status::NotFound, accepted, b"NoTarget"),
     }
 }
