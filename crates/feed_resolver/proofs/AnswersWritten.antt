@@ -1,5 +1,5 @@
 -- The answers that are written are those of the definition.
-use Rattle.std.proofs.Common.{◌≡◌, ℕ, Bool, List, [], ◌∷◌, ◌++◌, refl, sym, ap, ◌∙◌}
+use Rattle.std.proofs.Common.{◌≡◌, ℕ, List, [], ◌∷◌, ◌++◌, refl, sym, ap, ◌∙◌}
 use Rattle.std.proofs.lemmas.List.Sums.{fold-append}
 use Rattle.feed_embargo.specs.Today.{TodayValue}
 use Rattle.feed_site.specs.Site as site_file

@@ -125,8 +125,8 @@ fn put_page(
     put_hits_page(alloc, out, context.library(), text, &ask, &tally, &others)
 }
 
-/// Writes the answer of the given releases to a query, which is what the text asks for: its hits as text, or what it asks
-/// and the hits of highest rank as JSON or as a page.
+/// Writes the answer of the given releases to a query, which is what the text asks for: its hits as text, or what it
+/// asks and the hits of highest rank as JSON or as a page.
 #[tactic(auto, unfolding(crate::specs::Answers::answers_body))]
 pub(crate) fn put_answer(
     alloc: Global,

@@ -15,7 +15,7 @@ ghost use Rattle.feed_resolver_reply.specs.Messages.{IsMessageFor};
 ghost use Rattle.feed_resolver_reply.specs.declared.status.Status.TheVariants as status;
 ghost use Rattle.feed_resolver.specs.Answers.{dated, sited_in, is_of, tally_among};
 ghost use Rattle.feed_resolver.specs.Replies.{IsResponse, IsResponseAt, hits_reply, go_reply, resolve_reply};
-ghost use Rattle.feed_resolver.specs.Replies.{package_reply, redirect_reply, resource_reply, target_reply};
+ghost use Rattle.feed_resolver.specs.Replies.{package_reply, redirect_reply, resource_reply};
 ghost use Rattle.feed_resolver.specs.Replies.{method_refusal, plain_reply, form_refusal, form_reply};
 ghost use Rattle.feed_resolver.specs.Replies.{reply_to, response_to};
 ghost use Rattle.feed_resolver.specs.Validators.{unless_preflight};
@@ -223,20 +223,6 @@ fn resource_reply(
     }
 }
 
-fn target_reply(
-    alloc: Global,
-    request: &Request<'_>,
-    query: &[u8],
-    context: &Context<'_>,
-) -> Result<Reply, AllocError>
-    requires { IsInBuffer request.now }
-    ensures { IfOk result (λ reply. (head : RequestHead) → HasHead request.now head
-        → reply ≡ target_reply head query.now (sited_in context.now)) }
-{
-    let path = path_in(origin_form(request.target()));
-    resource_reply(alloc, request, path, query, context)
-}
-
 fn method_refusal(alloc: Global, resource: Resource) -> Result<Reply, AllocError>
     ensures { IfOk result (λ reply. reply ≡ method_refusal resource) }
 {
@@ -276,8 +262,8 @@ fn plain_reply(
             b"Coding",
         );
     }
-    let query = query_in(origin_form(request.target()));
-    target_reply(alloc, request, query, context)
+    let target = origin_form(request.target());
+    resource_reply(alloc, request, path_in(target), query_in(target), context)
 }
 
 fn form_refusal(alloc: Global, fault: FormFault) -> Result<Reply, AllocError>
@@ -305,7 +291,10 @@ fn form_reply(
         → reply ≡ form_reply head body.now (sited_in context.now) form) }
 {
     match form {
-        Ok(_) => target_reply(alloc, request, body, context),
+        Ok(_) => {
+            let path = path_in(origin_form(request.target()));
+            resource_reply(alloc, request, path, body, context)
+        }
         Err(fault) => form_refusal(alloc, fault),
     }
 }

@@ -1,6 +1,5 @@
 use Rattle.std.proofs.Common.{inl, inr, refl, false}
 use Rattle.std.proofs.lemmas.Result.{IfOk-weaker}
-use Rattle.feed_resolver.specs.Answers.{dated}
 use Rattle.feed_resolver.specs.NodeReplies.{IsNodeReply, IsNodeReplyText, IsNodeMessage, SaysOfConnection}
 use Rattle.feed_resolver.proofs.Connections.{says, node_says}
 use Rattle.feed_resolver.proofs.node.node_reply_with.Goals as goal
