@@ -16,7 +16,7 @@ use Rattle.feed_resolver_request.specs.Forms.{form_of}
 use Rattle.feed_resolver_request.specs.declared.form.FormFault.{FormFault}
 use Rattle.feed_resolver_request.specs.declared.form.FormFault.TheVariants as fault
 use Rattle.feed_resolver_request.specs.declared.representation.Representation.{Representation}
-use Rattle.feed_resolver_request.specs.declared.representation.Representation.TheVariants.{Text}
+use Rattle.feed_resolver_request.specs.declared.representation.Representation.TheVariants.{Text, Html}
 use Rattle.feed_resolver_request.specs.declared.target.Resource.{Resource}
 use Rattle.feed_resolver_request.specs.declared.target.Resource.TheVariants as resource
 use Rattle.feed_resolver_reply.specs.Replies.{ReplyValue, refusal, redirect_to, reply_with}
@@ -26,7 +26,7 @@ use Rattle.feed_resolver_reply.specs.declared.status.Status.TheVariants as statu
 use Rattle.feed_resolver_hits.specs.Asked.{asked_of}
 use Rattle.feed_resolver_hits.specs.Asks.{AskValue, ask_of, names_work}
 use Rattle.feed_site.specs.Site as site_file
-use Rattle.feed_resolver_page.specs.QueryRefusals.{is_numberless, numberless_body, numberless_status, reason_text, unasked_reply}
+use Rattle.feed_resolver_page.specs.QueryRefusals.{asks_for_form, form_page, is_numberless, numberless_body, numberless_status, reason_text, unasked_reply}
 use Rattle.feed_site.specs.Urls.{is_link, url_limit, is_visible, begins_with}
 use Rattle.feed_resolver_hits.specs.Hits.{best_link}
 use Rattle.feed_resolver_hits.specs.Tallies.{counted}
@@ -68,9 +68,12 @@ either_located false one other first second = second
 unasked_located : (site : site_file.SiteValue) (query : List ℕ) (code : Status) (representation : Representation) (ask : AskValue) (why : Refusal)
     → IsLocated (unasked_reply site query code representation ask why)
 unasked_located site query code representation ask why =
-    either_located (is_numberless why)
-    (reply_with (numberless_status (names_work ask.citation) code) representation (numberless_body site query (names_work ask.citation) representation ask why))
-    (refusal status.BadRequest representation (reason_text why)) plain plain
+    let read : ReplyValue =
+    reply_with (numberless_status (names_work ask.citation) code) representation (numberless_body site query (names_work ask.citation) representation ask why) in
+    let refused : ReplyValue = refusal status.BadRequest representation (reason_text why) in
+    either_located (asks_for_form query representation) (reply_with status.Good Html (form_page site))
+    (if is_numberless why then read else refused) plain
+    (either_located (is_numberless why) read refused plain plain)
 
 query_located : (actives : Sited) (code : Status) (representation : Representation) (text : List ℕ) (reply : QueryValue → ReplyValue) (o : Result QueryValue Refusal)
     → ((query : QueryValue) → IsLocated (reply query)) → IsLocated (query_reply actives code representation text reply o)

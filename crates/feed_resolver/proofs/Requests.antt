@@ -283,7 +283,7 @@ read_form post n is =
 -- the answer by the representations that a request names and accepts
 abbrev answer_by : Resource → Representation → Representation → List ℕ → List ℕ → Sited → ReplyValue
 answer_by resource.Home named accepted path query actives = reply_with status.Good Html (home_page actives.library actives.actives)
-answer_by resource.Status named accepted path query actives = reply_with status.Good named (status_body named actives.actives)
+answer_by resource.Status named accepted path query actives = reply_with status.Good named (status_body actives.library named actives.actives)
 answer_by resource.Resolve named accepted path query actives = resolve_reply named query actives
 answer_by resource.Package named accepted path query actives = package_reply named (package_in path) query actives
 answer_by resource.Go named accepted path query actives = go_reply accepted query actives

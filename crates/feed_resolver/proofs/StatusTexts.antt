@@ -39,4 +39,4 @@ each_flat (active ∷ more) = (lit≤ tt, each_flat more)
 
 pub status_read : StatusIsJson
 unfolding status_body
-status_read actives = list_read active_object active_value actives (each_active actives) (each_flat actives)
+status_read site actives = list_read active_object active_value actives (each_active actives) (each_flat actives)

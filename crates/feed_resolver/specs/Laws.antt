@@ -47,7 +47,7 @@ SameReleasesSameNodeBytes =
 
 -- the active releases in JSON are, by its grammar (RFC 8259), an array with one object for each, in their order
 abbrev pub StatusIsJson : Type 0
-StatusIsJson = (actives : List ActiveValue) → document (status_body Json actives) ≡ Some (array (items_of (map active_value actives)))
+StatusIsJson = (site : site_file.SiteValue) (actives : List ActiveValue) → document (status_body site Json actives) ≡ Some (array (items_of (map active_value actives)))
 
 -- a hit of the core in an active release, and what the library has of it
 pub record IsHeldHit (query : QueryValue) (actives : Sited) (found : ReleaseHitValue) : Type 0 where

@@ -69,7 +69,7 @@ go_reply representation text actives =
 abbrev pub resource_reply : Resource → RequestHead → List ℕ → List ℕ → Sited → ReplyValue
 resource_reply resource.Home head path query actives = reply_with status.Good Html (home_page actives.library actives.actives)
 resource_reply resource.Status head path query actives =
-    reply_with status.Good (representation_of query head) (status_body (representation_of query head) actives.actives)
+    reply_with status.Good (representation_of query head) (status_body actives.library (representation_of query head) actives.actives)
 resource_reply resource.Resolve head path query actives = resolve_reply (representation_of query head) query actives
 resource_reply resource.Package head path query actives = package_reply (representation_of query head) (package_in path) query actives
 resource_reply resource.Go head path query actives = go_reply (accepted_representation head) query actives

@@ -9,24 +9,24 @@ use Rattle.feed_resolver_request.specs.declared.representation.Representation.Th
 use Rattle.feed_resolver_reply.specs.Escapes.{escaped}
 use Rattle.feed_resolver_reply.specs.JsonLists.{json_list}
 use Rattle.feed_resolver_reply.specs.Pieces.{joined}
-use Rattle.feed_resolver_reply.specs.Pages.{page_start, page_end}
 use Rattle.feed_resolver_page.specs.Frames.{page_top}
 use Rattle.feed_resolver_page.specs.HitsPage.{page_foot, section_heading}
 use Rattle.feed_resolver_page.specs.SearchForms.{search_form}
 use Rattle.feed_site.specs.Site as site_file
+use Rattle.feed_site.specs.Packages.{shown_package}
 use Rattle.feed_site.specs.Texts.{text_of}
 use Rattle.feed_page_texts.specs.declared.table.Text.TheVariants as text
 use Rattle.feed_resolver_hits.specs.Hits.{name_text}
 use Rattle.feed_resolver_hits.specs.HitsJson.{release_members, text_member}
 
--- a package and its release, as an item of a page's list
-unfoldable pub active_item : ActiveValue → List ℕ
-active_item active = joined (
-    codes "<li>" ∷ escaped active.name.stem ∷ codes " (" ∷ escaped (name_text active.name) ∷ codes ")</li>\n" ∷ [])
+-- the name of a package and its release, as an item of a page's list
+unfoldable pub active_item : site_file.SiteValue → ActiveValue → List ℕ
+active_item site active = joined (
+    codes "<li>" ∷ escaped (shown_package site active.name.stem) ∷ codes " (" ∷ escaped (name_text active.name) ∷ codes ")</li>\n" ∷ [])
 
 -- the list
-unfoldable pub active_items : List ActiveValue → List ℕ
-active_items actives = codes "<ul>\n" ++ (flat_map active_item actives ++ codes "</ul>\n")
+unfoldable pub active_items : site_file.SiteValue → List ActiveValue → List ℕ
+active_items site actives = codes "<ul>\n" ++ (flat_map (active_item site) actives ++ codes "</ul>\n")
 
 -- the active releases, a line for the name of each
 unfoldable pub active_line : ActiveValue → List ℕ
@@ -37,14 +37,14 @@ unfoldable pub active_object : ActiveValue → List ℕ
 active_object active = release_members active.name ++ codes "}"
 
 -- the active releases
-unfoldable pub status_body : Representation → List ActiveValue → List ℕ
-status_body Text actives = flat_map active_line actives
-status_body Json actives = json_list active_object actives
-status_body Html actives = page_start (codes "Active releases") ++ (active_items actives ++ page_end)
+unfoldable pub status_body : site_file.SiteValue → Representation → List ActiveValue → List ℕ
+status_body site Text actives = flat_map active_line actives
+status_body site Json actives = json_list active_object actives
+status_body site Html actives = page_top site text.Packages ++ (active_items site actives ++ page_foot site)
 
 -- the packages, and the end of the page
 unfoldable pub packages_part : site_file.SiteValue → List ActiveValue → List ℕ
-packages_part site actives = section_heading (text_of site text.Packages) ++ (active_items actives ++ page_foot site)
+packages_part site actives = section_heading (text_of site text.Packages) ++ (active_items site actives ++ page_foot site)
 
 -- the page with the form and the packages
 unfoldable pub home_page : site_file.SiteValue → List ActiveValue → List ℕ

@@ -180,14 +180,15 @@ fn home_reply(
 
 fn status_reply(
     alloc: Global,
+    site: &SiteFile,
     representation: Representation,
     actives: &[ActiveRelease<'_>],
 ) -> Result<Reply, AllocError>
     ensures { IfOk result (λ reply. reply
-        ≡ reply_with status.Good representation (status_body representation actives.now)) }
+        ≡ reply_with status.Good representation (status_body site.now representation actives.now)) }
 {
     let mut body = Vec::new(alloc);
-    put_status(&mut body, representation, actives)?;
+    put_status(&mut body, site, representation, actives)?;
     Ok(Reply::new(Status::Good, representation, body))
 }
 
@@ -215,7 +216,7 @@ fn resource_reply(
     };
     match resource_of(path) {
         Resource::Home => home_reply(alloc, context.library(), context.actives),
-        Resource::Status => status_reply(alloc, representation, context.actives),
+        Resource::Status => status_reply(alloc, context.library(), representation, context.actives),
         Resource::Resolve => resolve_reply(alloc, &asked, context),
         Resource::Package => package_reply(alloc, package_in(path), &asked, context),
         Resource::Go => go_reply(alloc, &to_go, context),

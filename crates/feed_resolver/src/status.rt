@@ -11,22 +11,24 @@ use feed_pieces::put_all;
 use feed_releases::ActiveRelease;
 use feed_resolver_hits::{name_text, put_release_members};
 use feed_resolver_page::{put_page_foot, put_page_top, put_search_form, put_section_heading};
-use feed_resolver_reply::{
-    Piece, put, put_comma, put_list_end, put_list_start, put_page_end, put_page_start,
-};
+use feed_resolver_reply::{Piece, put, put_comma, put_list_end, put_list_start};
 use feed_resolver_request::Representation;
-use feed_site::{SiteFile, text_of};
+use feed_site::{SiteFile, shown_package, text_of};
 use std::alloc::AllocError;
 
 #[tactic(auto, unfolding(crate::specs::Status::active_item))]
-fn put_item(out: &mut Vec<u8>, active: &ActiveRelease<'_>) -> Result<(), AllocError>
-    ensures { OnOk result (out.new.items ≡ out.old.items ++ active_item active.now) }
+fn put_item<'a>(
+    out: &mut Vec<u8>,
+    site: &'a SiteFile,
+    active: &'a ActiveRelease<'_>,
+) -> Result<(), AllocError>
+    ensures { OnOk result (out.new.items ≡ out.old.items ++ active_item site.now active.now) }
 {
     put_all(
         out,
         &[
             Piece::Plain(b"<li>"),
-            Piece::Escaped(active.name().package()),
+            Piece::Escaped(shown_package(site, active.name().package())),
             Piece::Plain(b" ("),
             Piece::Escaped(name_text(active.name())),
             Piece::Plain(b")</li>\n"),
@@ -34,21 +36,29 @@ fn put_item(out: &mut Vec<u8>, active: &ActiveRelease<'_>) -> Result<(), AllocEr
     )
 }
 
-fn put_each_item(out: &mut Vec<u8>, actives: &[ActiveRelease<'_>]) -> Result<(), AllocError>
-    ensures { OnOk result (out.new.items ≡ out.old.items ++ flat_map active_item actives.now) }
+fn put_each_item(
+    out: &mut Vec<u8>,
+    site: &SiteFile,
+    actives: &[ActiveRelease<'_>],
+) -> Result<(), AllocError>
+    ensures { OnOk result (out.new.items ≡ out.old.items ++ flat_map (active_item site.now) actives.now) }
 {
     for active in actives {
-        put_item(out, active)?;
+        put_item(out, site, active)?;
     }
     Ok(())
 }
 
 #[tactic(auto, unfolding(crate::specs::Status::active_items))]
-fn put_items(out: &mut Vec<u8>, actives: &[ActiveRelease<'_>]) -> Result<(), AllocError>
-    ensures { OnOk result (out.new.items ≡ out.old.items ++ active_items actives.now) }
+fn put_items(
+    out: &mut Vec<u8>,
+    site: &SiteFile,
+    actives: &[ActiveRelease<'_>],
+) -> Result<(), AllocError>
+    ensures { OnOk result (out.new.items ≡ out.old.items ++ active_items site.now actives.now) }
 {
     put(out, b"<ul>\n")?;
-    put_each_item(out, actives)?;
+    put_each_item(out, site, actives)?;
     put(out, b"</ul>\n")
 }
 
@@ -97,27 +107,34 @@ fn put_json(out: &mut Vec<u8>, actives: &[ActiveRelease<'_>]) -> Result<(), Allo
 }
 
 #[tactic(auto, unfolding(crate::specs::Status::status_body))]
-fn put_page(out: &mut Vec<u8>, actives: &[ActiveRelease<'_>]) -> Result<(), AllocError>
-    ensures { OnOk result (out.new.items ≡ out.old.items ++ status_body representation.Html actives.now) }
+fn put_page(
+    out: &mut Vec<u8>,
+    site: &SiteFile,
+    actives: &[ActiveRelease<'_>],
+) -> Result<(), AllocError>
+    ensures { OnOk result (out.new.items
+        ≡ out.old.items ++ status_body site.now representation.Html actives.now) }
 {
-    put_page_start(out, b"Active releases")?;
-    put_items(out, actives)?;
-    put_page_end(out)
+    put_page_top(out, site, Text::Packages)?;
+    put_items(out, site, actives)?;
+    put_page_foot(out, site)
 }
 
 /// Writes the active releases.
 #[tactic(auto, unfolding(crate::specs::Status::status_body))]
 pub(crate) fn put_status(
     out: &mut Vec<u8>,
+    site: &SiteFile,
     representation: Representation,
     actives: &[ActiveRelease<'_>],
 ) -> Result<(), AllocError>
-    ensures { OnOk result (out.new.items ≡ out.old.items ++ status_body representation actives.now) }
+    ensures { OnOk result (out.new.items
+        ≡ out.old.items ++ status_body site.now representation actives.now) }
 {
     match representation {
         Representation::Text => put_lines(out, actives),
         Representation::Json => put_json(out, actives),
-        Representation::Html => put_page(out, actives),
+        Representation::Html => put_page(out, site, actives),
     }
 }
 
@@ -130,7 +147,7 @@ fn put_packages(
     ensures { OnOk result (out.new.items ≡ out.old.items ++ packages_part site.now actives.now) }
 {
     put_section_heading(out, text_of(site, Text::Packages))?;
-    put_items(out, actives)?;
+    put_items(out, site, actives)?;
     put_page_foot(out, site)
 }
 

@@ -5,7 +5,7 @@ use Rattle.feed_resolver_reply.specs.Escapes.{escaped}
 use Rattle.feed_resolver_reply.specs.Pieces.{joined}
 use Rattle.feed_site.specs.Texts.{text_of}
 use Rattle.feed_page_texts.specs.declared.table.Text.{Text}
-use Rattle.feed_resolver_page.specs.declared.frame.TheConstants.{BEFORE_LANGUAGE, BEFORE_TITLE, BEFORE_BODY, PAGE_END}
+use Rattle.feed_resolver_page.specs.declared.frame.TheConstants.{BEFORE_LANGUAGE, BEFORE_TITLE, BEFORE_STYLE, BEFORE_BODY, PAGE_END}
 
 -- the language of a page: that of the library, or English
 abbrev pub language_or : Option (List ℕ) → List ℕ
@@ -21,9 +21,18 @@ abbrev pub title_end : Option (List ℕ) → List ℕ
 title_end None = []
 title_end (Some name) = joined (codes " &#8211; " ∷ escaped name ∷ [])
 
+-- from the title to the rules of every page: the rule for a bar of the library's colour at the top, if it has one
+abbrev pub style_start : Option (List ℕ) → List ℕ
+style_start None = BEFORE_STYLE.now
+style_start (Some color) = joined (BEFORE_STYLE.now ∷ codes "body{border-top:.3rem solid " ∷ escaped color ∷ codes "}" ∷ [])
+
+-- the style, and the end of the head
+unfoldable pub page_style : site_file.SiteValue → List ℕ
+page_style site = style_start site.color ++ BEFORE_BODY.now
+
 -- a page up to its body
 unfoldable pub page_head : site_file.SiteValue → List ℕ → List ℕ
-page_head site title = page_start (language_or site.language) title ++ (title_end site.name ++ BEFORE_BODY.now)
+page_head site title = page_start (language_or site.language) title ++ (title_end site.name ++ page_style site)
 
 -- the name of the library at the top, if it has one
 abbrev pub banner : Option (List ℕ) → List ℕ

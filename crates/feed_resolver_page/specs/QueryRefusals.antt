@@ -15,7 +15,8 @@ use Rattle.feed_resolver_hits.specs.Asks.{AskValue, names_work}
 use Rattle.feed_resolver_hits.specs.Tallies.{tally_of}
 use Rattle.feed_resolver_page.specs.CitationPage.{citation_part}
 use Rattle.feed_resolver_page.specs.Frames.{page_top}
-use Rattle.feed_resolver_page.specs.HitsPage.{page_bottom, paragraph}
+use Rattle.feed_resolver_page.specs.HitsPage.{page_bottom, page_foot, paragraph}
+use Rattle.feed_resolver_page.specs.SearchForms.{search_form}
 use Rattle.feed_page_texts.specs.declared.table.Text.TheVariants as page
 
 -- the name of a reason
@@ -58,11 +59,21 @@ numberless_body site query false Json ask why = fault_body Json (reason_text why
 abbrev pub numberless_status : Bool → Status → Status
 numberless_status named code = if named then code else status.BadRequest
 
--- the reply to a query for which nothing is looked up: with this status, if it has no number and its citation names a work;
--- otherwise it is rejected
+-- a browser sends no query
+abbrev pub asks_for_form : List ℕ → Representation → Bool
+asks_for_form [] Html = true
+asks_for_form query representation = false
+
+-- the page with the form alone
+unfoldable pub form_page : site_file.SiteValue → List ℕ
+form_page site = page_top site page.FindHoldings ++ (search_form site [] ++ page_foot site)
+
+-- the reply to a query for which nothing is looked up: the form, if a browser sends no query; with this status, if it has no
+-- number and its citation names a work; otherwise it is rejected
 abbrev pub unasked_reply : site_file.SiteValue → List ℕ → Status → Representation → AskValue → Refusal → ReplyValue
 unasked_reply site query code representation ask why =
-    if is_numberless why
+    if asks_for_form query representation then reply_with status.Good Html (form_page site)
+    else if is_numberless why
     then reply_with (numberless_status (names_work ask.citation) code) representation
     (numberless_body site query (names_work ask.citation) representation ask why)
     else refusal status.BadRequest representation (reason_text why)

@@ -1,6 +1,7 @@
 //! The beginning and the end of a page.
 ghost use Rattle.std.specs.Prelude.{◌≡◌, ◌++◌, OnOk, option_copied};
-ghost use Rattle.feed_resolver_page.specs.Frames.{banner, heading, language_or, page_body, page_end, page_head};
+ghost use Rattle.feed_resolver_page.specs.Frames.{banner, style_start, heading, language_or, page_body, page_end, page_head};
+ghost use Rattle.feed_resolver_page.specs.Frames.{page_style};
 ghost use Rattle.feed_resolver_page.specs.Frames.{page_start};
 ghost use Rattle.feed_resolver_page.specs.Frames.{page_top, title_end};
 
@@ -17,8 +18,12 @@ const BEFORE_LANGUAGE: &[u8] = b"<!DOCTYPE html>\n<html lang=\"";
 const BEFORE_TITLE: &[u8] = b"\">\n<head>\n<meta charset=\"utf-8\">\n\
     <meta name=\"viewport\" content=\"width=device-width, initial-scale=1\">\n<title>";
 
-// From the title to the body. Each colour of a text has a contrast of at least 4.5 with what is behind it.
-const BEFORE_BODY: &[u8] = b"</title>\n<style>\
+// From the title to the first rule of the style.
+const BEFORE_STYLE: &[u8] = b"</title>\n<style>";
+
+// The rules of the style, and the end of the head. Each colour of a text has a contrast of at least 4.5 with what is
+// behind it.
+const BEFORE_BODY: &[u8] = b"\
     :root{color-scheme:light dark;--ink:#1b1f24;--soft:#57606a;--line:#8c959f;--paper:#fff;--card:#f6f8fa;\
     --link:#0b57d0;--good:#116329;--some:#7d4e00;--on:#fff}\
     @media(prefers-color-scheme:dark){:root{--ink:#e6edf3;--soft:#9198a1;--line:#656c76;--paper:#0d1117;\
@@ -87,6 +92,25 @@ fn put_title_end(out: &mut Vec<u8>, name: Option<&str>) -> Result<(), AllocError
     }
 }
 
+// Writes the page from its title to the rules of the style that all libraries have. The first rule is a bar of the
+// library's colour at the top, if it has one.
+fn put_style_start(out: &mut Vec<u8>, color: Option<&str>) -> Result<(), AllocError>
+    ensures { OnOk result (out.new.items ≡ out.old.items ++ style_start (option_copied color.entry)) }
+{
+    match color {
+        Some(color) => put_all(
+            out,
+            &[
+                Piece::Plain(BEFORE_STYLE),
+                Piece::Plain(b"body{border-top:.3rem solid "),
+                Piece::Escaped(color.as_bytes()),
+                Piece::Plain(b"}"),
+            ],
+        ),
+        None => put(out, BEFORE_STYLE),
+    }
+}
+
 // Writes the name of the library at the top of a page, if it has one.
 fn put_banner(out: &mut Vec<u8>, name: Option<&str>) -> Result<(), AllocError>
     ensures { OnOk result (out.new.items ≡ out.old.items ++ banner (option_copied name.entry)) }
@@ -118,13 +142,21 @@ fn put_heading<'a>(out: &mut Vec<u8>, title: &'a [u8]) -> Result<(), AllocError>
     )
 }
 
+#[tactic(auto, unfolding(crate::specs::Frames::page_style))]
+fn put_style(out: &mut Vec<u8>, site: &SiteFile) -> Result<(), AllocError>
+    ensures { OnOk result (out.new.items ≡ out.old.items ++ page_style site.now) }
+{
+    put_style_start(out, site.color())?;
+    put(out, BEFORE_BODY)
+}
+
 #[tactic(auto, unfolding(crate::specs::Frames::page_head))]
 fn put_head(out: &mut Vec<u8>, site: &SiteFile, title: &[u8]) -> Result<(), AllocError>
     ensures { OnOk result (out.new.items ≡ out.old.items ++ page_head site.now title.now) }
 {
     put_start(out, language_or(site.language()), title)?;
     put_title_end(out, site.name())?;
-    put(out, BEFORE_BODY)
+    put_style(out, site)
 }
 
 #[tactic(auto, unfolding(crate::specs::Frames::page_body))]

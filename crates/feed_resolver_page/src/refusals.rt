@@ -2,13 +2,16 @@
 ghost use Rattle.std.specs.Prelude.{◌≡◌, ◌++◌, IfOk, OnOk, true, false};
 ghost use Rattle.feed_resolver_request.specs.declared.representation.Representation.TheVariants as representation;
 ghost use Rattle.feed_resolver_reply.specs.Replies.{reply_with};
+ghost use Rattle.feed_resolver_reply.specs.declared.status.Status.TheVariants as status;
+ghost use Rattle.feed_resolver_page.specs.QueryRefusals.{asks_for_form, form_page};
 ghost use Rattle.feed_resolver_page.specs.QueryRefusals.{is_numberless, nothing_json, nothing_page, nothing_part};
 ghost use Rattle.feed_resolver_page.specs.QueryRefusals.{nothing_text, numberless_body, numberless_status};
 ghost use Rattle.feed_resolver_page.specs.QueryRefusals.{reason_text, unasked_reply};
 
 use crate::citation_page::put_citation;
+use crate::form::put_search_form;
 use crate::frame::put_page_top;
-use crate::hits_page::{put_bottom, put_paragraph};
+use crate::hits_page::{put_bottom, put_page_foot, put_paragraph};
 use feed_openurl::Refusal;
 use feed_page_texts::Text;
 use feed_pieces::put_all;
@@ -132,8 +135,32 @@ fn numberless_reply(
     Ok(Reply::new(status, representation, body))
 }
 
-/// Returns the reply to a query for which nothing is looked up: with this status, if it has no ISSN and no ISBN and its
-/// citation names a work. Otherwise the query is rejected.
+fn asks_for_form(text: &[u8], representation: Representation) -> bool
+    ensures { result ≡ asks_for_form text.now representation }
+{
+    text.is_empty() && representation == Representation::Html
+}
+
+#[tactic(auto, unfolding(crate::specs::QueryRefusals::form_page))]
+fn put_form_page(out: &mut Vec<u8>, site: &SiteFile) -> Result<(), AllocError>
+    ensures { OnOk result (out.new.items ≡ out.old.items ++ form_page site.now) }
+{
+    put_page_top(out, site, Text::FindHoldings)?;
+    put_search_form(out, site, &[])?;
+    put_page_foot(out, site)
+}
+
+fn form_reply(alloc: Global, site: &SiteFile) -> Result<Reply, AllocError>
+    ensures { IfOk result (λ reply. reply
+        ≡ reply_with status.Good representation.Html (form_page site.now)) }
+{
+    let mut body = Vec::new(alloc);
+    put_form_page(&mut body, site)?;
+    Ok(Reply::new(Status::Good, Representation::Html, body))
+}
+
+/// Returns the reply to a query for which nothing is looked up: the form, if a browser sends no query. A query without an
+/// ISSN and an ISBN whose citation names a work has a reply with this status. Any other is rejected.
 pub fn unasked_reply(
     alloc: Global,
     site: &SiteFile,
@@ -145,6 +172,9 @@ pub fn unasked_reply(
 ) -> Result<Reply, AllocError>
     ensures { IfOk result (λ reply. reply ≡ unasked_reply site.now text.now status representation ask.now reason) }
 {
+    if asks_for_form(text, representation) {
+        return form_reply(alloc, site);
+    }
     if is_numberless(reason) {
         let named = names_work(&ask.citation);
         return numberless_reply(
