@@ -79,3 +79,12 @@ module _ {A B : Type 0} (p : B → Bool) (f : A → B) (xs : List A) (i : ℕ) (
       ap (λ l. l ++ filter p (map f (drop (i + 1) xs))) same
       ∙ ap (λ l. old ++ l) (sym (ap (filter p) (at_place within at) ∙ fails (f x) (map f (drop (i + 1) xs)) is))
       ∙ was
+
+-- an element that is mapped
+pub mapped_next : {A B : Type 0} (f : A → B) (xs : List A) (i : ℕ) (x : A) (old new all : List B) → i < length xs → x ≡ get_or xs i x
+    → new ≡ old ++ f x ∷ [] → old ++ map f (drop i xs) ≡ all → new ++ map f (drop (i + 1) xs) ≡ all
+mapped_next f xs i x old new all within at pushed was =
+    ap (λ l. l ++ map f (drop (i + 1) xs)) pushed
+    ∙ append_assoc old (f x ∷ []) (map f (drop (i + 1) xs))
+    ∙ ap (λ l. old ++ l) (sym (ap (map f) (drop_more xs i x within) ∙ ap (λ a. f a ∷ map f (drop (i + 1) xs)) (sym at)))
+    ∙ was
