@@ -5,3 +5,4 @@ pub mod Ascending
 pub mod Covered
 pub mod Places
 pub mod Serials
+pub mod Steps

@@ -22,4 +22,6 @@ pub use crate::laws::{
 };
 pub use crate::matching::{answer, hit_at, places_of};
 pub use crate::pair::{BOOK, JOURNAL, Pair};
-pub use crate::query::{QUERY_LIMIT, Query, has_format, has_other_format, has_other_version};
+pub use crate::query::{
+    QUERY_LIMIT, Query, has_format, has_other_format, has_other_version, query_isbns, query_issns,
+};

@@ -197,8 +197,8 @@ fn isbns_among(alloc: Global, pairs: &[Pair<'_>]) -> Result<Vec<Isbn>, AllocErro
     Ok(isbns)
 }
 
-// The ISSNs asked for. In the format of books they do not count.
-fn query_issns(alloc: Global, pairs: &[Pair<'_>]) -> Result<Vec<Issn>, AllocError>
+/// Returns the ISSNs that pairs ask for, as a set. In the format of books they do not count.
+pub fn query_issns(alloc: Global, pairs: &[Pair<'_>]) -> Result<Vec<Issn>, AllocError>
     ensures value { IfOk result (λ issns. issns.items ≡ query_issns pairs.now) }
     ensures ascending { IfOk result (λ issns. IsAscending issns.items) }
 {
@@ -208,8 +208,8 @@ fn query_issns(alloc: Global, pairs: &[Pair<'_>]) -> Result<Vec<Issn>, AllocErro
     issns_among(alloc, pairs)
 }
 
-// The ISBNs asked for. In the format of journals they do not count.
-fn query_isbns(alloc: Global, pairs: &[Pair<'_>]) -> Result<Vec<Isbn>, AllocError>
+/// Returns the ISBNs that pairs ask for, as a set. In the format of journals they do not count.
+pub fn query_isbns(alloc: Global, pairs: &[Pair<'_>]) -> Result<Vec<Isbn>, AllocError>
     ensures value { IfOk result (λ isbns. isbns.items ≡ query_isbns pairs.now) }
     ensures ascending { IfOk result (λ isbns. IsAscending isbns.items) }
 {

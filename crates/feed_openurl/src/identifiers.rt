@@ -11,9 +11,11 @@ use crate::key::Tier;
 use crate::kind;
 use crate::kind::FormatNames;
 use crate::numbers::numbers_of;
-use crate::sets::{Identifiers, identifiers_for, set_of};
+use crate::sets::{Identifiers, identifiers_for};
 use crate::value::Value;
-use feed_answer::{BOOK, JOURNAL, Pair, has_format, has_other_format, has_other_version};
+use feed_answer::{
+    BOOK, JOURNAL, Pair, has_other_format, has_other_version, query_isbns, query_issns,
+};
 use feed_identifiers::{Isbn, Issn};
 use std::alloc::{AllocError, Global};
 use std::marker::Model;
@@ -45,32 +47,20 @@ fn is_refused(pairs: &[Pair<'_>]) -> bool
 fn core_issns(alloc: Global, pairs: &[Pair<'_>]) -> Result<Vec<Issn>, AllocError>
     ensures { IfOk result (λ issns. issns.items ≡ core_issns pairs.now) }
 {
-    let mut issns = Vec::new(alloc);
-    if is_refused(pairs) || has_format(pairs, BOOK) {
-        return Ok(issns);
+    if is_refused(pairs) {
+        return Ok(Vec::new(alloc));
     }
-    for pair in pairs {
-        if let Some(issn) = pair.issn() {
-            issns.push(issn)?;
-        }
-    }
-    set_of(alloc, &issns)
+    query_issns(alloc, pairs)
 }
 
 // The ISBNs that the core looks up.
 fn core_isbns(alloc: Global, pairs: &[Pair<'_>]) -> Result<Vec<Isbn>, AllocError>
     ensures { IfOk result (λ isbns. isbns.items ≡ core_isbns pairs.now) }
 {
-    let mut isbns = Vec::new(alloc);
-    if is_refused(pairs) || has_format(pairs, JOURNAL) {
-        return Ok(isbns);
+    if is_refused(pairs) {
+        return Ok(Vec::new(alloc));
     }
-    for pair in pairs {
-        if let Some(isbn) = pair.isbn() {
-            isbns.push(isbn)?;
-        }
-    }
-    set_of(alloc, &isbns)
+    query_isbns(alloc, pairs)
 }
 
 fn refused(alloc: Global, refusal: Refusal) -> LookedUp

@@ -47,8 +47,8 @@ impl Identifiers {
     }
 }
 
-/// Returns the set of some identifiers: ascending, each once.
-pub(crate) fn set_of<T: Ord + Copy>(alloc: Global, identifiers: &[T]) -> Result<Vec<T>, AllocError>
+// The set of some identifiers: ascending, each once.
+fn set_of<T: Ord + Copy>(alloc: Global, identifiers: &[T]) -> Result<Vec<T>, AllocError>
     ensures { IfOk result (λ set. set.items ≡ fold (insert_key T.cmp) [] identifiers.now) }
 {
     let mut set = BTreeSet::new(alloc);

@@ -1,16 +1,10 @@
-use Rattle.std.proofs.Common.{refl, sym, ◌∙◌}
-use Rattle.std.specs.List.{filter_map}
-use Rattle.feed_answer.specs.Pairs.{isbn_of_pair}
-use Rattle.feed_openurl.proofs.Steps.{kept_next, left_next}
+use Rattle.std.proofs.Common.{◌≡◌, [], ap, ◌∙◌, if◌then◌else◌}
+use Rattle.std.proofs.lemmas.Result.{IfOk-weaker}
+use Rattle.feed_answer.specs.Queries.{query_isbns}
+use Rattle.feed_openurl.specs.Core.{core_isbns}
 use Rattle.feed_openurl.proofs.identifiers.core_isbns.Goals as goal
-use Rattle.feed_openurl.proofs.identifiers.core_isbns.Goals.{in-Some+in_ok-push, in_default}
 
-pub loop-pair-preserved : goal.loop-pair-preserved
-loop-pair-preserved c = elim c.match-isbn.branch [
-  | in-Some+in_ok-push w ↦
-      kept_next isbn_of_pair c.args.pairs.now c.loop-pair.pair-index c.pair-item.result c.loop-pair.isbns.items c.match-isbn.isbns.items (filter_map isbn_of_pair c.args.pairs.now)
-      w.in-Some.isbn c.loop-pair-test.true c.pair-item.is (sym c.isbn.ensures ∙ w.in-Some.is) (rw w.isbns-is w.in_ok-push.ensures.items) c.loop-pair.invariant
-  | in_default w ↦
-      left_next isbn_of_pair c.args.pairs.now c.loop-pair.pair-index c.pair-item.result c.loop-pair.isbns.items c.match-isbn.isbns.items (filter_map isbn_of_pair c.args.pairs.now)
-      c.loop-pair-test.true c.pair-item.is (sym c.isbn.ensures ∙ w.in_default.is) (rw w.isbns-is refl) c.loop-pair.invariant
-]
+pub returns : goal.returns
+returns c =
+    let same : query_isbns c.args.pairs.now ≡ core_isbns c.args.pairs.now = ap (λ b. if b then [] else query_isbns c.args.pairs.now) c.if-is_refused.ensures in
+    IfOk-weaker c.query_isbns.result (λ isbns. isbns.items ≡ query_isbns c.args.pairs.now) (λ isbns. isbns.items ≡ core_isbns c.args.pairs.now) (λ isbns is. is ∙ same) c.query_isbns.ensures.value

@@ -1,16 +1,10 @@
-use Rattle.std.proofs.Common.{refl, sym, ◌∙◌}
-use Rattle.std.specs.List.{filter_map}
-use Rattle.feed_answer.specs.Pairs.{issn_of_pair}
-use Rattle.feed_openurl.proofs.Steps.{kept_next, left_next}
+use Rattle.std.proofs.Common.{◌≡◌, [], ap, ◌∙◌, if◌then◌else◌}
+use Rattle.std.proofs.lemmas.Result.{IfOk-weaker}
+use Rattle.feed_answer.specs.Queries.{query_issns}
+use Rattle.feed_openurl.specs.Core.{core_issns}
 use Rattle.feed_openurl.proofs.identifiers.core_issns.Goals as goal
-use Rattle.feed_openurl.proofs.identifiers.core_issns.Goals.{in-Some+in_ok-push, in_default}
 
-pub loop-pair-preserved : goal.loop-pair-preserved
-loop-pair-preserved c = elim c.match-issn.branch [
-  | in-Some+in_ok-push w ↦
-      kept_next issn_of_pair c.args.pairs.now c.loop-pair.pair-index c.pair-item.result c.loop-pair.issns.items c.match-issn.issns.items (filter_map issn_of_pair c.args.pairs.now)
-      w.in-Some.issn c.loop-pair-test.true c.pair-item.is (sym c.issn.ensures ∙ w.in-Some.is) (rw w.issns-is w.in_ok-push.ensures.items) c.loop-pair.invariant
-  | in_default w ↦
-      left_next issn_of_pair c.args.pairs.now c.loop-pair.pair-index c.pair-item.result c.loop-pair.issns.items c.match-issn.issns.items (filter_map issn_of_pair c.args.pairs.now)
-      c.loop-pair-test.true c.pair-item.is (sym c.issn.ensures ∙ w.in_default.is) (rw w.issns-is refl) c.loop-pair.invariant
-]
+pub returns : goal.returns
+returns c =
+    let same : query_issns c.args.pairs.now ≡ core_issns c.args.pairs.now = ap (λ b. if b then [] else query_issns c.args.pairs.now) c.if-is_refused.ensures in
+    IfOk-weaker c.query_issns.result (λ issns. issns.items ≡ query_issns c.args.pairs.now) (λ issns. issns.items ≡ core_issns c.args.pairs.now) (λ issns is. is ∙ same) c.query_issns.ensures.value
