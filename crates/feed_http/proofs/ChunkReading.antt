@@ -10,7 +10,8 @@ use Rattle.httparse.specs.Ascii.{crlf_bytes}
 use Rattle.httparse.specs.Grammar.{print_chunk_line}
 use Rattle.feed_http_heads.specs.declared.http_fault.HttpFault.{HttpFault}
 use Rattle.feed_http_heads.specs.declared.http_fault.HttpFault.TheVariants.{Read, Short, Coding, Length, BodyTooLong, Memory}
-use Rattle.feed_http.specs.Chunks.{Chunk, IsChunk, print_chunk, print_chunks, bytes_of, IsLineTaken, IsLineFault, IsChunkTaken, IsTrailersFault, IsChunkedFault, IsNotChunked, IsChunkFault, IsUnfinishedLine, NeverBeginsWithLine, IsUnfinishedTrailers, NeverBeginsWithTrailers}
+use Rattle.feed_http.specs.Chunks.{Chunk, IsChunk, print_chunk, print_chunks, bytes_of, IsLineTaken, IsLineFault, IsChunkTaken, IsTrailersFault}
+use Rattle.feed_http.specs.Chunks.{IsChunkedFault, IsNotChunked, IsChunkFault, IsUnfinishedLine, NeverBeginsWithLine, IsUnfinishedTrailers, NeverBeginsWithTrailers}
 use Rattle.feed_http.specs.Chunks.{BeginsWithLine, IsFitting, IsUnfinishedBehind, IsBadBehind, IsWhyNoChunk}
 use Rattle.feed_http.specs.Got.{IsReadingFault}
 use Rattle.std.proofs.KnownBytes.{Consumes-trans}

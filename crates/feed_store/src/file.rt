@@ -44,8 +44,8 @@ impl<S: Start> SqlKeep<FileStore<FileFrom<S>>> {
 }
 
 impl<D: Disk + Drop> SqlKeep<FileStore<D>> {
-    // Adopts the connection that an open of a file on any disk returned. It makes `open_from` cheap to prove: a keeper is
-    // adopted, and what is left of the files dropped, at an abstract disk here, and not at the files of a process.
+    // Adopts the connection that an open of a file on any disk returned. It makes `open_from` cheap to prove: a keeper
+    // is adopted, and what is left of the files dropped, at an abstract disk here, and not at the files of a process.
     fn adopt_opened(
         alloc: Global,
         opened: Result<Connection<FileStore<D>>, (Error, Option<Leftover<D>>)>,

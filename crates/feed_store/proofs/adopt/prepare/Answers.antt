@@ -67,10 +67,14 @@ pub returns-in_err-make_tables-clause-neither : goal.returns-in_err-make_tables-
 returns-in_err-make_tables-clause-neither g c live = passed_on c.from_residual.result c.in_err-make_tables.field-0.0 _ c.from_residual.ensures.1 (c.in_err-make_tables.ensures.neither live)
 
 pub returns-in_err-check_number-clause-neither : goal.returns-in_err-check_number-clause-neither
-returns-in_err-check_number-clause-neither g c live = passed_on c.from_residual-in_err-check_number.result c.in_err-check_number.field-0.0 _ c.from_residual-in_err-check_number.ensures.1 (c.check_number.ensures.same live)
+returns-in_err-check_number-clause-neither g c live =
+    passed_on c.from_residual-in_err-check_number.result c.in_err-check_number.field-0.0 _ c.from_residual-in_err-check_number.ensures.1 (c.check_number.ensures.same live)
 
 pub returns-in_err-upgrade_layout-clause-neither : goal.returns-in_err-upgrade_layout-clause-neither
-returns-in_err-upgrade_layout-clause-neither g c live = passed_on c.from_residual-in_err-upgrade_layout.result c.in_err-upgrade_layout.field-0.0 _ c.from_residual-in_err-upgrade_layout.ensures.1 (c.in_err-upgrade_layout.ensures.neither live)
+returns-in_err-upgrade_layout-clause-neither g c live =
+    passed_on c.from_residual-in_err-upgrade_layout.result c.in_err-upgrade_layout.field-0.0 _ c.from_residual-in_err-upgrade_layout.ensures.1 (c.in_err-upgrade_layout.ensures.neither live)
 
 pub returns-in_err-prepare_beside_others-clause-neither : goal.returns-in_err-prepare_beside_others-clause-neither
-returns-in_err-prepare_beside_others-clause-neither g c live = passed_on c.from_residual-in_err-prepare_beside_others.result c.in_err-prepare_beside_others.field-0.0 _ c.from_residual-in_err-prepare_beside_others.ensures.1 (c.in_err-prepare_beside_others.ensures.neither live)
+returns-in_err-prepare_beside_others-clause-neither g c live =
+    passed_on c.from_residual-in_err-prepare_beside_others.result c.in_err-prepare_beside_others.field-0.0 _ c.from_residual-in_err-prepare_beside_others.ensures.1
+    (c.in_err-prepare_beside_others.ensures.neither live)
