@@ -1,23 +1,24 @@
 -- The reply that is written is the one that the request is owed.
-use Rattle.std.proofs.Common.{◌≡◌, ℕ, List, length, Option, Some, None, IfSome, IfOk, OnOk, Result, Ok, Err, true, false, sym, ap, ◌∙◌, subst}
-use Rattle.std.specs.Prelude.{IsOkUnless, IsSomeAnd}
-use Rattle.std.specs.Option.{option_map, option_map_or}
+use Rattle.std.proofs.Common.{◌≡◌, ℕ, List, length, Option, Some, None, IfSome, IfOk, OnOk, Result, Ok, Err, true, false, sym, ap, ◌∙◌, subst, inl, inr, take}
+use Rattle.std.specs.Prelude.{IsErrAnd, IsOkUnless, IsSomeAnd}
+use Rattle.std.specs.Option.{option_and_then, option_map, option_map_or}
 use Rattle.std.specs.Io.KnownBytes.{Appends}
+use Rattle.std.proofs.KnownBytes.{Appends-trans, Keeps-refl}
 use Rattle.std.proofs.lemmas.List.{append-nil}
 use Rattle.httparse.specs.Grammar.{RequestHead}
 use Rattle.feed_names.specs.ReleaseName.{Name}
 use Rattle.feed_range.specs.declared.ask.RangeAsk.{RangeAsk}
 use Rattle.feed_http_heads.specs.declared.http_fault.HttpFault.{HttpFault}
-use Rattle.feed_http_heads.specs.declared.http_fault.HttpFault.TheVariants.{Write}
+use Rattle.feed_http_heads.specs.declared.http_fault.HttpFault.TheVariants.{Write, Memory, Shelf}
 use Rattle.feed_http.specs.declared.serving.reply_head.ReplyHead.{ReplyHead}
-use Rattle.feed_http.specs.declared.serving.reply_head.ReplyHead.TheVariants.{Whole, NotFound, BadRequest}
+use Rattle.feed_http.specs.declared.serving.reply_head.ReplyHead.TheVariants.{Whole, NotFound, BadRequest, NotImplemented}
 use Rattle.feed_http_heads.specs.declared.request.Request.{Request}
 use Rattle.feed_http.specs.Shelves.{Files}
 use Rattle.feed_http_heads.specs.RequestHeads.{BeginsWithHead, NeverBeginsWithHead}
 use Rattle.feed_http_heads.specs.Requests.{lacks_host, is_head, HasHead}
 use Rattle.feed_http.specs.Requests.{is_unsupported, ask_for, IsNamedBy}
 use Rattle.feed_http.specs.Replies.{status_of, head_text}
-use Rattle.feed_http.specs.ServerReplies.{Reply, server_reply, reply_without_file, file_reply, part_reply, head_alone, IsOutcomeOf, IsRefusalOf}
+use Rattle.feed_http.specs.ServerReplies.{Reply, server_reply, reply_without_file, file_reply, part_reply, reply_of, head_alone, IsFaultOf, IsOutcomeOf, IsRefusalOf, IsSending}
 use Rattle.feed_http.proofs.Targets.{named_is}
 
 -- a head that was written alone
@@ -117,3 +118,103 @@ names_none request found result old new hosted supported is none outcome head ha
         → IfSome (option_map_or (λ name. None) named (Some (head_alone NotFound))) (λ reply. IsOutcomeOf reply result old new)
     at_name None is_named names = outcome
     at_name (Some name) is_named names = absurd (names name is_named)
+
+-- a request without its host is rejected, whatever the shelf has
+pub unhosted : (told : Option Files) (request : Request) (result : Result ℕ HttpFault) (old new : Option (List ℕ)) → ((head : RequestHead) → HasHead request head → true ≡ lacks_host head)
+    → IsOutcomeOf (head_alone BadRequest) result old new
+    → IfSome told (λ files. (head : RequestHead) → HasHead request head → (named : Option Name) → IsNamedBy head.target named → IsOutcomeOf (server_reply files head named) result old new)
+unhosted None request result old new lacks outcome = tt
+unhosted (Some files) request result old new lacks outcome = λ head has named is_named. rw (← lacks head has) outcome
+
+pub unhosted_alone : (request : Request) (result : Result ℕ HttpFault) (old new : Option (List ℕ)) → ((head : RequestHead) → HasHead request head → true ≡ lacks_host head)
+    → IsOutcomeOf (head_alone BadRequest) result old new
+    → (head : RequestHead) → HasHead request head → (named : Option Name) → IsNamedBy head.target named → IfSome (reply_without_file head named) (λ reply. IsOutcomeOf reply result old new)
+unhosted_alone request result old new lacks outcome head has named is_named = rw (← lacks head has) outcome
+
+-- so is one with another method, or a coded body
+pub unsupported : (told : Option Files) (request : Request) (result : Result ℕ HttpFault) (old new : Option (List ℕ)) → ((head : RequestHead) → HasHead request head → false ≡ lacks_host head)
+    → ((head : RequestHead) → HasHead request head → true ≡ is_unsupported head) → IsOutcomeOf (head_alone NotImplemented) result old new
+    → IfSome told (λ files. (head : RequestHead) → HasHead request head → (named : Option Name) → IsNamedBy head.target named → IsOutcomeOf (server_reply files head named) result old new)
+unsupported None request result old new hosted other outcome = tt
+unsupported (Some files) request result old new hosted other outcome = λ head has named is_named. rw (← hosted head has, ← other head has) outcome
+
+pub unsupported_alone : (request : Request) (result : Result ℕ HttpFault) (old new : Option (List ℕ)) → ((head : RequestHead) → HasHead request head → false ≡ lacks_host head)
+    → ((head : RequestHead) → HasHead request head → true ≡ is_unsupported head) → IsOutcomeOf (head_alone NotImplemented) result old new
+    → (head : RequestHead) → HasHead request head → (named : Option Name) → IsNamedBy head.target named → IfSome (reply_without_file head named) (λ reply. IsOutcomeOf reply result old new)
+unsupported_alone request result old new hosted other outcome head has named is_named = rw (← hosted head has, ← other head has) outcome
+
+-- one that names no release is answered by what needs no file
+pub nameless : (told : Option Files) (request : Request) (found : Option Name) (result : Result ℕ HttpFault) (old new : Option (List ℕ))
+    → ((head : RequestHead) → HasHead request head → false ≡ lacks_host head) → ((head : RequestHead) → HasHead request head → false ≡ is_unsupported head)
+    → ((head : RequestHead) → HasHead request head → IsNamedBy head.target found) → found ≡ None → IsOutcomeOf (head_alone NotFound) result old new
+    → IfSome told (λ files. (head : RequestHead) → HasHead request head → (named : Option Name) → IsNamedBy head.target named → IsOutcomeOf (server_reply files head named) result old new)
+nameless None request found result old new hosted supported is none outcome = tt
+nameless (Some files) request found result old new hosted supported is none outcome = λ head has named is_named.
+    let names = rw none at (is head has) in
+    rw (← hosted head has, ← supported head has) (at_name head named is_named names)
+  where
+    at_name : (head : RequestHead) (named : Option Name) → IsNamedBy head.target named → IsNamedBy head.target None
+        → IsOutcomeOf (file_reply head (option_and_then files named)) result old new
+    at_name head None is_named names = outcome
+    at_name head (Some name) is_named names = absurd (names name is_named)
+
+-- memory ran out before anything was written
+pub unwritten : (reply : Reply) (result : Result ℕ HttpFault) (fault : HttpFault) (known : Option (List ℕ)) → IsErrAnd result (λ e. e ≡ fault) → fault ≡ Memory
+    → IsOutcomeOf reply result known known
+unwritten reply (Ok status) fault known is memory = absurd is
+unwritten reply (Err e) fault known is memory = rw is (rw memory (inl (Keeps-refl known)))
+
+-- an outcome of every reply is one of the reply that is owed
+pub of_any : (told : Option Files) (request : Request) (result : Result ℕ HttpFault) (old new : Option (List ℕ)) → ((reply : Reply) → IsOutcomeOf reply result old new)
+    → IfSome told (λ files. (head : RequestHead) → HasHead request head → (named : Option Name) → IsNamedBy head.target named → IsOutcomeOf (server_reply files head named) result old new)
+of_any None request result old new each = tt
+of_any (Some files) request result old new each = λ head has named is_named. each (server_reply files head named)
+
+pub of_any_alone : (request : Request) (result : Result ℕ HttpFault) (old new : Option (List ℕ)) → ((reply : Reply) → IsOutcomeOf reply result old new)
+    → (head : RequestHead) → HasHead request head → (named : Option Name) → IsNamedBy head.target named → IfSome (reply_without_file head named) (λ reply. IsOutcomeOf reply result old new)
+of_any_alone request result old new each head has named is_named = of (reply_without_file head named)
+  where
+    of : (reply : Option Reply) → IfSome reply (λ reply. IsOutcomeOf reply result old new)
+    of None = tt
+    of (Some reply) = each reply
+
+-- what holds of every file, and what follows from what holds of one, is known of the shelf's
+pub at_any_file : (told : Option Files) (name : Name) (P : List ℕ → Type 0) → ((file : List ℕ) → P file) → IfSome told (λ files. IfSome (files name) P)
+at_any_file None name P all = tt
+at_any_file (Some files) name P all = of (files name)
+  where
+    of : (file : Option (List ℕ)) → IfSome file P
+    of None = tt
+    of (Some file) = all file
+
+pub at_its_file : (told : Option Files) (name : Name) (P Q : List ℕ → Type 0) → IfSome told (λ files. IfSome (files name) P) → ((file : List ℕ) → P file → Q file)
+    → IfSome told (λ files. IfSome (files name) Q)
+at_its_file None name P Q p by = tt
+at_its_file (Some files) name P Q p by = of (files name) p
+  where
+    of : (file : Option (List ℕ)) → IfSome file P → IfSome file Q
+    of None p = tt
+    of (Some file) p = by file p
+
+-- the head was not written
+pub head_unwritten : (reply : Reply) (result : Result ℕ HttpFault) (fault : HttpFault) (old new : Option (List ℕ)) → IsErrAnd result (λ e. e ≡ fault) → fault ≡ Write
+    → IsOutcomeOf reply result old new
+head_unwritten reply (Ok status) fault old new is write = absurd is
+head_unwritten reply (Err e) fault old new is write = rw is (rw write tt)
+
+-- the body was cut short
+pub body_cut : (head : ReplyHead) (body : List ℕ) (result : Result ℕ HttpFault) (fault : HttpFault) (old mid new : Option (List ℕ)) → IsErrAnd result (λ e. e ≡ fault)
+    → Appends old mid (head_text head) → IsSending body (Err fault) mid new → IsOutcomeOf (reply_of head body) result old new
+body_cut head body (Ok status) fault old mid new is written sent = absurd is
+body_cut head body (Err e) fault old mid new is written sent = rw is (cut fault sent)
+  where
+    cut : (fault : HttpFault) → IsSending body (Err fault) mid new → IsFaultOf (reply_of head body) fault old new
+    cut Write sent = tt
+    cut Memory sent = inr (sent.0, Appends-trans old mid new (head_text head) (take sent.0 body) written sent.1)
+    cut Shelf sent = inr (sent.0, Appends-trans old mid new (head_text head) (take sent.0 body) written sent.1)
+    cut _ sent = absurd sent
+
+-- all of a reply was written
+pub all_sent : (head : ReplyHead) (body : List ℕ) (status : ℕ) (old mid new : Option (List ℕ)) → status ≡ status_of head → Appends old mid (head_text head) → Appends mid new body
+    → IsOutcomeOf (reply_of head body) (Ok status) old new
+all_sent head body status old mid new is written sent = (is, Appends-trans old mid new (head_text head) body written sent)

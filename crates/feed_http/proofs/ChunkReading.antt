@@ -1,6 +1,6 @@
 -- Chunks that are read one after another.
 use Rattle.std.proofs.Common.{◌≡◌, ◌≤◌, ◌<◌, ◌-◌, ℕ, zero, suc, List, [], ◌∷◌, ◌++◌, length, All, Option}
-use Rattle.std.proofs.Common.{Some, None, IfSome, IfErr, Result, Ok, Err, sym, ap, arith, ◌∙◌, subst, inr, ◌⊎◌}
+use Rattle.std.proofs.Common.{Some, None, IfSome, IfErr, Result, Ok, Err, sym, ap, arith, ◌∙◌, subst, inl, inr, ◌⊎◌}
 use Rattle.std.specs.Prelude.{IsErrAnd, ⊤}
 use Rattle.std.specs.Io.KnownBytes.{Consumes}
 use Rattle.std.proofs.lemmas.List.{append-nil}
@@ -9,9 +9,11 @@ use Rattle.std.proofs.lemmas.Grind.{flat_map-append}
 use Rattle.httparse.specs.Ascii.{crlf_bytes}
 use Rattle.httparse.specs.Grammar.{print_chunk_line}
 use Rattle.feed_http_heads.specs.declared.http_fault.HttpFault.{HttpFault}
-use Rattle.feed_http_heads.specs.declared.http_fault.HttpFault.TheVariants.{Read, Short, Coding, Memory}
-use Rattle.feed_http.specs.Chunks.{Chunk, IsChunk, print_chunk, print_chunks, bytes_of, IsLineTaken, IsChunkTaken, IsChunkedFault, IsNotChunked, IsChunkFault, IsUnfinishedLine, NeverBeginsWithLine}
+use Rattle.feed_http_heads.specs.declared.http_fault.HttpFault.TheVariants.{Read, Short, Coding, Length, BodyTooLong, Memory}
+use Rattle.feed_http.specs.Chunks.{Chunk, IsChunk, print_chunk, print_chunks, bytes_of, IsLineTaken, IsLineFault, IsChunkTaken, IsTrailersFault}
+use Rattle.feed_http.specs.Chunks.{IsChunkedFault, IsNotChunked, IsChunkFault, IsUnfinishedLine, NeverBeginsWithLine, IsUnfinishedTrailers, NeverBeginsWithTrailers}
 use Rattle.feed_http.specs.Chunks.{BeginsWithLine, IsFitting, IsUnfinishedBehind, IsBadBehind, IsWhyNoChunk}
+use Rattle.feed_http.specs.Got.{IsReadingFault}
 use Rattle.std.proofs.KnownBytes.{Consumes-trans}
 
 -- the chunks that were read so far
@@ -55,7 +57,7 @@ broken text left least most body fault so_far fits why = record {
   why = subst (λ (bytes : List ℕ). IsWhyNoChunk (least - length bytes) (most - length bytes) fault left) so_far.body_is why;
 }
 
-stopped : (old now : Option (List ℕ)) (least most : ℕ) (body : List ℕ) (fault : HttpFault) → AreChunksRead old now body → length body ≤ most
+pub stopped : (old now : Option (List ℕ)) (least most : ℕ) (body : List ℕ) (fault : HttpFault) → AreChunksRead old now body → length body ≤ most
     → IsStop (least - length body) (most - length body) now fault → IsChunkedFault least most old fault
 stopped old now least most body Read so_far fits why = tt
 stopped None now least most body fault so_far fits why = tt
@@ -102,3 +104,53 @@ stops_at_chunk missing room (suc size) now behind Short some fits line why = or_
 stops_at_chunk missing room (suc size) now behind Coding some fits line why = or_else now NeverBeginsWithLine (BeginsWithLine (Breaks IsBadBehind missing room))
     (behind_line now behind (suc size) (Breaks IsBadBehind missing room) line (beside behind (suc size ≤ room) (IsBadBehind (suc size)) fits why))
 stops_at_chunk missing room (suc size) now behind _ some fits line why = absurd why
+
+either : (now : Option (List ℕ)) (P Q : List ℕ → Type 0) → IfSome now P → IfSome now (λ text. P text ⊎ Q text)
+either None P Q p = tt
+either (Some text) P Q p = inl p
+
+-- the line of a chunk does not come
+pub stops_at_line : (missing room : ℕ) (now : Option (List ℕ)) (fault : HttpFault) → IsLineFault now fault → IsStop missing room now fault
+stops_at_line missing room now Read why = tt
+stops_at_line missing room now Short why = either now IsUnfinishedLine (BeginsWithLine (Breaks IsUnfinishedBehind missing room)) why
+stops_at_line missing room now Coding why = either now NeverBeginsWithLine (BeginsWithLine (Breaks IsBadBehind missing room)) why
+stops_at_line missing room now _ why = absurd why
+
+-- the last line comes too early
+pub stops_early : (missing room size : ℕ) (now behind : Option (List ℕ)) → size ≡ 0 → 0 < missing → IsLineTaken now behind size → IsStop missing room now Length
+stops_early missing room size now behind none some line = behind_line now behind size (λ n rest. (n ≡ 0) × (0 < missing)) line (always behind ((size ≡ 0) × (0 < missing)) (none, some))
+
+-- a chunk is too long
+pub stops_over : (missing room size : ℕ) (now behind : Option (List ℕ)) → room < size → IsLineTaken now behind size → IsStop missing room now BodyTooLong
+stops_over missing room size now behind over line = behind_line now behind size (λ n rest. room < n) line (always behind (room < size) over)
+
+-- the trailer fields do not come
+pub stops_at_trailers : (missing room size : ℕ) (now behind : Option (List ℕ)) (fault : HttpFault) → size ≡ 0 → missing ≡ 0 → IsLineTaken now behind size → IsTrailersFault behind fault
+    → IsStop missing room now fault
+stops_at_trailers missing room (suc size) now behind fault none whole line why = absurd (omega arith)
+stops_at_trailers missing room zero now behind Read none whole line why = tt
+stops_at_trailers missing room zero now behind Short none whole line why = or_else now IsUnfinishedLine (BeginsWithLine (Breaks IsUnfinishedBehind missing room))
+    (behind_line now behind zero (Breaks IsUnfinishedBehind missing room) line (beside behind (missing ≡ 0) IsUnfinishedTrailers whole why))
+stops_at_trailers missing room zero now behind Coding none whole line why = or_else now NeverBeginsWithLine (BeginsWithLine (Breaks IsBadBehind missing room))
+    (behind_line now behind zero (Breaks IsBadBehind missing room) line (beside behind (missing ≡ 0) NeverBeginsWithTrailers whole why))
+stops_at_trailers missing room zero now behind _ none whole line why = absurd why
+
+-- so the error is one of reading
+pub line_reads : (now : Option (List ℕ)) (fault : HttpFault) → IsLineFault now fault → IsReadingFault fault
+line_reads now Read why = tt
+line_reads now Short why = tt
+line_reads now Coding why = tt
+line_reads now _ why = absurd why
+
+pub trailers_read : (now : Option (List ℕ)) (fault : HttpFault) → IsTrailersFault now fault → IsReadingFault fault
+trailers_read now Read why = tt
+trailers_read now Short why = tt
+trailers_read now Coding why = tt
+trailers_read now _ why = absurd why
+
+pub chunk_reads : (size : ℕ) (now : Option (List ℕ)) (fault : HttpFault) → IsChunkFault size now fault → IsReadingFault fault
+chunk_reads size now Read why = tt
+chunk_reads size now Memory why = tt
+chunk_reads size now Short why = tt
+chunk_reads size now Coding why = tt
+chunk_reads size now _ why = absurd why

@@ -6,6 +6,7 @@ pub mod RequestWriting
 pub mod CommonLengths
 pub mod LineReading
 pub mod ChunkReading
+mod ChunkFaults
 pub mod ChunkScanning
 pub mod AnnouncedFaults
 pub mod ReplyValidation

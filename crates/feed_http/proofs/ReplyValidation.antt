@@ -1,6 +1,6 @@
 -- From the head of a reply that was read to the bytes of the reader.
 use Rattle.std.proofs.Common.{◌≡◌, ◌≤◌, ◌+◌, ◌-◌, ℕ, List, ◌++◌, length, take, drop, Option, Some}
-use Rattle.std.proofs.Common.{None, IfSome, IfErr, Result, Ok, Err, refl, sym, ap, arith, ◌∙◌, append_assoc, inl}
+use Rattle.std.proofs.Common.{None, IfSome, IfErr, Result, Ok, Err, refl, sym, ap, arith, ◌∙◌, append_assoc, inl, inr, subst}
 use Rattle.std.specs.Prelude.{IsErrAnd}
 use Rattle.std.specs.Fmt.{option_append}
 use Rattle.std.specs.Io.KnownBytes.{Consumes}
@@ -10,11 +10,13 @@ use Rattle.httparse.specs.Spans.{IsResponseAt, IsResponseWithin}
 use Rattle.httparse.specs.declared.spans.ResponseSpans.{ResponseSpans}
 use Rattle.httparse.specs.declared.spans.HeaderSpan.{HeaderSpan}
 use Rattle.feed_http_heads.specs.declared.http_fault.HttpFault.{HttpFault}
+use Rattle.feed_http_heads.specs.declared.http_fault.HttpFault.TheVariants.{Read, Short, HeadTooLong, BadHead}
+use Rattle.feed_http_heads.specs.RequestHeads.{IsHeadFault}
 use Rattle.feed_http.specs.declared.fetching.got.Method.{Method}
 use Rattle.feed_http.specs.declared.fetching.got.Got.{Got}
 use Rattle.feed_http.specs.declared.fetching.validation.Announcement.{Announcement}
 use Rattle.feed_http_heads.specs.Limits.{head_limit, field_limit}
-use Rattle.feed_http_heads.specs.ReplyHeads.{BeginsWithHeads, print_heads}
+use Rattle.feed_http_heads.specs.ReplyHeads.{BeginsWithHeads, IsNoReply, print_heads}
 use Rattle.feed_http_heads.specs.ReplyReads.{IsReplyIn}
 use Rattle.feed_http.specs.Announcements.{announcement_of}
 use Rattle.feed_http.specs.Got.{IsGot, IsReply, IsReadingFault}
@@ -139,3 +141,23 @@ body_found method text (Some rest) buffer headers start filled spans announced r
       is = is ∙ ap (λ (n : ℕ). body_behind n announced) place
           ∙ ap (λ (a : Result Announcement HttpFault). body_behind heads a) (says read.reply.head (at_part buffer headers start filled spans read));
     })
+
+-- no head was read
+pub no_head : (method : Method) (old : Option (List ℕ)) (bytes fields : ℕ) (result : Result Got HttpFault) (fault : HttpFault) → bytes ≡ head_limit → fields ≡ field_limit
+    → IfSome old (IsNoReply bytes fields fault) → IsErrAnd result (λ e. e ≡ fault) → IfSome old (λ text. IsReply method text result)
+no_head method None bytes fields result fault b f why is = tt
+no_head method (Some text) bytes fields (Ok given) fault b f why is = absurd is
+no_head method (Some text) bytes fields (Err e) fault b f why is =
+    inr (subst (λ (x : HttpFault). IsNoReply head_limit field_limit x text) (sym is)
+    (subst (λ (n : ℕ). IsNoReply head_limit n fault text) f (subst (λ (n : ℕ). IsNoReply n fields fault text) b why)))
+
+head_reads : (fault : HttpFault) → IsHeadFault fault → IsReadingFault fault
+head_reads Read why = tt
+head_reads Short why = tt
+head_reads HeadTooLong why = tt
+head_reads BadHead why = tt
+head_reads _ why = absurd why
+
+pub no_head_reads : (result : Result Got HttpFault) (fault : HttpFault) → IsHeadFault fault → IsErrAnd result (λ e. e ≡ fault) → IfErr result IsReadingFault
+no_head_reads (Ok given) fault why is = absurd is
+no_head_reads (Err e) fault why is = subst IsReadingFault (sym is) (head_reads fault why)

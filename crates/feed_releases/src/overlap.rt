@@ -1,7 +1,7 @@
 //! Classifies a piece by its overlap with the stored bytes of its release.
 
 /// The overlap of a piece with the stored bytes of its release.
-#[derive(Clone, Copy, Debug, PartialEq, Eq)]
+#[derive(Clone, Copy)]
 pub(crate) enum Overlap {
     /// The piece differs from a stored byte.
     Conflict,

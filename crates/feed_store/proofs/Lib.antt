@@ -2,3 +2,4 @@ mod Placed
 mod Reasoned
 mod Found
 mod Histories
+mod Opened

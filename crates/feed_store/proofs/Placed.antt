@@ -2,7 +2,6 @@
 use Rattle.std.proofs.Common.{◌≡◌, Bool, IfErr, IsErrAnd, IsTrue, Err, Ok, Result, false, inl, inr, refl, sym, subst, ◌∙◌}
 use Rattle.sqlite.specs.Effect.{Database}
 use Rattle.sqlite.specs.Held.{Held, state}
-use Rattle.sqlite.specs.Schema.{Schema}
 use Rattle.sqlite_schema.specs.Names.{same_name}
 use Rattle.feed_store_model.specs.Layout.{layout_1_schema, layout_2_schema, no_schema}
 use Rattle.feed_store_model.specs.Others.{HasFirstTables, HasLayout1Tables, HasLayout2Tables, IsFree}
@@ -85,3 +84,8 @@ if_err_then (Err y) P Q f p = f y p
 pub passed_on : {X E : Type 0} (r : Result X E) (e : E) (Q : E → Type 0) → IsErrAnd r (λ f. f ≡ e) → Q e → IfErr r Q
 passed_on (Ok x) e Q is q = tt
 passed_on (Err f) e Q is q = subst Q (sym is) q
+
+-- an error that was converted
+pub converted : {X E : Type 0} (r : Result X E) (P Q : E → Type 0) → IsErrAnd r P → ((e : E) → P e → Q e) → IfErr r Q
+converted (Ok x) P Q is by = tt
+converted (Err f) P Q is by = by f is

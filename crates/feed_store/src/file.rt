@@ -1,11 +1,11 @@
 //! Opens and closes the store over a file.
-ghost use Rattle.std.specs.Prelude.{◌≡◌, ◌≢◌, false, IfErr, IfOk};
+ghost use Rattle.std.specs.Prelude.{◌≡◌, ◌≢◌, false, IfErr, IfOk, IsOkAnd};
 ghost use Rattle.sqlite_wal.specs.Files.{image_at};
 ghost use Rattle.feed_store.specs.Adopted.{IsAdoptedFile, IsOpenedAs};
 
 use crate::fault::{StoreFault, open_fault_of};
 use crate::sql_keep::SqlKeep;
-use sqlite::Connection;
+use sqlite::{Connection, Error, Leftover};
 use sqlite_disk::{Disk, Start, Unknown};
 use sqlite_std_file::{File, FileFrom};
 use sqlite_store::FileStore;
@@ -39,27 +39,25 @@ impl<S: Start> SqlKeep<FileStore<FileFrom<S>>> {
             IsOpenedAs (image_at S.Start) keep.0 keep.1.1) }
         ensures fresh { IfOk result (λ keep. (keep.1.0 ≡ 0) × (keep.1.2 ≡ 0)) }
     {
-        match Connection::open_from(rt, path, false, start) {
-            Ok(conn) => SqlKeep::adopt_file(rt.alloc(), conn),
-            Err((error, _)) => Err(open_fault_of(error)),
-        }
+        SqlKeep::adopt_opened(rt.alloc(), Connection::open_from(rt, path, false, start))
     }
 }
 
 impl<D: Disk + Drop> SqlKeep<FileStore<D>> {
-    // Adopts the connection to a file on any disk. It makes `open_from` cheap to prove: `adopt` is used at an abstract
-    // disk here, and not at the files of a process.
-    fn adopt_file(
+    // Adopts the connection that an open of a file on any disk returned. It makes `open_from` cheap to prove: a keeper
+    // is adopted, and what is left of the files dropped, at an abstract disk here, and not at the files of a process.
+    fn adopt_opened(
         alloc: Global,
-        conn: Connection<FileStore<D>>,
+        opened: Result<Connection<FileStore<D>>, (Error, Option<Leftover<D>>)>,
     ) -> Result<SqlKeep<FileStore<D>>, StoreFault>
-        requires { conn.in_transaction ≡ false }
-        ensures adopted { IfOk result (λ keep. IsAdoptedFile conn keep.0 keep.1.1) }
+        requires { IfOk opened (λ conn. conn.in_transaction ≡ false) }
+        ensures adopted { IfOk result (λ keep.
+            IsOkAnd opened (λ conn. IsAdoptedFile conn keep.0 keep.1.1)) }
         ensures fresh { IfOk result (λ keep. (keep.1.0 ≡ 0) × (keep.1.2 ≡ 0)) }
     {
-        match SqlKeep::adopt(alloc, conn) {
-            Ok(keep) => Ok(keep),
-            Err(fault) => Err(fault.cause),
+        match opened {
+            Ok(conn) => SqlKeep::adopt_or_drop(alloc, conn),
+            Err((error, _)) => Err(open_fault_of(error)),
         }
     }
 
@@ -68,6 +66,7 @@ impl<D: Disk + Drop> SqlKeep<FileStore<D>> {
     pub fn close(self) -> Result<(), StoreFault>
         ensures cause { IfErr result (λ fault. fault ≢ StoreFault.NotOurs) }
     {
-        Ok(self.into_connection().close()?)
+        let SqlKeep { conn, .. } = self;
+        Ok(conn.close()?)
     }
 }

@@ -15,7 +15,7 @@ use std::marker::Model;
 /// alone in its database, and the count of its loads. The clauses on records hold if they are alone.
 #[derive(Drop)]
 pub struct SqlKeep<S: Alter> {
-    conn: Connection<S>,
+    pub(crate) conn: Connection<S>,
     failures: u64,
     alone: bool,
     loads: u64,
@@ -93,6 +93,28 @@ impl<S: Alter> SqlKeep<S> {
             loads: _,
         } = self;
         conn
+    }
+}
+
+impl<S: Alter + Drop> SqlKeep<S> {
+    ghost use Rattle.sqlite.specs.Held.{state};
+    ghost use Rattle.feed_store.specs.Adopted.{IsAdopted};
+
+    /// Adopts a connection as `adopt` does, and drops one that is refused. It has few clauses, since each costs a proof
+    /// at the files of a store.
+    pub(crate) fn adopt_or_drop(
+        alloc: Global,
+        conn: Connection<S>,
+    ) -> Result<SqlKeep<S>, StoreFault>
+        requires { conn.in_transaction ≡ false }
+        ensures adopted { IfOk result (λ keep.
+            IsAdopted (state S.Store conn) (state S.Store keep.0) keep.1.1) }
+        ensures fresh { IfOk result (λ keep. (keep.1.0 ≡ 0) × (keep.1.2 ≡ 0)) }
+    {
+        match SqlKeep::adopt(alloc, conn) {
+            Ok(keep) => Ok(keep),
+            Err(fault) => Err(fault.cause),
+        }
     }
 }
 

@@ -18,7 +18,7 @@ pub(crate) struct ChunkScan {
 }
 
 /// The line of a chunk.
-#[derive(Clone, Copy, Debug, PartialEq, Eq)]
+#[derive(Clone, Copy)]
 enum Line {
     /// It has this many bytes, and states this size.
     Complete { count: usize, size: u64 },
@@ -29,7 +29,7 @@ enum Line {
 }
 
 /// The bytes of a chunk and the CR LF behind them.
-#[derive(Clone, Copy, Debug, PartialEq, Eq)]
+#[derive(Clone, Copy)]
 enum Data {
     /// All of them have arrived.
     Complete,
@@ -40,7 +40,7 @@ enum Data {
 }
 
 /// The kind of the next bytes of a chunked body.
-#[derive(Clone, Copy, Debug, PartialEq, Eq)]
+#[derive(Clone, Copy)]
 enum Step {
     /// A chunk, of this many bytes with its line.
     Chunk(usize),

@@ -28,7 +28,7 @@ pub enum Framing {
 }
 
 /// The result of validating a reply's head: an answer, or which body follows.
-#[derive(Clone, Copy, Debug, PartialEq, Eq)]
+#[derive(Clone, Copy)]
 pub(crate) enum Announcement {
     Missing,
     Unsatisfied {

@@ -11,7 +11,7 @@ use std::io::Write;
 const LONGEST_HEAD: usize = 512;
 
 /// The head of a reply. Lengths are in bytes, and places count from 0.
-#[derive(Clone, Copy, Debug, PartialEq, Eq)]
+#[derive(Clone, Copy)]
 pub(crate) enum ReplyHead {
     /// The complete file follows, unless the request is a HEAD.
     Whole { length: u64 },

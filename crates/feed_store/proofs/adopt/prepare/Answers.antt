@@ -62,3 +62,19 @@ returns-in_err-prepare_beside_others-clause-cause g c =
     (not_by c.has_no_table.result c.if-has_no_table.false (λ e. c.has_no_table.ensures.1 (c.schema.ensures.value ∙ e)))
     (not_by c.is_layout_1.result c.if-is_layout_1.false (λ e. c.is_layout_1.ensures.1 (c.schema-3.ensures.value ∙ e)))
     (not_by c.is_layout_2.result c.if-is_layout_2.false (λ e. c.is_layout_2.ensures.1 (c.schema-2.ensures.value ∙ e))))
+
+pub returns-in_err-make_tables-clause-neither : goal.returns-in_err-make_tables-clause-neither
+returns-in_err-make_tables-clause-neither g c live = passed_on c.from_residual.result c.in_err-make_tables.field-0.0 _ c.from_residual.ensures.1 (c.in_err-make_tables.ensures.neither live)
+
+pub returns-in_err-check_number-clause-neither : goal.returns-in_err-check_number-clause-neither
+returns-in_err-check_number-clause-neither g c live =
+    passed_on c.from_residual-in_err-check_number.result c.in_err-check_number.field-0.0 _ c.from_residual-in_err-check_number.ensures.1 (c.check_number.ensures.same live)
+
+pub returns-in_err-upgrade_layout-clause-neither : goal.returns-in_err-upgrade_layout-clause-neither
+returns-in_err-upgrade_layout-clause-neither g c live =
+    passed_on c.from_residual-in_err-upgrade_layout.result c.in_err-upgrade_layout.field-0.0 _ c.from_residual-in_err-upgrade_layout.ensures.1 (c.in_err-upgrade_layout.ensures.neither live)
+
+pub returns-in_err-prepare_beside_others-clause-neither : goal.returns-in_err-prepare_beside_others-clause-neither
+returns-in_err-prepare_beside_others-clause-neither g c live =
+    passed_on c.from_residual-in_err-prepare_beside_others.result c.in_err-prepare_beside_others.field-0.0 _ c.from_residual-in_err-prepare_beside_others.ensures.1
+    (c.in_err-prepare_beside_others.ensures.neither live)

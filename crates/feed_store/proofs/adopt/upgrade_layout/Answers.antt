@@ -1,7 +1,7 @@
 use Rattle.std.proofs.Common.{[], refl, ◌∙◌}
 use Rattle.sqlite.specs.Held.{state}
 use Rattle.feed_keep.specs.Shown.{shown}
-use Rattle.feed_store.proofs.Placed.{passed_on}
+use Rattle.feed_store.proofs.Placed.{converted, passed_on}
 use Rattle.feed_store.proofs.Reasoned.{moved}
 use Rattle.feed_store.proofs.adopt.upgrade_layout.Goals as goal
 
@@ -30,3 +30,26 @@ pub returns-in_err-check_number-clause-other : goal.returns-in_err-check_number-
 returns-in_err-check_number-clause-other g c =
     passed_on c.from_residual.result c.in_err-check_number.field-0.0 _ c.from_residual.ensures.1 (λ is live.
     let bad = c.in_err-check_number.ensures.other is live.0 in (bad.0, λ schema version. let e = (bad.1 [] [] schema).1.1 version in cc))
+
+pub returns-in_err-check_number-clause-neither : goal.returns-in_err-check_number-clause-neither
+returns-in_err-check_number-clause-neither g c live =
+    passed_on c.from_residual.result c.in_err-check_number.field-0.0 _ c.from_residual.ensures.1 (c.check_number.ensures.same live)
+
+pub returns-in_err-records-clause-neither : goal.returns-in_err-records-clause-neither
+returns-in_err-records-clause-neither g c live =
+    passed_on c.from_residual-in_err-records.result c.in_err-records.field-0.0 _ c.from_residual-in_err-records.ensures.1
+    (c.read_with_reasons.ensures.same live ∙ c.check_number.ensures.same (c.read_with_reasons.ensures.live live))
+
+pub returns-in_err-records-clause-other : goal.returns-in_err-records-clause-other
+returns-in_err-records-clause-other g c =
+    passed_on c.from_residual-in_err-records.result c.in_err-records.field-0.0 _ c.from_residual-in_err-records.ensures.1 (λ is live. absurd (c.in_err-records.ensures.cause is))
+
+pub returns-in_err-upgrade-clause-neither : goal.returns-in_err-upgrade-clause-neither
+returns-in_err-upgrade-clause-neither g c live =
+    let late = c.upgrade.ensures.live live in
+    converted c.from_residual-in_err-upgrade.result _ _ c.from_residual-in_err-upgrade.ensures.1
+    (λ e is. c.in_err-upgrade.ensures.neither live ∙ c.read_with_reasons.ensures.same late ∙ c.check_number.ensures.same (c.read_with_reasons.ensures.live late))
+
+pub returns-in_err-upgrade-clause-other : goal.returns-in_err-upgrade-clause-other
+returns-in_err-upgrade-clause-other g c =
+    converted c.from_residual-in_err-upgrade.result _ _ c.from_residual-in_err-upgrade.ensures.1 (λ e is ours live. absurd (is.1 ours))

@@ -1,7 +1,7 @@
 use Rattle.std.proofs.Common.{rules, List, [], length, inl, inr, refl, ap, subst, arith}
 use Rattle.std.proofs.lemmas.List.{nil_from_length}
 use Rattle.feed_keep.specs.declared.record.Record as code
-use Rattle.feed_releases.proofs.Reopened.{AreReopened, reopened_start, reopened_next, reopened_all, reopened_count, reopened_not, reopened_sound, reopened_late}
+use Rattle.feed_releases.proofs.Reopened.{AreReopened, length-shown_records, reopened_start, reopened_next, reopened_all, reopened_count, reopened_not, reopened_sound, reopened_late}
 use Rattle.feed_releases.proofs.feed.reopen.from_records.Goals as goal
 use Rattle.feed_releases.proofs.feed.reopen.from_records.Goals.{In-None}
 
@@ -65,3 +65,12 @@ returns-clause-sound c =
     let current = rw c.deref.ensures.value at c.are_current.ensures in
     reopened_sound c.args.records.items c.loop-record.releases.items so c.requires.distinct (omega (arith, c.len.ensures, c.if-len-gt-RELEASE_LIMIT.false, c.args.records.ok.0))
     (current.0 (search rules))
+
+pub returns-then-len-gt-RELEASE_LIMIT-clause-err : goal.returns-then-len-gt-RELEASE_LIMIT-clause-err
+returns-then-len-gt-RELEASE_LIMIT-clause-err c = inr (
+  refl,
+  λ sound. absurd (omega (arith, sound.few, length-shown_records c.args.records.items, c.len.ensures, c.if-len-gt-RELEASE_LIMIT.true, c.args.records.ok.0)),
+)
+
+pub returns-in_default-clause-err : goal.returns-in_default-clause-err
+returns-in_default-clause-err c = inl refl
