@@ -3,6 +3,7 @@ pub mod Bounds
 pub mod Shares
 pub mod Slots
 pub mod Places
+pub mod Keys
 pub mod Invariants
 pub mod Order
 pub mod Firsts

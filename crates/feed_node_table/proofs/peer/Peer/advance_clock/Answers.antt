@@ -1,7 +1,6 @@
-use Rattle.std.proofs.Common.{◌∷◌, refl}
+use Rattle.std.proofs.Common.{refl}
 use Rattle.std.proofs.Math.Logic.{∥∥₁_map, ∥∥₁_elim}
 use Rattle.std.proofs.Math.Bridge.{le_prop}
-use Rattle.feed_node_connection.specs.Events.{Elapsed}
 use Rattle.feed_node_table.proofs.Bytes.{holds_no_more}
 use Rattle.feed_node_table.proofs.Ended.{over_elapsed}
 use Rattle.feed_node_table.proofs.peer.Peer.advance_clock.Goals as goal
