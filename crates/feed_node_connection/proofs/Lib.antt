@@ -3,3 +3,4 @@ pub mod Found
 pub mod Unavailable
 pub mod States
 pub mod Steps
+pub mod Waits
