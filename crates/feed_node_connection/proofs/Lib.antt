@@ -4,3 +4,4 @@ pub mod Unavailable
 pub mod States
 pub mod Steps
 pub mod Waits
+pub mod Phases

@@ -10,5 +10,4 @@ pub mod Firsts
 pub mod Records
 pub mod Settled
 pub mod Expired
-pub mod Ended
 pub mod Written
